@@ -1,0 +1,3 @@
+pub mod Cursor
+pub mod Units
+pub mod Varint

@@ -1,0 +1,150 @@
+//! A cursor over bytes, which counts what it reads.
+ghost use Rattle.std.specs.Prelude.{◌≡◌, ◌≤◌, ◌↔◌, [], ◌∷◌, length, IsNone, IfOk, IfErr, IfSome, IfNone, OnOk, OnSome};
+ghost use Rattle.twkb_num.specs.Cursor.{rest, passed, counted, IsMoved, IsSound};
+ghost use Rattle.twkb_num.specs.Varint.{Spells, SpellsSigned, Faults, looked_at};
+
+use crate::signed::unzigzag;
+use crate::varint::{NumFault, decode};
+use std::marker::Model;
+
+/// A place in bytes, and a count of the bytes read, which stays at `u64::MAX` once there.
+///
+/// It isn't `Clone`, lends no bytes, and no call lowers its count: what reads through a cursor is counted.
+#[derive(Drop)]
+pub struct Cursor<'a> {
+    bytes: &'a [u8],
+    place: usize,
+    count: u64,
+}
+
+impl<'a> Model for Cursor<'a> {
+    ghost use Rattle.twkb_num.specs.Cursor.{Reading, IsSound};
+
+    ghost Value = { Reading };
+
+    ghost view = { λ c. record { bytes = c.bytes.now; place = c.place; count = c.count } };
+
+    ghost invariant = { λ c. IsSound (record { bytes = c.bytes.now; place = c.place; count = c.count }) };
+}
+
+impl<'a> Cursor<'a> {
+    /// A cursor at the first of the bytes, with nothing counted.
+    pub fn new(bytes: &'a [u8]) -> Self
+        ensures { result ≡ record { bytes = bytes.now; place = 0; count = 0 } }
+    {
+        Cursor {
+            bytes,
+            place: 0,
+            count: 0,
+        }
+    }
+
+    /// The number of bytes before the next one.
+    pub fn place(&self) -> usize
+        ensures value { result ≡ self.now.place }
+        ensures sound { IsSound self.now }
+    {
+        self.place
+    }
+
+    /// The number of all bytes.
+    pub fn len(&self) -> usize
+        ensures { result ≡ length self.now.bytes }
+    {
+        self.bytes.len()
+    }
+
+    /// How many bytes were looked at so far, those of a fault among them.
+    pub fn read_count(&self) -> u64
+        ensures { result ≡ self.now.count }
+    {
+        self.count
+    }
+
+    /// Moves to a place; the count is unchanged.
+    #[inline]
+    pub fn go_to(&mut self, place: usize)
+        requires { place ≤ length self.old.bytes }
+        ensures { self.new ≡ record self.old { place = place } }
+    {
+        self.place = place;
+    }
+
+    /// The byte at the place, which it moves past. `None` is the end.
+    #[inline(always)]
+    pub fn byte(&mut self) -> Option<u8>
+        ensures some { IfSome result (λ byte. passed self.old self.new ≡ byte ∷ []) }
+        ensures moved { OnSome result (IsMoved self.old self.new) }
+        ensures end { IsNone result ↔ (rest self.old ≡ []) }
+        ensures none { IfNone result (self.new ≡ self.old) }
+    {
+        let byte = *self.bytes.get(self.place)?;
+        self.place += 1;
+        self.count = self.count.saturating_add(1);
+        Some(byte)
+    }
+
+    /// The unsigned varint at the place, which it moves past. After a fault the place is unmoved,
+    /// and the bytes looked at are counted.
+    #[inline(always)]
+    pub fn uvarint(&mut self) -> Result<u64, NumFault>
+        ensures ok { IfOk result (λ n. Spells (passed self.old self.new) n) }
+        ensures moved { OnOk result (IsMoved self.old self.new) }
+        ensures fault { (fault : NumFault) → (result ≡ Err fault) ↔ Faults fault (rest self.old) }
+        ensures still { IfErr result (λ fault. self.new ≡ counted self.old (looked_at fault (rest self.old))) }
+    {
+        if let Some(&first) = self.bytes.get(self.place) {
+            if first < 128 {
+                self.place += 1;
+                self.count = self.count.saturating_add(1);
+                return Ok(u64::from(first));
+            }
+            if let Some(&second) = self.bytes.get(self.place + 1)
+                && second < 128
+            {
+                self.place += 2;
+                self.count = self.count.saturating_add(2);
+                return Ok(u64::from(first % 128) + 128 * u64::from(second));
+            }
+        }
+        self.any_uvarint()
+    }
+
+    // The varint at the place, byte by byte. It is inlined so that the cursor stays in registers.
+    #[inline(always)]
+    fn any_uvarint(&mut self) -> Result<u64, NumFault>
+        ensures ok { IfOk result (λ n. Spells (passed self.old self.new) n) }
+        ensures moved { OnOk result (IsMoved self.old self.new) }
+        ensures fault { (fault : NumFault) → (result ≡ Err fault) ↔ Faults fault (rest self.old) }
+        ensures still { IfErr result (λ fault. self.new ≡ counted self.old (looked_at fault (rest self.old))) }
+    {
+        let bytes = &self.bytes[self.place..];
+        match decode(bytes) {
+            Ok((value, len)) => {
+                self.place += len;
+                self.count = self.count.saturating_add(len as u64);
+                Ok(value)
+            }
+            Err(fault) => {
+                let looked_at = match fault {
+                    NumFault::Cut => bytes.len(),
+                    NumFault::Long => 10,
+                };
+                self.count = self.count.saturating_add(looked_at as u64);
+                Err(fault)
+            }
+        }
+    }
+
+    /// The signed varint at the place, which it moves past. After a fault the place is unmoved,
+    /// and the bytes looked at are counted.
+    #[inline(always)]
+    pub fn svarint(&mut self) -> Result<i64, NumFault>
+        ensures ok { IfOk result (λ z. SpellsSigned (passed self.old self.new) z) }
+        ensures moved { OnOk result (IsMoved self.old self.new) }
+        ensures fault { (fault : NumFault) → (result ≡ Err fault) ↔ Faults fault (rest self.old) }
+        ensures still { IfErr result (λ fault. self.new ≡ counted self.old (looked_at fault (rest self.old))) }
+    {
+        Ok(unzigzag(self.uvarint()?))
+    }
+}

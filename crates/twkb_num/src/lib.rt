@@ -1,0 +1,25 @@
+//! The numbers of TWKB, and the one way to its bytes.
+//!
+//! A [`Cursor`] reads bytes in order and counts each byte that it reads. It hands out no slice of them and can't be
+//! copied, so the crates above see no byte that isn't counted. Over it stand the varints of the format:
+//!
+//! - `Cursor::uvarint` and `Cursor::svarint` read a number at the place, or say which of two faults stands there
+//!   ([`NumFault`]). They are the hot path: numbers of one and of two bytes take no loop.
+//! - [`zigzag`] and [`unzigzag`] map signed numbers to unsigned ones and back.
+//! - [`units`] scales a coordinate of any precision to units of 10^-7, in which boxes and windows are compared.
+//!
+//! What a number's bytes are is said once, in `specs/Varint.antt` (`Spells`); what a cursor shows to a contract is in
+//! `specs/Cursor.antt`. No call allocates, and every call returns.
+#![tactic(auto)]
+
+mod cursor;
+mod scale;
+mod signed;
+#[cfg(test)]
+mod tests;
+mod varint;
+
+pub use cursor::Cursor;
+pub use scale::units;
+pub use signed::{unzigzag, zigzag};
+pub use varint::NumFault;

@@ -1,0 +1,24 @@
+//! Signed numbers as unsigned ones, by zigzag.
+ghost use Rattle.std.specs.Prelude.{◌≡◌, ℕ};
+ghost use Rattle.twkb_num.specs.Varint.{zigzag_value};
+
+/// The unsigned number that means `value`: 0, -1, 1, -2, 2 are 0, 1, 2, 3, 4 (TWKB specification, "ZigZag encoding").
+pub fn zigzag(value: i64) -> u64
+    ensures meaning { zigzag_value result ≡ value }
+    ensures only { (number : ℕ) → zigzag_value number ≡ value → number ≡ result }
+{
+    if value >= 0 {
+        2 * value as u64
+    } else {
+        2 * (-(value + 1)) as u64 + 1
+    }
+}
+
+/// What `number` means by zigzag: 0, 1, 2, 3, 4 mean 0, -1, 1, -2, 2 (TWKB specification, "ZigZag encoding").
+#[inline(always)]
+pub fn unzigzag(number: u64) -> i64
+    ensures { result ≡ zigzag_value number }
+{
+    let half = (number / 2) as i64;
+    if number % 2 == 0 { half } else { -half - 1 }
+}
