@@ -1,0 +1,4 @@
+pub mod LayerLemmas
+pub mod PointLemmas
+pub mod StreamLemmas
+pub mod WordLemmas

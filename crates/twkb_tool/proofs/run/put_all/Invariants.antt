@@ -1,0 +1,12 @@
+use Rattle.std.proofs.Common.{◌-◌, ◌≤◌, length, take}
+use Rattle.twkb_tool.specs.Streams.{Takes}
+use Rattle.twkb_tool.proofs.run.put_all.Given as goal
+
+abbrev pub invariant-loop-done : goal.invariant-loop-done
+invariant-loop-done g l = record {
+  within : l.done ≤ length l.text;
+  takes : Takes (g.K.Sink.state l.initial.sink) (g.K.Sink.state l.sink) (take l.done l.text);
+}
+
+abbrev pub decreases-loop-done : goal.decreases-loop-done
+decreases-loop-done g l = length l.text - l.done

@@ -1,0 +1,64 @@
+-- What a run leaves.
+use Rattle.std.specs.Prelude.{◌≡◌, ℕ, ◌+◌, ◌≤◌, List, [], length, take, Result, Ok, Err, IsTrue, false, true}
+use Rattle.twkb_tool.specs.Streams.{SourceState, SinkState, Gives, Takes}
+use Rattle.twkb_tool.specs.Output.{IsOutput}
+use Rattle.twkb_tool.specs.declared.request.Request.{Request}
+use Rattle.twkb_tool.specs.declared.run.Verdict.{Verdict}
+use Rattle.twkb_tool.specs.declared.run.RunFault.{RunFault}
+use Rattle.twkb_tool.specs.declared.run.RunFault.TheVariants.{Read, TooLarge, Memory, Write}
+
+-- ---- reading
+
+-- the source gave these bytes, at most so many, and has none to come
+pub record GivesAll (limit : ℕ) (s t : SourceState) (given : List ℕ) : Type 0 where
+  pub gives : Gives s t given
+  pub ends : IsTrue s.tells → t.rest ≡ []
+  pub within : length given ≤ limit
+
+-- no piece came, and why
+abbrev pub StopsPiece : RunFault → SourceState → SourceState → Type 0
+StopsPiece Read s t = t ≡ record s { failed = true }
+StopsPiece Memory s t = t ≡ s
+StopsPiece TooLarge s t = ⊥
+StopsPiece (Write done) s t = ⊥
+
+-- reading stopped, and why: the last call failed, or one byte more than the limit came, or a growth was refused
+abbrev pub StopsReading : ℕ → RunFault → SourceState → SourceState → Type 0
+StopsReading limit Read s t = (given : List ℕ) × Gives s t given × (length given ≤ limit) × IsTrue t.failed
+StopsReading limit TooLarge s t = (given : List ℕ) × Gives s t given × (length given ≡ limit + 1)
+StopsReading limit Memory s t = (given : List ℕ) × Gives s t given × (length given ≤ limit)
+StopsReading limit (Write done) s t = ⊥
+
+-- ---- writing
+
+-- the sink took the text whole, and a flush came last and did not fail
+pub record PutsAll (text : List ℕ) (k m : SinkState) : Type 0 where
+  pub takes : Takes k m text
+  pub fine : m.failed ≡ false
+  pub flushed : m.flushing ≡ true
+
+-- the sink took the first bytes of the text, and its last call failed: where that was the flush, it had taken all
+pub record PutsSome (text : List ℕ) (done : ℕ) (k m : SinkState) : Type 0 where
+  pub within : done ≤ length text
+  pub takes : Takes k m (take done text)
+  pub failed : IsTrue m.failed
+  pub flush : m.flushing ≡ true → done ≡ length text
+
+-- writing stopped, and why
+abbrev pub StopsWriting : List ℕ → RunFault → SinkState → SinkState → Type 0
+StopsWriting text (Write done) k m = PutsSome text done k m
+StopsWriting text Read k m = ⊥
+StopsWriting text TooLarge k m = ⊥
+StopsWriting text Memory k m = ⊥
+
+-- ---- the whole run
+
+-- the source and the sink before and after it, and its answer
+abbrev pub Ran : Request → ℕ → SourceState → SourceState → SinkState → SinkState → Result Verdict RunFault → Type 0
+Ran request limit s t k m (Ok verdict) = (given : List ℕ) × (text : List ℕ)
+    × GivesAll limit s t given × IsOutput request given text verdict × PutsAll text k m
+Ran request limit s t k m (Err (Write done)) = (given : List ℕ) × (text : List ℕ) × (verdict : Verdict)
+    × GivesAll limit s t given × IsOutput request given text verdict × PutsSome text done k m
+Ran request limit s t k m (Err Read) = StopsReading limit Read s t × (m ≡ k)
+Ran request limit s t k m (Err TooLarge) = StopsReading limit TooLarge s t × (m ≡ k)
+Ran request limit s t k m (Err Memory) = StopsReading limit Memory s t × (m ≡ k)

@@ -1,0 +1,18 @@
+-- What the program ends with.
+use Rattle.std.specs.Prelude.{ℕ, Result, Ok, Err}
+use Rattle.twkb_tool.specs.declared.run.Verdict.{Verdict}
+use Rattle.twkb_tool.specs.declared.run.Verdict.TheVariants.{Yes, No}
+use Rattle.twkb_tool.specs.declared.run.RunFault.{RunFault}
+use Rattle.twkb_tool.specs.declared.words.Usage.{Usage}
+use Rattle.twkb_tool.specs.declared.words.Usage.TheVariants.{Words, Memory}
+
+-- 0 for a yes, 1 for a no, 3 where the run stopped
+abbrev pub status_of_run : Result Verdict RunFault → ℕ
+status_of_run (Ok Yes) = 0
+status_of_run (Ok No) = 1
+status_of_run (Err fault) = 3
+
+-- 2 for words that ask for nothing, 3 where memory ran out
+abbrev pub status_of_usage : Usage → ℕ
+status_of_usage (Words error) = 2
+status_of_usage Memory = 3

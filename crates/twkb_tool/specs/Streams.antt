@@ -1,0 +1,35 @@
+-- What a source gave and a sink took.
+use Rattle.std.specs.Prelude.{◌≡◌, ℕ, ◌+◌, ◌-◌, ◌^◌, min, Bool, List, ◌++◌, length, IsTrue}
+
+-- a source: whether it tells its bytes, those still to come, how many it gave, and whether its
+-- last call failed
+pub record SourceState : Type 0 where
+  pub tells : Bool
+  pub rest : List ℕ
+  pub moved : ℕ
+  pub failed : Bool
+
+-- a sink: whether it tells its bytes, those that were put, how many it took, whether its last call
+-- failed, and whether its last call was a flush
+pub record SinkState : Type 0 where
+  pub tells : Bool
+  pub bytes : List ℕ
+  pub moved : ℕ
+  pub failed : Bool
+  pub flushing : Bool
+
+-- a number of bytes moved after n more, which stays at the greatest u64
+abbrev pub moved_on : ℕ → ℕ → ℕ
+moved_on moved n = min (moved + n) (2 ^ 64 - 1)
+
+-- the source gave these bytes and no others
+pub record Gives (old new : SourceState) (given : List ℕ) : Type 0 where
+  pub tells : new.tells ≡ old.tells
+  pub bytes : IsTrue old.tells → old.rest ≡ given ++ new.rest
+  pub count : new.moved ≡ moved_on old.moved (length given)
+
+-- the sink took these bytes and no others
+pub record Takes (old new : SinkState) (taken : List ℕ) : Type 0 where
+  pub tells : new.tells ≡ old.tells
+  pub bytes : IsTrue old.tells → new.bytes ≡ old.bytes ++ taken
+  pub count : new.moved ≡ moved_on old.moved (length taken)

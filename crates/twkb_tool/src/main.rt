@@ -1,0 +1,76 @@
+//! Certifies a layer of TWKB blobs, or names its first false claim.
+//!
+//! The words are judged first (`words`), then the file is opened, then `run` reads it whole, judges its bytes and puts
+//! the text. `run` is generic in its streams (`streams`), so its contract speaks of the very bytes that came in and went
+//! out; here it runs on the file and on standard output. The first fault ends the program, with a line on standard
+//! error and a status (`status`).
+#![tactic(auto)]
+
+pub mod points;
+pub mod request;
+pub mod run;
+pub mod status;
+pub mod streams;
+pub mod text;
+pub mod words;
+
+use request::Line;
+use run::{MAX_FILE, run};
+use status::{status_of, usage_status};
+use std::fs::File;
+use std::process::ExitCode;
+use std::{env, io};
+use streams::io::{FromReader, ToWriter};
+use words::{Usage, request_of};
+
+fn main(rt: HostRuntime) -> ExitCode {
+    ExitCode::from(whole_status(&rt))
+}
+
+/// Runs the words' request, and gives the program's status.
+fn whole_status(rt: &HostRuntime) -> u8 {
+    let Ok(words) = fetched_words(rt) else {
+        tell(rt, "cannot read words");
+        return 3;
+    };
+    match request_of(rt.alloc(), words.as_slice()) {
+        Ok(line) => run_line(rt, &line),
+        Err(usage) => {
+            tell_usage(rt, &usage);
+            usage_status(&usage)
+        }
+    }
+}
+
+fn fetched_words(rt: &HostRuntime) -> io::Result<Vec<String>> {
+    let words = env::args(rt)?.collect(rt.alloc())?;
+    Ok(words)
+}
+
+/// Runs a line, and gives the program's status.
+fn run_line(rt: &HostRuntime, line: &Line) -> u8 {
+    let Ok(file) = File::open(rt, line.path.as_str()) else {
+        tell(rt, "cannot open file");
+        return 3;
+    };
+    let mut source = FromReader::new(file);
+    let mut sink = ToWriter::new(io::writer(rt));
+    let outcome = run(rt.alloc(), &mut source, &mut sink, &line.request, MAX_FILE);
+    if let Err(fault) = &outcome {
+        let _ = eprintln!(rt; "twkb_tool: {fault}");
+    }
+    status_of(&outcome)
+}
+
+/// Says why the program stops. A message that can't be written is lost.
+fn tell(rt: &impl Eprint, why: &str) {
+    let _ = eprintln!(rt; "twkb_tool: {why}");
+}
+
+fn tell_usage(rt: &impl Eprint, usage: &Usage) {
+    let _ = match usage {
+        Usage::Words(Some(error)) => eprint!(rt; "{error}"),
+        Usage::Words(None) => Ok(()),
+        Usage::Memory => eprintln!(rt; "twkb_tool: {usage}"),
+    };
+}

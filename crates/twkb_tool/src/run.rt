@@ -1,0 +1,163 @@
+//! A whole run, from the bytes that come in to the text that goes out.
+ghost use Rattle.std.specs.Prelude.{◌≡◌, ℕ, ◌+◌, ◌<◌, ◌≤◌, List, [], ◌++◌, length, false, IfOk, IfErr, OnOk, IsTrue, vec_len};
+ghost use Rattle.twkb_tool.specs.Output.{verdict_of};
+ghost use Rattle.twkb_tool.specs.Ran.{GivesAll, StopsPiece, StopsReading, PutsAll, StopsWriting, Ran};
+ghost use Rattle.twkb_tool.specs.Streams.{Gives};
+
+use crate::points::{Refusal, check};
+use crate::request::Request;
+use crate::streams::{Sink, SinkFailed, Source, SourceFailed};
+use crate::text::text_of;
+use std::alloc::{AllocError, Allocator, Global};
+use thiserror::Error;
+
+/// The most bytes of a file.
+pub const MAX_FILE: usize = 268_435_456;
+
+/// How many bytes are asked for at once.
+const ROOM: usize = 65_536;
+
+/// The answer to the question whether a file's claims are true.
+#[derive(Clone, Copy, Debug, PartialEq, Eq)]
+pub enum Verdict {
+    Yes,
+    No,
+}
+
+/// Why a run stopped.
+#[derive(Clone, Copy, Debug, PartialEq, Eq, Error)]
+pub enum RunFault {
+    /// The source failed. Nothing was put.
+    #[error("read failed")]
+    Read,
+    /// The source gave one byte more than the limit. Nothing was put.
+    #[error("file too large")]
+    TooLarge,
+    /// A growth was refused. Nothing was put.
+    #[error("out of memory")]
+    Memory,
+    /// The sink failed, after it had taken the first `done` bytes of the text.
+    #[error("write failed after {done} bytes")]
+    Write { done: usize },
+}
+
+/// Reads the source to its end, judges its bytes, and puts the text. All memory is taken before the first `put`.
+pub fn run<S: Source, K: Sink>(
+    alloc: Global,
+    source: &mut S,
+    sink: &mut K,
+    request: &Request,
+    limit: usize,
+) -> Result<Verdict, RunFault>
+    requires limit { limit ≤ MAX_FILE }
+    requires source { (S.state source.old).failed ≡ false }
+    requires sink { (K.state sink.old).failed ≡ false }
+    ensures { Ran request.now limit (S.state source.old) (S.state source.new) (K.state sink.old) (K.state sink.new) result }
+{
+    run_in(&alloc, source, sink, request, limit)
+}
+
+/// The same, with all memory from an allocator.
+pub fn run_in<A: Allocator, S: Source, K: Sink>(
+    alloc: &A,
+    source: &mut S,
+    sink: &mut K,
+    request: &Request,
+    limit: usize,
+) -> Result<Verdict, RunFault>
+    requires limit { limit ≤ MAX_FILE }
+    requires source { (S.state source.old).failed ≡ false }
+    requires sink { (K.state sink.old).failed ≡ false }
+    ensures { Ran request.now limit (S.state source.old) (S.state source.new) (K.state sink.old) (K.state sink.new) result }
+{
+    let bytes = read_all(alloc, source, limit)?;
+    let judgement = check(bytes.as_slice());
+    let verdict = verdict_of(&judgement);
+    let text = match text_of(alloc, request, &judgement) {
+        Ok(text) => text,
+        Err(AllocError) => return Err(RunFault::Memory),
+    };
+    put_all(sink, text.as_slice())?;
+    Ok(verdict)
+}
+
+/// Yes for a layer.
+fn verdict_of(judgement: &Result<usize, Refusal>) -> Verdict
+    ensures { result ≡ verdict_of judgement.now }
+{
+    match judgement {
+        Ok(_) => Verdict::Yes,
+        Err(_) => Verdict::No,
+    }
+}
+
+/// Reads to the end of the source, or one byte past the limit.
+fn read_all<A: Allocator, S: Source>(
+    alloc: A,
+    source: &mut S,
+    limit: usize,
+) -> Result<Vec<u8, A>, RunFault>
+    requires { limit ≤ MAX_FILE }
+    ensures ok { IfOk result (λ bytes. GivesAll limit (S.state source.old) (S.state source.new) bytes.items) }
+    ensures err { IfErr result (λ fault. StopsReading limit fault (S.state source.old) (S.state source.new)) }
+{
+    let mut room = [0; ROOM];
+    let mut bytes = Vec::new(alloc);
+    // The proof knows from here that the count so far fits.
+    let _moved = source.moved();
+    while bytes.len() <= limit {
+        if take_piece(source, &mut room, &mut bytes, limit)? == 0 {
+            return Ok(bytes);
+        }
+    }
+    Err(RunFault::TooLarge)
+}
+
+/// Takes the next bytes, by way of `room`: how many there were. The bytes grow before the source is asked.
+fn take_piece<A: Allocator, S: Source>(
+    source: &mut S,
+    room: &mut [u8],
+    bytes: &mut Vec<u8, A>,
+    limit: usize,
+) -> Result<usize, RunFault>
+    requires room { 0 < length room.old }
+    requires small { vec_len bytes.old ≤ limit }
+    requires limit { limit ≤ MAX_FILE }
+    ensures piece { IfOk result (λ n. (given : List ℕ) × Gives (S.state source.old) (S.state source.new) given
+        × (length given ≡ n) × (bytes.new.items ≡ bytes.old.items ++ given)) }
+    ensures end { result ≡ Ok 0 → IsTrue (S.state source.old).tells → (S.state source.new).rest ≡ [] }
+    ensures within { OnOk result (vec_len bytes.new ≤ limit + 1) }
+    ensures err { IfErr result (λ fault. StopsPiece fault (S.state source.old) (S.state source.new)) }
+{
+    let want = room.len().min(limit + 1 - bytes.len());
+    if bytes.try_reserve(want).is_err() {
+        return Err(RunFault::Memory);
+    }
+    match source.take(&mut room[..want]) {
+        Ok(n) => {
+            bytes.extend_from_slice(&room[..n]).unwrap();
+            Ok(n)
+        }
+        Err(SourceFailed) => Err(RunFault::Read),
+    }
+}
+
+/// Puts the whole text, and flushes.
+fn put_all<K: Sink>(sink: &mut K, text: &[u8]) -> Result<(), RunFault>
+    ensures ok { OnOk result (PutsAll text.now (K.state sink.old) (K.state sink.new)) }
+    ensures err { IfErr result (λ fault. StopsWriting text.now fault (K.state sink.old) (K.state sink.new)) }
+{
+    // The proof knows from here that the count so far fits.
+    let _moved = sink.moved();
+    let mut done = 0;
+    while done < text.len() {
+        match sink.put(&text[done..]) {
+            Ok(n) => done += n,
+            Err(SinkFailed) => return Err(RunFault::Write { done }),
+        }
+    }
+    match sink.flush() {
+        Ok(()) => Ok(()),
+        Err(SinkFailed) => Err(RunFault::Write { done }),
+    }
+}

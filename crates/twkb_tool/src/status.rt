@@ -1,0 +1,27 @@
+//! What the program ends with.
+ghost use Rattle.std.specs.Prelude.{◌≡◌};
+ghost use Rattle.twkb_tool.specs.Status.{status_of_run, status_of_usage};
+
+use crate::run::{RunFault, Verdict};
+use crate::words::Usage;
+
+/// The status of a run: 0 for yes, 1 for no, 3 where it stopped.
+pub fn status_of(outcome: &Result<Verdict, RunFault>) -> u8
+    ensures { result ≡ status_of_run outcome.now }
+{
+    match outcome {
+        Ok(Verdict::Yes) => 0,
+        Ok(Verdict::No) => 1,
+        Err(_) => 3,
+    }
+}
+
+/// The status of words that ask for nothing: 2, or 3 where memory ran out.
+pub fn usage_status(usage: &Usage) -> u8
+    ensures { result ≡ status_of_usage usage.now }
+{
+    match usage {
+        Usage::Words(_) => 2,
+        Usage::Memory => 3,
+    }
+}
