@@ -1,5 +1,5 @@
 //! A cursor over bytes, which counts what it reads.
-ghost use Rattle.std.specs.Prelude.{◌≡◌, ◌≤◌, ◌↔◌, [], ◌∷◌, length, IsNone, IfOk, IfErr, IfSome, IfNone, OnOk, OnSome};
+ghost use Rattle.std.specs.Prelude.{◌≡◌, ◌≤◌, ◌↔◌, ℕ, ℤ, List, [], ◌∷◌, ◌++◌, length, IsNone, IfOk, IfErr, IfSome, IfNone, OnOk, OnSome};
 ghost use Rattle.twkb_num.specs.Cursor.{rest, passed, counted, IsMoved, IsSound};
 ghost use Rattle.twkb_num.specs.Varint.{Spells, SpellsSigned, Faults, looked_at};
 
@@ -90,6 +90,8 @@ impl<'a> Cursor<'a> {
     pub fn uvarint(&mut self) -> Result<u64, NumFault>
         ensures ok { IfOk result (λ n. Spells (passed self.old self.new) n) }
         ensures moved { OnOk result (IsMoved self.old self.new) }
+        ensures complete { (n : ℕ) (front behind : List ℕ) → rest self.old ≡ front ++ behind
+            → Spells front n → (result ≡ Ok n) × (passed self.old self.new ≡ front) }
         ensures fault { (fault : NumFault) → (result ≡ Err fault) ↔ Faults fault (rest self.old) }
         ensures still { IfErr result (λ fault. self.new ≡ counted self.old (looked_at fault (rest self.old))) }
     {
@@ -142,6 +144,8 @@ impl<'a> Cursor<'a> {
     pub fn svarint(&mut self) -> Result<i64, NumFault>
         ensures ok { IfOk result (λ z. SpellsSigned (passed self.old self.new) z) }
         ensures moved { OnOk result (IsMoved self.old self.new) }
+        ensures complete { (z : ℤ) (front behind : List ℕ) → rest self.old ≡ front ++ behind
+            → SpellsSigned front z → (result ≡ Ok z) × (passed self.old self.new ≡ front) }
         ensures fault { (fault : NumFault) → (result ≡ Err fault) ↔ Faults fault (rest self.old) }
         ensures still { IfErr result (λ fault. self.new ≡ counted self.old (looked_at fault (rest self.old))) }
     {
