@@ -2,7 +2,7 @@ use Rattle.std.proofs.Common.{◌+◌, ◌*◌, arith}
 use Rattle.std.proofs.lemmas.Grind.{common_steps}
 use Rattle.twkb_num.specs.Cursor.{Reading, passed, IsMoved}
 use Rattle.twkb_num.specs.Varint.{Spells}
-use Rattle.twkb_num.proofs.ReadLaws.{Ok-complete, Ok-no_fault, complete}
+use Rattle.twkb_num.proofs.ReadLaws.{Ok-complete, Ok-no_fault, result-complete}
 use Rattle.twkb_num.proofs.cursor.Cursor.uvarint.Goals as goal
 
 pub returns-then-first-lt128 : goal.returns-then-first-lt128
@@ -24,4 +24,4 @@ returns-in-Some c =
 pub returns-clause-complete : goal.returns-clause-complete
 returns-clause-complete c =
     let reads = c.any_uvarint.ensures in
-    complete c.args.self.now c.any_uvarint.new.self c.any_uvarint.result reads.ok reads.moved reads.fault
+    result-complete c.args.self.now c.any_uvarint.new.self c.any_uvarint.result reads.ok reads.moved reads.fault
