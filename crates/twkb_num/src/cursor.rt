@@ -1,5 +1,5 @@
 //! A cursor over bytes, which counts what it reads.
-ghost use Rattle.std.specs.Prelude.{◌≡◌, ◌≤◌, ◌↔◌, [], ◌∷◌, length, IsNone, IfOk, IfErr, IfSome, IfNone, OnOk, OnSome};
+ghost use Rattle.std.specs.Prelude.{◌≡◌, ◌≤◌, ◌↔◌, ℕ, ℤ, List, [], ◌∷◌, ◌++◌, length, IsNone, IfOk, IfErr, IfSome, IfNone, OnOk, OnSome};
 ghost use Rattle.twkb_num.specs.Cursor.{rest, passed, counted, IsMoved, IsSound};
 ghost use Rattle.twkb_num.specs.Varint.{Spells, SpellsSigned, Faults, looked_at};
 
@@ -10,6 +10,7 @@ use std::marker::Model;
 /// A place in bytes, and a count of the bytes read, which stays at `u64::MAX` once there.
 ///
 /// It isn't `Clone`, lends no bytes, and no call lowers its count: what reads through a cursor is counted.
+/// A contract sees it as a `Reading`. Each call takes constant time and space: a varint has at most ten bytes.
 #[derive(Drop)]
 pub struct Cursor<'a> {
     bytes: &'a [u8],
@@ -29,6 +30,7 @@ impl<'a> Model for Cursor<'a> {
 
 impl<'a> Cursor<'a> {
     /// A cursor at the first of the bytes, with nothing counted.
+    #[inline]
     pub fn new(bytes: &'a [u8]) -> Self
         ensures { result ≡ record { bytes = bytes.now; place = 0; count = 0 } }
     {
@@ -40,28 +42,32 @@ impl<'a> Cursor<'a> {
     }
 
     /// The number of bytes before the next one.
+    #[inline]
     pub fn place(&self) -> usize
         ensures value { result ≡ self.now.place }
+        // What every cursor keeps: a caller with a loop learns it here.
         ensures sound { IsSound self.now }
     {
         self.place
     }
 
-    /// The number of all bytes.
+    /// The number of all bytes, those before the place too.
+    #[inline]
     pub fn len(&self) -> usize
         ensures { result ≡ length self.now.bytes }
     {
         self.bytes.len()
     }
 
-    /// How many bytes were looked at so far, those of a fault among them.
+    /// How many bytes were read so far, those that a fault looked at among them.
+    #[inline]
     pub fn read_count(&self) -> u64
         ensures { result ≡ self.now.count }
     {
         self.count
     }
 
-    /// Moves to a place; the count is unchanged.
+    /// Moves to a place, before or after the present one. The count is unchanged.
     #[inline]
     pub fn go_to(&mut self, place: usize)
         requires { place ≤ length self.old.bytes }
@@ -84,14 +90,19 @@ impl<'a> Cursor<'a> {
         Some(byte)
     }
 
-    /// The unsigned varint at the place, which it moves past. After a fault the place is unmoved,
+    /// The unsigned varint at the place, which it moves past (TWKB specification, "VarInt Encode").
+    ///
+    /// A spelling may be longer than it has to be. After a fault the place is unmoved,
     /// and the bytes looked at are counted.
     #[inline(always)]
     pub fn uvarint(&mut self) -> Result<u64, NumFault>
         ensures ok { IfOk result (λ n. Spells (passed self.old self.new) n) }
         ensures moved { OnOk result (IsMoved self.old self.new) }
+        ensures complete { (n : ℕ) (front behind : List ℕ) → rest self.old ≡ front ++ behind
+            → Spells front n → (result ≡ Ok n) × (passed self.old self.new ≡ front) }
         ensures fault { (fault : NumFault) → (result ≡ Err fault) ↔ Faults fault (rest self.old) }
-        ensures still { IfErr result (λ fault. self.new ≡ counted self.old (looked_at fault (rest self.old))) }
+        ensures still { IfErr result (λ fault.
+            self.new ≡ counted self.old (looked_at fault (rest self.old))) }
     {
         if let Some(&first) = self.bytes.get(self.place) {
             if first < 128 {
@@ -110,13 +121,14 @@ impl<'a> Cursor<'a> {
         self.any_uvarint()
     }
 
-    // The varint at the place, byte by byte. It is inlined so that the cursor stays in registers.
+    // The unsigned varint at the place, of any length. It is inlined so that the cursor stays in registers.
     #[inline(always)]
     fn any_uvarint(&mut self) -> Result<u64, NumFault>
         ensures ok { IfOk result (λ n. Spells (passed self.old self.new) n) }
         ensures moved { OnOk result (IsMoved self.old self.new) }
         ensures fault { (fault : NumFault) → (result ≡ Err fault) ↔ Faults fault (rest self.old) }
-        ensures still { IfErr result (λ fault. self.new ≡ counted self.old (looked_at fault (rest self.old))) }
+        ensures still { IfErr result (λ fault.
+            self.new ≡ counted self.old (looked_at fault (rest self.old))) }
     {
         let bytes = &self.bytes[self.place..];
         match decode(bytes) {
@@ -136,15 +148,22 @@ impl<'a> Cursor<'a> {
         }
     }
 
-    /// The signed varint at the place, which it moves past. After a fault the place is unmoved,
-    /// and the bytes looked at are counted.
+    /// The signed varint at the place, which it moves past: an unsigned one, read by zigzag.
+    ///
+    /// After a fault the place is unmoved, and the bytes looked at are counted.
     #[inline(always)]
     pub fn svarint(&mut self) -> Result<i64, NumFault>
         ensures ok { IfOk result (λ z. SpellsSigned (passed self.old self.new) z) }
         ensures moved { OnOk result (IsMoved self.old self.new) }
+        ensures complete { (z : ℤ) (front behind : List ℕ) → rest self.old ≡ front ++ behind
+            → SpellsSigned front z → (result ≡ Ok z) × (passed self.old self.new ≡ front) }
         ensures fault { (fault : NumFault) → (result ≡ Err fault) ↔ Faults fault (rest self.old) }
-        ensures still { IfErr result (λ fault. self.new ≡ counted self.old (looked_at fault (rest self.old))) }
+        ensures still { IfErr result (λ fault.
+            self.new ≡ counted self.old (looked_at fault (rest self.old))) }
     {
         Ok(unzigzag(self.uvarint()?))
     }
 }
+
+#[cfg(test)]
+mod tests;

@@ -22,15 +22,16 @@ const POWERS: [i128; 16] = [
     1_000_000_000_000_000,
 ];
 
-/// The coordinate `c` at precision `p`, which means `c / 10^p`, in units of 10^-7: exact, and below 2^127 either way.
+/// A coordinate at a precision, which means `coordinate / 10^precision`, in units of 10^-7. It is exact.
 ///
-/// A coordinate has 64 bits; the maximum of a box is a sum of two, so `c` may be as far as 2^64 from 0.
+/// A coordinate has 64 bits; the maximum of a box is a sum of two, so it may be as far as 2^64 from 0.
+/// In units it is then at most 2^64 * 10^15 from 0, which is below 2^127.
 #[inline]
-pub fn units(c: i128, p: i8) -> i128
-    requires precision { IsPrecision p }
-    requires least { neg_ℤ (pos (2 ^ 64)) ≤ℤ c }
-    requires greatest { c ≤ℤ pos (2 ^ 64) }
-    ensures { result ≡ units_of c p }
+pub fn units(coordinate: i128, precision: i8) -> i128
+    requires precision { IsPrecision precision }
+    requires least { neg_ℤ (pos (2 ^ 64)) ≤ℤ coordinate }
+    requires greatest { coordinate ≤ℤ pos (2 ^ 64) }
+    ensures { result ≡ units_of coordinate precision }
 {
-    c * POWERS[usize::from(7i8.abs_diff(p))]
+    coordinate * POWERS[usize::from(7i8.abs_diff(precision))]
 }

@@ -1,7 +1,7 @@
 use Rattle.std.proofs.Common.{arith}
-use Rattle.twkb_num.proofs.CursorLemmas.{take-rest}
+use Rattle.twkb_num.proofs.CursorLemmas.{slice_range-take}
 use Rattle.twkb_num.proofs.cursor.Cursor.any_uvarint.Goals as goal
 
 pub returns-in-Ok-clause-ok : goal.returns-in-Ok-clause-ok
 returns-in-Ok-clause-ok c =
-    rw (← c.self.view_is) (rw (take-rest c.self.inside.bytes.now c.self.inside.place c.in-Ok.len (omega (arith, c.in-Ok.ensures.len))) c.in-Ok.ensures.ok)
+    rw (← c.self.view_is) (rw (slice_range-take c.self.inside.bytes.now c.self.inside.place c.in-Ok.len (omega (arith, c.in-Ok.ensures.len))) c.in-Ok.ensures.ok)
