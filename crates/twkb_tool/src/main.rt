@@ -11,6 +11,8 @@ pub mod request;
 pub mod run;
 pub mod status;
 pub mod streams;
+#[cfg(test)]
+mod tests;
 pub mod text;
 pub mod words;
 

@@ -1,0 +1,175 @@
+//! Sources and sinks that fail, that have no end, and those over real files.
+use crate::request::Request;
+use crate::run::{RunFault, Verdict, run};
+use crate::status::status_of;
+use crate::streams::io::{FromReader, ToWriter};
+use crate::streams::memory::{MemSink, MemSource};
+use crate::streams::{Sink, Source, SourceFailed};
+use std::env;
+use std::fs;
+use std::fs::File;
+use std::io;
+use std::io::{Read, Write};
+use std::test::Fail;
+
+const POINT: [u8; 5] = [0x01, 0x02, 0x02, 0x02, 0x04];
+const TEXT: &str = "ok blobs=1 vertices=1\n";
+
+#[test]
+fn a_source_fails_at_each_call(rt: HostRuntime) -> Result<(), Fail> {
+    for k in 1..7 {
+        let mut source = MemSource::new(&POINT, 1, Some(k));
+        let mut sink = MemSink::new(rt.alloc(), 100, 1, None)?;
+        let outcome = run(rt.alloc(), &mut source, &mut sink, &Request::Check, 100);
+        assert_eq!(rt; outcome, Err(RunFault::Read));
+        assert_eq!(rt; status_of(&outcome), 3);
+        assert!(rt; source.failed() && source.moved() == k as u64 - 1);
+        assert!(rt; sink.bytes().is_empty() && sink.moved() == 0);
+    }
+    Ok(())
+}
+
+#[test]
+fn a_sink_fails_at_each_call_up_to_the_flush(rt: HostRuntime) -> Result<(), Fail> {
+    for k in 1..24usize {
+        let mut source = MemSource::new(&POINT, 9, None);
+        let mut sink = MemSink::new(rt.alloc(), 100, 1, Some(k))?;
+        let outcome = run(rt.alloc(), &mut source, &mut sink, &Request::Check, 100);
+        assert_eq!(rt; outcome, Err(RunFault::Write { done: k - 1 }));
+        assert_eq!(rt; status_of(&outcome), 3);
+        assert_eq!(rt; sink.bytes(), &TEXT.as_bytes()[..k - 1]);
+        assert!(rt; sink.failed() && sink.moved() == k as u64 - 1);
+    }
+    Ok(())
+}
+
+#[test]
+fn a_sink_takes_three_bytes(rt: HostRuntime) -> Result<(), Fail> {
+    let mut source = MemSource::new(&POINT, 9, None);
+    let mut sink = MemSink::new(rt.alloc(), 3, 100, None)?;
+    let outcome = run(rt.alloc(), &mut source, &mut sink, &Request::Check, 100);
+    assert_eq!(rt; outcome, Err(RunFault::Write { done: 3 }));
+    assert_eq!(rt; sink.bytes(), b"ok ".as_slice());
+    Ok(())
+}
+
+/// A source that fills every room and never ends.
+#[derive(Drop)]
+struct Endless {
+    calls: usize,
+    moved: u64,
+}
+
+impl Source for Endless {
+    ghost use Rattle.std.specs.Prelude.{false, []};
+
+    ghost state = { λ s. record { tells = false; rest = []; moved = s.moved; failed = false } };
+
+    fn take(&mut self, room: &mut [u8]) -> Result<usize, SourceFailed> {
+        for place in room.iter_mut() {
+            *place = 1;
+        }
+        self.calls = self.calls.saturating_add(1);
+        self.moved = self.moved.saturating_add(room.len() as u64);
+        Ok(room.len())
+    }
+
+    fn failed(&self) -> bool {
+        false
+    }
+
+    fn moved(&self) -> u64 {
+        self.moved
+    }
+}
+
+#[test]
+fn a_source_without_end_is_too_large(rt: HostRuntime) -> Result<(), Fail> {
+    for limit in [0usize, 6, 100_000] {
+        let mut source = Endless { calls: 0, moved: 0 };
+        let mut sink = MemSink::new(rt.alloc(), 100, 1, None)?;
+        let outcome = run(rt.alloc(), &mut source, &mut sink, &Request::Check, limit);
+        assert_eq!(rt; outcome, Err(RunFault::TooLarge));
+        assert!(rt; sink.bytes().is_empty());
+        assert!(rt; source.moved() == limit as u64 + 1 && source.calls <= limit + 1);
+    }
+    Ok(())
+}
+
+/// A reader that gives one byte at a call, and fails at one call; and a writer that takes none.
+#[derive(Drop)]
+struct Faulty {
+    calls: usize,
+    fail_at: usize,
+    kind: io::ErrorKind,
+}
+
+impl Read for Faulty {
+    fn read(&mut self, room: &mut [u8]) -> io::Result<usize> {
+        self.calls = self.calls.saturating_add(1);
+        if self.calls == self.fail_at {
+            return Err(io::Error::from(self.kind));
+        }
+        if room.is_empty() || self.calls > 9 {
+            return Ok(0);
+        }
+        room[0] = 1;
+        Ok(1)
+    }
+}
+
+impl Write for Faulty {
+    fn write(&mut self, _piece: &[u8]) -> io::Result<usize> {
+        Ok(0)
+    }
+
+    fn flush(&mut self) -> io::Result<()> {
+        Ok(())
+    }
+}
+
+#[test]
+fn readers_and_writers_fail(rt: HostRuntime) -> Result<(), Fail> {
+    for fail_at in 1..11usize {
+        let mut source = FromReader::new(Faulty {
+            calls: 0,
+            fail_at,
+            kind: io::ErrorKind::Interrupted,
+        });
+        let mut sink = MemSink::new(rt.alloc(), 100, 100, None)?;
+        let outcome = run(rt.alloc(), &mut source, &mut sink, &Request::Check, 100);
+        assert_eq!(rt; outcome, Err(RunFault::Read));
+        assert!(rt; source.failed() && source.moved() == fail_at as u64 - 1);
+    }
+    let mut source = MemSource::new(&POINT, 2, None);
+    let mut sink = ToWriter::new(Faulty {
+        calls: 0,
+        fail_at: 0,
+        kind: io::ErrorKind::Other,
+    });
+    let outcome = run(rt.alloc(), &mut source, &mut sink, &Request::Check, 100);
+    assert_eq!(rt; outcome, Err(RunFault::Write { done: 0 }));
+    assert!(rt; sink.failed() && sink.moved() == 0);
+    Ok(())
+}
+
+#[test]
+fn a_run_goes_from_file_to_file(rt: HostRuntime) -> Result<(), Fail> {
+    let folder = env::temp_dir(&rt)?;
+    let layer = folder.join(rt.alloc(), "twkb_tool-test-layer.twkb")?;
+    let answer = folder.join(rt.alloc(), "twkb_tool-test-answer")?;
+    fs::write(&rt, &layer, &POINT)?;
+    {
+        let mut source = FromReader::new(File::open(&rt, &layer)?);
+        let mut sink = ToWriter::new(File::create(&rt, &answer)?);
+        let outcome = run(rt.alloc(), &mut source, &mut sink, &Request::Check, 100);
+        assert_eq!(rt; outcome, Ok(Verdict::Yes));
+        assert!(rt; source.moved() == 5 && !source.failed());
+        assert!(rt; sink.moved() == 22 && !sink.failed());
+    }
+    let written = fs::read_to_string(&rt, &answer)?;
+    fs::remove_file(&rt, &layer)?;
+    fs::remove_file(&rt, &answer)?;
+    assert_eq!(rt; written.as_str(), TEXT);
+    Ok(())
+}
