@@ -2,13 +2,14 @@
 PROGRAM = build/twkb_tool
 LAYER = examples/points_sized.twkb
 
-.PHONY: help kit build demo test clean
+.PHONY: help kit build demo test refusals clean
 
 help:
-	@echo 'make build   prove and build the program: $(PROGRAM)'
-	@echo 'make demo    build, and check the example layer'
-	@echo 'make test    build, test the program from end to end, and run the merge gate'
-	@echo 'make clean   remove what was built'
+	@echo 'make build      prove and build the program: $(PROGRAM)'
+	@echo 'make demo       build, and check the example layer'
+	@echo 'make test       build, test the program from end to end, and run the merge gate'
+	@echo 'make refusals   refuse each allocation of the program in turn (some minutes)'
+	@echo 'make clean      remove what was built'
 
 kit:
 	@$(if $(shell command -v rt),:,$(error The Rattle kit is missing: its command rt is not in PATH))
@@ -25,6 +26,10 @@ demo: build
 test: build
 	python3 tests/run.py $(PROGRAM)
 	rt ci
+
+# Each allocation of the whole program in turn; it builds the program for each, so the gate leaves it out.
+refusals: kit
+	python3 tests/refuse_allocations.py
 
 clean:
 	rm -rf build crates/*/out
