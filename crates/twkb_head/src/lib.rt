@@ -12,15 +12,17 @@
 //!
 //! What the bytes of a header are is said in `specs/Header.antt` (`IsHeader`), what a header that is begun may go on with
 //! in `specs/BegunHeader.antt`, and what the answers of `read_head` mean in `specs/Head.antt` and `specs/Refusal.antt`.
-//! The other files of `specs/` are devices of proofs: reading as a plan of fields (`Plan`, `HeadPlan`) and as the code
-//! does it, one field after another (`Reader`, `HeadReader`).
+//! [`laws`] has what holds of these definitions alone. The other files of `specs/` are devices of proofs: reading as a
+//! plan of fields (`Plan`, `HeadPlan`) and as the code does it, one field after another (`Reader`, `HeadReader`).
 #![tactic(auto)]
 
+mod bits;
 mod boxes;
 mod fields;
 mod header;
-mod holds;
 mod kinds;
+pub mod laws;
+mod ranges;
 mod read;
 mod refusal;
 #[cfg(test)]

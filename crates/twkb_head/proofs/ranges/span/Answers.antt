@@ -3,7 +3,7 @@ use Rattle.std.proofs.lemmas.Int.{ints, to_z-of_z}
 use mir.Val.{SFits, to_z, of_z}
 use Rattle.std.specs.Int.{w8, w128}
 use Rattle.twkb_num.specs.Units.{units_of}
-use Rattle.twkb_head.proofs.read.span.Goals as goal
+use Rattle.twkb_head.proofs.ranges.span.Goals as goal
 
 pub returns : goal.returns
 returns c =
