@@ -71,7 +71,8 @@ IsBox axes ranges bytes = (length ranges ≡ axes) × Sequence IsSigned (box_num
 abbrev pub has_ids : Kind → ℕ → Bool
 has_ids kind metadata = if has_bit metadata 16 then false else if nat_lt (code_of kind) 4 then false else has_bit metadata 4
 
--- the bytes are the fields of the header, in order; bits that mean nothing are free
+-- The bytes are the fields of the header, in order. The bits of the metadata byte are 1 for a box, 2 for a size, 4 for
+-- ids, 8 for extended dimensions and 16 for an empty geometry; bits that mean nothing are free.
 pub record IsHeader (h : Header) (bytes : List ℕ) : Type 0 where
   pub type_byte : ℕ
   pub metadata : ℕ

@@ -22,6 +22,7 @@ pub enum Kind {
 pub const DEEPEST: u8 = 32;
 
 /// The kind that a type byte names, where it may stand at `depth`.
+#[inline(always)]
 pub fn kind_at(byte: u8, depth: u8) -> Result<Kind, Why>
     requires { depth ≤ deepest }
     ensures kind { IfOk result (λ kind. kind_of_code (byte % 16) ≡ Some kind) }
@@ -35,7 +36,8 @@ pub fn kind_at(byte: u8, depth: u8) -> Result<Kind, Why>
     }
 }
 
-/// The kind that the low four bits of a type byte name.
+/// The kind that the low four bits of a type byte name; 0 and 8 to 15 name none.
+#[inline(always)]
 fn kind_of(byte: u8) -> Option<Kind>
     ensures { result ≡ kind_of_code (byte % 16) }
 {

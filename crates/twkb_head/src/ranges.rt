@@ -68,9 +68,10 @@ fn span(low: i64, extent: i64, precision: i8) -> Span
     requires { IsPrecision precision }
     ensures { result ≡ span_at precision (low, low +ℤ extent) }
 {
-    let low = i128::from(low);
+    let minimum = i128::from(low);
+    let maximum = minimum + i128::from(extent);
     Span {
-        lo: units(low, precision),
-        hi: units(low + i128::from(extent), precision),
+        lo: units(minimum, precision),
+        hi: units(maximum, precision),
     }
 }

@@ -24,10 +24,12 @@ pub fn read_head(cursor: &mut Cursor, depth: u8) -> Result<Head, Malformed>
     requires shallowest { 1 ≤ depth }
     requires deepest { depth ≤ deepest }
 
+    // It answers a header exactly where one stands that may stand at this depth, and this one.
     ensures exact { IsOk result ↔ StartsWithHeader depth (rest cursor.old) }
     ensures ok { IfOk result (λ head. IsHeadAt head depth cursor.old.place (passed cursor.old cursor.new)) }
     ensures moved { OnOk result (IsMoved cursor.old cursor.new) }
 
+    // It names the first field that can't follow, for one of the first four reasons, and counts what it looked at.
     ensures refused { IfErr result (λ m. IsRefusedHead m depth cursor.old.place (rest cursor.old)) }
     ensures no_range { IfErr result (λ m. m.why ≢ Range) }
     ensures still { IfErr result (λ m. cursor.new ≡ counted cursor.old (looked_at_until m cursor.old)) }
