@@ -56,6 +56,16 @@ header_once h k a x b y e ih ik =
     runs : (h : Header) (a x : List ℕ) (ih : IsHeader h a) → run (head_plan 1) (a ++ x) ≡ Ok (value h a ih, x)
     runs h a x ih = run_again (head_plan 1) (value h a ih) a x (spelled_head 1 (value h a ih) a (record { header = ih; allowed = shallow h.kind; before = refl; size = refl }))
 
+rest_length : (r : Reading) → length (rest r) ≡ length r.bytes - r.place
+rest_length r = grind (arith, common_steps)
+
+-- two moves that leave the same bytes come to the same reading
+moves_meet : (r a b : Reading) → IsMoved r a → IsMoved r b → rest a ≡ rest b → a ≡ b
+moves_meet r a b to_a to_b same =
+    let place : a.place ≡ b.place =
+    omega (arith, ap length same, rest_length a, rest_length b, to_a.within, to_b.within, ap length to_a.bytes, ap length to_b.bytes) in
+    reading_path a b (to_a.bytes ∙ sym to_b.bytes) place (to_a.count ∙ ap (λ (n : ℕ). added r.count (n - r.place)) place ∙ sym to_b.count)
+
 none_kind : (n : ℕ) → (n ≡ 0) ⊎ (8 ≤ n) → kind_of_code n ≡ None
 none_kind zero h = refl
 none_kind (suc zero) h = absurd (omega (arith, h))
@@ -123,11 +133,7 @@ module _ (depth : ℕ) (some : 1 ≤ depth) (deep : depth ≤ deepest) where
       go (Ok x, b) is =
           let ok = read_ok (head_plan (deepest - depth)) r b x sound is in
           let both : (value, rest new) ≡ (x, rest b) = ok_is {A = HeadValue × List ℕ} {E = Fault} (value, rest new) (x, rest b) (sym runs ∙ ok.0) in
-          let left : length (rest new) ≡ length (rest b) = ap (λ (z : HeadValue × List ℕ). length z.1) both in
-          let ln : length (rest new) ≡ length new.bytes - new.place = grind (arith, common_steps) in
-          let lb : length (rest b) ≡ length b.bytes - b.place = grind (arith, common_steps) in
-          let place : b.place ≡ new.place = omega (arith, left, ln, lb, moved.within, ok.1.within, ap length moved.bytes, ap length ok.1.bytes) in
-          let same : b ≡ new = reading_path b new (ok.1.bytes ∙ sym moved.bytes) place (ok.1.count ∙ ap (λ (n : ℕ). added r.count (n - r.place)) place ∙ sym moved.count) in
+          let same : b ≡ new = moves_meet r b new ok.1 moved (sym (ap (λ (z : HeadValue × List ℕ). z.1) both)) in
           is ∙ ap₂ (λ (y : HeadValue) (c : Reading). (Ok y, c)) (sym (ap (λ (z : HeadValue × List ℕ). z.0) both)) same
       go (Err m, b) is = absurd (not_both (value, rest new) _ (run (head_plan (deepest - depth)) (rest r)) runs (read_err (head_plan (deepest - depth)) r b m sound is).is)
 

@@ -55,6 +55,10 @@ failed_of levels r new m e = go (read (head_plan levels) r) refl (sym (head_runs
         let why : w ≡ m = err_is {A = Head} _ _ (ap (λ (z : Answer Head). z.0) e) in
         is ∙ ap₂ (λ (x : Malformed) (b : Reading). (Err x, b)) why left
 
+-- the same places, said otherwise
+head_placed : (head : Head) (h : Header) (start a b c a' b' c' : ℕ) → head ≡ head_of h start a b c → a ≡ a' → b ≡ b' → c ≡ c' → head ≡ head_of h start a' b' c'
+head_placed head h start a b c a' b' c' e x y z = e ∙ (λ j. head_of h start (x j) (y j) (z j))
+
 -- ---- what is wrong with a field
 code_is : (levels : ℕ) (t : ℕ) (o : Option KindOf) (why : Why) → kind_of_code (t % 16) ≡ o → judge_kind levels o ≡ Some why
     → ((why ≡ Kind) × ((t % 16 ≡ 0) ⊎ (8 ≤ t % 16))) ⊎ ((why ≡ Depth) × (t % 16 ≡ 7))
@@ -160,7 +164,9 @@ module _ (depth : ℕ) (some : 1 ≤ depth) (deep : depth ≤ deepest) (r new : 
           header = read.value.header;
           is = h.header;
           allowed = allowed_at deepest (deepest - depth) depth read.value.header.kind sum some h.allowed;
-          fields = read.same ∙ (λ j. head_of read.value.header r.place (size_place j) (box_place j) (stop j));
+          fields = head_placed head read.value.header r.place (r.place + read.value.before) (r.place + read.value.before + read.value.size) new.place
+              (r.place + 2 + length h.header.extended_bytes) (r.place + 2 + length h.header.extended_bytes + length h.header.size_bytes)
+              (r.place + length (passed r new)) read.same size_place box_place stop;
         },
         ok.1,
       )

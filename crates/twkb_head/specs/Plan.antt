@@ -1,6 +1,6 @@
 -- A device of proofs: reading as a plan of fields. A plan says what is asked for next, and how reading goes on from the
 -- bytes of that field.
-use Rattle.std.specs.Prelude.{◌≡◌, ℕ, zero, suc, ◌+◌, ◌%◌, nat_lt, cond, Bool, true, false, List, [], ◌∷◌, ◌++◌, length, slice_index, ℤ, pos, negsuc, ◌+ℤ◌, Option, Some, None, Result, Ok, Err, ◌⊎◌}
+use Rattle.std.specs.Prelude.{◌≡◌, ℕ, zero, suc, ◌+◌, ◌%◌, ◌^◌, nat_lt, cond, Bool, true, false, List, [], ◌∷◌, ◌++◌, length, slice_index, ℤ, pos, negsuc, ◌+ℤ◌, Option, Some, None, Result, Ok, Err, ◌⊎◌}
 use Rattle.twkb_num.specs.Varint.{sum_of_groups, zigzag_value}
 use Rattle.twkb_head.specs.declared.kinds.Kind.{Kind}
 use Rattle.twkb_head.specs.declared.kinds.Kind.TheVariants.{Point, LineString, Polygon, MultiPoint, MultiLineString, MultiPolygon, GeometryCollection}
@@ -69,8 +69,8 @@ judge_kind levels (Some kind) = None
 
 -- whether a coordinate fits 64 bits
 abbrev pub fits : ℤ → Bool
-fits (pos n) = nat_lt n 9223372036854775808
-fits (negsuc n) = nat_lt n 9223372036854775808
+fits (pos n) = nat_lt n (2 ^ 63)
+fits (negsuc n) = nat_lt n (2 ^ 63)
 
 -- what is wrong with a field whose bytes are all there
 abbrev pub judge : Request → List ℕ → Option Why

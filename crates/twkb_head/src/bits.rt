@@ -6,15 +6,20 @@ ghost use Rattle.twkb_head.specs.Header.{has_bit, has_ids, z_in, m_in};
 
 use crate::kinds::Kind;
 
-/// The bits of the metadata byte, by their values (TWKB specification, "Metadata Header"). The others mean nothing.
+/// A bit of the metadata byte, by its value: a box stands in the header (TWKB specification, "Metadata Header"). The
+/// three bits that have no name here mean nothing, and may be set (this project's choice).
 pub const BOX: u8 = 1;
 
+/// A bit of the metadata byte: a size stands in the header.
 pub const SIZE: u8 = 2;
 
+/// A bit of the metadata byte: ids stand in the body, where it has a list.
 pub const IDS: u8 = 4;
 
+/// A bit of the metadata byte: an extended dimensions byte stands in the header.
 pub const EXTENDED: u8 = 8;
 
+/// A bit of the metadata byte: the geometry is empty, and has no body.
 pub const EMPTY: u8 = 16;
 
 /// Whether a bit of a byte, named by its value, is set.
@@ -38,7 +43,9 @@ pub fn precision_of(byte: u8) -> i8
     if raw % 2 == 0 { half } else { -half - 1 }
 }
 
-/// The precision of Z, where the extended dimensions byte has a Z (TWKB specification, "Extended Dimensions [Optional]").
+/// The precision of Z, where the extended dimensions byte has a Z (TWKB specification, "Extended Dimensions
+/// [Optional]"). A byte with neither Z nor M is accepted, and the bits of an axis that it lacks mean nothing (this
+/// project's choice).
 #[inline(always)]
 pub fn z_of(extended: Option<u8>) -> Option<u8>
     ensures value { result ≡ z_in extended }
@@ -50,7 +57,7 @@ pub fn z_of(extended: Option<u8>) -> Option<u8>
     }
 }
 
-/// The precision of M, where the extended dimensions byte has an M (TWKB specification, "Extended Dimensions [Optional]").
+/// The precision of M, where the extended dimensions byte has an M; else as for Z.
 #[inline(always)]
 pub fn m_of(extended: Option<u8>) -> Option<u8>
     ensures value { result ≡ m_in extended }

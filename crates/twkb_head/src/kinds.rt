@@ -8,12 +8,19 @@ use crate::refusal::Why;
 /// The type of a geometry (TWKB specification, "Type & Precision Byte").
 #[derive(Clone, Copy, Debug, PartialEq, Eq)]
 pub enum Kind {
+    /// One point.
     Point,
+    /// Points in a row.
     LineString,
+    /// Rings, each of points in a row.
     Polygon,
+    /// A list of points.
     MultiPoint,
+    /// A list of lines.
     MultiLineString,
+    /// A list of polygons.
     MultiPolygon,
+    /// A list of geometries, each with a header of its own.
     GeometryCollection,
 }
 
