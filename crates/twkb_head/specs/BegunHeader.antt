@@ -12,16 +12,16 @@ abbrev pub is_collection : Kind → Bool
 is_collection GeometryCollection = true
 is_collection _ = false
 
--- Where the deepest geometry may stand at the limit, a kind may stand at a depth: a blob has depth 1, a member of a
--- collection one more than the collection, and a collection leaves one depth for its members.
+-- A kind may stand at a depth, where nothing may stand deeper than the limit: a blob has depth 1, a member of a collection
+-- one more than the collection, so a collection has to leave a depth for its members.
 abbrev pub IsAllowedUnder : ℕ → Kind → ℕ → Type 0
 IsAllowedUnder limit kind depth = (1 ≤ depth) × (depth + (if is_collection kind then 1 else 0) ≤ limit)
 
--- how deep the deepest geometry stands
+-- how deep a geometry may stand: the limit of this project
 abbrev pub deepest : ℕ
 deepest = DEEPEST
 
--- the same under the limit of this project
+-- a kind may stand at a depth under that limit
 abbrev pub IsAllowedAt : Kind → ℕ → Type 0
 IsAllowedAt = IsAllowedUnder deepest
 
