@@ -1,0 +1,13 @@
+pub mod FieldCuts
+pub mod Plans
+pub mod Combinators
+pub mod Leaves
+pub mod Heads
+pub mod Readings
+pub mod Steps
+pub mod HeadSteps
+pub mod HeadRuns
+pub mod Loops
+pub mod HeadLaws
+pub mod HeadBack
+pub mod Limits

@@ -1,0 +1,14 @@
+pub mod Parts
+pub mod Header
+pub mod BegunHeader
+pub mod Head
+pub mod Refusal
+pub mod Holds
+pub mod Laws
+pub mod Plan
+pub mod HeadPlan
+pub mod Reader
+pub mod HeadReader
+pub use Rattle.twkb_num.specs.Cursor
+pub use Rattle.twkb_num.specs.Varint
+pub use Rattle.twkb_num.specs.Units

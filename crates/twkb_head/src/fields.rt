@@ -1,0 +1,84 @@
+//! The fields of a header, each read by itself.
+//!
+//! Each reader answers as the reader of the same name in `specs/` does (`byte_at`, `number_at`, ..): with the value, past
+//! the field, or with the field's place and what is wrong there.
+ghost use Rattle.std.specs.Prelude.{◌≡◌, ◌≤◌, ◌-◌, IfOk};
+ghost use Rattle.twkb_num.specs.Units.{IsPrecision};
+ghost use Rattle.twkb_head.specs.BegunHeader.{deepest};
+ghost use Rattle.twkb_head.specs.Reader.{byte_at, number_at, signed_at, why_of};
+ghost use Rattle.twkb_head.specs.HeadReader.{kind_from_type};
+
+use crate::bits::precision_of;
+use crate::kinds::{Kind, kind_at};
+use crate::refusal::{Malformed, Why};
+use twkb_num::{Cursor, NumFault};
+
+/// The kind and the precision of X and Y in the type byte at the place, of a geometry that stands at `depth`. Both type
+/// and depth are judged here, before the next byte is read (this project's choice).
+#[inline(always)]
+pub fn take_type(cursor: &mut Cursor, depth: u8) -> Result<(Kind, i8), Malformed>
+    requires { depth ≤ deepest }
+    ensures precision { IfOk result (λ x. IsPrecision x.1) }
+    ensures read { kind_from_type (deepest - depth) cursor.old ≡ (result, cursor.new) }
+{
+    let offset = cursor.place();
+    let byte = take_byte(cursor)?;
+    match kind_at(byte, depth) {
+        Ok(kind) => Ok((kind, precision_of(byte))),
+        Err(why) => {
+            cursor.go_to(offset);
+            Err(Malformed { offset, why })
+        }
+    }
+}
+
+/// The byte at the place.
+#[inline(always)]
+pub fn take_byte(cursor: &mut Cursor) -> Result<u8, Malformed>
+    ensures { byte_at cursor.old ≡ (result, cursor.new) }
+{
+    match cursor.byte() {
+        Some(byte) => Ok(byte),
+        None => Err(Malformed {
+            offset: cursor.place(),
+            why: Why::Cut,
+        }),
+    }
+}
+
+/// The unsigned number at the place.
+#[inline(always)]
+pub fn take_number(cursor: &mut Cursor) -> Result<u64, Malformed>
+    ensures { number_at cursor.old ≡ (result, cursor.new) }
+{
+    match cursor.uvarint() {
+        Ok(number) => Ok(number),
+        Err(fault) => Err(malformed(cursor, fault)),
+    }
+}
+
+/// The signed number at the place.
+#[inline(always)]
+pub fn take_signed(cursor: &mut Cursor) -> Result<i64, Malformed>
+    ensures { signed_at cursor.old ≡ (result, cursor.new) }
+{
+    match cursor.svarint() {
+        Ok(number) => Ok(number),
+        Err(fault) => Err(malformed(cursor, fault)),
+    }
+}
+
+/// A fault of the number at the place.
+#[cold]
+fn malformed(cursor: &Cursor, fault: NumFault) -> Malformed
+    ensures offset { result.offset ≡ cursor.now.place }
+    ensures why { result.why ≡ why_of fault }
+{
+    Malformed {
+        offset: cursor.place(),
+        why: match fault {
+            NumFault::Cut => Why::Cut,
+            NumFault::Long => Why::Varint,
+        },
+    }
+}

@@ -1,0 +1,50 @@
+//! What a header says, and where its parts stand.
+use crate::boxes::Bounds;
+use crate::kinds::Kind;
+
+/// A size (TWKB specification, "Size [Optional]"): the number of bytes from `after` to the end of the geometry, as its
+/// header has it. Whether it is true is not judged here.
+#[derive(Clone, Copy, Debug, PartialEq, Eq)]
+pub struct SizeField {
+    /// The number itself.
+    pub value: u64,
+    /// The place of the field's first byte.
+    pub offset: usize,
+    /// The first place behind the field, from which the size counts.
+    pub after: usize,
+}
+
+/// A box (TWKB specification, "Bounding Box [Optional]"), in units. Whether it is true is not judged here.
+#[derive(Clone, Copy, Debug, PartialEq, Eq)]
+pub struct BoxField {
+    /// The box itself.
+    pub bounds: Bounds,
+    /// The place of the field's first byte.
+    pub offset: usize,
+}
+
+/// A header. A coordinate `c` of an axis at precision `p` means `c / 10^p`.
+#[derive(Clone, Copy, Debug, PartialEq, Eq)]
+pub struct Head {
+    /// The type of the geometry.
+    pub kind: Kind,
+    /// The precision of X and Y, from -8 to 7.
+    pub xy: i8,
+    /// The precision of Z, from 0 to 7, where there is a Z.
+    pub z: Option<u8>,
+    /// The precision of M, from 0 to 7, where there is an M.
+    pub m: Option<u8>,
+    /// The size, where there is one.
+    pub size: Option<SizeField>,
+    /// The box, where there is one.
+    pub bounds: Option<BoxField>,
+    /// Whether ids stand in the body.
+    pub ids: bool,
+    /// Whether the geometry is empty and has no body. Its header has the size and the box that it announces all the same
+    /// (this project's choice).
+    pub empty: bool,
+    /// The place of the header's first byte.
+    pub start: usize,
+    /// The first place behind the header.
+    pub stop: usize,
+}

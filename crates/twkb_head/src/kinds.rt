@@ -1,0 +1,61 @@
+//! The seven types of a geometry, and how deep each may stand.
+ghost use Rattle.std.specs.Prelude.{◌≡◌, ◌%◌, ◌≤◌, ◌-◌, IfOk, IfErr};
+ghost use Rattle.twkb_head.specs.BegunHeader.{deepest};
+ghost use Rattle.twkb_head.specs.Plan.{kind_of_code, judge_kind};
+
+use crate::refusal::Why;
+
+/// The type of a geometry (TWKB specification, "Type & Precision Byte").
+#[derive(Clone, Copy, Debug, PartialEq, Eq)]
+pub enum Kind {
+    /// One point.
+    Point,
+    /// Points in a row.
+    LineString,
+    /// Rings, each of points in a row.
+    Polygon,
+    /// A list of points.
+    MultiPoint,
+    /// A list of lines.
+    MultiLineString,
+    /// A list of polygons.
+    MultiPolygon,
+    /// A list of geometries, each with a header of its own.
+    GeometryCollection,
+}
+
+/// How deep the deepest geometry may stand, where a blob has depth 1 and a member of a collection one more than the
+/// collection. A collection may stand at most one less deep (this project's choice).
+pub const DEEPEST: u8 = 32;
+
+/// The kind that a type byte names, where it may stand at `depth`.
+#[inline(always)]
+pub fn kind_at(byte: u8, depth: u8) -> Result<Kind, Why>
+    requires { depth ≤ deepest }
+    ensures kind { IfOk result (λ kind. kind_of_code (byte % 16) ≡ Some kind) }
+    ensures allowed { IfOk result (λ kind. judge_kind (deepest - depth) (Some kind) ≡ None) }
+    ensures refused { IfErr result (λ why. judge_kind (deepest - depth) (kind_of_code (byte % 16)) ≡ Some why) }
+{
+    match kind_of(byte) {
+        Some(Kind::GeometryCollection) if depth == DEEPEST => Err(Why::Depth),
+        Some(kind) => Ok(kind),
+        None => Err(Why::Kind),
+    }
+}
+
+/// The kind that the low four bits of a type byte name; 0 and 8 to 15 name none.
+#[inline(always)]
+fn kind_of(byte: u8) -> Option<Kind>
+    ensures { result ≡ kind_of_code (byte % 16) }
+{
+    match byte % 16 {
+        1 => Some(Kind::Point),
+        2 => Some(Kind::LineString),
+        3 => Some(Kind::Polygon),
+        4 => Some(Kind::MultiPoint),
+        5 => Some(Kind::MultiLineString),
+        6 => Some(Kind::MultiPolygon),
+        7 => Some(Kind::GeometryCollection),
+        _ => None,
+    }
+}

@@ -1,0 +1,118 @@
+//! Reading a header.
+ghost use Rattle.std.specs.Prelude.{◌≡◌, ◌≢◌, ◌↔◌, ◌-◌, ◌≤◌, option_map, IfOk, OnOk, IfErr, IsOk};
+ghost use Rattle.twkb_num.specs.Cursor.{rest, passed, counted, IsMoved};
+ghost use Rattle.twkb_head.specs.BegunHeader.{deepest};
+ghost use Rattle.twkb_head.specs.declared.refusal.Why.TheVariants.{Range};
+ghost use Rattle.twkb_head.specs.Head.{StartsWithHeader, IsHeadAt};
+ghost use Rattle.twkb_head.specs.Refusal.{IsRefusedHead, looked_at_until};
+ghost use Rattle.twkb_head.specs.Reader.{byte_at, number_at, optional_at};
+ghost use Rattle.twkb_head.specs.HeadReader.{head_at};
+
+use crate::bits::{BOX, EMPTY, EXTENDED, SIZE, has_bit, ids_of, m_of, z_of};
+use crate::boxes::Bounds;
+use crate::fields::{take_byte, take_number, take_type};
+use crate::header::{BoxField, Head, SizeField};
+use crate::ranges::take_box;
+use crate::refusal::Malformed;
+use twkb_num::Cursor;
+
+/// The header at the place, of a geometry that stands at `depth`, where a blob has depth 1.
+///
+/// It moves past the header, in one pass, and takes no memory. A refusal leaves the place as it was; the bytes looked at
+/// are counted.
+pub fn read_head(cursor: &mut Cursor, depth: u8) -> Result<Head, Malformed>
+    requires shallowest { 1 ≤ depth }
+    requires deepest { depth ≤ deepest }
+
+    // It answers a header exactly where one stands that may stand at this depth, and this one.
+    ensures exact { IsOk result ↔ StartsWithHeader depth (rest cursor.old) }
+    ensures ok { IfOk result (λ head. IsHeadAt head depth cursor.old.place (passed cursor.old cursor.new)) }
+    ensures moved { OnOk result (IsMoved cursor.old cursor.new) }
+
+    // It names the first field that can't follow, for one of the first four reasons, and counts what it looked at.
+    ensures refused { IfErr result (λ m. IsRefusedHead m depth cursor.old.place (rest cursor.old)) }
+    ensures no_range { IfErr result (λ m. m.why ≢ Range) }
+    ensures still { IfErr result (λ m. cursor.new ≡ counted cursor.old (looked_at_until m cursor.old)) }
+{
+    let start = cursor.place();
+    let head = take_head(cursor, depth);
+    if head.is_err() {
+        cursor.go_to(start);
+    }
+    head
+}
+
+/// The fields of the header at the place, in order. A refusal leaves the cursor at the field that is wrong.
+#[inline(always)]
+#[tactic(auto, unfolding(crate::specs::HeadReader::head_at))]
+fn take_head(cursor: &mut Cursor, depth: u8) -> Result<Head, Malformed>
+    requires { depth ≤ deepest }
+    ensures { head_at (deepest - depth) cursor.old ≡ (result, cursor.new) }
+{
+    let start = cursor.place();
+    let (kind, xy) = take_type(cursor, depth)?;
+    let metadata = take_byte(cursor)?;
+    let extended = take_extended(cursor, has_bit(metadata, EXTENDED))?;
+    let z = z_of(extended);
+    let m = m_of(extended);
+    let size_place = cursor.place();
+    let size = take_size(cursor, has_bit(metadata, SIZE))?;
+    let box_place = cursor.place();
+    let bounds = take_box(cursor, has_bit(metadata, BOX), xy, z, m)?;
+    Ok(Head {
+        kind,
+        xy,
+        z,
+        m,
+        size: size_field(size, size_place, box_place),
+        bounds: box_field(bounds, box_place),
+        ids: ids_of(kind, metadata),
+        empty: has_bit(metadata, EMPTY),
+        start,
+        stop: cursor.place(),
+    })
+}
+
+/// The extended dimensions byte, where it is announced (TWKB specification, "Extended Dimensions [Optional]").
+#[inline(always)]
+fn take_extended(cursor: &mut Cursor, announced: bool) -> Result<Option<u8>, Malformed>
+    ensures { optional_at announced byte_at cursor.old ≡ (result, cursor.new) }
+{
+    if announced {
+        Ok(Some(take_byte(cursor)?))
+    } else {
+        Ok(None)
+    }
+}
+
+/// The size, where it is announced (TWKB specification, "Size [Optional]").
+#[inline(always)]
+fn take_size(cursor: &mut Cursor, announced: bool) -> Result<Option<u64>, Malformed>
+    ensures { optional_at announced number_at cursor.old ≡ (result, cursor.new) }
+{
+    if announced {
+        Ok(Some(take_number(cursor)?))
+    } else {
+        Ok(None)
+    }
+}
+
+/// A size, and where it stands.
+#[inline(always)]
+fn size_field(value: Option<u64>, offset: usize, after: usize) -> Option<SizeField>
+    ensures { result ≡ option_map (λ value. record { value = value; offset = offset; after = after }) value }
+{
+    value.map(|value| SizeField {
+        value,
+        offset,
+        after,
+    })
+}
+
+/// A box, and where it stands.
+#[inline(always)]
+fn box_field(bounds: Option<Bounds>, offset: usize) -> Option<BoxField>
+    ensures { result ≡ option_map (λ bounds. record { bounds = bounds; offset = offset }) bounds }
+{
+    bounds.map(|bounds| BoxField { bounds, offset })
+}

@@ -1,0 +1,25 @@
+//! Why bytes are malformed, and where. Which malformation is which number is this project's choice.
+
+/// Why bytes are malformed.
+#[derive(Clone, Copy, Debug, PartialEq, Eq)]
+pub enum Why {
+    /// The bytes end before the field does.
+    Cut = 1,
+    /// A varint passes 64 bits.
+    Varint = 2,
+    /// A type byte names no type.
+    Kind = 3,
+    /// A collection stands so deep that its members may not.
+    Depth = 4,
+    /// A coordinate, as a sum of differences, passes 64 bits. No header is refused so.
+    Range = 5,
+}
+
+/// The first field that can't follow the bytes before it.
+#[derive(Clone, Copy, Debug, PartialEq, Eq)]
+pub struct Malformed {
+    /// The place of the field's first byte.
+    pub offset: usize,
+    /// What is wrong with the field.
+    pub why: Why,
+}
