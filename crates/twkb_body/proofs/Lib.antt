@@ -1,0 +1,12 @@
+pub mod Sums
+pub mod Parts
+pub mod Bodies
+pub mod Geometries
+pub mod BlobLaws
+pub mod Examples
+pub mod Reaches
+pub mod Judging
+pub mod Passes
+pub mod ClaimPlaces
+pub mod Growing
+pub mod Orders

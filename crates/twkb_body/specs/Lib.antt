@@ -1,0 +1,9 @@
+pub mod Geometry
+pub mod Encoding
+pub mod Extent
+pub mod Claims
+pub mod Begun
+pub mod Malformation
+pub mod Laws
+pub mod BodyPlan
+pub mod Pass
