@@ -11,7 +11,7 @@ use Rattle.twkb_body.specs.Geometry.{Lengths, PointValue, PolygonValue, points_o
 use Rattle.twkb_body.specs.Encoding.{IsPart, IsMulti, IsList, IsNumbers, IsShape, IsNothing, IsBody, SumsFit, Accumulates, SameForm}
 use Rattle.twkb_body.specs.Begun.{IsBegunList, count_due, id_due, member_due, IsBegunPart, IsBegunNumbers}
 use Rattle.twkb_body.specs.BodyPlan.{ListHead, zeros, ring_sums, part_plan, absolute, Body, ids_plan, list_plan, parts_body, members_body, part_body, no_body, after_list, shape_plan, after_count, body_plan}
-use Rattle.twkb_body.proofs.Parts.{Members, members_stop, stop_members, part_of}
+use Rattle.twkb_body.proofs.PartPlans.{Members, members_stop, stop_members, part_of}
 use Rattle.twkb_body.proofs.Sums.{FitPoints, FitRings, FitPolygons, polygons_fit, fit_polygons, sums_fit, fit_sums, absolute_is, is_absolute}
 
 -- a count and ids

@@ -1,5 +1,5 @@
 pub mod Sums
-pub mod Parts
+pub mod PartPlans
 pub mod Bodies
 pub mod Geometries
 pub mod BlobLaws
@@ -10,3 +10,7 @@ pub mod Passes
 pub mod ClaimPlaces
 pub mod Growing
 pub mod Orders
+pub mod Distinct
+pub mod Scales
+pub mod Points
+pub mod Walks

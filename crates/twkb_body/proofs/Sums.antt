@@ -186,7 +186,7 @@ lengths-map_from : {A B S : Type 0} (after : S → List A → S) (f : S → List
 lengths-map_from after f same s [] = refl
 lengths-map_from after f same s (x ∷ xs) = ap₂ (λ (n : ℕ) (ns : List ℕ). n ∷ ns) (same s x) (lengths-map_from after f same (after s x) xs)
 
-map_from-append : {A B S : Type 0} (after : S → A → S) (f : S → A → B) (s : S) (a b : List A)
+pub map_from-append : {A B S : Type 0} (after : S → A → S) (f : S → A → B) (s : S) (a b : List A)
     → map_from after f s (a ++ b) ≡ map_from after f s a ++ map_from after f (after_all after s a) b
 map_from-append after f s [] b = refl
 map_from-append after f s (x ∷ a) b = ap (λ (ys : List _). f s x ∷ ys) (map_from-append after f (after s x) a b)

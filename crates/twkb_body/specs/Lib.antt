@@ -7,3 +7,6 @@ pub mod Malformation
 pub mod Laws
 pub mod BodyPlan
 pub mod Pass
+pub mod Ranges
+pub mod Walk
+pub mod BodyReader

@@ -9,4 +9,12 @@
 //! in place of a tree (`Pass`).
 #![tactic(auto)]
 
+mod extent;
+mod fields;
+mod ids;
 pub mod laws;
+mod parts;
+mod range;
+mod trail;
+
+pub use extent::Extent;

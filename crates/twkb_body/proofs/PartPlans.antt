@@ -129,7 +129,7 @@ stop_point axes s b due points (numbers, e, few, is) fit =
     stops_many (λ (s : PointValue) (z : ℤ). behind s) (λ (s : PointValue). coordinate_plan (first_of s)) IsSigned FitNumber
     (λ s z b h f. spelled_coordinate (first_of s) z b h f) axes s numbers b [] b due few.0 few.1 (subst (FitPoints s) e fit).0 (inl (refl, is)) (sym (append-nil b))
 
-flat_single : (xs : List PointValue) → flat_map (λ p. p ∷ []) xs ≡ xs
+pub flat_single : (xs : List PointValue) → flat_map (λ p. p ∷ []) xs ≡ xs
 flat_single [] = refl
 flat_single (x ∷ xs) = ap (λ (ys : List PointValue). x ∷ ys) (flat_single xs)
 
