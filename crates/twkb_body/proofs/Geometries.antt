@@ -125,7 +125,7 @@ module _ (limit : ℕ) where
   blobs_from depth [] bytes s = s
   blobs_from depth (g ∷ gs) bytes (front, rest, parts, s, later) = (front, rest, parts, s, blobs_from depth gs rest later)
 
-  members_spelled : (depth : ℕ) (plan : Plan Geometry) → ((g : Geometry) (b : List ℕ) → Spelled plan g b → BlobUnder limit g b depth)
+  pub members_spelled : (depth : ℕ) (plan : Plan Geometry) → ((g : Geometry) (b : List ℕ) → Spelled plan g b → BlobUnder limit g b depth)
       → (n : ℕ) (gs : Members) (b : List ℕ) → Spelled (members_plan plan n) gs b → (member_count gs ≡ n) × BlobsUnder limit gs b depth
   members_spelled depth plan each n gs b sp =
       let t = done_spelled (many n (λ (s : ℤ) (g : Geometry). s) (λ s. plan) (pos 0)) members_of gs b sp in

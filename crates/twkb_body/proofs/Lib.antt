@@ -14,3 +14,12 @@ pub mod Distinct
 pub mod Scales
 pub mod Points
 pub mod Walks
+pub mod BodyRuns
+pub mod Repeats
+pub mod IdLoops
+pub mod Stopping
+pub mod ListSteps
+pub mod ShapeSteps
+pub mod HeadFacts
+pub mod GeometrySteps
+pub mod MemberSteps

@@ -76,7 +76,7 @@ place-more s (n ∷ front) z =
     ap (λ (t : PointValue). (first_of s +ℤ n) ∷ t) (place-more (behind s) front z
     ∙ ap (λ (t : PointValue). place (behind s) front ++ (first_of t +ℤ z) ∷ []) (drop-behind s (length front)))
 
-length-place : (s p : PointValue) → length (place s p) ≡ length p
+pub length-place : (s p : PointValue) → length (place s p) ≡ length p
 length-place s [] = refl
 length-place s (n ∷ p) = ap suc (length-place (behind s) p)
 

@@ -10,3 +10,8 @@ pub mod Pass
 pub mod Ranges
 pub mod Walk
 pub mod BodyReader
+pub mod Found
+pub mod Audited
+pub mod Stops
+pub mod IdLists
+pub mod Inside

@@ -9,12 +9,19 @@
 //! in place of a tree (`Pass`).
 #![tactic(auto)]
 
+mod answers;
 mod extent;
 mod fields;
+mod found;
+mod geometry;
 mod ids;
 pub mod laws;
+mod lists;
 mod parts;
 mod range;
+mod shape;
+mod stopped;
 mod trail;
 
+pub use answers::{Audit, AuditFault, Claim};
 pub use extent::Extent;
