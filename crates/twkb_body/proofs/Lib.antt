@@ -23,3 +23,4 @@ pub mod ShapeSteps
 pub mod HeadFacts
 pub mod GeometrySteps
 pub mod MemberSteps
+pub mod AuditFacts

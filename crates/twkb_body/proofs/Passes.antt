@@ -77,7 +77,7 @@ names_all a b c d x y z w p q r t =
     subst (NamesFirstFalse ((a ++ (b ++ c)) ++ d)) (first_assoc x (first y z) w ∙ ap (first x) (first_assoc y z w))
     (names_append (a ++ (b ++ c)) d _ _ (names_append a (b ++ c) _ _ p (names_append b c _ _ q r)) t)
 
-false_among : (xs : List Claim) (claim : Claim) → All IsTrueClaim xs → IsFirstFalse xs claim → ⊥
+pub false_among : (xs : List Claim) (claim : Claim) → All IsTrueClaim xs → IsFirstFalse xs claim → ⊥
 false_among xs claim all f =
     f.false_claim (All-head IsTrueClaim claim f.behind (all_right f.before (claim ∷ f.behind) (subst (All IsTrueClaim) f.split all)))
 

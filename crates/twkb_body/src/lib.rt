@@ -10,6 +10,7 @@
 #![tactic(auto)]
 
 mod answers;
+mod auditing;
 mod extent;
 mod fields;
 mod found;
@@ -24,4 +25,5 @@ mod stopped;
 mod trail;
 
 pub use answers::{Audit, AuditFault, Claim};
+pub use auditing::{audit, audit_in};
 pub use extent::Extent;
