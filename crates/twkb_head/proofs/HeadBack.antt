@@ -3,21 +3,23 @@ use Rattle.std.proofs.Common.{◌≡◌, ℕ, zero, suc, ◌+◌, ◌-◌, ◌%�
 use Rattle.std.proofs.lemmas.Grind.{common_steps}
 use Rattle.twkb_num.specs.Cursor.{Reading, rest, passed, added, IsMoved, IsSound}
 use Rattle.twkb_head.specs.Header.{Header, IsHeader}
-use Rattle.twkb_head.specs.BegunHeader.{Field, type_field, byte_field, number_field, coordinate_field, IsBegunHeader, IsAllowedUnder, IsAllowedAt, deepest}
+use Rattle.twkb_head.specs.BegunHeader.{Field, type_field, byte_field, number_field, coordinate_field, IsBegunHeader, IsAllowedUnder, deepest}
 use Rattle.twkb_head.specs.Head.{IsHeadAt}
 use Rattle.twkb_head.specs.Refusal.{IsWrongField, IsRefusedHead}
 use Rattle.twkb_head.specs.Plan.{Fault, fault, cut_byte, judge_kind, kind_of_code, run}
 use Rattle.twkb_head.specs.HeadPlan.{HeadValue, head_plan}
 use Rattle.twkb_head.specs.Reader.{Answer, read, Fails}
 use Rattle.twkb_num.proofs.CursorLemmas.{rest-passed}
-use Rattle.twkb_head.specs.declared.kinds.Kind.TheVariants.{GeometryCollection}
+use Rattle.twkb_head.specs.declared.kinds.Kind.{Kind as KindOf}
+use Rattle.twkb_head.specs.declared.kinds.Kind.TheVariants.{Point, LineString, Polygon, MultiPoint, MultiLineString, MultiPolygon, GeometryCollection}
+use Rattle.std.proofs.lemmas.List.{append_cancel_right}
 use Rattle.twkb_head.specs.declared.refusal.Why.{Why}
 use Rattle.twkb_head.specs.declared.refusal.Why.TheVariants.{Cut, Varint, Kind, Depth, Range}
 use Rattle.twkb_head.specs.declared.refusal.Malformed.{Malformed}
 use Rattle.twkb_head.specs.declared.header.Head.{Head}
 use Rattle.twkb_head.proofs.FieldCuts.{ok_is, err_is, cut_off, too_long}
 use Rattle.twkb_head.proofs.Plans.{run_again, run_uncut}
-use Rattle.twkb_head.proofs.Heads.{kind_code, allowed_with, spelled_head, stops_head}
+use Rattle.twkb_head.proofs.Heads.{IsAllowedWith, kind_code, allowed_with, spelled_head, stops_head}
 use Rattle.twkb_head.proofs.Readings.{read_ok, read_err, reading_path}
 use Rattle.twkb_head.proofs.HeadLaws.{type_first}
 
@@ -30,18 +32,39 @@ why_in (fault w d g) = w
 abbrev rest_in : Fault → List ℕ
 rest_in (fault w d g) = g
 
--- two headers at the front of the same bytes are one
-pub header_once : (depth : ℕ) (h k : Header) (a b x y : List ℕ) → 1 ≤ depth → depth ≤ deepest → IsHeader h a → IsHeader k b → IsAllowedAt h.kind depth → IsAllowedAt k.kind depth
-    → a ++ x ≡ b ++ y → (h ≡ k) × (x ≡ y)
-header_once depth h k a b x y some deep ih ik oh ok e =
-    let levels = deepest - depth in
-    let sum : depth + levels ≡ deepest = omega arith in
-    let hv : HeadValue = record { header = h; before = 2 + length ih.extended_bytes; size = length ih.size_bytes } in
-    let kv : HeadValue = record { header = k; before = 2 + length ik.extended_bytes; size = length ik.size_bytes } in
-    let hs = run_again (head_plan levels) hv a x (spelled_head levels hv a (record { header = ih; allowed = allowed_with deepest levels depth h.kind sum oh; before = refl; size = refl })) in
-    let ks = run_again (head_plan levels) kv b y (spelled_head levels kv b (record { header = ik; allowed = allowed_with deepest levels depth k.kind sum ok; before = refl; size = refl })) in
-    let both : (hv, x) ≡ (kv, y) = ok_is {A = HeadValue × List ℕ} {E = Fault} (hv, x) (kv, y) (sym hs ∙ ap (run (head_plan levels)) e ∙ ks) in
-    (ap (λ (z : HeadValue × List ℕ). z.0.header) both, ap (λ (z : HeadValue × List ℕ). z.1) both)
+-- Two headers at the front of the same bytes are one: with a level below it each kind may stand.
+pub header_once : (h k : Header) (a x b y : List ℕ) → a ++ x ≡ b ++ y → IsHeader h a → IsHeader k b → (h ≡ k) × (a ≡ b)
+header_once h k a x b y e ih ik =
+    let hs = runs h a x ih in
+    let ks = runs k b y ik in
+    let both : (value h a ih, x) ≡ (value k b ik, y) = ok_is {A = HeadValue × List ℕ} {E = Fault} (value h a ih, x) (value k b ik, y) (sym hs ∙ ap (run (head_plan 1)) e ∙ ks) in
+    let behind : x ≡ y = ap (λ (z : HeadValue × List ℕ). z.1) both in
+    (ap (λ (z : HeadValue × List ℕ). z.0.header) both, append_cancel_right a b y (ap (λ (z : List ℕ). a ++ z) (sym behind) ∙ e))
+  where
+    value : (h : Header) (a : List ℕ) → IsHeader h a → HeadValue
+    value h a ih = record { header = h; before = 2 + length ih.extended_bytes; size = length ih.size_bytes }
+
+    shallow : (kind : KindOf) → IsAllowedWith 1 kind
+    shallow Point = refl
+    shallow LineString = refl
+    shallow Polygon = refl
+    shallow MultiPoint = refl
+    shallow MultiLineString = refl
+    shallow MultiPolygon = refl
+    shallow GeometryCollection = refl
+
+    runs : (h : Header) (a x : List ℕ) (ih : IsHeader h a) → run (head_plan 1) (a ++ x) ≡ Ok (value h a ih, x)
+    runs h a x ih = run_again (head_plan 1) (value h a ih) a x (spelled_head 1 (value h a ih) a (record { header = ih; allowed = shallow h.kind; before = refl; size = refl }))
+
+rest_length : (r : Reading) → length (rest r) ≡ length r.bytes - r.place
+rest_length r = grind (arith, common_steps)
+
+-- two moves that leave the same bytes come to the same reading
+moves_meet : (r a b : Reading) → IsMoved r a → IsMoved r b → rest a ≡ rest b → a ≡ b
+moves_meet r a b to_a to_b same =
+    let place : a.place ≡ b.place =
+    omega (arith, ap length same, rest_length a, rest_length b, to_a.within, to_b.within, ap length to_a.bytes, ap length to_b.bytes) in
+    reading_path a b (to_a.bytes ∙ sym to_b.bytes) place (to_a.count ∙ ap (λ (n : ℕ). added r.count (n - r.place)) place ∙ sym to_b.count)
 
 none_kind : (n : ℕ) → (n ≡ 0) ⊎ (8 ≤ n) → kind_of_code n ≡ None
 none_kind zero h = refl
@@ -110,11 +133,7 @@ module _ (depth : ℕ) (some : 1 ≤ depth) (deep : depth ≤ deepest) where
       go (Ok x, b) is =
           let ok = read_ok (head_plan (deepest - depth)) r b x sound is in
           let both : (value, rest new) ≡ (x, rest b) = ok_is {A = HeadValue × List ℕ} {E = Fault} (value, rest new) (x, rest b) (sym runs ∙ ok.0) in
-          let left : length (rest new) ≡ length (rest b) = ap (λ (z : HeadValue × List ℕ). length z.1) both in
-          let ln : length (rest new) ≡ length new.bytes - new.place = grind (arith, common_steps) in
-          let lb : length (rest b) ≡ length b.bytes - b.place = grind (arith, common_steps) in
-          let place : b.place ≡ new.place = omega (arith, left, ln, lb, moved.within, ok.1.within, ap length moved.bytes, ap length ok.1.bytes) in
-          let same : b ≡ new = reading_path b new (ok.1.bytes ∙ sym moved.bytes) place (ok.1.count ∙ ap (λ (n : ℕ). added r.count (n - r.place)) place ∙ sym moved.count) in
+          let same : b ≡ new = moves_meet r b new ok.1 moved (sym (ap (λ (z : HeadValue × List ℕ). z.1) both)) in
           is ∙ ap₂ (λ (y : HeadValue) (c : Reading). (Ok y, c)) (sym (ap (λ (z : HeadValue × List ℕ). z.0) both)) same
       go (Err m, b) is = absurd (not_both (value, rest new) _ (run (head_plan (deepest - depth)) (rest r)) runs (read_err (head_plan (deepest - depth)) r b m sound is).is)
 

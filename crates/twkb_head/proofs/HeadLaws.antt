@@ -1,13 +1,13 @@
 -- What is read of a header, in the words of the definitions.
-use Rattle.std.proofs.Common.{◌≡◌, ℕ, zero, suc, ◌+◌, ◌-◌, ◌%◌, ◌≤◌, List, [], ◌∷◌, ◌++◌, length, drop, Option, Some, None, Result, Ok, Err, ◌⊎◌, inl, inr, ⊎_elim, IfOk, OnOk, IfErr, IsOk, refl, sym, ap, ap₂, subst, ◌∙◌, arith, length-append}
+use Rattle.std.proofs.Common.{◌≡◌, ◌≢◌, ◌↔◌, ℕ, zero, suc, ◌+◌, ◌-◌, ◌%◌, ◌≤◌, List, [], ◌∷◌, ◌++◌, length, drop, Option, Some, None, Result, Ok, Err, ◌⊎◌, inl, inr, ⊎_elim, IfOk, OnOk, IfErr, IsOk, refl, sym, ap, ap₂, subst, ◌∙◌, arith, length-append}
 use Rattle.std.proofs.lemmas.List.{append_cancel_right}
 use Rattle.std.proofs.lemmas.Grind.{common_steps}
 use Rattle.twkb_num.specs.Cursor.{Reading, rest, passed, added, counted, IsMoved, IsSound}
 use Rattle.twkb_num.specs.Varint.{IsCut, IsLong}
 use Rattle.twkb_head.specs.Header.{Header, IsHeader}
 use Rattle.twkb_head.specs.BegunHeader.{Field, type_field, byte_field, number_field, coordinate_field, IsField, IsBegunHeader, type_due, metadata_due, extended_due, size_due, box_due, IsAllowedAt, deepest}
-use Rattle.twkb_head.specs.Head.{head_of, IsHeadAt}
-use Rattle.twkb_head.specs.Refusal.{IsWrongField, IsRefusedHead, looked_at_field}
+use Rattle.twkb_head.specs.Head.{head_of, StartsWithHeader, IsHeadAt}
+use Rattle.twkb_head.specs.Refusal.{IsWrongField, IsRefusedHead, looked_at_field, looked_at_until}
 use Rattle.twkb_head.specs.Plan.{Request, type_byte, byte, number, coordinate, field_of, Fault, fault, cut_field, judge, judge_kind, kind_of_code, run}
 use Rattle.twkb_head.specs.HeadPlan.{HeadValue, head_plan}
 use Rattle.twkb_head.specs.Reader.{Answer, read}
@@ -54,6 +54,10 @@ failed_of levels r new m e = go (read (head_plan levels) r) refl (sym (head_runs
         let left : a ≡ new = ap (λ (z : Answer Head). z.1) e in
         let why : w ≡ m = err_is {A = Head} _ _ (ap (λ (z : Answer Head). z.0) e) in
         is ∙ ap₂ (λ (x : Malformed) (b : Reading). (Err x, b)) why left
+
+-- the same places, said otherwise
+head_placed : (head : Head) (h : Header) (start a b c a' b' c' : ℕ) → head ≡ head_of h start a b c → a ≡ a' → b ≡ b' → c ≡ c' → head ≡ head_of h start a' b' c'
+head_placed head h start a b c a' b' c' e x y z = e ∙ (λ j. head_of h start (x j) (y j) (z j))
 
 -- ---- what is wrong with a field
 code_is : (levels : ℕ) (t : ℕ) (o : Option KindOf) (why : Why) → kind_of_code (t % 16) ≡ o → judge_kind levels o ≡ Some why
@@ -160,7 +164,9 @@ module _ (depth : ℕ) (some : 1 ≤ depth) (deep : depth ≤ deepest) (r new : 
           header = read.value.header;
           is = h.header;
           allowed = allowed_at deepest (deepest - depth) depth read.value.header.kind sum some h.allowed;
-          fields = read.same ∙ (λ j. head_of read.value.header r.place (size_place j) (box_place j) (stop j));
+          fields = head_placed head read.value.header r.place (r.place + read.value.before) (r.place + read.value.before + read.value.size) new.place
+              (r.place + 2 + length h.header.extended_bytes) (r.place + 2 + length h.header.extended_bytes + length h.header.size_bytes)
+              (r.place + length (passed r new)) read.same size_place box_place stop;
         },
         ok.1,
       )
@@ -218,17 +224,24 @@ module _ (depth : ℕ) (some : 1 ≤ depth) (deep : depth ≤ deepest) (r new : 
   head_moved (Ok head) e = (head_stands head e).1
   head_moved (Err m) e = tt
 
-  pub head_complete : (result : Result Head Malformed) → head_at (deepest - depth) r ≡ (result, new) → (h : Header) (front behind : List ℕ)
-      → rest r ≡ front ++ behind → IsHeader h front → IsAllowedAt h.kind depth → IsOk result
-  head_complete (Ok head) e h front behind parts is allowed = refl
-  head_complete (Err m) e h front behind parts is allowed = absurd (head_read h front behind m parts is allowed e)
+  pub head_exact : (result : Result Head Malformed) → head_at (deepest - depth) r ≡ (result, new) → IsOk result ↔ StartsWithHeader depth (rest r)
+  head_exact (Ok head) e =
+      let stands = head_stands head e in (
+        λ ok. record { header = stands.0.header; front = passed r new; behind = rest new; parts = rest-passed r new stands.1; is = stands.0.is; allowed = stands.0.allowed },
+        λ starts. refl,
+      )
+  head_exact (Err m) e = (λ ok. absurd (cc (ok)), λ starts. absurd (head_read starts.header starts.front starts.behind m starts.parts starts.is starts.allowed e))
 
   pub head_err : (result : Result Head Malformed) → head_at (deepest - depth) r ≡ (result, new) → IfErr result (λ m. IsRefusedHead m depth r.place (rest r))
   head_err (Ok head) e = tt
   head_err (Err m) e = head_refused m e
 
+  pub head_no_range : (result : Result Head Malformed) → head_at (deepest - depth) r ≡ (result, new) → IfErr result (λ m. m.why ≢ Range)
+  head_no_range (Ok head) e = tt
+  head_no_range (Err m) e = let bad = head_refused m e in no_range deepest depth m.why bad.due bad.f bad.wrong
+
   pub head_still : (result : Result Head Malformed) (back : Reading) → head_at (deepest - depth) r ≡ (result, new) → back ≡ record new { place = r.place }
-      → IfErr result (λ m. back ≡ counted r (m.offset - r.place + looked_at_field m.why (drop m.offset r.bytes)))
+      → IfErr result (λ m. back ≡ counted r (looked_at_until m r))
   head_still (Ok head) back e at = tt
   head_still (Err m) back e at = at ∙ ap (λ (b : Reading). record b { place = r.place }) (head_left m e)
 

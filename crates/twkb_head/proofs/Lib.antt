@@ -10,3 +10,4 @@ pub mod HeadRuns
 pub mod Loops
 pub mod HeadLaws
 pub mod HeadBack
+pub mod Limits

@@ -1,5 +1,5 @@
 -- Reads of one field, as a cursor makes them.
-use Rattle.std.proofs.Common.{Bool, nat_lt, ◌<◌, true, false, pos, negsuc, ◌+ℤ◌, ◌≡◌, ℕ, ◌-◌, ◌%◌, List, [], ◌∷◌, ◌++◌, length, slice_index, ℤ, Some, None, Result, Ok, Err, refl, sym, ap, ap₂, ◌∙◌, arith}
+use Rattle.std.proofs.Common.{Bool, nat_lt, ◌<◌, ◌^◌, true, false, pos, negsuc, ◌+ℤ◌, ◌≡◌, ℕ, ◌-◌, ◌%◌, List, [], ◌∷◌, ◌++◌, length, slice_index, ℤ, Some, None, Result, Ok, Err, refl, sym, ap, ap₂, ◌∙◌, arith}
 use Rattle.std.proofs.lemmas.Bool.{lt-ltb, ltb-true}
 use mir.Val.{SFits}
 use Rattle.std.specs.Int.{w64}
@@ -176,14 +176,14 @@ module _ (before : ℤ) (a b : Reading) where
   coordinate_refused z m c fit offset why at e = refused_with z m c fit offset why at (cut_varint 9 (rest a)) e
 
 -- what fits 64 bits
-not_lt : (b : Bool) (n : ℕ) → nat_lt n 9223372036854775808 ≡ b → (n < 9223372036854775808 → ⊥) → b ≡ false
-not_lt true n e h = absurd (h (ltb-true n 9223372036854775808 e))
+not_lt : (b : Bool) (n : ℕ) → nat_lt n (2 ^ 63) ≡ b → (n < (2 ^ 63) → ⊥) → b ≡ false
+not_lt true n e h = absurd (h (ltb-true n (2 ^ 63) e))
 not_lt false n e h = refl
 
 pub fits_true : (z : ℤ) → SFits w64 z → fits z ≡ true
-fits_true (pos n) h = lt-ltb n 9223372036854775808 (omega (arith, h.sfits))
-fits_true (negsuc n) h = lt-ltb n 9223372036854775808 (omega (arith, h.sfits))
+fits_true (pos n) h = lt-ltb n (2 ^ 63) (omega (arith, h.sfits))
+fits_true (negsuc n) h = lt-ltb n (2 ^ 63) (omega (arith, h.sfits))
 
 pub fits_false : (z : ℤ) → (SFits w64 z → ⊥) → fits z ≡ false
-fits_false (pos n) h = not_lt (nat_lt n 9223372036854775808) n refl (λ lt. h (record { sfits = lt }))
-fits_false (negsuc n) h = not_lt (nat_lt n 9223372036854775808) n refl (λ lt. h (record { sfits = lt }))
+fits_false (pos n) h = not_lt (nat_lt n (2 ^ 63)) n refl (λ lt. h (record { sfits = lt }))
+fits_false (negsuc n) h = not_lt (nat_lt n (2 ^ 63)) n refl (λ lt. h (record { sfits = lt }))

@@ -1,5 +1,5 @@
 -- Headers that are begun and not finished: which kind of field can follow a prefix.
-use Rattle.std.specs.Prelude.{◌≡◌, ℕ, ◌+◌, ◌*◌, ◌%◌, ◌<◌, ◌≤◌, Bool, true, false, cond, List, [], ◌∷◌, ◌++◌, length, ℤ, Option}
+use Rattle.std.specs.Prelude.{◌≡◌, ℕ, ◌+◌, ◌*◌, ◌%◌, ◌<◌, ◌≤◌, Bool, true, false, if◌then◌else◌, List, [], ◌∷◌, ◌++◌, length, ℤ, Option}
 use Rattle.twkb_num.specs.Varint.{Spells}
 use Rattle.twkb_head.specs.Parts.{Sequence, Announced}
 use Rattle.twkb_head.specs.Header.{IsByte, IsSigned, axes_with, z_in, m_in, code_of, has_bit}
@@ -7,21 +7,21 @@ use Rattle.twkb_head.specs.declared.kinds.Kind.{Kind}
 use Rattle.twkb_head.specs.declared.kinds.Kind.TheVariants.{GeometryCollection}
 use Rattle.twkb_head.specs.declared.kinds.TheConstants.{DEEPEST}
 
--- the one kind whose members have headers of their own
-abbrev pub IsCollection : Kind → Bool
-IsCollection GeometryCollection = true
-IsCollection _ = false
+-- whether the members have headers of their own
+abbrev pub is_collection : Kind → Bool
+is_collection GeometryCollection = true
+is_collection _ = false
 
--- Where the deepest geometry may stand at the limit, a kind may stand at a depth: a blob has depth 1, a member of a
--- collection one more than the collection, and a collection leaves one depth for its members.
+-- A kind may stand at a depth, where nothing may stand deeper than the limit: a blob has depth 1, a member of a collection
+-- one more than the collection, so a collection has to leave a depth for its members.
 abbrev pub IsAllowedUnder : ℕ → Kind → ℕ → Type 0
-IsAllowedUnder limit kind depth = (1 ≤ depth) × (depth + cond (IsCollection kind) 1 0 ≤ limit)
+IsAllowedUnder limit kind depth = (1 ≤ depth) × (depth + (if is_collection kind then 1 else 0) ≤ limit)
 
--- how deep the deepest geometry stands
+-- how deep a geometry may stand: the limit of this project
 abbrev pub deepest : ℕ
 deepest = DEEPEST
 
--- the same under the limit of this project
+-- a kind may stand at a depth under that limit
 abbrev pub IsAllowedAt : Kind → ℕ → Type 0
 IsAllowedAt = IsAllowedUnder deepest
 

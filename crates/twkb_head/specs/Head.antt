@@ -1,5 +1,5 @@
 -- What a header in code says of the header that stands in bytes.
-use Rattle.std.specs.Prelude.{◌≡◌, ℕ, ◌+◌, cond, is_some, List, length, slice_get, ℤ, pos, Option, unwrap_or, option_map}
+use Rattle.std.specs.Prelude.{◌≡◌, ℕ, ◌+◌, if◌then◌else◌, is_some, List, ◌++◌, length, slice_get, ℤ, pos, Option, unwrap_or, option_map}
 use Rattle.twkb_num.specs.Units.{units_of}
 use Rattle.twkb_head.specs.declared.boxes.Span.{Span}
 use Rattle.twkb_head.specs.declared.boxes.Bounds.{Bounds}
@@ -7,17 +7,17 @@ use Rattle.twkb_head.specs.declared.header.Head.{Head}
 use Rattle.twkb_head.specs.Header.{Header, IsHeader}
 use Rattle.twkb_head.specs.BegunHeader.{IsAllowedAt}
 
--- a range in units, at a precision
+-- a range at a precision, in units
 abbrev pub span_at : ℤ → ℤ × ℤ → Span
 span_at p range = record { lo = units_of range.0 p; hi = units_of range.1 p }
 
--- the range of an axis
+-- the range of an axis, by its place among the axes
 abbrev pub range_of : List (ℤ × ℤ) → ℕ → ℤ × ℤ
 range_of ranges axis = unwrap_or (slice_get ranges axis) (pos 0, pos 0)
 
--- where M stands among the axes
+-- the place of M among the axes: behind X and Y, and behind Z where there is one
 abbrev pub m_axis : Option ℕ → ℕ
-m_axis z = 2 + cond (is_some z) 1 0
+m_axis z = 2 + (if is_some z then 1 else 0)
 
 -- a box in units, by the precisions of its header
 abbrev pub bounds_of : ℤ → Option ℕ → Option ℕ → List (ℤ × ℤ) → Bounds
@@ -28,7 +28,7 @@ bounds_of xy z m ranges = record {
   m = option_map (λ p. span_at (pos p) (range_of ranges (m_axis z))) m;
 }
 
--- a header at start, with its size at size_place, its box at box_place and its end at stop
+-- the code's form of a header that stands at start, with its size at size_place, its box at box_place and its end at stop
 abbrev pub head_of : Header → ℕ → ℕ → ℕ → ℕ → Head
 head_of h start size_place box_place stop = record {
   kind = h.kind;
@@ -43,9 +43,18 @@ head_of h start size_place box_place stop = record {
   stop = stop;
 }
 
--- the bytes from start on are a header that may stand at the depth, and this is what it says
+-- the bytes, the first of which is at start, are a header that may stand at the depth, and this is what it says
 pub record IsHeadAt (head : Head) (depth start : ℕ) (bytes : List ℕ) : Type 0 where
   pub header : Header
   pub is : IsHeader header bytes
   pub allowed : IsAllowedAt header.kind depth
   pub fields : head ≡ head_of header start (start + 2 + length is.extended_bytes) (start + 2 + length is.extended_bytes + length is.size_bytes) (start + length bytes)
+
+-- a header that may stand at the depth stands at the front of the bytes
+pub record StartsWithHeader (depth : ℕ) (bytes : List ℕ) : Type 0 where
+  pub header : Header
+  pub front : List ℕ
+  pub behind : List ℕ
+  pub parts : bytes ≡ front ++ behind
+  pub is : IsHeader header front
+  pub allowed : IsAllowedAt header.kind depth

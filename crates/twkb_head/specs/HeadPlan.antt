@@ -1,4 +1,4 @@
--- The plan by which a header is read, and those of points and rings.
+-- A device of proofs: the plan by which a header is read.
 use Rattle.std.specs.Prelude.{ℕ, ◌+◌, ◌*◌, ◌/◌, ◌%◌, List, [], ◌∷◌, ℤ, ◌+ℤ◌, Option, unwrap_or}
 use Rattle.twkb_num.specs.Varint.{zigzag_value}
 use Rattle.twkb_head.specs.declared.kinds.Kind.{Kind}
@@ -6,24 +6,27 @@ use Rattle.twkb_head.specs.declared.kinds.Kind.TheVariants.{Point}
 use Rattle.twkb_head.specs.Header.{Header, axes_with, has_bit, has_ids, z_in, m_in}
 use Rattle.twkb_head.specs.Plan.{kind_of_code, Plan, done, bind, measure, optional, type_plan, byte_plan, number_plan, signeds_plan}
 
--- minimum and extent, and so on
+-- ranges from their numbers: minimum and extent of each
 abbrev pub ranges_of : List ℤ → List (ℤ × ℤ)
 ranges_of [] = []
 ranges_of (low ∷ []) = []
 ranges_of (low ∷ extent ∷ zs) = (low, low +ℤ extent) ∷ ranges_of zs
 
+-- a box, by the number of axes
 abbrev pub box_plan : ℕ → Plan (List (ℤ × ℤ))
 box_plan axes = bind (signeds_plan (2 * axes)) (λ zs. done (ranges_of zs))
 
--- a header, with the lengths of what stands before size and box, and of the size
+-- a header, with the length of what stands before size and box, and that of the size
 pub record HeadValue : Type 0 where
   pub header : Header
   pub before : ℕ
   pub size : ℕ
 
+-- the kind that a type byte names
 abbrev pub kind_from : ℕ → Kind
 kind_from t = unwrap_or (kind_of_code (t % 16)) Point
 
+-- the header that these fields are, each with its length where that is asked for
 abbrev pub head_from : ℕ → ℕ → Option ℕ × ℕ → Option ℕ × ℕ → Option (List (ℤ × ℤ)) → HeadValue
 head_from t metadata extended size box = record {
   header = record {
@@ -54,5 +57,6 @@ after_metadata t metadata = bind (measure 0 (optional (has_bit metadata 8) byte_
 abbrev pub after_type : ℕ → Plan HeadValue
 after_type t = bind byte_plan (after_metadata t)
 
+-- a header, with so many levels below it
 abbrev pub head_plan : ℕ → Plan HeadValue
 head_plan levels = bind (type_plan levels) after_type

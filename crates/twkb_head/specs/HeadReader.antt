@@ -1,4 +1,4 @@
--- Headers read from a cursor, one field after another, as the code does it.
+-- A device of proofs: headers read from a cursor as the code does it, one field after another.
 use Rattle.std.specs.Prelude.{ℕ, ◌*◌, ◌/◌, List, ℤ, pos, ◌+ℤ◌, Option, option_map, Some, None, Ok}
 use Rattle.twkb_num.specs.Varint.{zigzag_value}
 use Rattle.twkb_head.specs.declared.kinds.Kind.{Kind}
@@ -10,10 +10,11 @@ use Rattle.twkb_head.specs.Head.{span_at}
 use Rattle.twkb_head.specs.HeadPlan.{ranges_of, kind_from}
 use Rattle.twkb_head.specs.Reader.{Reader, ◌>>=◌, viewed, type_at, byte_at, number_at, signed_at, optional_at, signeds_at}
 
+-- a box, by the number of axes
 abbrev pub box_at : ℕ → Reader (List (ℤ × ℤ))
 box_at axes r = viewed ranges_of (signeds_at (2 * axes) r)
 
--- the kind and the precision of X and Y
+-- the kind and the precision of X and Y in a type byte with so many levels below it
 abbrev pub kind_from_type : ℕ → Reader (Kind × ℤ)
 kind_from_type levels r = viewed (λ t. (kind_from t, zigzag_value (t / 16))) (type_at levels r)
 
@@ -34,7 +35,7 @@ bounds_from xy z m r =
     (axis_from z b >>= λ z c.
     viewed (λ m. record { x = x; y = y; z = z; m = m }) (axis_from m c)))
 
--- the same, from what was read
+-- the code's form of a header, from the fields that were read
 abbrev pub head_with : Kind → ℤ → ℕ → Option ℕ → Option ℕ → Option Bounds → ℕ → ℕ → ℕ → ℕ → Head
 head_with kind xy metadata extended size bounds start size_place box_place stop = record {
   kind = kind;
@@ -49,7 +50,7 @@ head_with kind xy metadata extended size bounds start size_place box_place stop 
   stop = stop;
 }
 
--- a header, with so many levels below
+-- a header, with so many levels below it
 unfoldable pub head_at : ℕ → Reader Head
 head_at levels r =
     kind_from_type levels r >>= λ type a.

@@ -1,11 +1,13 @@
--- The header of a geometry, as a value, and its bytes.
-use Rattle.std.specs.Prelude.{◌≡◌, ℕ, ◌+◌, ◌/◌, ◌%◌, ◌==◌, cond, Bool, false, is_some, List, [], ◌∷◌, ◌++◌, length, ℤ, ◌-ℤ◌, Option, Some, None, nat_lt}
+-- The header of a geometry, as a value, and the bytes that are it (TWKB specification, "Type & Precision Byte" to
+-- "Bounding Box [Optional]").
+use Rattle.std.specs.Prelude.{◌≡◌, ℕ, ◌+◌, ◌/◌, ◌%◌, ◌==◌, if◌then◌else◌, Bool, false, is_some, List, [], ◌∷◌, ◌++◌, length, ℤ, ◌-ℤ◌, Option, Some, None, nat_lt}
+use Rattle.twkb_num.specs.Varint.{Spells, SpellsSigned, zigzag_value}
 use Rattle.twkb_head.specs.declared.kinds.Kind.{Kind}
 use Rattle.twkb_head.specs.declared.kinds.Kind.TheVariants.{Point, LineString, Polygon, MultiPoint, MultiLineString, MultiPolygon, GeometryCollection}
-use Rattle.twkb_num.specs.Varint.{Spells, zigzag_value, SpellsSigned}
 use Rattle.twkb_head.specs.Parts.{Sequence, Announced}
 
--- A header without where it lies. The box has a minimum and a maximum for each axis, in the order X, Y, Z, M.
+-- What a header says: the kind, the precisions of X and Y, of Z and of M, the size number, the box with a minimum and a
+-- maximum for each axis in the order X, Y, Z, M, whether ids stand in the body, and whether there is no body.
 pub record Header : Type 0 where
   pub kind : Kind
   pub xy : ℤ
@@ -16,6 +18,7 @@ pub record Header : Type 0 where
   pub ids : Bool
   pub empty : Bool
 
+-- the number that names a kind in the low four bits of the type byte
 abbrev pub code_of : Kind → ℕ
 code_of Point = 1
 code_of LineString = 2
@@ -25,46 +28,51 @@ code_of MultiLineString = 5
 code_of MultiPolygon = 6
 code_of GeometryCollection = 7
 
--- how many numbers a point has
+-- how many coordinates a point has, by the precisions of Z and M: X, Y, and each of Z and M that is there
 abbrev pub axes_with : Option ℕ → Option ℕ → ℕ
-axes_with z m = 2 + cond (is_some z) 1 0 + cond (is_some m) 1 0
+axes_with z m = 2 + (if is_some z then 1 else 0) + (if is_some m then 1 else 0)
 
+-- how many coordinates a point under the header has
 abbrev pub axes_of : Header → ℕ
 axes_of h = axes_with h.z h.m
 
--- a bit of a byte, by its value
+-- whether a bit of a byte is set, where the bit is named by its value, as 1, 2, 4, 8
 abbrev pub has_bit : ℕ → ℕ → Bool
 has_bit byte value = byte / value % 2 == 1
 
+-- the bytes are this one byte
 abbrev pub IsByte : ℕ → List ℕ → Type 0
 IsByte b bytes = bytes ≡ b ∷ []
 
--- what the extended dimensions byte, if there is one, says of Z and of M
+-- the precision of Z that the extended dimensions byte states, where there is one and it has a Z
 abbrev pub z_in : Option ℕ → Option ℕ
 z_in None = None
-z_in (Some e) = cond (has_bit e 1) (Some (e / 4 % 8)) None
+z_in (Some e) = if has_bit e 1 then Some (e / 4 % 8) else None
 
+-- the precision of M that the extended dimensions byte states, where there is one and it has an M
 abbrev pub m_in : Option ℕ → Option ℕ
 m_in None = None
-m_in (Some e) = cond (has_bit e 2) (Some (e / 32)) None
+m_in (Some e) = if has_bit e 2 then Some (e / 32) else None
 
 -- the bytes spell the signed number z
 abbrev pub IsSigned : ℤ → List ℕ → Type 0
 IsSigned z bytes = SpellsSigned bytes z
 
--- per axis a minimum, and the maximum less the minimum
+-- the numbers of a box: for each axis the minimum, and the maximum less the minimum
 abbrev pub box_numbers : List (ℤ × ℤ) → List ℤ
 box_numbers [] = []
 box_numbers (range ∷ ranges) = range.0 ∷ (range.1 -ℤ range.0) ∷ box_numbers ranges
 
+-- the bytes are a box with these ranges, one for each axis
 abbrev pub IsBox : ℕ → List (ℤ × ℤ) → List ℕ → Type 0
 IsBox axes ranges bytes = (length ranges ≡ axes) × Sequence IsSigned (box_numbers ranges) bytes
 
--- whether a type and a metadata byte announce ids
+-- whether ids stand in the body: the metadata byte announces them, the geometry isn't empty, and it has a list of members
 abbrev pub has_ids : Kind → ℕ → Bool
-has_ids kind metadata = cond (has_bit metadata 16) false (cond (nat_lt (code_of kind) 4) false (has_bit metadata 4))
+has_ids kind metadata = if has_bit metadata 16 then false else if nat_lt (code_of kind) 4 then false else has_bit metadata 4
 
--- the bytes are the fields of the header, in order; bits that mean nothing are free
+-- The bytes are the fields of the header, in order. The bits of the metadata byte are 1 for a box, 2 for a size, 4 for
+-- ids, 8 for extended dimensions and 16 for an empty geometry; bits that mean nothing are free.
 pub record IsHeader (h : Header) (bytes : List ℕ) : Type 0 where
   pub type_byte : ℕ
   pub metadata : ℕ

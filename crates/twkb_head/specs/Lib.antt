@@ -4,6 +4,7 @@ pub mod BegunHeader
 pub mod Head
 pub mod Refusal
 pub mod Holds
+pub mod Laws
 pub mod Plan
 pub mod HeadPlan
 pub mod Reader

@@ -1,5 +1,6 @@
--- Reading as a plan of fields: what is asked for next, and how reading goes on from the field's bytes.
-use Rattle.std.specs.Prelude.{◌≡◌, ℕ, zero, suc, ◌+◌, ◌%◌, nat_lt, cond, Bool, true, false, List, [], ◌∷◌, ◌++◌, length, slice_index, ℤ, pos, negsuc, ◌+ℤ◌, Option, Some, None, Result, Ok, Err, ◌⊎◌}
+-- A device of proofs: reading as a plan of fields. A plan says what is asked for next, and how reading goes on from the
+-- bytes of that field.
+use Rattle.std.specs.Prelude.{◌≡◌, ℕ, zero, suc, ◌+◌, ◌%◌, ◌^◌, nat_lt, cond, Bool, true, false, List, [], ◌∷◌, ◌++◌, length, slice_index, ℤ, pos, negsuc, ◌+ℤ◌, Option, Some, None, Result, Ok, Err, ◌⊎◌}
 use Rattle.twkb_num.specs.Varint.{sum_of_groups, zigzag_value}
 use Rattle.twkb_head.specs.declared.kinds.Kind.{Kind}
 use Rattle.twkb_head.specs.declared.kinds.Kind.TheVariants.{Point, LineString, Polygon, MultiPoint, MultiLineString, MultiPolygon, GeometryCollection}
@@ -7,13 +8,15 @@ use Rattle.twkb_head.specs.declared.refusal.Why.{Why}
 use Rattle.twkb_head.specs.declared.refusal.Why.TheVariants.{Cut, Varint, Kind as BadKind, Depth, Range}
 use Rattle.twkb_head.specs.BegunHeader.{Field, type_field, byte_field, number_field, coordinate_field, IsField}
 
--- What is asked for: a type byte with so many levels below, a byte, a number, or a coordinate, as the difference to the one before.
+-- what is asked for: a type byte with so many levels below it, a byte, a number, or a coordinate as the difference to the
+-- one before
 pub data Request : Type 0 where
   type_byte : ℕ → Request
   byte : Request
   number : Request
   coordinate : ℤ → Request
 
+-- the kind of field that is asked for
 abbrev pub field_of : Request → Field
 field_of (type_byte levels) = type_field
 field_of byte = byte_field
@@ -24,6 +27,7 @@ field_of (coordinate c) = coordinate_field
 pub data Fault : Type 0 where
   fault : Why → Field → List ℕ → Fault
 
+-- a byte more in front of what was cut off
 abbrev pub push_byte : ℕ → Result (List ℕ × List ℕ) Why → Result (List ℕ × List ℕ) Why
 push_byte b (Ok x) = Ok (b ∷ x.0, x.1)
 push_byte b (Err w) = Err w
@@ -34,17 +38,19 @@ cut_varint room [] = Err Cut
 cut_varint zero (b ∷ bs) = cond (nat_lt b 2) (Ok (b ∷ [], bs)) (Err Varint)
 cut_varint (suc room) (b ∷ bs) = cond (nat_lt b 128) (Ok (b ∷ [], bs)) (push_byte b (cut_varint room bs))
 
+-- a byte at the front, and what is behind it
 abbrev pub cut_byte : List ℕ → Result (List ℕ × List ℕ) Why
 cut_byte [] = Err Cut
 cut_byte (b ∷ bs) = Ok (b ∷ [], bs)
 
--- the field at the front, and what is behind it
+-- a field of the kind at the front, and what is behind it
 abbrev pub cut_field : Field → List ℕ → Result (List ℕ × List ℕ) Why
 cut_field type_field bytes = cut_byte bytes
 cut_field byte_field bytes = cut_byte bytes
 cut_field number_field bytes = cut_varint 9 bytes
 cut_field coordinate_field bytes = cut_varint 9 bytes
 
+-- the kind that a number names
 abbrev pub kind_of_code : ℕ → Option Kind
 kind_of_code (suc zero) = Some Point
 kind_of_code (suc (suc zero)) = Some LineString
@@ -55,16 +61,18 @@ kind_of_code (suc (suc (suc (suc (suc (suc zero)))))) = Some MultiPolygon
 kind_of_code (suc (suc (suc (suc (suc (suc (suc zero))))))) = Some GeometryCollection
 kind_of_code _ = None
 
+-- what is wrong with a kind that has so many levels below it
 abbrev pub judge_kind : ℕ → Option Kind → Option Why
 judge_kind levels None = Some BadKind
 judge_kind zero (Some GeometryCollection) = Some Depth
 judge_kind levels (Some kind) = None
 
+-- whether a coordinate fits 64 bits
 abbrev pub fits : ℤ → Bool
-fits (pos n) = nat_lt n 9223372036854775808
-fits (negsuc n) = nat_lt n 9223372036854775808
+fits (pos n) = nat_lt n (2 ^ 63)
+fits (negsuc n) = nat_lt n (2 ^ 63)
 
--- what is wrong with a whole field
+-- what is wrong with a field whose bytes are all there
 abbrev pub judge : Request → List ℕ → Option Why
 judge (type_byte levels) [] = None
 judge (type_byte levels) (t ∷ rest) = judge_kind levels (kind_of_code (t % 16))
@@ -72,15 +80,17 @@ judge byte field = None
 judge number field = None
 judge (coordinate c) field = cond (fits (c +ℤ zigzag_value (sum_of_groups 0 field))) None (Some Range)
 
+-- a plan that gives a value: it is done, or asks for a field and goes on by its bytes
 pub data Plan (A : Type 0) : Type 0 where
   done : A → Plan A
   ask : Request → (List ℕ → Plan A) → Plan A
 
--- goes on with a field that is whole
+-- goes on behind a field that was judged
 abbrev pub judged : {B : Type 0} → Option Why → Field → List ℕ → (Unit {0} → Result B Fault) → Result B Fault
 judged None f bytes k = k tt
 judged (Some w) f bytes k = Err (fault w f bytes)
 
+-- one field of a reading: it was cut off, or nothing could be
 abbrev pub step : {B : Type 0} → Request → Result (List ℕ × List ℕ) Why → List ℕ → (List ℕ → List ℕ → Result B Fault) → Result B Fault
 step r (Err w) bytes k = Err (fault w (field_of r) bytes)
 step r (Ok x) bytes k = judged (judge r x.0) (field_of r) bytes (λ u. k x.0 x.1)
@@ -90,6 +100,7 @@ abbrev pub run : {A : Type 0} → Plan A → List ℕ → Result (A × List ℕ)
 run (done x) bytes = Ok (x, bytes)
 run (ask r next) bytes = step r (cut_field (field_of r) bytes) bytes (λ front rest. run (next front) rest)
 
+-- the bytes are a field as it is asked for
 abbrev pub IsGood : Request → List ℕ → Type 0
 IsGood r front = IsField (field_of r) front × (judge r front ≡ None)
 
@@ -104,7 +115,7 @@ Stops (done x) p due = ⊥
 Stops (ask r next) p due = ((p ≡ []) × (due ≡ field_of r))
     ⊎ ((front : List ℕ) × (rest : List ℕ) × (p ≡ front ++ rest) × IsGood r front × Stops (next front) rest due)
 
--- one plan, and then another
+-- one plan, and then another that may depend on its value
 abbrev pub bind : {A B : Type 0} → Plan A → (A → Plan B) → Plan B
 bind (done x) k = k x
 bind (ask r next) k = ask r (λ front. bind (next front) k)
@@ -119,10 +130,12 @@ abbrev pub measure : {A : Type 0} → ℕ → Plan A → Plan (A × ℕ)
 measure n (done x) = done (x, n)
 measure n (ask r next) = ask r (λ front. measure (n + length front) (next front))
 
+-- a value that is read where it is announced
 abbrev pub optional : {A : Type 0} → Bool → Plan A → Plan (Option A)
 optional false plan = done None
 optional true plan = bind plan (λ x. done (Some x))
 
+-- the plans of one field, and of n signed numbers
 abbrev pub type_plan : ℕ → Plan ℕ
 type_plan levels = ask (type_byte levels) (λ field. done (slice_index field 0))
 

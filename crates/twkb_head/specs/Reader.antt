@@ -1,4 +1,4 @@
--- Reading from a cursor as code does it: one field after another, up to the first that is wrong.
+-- A device of proofs: reading from a cursor as code does it, one field after another, up to the first that is wrong.
 use Rattle.std.specs.Prelude.{◌≡◌, ℕ, zero, suc, ◌+◌, Bool, true, false, List, [], ◌∷◌, length, ℤ, pos, Option, Some, None, Result, Ok, Err}
 use Rattle.twkb_num.specs.declared.varint.NumFault.{NumFault}
 use Rattle.twkb_num.specs.declared.varint.NumFault.TheVariants.{Cut as TooShort, Long}
@@ -12,9 +12,11 @@ use Rattle.twkb_head.specs.Plan.{Request, field_of, cut_field, judge, Plan, done
 abbrev pub Answer : Type 0 → Type 0
 Answer A = Result A Malformed × Reading
 
+-- what reads from a place on
 abbrev pub Reader : Type 0 → Type 0
 Reader A = Reading → Answer A
 
+-- one read and then another, up to the first that fails
 infixl 10 ◌>>=◌
 abbrev pub ◌>>=◌ : {A B : Type 0} → Answer A → (A → Reader B) → Answer B
 (Ok x, r) >>= k = k x r
@@ -25,11 +27,11 @@ abbrev pub viewed : {A B : Type 0} → (A → B) → Answer A → Answer B
 viewed f (Ok x, r) = (Ok (f x), r)
 viewed f (Err m, r) = (Err m, r)
 
--- past n bytes
+-- the reading n bytes further
 abbrev pub past : ℕ → Reading → Reading
 past n r = record { bytes = r.bytes; place = r.place + n; count = added r.count n }
 
--- the field at the place is wrong, which n bytes showed
+-- an answer that the field at the place is wrong, which n bytes showed
 abbrev pub refused_at : {A : Type 0} → Why → ℕ → Reader A
 refused_at why n r = (Err (record { offset = r.place; why = why }), counted r n)
 
@@ -43,20 +45,22 @@ abbrev pub looked_in : Why → List ℕ → ℕ
 looked_in Varint bytes = 10
 looked_in _ bytes = length bytes
 
+-- goes on behind a field of n bytes that was judged
 abbrev pub read_judged : {A : Type 0} → Option Why → ℕ → Reader A → Reader A
 read_judged None n k r = k (past n r)
 read_judged (Some w) n k r = refused_at w n r
 
+-- goes on with a field that was cut off at the place, or that could not be
 abbrev pub read_field : {A : Type 0} → Request → Result (List ℕ × List ℕ) Why → (List ℕ → Reader A) → Reader A
 read_field q (Ok x) k r = read_judged (judge q x.0) (length x.0) (k x.0) r
 read_field q (Err w) k r = refused_at w (looked_in w (rest r)) r
 
--- what a plan reads
+-- reads by a plan
 abbrev pub read : {A : Type 0} → Plan A → Reader A
 read (done x) r = (Ok x, r)
 read (ask q next) r = read_field q (cut_field (field_of q) (rest r)) (λ front. read (next front)) r
 
--- one field
+-- the reads of one field
 unfoldable pub type_at : ℕ → Reader ℕ
 type_at levels = read (type_plan levels)
 
@@ -72,14 +76,17 @@ signed_at = read signed_plan
 unfoldable pub coordinate_at : ℤ → Reader ℤ
 coordinate_at before = read (coordinate_plan before)
 
+-- a read that is made where it is announced
 abbrev pub optional_at : {A : Type 0} → Bool → Reader A → Reader (Option A)
 optional_at false f r = (Ok None, r)
 optional_at true f r = viewed Some (f r)
 
+-- n reads, one after another, each in the state that those before it leave
 abbrev pub many_at : {A S : Type 0} → ℕ → (S → A → S) → (S → Reader A) → S → Reader (List A)
 many_at zero after f s r = (Ok [], r)
 many_at (suc n) after f s r = f s r >>= λ x r. viewed (λ xs. x ∷ xs) (many_at n after f (after s x) r)
 
+-- n signed numbers
 abbrev pub signeds_at : ℕ → Reader (List ℤ)
 signeds_at n = many_at n (λ s z. s) (λ s. signed_at) (pos 0)
 

@@ -1,17 +1,19 @@
--- Why no header stands.
-use Rattle.std.specs.Prelude.{◌≡◌, ℕ, ◌+◌, ◌%◌, ◌≤◌, List, [], ◌∷◌, ◌++◌, length, ◌⊎◌}
+-- Why no header stands at a place: the first field that can't follow, and how many bytes showed it.
+use Rattle.std.specs.Prelude.{◌≡◌, ℕ, ◌+◌, ◌-◌, ◌%◌, ◌≤◌, List, [], ◌∷◌, ◌++◌, length, drop, ◌⊎◌}
+use Rattle.twkb_num.specs.Cursor.{Reading}
 use Rattle.twkb_num.specs.Varint.{IsCut, IsLong}
-use Rattle.twkb_head.specs.BegunHeader.{Field, type_field, byte_field, number_field, IsBegunHeader, IsAllowedUnder, deepest}
 use Rattle.twkb_head.specs.declared.kinds.Kind.TheVariants.{GeometryCollection}
 use Rattle.twkb_head.specs.declared.refusal.Why.{Why}
 use Rattle.twkb_head.specs.declared.refusal.Why.TheVariants.{Cut, Varint, Kind, Depth, Range}
 use Rattle.twkb_head.specs.declared.refusal.Malformed.{Malformed}
+use Rattle.twkb_head.specs.BegunHeader.{Field, type_field, byte_field, number_field, IsAllowedUnder, IsBegunHeader, deepest}
 
--- the byte at the front of f
+-- the first of the bytes is such a byte
 abbrev pub StartsWith : List ℕ → (ℕ → Type 0) → Type 0
 StartsWith f P = (b : ℕ) × (behind : List ℕ) × (f ≡ b ∷ behind) × P b
 
--- what is wrong with the field of a header that stands at f
+-- a field of this kind is due where the bytes f stand, and they are wrong in this way: the end cuts the field short, the
+-- number passes 64 bits, the type byte names no type, or a collection stands too deep
 abbrev pub IsWrongField : ℕ → ℕ → Why → Field → List ℕ → Type 0
 IsWrongField limit depth Cut type_field f = f ≡ []
 IsWrongField limit depth Cut byte_field f = f ≡ []
@@ -21,7 +23,7 @@ IsWrongField limit depth Kind type_field f = StartsWith f (λ b. (b % 16 ≡ 0) 
 IsWrongField limit depth Depth type_field f = StartsWith f (λ b. (b % 16 ≡ 7) × (IsAllowedUnder limit GeometryCollection depth → ⊥))
 IsWrongField _ _ _ _ f = ⊥
 
--- a header is begun, a field of some kind is due after it, and the one at the offset is wrong
+-- the bytes, the first of which is at start, begin a header, a field is due after that, and the one at the offset is wrong
 pub record IsRefusedHead (m : Malformed) (depth start : ℕ) (bytes : List ℕ) : Type 0 where
   pub p : List ℕ
   pub f : List ℕ
@@ -31,10 +33,14 @@ pub record IsRefusedHead (m : Malformed) (depth start : ℕ) (bytes : List ℕ) 
   pub wrong : IsWrongField deepest depth m.why due f
   pub offset : m.offset ≡ start + length p
 
--- how many bytes of the wrong field are looked at
+-- how many bytes of a wrong field are looked at
 abbrev pub looked_at_field : Why → List ℕ → ℕ
 looked_at_field Cut f = length f
 looked_at_field Varint f = 10
 looked_at_field Kind f = 1
 looked_at_field Depth f = 1
 looked_at_field Range f = 0
+
+-- how many bytes are looked at from the place of a reading until it is refused
+abbrev pub looked_at_until : Malformed → Reading → ℕ
+looked_at_until m r = m.offset - r.place + looked_at_field m.why (drop m.offset r.bytes)

@@ -1,6 +1,8 @@
 //! Vertices and boxes, in units.
 //!
 //! A unit is 10^-7 of a coordinate unit: coordinates of every precision are whole numbers of units, and compare as such.
+ghost use Rattle.std.specs.Prelude.{◌≡◌, ◌↔◌, IsTrue};
+ghost use Rattle.twkb_head.specs.Holds.{IsWithin, IsWithinBoth, Holds};
 
 /// A closed range, in units. Where `lo` is above `hi` it holds nothing.
 #[derive(Clone, Copy, Debug, PartialEq, Eq)]
@@ -18,11 +20,44 @@ pub struct Vertex {
     pub m: Option<i128>,
 }
 
-/// A box, in units: a range for each axis that its header has.
+/// A box, in units: a range for each axis of its header.
 #[derive(Clone, Copy, Debug, PartialEq, Eq)]
 pub struct Bounds {
     pub x: Span,
     pub y: Span,
     pub z: Option<Span>,
     pub m: Option<Span>,
+}
+
+impl Bounds {
+    /// Whether `vertex` is within the range of each axis that both have; an axis that only one has is not compared
+    /// (this project's choice).
+    #[inline]
+    pub fn holds(&self, vertex: &Vertex) -> bool
+        ensures { IsTrue result ↔ Holds self.now vertex.now }
+    {
+        within(&self.x, vertex.x)
+            && within(&self.y, vertex.y)
+            && within_both(self.z, vertex.z)
+            && within_both(self.m, vertex.m)
+    }
+}
+
+/// Whether `value` is in the range, ends included.
+#[inline(always)]
+fn within(span: &Span, value: i128) -> bool
+    ensures { IsTrue result ↔ IsWithin span.now value }
+{
+    span.lo <= value && value <= span.hi
+}
+
+/// The same where both are there; else there is nothing to compare.
+#[inline(always)]
+fn within_both(span: Option<Span>, value: Option<i128>) -> bool
+    ensures { IsTrue result ↔ IsWithinBoth span value }
+{
+    match (span, value) {
+        (Some(span), Some(value)) => within(&span, value),
+        _ => true,
+    }
 }

@@ -1,17 +1,21 @@
 //! The fields of a header, each read by itself.
-ghost use Rattle.std.specs.Prelude.{◌≡◌, ◌/◌, ◌%◌, ◌<◌, ◌≤◌, ◌-◌, IfOk, IfErr};
+//!
+//! Each reader answers as the reader of the same name in `specs/` does (`byte_at`, `number_at`, ..): with the value, past
+//! the field, or with the field's place and what is wrong there.
+ghost use Rattle.std.specs.Prelude.{◌≡◌, ◌≤◌, ◌-◌, IfOk};
 ghost use Rattle.twkb_num.specs.Units.{IsPrecision};
-ghost use Rattle.twkb_num.specs.Varint.{zigzag_value};
 ghost use Rattle.twkb_head.specs.BegunHeader.{deepest};
-ghost use Rattle.twkb_head.specs.Plan.{kind_of_code, judge_kind};
 ghost use Rattle.twkb_head.specs.Reader.{byte_at, number_at, signed_at, why_of};
 ghost use Rattle.twkb_head.specs.HeadReader.{kind_from_type};
 
+use crate::bits::precision_of;
 use crate::kinds::{Kind, kind_at};
 use crate::refusal::{Malformed, Why};
 use twkb_num::{Cursor, NumFault};
 
-/// The kind and the precision of X and Y in the type byte at the place, which may stand at `depth`.
+/// The kind and the precision of X and Y in the type byte at the place, of a geometry that stands at `depth`. Both type
+/// and depth are judged here, before the next byte is read (this project's choice).
+#[inline(always)]
 pub fn take_type(cursor: &mut Cursor, depth: u8) -> Result<(Kind, i8), Malformed>
     requires { depth ≤ deepest }
     ensures precision { IfOk result (λ x. IsPrecision x.1) }
@@ -29,6 +33,7 @@ pub fn take_type(cursor: &mut Cursor, depth: u8) -> Result<(Kind, i8), Malformed
 }
 
 /// The byte at the place.
+#[inline(always)]
 pub fn take_byte(cursor: &mut Cursor) -> Result<u8, Malformed>
     ensures { byte_at cursor.old ≡ (result, cursor.new) }
 {
@@ -42,6 +47,7 @@ pub fn take_byte(cursor: &mut Cursor) -> Result<u8, Malformed>
 }
 
 /// The unsigned number at the place.
+#[inline(always)]
 pub fn take_number(cursor: &mut Cursor) -> Result<u64, Malformed>
     ensures { number_at cursor.old ≡ (result, cursor.new) }
 {
@@ -52,6 +58,7 @@ pub fn take_number(cursor: &mut Cursor) -> Result<u64, Malformed>
 }
 
 /// The signed number at the place.
+#[inline(always)]
 pub fn take_signed(cursor: &mut Cursor) -> Result<i64, Malformed>
     ensures { signed_at cursor.old ≡ (result, cursor.new) }
 {
@@ -62,6 +69,7 @@ pub fn take_signed(cursor: &mut Cursor) -> Result<i64, Malformed>
 }
 
 /// A fault of the number at the place.
+#[cold]
 fn malformed(cursor: &Cursor, fault: NumFault) -> Malformed
     ensures offset { result.offset ≡ cursor.now.place }
     ensures why { result.why ≡ why_of fault }
@@ -73,14 +81,4 @@ fn malformed(cursor: &Cursor, fault: NumFault) -> Malformed
             NumFault::Long => Why::Varint,
         },
     }
-}
-
-/// The precision of X and Y in a type byte.
-fn precision_of(byte: u8) -> i8
-    ensures value { result ≡ zigzag_value (byte / 16) }
-    ensures range { IsPrecision result }
-{
-    let raw = byte / 16;
-    let half = (raw / 2) as i8;
-    if raw % 2 == 0 { half } else { -half - 1 }
 }

@@ -6,6 +6,7 @@ use crate::kinds::Kind;
 /// header has it. Whether it is true is not judged here.
 #[derive(Clone, Copy, Debug, PartialEq, Eq)]
 pub struct SizeField {
+    /// The number itself.
     pub value: u64,
     /// The place of the field's first byte.
     pub offset: usize,
@@ -16,6 +17,7 @@ pub struct SizeField {
 /// A box (TWKB specification, "Bounding Box [Optional]"), in units. Whether it is true is not judged here.
 #[derive(Clone, Copy, Debug, PartialEq, Eq)]
 pub struct BoxField {
+    /// The box itself.
     pub bounds: Bounds,
     /// The place of the field's first byte.
     pub offset: usize,
@@ -24,6 +26,7 @@ pub struct BoxField {
 /// A header. A coordinate `c` of an axis at precision `p` means `c / 10^p`.
 #[derive(Clone, Copy, Debug, PartialEq, Eq)]
 pub struct Head {
+    /// The type of the geometry.
     pub kind: Kind,
     /// The precision of X and Y, from -8 to 7.
     pub xy: i8,
@@ -31,11 +34,14 @@ pub struct Head {
     pub z: Option<u8>,
     /// The precision of M, from 0 to 7, where there is an M.
     pub m: Option<u8>,
+    /// The size, where there is one.
     pub size: Option<SizeField>,
+    /// The box, where there is one.
     pub bounds: Option<BoxField>,
     /// Whether ids stand in the body.
     pub ids: bool,
-    /// Whether the geometry is empty and has no body.
+    /// Whether the geometry is empty and has no body. Its header has the size and the box that it announces all the same
+    /// (this project's choice).
     pub empty: bool,
     /// The place of the header's first byte.
     pub start: usize,

@@ -8,12 +8,19 @@ use crate::refusal::Why;
 /// The type of a geometry (TWKB specification, "Type & Precision Byte").
 #[derive(Clone, Copy, Debug, PartialEq, Eq)]
 pub enum Kind {
+    /// One point.
     Point,
+    /// Points in a row.
     LineString,
+    /// Rings, each of points in a row.
     Polygon,
+    /// A list of points.
     MultiPoint,
+    /// A list of lines.
     MultiLineString,
+    /// A list of polygons.
     MultiPolygon,
+    /// A list of geometries, each with a header of its own.
     GeometryCollection,
 }
 
@@ -22,6 +29,7 @@ pub enum Kind {
 pub const DEEPEST: u8 = 32;
 
 /// The kind that a type byte names, where it may stand at `depth`.
+#[inline(always)]
 pub fn kind_at(byte: u8, depth: u8) -> Result<Kind, Why>
     requires { depth ≤ deepest }
     ensures kind { IfOk result (λ kind. kind_of_code (byte % 16) ≡ Some kind) }
@@ -35,7 +43,8 @@ pub fn kind_at(byte: u8, depth: u8) -> Result<Kind, Why>
     }
 }
 
-/// The kind that the low four bits of a type byte name.
+/// The kind that the low four bits of a type byte name; 0 and 8 to 15 name none.
+#[inline(always)]
 fn kind_of(byte: u8) -> Option<Kind>
     ensures { result ≡ kind_of_code (byte % 16) }
 {

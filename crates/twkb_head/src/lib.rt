@@ -6,21 +6,29 @@
 //!
 //! - On `Ok` a [`Head`] says all that the header says, and where its parts stand. The box ([`Bounds`]) is in units of
 //!   10^-7, made once per header, so that boxes of any precision compare with each other and with a [`Vertex`]
-//!   (`Bounds::holds`).
+//!   (`Bounds::holds`). The cursor is behind the header.
 //! - On `Err` a [`Malformed`] names the first field that can't follow the bytes before it, and says [`Why`]; the cursor
 //!   is back at its place, and only the count has moved.
 //!
+//! A header has at most 93 bytes: three single ones, a size of ten, and a box of eight numbers of ten bytes each.
+//!
+//!     let mut cursor = Cursor::new(&[0x02, 0x03, 0x09, 0x02, 0x08, 0x02, 0x08, 0x02, 0x02, 0x02, 0x08, 0x08]);
+//!     let head = read_head(&mut cursor, 1)?;
+//!     // A line with a size and a box: head.size is 9, head.bounds X and Y from 1 to 5 in units, head.stop is 7.
+//!
 //! What the bytes of a header are is said in `specs/Header.antt` (`IsHeader`), what a header that is begun may go on with
 //! in `specs/BegunHeader.antt`, and what the answers of `read_head` mean in `specs/Head.antt` and `specs/Refusal.antt`.
-//! The other files of `specs/` are devices of proofs: reading as a plan of fields (`Plan`, `HeadPlan`) and as the code
-//! does it, one field after another (`Reader`, `HeadReader`).
+//! [`laws`] has what holds of these definitions alone. The other files of `specs/` are devices of proofs: reading as a
+//! plan of fields (`Plan`, `HeadPlan`) and as the code does it, one field after another (`Reader`, `HeadReader`).
 #![tactic(auto)]
 
+mod bits;
 mod boxes;
 mod fields;
 mod header;
-mod holds;
 mod kinds;
+pub mod laws;
+mod ranges;
 mod read;
 mod refusal;
 #[cfg(test)]

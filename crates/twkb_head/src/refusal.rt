@@ -1,4 +1,4 @@
-//! Why bytes are malformed, and where.
+//! Why bytes are malformed, and where. Which malformation is which number is this project's choice.
 
 /// Why bytes are malformed.
 #[derive(Clone, Copy, Debug, PartialEq, Eq)]
@@ -20,5 +20,6 @@ pub enum Why {
 pub struct Malformed {
     /// The place of the field's first byte.
     pub offset: usize,
+    /// What is wrong with the field.
     pub why: Why,
 }

@@ -1,0 +1,5 @@
+use Rattle.twkb_head.proofs.HeadBack.{header_once}
+use Rattle.twkb_head.proofs.laws.headers_are_unique.Goals as goal
+
+pub returns : goal.returns
+returns c = header_once

@@ -1,0 +1,80 @@
+//! What the three single bytes of a header say, bit by bit.
+ghost use Rattle.std.specs.Prelude.{◌≡◌, ◌/◌, ◌<◌, ◌≤◌, IfSome};
+ghost use Rattle.twkb_num.specs.Units.{IsPrecision};
+ghost use Rattle.twkb_num.specs.Varint.{zigzag_value};
+ghost use Rattle.twkb_head.specs.Header.{has_bit, has_ids, z_in, m_in};
+
+use crate::kinds::Kind;
+
+/// A bit of the metadata byte, by its value: a box stands in the header (TWKB specification, "Metadata Header"). The
+/// three bits that have no name here mean nothing, and may be set (this project's choice).
+pub const BOX: u8 = 1;
+
+/// A bit of the metadata byte: a size stands in the header.
+pub const SIZE: u8 = 2;
+
+/// A bit of the metadata byte: ids stand in the body, where it has a list.
+pub const IDS: u8 = 4;
+
+/// A bit of the metadata byte: an extended dimensions byte stands in the header.
+pub const EXTENDED: u8 = 8;
+
+/// A bit of the metadata byte: the geometry is empty, and has no body.
+pub const EMPTY: u8 = 16;
+
+/// Whether a bit of a byte, named by its value, is set.
+#[inline(always)]
+pub fn has_bit(byte: u8, value: u8) -> bool
+    requires { 0 < value }
+    ensures { result ≡ has_bit byte value }
+{
+    byte / value % 2 == 1
+}
+
+/// The precision of X and Y in the high four bits of a type byte, by zigzag (TWKB specification, "Type & Precision
+/// Byte").
+#[inline(always)]
+pub fn precision_of(byte: u8) -> i8
+    ensures value { result ≡ zigzag_value (byte / 16) }
+    ensures range { IsPrecision result }
+{
+    let raw = byte / 16;
+    let half = (raw / 2) as i8;
+    if raw % 2 == 0 { half } else { -half - 1 }
+}
+
+/// The precision of Z, where the extended dimensions byte has a Z (TWKB specification, "Extended Dimensions
+/// [Optional]"). A byte with neither Z nor M is accepted, and the bits of an axis that it lacks mean nothing (this
+/// project's choice).
+#[inline(always)]
+pub fn z_of(extended: Option<u8>) -> Option<u8>
+    ensures value { result ≡ z_in extended }
+    ensures high { IfSome result (λ p. p ≤ 7) }
+{
+    match extended {
+        Some(byte) if has_bit(byte, 1) => Some(byte / 4 % 8),
+        _ => None,
+    }
+}
+
+/// The precision of M, where the extended dimensions byte has an M; else as for Z.
+#[inline(always)]
+pub fn m_of(extended: Option<u8>) -> Option<u8>
+    ensures value { result ≡ m_in extended }
+    ensures high { IfSome result (λ p. p ≤ 7) }
+{
+    match extended {
+        Some(byte) if has_bit(byte, 2) => Some(byte / 32),
+        _ => None,
+    }
+}
+
+/// Whether ids stand in the body: an empty geometry has no body, and a point, line or polygon no list of members, so
+/// there the bit means nothing (this project's choice).
+#[inline(always)]
+pub fn ids_of(kind: Kind, metadata: u8) -> bool
+    ensures { result ≡ has_ids kind metadata }
+{
+    let is_list = !matches!(kind, Kind::Point | Kind::LineString | Kind::Polygon);
+    !has_bit(metadata, EMPTY) && is_list && has_bit(metadata, IDS)
+}
