@@ -3,12 +3,12 @@ use Rattle.std.proofs.Common.{◌≡◌, ℕ, ◌+◌, Bool, true, false, List, 
 use Rattle.twkb_num.specs.Varint.{Spells, sum_of_groups}
 use Rattle.twkb_head.specs.Parts.{Then, Times, Announced}
 use Rattle.twkb_head.specs.Header.{IsSigned, Header, axes_of}
-use Rattle.twkb_head.specs.BegunHeader.{IsCollection, Field, number_field, IsFewer}
+use Rattle.twkb_head.specs.BegunHeader.{is_collection, Field, number_field, IsFewer}
 use Rattle.twkb_head.specs.Plan.{number, Plan, done, Spelled, Stops, bind, many, measure, optional, number_plan, signeds_plan}
 use Rattle.twkb_head.proofs.Combinators.{bind_spelled, spelled_bind, bind_stops, stops_first, stops_then, done_spelled, spelled_done, done_stops, measure_spelled, spelled_measure, measure_stops, stops_measure, optional_spelled, spelled_optional, optional_stops, stops_optional, many_spelled, spelled_many}
 use Rattle.twkb_head.proofs.Leaves.{leaf_stops, number_spelled, spelled_number, signeds_spelled, spelled_signeds, signeds_stops, stops_signeds}
 use Rattle.twkb_body.specs.Geometry.{Lengths, PointValue, PolygonValue, points_of, member_count, none, Members as MemberTrees}
-use Rattle.twkb_body.specs.Encoding.{IsPart, IsMulti, IsList, IsNumbers, IsShape, IsNothing, IsBody, SumsFit, Accumulates, SameForm}
+use Rattle.twkb_body.specs.Encoding.{IsPart, is_multi, IsList, IsNumbers, IsShape, IsNothing, IsBody, SumsFit, Accumulates, SameForm}
 use Rattle.twkb_body.specs.Begun.{IsBegunList, count_due, id_due, member_due, IsBegunPart, IsBegunNumbers}
 use Rattle.twkb_body.specs.BodyPlan.{ListHead, zeros, ring_sums, part_plan, absolute, Body, ids_plan, list_plan, parts_body, members_body, part_body, no_body, after_list, shape_plan, after_count, body_plan}
 use Rattle.twkb_body.proofs.PartPlans.{Members, members_stop, stop_members, part_of}
@@ -86,7 +86,7 @@ ids_stop ids n count id_list p list due has spells few parts is =
     )
 
 -- shapes
-Parts_of : (h : Header) → IsCollection h.kind ≡ false → Members ring_sums (part_plan h.kind (axes_of h)) (IsPart h.kind (axes_of h)) FitRings (λ part. flat_map (λ ring. ring) part) (IsBegunPart h.kind (axes_of h))
+Parts_of : (h : Header) → is_collection h.kind ≡ false → Members ring_sums (part_plan h.kind (axes_of h)) (IsPart h.kind (axes_of h)) FitRings (λ part. flat_map (λ ring. ring) part) (IsBegunPart h.kind (axes_of h))
 Parts_of h e = part_of h.kind (axes_of h) e
 
 record IsNumbersBody (multi : Bool) (h : Header) (l : Lengths) (b : Body) (bytes : List ℕ) : Type 0 where
@@ -96,7 +96,7 @@ record IsNumbersBody (multi : Bool) (h : Header) (l : Lengths) (b : Body) (bytes
   polygons : b.polygons ≡ absolute numbers
   members : b.members ≡ none
 
-numbers_spelled : (multi : Bool) (h : Header) (l : Lengths) (b : Body) (bytes : List ℕ) → IsCollection h.kind ≡ false → l.count ≡ b.count → l.list ≡ b.list
+numbers_spelled : (multi : Bool) (h : Header) (l : Lengths) (b : Body) (bytes : List ℕ) → is_collection h.kind ≡ false → l.count ≡ b.count → l.list ≡ b.list
     → Spelled (shape_plan multi h) b bytes → IsNumbersBody multi h l b bytes
 numbers_spelled false h l b bytes single cl ll sp =
     let t = done_spelled (part_plan h.kind (axes_of h) zeros) part_body b bytes sp in
@@ -143,7 +143,7 @@ numbers_spelled true h l b bytes single cl ll sp = go (bind_spelled (list_plan h
 body_path : (a b : Body) → a.ids ≡ b.ids → a.polygons ≡ b.polygons → a.members ≡ b.members → a.count ≡ b.count → a.list ≡ b.list → a ≡ b
 body_path a b i p m c l = λ j. record { ids = i j; polygons = p j; members = m j; count = c j; list = l j }
 
-spelled_numbers : (multi : Bool) (h : Header) (l : Lengths) (b : Body) (bytes : List ℕ) → IsCollection h.kind ≡ false → l.count ≡ b.count → l.list ≡ b.list
+spelled_numbers : (multi : Bool) (h : Header) (l : Lengths) (b : Body) (bytes : List ℕ) → is_collection h.kind ≡ false → l.count ≡ b.count → l.list ≡ b.list
     → IsNumbersBody multi h l b bytes → Spelled (shape_plan multi h) b bytes
 spelled_numbers false h l b bytes single cl ll n =
     let s = n.spelled in
@@ -163,10 +163,10 @@ spelled_numbers true h l b bytes single cl ll n =
           (spelled_many ring_sums (part_plan h.kind (axes_of h)) (IsPart h.kind (axes_of h)) FitRings ((Parts_of h single).back) (length n.numbers) zeros n.numbers s.members refl s.each n.fit),
     )
 
-pub shape_spelled : (h : Header) (l : Lengths) (b : Body) (bytes : List ℕ) → IsCollection h.kind ≡ false → l.count ≡ b.count → l.list ≡ b.list
-    → Spelled (shape_plan (IsMulti h.kind) h) b bytes → (b.members ≡ none) × IsShape h l b.ids b.polygons bytes
+pub shape_spelled : (h : Header) (l : Lengths) (b : Body) (bytes : List ℕ) → is_collection h.kind ≡ false → l.count ≡ b.count → l.list ≡ b.list
+    → Spelled (shape_plan (is_multi h.kind) h) b bytes → (b.members ≡ none) × IsShape h l b.ids b.polygons bytes
 shape_spelled h l b bytes single cl ll sp =
-    let n = numbers_spelled (IsMulti h.kind) h l b bytes single cl ll sp in
+    let n = numbers_spelled (is_multi h.kind) h l b bytes single cl ll sp in
     let a = absolute_is n.numbers in (
       n.members,
       record {
@@ -178,10 +178,10 @@ shape_spelled h l b bytes single cl ll sp =
       },
     )
 
-pub spelled_shape : (h : Header) (l : Lengths) (b : Body) (bytes : List ℕ) → IsCollection h.kind ≡ false → l.count ≡ b.count → l.list ≡ b.list
-    → b.members ≡ none → IsShape h l b.ids b.polygons bytes → Spelled (shape_plan (IsMulti h.kind) h) b bytes
+pub spelled_shape : (h : Header) (l : Lengths) (b : Body) (bytes : List ℕ) → is_collection h.kind ≡ false → l.count ≡ b.count → l.list ≡ b.list
+    → b.members ≡ none → IsShape h l b.ids b.polygons bytes → Spelled (shape_plan (is_multi h.kind) h) b bytes
 spelled_shape h l b bytes single cl ll no_members s =
-    spelled_numbers (IsMulti h.kind) h l b bytes single cl ll (record {
+    spelled_numbers (is_multi h.kind) h l b bytes single cl ll (record {
       numbers = s.numbers;
       spelled = s.spelled;
       fit = fit_polygons zeros s.numbers (fit_sums (points_of s.numbers) s.in_range);
@@ -190,7 +190,7 @@ spelled_shape h l b bytes single cl ll no_members s =
     })
 
 -- where a shape stops
-numbers_stop : (multi : Bool) (h : Header) (p : List ℕ) (due : Field) → IsCollection h.kind ≡ false → Stops (shape_plan multi h) p due
+numbers_stop : (multi : Bool) (h : Header) (p : List ℕ) (due : Field) → is_collection h.kind ≡ false → Stops (shape_plan multi h) p due
     → (points : List PointValue) × IsBegunNumbers multi h points p due × FitPoints zeros points
 numbers_stop false h p due single st = (Parts_of h single).stops zeros p due (done_stops (part_plan h.kind (axes_of h) zeros) part_body p due st)
 numbers_stop true h p due single st = go (bind_stops (list_plan h.ids) (after_list h) p due st)
@@ -209,7 +209,7 @@ numbers_stop true h p due single st = go (bind_stops (list_plan h.ids) (after_li
           m.2,
         )
 
-stop_numbers : (multi : Bool) (h : Header) (p : List ℕ) (due : Field) (points : List PointValue) → IsCollection h.kind ≡ false
+stop_numbers : (multi : Bool) (h : Header) (p : List ℕ) (due : Field) (points : List PointValue) → is_collection h.kind ≡ false
     → IsBegunNumbers multi h points p due → FitPoints zeros points → Stops (shape_plan multi h) p due
 stop_numbers false h p due points single b fit = stops_first (part_plan h.kind (axes_of h) zeros) (λ (part : PolygonValue). done (part_body part)) p due
     ((Parts_of h single).stops_back zeros p due points b fit)
@@ -227,13 +227,13 @@ stop_numbers true h p due points single (member_due n count id_list wholes rest 
           n zeros (wholes ++ rest) due points (record { xs = xs; last = last; wholes = wholes; rest = rest; fewer = few; whole = seq; begun = begun; all = all; parts = refl }) fit),
     )
 
-pub shape_stops : (h : Header) (p : List ℕ) (due : Field) → IsCollection h.kind ≡ false → Stops (shape_plan (IsMulti h.kind) h) p due
-    → (points : List PointValue) × IsBegunNumbers (IsMulti h.kind) h points p due × SumsFit points
-shape_stops h p due single st = let t = numbers_stop (IsMulti h.kind) h p due single st in (t.0, t.1, sums_fit t.0 t.2)
+pub shape_stops : (h : Header) (p : List ℕ) (due : Field) → is_collection h.kind ≡ false → Stops (shape_plan (is_multi h.kind) h) p due
+    → (points : List PointValue) × IsBegunNumbers (is_multi h.kind) h points p due × SumsFit points
+shape_stops h p due single st = let t = numbers_stop (is_multi h.kind) h p due single st in (t.0, t.1, sums_fit t.0 t.2)
 
-pub stop_shape : (h : Header) (p : List ℕ) (due : Field) (points : List PointValue) → IsCollection h.kind ≡ false
-    → IsBegunNumbers (IsMulti h.kind) h points p due → SumsFit points → Stops (shape_plan (IsMulti h.kind) h) p due
-stop_shape h p due points single b fit = stop_numbers (IsMulti h.kind) h p due points single b (fit_sums points fit)
+pub stop_shape : (h : Header) (p : List ℕ) (due : Field) (points : List PointValue) → is_collection h.kind ≡ false
+    → IsBegunNumbers (is_multi h.kind) h points p due → SumsFit points → Stops (shape_plan (is_multi h.kind) h) p due
+stop_shape h p due points single b fit = stop_numbers (is_multi h.kind) h p due points single b (fit_sums points fit)
 
 -- bodies, over what is to be known of the members of a collection
 pub nothing_spelled : (l : Lengths) (b : Body) (bytes : List ℕ) → l.count ≡ b.count → l.list ≡ b.list → Spelled (done no_body) b bytes
@@ -300,7 +300,7 @@ module _ (members : ℕ → Plan MemberTrees) (Each : MemberTrees → List ℕ �
       )
 
   -- empty and collection as the header says
-  pub body_spelled : (empty collection : Bool) (h : Header) (l : Lengths) (b : Body) (bytes : List ℕ) → IsCollection h.kind ≡ collection
+  pub body_spelled : (empty collection : Bool) (h : Header) (l : Lengths) (b : Body) (bytes : List ℕ) → is_collection h.kind ≡ collection
       → (collection ≡ true → (n : ℕ) (gs : MemberTrees) (b : List ℕ) → Spelled (members n) gs b → (member_count gs ≡ n) × Each gs b)
       → l.count ≡ b.count → l.list ≡ b.list → Spelled (body_plan empty collection h members) b bytes
       → IsBody empty collection h l b.ids b.polygons (member_count b.members) (Each b.members) bytes
@@ -310,7 +310,7 @@ module _ (members : ℕ → Plan MemberTrees) (Each : MemberTrees → List ℕ �
       let t = shape_spelled h l b bytes c cl ll sp in
       (ap member_count t.0, t.1)
 
-  pub spelled_body : (empty collection : Bool) (h : Header) (l : Lengths) (b : Body) (bytes : List ℕ) → IsCollection h.kind ≡ collection
+  pub spelled_body : (empty collection : Bool) (h : Header) (l : Lengths) (b : Body) (bytes : List ℕ) → is_collection h.kind ≡ collection
       → (collection ≡ true → (gs : MemberTrees) (b : List ℕ) → Each gs b → Spelled (members (member_count gs)) gs b)
       → l.count ≡ b.count → l.list ≡ b.list → IsBody empty collection h l b.ids b.polygons (member_count b.members) (Each b.members) bytes
       → Spelled (body_plan empty collection h members) b bytes

@@ -4,14 +4,14 @@ use Rattle.twkb_num.specs.Cursor.{Reading}
 use Rattle.twkb_head.specs.declared.kinds.Kind.{Kind}
 use Rattle.twkb_head.specs.declared.kinds.Kind.TheVariants.{Point, LineString, Polygon, MultiPoint, MultiLineString, MultiPolygon, GeometryCollection}
 use Rattle.twkb_head.specs.Header.{Header, axes_of}
-use Rattle.twkb_head.specs.BegunHeader.{IsCollection}
+use Rattle.twkb_head.specs.BegunHeader.{is_collection}
 use Rattle.twkb_head.specs.Plan.{Plan, done, bind, many, measure, optional, number_plan, signed_plan, signeds_plan, coordinate_plan}
 use Rattle.twkb_head.specs.HeadPlan.{head_plan}
 use Rattle.twkb_head.specs.Reader.{Answer, Reader, ◌>>=◌, viewed, read, number_at, signed_at, coordinate_at, optional_at, many_at, signeds_at}
 use Rattle.twkb_head.proofs.Readings.{read-bind}
 use Rattle.twkb_head.proofs.HeadRuns.{lengthened, read-done, read-measure}
 use Rattle.twkb_body.specs.Geometry.{Geometry, Members, none, PointValue}
-use Rattle.twkb_body.specs.Encoding.{IsMulti}
+use Rattle.twkb_body.specs.Encoding.{is_multi}
 use Rattle.twkb_body.specs.BodyPlan.{first_of, behind, add, sums, ring_sums, zeros, point_plan, ring_plan, polygon_plan, part_plan, ids_plan, list_plan, parts_body, members_body, part_body, after_list, shape_plan, after_count, body_plan, geometry_from, after_head, parts_plan, geometry_with, members_of, members_plan, geometry_plan}
 use Rattle.twkb_body.specs.BodyReader.{point_at, ring_at, polygon_at, part_at, spanned, list_at, shape_at, body_at, parts_at, members_at, geometry_by, geometry_at}
 
@@ -106,14 +106,14 @@ module _ (members : ℕ → Plan Members) (reader : ℕ → Reader Members) (sam
   body_runs true collection h = λ r. refl
   body_runs false true h = runs_bind (list_plan h.ids) (after_count members) (list_at h.ids) _ (list_runs h.ids) (λ list.
       runs_done (members (list.0).0) (members_body list) (reader (list.0).0) (same (list.0).0))
-  body_runs false false h = shape_runs (IsMulti h.kind) h
+  body_runs false false h = shape_runs (is_multi h.kind) h
 
   parts_runs : (levels : ℕ) → Runs (parts_plan levels members) (parts_at levels reader)
   unfolding parts_at
   parts_runs levels = runs_bind (measure 0 (head_plan levels)) (after_head members) (λ r. spanned r (read (head_plan levels) r)) _ (runs_measure (head_plan levels) (read (head_plan levels)) (λ r. refl)) (λ head.
-      runs_done (body_plan (head.0).header.empty (IsCollection (head.0).header.kind) (head.0).header members) (λ body. (head, body))
-      (body_at (head.0).header.empty (IsCollection (head.0).header.kind) (head.0).header reader)
-      (body_runs (head.0).header.empty (IsCollection (head.0).header.kind) (head.0).header))
+      runs_done (body_plan (head.0).header.empty (is_collection (head.0).header.kind) (head.0).header members) (λ body. (head, body))
+      (body_at (head.0).header.empty (is_collection (head.0).header.kind) (head.0).header reader)
+      (body_runs (head.0).header.empty (is_collection (head.0).header.kind) (head.0).header))
 
   with_runs : (levels : ℕ) → Runs (geometry_with levels members) (geometry_by levels reader)
   with_runs levels = runs_done (measure 0 (parts_plan levels members)) (λ x. geometry_from x.0 x.1) (λ r. spanned r (parts_at levels reader r))

@@ -4,7 +4,7 @@ use Rattle.twkb_head.specs.declared.kinds.Kind.{Kind}
 use Rattle.twkb_head.specs.declared.kinds.Kind.TheVariants.{Point, LineString, Polygon, MultiPoint, MultiLineString, MultiPolygon, GeometryCollection}
 use Rattle.twkb_head.specs.Parts.{Then, Sequence}
 use Rattle.twkb_head.specs.Header.{Header, IsHeader}
-use Rattle.twkb_head.specs.BegunHeader.{IsAllowedUnder, IsCollection, Field}
+use Rattle.twkb_head.specs.BegunHeader.{IsAllowedUnder, is_collection, Field}
 use Rattle.twkb_head.specs.Plan.{Plan, done, Spelled, Stops, bind, many, measure}
 use Rattle.twkb_head.specs.HeadPlan.{HeadValue, head_plan}
 use Rattle.twkb_head.proofs.Combinators.{bind_spelled, spelled_bind, bind_stops, stops_first, stops_then, done_spelled, spelled_done, done_stops, measure_spelled, measure_stops, stops_measure, FitAll, many_spelled, spelled_many, many_stops, stops_many}
@@ -15,7 +15,7 @@ use Rattle.twkb_body.specs.Begun.{IsBegunUnder, header_begun, shape_begun, membe
 use Rattle.twkb_body.specs.BodyPlan.{ListHead, Body, body_plan, geometry_from, after_head, parts_plan, geometry_with, members_of, members_plan, geometry_plan, list_plan, after_count, members_body}
 use Rattle.twkb_body.proofs.Bodies.{measured, body_spelled, spelled_body, shape_stops, stop_shape, list_spelled, spelled_list, list_stops, count_stops, ids_stop}
 
-no_level : (k : Kind) → IsCollection k ≡ true → IsAllowedWith zero k → ⊥
+no_level : (k : Kind) → is_collection k ≡ true → IsAllowedWith zero k → ⊥
 no_level GeometryCollection c a = cc (a)
 no_level Point c a = cc (c)
 no_level LineString c a = cc (c)
@@ -52,11 +52,11 @@ module _ (limit : ℕ) where
 
   -- what is to be known of the plan of members
   abbrev ReadsMembers : ℕ → ℕ → (ℕ → Plan Members) → Type 0
-  ReadsMembers levels depth members = (k : Kind) → IsCollection k ≡ true → IsAllowedWith levels k
+  ReadsMembers levels depth members = (k : Kind) → is_collection k ≡ true → IsAllowedWith levels k
       → (n : ℕ) (gs : Members) (b : List ℕ) → Spelled (members n) gs b → (member_count gs ≡ n) × BlobsUnder limit gs b (suc depth)
 
   abbrev SpellsMembers : ℕ → ℕ → (ℕ → Plan Members) → Type 0
-  SpellsMembers levels depth members = (k : Kind) → IsCollection k ≡ true → IsAllowedWith levels k
+  SpellsMembers levels depth members = (k : Kind) → is_collection k ≡ true → IsAllowedWith levels k
       → (gs : Members) (b : List ℕ) → BlobsUnder limit gs b (suc depth) → Spelled (members (member_count gs)) gs b
 
   module _ (levels depth : ℕ) (deep : depth + levels ≡ limit) (some : 1 ≤ depth) (members : ℕ → Plan Members) where
@@ -65,7 +65,7 @@ module _ (limit : ℕ) where
     with_spelled each g bytes sp = outer (done_spelled (measure 0 (parts_plan levels members)) (λ (x : ((HeadValue × ℕ) × Body) × ℕ). geometry_from x.0 x.1) g bytes sp)
       where
         inner : (whole : ℕ) → whole ≡ length bytes → (head : HeadValue × ℕ) (front body : List ℕ) → bytes ≡ front ++ body → Spelled (measure 0 (head_plan levels)) head front
-            → (b : Body) → Spelled (body_plan (head.0).header.empty (IsCollection (head.0).header.kind) (head.0).header members) b body
+            → (b : Body) → Spelled (body_plan (head.0).header.empty (is_collection (head.0).header.kind) (head.0).header members) b body
             → BlobUnder limit (geometry_from (head, b) whole) bytes depth
         inner whole is_whole head front body parts sh b sb =
             let mh = measure_spelled 0 (head_plan levels) head front sh in
@@ -81,7 +81,7 @@ module _ (limit : ℕ) where
                 whole_length = is_whole;
               },
               allowed_at limit levels depth (head.0).header.kind deep some hd.allowed,
-              body_spelled members (BlobsAt (suc depth)) (head.0).header.empty (IsCollection (head.0).header.kind) (head.0).header
+              body_spelled members (BlobsAt (suc depth)) (head.0).header.empty (is_collection (head.0).header.kind) (head.0).header
                   (record { before = (head.0).before; size = (head.0).size; header = head.1; count = b.count; list = b.list; whole = whole }) b body refl
                   (λ c. each (head.0).header.kind c hd.allowed) refl refl sb,
             )
@@ -89,7 +89,7 @@ module _ (limit : ℕ) where
         middle : (x : (HeadValue × ℕ) × Body) (whole : ℕ) → whole ≡ length bytes → (head : HeadValue × ℕ) × Then (Spelled (measure 0 (head_plan levels)) head) (Spelled (after_head members head) x) bytes
             → BlobUnder limit (geometry_from x whole) bytes depth
         middle x whole is_whole (head, (front, body, parts, sh, later)) =
-            let t = done_spelled (body_plan (head.0).header.empty (IsCollection (head.0).header.kind) (head.0).header members) (λ (b : Body). (head, b)) x body later in
+            let t = done_spelled (body_plan (head.0).header.empty (is_collection (head.0).header.kind) (head.0).header members) (λ (b : Body). (head, b)) x body later in
             subst (λ (x : (HeadValue × ℕ) × Body). BlobUnder limit (geometry_from x whole) bytes depth) (sym t.1) (inner whole is_whole head front body parts sh t.0 t.2)
 
         outer : (x : ((HeadValue × ℕ) × Body) × ℕ) × (g ≡ geometry_from x.0 x.1) × Spelled (measure 0 (parts_plan levels members)) x bytes → BlobUnder limit g bytes depth
@@ -106,14 +106,14 @@ module _ (limit : ℕ) where
         let ok = allowed_with limit levels depth h.kind deep allowed in
         let sh : Spelled (head_plan levels) head starts.head = spelled_head levels head starts.head
         (record { header = starts.header; allowed = ok; before = starts.before_length; size = starts.size_length }) in
-        let sb : Spelled (body_plan h.empty (IsCollection h.kind) h members) b body = spelled_body members (BlobsAt (suc depth)) h.empty (IsCollection h.kind) h l b body refl
+        let sb : Spelled (body_plan h.empty (is_collection h.kind) h members) b body = spelled_body members (BlobsAt (suc depth)) h.empty (is_collection h.kind) h l b body refl
         (λ c. each h.kind c ok) refl refl is_body in
         let sp : Spelled (parts_plan levels members) ((head, length starts.head), b) bytes = spelled_bind (measure 0 (head_plan levels)) (after_head members) (head, length starts.head) ((head, length starts.head), b) bytes (
           starts.head,
           body,
           starts.fields,
           measured (head_plan levels) head starts.head sh,
-          spelled_done (body_plan h.empty (IsCollection h.kind) h members) (λ (b : Body). ((head, length starts.head), b)) b ((head, length starts.head), b) body refl sb,
+          spelled_done (body_plan h.empty (is_collection h.kind) h members) (λ (b : Body). ((head, length starts.head), b)) b ((head, length starts.head), b) body refl sb,
         ) in
         spelled_done (measure 0 (parts_plan levels members)) (λ (x : ((HeadValue × ℕ) × Body) × ℕ). geometry_from x.0 x.1) (((head, length starts.head), b), length bytes) (geometry h l ids polygons gs) bytes
         (ap₂ (λ (n m : ℕ). geometry_from ((head, n), b) m) starts.header_length starts.whole_length)
@@ -169,11 +169,11 @@ module _ (limit : ℕ) where
     parts : p ≡ wholes ++ rest
 
   abbrev StopsInMembers : ℕ → ℕ → (ℕ → Plan Members) → Type 0
-  StopsInMembers levels depth members = (k : Kind) → IsCollection k ≡ true → IsAllowedWith levels k
+  StopsInMembers levels depth members = (k : Kind) → is_collection k ≡ true → IsAllowedWith levels k
       → (n : ℕ) (p : List ℕ) (due : Field) → Stops (members n) p due → BegunBlobs n (suc depth) p due
 
   abbrev MembersStop : ℕ → ℕ → (ℕ → Plan Members) → Type 0
-  MembersStop levels depth members = (k : Kind) → IsCollection k ≡ true → IsAllowedWith levels k
+  MembersStop levels depth members = (k : Kind) → is_collection k ≡ true → IsAllowedWith levels k
       → (n : ℕ) (p : List ℕ) (due : Field) → BegunBlobs n (suc depth) p due → Stops (members n) p due
 
   module _ (levels depth : ℕ) (deep : depth + levels ≡ limit) (some : 1 ≤ depth) (members : ℕ → Plan Members) where
@@ -182,7 +182,7 @@ module _ (limit : ℕ) where
         go (bind_stops (measure 0 (head_plan levels)) (after_head members) p due
         (measure_stops 0 (parts_plan levels members) p due (done_stops (measure 0 (parts_plan levels members)) (λ (x : ((HeadValue × ℕ) × Body) × ℕ). geometry_from x.0 x.1) p due st)))
       where
-        in_list : (h : Header) (front rest : List ℕ) → p ≡ front ++ rest → IsHeader h front → IsAllowedWith levels h.kind → h.empty ≡ false → IsCollection h.kind ≡ true
+        in_list : (h : Header) (front rest : List ℕ) → p ≡ front ++ rest → IsHeader h front → IsAllowedWith levels h.kind → h.empty ≡ false → is_collection h.kind ≡ true
             → Stops (list_plan h.ids) rest due ⊎ ((x : ListHead) × Then (Spelled (list_plan h.ids) x) (λ rest. Stops (after_count members x) rest due) rest)
             → IsBegunUnder limit depth p due
         in_list h front rest parts hd ok not_empty c (inl s) =
@@ -196,7 +196,7 @@ module _ (limit : ℕ) where
             (parts ∙ ap (λ (z : List ℕ). front ++ z) (parts' ∙ ap (λ (z : List ℕ). z ++ r) l.fields ∙ append_assoc l.count l.id_list r
             ∙ ap (λ (z : List ℕ). l.count ++ (l.id_list ++ z)) b.parts))
 
-        in_body : (empty collection : Bool) (h : Header) (front rest : List ℕ) → p ≡ front ++ rest → IsHeader h front → IsAllowedWith levels h.kind → h.empty ≡ empty → IsCollection h.kind ≡ collection
+        in_body : (empty collection : Bool) (h : Header) (front rest : List ℕ) → p ≡ front ++ rest → IsHeader h front → IsAllowedWith levels h.kind → h.empty ≡ empty → is_collection h.kind ≡ collection
             → Stops (body_plan empty collection h members) rest due → IsBegunUnder limit depth p due
         in_body true collection h front rest parts hd ok e c s = absurd s
         in_body false true h front rest parts hd ok e c s = in_list h front rest parts hd ok e c (bind_stops (list_plan h.ids) (after_count members) rest due s)
@@ -208,12 +208,12 @@ module _ (limit : ℕ) where
         go (inl s) = header_begun depth p due (head_stops limit levels depth deep some p due (measure_stops 0 (head_plan levels) p due s))
         go (inr (head, (front, rest, parts, sh, later))) =
             let hd = head_spelled levels head.0 front (measure_spelled 0 (head_plan levels) head front sh).0 in
-            in_body (head.0).header.empty (IsCollection (head.0).header.kind) (head.0).header front rest parts hd.header hd.allowed refl refl
-            (done_stops (body_plan (head.0).header.empty (IsCollection (head.0).header.kind) (head.0).header members) (λ (b : Body). (head, b)) rest due later)
+            in_body (head.0).header.empty (is_collection (head.0).header.kind) (head.0).header front rest parts hd.header hd.allowed refl refl
+            (done_stops (body_plan (head.0).header.empty (is_collection (head.0).header.kind) (head.0).header members) (λ (b : Body). (head, b)) rest due later)
 
     -- a header that is whole, and a body that stops
     stops_in_body : (h : Header) (head rest p : List ℕ) (due : Field) → IsHeader h head → IsAllowedUnder limit h.kind depth → h.empty ≡ false → p ≡ head ++ rest
-        → Stops (body_plan false (IsCollection h.kind) h members) rest due → Stops (geometry_with levels members) p due
+        → Stops (body_plan false (is_collection h.kind) h members) rest due → Stops (geometry_with levels members) p due
     stops_in_body h head rest p due hd allowed not_empty parts s =
         let x : HeadValue = record { header = h; before = 2 + length hd.extended_bytes; size = length hd.size_bytes } in
         stops_first (measure 0 (parts_plan levels members)) (λ (x : ((HeadValue × ℕ) × Body) × ℕ). done (geometry_from x.0 x.1)) p due
@@ -223,8 +223,8 @@ module _ (limit : ℕ) where
           rest,
           parts,
           measured (head_plan levels) x head (spelled_head levels x head (record { header = hd; allowed = allowed_with limit levels depth h.kind deep allowed; before = refl; size = refl })),
-          stops_first (body_plan h.empty (IsCollection h.kind) h members) (λ (b : Body). done ((x, length head), b)) rest due
-              (subst (λ (e : Bool). Stops (body_plan e (IsCollection h.kind) h members) rest due) (sym not_empty) s),
+          stops_first (body_plan h.empty (is_collection h.kind) h members) (λ (b : Body). done ((x, length head), b)) rest due
+              (subst (λ (e : Bool). Stops (body_plan e (is_collection h.kind) h members) rest due) (sym not_empty) s),
         )))
 
     stops_with : MembersStop levels depth members → (p : List ℕ) (due : Field) → IsBegunUnder limit depth p due → Stops (geometry_with levels members) p due

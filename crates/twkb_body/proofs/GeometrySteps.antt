@@ -4,14 +4,14 @@ use Rattle.twkb_num.specs.Cursor.{Reading, passed, IsMoved}
 use Rattle.twkb_head.specs.declared.header.Head.{Head}
 use Rattle.twkb_head.specs.declared.refusal.Malformed.{Malformed}
 use Rattle.twkb_head.specs.Header.{Header}
-use Rattle.twkb_head.specs.BegunHeader.{IsCollection}
+use Rattle.twkb_head.specs.BegunHeader.{is_collection}
 use Rattle.twkb_head.specs.Head.{bounds_of, head_of, IsHeadAt}
 use Rattle.twkb_head.specs.HeadPlan.{HeadValue, head_plan}
 use Rattle.twkb_head.specs.Reader.{Answer, Reader, ◌>>=◌, viewed, read, Fails}
 use Rattle.twkb_body.specs.declared.found.Found.{Found}
 use Rattle.twkb_body.specs.declared.shape.Inside.{Inside}
 use Rattle.twkb_body.specs.Geometry.{Members, none, Lengths, points_of, vertex_of}
-use Rattle.twkb_body.specs.Encoding.{IsMulti}
+use Rattle.twkb_body.specs.Encoding.{is_multi}
 use Rattle.twkb_body.specs.Extent.{Reach, reach_of, both}
 use Rattle.twkb_body.specs.BodyPlan.{Body, no_body, geometry_from}
 use Rattle.twkb_body.specs.BodyReader.{spanned, shape_at, body_at, parts_at, members_at, geometry_by, geometry_at}
@@ -36,19 +36,19 @@ module _ (levels : ℕ) (r : Reading) where
   header_fails m new f = record {
     left = f.left;
     is = geometry_is levels r ∙ ap (λ (a : Answer HeadValue). viewed (λ x. geometry_from x.0 x.1) (spanned r (spanned r a >>= λ head a.
-        viewed (λ body. (head, body)) (body_at (head.0).header.empty (IsCollection (head.0).header.kind) (head.0).header (members_under levels) a)))) f.is;
+        viewed (λ body. (head, body)) (body_at (head.0).header.empty (is_collection (head.0).header.kind) (head.0).header (members_under levels) a)))) f.is;
     bytes = f.bytes;
   }
 
   -- behind a header
   module _ (a : Reading) (x : HeadValue) (headed : read (head_plan levels) r ≡ (Ok x, a)) where
     abbrev pub body_behind : Answer Body
-    body_behind = body_at x.header.empty (IsCollection x.header.kind) x.header (members_under levels) a
+    body_behind = body_at x.header.empty (is_collection x.header.kind) x.header (members_under levels) a
 
     behind_header : geometry_at levels r ≡ viewed (λ x. geometry_from x.0 x.1) (spanned r (viewed (λ body. ((x, a.place - r.place), body)) body_behind))
     unfolding parts_at
     behind_header = geometry_is levels r ∙ ap (λ (a : Answer HeadValue). viewed (λ x. geometry_from x.0 x.1) (spanned r (spanned r a >>= λ head a.
-        viewed (λ body. (head, body)) (body_at (head.0).header.empty (IsCollection (head.0).header.kind) (head.0).header (members_under levels) a)))) headed
+        viewed (λ body. (head, body)) (body_at (head.0).header.empty (is_collection (head.0).header.kind) (head.0).header (members_under levels) a)))) headed
 
     pub body_gives : (b : Body) (new : Reading) → body_behind ≡ (Ok b, new) → geometry_at levels r ≡ (Ok (geometry_from ((x, a.place - r.place), b) (new.place - r.place)), new)
     body_gives b new e = behind_header ∙ ap (λ (y : Answer Body). viewed (λ x. geometry_from x.0 x.1) (spanned r (viewed (λ body. ((x, a.place - r.place), body)) y))) e
@@ -62,19 +62,19 @@ module _ (levels : ℕ) (r : Reading) where
 
 -- ---- bodies of each sort
 module _ (h : Header) (members : ℕ → Reader Members) (a : Reading) where
-  pub empty_body : h.empty ≡ true → body_at h.empty (IsCollection h.kind) h members a ≡ (Ok no_body, a)
+  pub empty_body : h.empty ≡ true → body_at h.empty (is_collection h.kind) h members a ≡ (Ok no_body, a)
   unfolding body_at
-  empty_body e = ap (λ (b : Bool). body_at b (IsCollection h.kind) h members a) e
+  empty_body e = ap (λ (b : Bool). body_at b (is_collection h.kind) h members a) e
 
-  pub shape_body : h.empty ≡ false → IsCollection h.kind ≡ false → body_at h.empty (IsCollection h.kind) h members a ≡ shape_at (IsMulti h.kind) h a
+  pub shape_body : h.empty ≡ false → is_collection h.kind ≡ false → body_at h.empty (is_collection h.kind) h members a ≡ shape_at (is_multi h.kind) h a
   unfolding body_at
   shape_body e k = ap₂ (λ (b c : Bool). body_at b c h members a) e k
 
 -- a shape hangs on what the head says alone
 pub shape_of_head : (head : Head) (h : Header) (start size_place box_place stop : ℕ) → head ≡ head_of h start size_place box_place stop → (r : Reading)
-    → shape_at (IsMulti head.kind) (of_head head) r ≡ shape_at (IsMulti h.kind) h r
+    → shape_at (is_multi head.kind) (of_head head) r ≡ shape_at (is_multi h.kind) h r
 unfolding shape_at
-shape_of_head head h start size_place box_place stop e r = ap (λ (x : Head). shape_at (IsMulti x.kind) (of_head x) r) e ∙ same (IsMulti h.kind)
+shape_of_head head h start size_place box_place stop e r = ap (λ (x : Head). shape_at (is_multi x.kind) (of_head x) r) e ∙ same (is_multi h.kind)
   where
     same : (multi : Bool) → shape_at multi (of_head (head_of h start size_place box_place stop)) r ≡ shape_at multi h r
     same false = refl

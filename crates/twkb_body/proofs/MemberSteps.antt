@@ -5,7 +5,7 @@ use Rattle.twkb_num.proofs.CursorLemmas.{rest-passed, IsSound-moved}
 use Rattle.twkb_head.specs.declared.kinds.Kind.{Kind}
 use Rattle.twkb_head.specs.declared.refusal.Malformed.{Malformed}
 use Rattle.twkb_head.specs.Header.{Header, IsHeader}
-use Rattle.twkb_head.specs.BegunHeader.{IsCollection, IsAllowedAt, deepest}
+use Rattle.twkb_head.specs.BegunHeader.{is_collection, IsAllowedAt, deepest}
 use Rattle.twkb_head.specs.Reader.{Answer, ◌>>=◌, viewed, Fails}
 use Rattle.twkb_head.proofs.Loops.{IsLoop, loop_begins, loop_goes_on, loop_fails, loop_ends}
 use Rattle.twkb_body.specs.declared.found.Found.{Found}
@@ -83,17 +83,17 @@ module _ (levels count : ℕ) (from : Reading) where
   members_end i found r end l = loop_ends (λ (s : ℤ) (g : Geometry). s) (λ s. geometry_at levels) count (repeated count (geometry_at levels) from) l.front i (pos 0) r (omega (arith, end)) l.read
 
 -- ---- the body of a collection
-pub collection_below : (k : Kind) (depth : ℕ) → IsAllowedAt k depth → IsCollection k ≡ true → depth + 1 ≤ deepest
+pub collection_below : (k : Kind) (depth : ℕ) → IsAllowedAt k depth → is_collection k ≡ true → depth + 1 ≤ deepest
 collection_below k depth allowed many =
     let room : depth + cond true 1 0 ≤ deepest = subst (λ (b : Bool). depth + cond b 1 0 ≤ deepest) many allowed.1 in
     omega (arith, room)
 
-module _ (levels inner : ℕ) (h : Header) (a : Reading) (under : levels ≡ suc inner) (not_empty : h.empty ≡ false) (many : IsCollection h.kind ≡ true) where
-  body_is : body_at h.empty (IsCollection h.kind) h (members_under levels) a ≡ (list_at h.ids a >>= λ list b. viewed (members_body list) (members_at (geometry_at inner) (list.0).0 b))
+module _ (levels inner : ℕ) (h : Header) (a : Reading) (under : levels ≡ suc inner) (not_empty : h.empty ≡ false) (many : is_collection h.kind ≡ true) where
+  body_is : body_at h.empty (is_collection h.kind) h (members_under levels) a ≡ (list_at h.ids a >>= λ list b. viewed (members_body list) (members_at (geometry_at inner) (list.0).0 b))
   unfolding body_at
   body_is = (λ j. body_at (not_empty j) (many j) h (members_under (under j)) a)
 
-  pub no_list : (m : Malformed) (new : Reading) → Fails (list_at h.ids a) m new → Fails (body_at h.empty (IsCollection h.kind) h (members_under levels) a) m new
+  pub no_list : (m : Malformed) (new : Reading) → Fails (list_at h.ids a) m new → Fails (body_at h.empty (is_collection h.kind) h (members_under levels) a) m new
   no_list m new f = record {
     left = f.left;
     is = body_is ∙ ap (λ (y : Answer ListHead). y >>= λ list b. viewed (members_body list) (members_at (geometry_at inner) (list.0).0 b)) f.is;
@@ -101,15 +101,15 @@ module _ (levels inner : ℕ) (h : Header) (a : Reading) (under : levels ≡ suc
   }
 
   module _ (mid : Reading) (x : ListHead) (listed : list_at h.ids a ≡ (Ok x, mid)) (count : ℕ) (counted : count ≡ (x.0).0) where
-    behind_list : body_at h.empty (IsCollection h.kind) h (members_under levels) a ≡ viewed (members_body x) (viewed members_of (repeated count (geometry_at inner) mid))
+    behind_list : body_at h.empty (is_collection h.kind) h (members_under levels) a ≡ viewed (members_body x) (viewed members_of (repeated count (geometry_at inner) mid))
     behind_list = body_is ∙ ap (λ (y : Answer ListHead). y >>= λ list b. viewed (members_body list) (members_at (geometry_at inner) (list.0).0 b)) listed
         ∙ ap (λ (n : ℕ). viewed (members_body x) (viewed members_of (repeated n (geometry_at inner) mid))) (sym counted)
 
-    pub no_member : (m : Malformed) (new : Reading) → Fails (repeated count (geometry_at inner) mid) m new → Fails (body_at h.empty (IsCollection h.kind) h (members_under levels) a) m new
+    pub no_member : (m : Malformed) (new : Reading) → Fails (repeated count (geometry_at inner) mid) m new → Fails (body_at h.empty (is_collection h.kind) h (members_under levels) a) m new
     no_member m new f = record { left = f.left; is = behind_list ∙ ap (λ (y : Answer (List Geometry)). viewed (members_body x) (viewed members_of y)) f.is; bytes = f.bytes }
 
     pub collection_gives : (gs : List Geometry) (new : Reading) → repeated count (geometry_at inner) mid ≡ (Ok gs, new)
-        → body_at h.empty (IsCollection h.kind) h (members_under levels) a ≡ (Ok (members_body x (members_of gs)), new)
+        → body_at h.empty (is_collection h.kind) h (members_under levels) a ≡ (Ok (members_body x (members_of gs)), new)
     collection_gives gs new e = behind_list ∙ ap (λ (y : Answer (List Geometry)). viewed (members_body x) (viewed members_of y)) e
 
 -- what was found of the members is what was found inside
@@ -137,7 +137,7 @@ long_list_own depth r a h moved is allowed has_ids same (announced, (n, count, b
 )
 
 pub long_list_member : (depth inner : ℕ) (r a mid new : Reading) (h : Header) (x : ListHead) (count i : ℕ) (found : Found) → depth + 1 + inner ≡ deepest → 1 ≤ depth
-    → IsSound a → IsMoved r a → IsHeader h (passed r a) → IsAllowedAt h.kind depth → h.empty ≡ false → IsCollection h.kind ≡ true
+    → IsSound a → IsMoved r a → IsHeader h (passed r a) → IsAllowedAt h.kind depth → h.empty ≡ false → is_collection h.kind ≡ true
     → list_at h.ids a ≡ (Ok x, mid) → count ≡ (x.0).0 → i < count → IsMemberLoop inner count mid i found new → HasLongList (depth + 1) (rest new) → (new.bytes ≡ r.bytes) × HasLongList depth (rest r)
 long_list_member depth inner r a mid new h x count i found sum some sound moved is allowed not_empty many listed counted lt l (p, behind, split, ends) =
     let t = plan_stands (list_plan h.ids) a mid x sound (list_runs h.ids a ∙ listed) in

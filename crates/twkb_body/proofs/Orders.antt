@@ -1,9 +1,9 @@
 -- The parts of a blob stand in order.
 use Rattle.std.proofs.Common.{◌≡◌, ℕ, suc, ◌+◌, ◌≤◌, Bool, true, false, List, ◌++◌, length, ℤ, Option, sym, ap, ◌∙◌, arith, length-append}
 use Rattle.twkb_head.specs.Header.{Header}
-use Rattle.twkb_head.specs.BegunHeader.{IsCollection}
+use Rattle.twkb_head.specs.BegunHeader.{is_collection}
 use Rattle.twkb_body.specs.Geometry.{Geometry, Members, geometry, none, more, Lengths, lengths_of, PolygonValue, member_count}
-use Rattle.twkb_body.specs.Encoding.{IsMulti, IsNumbers, IsBody, StartsWithHeader, BlobUnder, BlobsUnder}
+use Rattle.twkb_body.specs.Encoding.{is_multi, IsNumbers, IsBody, StartsWithHeader, BlobUnder, BlobsUnder}
 use Rattle.twkb_body.specs.Pass.{member_total, HasOrder, HaveOrder}
 
 -- the header, with its size and its box, and the body behind it
@@ -40,7 +40,7 @@ module _ (limit : ℕ) where
       ap length i.fields ∙ omega (arith, length-append i.count (i.id_list ++ i.members), length-append i.id_list i.members) in
       (omega (arith, i.count_length, i.list_length), omega (arith, i.list_length, all, m.0), m.1)
   body_order false false h l ids polygons none depth bytes each s =
-      let n = numbers_order (IsMulti h.kind) h l ids s.1.numbers bytes s.1.spelled in
+      let n = numbers_order (is_multi h.kind) h l ids s.1.numbers bytes s.1.spelled in
       (n.0, omega (arith, n.1), tt)
   body_order false false h l ids polygons (more g gs) depth bytes each s = absurd (omega (arith, s.0))
 
@@ -50,7 +50,7 @@ module _ (limit : ℕ) where
     pub blob_order : (g : Geometry) (bytes : List ℕ) (depth : ℕ) → BlobUnder limit g bytes depth → ((lengths_of g).whole ≡ length bytes) × HasOrder g
     blob_order (geometry h l ids polygons members) bytes depth (body, starts, allowed, is_body) =
         let s = starts_order h l bytes body starts in
-        let b = body_order h.empty (IsCollection h.kind) h l ids polygons members (suc depth) body (λ rest m. blobs_order members rest (suc depth) m) is_body in
+        let b = body_order h.empty (is_collection h.kind) h l ids polygons members (suc depth) body (λ rest m. blobs_order members rest (suc depth) m) is_body in
         (starts.whole_length, (s.0, b.0, omega (arith, s.1, b.1), b.2))
 
     pub blobs_order : (gs : Members) (bytes : List ℕ) (depth : ℕ) → BlobsUnder limit gs bytes depth → (member_total gs ≡ length bytes) × HaveOrder gs

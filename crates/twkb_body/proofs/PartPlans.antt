@@ -6,7 +6,7 @@ use Rattle.twkb_head.specs.declared.kinds.Kind.TheVariants.{Point, LineString, P
 use Rattle.twkb_num.specs.Varint.{Spells, sum_of_groups, zigzag_value}
 use Rattle.twkb_head.specs.Parts.{Then, Sequence, Counted}
 use Rattle.twkb_head.specs.Header.{IsSigned}
-use Rattle.twkb_head.specs.BegunHeader.{IsCollection, Field, coordinate_field}
+use Rattle.twkb_head.specs.BegunHeader.{is_collection, Field, coordinate_field}
 use Rattle.twkb_head.specs.Plan.{number, coordinate, Plan, done, Spelled, Stops, bind, many, number_plan, coordinate_plan}
 use Rattle.twkb_head.proofs.Combinators.{bind_spelled, spelled_bind, bind_stops, stops_first, stops_then, done_spelled, spelled_done, done_stops, FitAll, after_all, many_spelled, spelled_many, many_stops, stops_many}
 use Rattle.twkb_head.proofs.Leaves.{leaf_stops, number_spelled, spelled_number, coordinate_spelled, spelled_coordinate}
@@ -228,7 +228,7 @@ polygon_part axes = record {
 }
 
 -- a part of any kind but a collection
-pub part_of : (k : Kind) (axes : ℕ) → IsCollection k ≡ false
+pub part_of : (k : Kind) (axes : ℕ) → is_collection k ≡ false
     → Members ring_sums (part_plan k axes) (IsPart k axes) FitRings (λ part. flat_map (λ ring. ring) part) (IsBegunPart k axes)
 unfolding IsOnePoint point_plan₁ IsOneLine line_plan₁
 part_of Point axes e = point_part axes

@@ -9,7 +9,7 @@ use Rattle.twkb_body.specs.declared.trail.Trail.{Trail}
 use Rattle.twkb_body.specs.declared.lists.List.{List as ListFound}
 use Rattle.twkb_body.specs.declared.shape.Inside.{Inside}
 use Rattle.twkb_body.specs.Geometry.{PointValue, PolygonValue, points_of, vertex_of}
-use Rattle.twkb_body.specs.Encoding.{IsMulti}
+use Rattle.twkb_body.specs.Encoding.{is_multi}
 use Rattle.twkb_body.specs.Extent.{Reach, reach_of, joined, both}
 use Rattle.twkb_body.specs.BodyPlan.{Body, ListHead, add, zeros, ring_sums, absolute, parts_body, part_body}
 use Rattle.twkb_body.specs.BodyReader.{part_at, list_at, shape_at}
@@ -54,12 +54,12 @@ module _ (h : Header) (old trail : Trail) (start stop : ℕ) (parts : List Polyg
 
 -- a list of parts
 pub shape_of_parts : (h : Header) (axes : ℕ) (r mid new : Reading) (x : ListHead) (list : ListFound) (parts : List PolygonValue) (old trail : Trail) (inside : Inside)
-    → IsMulti h.kind ≡ true → axes ≡ axes_of h → old.last ≡ zeros → ((axis : ℕ) → slice_index_or old.ranges.axes axis None ≡ None) → old.points ≡ 0
+    → is_multi h.kind ≡ true → axes ≡ axes_of h → old.last ≡ zeros → ((axis : ℕ) → slice_index_or old.ranges.axes axis None ≡ None) → old.points ≡ 0
     → list_at h.ids r ≡ (Ok x, mid) → IsListFound r mid x list → many_at list.count ring_sums (part_at h.kind axes) old.last mid ≡ (Ok parts, new)
     → IsWalked axes old trail mid.place new.place (points_of parts)
     → inside.found.vertices ≡ trail.points → inside.found.extent ≡ axes_in_units h.xy h.z h.m (λ axis. slice_index_or trail.ranges.axes axis None)
     → inside.found.refused ≡ None → inside.ids ≡ list.ids
-    → (b : Body) × (shape_at (IsMulti h.kind) h r ≡ (Ok b, new)) × IsInside h b r.place new.place inside
+    → (b : Body) × (shape_at (is_multi h.kind) h r ≡ (Ok b, new)) × IsInside h b r.place new.place inside
 unfolding shape_at
 shape_of_parts h axes r mid new x list parts old trail inside multi axes_are last none zero listed found read walked vertices extent refused ids =
     let w : IsWalked (axes_of h) old trail mid.place new.place (points_of parts) = subst (λ (n : ℕ). IsWalked n old trail mid.place new.place (points_of parts)) axes_are walked in
@@ -82,11 +82,11 @@ shape_of_parts h axes r mid new x list parts old trail inside multi axes_are las
 
 -- a part alone
 pub shape_of_part : (h : Header) (axes : ℕ) (r new : Reading) (part : PolygonValue) (old trail : Trail) (inside : Inside)
-    → IsMulti h.kind ≡ false → axes ≡ axes_of h → old.last ≡ zeros → ((axis : ℕ) → slice_index_or old.ranges.axes axis None ≡ None) → old.points ≡ 0
+    → is_multi h.kind ≡ false → axes ≡ axes_of h → old.last ≡ zeros → ((axis : ℕ) → slice_index_or old.ranges.axes axis None ≡ None) → old.points ≡ 0
     → part_at h.kind axes old.last r ≡ (Ok part, new) → IsWalked axes old trail r.place new.place (flat_map (λ ring. ring) part)
     → inside.found.vertices ≡ trail.points → inside.found.extent ≡ axes_in_units h.xy h.z h.m (λ axis. slice_index_or trail.ranges.axes axis None)
     → inside.found.refused ≡ None → inside.ids ≡ None
-    → (b : Body) × (shape_at (IsMulti h.kind) h r ≡ (Ok b, new)) × IsInside h b r.place new.place inside
+    → (b : Body) × (shape_at (is_multi h.kind) h r ≡ (Ok b, new)) × IsInside h b r.place new.place inside
 unfolding shape_at
 shape_of_part h axes r new part old trail inside multi axes_are last none zero read walked vertices extent refused ids =
     let w : IsWalked (axes_of h) old trail r.place new.place (points_of (part ∷ [])) =

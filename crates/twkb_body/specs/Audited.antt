@@ -3,7 +3,7 @@ use Rattle.std.specs.Prelude.{◌≡◌, ℕ, suc, ◌+◌, ◌≤◌, ◌<◌, 
 use Rattle.twkb_num.specs.Varint.{Spells}
 use Rattle.twkb_head.specs.Parts.{Times, Announced}
 use Rattle.twkb_head.specs.Header.{Header, IsHeader, IsSigned}
-use Rattle.twkb_head.specs.BegunHeader.{IsCollection, IsAllowedAt}
+use Rattle.twkb_head.specs.BegunHeader.{is_collection, IsAllowedAt}
 use Rattle.twkb_body.specs.declared.answers.Audit.{Audit}
 use Rattle.twkb_body.specs.declared.answers.AuditFault.{AuditFault}
 use Rattle.twkb_body.specs.declared.answers.AuditFault.TheVariants.{Malformed as BadField, FalseClaim, Memory}
@@ -19,7 +19,7 @@ pub data EndsInIds (many : ℕ) : ℕ → List ℕ → Type 0 where
       → IsHeader h head → IsAllowedAt h.kind depth → h.ids ≡ true → Spells count n → many ≤ n → Times many IsSigned ids id_list
       → p ≡ head ++ (count ++ id_list) → EndsInIds many depth p
   member_ids : (depth : ℕ) (p : List ℕ) (h : Header) (n : ℕ) (head count id_list wholes rest : List ℕ) (ids : Option (List ℤ)) (gs : Members)
-      → IsHeader h head → IsAllowedAt h.kind depth → h.empty ≡ false → IsCollection h.kind ≡ true
+      → IsHeader h head → IsAllowedAt h.kind depth → h.empty ≡ false → is_collection h.kind ≡ true
       → Spells count n → Announced h.ids (Times n IsSigned) ids id_list → member_count gs < n → Blobs gs wholes (suc depth)
       → EndsInIds many (suc depth) rest → p ≡ head ++ (count ++ (id_list ++ (wholes ++ rest))) → EndsInIds many depth p
 

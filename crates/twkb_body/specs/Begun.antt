@@ -3,9 +3,9 @@ use Rattle.std.specs.Prelude.{◌≡◌, ℕ, suc, ◌<◌, Bool, true, false, L
 use Rattle.twkb_num.specs.Varint.{Spells}
 use Rattle.twkb_head.specs.Parts.{Sequence, Times, Announced}
 use Rattle.twkb_head.specs.Header.{Header, IsHeader, IsSigned, axes_of}
-use Rattle.twkb_head.specs.BegunHeader.{IsCollection, IsAllowedUnder, deepest, Field, number_field, coordinate_field, IsFewer, IsBegunHeader}
+use Rattle.twkb_head.specs.BegunHeader.{is_collection, IsAllowedUnder, deepest, Field, number_field, coordinate_field, IsFewer, IsBegunHeader}
 use Rattle.twkb_body.specs.Geometry.{Geometry, Members, PointValue, member_count}
-use Rattle.twkb_body.specs.Encoding.{Blob, BlobsUnder, IsPoint, IsRing, IsPart, IsMulti, SumsFit}
+use Rattle.twkb_body.specs.Encoding.{Blob, BlobsUnder, IsPoint, IsRing, IsPart, is_multi, SumsFit}
 use Rattle.twkb_head.specs.declared.kinds.Kind.{Kind}
 use Rattle.twkb_head.specs.declared.kinds.Kind.TheVariants.{Point, LineString, Polygon, MultiPoint, MultiLineString, MultiPolygon, GeometryCollection}
 
@@ -51,14 +51,14 @@ IsBegunNumbers true h = IsBegunList h.ids (IsPart h.kind (axes_of h)) (λ part. 
 pub data IsBegunUnder (limit : ℕ) : ℕ → List ℕ → Field → Type 0 where
   header_begun : (depth : ℕ) (p : List ℕ) (due : Field) → IsBegunHeader limit depth p due → IsBegunUnder limit depth p due
   shape_begun : (depth : ℕ) (p : List ℕ) (due : Field) (h : Header) (head rest : List ℕ) (points : List PointValue)
-      → IsHeader h head → IsAllowedUnder limit h.kind depth → h.empty ≡ false → IsCollection h.kind ≡ false
-      → IsBegunNumbers (IsMulti h.kind) h points rest due → SumsFit points → p ≡ head ++ rest → IsBegunUnder limit depth p due
+      → IsHeader h head → IsAllowedUnder limit h.kind depth → h.empty ≡ false → is_collection h.kind ≡ false
+      → IsBegunNumbers (is_multi h.kind) h points rest due → SumsFit points → p ≡ head ++ rest → IsBegunUnder limit depth p due
   members_begun : (depth : ℕ) (p : List ℕ) (due : Field) (h : Header) (head rest : List ℕ)
-      → IsHeader h head → IsAllowedUnder limit h.kind depth → h.empty ≡ false → IsCollection h.kind ≡ true
+      → IsHeader h head → IsAllowedUnder limit h.kind depth → h.empty ≡ false → is_collection h.kind ≡ true
       → IsBegunList {A = ℕ} h.ids (λ n bytes. ⊥) (λ n. []) (λ points bytes field. ⊥) [] rest due → p ≡ head ++ rest → IsBegunUnder limit depth p due
   member_begun : (depth : ℕ) (p : List ℕ) (due : Field) (h : Header) (n : ℕ) (head count id_list wholes rest : List ℕ)
       (ids : Option (List ℤ)) (gs : Members)
-      → IsHeader h head → IsAllowedUnder limit h.kind depth → h.empty ≡ false → IsCollection h.kind ≡ true
+      → IsHeader h head → IsAllowedUnder limit h.kind depth → h.empty ≡ false → is_collection h.kind ≡ true
       → Spells count n → Announced h.ids (Times n IsSigned) ids id_list → member_count gs < n → BlobsUnder limit gs wholes (suc depth)
       → IsBegunUnder limit (suc depth) rest due → p ≡ head ++ (count ++ (id_list ++ (wholes ++ rest))) → IsBegunUnder limit depth p due
 

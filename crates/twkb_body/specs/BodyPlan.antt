@@ -3,11 +3,11 @@ use Rattle.std.specs.Prelude.{ℕ, zero, suc, ◌+◌, ◌-◌, Bool, true, fals
 use Rattle.twkb_head.specs.declared.kinds.Kind.{Kind}
 use Rattle.twkb_head.specs.declared.kinds.Kind.TheVariants.{Point, LineString, Polygon, MultiPoint, MultiLineString, MultiPolygon, GeometryCollection}
 use Rattle.twkb_head.specs.Header.{Header, axes_of}
-use Rattle.twkb_head.specs.BegunHeader.{IsCollection, deepest}
+use Rattle.twkb_head.specs.BegunHeader.{is_collection, deepest}
 use Rattle.twkb_head.specs.Plan.{Fault, Plan, done, bind, run, many, measure, optional, number_plan, signeds_plan, coordinate_plan}
 use Rattle.twkb_head.specs.HeadPlan.{HeadValue, head_plan}
 use Rattle.twkb_body.specs.Geometry.{Geometry, Members, geometry, none, more, PointValue, Ring, PolygonValue}
-use Rattle.twkb_body.specs.Encoding.{IsMulti}
+use Rattle.twkb_body.specs.Encoding.{is_multi}
 
 -- the sums of points, axis by axis, as they are read
 abbrev pub first_of : PointValue → ℤ
@@ -109,7 +109,7 @@ after_count members list = bind (members (list.0).0) (λ gs. done (members_body 
 abbrev pub body_plan : Bool → Bool → Header → (ℕ → Plan Members) → Plan Body
 body_plan true collection h members = done no_body
 body_plan false true h members = bind (list_plan h.ids) (after_count members)
-body_plan false false h members = shape_plan (IsMulti h.kind) h
+body_plan false false h members = shape_plan (is_multi h.kind) h
 
 abbrev pub geometry_from : (HeadValue × ℕ) × Body → ℕ → Geometry
 geometry_from parts whole =
@@ -120,7 +120,7 @@ geometry_from parts whole =
     body.ids body.polygons body.members
 
 abbrev pub after_head : (ℕ → Plan Members) → HeadValue × ℕ → Plan ((HeadValue × ℕ) × Body)
-after_head members head = bind (body_plan (head.0).header.empty (IsCollection (head.0).header.kind) (head.0).header members) (λ body. done (head, body))
+after_head members head = bind (body_plan (head.0).header.empty (is_collection (head.0).header.kind) (head.0).header members) (λ body. done (head, body))
 
 abbrev pub parts_plan : ℕ → (ℕ → Plan Members) → Plan ((HeadValue × ℕ) × Body)
 parts_plan levels members = bind (measure 0 (head_plan levels)) (after_head members)

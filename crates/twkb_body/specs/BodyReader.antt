@@ -4,11 +4,11 @@ use Rattle.twkb_num.specs.Cursor.{Reading}
 use Rattle.twkb_head.specs.declared.kinds.Kind.{Kind}
 use Rattle.twkb_head.specs.declared.kinds.Kind.TheVariants.{Point, LineString, Polygon, MultiPoint, MultiLineString, MultiPolygon, GeometryCollection}
 use Rattle.twkb_head.specs.Header.{Header, axes_of}
-use Rattle.twkb_head.specs.BegunHeader.{IsCollection}
+use Rattle.twkb_head.specs.BegunHeader.{is_collection}
 use Rattle.twkb_head.specs.HeadPlan.{HeadValue, head_plan}
 use Rattle.twkb_head.specs.Reader.{Answer, Reader, ◌>>=◌, viewed, read, number_at, coordinate_at, optional_at, many_at, signeds_at}
 use Rattle.twkb_body.specs.Geometry.{Geometry, Members, none, PointValue, Ring, PolygonValue}
-use Rattle.twkb_body.specs.Encoding.{IsMulti}
+use Rattle.twkb_body.specs.Encoding.{is_multi}
 use Rattle.twkb_body.specs.BodyPlan.{first_of, behind, add, sums, ring_sums, zeros, ListHead, Body, parts_body, members_body, part_body, no_body, geometry_from, members_of}
 
 abbrev pub point_at : ℕ → PointValue → Reader PointValue
@@ -46,13 +46,13 @@ shape_at true h r = list_at h.ids r >>= λ list a. viewed (parts_body list) (man
 unfoldable pub body_at : Bool → Bool → Header → (ℕ → Reader Members) → Reader Body
 body_at true collection h members r = (Ok no_body, r)
 body_at false true h members r = list_at h.ids r >>= λ list a. viewed (members_body list) (members (list.0).0 a)
-body_at false false h members r = shape_at (IsMulti h.kind) h r
+body_at false false h members r = shape_at (is_multi h.kind) h r
 
 -- a header and a body
 unfoldable pub parts_at : ℕ → (ℕ → Reader Members) → Reader ((HeadValue × ℕ) × Body)
 parts_at levels members r =
     spanned r (read (head_plan levels) r) >>= λ head a.
-    viewed (λ body. (head, body)) (body_at (head.0).header.empty (IsCollection (head.0).header.kind) (head.0).header members a)
+    viewed (λ body. (head, body)) (body_at (head.0).header.empty (is_collection (head.0).header.kind) (head.0).header members a)
 
 -- the members of a collection, each read by a reader
 abbrev pub members_at : Reader Geometry → ℕ → Reader Members

@@ -4,7 +4,7 @@ use Rattle.std.specs.Int.{w64}
 use Rattle.twkb_num.specs.Varint.{Spells}
 use Rattle.twkb_head.specs.Parts.{Then, Sequence, Times, Counted, Announced}
 use Rattle.twkb_head.specs.Header.{Header, IsHeader, IsSigned, axes_of}
-use Rattle.twkb_head.specs.BegunHeader.{IsCollection, IsAllowedUnder, deepest}
+use Rattle.twkb_head.specs.BegunHeader.{is_collection, IsAllowedUnder, deepest}
 use Rattle.twkb_body.specs.Geometry.{Geometry, Members, geometry, none, more, Lengths, PointValue, Ring, PolygonValue, points_of, member_count, coordinate}
 use Rattle.twkb_head.specs.declared.kinds.Kind.{Kind}
 use Rattle.twkb_head.specs.declared.kinds.Kind.TheVariants.{Point, LineString, Polygon, MultiPoint, MultiLineString, MultiPolygon, GeometryCollection}
@@ -52,14 +52,14 @@ pub record IsSingle (h : Header) (l : Lengths) (ids : Option (List ℤ)) (parts 
   pub no_list : (l.count ≡ 0) × (l.list ≡ 0)
 
 -- the kinds that have a count of members
-abbrev pub IsMulti : Kind → Bool
-IsMulti Point = false
-IsMulti LineString = false
-IsMulti Polygon = false
-IsMulti MultiPoint = true
-IsMulti MultiLineString = true
-IsMulti MultiPolygon = true
-IsMulti GeometryCollection = true
+abbrev pub is_multi : Kind → Bool
+is_multi Point = false
+is_multi LineString = false
+is_multi Polygon = false
+is_multi MultiPoint = true
+is_multi MultiLineString = true
+is_multi MultiPolygon = true
+is_multi GeometryCollection = true
 
 -- the numbers in the bytes of a body that is no collection's
 abbrev pub IsNumbers : Bool → Header → Lengths → Option (List ℤ) → List PolygonValue → List ℕ → Type 0
@@ -91,7 +91,7 @@ pub record SameForm (a b : List PolygonValue) : Type 0 where
 pub record IsShape (h : Header) (l : Lengths) (ids : Option (List ℤ)) (polygons : List PolygonValue) (bytes : List ℕ) : Type 0 where
   pub numbers : List PolygonValue
   pub same_form : SameForm polygons numbers
-  pub spelled : IsNumbers (IsMulti h.kind) h l ids numbers bytes
+  pub spelled : IsNumbers (is_multi h.kind) h l ids numbers bytes
   pub accumulated : Accumulates (points_of polygons) (points_of numbers)
   pub in_range : SumsFit (points_of numbers)
 
@@ -124,7 +124,7 @@ unfoldable mutual
   pub BlobUnder : ℕ → Geometry → List ℕ → ℕ → Type 0
   BlobUnder limit (geometry h l ids polygons members) bytes depth =
       (body : List ℕ) × StartsWithHeader h l bytes body × IsAllowedUnder limit h.kind depth
-      × IsBody h.empty (IsCollection h.kind) h l ids polygons (member_count members) (λ rest. BlobsUnder limit members rest (suc depth)) body
+      × IsBody h.empty (is_collection h.kind) h l ids polygons (member_count members) (λ rest. BlobsUnder limit members rest (suc depth)) body
 
   -- one geometry after another
   pub BlobsUnder : ℕ → Members → List ℕ → ℕ → Type 0

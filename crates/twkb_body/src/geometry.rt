@@ -1,7 +1,7 @@
 //! Whole geometries, at any depth.
 ghost use Rattle.std.specs.Prelude.{◌≡◌, ◌-◌, ◌≤◌};
 ghost use Rattle.twkb_num.specs.Cursor.{rest};
-ghost use Rattle.twkb_head.specs.BegunHeader.{IsCollection, deepest};
+ghost use Rattle.twkb_head.specs.BegunHeader.{is_collection, deepest};
 ghost use Rattle.twkb_body.specs.Audited.{HasLongList};
 ghost use Rattle.twkb_body.specs.BodyReader.{geometry_at};
 ghost use Rattle.twkb_body.specs.Found.{IsFound};
@@ -51,7 +51,7 @@ pub fn take_geometry<A: Allocator>(
 
 /// Whether the members of a kind have headers of their own.
 fn is_collection(kind: Kind) -> bool
-    ensures { result ≡ IsCollection kind }
+    ensures { result ≡ is_collection kind }
 {
     matches!(kind, Kind::GeometryCollection)
 }

@@ -3,7 +3,7 @@ ghost use Rattle.std.specs.Prelude.{◌≡◌, ◌≤◌, ◌+◌, ℕ, IfSome, 
 ghost use Rattle.twkb_num.specs.Cursor.{rest};
 ghost use Rattle.twkb_num.specs.Units.{IsPrecision};
 ghost use Rattle.twkb_head.specs.Header.{axes_with};
-ghost use Rattle.twkb_body.specs.Encoding.{IsMulti};
+ghost use Rattle.twkb_body.specs.Encoding.{is_multi};
 ghost use Rattle.twkb_body.specs.BodyReader.{shape_at};
 ghost use Rattle.twkb_body.specs.IdLists.{HasManyIdsAfterCount};
 ghost use Rattle.twkb_body.specs.Inside.{of_head, IsInside};
@@ -36,7 +36,7 @@ pub fn take_shape<A: Allocator>(
     requires xy { IsPrecision head.now.xy }
     requires z_high { IfSome head.now.z (λ p. p ≤ 7) }
     requires m_high { IfSome head.now.m (λ p. p ≤ 7) }
-    ensures { ReadsOrStops (shape_at (IsMulti head.now.kind) (of_head head.now) cursor.old) (λ body inside. IsInside (of_head head.now) body cursor.old.place cursor.new.place inside) (HasManyIdsAfterCount head.now.ids (rest cursor.old)) cursor.old result cursor.new }
+    ensures { ReadsOrStops (shape_at (is_multi head.now.kind) (of_head head.now) cursor.old) (λ body inside. IsInside (of_head head.now) body cursor.old.place cursor.new.place inside) (HasManyIdsAfterCount head.now.ids (rest cursor.old)) cursor.old result cursor.new }
 {
     let axes = axes_of(head);
     let mut trail = Trail::new();
@@ -83,7 +83,7 @@ fn axes_of(head: &Head) -> usize
 
 /// Whether the body of a kind begins with a count of its parts.
 fn is_multi(kind: Kind) -> bool
-    ensures { result ≡ IsMulti kind }
+    ensures { result ≡ is_multi kind }
 {
     !matches!(kind, Kind::Point | Kind::LineString | Kind::Polygon)
 }

@@ -2,9 +2,9 @@ use Rattle.std.proofs.Common.{◌≡◌, suc, ◌+◌, ◌-◌, Bool, true, fals
 use Rattle.std.proofs.lemmas.Result.{err_from_is_err_and}
 use Rattle.twkb_num.specs.Cursor.{Reading, rest}
 use Rattle.twkb_head.specs.declared.header.Head.{Head}
-use Rattle.twkb_head.specs.BegunHeader.{IsCollection, deepest}
+use Rattle.twkb_head.specs.BegunHeader.{is_collection, deepest}
 use Rattle.twkb_head.proofs.HeadBack.{head_value, head_fails}
-use Rattle.twkb_body.specs.Encoding.{IsMulti}
+use Rattle.twkb_body.specs.Encoding.{is_multi}
 use Rattle.twkb_body.specs.BodyPlan.{no_body, members_body, members_of}
 use Rattle.twkb_body.specs.BodyReader.{list_at, shape_at, geometry_at}
 use Rattle.twkb_body.specs.IdLists.{HasManyIdsAfterCount}
@@ -46,9 +46,9 @@ returns-in_err-shape g t c =
     let ok = c.in_ok-head.ensures in
     let headed = head_value c.args.depth c.requires.shallowest c.requires.deepest _ _ c.in_ok-head.head c.place-start.ensures.sound ok.ok ok.moved in
     let full : ok.ok.header.empty ≡ false = sym (ap (λ (h : Head). h.empty) ok.ok.fields) ∙ c.if-head.false in
-    let single : IsCollection ok.ok.header.kind ≡ false = sym (ap (λ (h : Head). IsCollection h.kind) ok.ok.fields) ∙ sym c.is_collection-collection.ensures ∙ c.if-not-collection.true in
+    let single : is_collection ok.ok.header.kind ≡ false = sym (ap (λ (h : Head). is_collection h.kind) ok.ok.fields) ∙ sym c.is_collection-collection.ensures ∙ c.if-not-collection.true in
     let body = shape_body ok.ok.header (members_under (deepest - c.args.depth)) c.read_head.new.cursor full single ∙ sym (shape_of_head c.in_ok-head.head ok.ok.header _ _ _ _ ok.ok.fields c.read_head.new.cursor) in
-    rw (p.1, p.2) (stops_outside (shape_at (IsMulti c.in_ok-head.head.kind) (of_head c.in_ok-head.head) c.read_head.new.cursor) (geometry_at (deepest - c.args.depth) c.args.cursor.now)
+    rw (p.1, p.2) (stops_outside (shape_at (is_multi c.in_ok-head.head.kind) (of_head c.in_ok-head.head) c.read_head.new.cursor) (geometry_at (deepest - c.args.depth) c.args.cursor.now)
     (HasManyIdsAfterCount c.in_ok-head.head.ids (rest c.read_head.new.cursor)) (HasLongList c.args.depth (rest c.args.cursor.now)) c.read_head.new.cursor c.args.cursor.now _ c.take_shape.new.cursor
     (λ m f. body_fails (deepest - c.args.depth) c.args.cursor.now _ _ headed m _ (record { left = f.left; is = body ∙ f.is; bytes = f.bytes }))
     (λ bytes many. (bytes ∙ ok.moved.bytes, long_list_own c.args.depth _ _ ok.ok.header ok.moved ok.ok.is ok.ok.allowed c.in_ok-head.head.ids (ap (λ (h : Head). h.ids) ok.ok.fields) many))
@@ -65,7 +65,7 @@ returns-then-not-collection g t c =
     let ok = c.in_ok-head.ensures in
     let headed = head_value c.args.depth c.requires.shallowest c.requires.deepest _ _ c.in_ok-head.head c.place-start.ensures.sound ok.ok ok.moved in
     let full : ok.ok.header.empty ≡ false = sym (ap (λ (h : Head). h.empty) ok.ok.fields) ∙ c.if-head.false in
-    let single : IsCollection ok.ok.header.kind ≡ false = sym (ap (λ (h : Head). IsCollection h.kind) ok.ok.fields) ∙ sym c.is_collection-collection.ensures ∙ c.if-not-collection.true in
+    let single : is_collection ok.ok.header.kind ≡ false = sym (ap (λ (h : Head). is_collection h.kind) ok.ok.fields) ∙ sym c.is_collection-collection.ensures ∙ c.if-not-collection.true in
     let body = shape_body ok.ok.header (members_under (deepest - c.args.depth)) c.read_head.new.cursor full single ∙ sym (shape_of_head c.in_ok-head.head ok.ok.header _ _ _ _ ok.ok.fields c.read_head.new.cursor) in
     let s = c.in_ok-shape.ensures in (
       _,
@@ -80,7 +80,7 @@ returns-in_err-list g t c =
     let ok = c.in_ok-head.ensures in
     let headed = head_value c.args.depth c.requires.shallowest c.requires.deepest _ _ c.in_ok-head.head c.place-start.ensures.sound ok.ok ok.moved in
     let full : ok.ok.header.empty ≡ false = sym (ap (λ (h : Head). h.empty) ok.ok.fields) ∙ c.if-head.false in
-    let many : IsCollection ok.ok.header.kind ≡ true = sym (ap (λ (h : Head). IsCollection h.kind) ok.ok.fields) ∙ sym c.is_collection-collection.ensures ∙ c.if-not-collection.false in
+    let many : is_collection ok.ok.header.kind ≡ true = sym (ap (λ (h : Head). is_collection h.kind) ok.ok.fields) ∙ sym c.is_collection-collection.ensures ∙ c.if-not-collection.false in
     let below = collection_below ok.ok.header.kind c.args.depth ok.ok.allowed many in
     let under : deepest - c.args.depth ≡ suc (deepest - (c.args.depth + 1)) = omega (arith, below) in
     let ids = ap (λ (h : Head). h.ids) ok.ok.fields in
@@ -100,7 +100,7 @@ returns-in_err-member g t c =
     let ok = c.in_ok-head.ensures in
     let headed = head_value c.args.depth c.requires.shallowest c.requires.deepest _ _ c.in_ok-head.head c.place-start.ensures.sound ok.ok ok.moved in
     let full : ok.ok.header.empty ≡ false = sym (ap (λ (h : Head). h.empty) ok.ok.fields) ∙ c.if-head.false in
-    let many : IsCollection ok.ok.header.kind ≡ true = sym (ap (λ (h : Head). IsCollection h.kind) ok.ok.fields) ∙ sym c.is_collection-collection.ensures ∙ c.if-not-collection.false in
+    let many : is_collection ok.ok.header.kind ≡ true = sym (ap (λ (h : Head). is_collection h.kind) ok.ok.fields) ∙ sym c.is_collection-collection.ensures ∙ c.if-not-collection.false in
     let below = collection_below ok.ok.header.kind c.args.depth ok.ok.allowed many in
     let under : deepest - c.args.depth ≡ suc (deepest - (c.args.depth + 1)) = omega (arith, below) in
     let list = c.in_ok-list.ensures in
@@ -126,7 +126,7 @@ returns g t c =
     let ok = c.in_ok-head.ensures in
     let headed = head_value c.args.depth c.requires.shallowest c.requires.deepest _ _ c.in_ok-head.head c.place-start.ensures.sound ok.ok ok.moved in
     let full : ok.ok.header.empty ≡ false = sym (ap (λ (h : Head). h.empty) ok.ok.fields) ∙ c.if-head.false in
-    let many : IsCollection ok.ok.header.kind ≡ true = sym (ap (λ (h : Head). IsCollection h.kind) ok.ok.fields) ∙ sym c.is_collection-collection.ensures ∙ c.if-not-collection.false in
+    let many : is_collection ok.ok.header.kind ≡ true = sym (ap (λ (h : Head). is_collection h.kind) ok.ok.fields) ∙ sym c.is_collection-collection.ensures ∙ c.if-not-collection.false in
     let below = collection_below ok.ok.header.kind c.args.depth ok.ok.allowed many in
     let under : deepest - c.args.depth ≡ suc (deepest - (c.args.depth + 1)) = omega (arith, below) in
     let list = c.in_ok-list.ensures in
