@@ -20,6 +20,8 @@ use twkb_num::Cursor;
 ///
 /// It moves past the header, in one pass, and takes no memory. A refusal leaves the place as it was; the bytes looked at
 /// are counted.
+// It is inlined, since the parts of a `Head` are many: so they stay in registers, and those that aren't used aren't made.
+#[inline(always)]
 pub fn read_head(cursor: &mut Cursor, depth: u8) -> Result<Head, Malformed>
     requires shallowest { 1 ≤ depth }
     requires deepest { depth ≤ deepest }

@@ -1,0 +1,144 @@
+-- The steps of reading a geometry: its header, and what its body gives.
+use Rattle.std.proofs.Common.{◌≡◌, ℕ, zero, suc, ◌+◌, ◌-◌, ◌≤◌, ◌==◌, Bool, true, false, List, length, map, ℤ, Option, Some, None, option_map, Ok, refl, sym, ap, ap₂, subst, ◌∙◌, arith}
+use Rattle.twkb_num.specs.Cursor.{Reading, passed, IsMoved}
+use Rattle.twkb_head.specs.declared.header.Head.{Head}
+use Rattle.twkb_head.specs.declared.refusal.Malformed.{Malformed}
+use Rattle.twkb_head.specs.Header.{Header}
+use Rattle.twkb_head.specs.BegunHeader.{is_collection}
+use Rattle.twkb_head.specs.Head.{bounds_of, head_of, IsHeadAt}
+use Rattle.twkb_head.specs.HeadPlan.{HeadValue, head_plan}
+use Rattle.twkb_head.specs.Reader.{Answer, Reader, ◌>>=◌, viewed, read, Fails}
+use Rattle.twkb_body.specs.declared.found.Found.{Found}
+use Rattle.twkb_body.specs.declared.shape.Inside.{Inside}
+use Rattle.twkb_body.specs.Geometry.{Members, none, Lengths, points_of, vertex_of}
+use Rattle.twkb_body.specs.Encoding.{is_multi}
+use Rattle.twkb_body.specs.Extent.{Reach, reach_of, both}
+use Rattle.twkb_body.specs.BodyPlan.{Body, no_body, geometry_from}
+use Rattle.twkb_body.specs.BodyReader.{spanned, shape_at, body_at, parts_at, members_at, geometry_by, geometry_at}
+use Rattle.twkb_body.specs.Pass.{Summary, Refused, MemberSums, Sums, first, nothing, over, false_at, is_within, size_refused, box_refused, ids_refused}
+use Rattle.twkb_body.specs.Found.{named, summary, size_judged, box_judged, IsFound}
+use Rattle.twkb_body.specs.Inside.{of_head, IsInside}
+use Rattle.twkb_body.proofs.Passes.{over_sums, none_sums}
+
+-- the members of a collection with so many levels below it
+abbrev pub members_under : ℕ → ℕ → Reader Members
+members_under zero = λ n r. (Ok none, r)
+members_under (suc levels) = members_at (geometry_at levels)
+
+geometry_is : (levels : ℕ) (r : Reading) → geometry_at levels r ≡ geometry_by levels (members_under levels) r
+unfolding geometry_at
+geometry_is zero r = refl
+geometry_is (suc levels) r = refl
+
+module _ (levels : ℕ) (r : Reading) where
+  pub header_fails : (m : Malformed) (new : Reading) → Fails (read (head_plan levels) r) m new → Fails (geometry_at levels r) m new
+  unfolding parts_at
+  header_fails m new f = record {
+    left = f.left;
+    is = geometry_is levels r ∙ ap (λ (a : Answer HeadValue). viewed (λ x. geometry_from x.0 x.1) (spanned r (spanned r a >>= λ head a.
+        viewed (λ body. (head, body)) (body_at (head.0).header.empty (is_collection (head.0).header.kind) (head.0).header (members_under levels) a)))) f.is;
+    bytes = f.bytes;
+  }
+
+  -- behind a header
+  module _ (a : Reading) (x : HeadValue) (headed : read (head_plan levels) r ≡ (Ok x, a)) where
+    abbrev pub body_behind : Answer Body
+    body_behind = body_at x.header.empty (is_collection x.header.kind) x.header (members_under levels) a
+
+    behind_header : geometry_at levels r ≡ viewed (λ x. geometry_from x.0 x.1) (spanned r (viewed (λ body. ((x, a.place - r.place), body)) body_behind))
+    unfolding parts_at
+    behind_header = geometry_is levels r ∙ ap (λ (a : Answer HeadValue). viewed (λ x. geometry_from x.0 x.1) (spanned r (spanned r a >>= λ head a.
+        viewed (λ body. (head, body)) (body_at (head.0).header.empty (is_collection (head.0).header.kind) (head.0).header (members_under levels) a)))) headed
+
+    pub body_gives : (b : Body) (new : Reading) → body_behind ≡ (Ok b, new) → geometry_at levels r ≡ (Ok (geometry_from ((x, a.place - r.place), b) (new.place - r.place)), new)
+    body_gives b new e = behind_header ∙ ap (λ (y : Answer Body). viewed (λ x. geometry_from x.0 x.1) (spanned r (viewed (λ body. ((x, a.place - r.place), body)) y))) e
+
+    pub body_fails : (m : Malformed) (new : Reading) → Fails body_behind m new → Fails (geometry_at levels r) m new
+    body_fails m new f = record {
+      left = f.left;
+      is = behind_header ∙ ap (λ (y : Answer Body). viewed (λ x. geometry_from x.0 x.1) (spanned r (viewed (λ body. ((x, a.place - r.place), body)) y))) f.is;
+      bytes = f.bytes;
+    }
+
+-- ---- bodies of each sort
+module _ (h : Header) (members : ℕ → Reader Members) (a : Reading) where
+  pub empty_body : h.empty ≡ true → body_at h.empty (is_collection h.kind) h members a ≡ (Ok no_body, a)
+  unfolding body_at
+  empty_body e = ap (λ (b : Bool). body_at b (is_collection h.kind) h members a) e
+
+  pub shape_body : h.empty ≡ false → is_collection h.kind ≡ false → body_at h.empty (is_collection h.kind) h members a ≡ shape_at (is_multi h.kind) h a
+  unfolding body_at
+  shape_body e k = ap₂ (λ (b c : Bool). body_at b c h members a) e k
+
+-- a shape hangs on what the head says alone
+pub shape_of_head : (head : Head) (h : Header) (start size_place box_place stop : ℕ) → head ≡ head_of h start size_place box_place stop → (r : Reading)
+    → shape_at (is_multi head.kind) (of_head head) r ≡ shape_at (is_multi h.kind) h r
+unfolding shape_at
+shape_of_head head h start size_place box_place stop e r = ap (λ (x : Head). shape_at (is_multi x.kind) (of_head x) r) e ∙ same (is_multi h.kind)
+  where
+    same : (multi : Bool) → shape_at multi (of_head (head_of h start size_place box_place stop)) r ≡ shape_at multi h r
+    same false = refl
+    same true = refl
+
+-- nothing is found in an empty body
+pub nothing_inside : (h : Header) (place : ℕ) (inside : Inside) → summary inside.found ≡ nothing → inside.ids ≡ None → IsInside h no_body place place inside
+nothing_inside h place inside e n = record {
+  below = nothing;
+  members = none_sums false (place + 0);
+  vertices = ap (λ (s : Summary). s.count) e;
+  extent = ap (λ (s : Summary). s.reach) e;
+  refused = ap (λ (s : Summary). s.refused) e;
+  ids = ap named n;
+  few = let v : inside.found.vertices ≡ 0 = ap (λ (s : Summary). s.count) e in omega (arith, v);
+}
+
+first-none : (x : Refused) → first x None ≡ x
+first-none None = refl
+first-none (Some at) = refl
+
+-- ---- the geometry, judged
+module _ (head : Head) (depth : ℕ) (r a new : Reading) (at : IsHeadAt head depth r.place (passed r a)) (moved : IsMoved r a) (ahead : a.place ≤ new.place) where
+  size_same : (l : Lengths) → l.before ≡ 2 + length at.is.extended_bytes → l.size ≡ length at.is.size_bytes → l.whole ≡ new.place - r.place
+      → size_judged head.size new.place ≡ size_refused r.place l at.header.size
+  size_same l before size whole = ap (λ (h : Head). size_judged h.size new.place) at.fields ∙ go at.header.size
+    where
+      go : (o : Option ℕ) → size_judged (option_map (λ n. record { value = n; offset = r.place + 2 + length at.is.extended_bytes; after = r.place + 2 + length at.is.extended_bytes + length at.is.size_bytes }) o) new.place
+          ≡ size_refused r.place l o
+      go None = refl
+      go (Some n) =
+          let long : new.place - (r.place + 2 + length at.is.extended_bytes + length at.is.size_bytes) ≡ l.whole - (l.before + l.size) = omega (arith, before, size, whole) in
+          let place : r.place + 2 + length at.is.extended_bytes ≡ r.place + l.before = omega (arith, before) in
+          ap₂ (λ (k p : ℕ). false_at (n == k) p 6) long place
+
+  box_same : (l : Lengths) (reach reach' : Reach) → l.before ≡ 2 + length at.is.extended_bytes → l.size ≡ length at.is.size_bytes → reach ≡ reach'
+      → box_judged head.bounds reach ≡ box_refused false (r.place + l.before + l.size) at.header reach' at.header.box
+  box_same l reach reach' before size e = ap (λ (h : Head). box_judged h.bounds reach) at.fields ∙ go at.header.box
+    where
+      go : (o : Option (List (ℤ × ℤ))) → box_judged (option_map (λ ranges. record { bounds = bounds_of at.header.xy at.header.z at.header.m ranges; offset = r.place + 2 + length at.is.extended_bytes + length at.is.size_bytes }) o) reach
+          ≡ box_refused false (r.place + l.before + l.size) at.header reach' o
+      go None = refl
+      go (Some ranges) =
+          let place : r.place + 2 + length at.is.extended_bytes + length at.is.size_bytes ≡ r.place + l.before + l.size = omega (arith, before, size) in
+          ap₂ (λ (x : Reach) (p : ℕ). false_at (is_within x (bounds_of at.header.xy at.header.z at.header.m ranges)) p 7) e place ∙ sym (first-none _)
+
+  pub geometry_found : (b : Body) (inside : Inside) (judged : Found) → IsInside (of_head head) b a.place new.place inside
+      → judged.vertices ≡ inside.found.vertices → judged.extent ≡ inside.found.extent
+      → named judged.refused ≡ first (size_judged head.size new.place) (first (box_judged head.bounds inside.found.extent) (first (named inside.ids) (named inside.found.refused)))
+      → IsFound (geometry_from ((record { header = at.header; before = 2 + length at.is.extended_bytes; size = length at.is.size_bytes }, a.place - r.place), b) (new.place - r.place)) r.place new.place judged
+  geometry_found b inside judged i vertices extent refused =
+      let l : Lengths = record { before = 2 + length at.is.extended_bytes; size = length at.is.size_bytes; header = a.place - r.place; count = b.count; list = b.list; whole = new.place - r.place } in
+      let own = reach_of (map (vertex_of at.header) (points_of b.polygons)) in
+      let body : a.place ≡ r.place + l.header = omega (arith, moved.ahead) in
+      let below : MemberSums false b.members (r.place + l.header + l.list) i.below = subst (λ (p : ℕ). MemberSums false b.members (p + b.list) i.below) body i.members in
+      let seen : judged.extent ≡ both own i.below.reach =
+      extent ∙ i.extent ∙ ap (λ (h : Head). both (reach_of (map (vertex_of (of_head h)) (points_of b.polygons))) i.below.reach) at.fields in
+      let named_first : named judged.refused ≡ (over false at.header l b.ids r.place (length (points_of b.polygons)) own i.below).refused =
+      refused ∙ (λ j. first (size_same l refl refl refl j) (first (box_same l inside.found.extent (both own i.below.reach) refl refl (sym extent ∙ seen) j)
+      (first ((i.ids ∙ ap (λ (p : ℕ). ids_refused (p + b.count) b.ids) body) j) (i.refused j)))) in
+      let all : summary judged ≡ over false at.header l b.ids r.place (length (points_of b.polygons)) own i.below =
+      (λ j. record { count = (vertices ∙ i.vertices) j; reach = seen j; refused = named_first j }) in
+      record {
+        sums = subst (Sums false (geometry_from ((record { header = at.header; before = 2 + length at.is.extended_bytes; size = length at.is.size_bytes }, a.place - r.place), b) (new.place - r.place)) r.place) (sym all) (over_sums false at.header l b.ids b.polygons b.members r.place i.below below);
+        stop_is = omega (arith, moved.ahead, ahead);
+        few = omega (arith, vertices, i.few, moved.ahead);
+      }

@@ -1,0 +1,86 @@
+-- Ids that are read one after another.
+use Rattle.std.proofs.Common.{◌≡◌, ℕ, ◌+◌, ◌<◌, ◌≤◌, List, [], ◌∷◌, ◌++◌, length, take, drop, ℤ, pos, Ok, Err, refl, sym, ap, subst, ◌∙◌, append_assoc, arith, length-append}
+use Rattle.std.proofs.lemmas.List.{take-append-drop, length-take}
+use Rattle.smallvec.specs.SmallVec.{SmallVec}
+use Rattle.twkb_num.specs.Cursor.{Reading, rest, IsSound}
+use Rattle.twkb_head.specs.declared.refusal.Malformed.{Malformed}
+use Rattle.twkb_head.specs.Parts.{Then, Sequence, Times}
+use Rattle.twkb_head.specs.Header.{IsSigned}
+use Rattle.twkb_head.specs.Plan.{signeds_plan}
+use Rattle.twkb_head.specs.Reader.{signed_at, signeds_at, Fails}
+use Rattle.twkb_head.proofs.Plans.{run_takes}
+use Rattle.twkb_head.proofs.Leaves.{signeds_spelled}
+use Rattle.twkb_head.proofs.Readings.{read_ok}
+use Rattle.twkb_head.proofs.Loops.{IsLoop, loop_begins, loop_goes_on, loop_fails, loop_ends}
+use Rattle.twkb_body.specs.IdLists.{HasManyIds}
+use Rattle.twkb_body.proofs.BodyRuns.{signeds_runs}
+use Rattle.twkb_body.proofs.Repeats.{many_more}
+
+-- the first parts, and the others
+sequence_split : {A : Type 0} (P : A → List ℕ → Type 0) (xs ys : List A) (bytes : List ℕ) → Sequence P (xs ++ ys) bytes → Then (Sequence P xs) (Sequence P ys) bytes
+sequence_split P [] ys bytes s = ([], bytes, refl, refl, s)
+sequence_split P (x ∷ xs) ys bytes (front, rest, parts, p, s) =
+    let t = sequence_split P xs ys rest s in
+    (front ++ t.0, t.1, parts ∙ ap (λ (z : List ℕ). front ++ z) t.2 ∙ sym (append_assoc front t.0 t.1), (front, t.0, refl, p, t.3), t.4)
+
+-- what was read stands there
+signeds_stand : (n : ℕ) (r new : Reading) (ids : List ℤ) → IsSound r → signeds_at n r ≡ (Ok ids, new)
+    → (front : List ℕ) × (rest r ≡ front ++ rest new) × Times n IsSigned ids front × (new.bytes ≡ r.bytes)
+signeds_stand n r new ids sound e =
+    let ok = read_ok (signeds_plan n) r new ids sound (signeds_runs n r ∙ e) in
+    let t = run_takes (signeds_plan n) (rest r) (ids, rest new) ok.0 in
+    (t.0, t.1, signeds_spelled n ids t.0 t.2, ok.1.bytes)
+
+module _ (count : ℕ) (from : Reading) where
+  -- so many ids were read
+  pub record IsIdLoop (i : ℕ) (ids : SmallVec ℤ) (r : Reading) : Type 0 where
+    pub read : IsLoop (λ s z. s) (λ s. signed_at) count (signeds_at count from) ids.items i (pos 0) r
+    pub so_far : signeds_at i from ≡ (Ok ids.items, r)
+    pub number : length ids.items ≡ i
+    pub room : 16 ≤ ids.capacity
+
+  pub ids_begin : (ids : SmallVec ℤ) → ids.items ≡ [] → ids.capacity ≡ 16 → IsIdLoop 0 ids from
+  ids_begin ids none room = record {
+    read = subst (λ (xs : List ℤ). IsLoop (λ s z. s) (λ s. signed_at) count (signeds_at count from) xs 0 (pos 0) from) (sym none)
+        (loop_begins (λ s z. s) (λ s. signed_at) count (signeds_at count from) (pos 0) from refl);
+    so_far = ap (λ (xs : List ℤ). (Ok xs, from)) (sym none);
+    number = ap length none;
+    room = omega (arith, room);
+  }
+
+  pub ids_go_on : (i : ℕ) (ids next : SmallVec ℤ) (r new : Reading) (id : ℤ) → i < count → signed_at r ≡ (Ok id, new) → next.items ≡ ids.items ++ id ∷ [] → ids.capacity ≤ next.capacity
+      → IsIdLoop i ids r → IsIdLoop (i + 1) next new
+  ids_go_on i ids next r new id lt e items room l = record {
+    read = subst (λ (xs : List ℤ). IsLoop (λ s z. s) (λ s. signed_at) count (signeds_at count from) xs (i + 1) (pos 0) new) (sym items)
+        (loop_goes_on (λ s z. s) (λ s. signed_at) count (signeds_at count from) ids.items i (pos 0) r new id lt e l.read);
+    so_far = many_more signed_at i from r new ids.items id l.so_far e ∙ ap (λ (xs : List ℤ). (Ok xs, new)) (sym items);
+    number = ap length items ∙ length-append ids.items (id ∷ []) ∙ ap (λ (k : ℕ). k + 1) l.number;
+    room = omega (arith, l.room, room);
+  }
+
+  pub ids_fail : (i : ℕ) (ids : SmallVec ℤ) (r new : Reading) (m : Malformed) → i < count → signed_at r ≡ (Err m, new) → IsIdLoop i ids r → Fails (signeds_at count from) m new
+  ids_fail i ids r new m lt e l =
+      loop_fails (λ s z. s) (λ s. signed_at) count (signeds_at count from) ids.items i (pos 0) r new m lt (record { left = new; is = e; bytes = refl }) l.read
+
+  pub ids_end : (i : ℕ) (ids : SmallVec ℤ) (r : Reading) → i ≡ count → IsIdLoop i ids r → signeds_at count from ≡ (Ok ids.items, r)
+  ids_end i ids r end l = loop_ends (λ s z. s) (λ s. signed_at) count (signeds_at count from) ids.items i (pos 0) r (omega (arith, end)) l.read
+
+  -- memory is wanted where there are sixteen ids, and one more
+  pub ids_many : (i : ℕ) (ids : SmallVec ℤ) (r new : Reading) (id : ℤ) → IsSound from → i < count → signed_at r ≡ (Ok id, new) → 16 ≤ length ids.items → IsIdLoop i ids r
+      → (new.bytes ≡ from.bytes) × HasManyIds count (rest from)
+  ids_many i ids r new id sound lt e full l =
+      let all = ids.items ++ id ∷ [] in
+      let t = signeds_stand (i + 1) from new all sound (many_more signed_at i from r new ids.items id l.so_far e) in
+      let s = sequence_split IsSigned (take 17 all) (drop 17 all) t.0 (subst (λ (xs : List ℤ). Sequence IsSigned xs t.0) (sym (take-append-drop 17 all)) t.2.1) in (
+        t.3,
+        (
+          omega (arith, full, l.number, lt),
+          (
+            take 17 all,
+            s.0,
+            s.1 ++ rest new,
+            t.1 ∙ ap (λ (z : List ℕ). z ++ rest new) s.2 ∙ append_assoc s.0 s.1 (rest new),
+            (omega (arith, length-take 17 all, length-append ids.items (id ∷ []), full), s.3),
+          ),
+        ),
+      )

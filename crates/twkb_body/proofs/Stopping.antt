@@ -1,0 +1,31 @@
+-- Reading that stopped inside stops outside.
+use Rattle.std.proofs.Common.{◌≡◌, List, ◌++◌, ℕ, Ok}
+use Rattle.twkb_num.specs.Cursor.{Reading, rest, IsMoved, IsSound}
+use Rattle.twkb_num.specs.Varint.{Spells}
+use Rattle.twkb_head.specs.declared.refusal.Malformed.{Malformed}
+use Rattle.twkb_head.specs.Plan.{Plan, Spelled, number_plan}
+use Rattle.twkb_head.specs.Reader.{Answer, read, number_at, Fails}
+use Rattle.twkb_head.proofs.Plans.{run_takes}
+use Rattle.twkb_head.proofs.Leaves.{number_spelled}
+use Rattle.twkb_head.proofs.Readings.{read_ok}
+use Rattle.twkb_body.specs.declared.stopped.Stopped.{Stopped}
+use Rattle.twkb_body.specs.declared.stopped.Stopped.TheVariants.{Malformed as BadField, Memory}
+use Rattle.twkb_body.specs.Stops.{HasStopped}
+
+pub stops_outside : {A B : Type 0} (inner : Answer A) (outer : Answer B) (W V : Type 0) (mid old : Reading) (e : Stopped) (new : Reading)
+    → ((m : Malformed) → Fails inner m new → Fails outer m new) → (new.bytes ≡ mid.bytes → W → (new.bytes ≡ old.bytes) × V)
+    → HasStopped inner W mid e new → HasStopped outer V old e new
+stops_outside inner outer W V mid old (BadField m) new fails wants s = fails m s
+stops_outside inner outer W V mid old Memory new fails wants s = wants s.0 s.1
+
+-- what a plan read stands at the front
+pub plan_stands : {A : Type 0} (p : Plan A) (r new : Reading) (x : A) → IsSound r → read p r ≡ (Ok x, new)
+    → (front : List ℕ) × (rest r ≡ front ++ rest new) × Spelled p x front × IsMoved r new
+plan_stands p r new x sound e =
+    let ok = read_ok p r new x sound e in
+    let t = run_takes p (rest r) (x, rest new) ok.0 in
+    (t.0, t.1, t.2, ok.1)
+
+pub number_stands : (r new : Reading) (n : ℕ) → IsSound r → number_at r ≡ (Ok n, new) → (front : List ℕ) × (rest r ≡ front ++ rest new) × Spells front n × IsMoved r new
+unfolding number_at
+number_stands r new n sound e = let t = plan_stands number_plan r new n sound e in (t.0, t.1, number_spelled n t.0 t.2, t.3)

@@ -1,0 +1,5 @@
+use Rattle.twkb_body.proofs.IdLoops.{IsIdLoop}
+use Rattle.twkb_body.proofs.lists.take_ids.Given as goal
+
+abbrev pub invariant-loop : goal.invariant-loop
+invariant-loop g l = IsIdLoop l.count l.fn.cursor l.counter l.ids l.cursor

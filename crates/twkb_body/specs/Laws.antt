@@ -1,0 +1,32 @@
+-- The laws of blobs, begun and whole.
+use Rattle.std.specs.Prelude.{◌≡◌, ◌≢◌, ◌≤◌, ℕ, List, [], ◌++◌, AllPairs}
+use Rattle.twkb_head.specs.BegunHeader.{Field, IsField}
+use Rattle.twkb_body.specs.Geometry.{Geometry}
+use Rattle.twkb_body.specs.Encoding.{BlobUnder, Blob}
+use Rattle.twkb_body.specs.Claims.{offset_of, claims}
+use Rattle.twkb_body.specs.Begun.{IsBegun, IsViable}
+
+-- at most one kind of field is due after given bytes
+abbrev pub OneDue : Type 0
+OneDue = (p : List ℕ) (a b : Field) → IsBegun 1 p a → IsBegun 1 p b → a ≡ b
+
+-- none is due after a whole blob
+abbrev pub NoneDue : Type 0
+NoneDue = (p : List ℕ) (g : Geometry) (due : Field) → Blob g p 1 → IsBegun 1 p due → ⊥
+
+-- What is viable goes on, behind a begun prefix, by one field of the kind that is due, and is viable there.
+abbrev pub GoesOn : Type 0
+GoesOn = (p rest : List ℕ) (due : Field) → IsBegun 1 p due → IsViable (p ++ rest) → rest ≢ []
+    → (front : List ℕ) × (behind : List ℕ) × (rest ≡ front ++ behind) × IsField due front × IsViable (p ++ front)
+
+-- of given bytes at most one front is a blob, of one tree
+abbrev pub OneBlob : Type 0
+OneBlob = (g h : Geometry) (a b x y : List ℕ) → Blob g a 1 → Blob h b 1 → a ++ x ≡ b ++ y → (g ≡ h) × (a ≡ b) × (x ≡ y)
+
+-- where the deepest may stand deeper, a blob stays one
+abbrev pub StaysBlob : Type 0
+StaysBlob = (low high : ℕ) (g : Geometry) (bytes : List ℕ) (depth : ℕ) → low ≤ high → BlobUnder low g bytes depth → BlobUnder high g bytes depth
+
+-- the claims of a blob stand by rising offset
+abbrev pub RisingClaims : Type 0
+RisingClaims = (g : Geometry) (bytes : List ℕ) (start : ℕ) → Blob g bytes 1 → AllPairs (λ c d. offset_of c ≤ offset_of d) (claims g start)

@@ -1,0 +1,17 @@
+pub mod Geometry
+pub mod Encoding
+pub mod Extent
+pub mod Claims
+pub mod Begun
+pub mod Malformation
+pub mod Laws
+pub mod BodyPlan
+pub mod Pass
+pub mod Ranges
+pub mod Walk
+pub mod BodyReader
+pub mod Found
+pub mod Audited
+pub mod Stops
+pub mod IdLists
+pub mod Inside

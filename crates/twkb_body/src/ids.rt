@@ -1,0 +1,34 @@
+//! Whether the ids of a list are distinct.
+ghost use Rattle.std.specs.Prelude.{◌≡◌, ◌≢◌, ◌↔◌, ◌+◌, ◌<◌, ℕ, length, slice_index_or, IsTrue, AllPairs};
+ghost use Rattle.std.specs.List.Sorted.{IsPermutation, IsSorted};
+ghost use Rattle.std.specs.Ordering.{int_cmp};
+
+use smallvec::SmallVec;
+use std::alloc::Allocator;
+
+/// Whether no two ids are equal. It puts them in order, and takes no memory.
+pub fn are_distinct<A: Allocator>(ids: &mut SmallVec<i64, 16, A>) -> bool
+    ensures { IsTrue result ↔ AllPairs (λ a b. a ≢ b) ids.old.items }
+{
+    slice_distinct(ids.as_mut_slice())
+}
+
+fn slice_distinct(ids: &mut [i64]) -> bool
+    ensures { IsTrue result ↔ AllPairs (λ a b. a ≢ b) ids.old }
+{
+    ids.sort_unstable();
+    neighbors_differ(ids)
+}
+
+/// Whether no two ids of a sorted list are equal.
+fn neighbors_differ(ids: &[i64]) -> bool
+    requires { IsSorted int_cmp ids.now }
+    ensures { IsTrue result ↔ AllPairs (λ a b. a ≢ b) ids.now }
+{
+    for i in 1..ids.len() {
+        if ids[i - 1] == ids[i] {
+            return false;
+        }
+    }
+    true
+}

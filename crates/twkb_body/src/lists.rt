@@ -1,0 +1,59 @@
+//! The count of a list, and its ids.
+ghost use Rattle.std.specs.Prelude.{◌≡◌, ◌↔◌, ◌≢◌, ◌+◌, ◌≤◌, ℕ, IsTrue, AllPairs};
+ghost use Rattle.twkb_num.specs.Cursor.{rest};
+ghost use Rattle.twkb_head.specs.Reader.{signeds_at};
+ghost use Rattle.twkb_body.specs.Stops.{ReadsOrStops};
+ghost use Rattle.twkb_body.specs.BodyReader.{list_at};
+ghost use Rattle.twkb_body.specs.IdLists.{HasManyIds, HasManyIdsAfterCount, IsListFound};
+
+use crate::answers::Claim;
+use crate::fields::{take_number, take_signed};
+use crate::found::{FalseClaim, claimed};
+use crate::ids::are_distinct;
+use crate::stopped::Stopped;
+use smallvec::SmallVec;
+use std::alloc::Allocator;
+use twkb_num::Cursor;
+
+/// A count, and, where ids are announced, the ids, if they are not distinct.
+#[derive(Clone, Copy, Debug)]
+pub struct List {
+    pub count: u64,
+    pub ids: Option<FalseClaim>,
+}
+
+/// The count of a list and its ids, where they are announced.
+#[tactic(auto, unfolding(crate::specs::BodyReader::list_at))]
+pub fn take_list<A: Allocator>(
+    alloc: &A,
+    cursor: &mut Cursor,
+    has_ids: bool,
+) -> Result<List, Stopped>
+    ensures { ReadsOrStops (list_at has_ids cursor.old) (λ head list. IsListFound cursor.old cursor.new head list) (HasManyIdsAfterCount has_ids (rest cursor.old)) cursor.old result cursor.new }
+{
+    let _start = cursor.place();
+    let count = take_number(cursor)?;
+    if has_ids {
+        let offset = cursor.place();
+        let distinct = take_ids(alloc, cursor, count)?;
+        Ok(List {
+            count,
+            ids: claimed(distinct, offset, Claim::Ids),
+        })
+    } else {
+        Ok(List { count, ids: None })
+    }
+}
+
+/// The ids of a list: whether they are distinct. They are freed when they are judged.
+fn take_ids<A: Allocator>(alloc: &A, cursor: &mut Cursor, count: u64) -> Result<bool, Stopped>
+    ensures { ReadsOrStops (signeds_at count cursor.old) (λ ids distinct. IsTrue distinct ↔ AllPairs (λ a b. a ≢ b) ids) (HasManyIds count (rest cursor.old)) cursor.old result cursor.new }
+{
+    let _start = cursor.place();
+    let mut ids: SmallVec<i64, 16, &A> = SmallVec::new(alloc);
+    for _ in 0..count {
+        let id = take_signed(cursor)?;
+        ids.push(id)?;
+    }
+    Ok(are_distinct(&mut ids))
+}
