@@ -1,4 +1,3 @@
-pub mod LayerLemmas
-pub mod PointLemmas
+pub mod OutputLemmas
 pub mod StreamLemmas
 pub mod WordLemmas

@@ -1,6 +1,6 @@
+pub mod Judgement
 pub mod Memory
 pub mod Output
-pub mod Points
 pub mod Ran
 pub mod Status
 pub mod Streams

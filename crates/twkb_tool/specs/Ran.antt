@@ -3,7 +3,7 @@ use Rattle.std.specs.Prelude.{◌≡◌, ℕ, ◌+◌, ◌≤◌, List, [], leng
 use Rattle.twkb_tool.specs.Streams.{SourceState, SinkState, Gives, Takes}
 use Rattle.twkb_tool.specs.Output.{IsOutput}
 use Rattle.twkb_tool.specs.declared.request.Request.{Request}
-use Rattle.twkb_tool.specs.declared.run.Verdict.{Verdict}
+use Rattle.twkb_tool.specs.declared.judge.Verdict.{Verdict}
 use Rattle.twkb_tool.specs.declared.run.RunFault.{RunFault}
 use Rattle.twkb_tool.specs.declared.run.RunFault.TheVariants.{Read, TooLarge, Memory, Write}
 

@@ -1,7 +1,7 @@
 -- What the program ends with.
 use Rattle.std.specs.Prelude.{ℕ, Result, Ok, Err}
-use Rattle.twkb_tool.specs.declared.run.Verdict.{Verdict}
-use Rattle.twkb_tool.specs.declared.run.Verdict.TheVariants.{Yes, No}
+use Rattle.twkb_tool.specs.declared.judge.Verdict.{Verdict}
+use Rattle.twkb_tool.specs.declared.judge.Verdict.TheVariants.{Yes, No}
 use Rattle.twkb_tool.specs.declared.run.RunFault.{RunFault}
 use Rattle.twkb_tool.specs.declared.words.Usage.{Usage}
 use Rattle.twkb_tool.specs.declared.words.Usage.TheVariants.{Words, Memory}

@@ -6,7 +6,7 @@
 //! error and a status (`status`).
 #![tactic(auto)]
 
-pub mod points;
+pub mod judge;
 pub mod request;
 pub mod run;
 pub mod status;

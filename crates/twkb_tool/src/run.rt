@@ -1,10 +1,10 @@
 //! A whole run, from the bytes that come in to the text that goes out.
 ghost use Rattle.std.specs.Prelude.{◌≡◌, ℕ, ◌+◌, ◌<◌, ◌≤◌, List, [], ◌++◌, length, false, IfOk, IfErr, OnOk, IsTrue, vec_len};
-ghost use Rattle.twkb_tool.specs.Output.{verdict_of};
+ghost use Rattle.twkb_tool.specs.Output.{IsOutput};
 ghost use Rattle.twkb_tool.specs.Ran.{GivesAll, StopsPiece, StopsReading, PutsAll, StopsWriting, Ran};
 ghost use Rattle.twkb_tool.specs.Streams.{Gives};
 
-use crate::points::{Refusal, check};
+use crate::judge::{Verdict, judge};
 use crate::request::Request;
 use crate::streams::{Sink, SinkFailed, Source, SourceFailed};
 use crate::text::text_of;
@@ -16,13 +16,6 @@ pub const MAX_FILE: usize = 268_435_456;
 
 /// How many bytes are asked for at once.
 const ROOM: usize = 65_536;
-
-/// The answer to the question whether a file's claims are true.
-#[derive(Clone, Copy, Debug, PartialEq, Eq)]
-pub enum Verdict {
-    Yes,
-    No,
-}
 
 /// Why a run stopped.
 #[derive(Clone, Copy, Debug, PartialEq, Eq, Error)]
@@ -71,24 +64,25 @@ pub fn run_in<A: Allocator, S: Source, K: Sink>(
     ensures { Ran request.now limit (S.state source.old) (S.state source.new) (K.state sink.old) (K.state sink.new) result }
 {
     let bytes = read_all(alloc, source, limit)?;
-    let judgement = check(bytes.as_slice());
-    let verdict = verdict_of(&judgement);
-    let text = match text_of(alloc, request, &judgement) {
-        Ok(text) => text,
+    let (text, verdict) = match answer(alloc, request, bytes.as_slice()) {
+        Ok(answer) => answer,
         Err(AllocError) => return Err(RunFault::Memory),
     };
     put_all(sink, text.as_slice())?;
     Ok(verdict)
 }
 
-/// Yes for a layer.
-fn verdict_of(judgement: &Result<usize, Refusal>) -> Verdict
-    ensures { result ≡ verdict_of judgement.now }
+/// The text for the bytes of a file, and the verdict.
+fn answer<'a, A: Allocator>(
+    alloc: &'a A,
+    request: &Request,
+    bytes: &[u8],
+) -> Result<(Vec<u8, &'a A>, Verdict), AllocError>
+    ensures { IfOk result (λ answer. IsOutput request.now bytes.now answer.0.items answer.1) }
 {
-    match judgement {
-        Ok(_) => Verdict::Yes,
-        Err(_) => Verdict::No,
-    }
+    let judgement = judge(alloc, bytes)?;
+    let text = text_of(alloc, request, &judgement)?;
+    Ok((text, judgement.verdict()))
 }
 
 /// Reads to the end of the source, or one byte past the limit.

@@ -2,7 +2,8 @@
 ghost use Rattle.std.specs.Prelude.{◌≡◌};
 ghost use Rattle.twkb_tool.specs.Status.{status_of_run, status_of_usage};
 
-use crate::run::{RunFault, Verdict};
+use crate::judge::Verdict;
+use crate::run::RunFault;
 use crate::words::Usage;
 
 /// The status of a run: 0 for yes, 1 for no, 3 where it stopped.

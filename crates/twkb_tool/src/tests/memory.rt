@@ -1,6 +1,7 @@
 //! Allocations that are refused, each in turn.
 use crate::request::Request;
-use crate::run::{RunFault, Verdict, run_in};
+use crate::judge::Verdict;
+use crate::run::{RunFault, run_in};
 use crate::streams::memory::{MemSink, MemSource};
 use refusing::Refusing;
 use std::alloc::{Allocator, Global};

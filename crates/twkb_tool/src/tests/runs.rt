@@ -2,7 +2,8 @@
 ghost use Rattle.std.specs.Prelude.{◌<◌};
 
 use crate::request::Request;
-use crate::run::{RunFault, Verdict, run};
+use crate::judge::Verdict;
+use crate::run::{RunFault, run};
 use crate::status::status_of;
 use crate::streams::memory::{MemSink, MemSource};
 use std::alloc::Global;

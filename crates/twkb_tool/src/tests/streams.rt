@@ -1,6 +1,7 @@
 //! Sources and sinks that fail, that have no end, and those over real files.
 use crate::request::Request;
-use crate::run::{RunFault, Verdict, run};
+use crate::judge::Verdict;
+use crate::run::{RunFault, run};
 use crate::status::status_of;
 use crate::streams::io::{FromReader, ToWriter};
 use crate::streams::memory::{MemSink, MemSource};

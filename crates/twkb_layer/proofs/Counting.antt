@@ -1,0 +1,94 @@
+-- The loop of audits: what it has counted, and where it stops.
+use Rattle.std.proofs.Common.{◌≡◌, ℕ, ◌+◌, ◌-◌, ◌^◌, ◌<◌, ◌≤◌, List, [], ◌∷◌, ◌++◌, length, take, drop, refl, sym, ap, subst, ◌∙◌, arith, length-append, sum_by, All, inl, inr}
+use Rattle.std.proofs.lemmas.List.{length-take, take_all}
+use Rattle.std.proofs.lemmas.List.Elements.{All-nil, All-push}
+use Rattle.std.proofs.lemmas.List.Sums.{sum_by-append, sum_by-cons}
+use Rattle.std.proofs.Math.Seq.{take-add}
+use Rattle.twkb_num.specs.Cursor.{Reading, rest, passed, IsMoved}
+use Rattle.twkb_body.specs.declared.answers.Audit.{Audit}
+use Rattle.twkb_body.specs.declared.answers.AuditFault.{AuditFault}
+use Rattle.twkb_body.specs.declared.answers.AuditFault.TheVariants.{Malformed as BadField, FalseClaim, Memory as NoMemory}
+use Rattle.twkb_body.specs.Geometry.{Geometry, vertices}
+use Rattle.twkb_body.specs.Claims.{IsCertified}
+use Rattle.twkb_body.specs.Audited.{IsAudited, IsRefusedBlob}
+use Rattle.twkb_body.specs.Found.{number_of}
+use Rattle.twkb_layer.specs.Layer.{IsCertifiedLayer, IsCounted, vertex_count}
+use Rattle.twkb_layer.specs.Refusal.{IsRefusedFor, refusal_of, number_of_why}
+use Rattle.twkb_layer.proofs.Layers.{blob_some, layer_grows, layer_once, layer_short}
+use Rattle.twkb_layer.proofs.VertexCounts.{layer_few}
+
+-- the bytes before a later place are those before this one, and those between
+front_passed : (bytes : List ℕ) (a b : Reading) → a.bytes ≡ bytes → IsMoved a b → take b.place bytes ≡ take a.place bytes ++ passed a b
+front_passed bytes a b same m =
+    ap (λ n. take n bytes) (omega (arith, m.ahead)) ∙ take-add a.place (b.place - a.place) bytes
+    ∙ ap (λ l. take a.place bytes ++ take (b.place - a.place) (drop a.place l)) (sym same)
+
+-- nothing was counted before the first blob
+pub counted_none : (bytes : List ℕ) (place : ℕ) → place ≡ 0 → IsCounted (take place bytes) 0 0
+counted_none bytes place e = rw e (record {
+  trees = [];
+  layer = record { layer = refl; certified = All-nil IsCertified };
+  blobs_are = refl;
+  vertices_are = refl;
+})
+
+-- a blob more was counted
+pub counted_more : (bytes : List ℕ) (a b : Reading) (blobs count : ℕ) (audit : Audit) → a.bytes ≡ bytes → IsCounted (take a.place bytes) blobs count
+    → IsMoved a b → IsAudited audit a.place (passed a b) → IsCounted (take b.place bytes) (blobs + 1) (count + audit.vertices)
+counted_more bytes a b blobs count audit same c m h = rw (front_passed bytes a b same m) (record {
+  trees = c.trees ++ h.blob ∷ [];
+  layer = record {
+    layer = layer_grows c.trees (take a.place bytes) h.blob (passed a b) c.layer.layer h.is;
+    certified = All-push IsCertified c.trees h.blob c.layer.certified h.certified;
+  };
+  blobs_are = omega (arith, c.blobs_are, length-append c.trees (h.blob ∷ []));
+  vertices_are = omega (arith, c.vertices_are, h.vertices_are, sum_by-append (λ (tree : Geometry). length (vertices tree)) c.trees (h.blob ∷ []), sum_by-cons (λ (tree : Geometry). length (vertices tree)) h.blob []);
+})
+
+-- there are no more blobs and no more vertices than bytes
+pub counted_fits : (bytes : List ℕ) (place blobs count : ℕ) → IsCounted (take place bytes) blobs count → length bytes < 2 ^ 64
+    → (blobs < 2 ^ 64) × (count < 2 ^ 64)
+counted_fits bytes place blobs count c fits =
+    let front = take place bytes in (
+      omega (arith, c.blobs_are, layer_short c.trees front c.layer.layer, length-take place bytes),
+      omega (arith, c.vertices_are, layer_few c.trees front c.layer.layer, length-take place bytes),
+    )
+
+-- an audit moves ahead
+pub audit_ahead : (a b : Reading) (audit : Audit) → IsMoved a b → IsAudited audit a.place (passed a b) → a.place < b.place
+audit_ahead a b audit m h = omega (arith, blob_some h.blob (passed a b) h.is, length-take (b.place - a.place) (drop a.place a.bytes))
+
+-- at the end all is counted
+pub counted_all : (bytes : List ℕ) (place blobs count : ℕ) → IsCounted (take place bytes) blobs count → length bytes ≤ place → IsCounted bytes blobs count
+counted_all bytes place blobs count c h = subst (λ (l : List ℕ). IsCounted l blobs count) (take_all place bytes h) c
+
+-- the blob at the place is refused
+pub audit_refused : (bytes : List ℕ) (a : Reading) (blobs count : ℕ) (fault : AuditFault) → a.bytes ≡ bytes → IsCounted (take a.place bytes) blobs count
+    → a.place < length bytes → IsRefusedBlob fault a.place (rest a) → IsRefusedFor (refusal_of blobs fault) bytes
+audit_refused bytes a blobs count (BadField m) same c more h = record {
+  before = c.trees;
+  start = a.place;
+  begins = record { more = more; layer = c.layer };
+  number = c.blobs_are;
+  reason = inr (m.why, refl, rw same at h);
+}
+audit_refused bytes a blobs count (FalseClaim offset claim) same c more h = record {
+  before = c.trees;
+  start = a.place;
+  begins = record { more = more; layer = c.layer };
+  number = c.blobs_are;
+  reason = inl (rw same at h);
+}
+audit_refused bytes a blobs count NoMemory same c more h = record {
+  before = c.trees;
+  start = a.place;
+  begins = record { more = more; layer = c.layer };
+  list = rw same at h;
+}
+
+-- the numbers of a layer's trees
+pub counted_is : (bytes : List ℕ) (blobs count : ℕ) → IsCounted bytes blobs count → (trees : List Geometry) → IsCertifiedLayer trees bytes
+    → (blobs ≡ length trees) × (count ≡ vertex_count trees)
+counted_is bytes blobs count c trees layer =
+    let same = layer_once c.trees trees bytes c.layer.layer layer.layer in
+    (c.blobs_are ∙ ap length same, c.vertices_are ∙ ap vertex_count same)

@@ -1,0 +1,4 @@
+pub mod Layers
+pub mod Refusals
+pub mod VertexCounts
+pub mod Counting

@@ -1,0 +1,3 @@
+pub mod Layer
+pub mod Refusal
+pub mod Laws

@@ -1,0 +1,5 @@
+//! What no clause says: that the answers are those of worked files, and each refused allocation.
+
+mod layers;
+mod memory;
+mod refusals;
