@@ -8,12 +8,15 @@ use std::alloc::{Allocator, Global};
 use std::process::Abort;
 use std::test::Fail;
 
-const POINT: [u8; 5] = [0x01, 0x02, 0x02, 0x02, 0x04];
-const TEXT: &str = "ok blobs=1 vertices=1\n";
+/// A multipoint of seventeen points, whose ids need memory.
+const SEVENTEEN_IDS: &[u8] = b"\x04\x04\x11\x00\x02\x04\x06\x08\x0A\x0C\x0E\x10\x12\x14\x16\x18\x1A\x1C\x1E\x20\
+\x00\x00\x00\x00\x00\x00\x00\x00\x00\x00\x00\x00\x00\x00\x00\x00\x00\
+\x00\x00\x00\x00\x00\x00\x00\x00\x00\x00\x00\x00\x00\x00\x00\x00\x00";
+const TEXT: &str = "ok blobs=1 vertices=17\n";
 
 /// One run with all its memory from an allocator: whether it answered that memory ran out.
 fn runs_out<A: Allocator>(rt: &impl Abort, alloc: Global, memory: &A) -> Result<bool, Fail> {
-    let mut source = MemSource::new(&POINT, 2, None);
+    let mut source = MemSource::new(SEVENTEEN_IDS, 20, None);
     let mut sink = MemSink::new(alloc, 100, 100, None)?;
     match run_in(memory, &mut source, &mut sink, &Request::Check, 100) {
         Ok(verdict) => {
@@ -41,7 +44,7 @@ fn each_allocation_of_a_run_is_refused(rt: HostRuntime) -> Result<(), Fail> {
         }
         refusals = call + 1;
     }
-    assert!(rt; 1 < refusals && refusals < 100, "{refusals}");
+    assert!(rt; 2 < refusals && refusals < 100, "{refusals}");
     Ok(())
 }
 
