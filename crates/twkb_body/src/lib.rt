@@ -22,6 +22,8 @@ mod parts;
 mod range;
 mod shape;
 mod stopped;
+#[cfg(test)]
+mod tests;
 mod trail;
 
 pub use answers::{Audit, AuditFault, Claim};

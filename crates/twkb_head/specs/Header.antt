@@ -1,5 +1,5 @@
--- The header of a geometry, as a value, and the bytes that are it (TWKB specification, "Type & Precision Byte" to
--- "Bounding Box [Optional]").
+-- The header of a geometry, as a value, and the bytes that are it (TWKB specification, "Type & Precision" to
+-- "Bounding Box").
 use Rattle.std.specs.Prelude.{◌≡◌, ℕ, ◌+◌, ◌/◌, ◌%◌, ◌==◌, if◌then◌else◌, Bool, false, is_some, List, [], ◌∷◌, ◌++◌, length, ℤ, ◌-ℤ◌, Option, Some, None, nat_lt}
 use Rattle.twkb_num.specs.Varint.{Spells, SpellsSigned, zigzag_value}
 use Rattle.twkb_head.specs.declared.kinds.Kind.{Kind}

@@ -31,8 +31,8 @@ pub fn has_bit(byte: u8, value: u8) -> bool
     byte / value % 2 == 1
 }
 
-/// The precision of X and Y in the high four bits of a type byte, by zigzag (TWKB specification, "Type & Precision
-/// Byte").
+/// The precision of X and Y in the high four bits of a type byte, by zigzag (TWKB specification, "Type &
+/// Precision").
 #[inline(always)]
 pub fn precision_of(byte: u8) -> i8
     ensures value { result ≡ zigzag_value (byte / 16) }
@@ -43,8 +43,8 @@ pub fn precision_of(byte: u8) -> i8
     if raw % 2 == 0 { half } else { -half - 1 }
 }
 
-/// The precision of Z, where the extended dimensions byte has a Z (TWKB specification, "Extended Dimensions
-/// [Optional]"). A byte with neither Z nor M is accepted, and the bits of an axis that it lacks mean nothing (this
+/// The precision of Z, where the extended dimensions byte has a Z (TWKB specification, "Extended
+/// Dimensions"). A byte with neither Z nor M is accepted, and the bits of an axis that it lacks mean nothing (this
 /// project's choice).
 #[inline(always)]
 pub fn z_of(extended: Option<u8>) -> Option<u8>

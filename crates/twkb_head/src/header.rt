@@ -2,7 +2,7 @@
 use crate::boxes::Bounds;
 use crate::kinds::Kind;
 
-/// A size (TWKB specification, "Size [Optional]"): the number of bytes from `after` to the end of the geometry, as its
+/// A size (TWKB specification, "Size"): the number of bytes from `after` to the end of the geometry, as its
 /// header has it. Whether it is true is not judged here.
 #[derive(Clone, Copy, Debug, PartialEq, Eq)]
 pub struct SizeField {
@@ -14,7 +14,7 @@ pub struct SizeField {
     pub after: usize,
 }
 
-/// A box (TWKB specification, "Bounding Box [Optional]"), in units. Whether it is true is not judged here.
+/// A box (TWKB specification, "Bounding Box"), in units. Whether it is true is not judged here.
 #[derive(Clone, Copy, Debug, PartialEq, Eq)]
 pub struct BoxField {
     /// The box itself.

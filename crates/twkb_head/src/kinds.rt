@@ -5,7 +5,7 @@ ghost use Rattle.twkb_head.specs.Plan.{kind_of_code, judge_kind};
 
 use crate::refusal::Why;
 
-/// The type of a geometry (TWKB specification, "Type & Precision Byte").
+/// The type of a geometry (TWKB specification, "Type & Precision").
 #[derive(Clone, Copy, Debug, PartialEq, Eq)]
 pub enum Kind {
     /// One point.

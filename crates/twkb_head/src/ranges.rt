@@ -11,7 +11,7 @@ use crate::refusal::Malformed;
 use twkb_num::{Cursor, units};
 
 /// The box in units, where it is announced: the axes in the order X, Y, Z, M, as far as they are there (TWKB
-/// specification, "Bounding Box [Optional]").
+/// specification, "Bounding Box").
 #[inline(always)]
 #[tactic(auto, unfolding(crate::specs::HeadReader::bounds_from))]
 pub fn take_box(

@@ -75,7 +75,7 @@ fn take_head(cursor: &mut Cursor, depth: u8) -> Result<Head, Malformed>
     })
 }
 
-/// The extended dimensions byte, where it is announced (TWKB specification, "Extended Dimensions [Optional]").
+/// The extended dimensions byte, where it is announced (TWKB specification, "Extended Dimensions").
 #[inline(always)]
 fn take_extended(cursor: &mut Cursor, announced: bool) -> Result<Option<u8>, Malformed>
     ensures { optional_at announced byte_at cursor.old ≡ (result, cursor.new) }
@@ -87,7 +87,7 @@ fn take_extended(cursor: &mut Cursor, announced: bool) -> Result<Option<u8>, Mal
     }
 }
 
-/// The size, where it is announced (TWKB specification, "Size [Optional]").
+/// The size, where it is announced (TWKB specification, "Size").
 #[inline(always)]
 fn take_size(cursor: &mut Cursor, announced: bool) -> Result<Option<u64>, Malformed>
     ensures { optional_at announced number_at cursor.old ≡ (result, cursor.new) }
