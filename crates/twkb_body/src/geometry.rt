@@ -50,6 +50,7 @@ pub fn take_geometry<A: Allocator>(
 }
 
 /// Whether the members of a kind have headers of their own.
+#[inline(always)]
 fn is_collection(kind: Kind) -> bool
     ensures { result ≡ is_collection kind }
 {

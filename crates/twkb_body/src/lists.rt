@@ -24,6 +24,7 @@ pub struct List {
 
 /// The count of a list and its ids, where they are announced.
 #[tactic(auto, unfolding(crate::specs::BodyReader::list_at))]
+#[inline(always)]
 pub fn take_list<A: Allocator>(
     alloc: &A,
     cursor: &mut Cursor,

@@ -12,6 +12,7 @@ use twkb_head::{Kind, Malformed};
 use twkb_num::Cursor;
 
 /// A count of parts, and the parts, of a kind that has them.
+#[inline(always)]
 pub fn take_parts(
     cursor: &mut Cursor,
     kind: Kind,
@@ -32,6 +33,7 @@ pub fn take_parts(
 }
 
 /// A point, a line or a polygon, as the kind has it.
+#[inline(always)]
 pub fn take_part(
     cursor: &mut Cursor,
     kind: Kind,

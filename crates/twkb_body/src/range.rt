@@ -34,6 +34,7 @@ impl Model for Range {
 
 impl Range {
     /// No coordinate.
+    #[inline(always)]
     pub fn empty() -> Range
         ensures { result ≡ None }
     {
@@ -53,6 +54,7 @@ impl Range {
     }
 
     /// The range in units, of coordinates at a precision.
+    #[inline(always)]
     pub fn in_units(&self, precision: i8) -> Option<Span>
         requires { IsPrecision precision }
         ensures { result ≡ scaled precision self.now }
@@ -76,6 +78,7 @@ pub struct Ranges {
 
 impl Ranges {
     /// No coordinate in any axis.
+    #[inline(always)]
     pub fn empty() -> Ranges
         ensures four { length result.axes ≡ 4 }
         ensures none { (axis : ℕ) → slice_index_or result.axes axis None ≡ None }
@@ -101,6 +104,7 @@ impl Ranges {
     }
 
     /// All of them in units, by the precisions of the header.
+    #[inline(always)]
     pub fn in_units(&self, xy: i8, z: Option<u8>, m: Option<u8>) -> Extent
         requires xy { IsPrecision xy }
         requires z_high { IfSome z (λ p. p ≤ 7) }
@@ -116,6 +120,7 @@ impl Ranges {
         )
     }
 
+    #[inline(always)]
     fn axis(&self, axis: usize, precision: i8) -> Option<Span>
         requires within { axis < 4 }
         requires precision { IsPrecision precision }
@@ -125,6 +130,7 @@ impl Ranges {
         range.in_units(precision)
     }
 
+    #[inline(always)]
     fn axis_if(&self, axis: usize, precision: Option<u8>) -> Option<Span>
         requires within { axis < 4 }
         requires precision { IfSome precision (λ p. p ≤ 7) }
