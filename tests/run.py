@@ -4,9 +4,9 @@
 usage: tests/run.py [PROGRAM]   (build/twkb_tool where it is left out)
 
 Runs on small layers are rows of cases.tsv: a name, the words after the program's name, of which FILE is the layer,
-the layer in hexadecimal, the status and the standard output. Rows named `.. read later` go once the program reads
-such blobs. What needs more than a layer is below. Prints each difference, and last a line `N passed, M failed`; the
-status is 1 where any failed.
+the layer in hexadecimal, the status and the standard output. Each of these layers is also cut after each byte, and
+has each byte changed in some ways; the program is then compared with plain.py. What needs more than a layer is below.
+Prints each difference, and last a line `N passed, M failed`; the status is 1 where any failed.
 """
 import os
 import resource
@@ -15,12 +15,21 @@ import subprocess
 import sys
 import tempfile
 
+import plain
+
 HERE = os.path.dirname(os.path.abspath(__file__))
 TOP = os.path.dirname(HERE)
 LINE = b"ok blobs=1 vertices=1\n"
 POINT = bytes.fromhex("01000204")
 NOBODY = 65534
 GREATEST_FILE = 268435456
+# Blobs and vertices as PostGIS counts them.
+EXAMPLES = [
+    ("points_sized.twkb", 2286, 2286),
+    ("coast_lines_sized.twkb", 1715, 14590),
+    ("coast_collections.twkb", 343, 5316),
+    ("coast_z.twkb", 300, 2372),
+]
 
 counts = {"passed": 0, "failed": 0}
 
@@ -64,8 +73,28 @@ def layers(program, folder):
             layer = written(folder, "case.twkb", bytes.fromhex(data))
             words = [layer if word == "FILE" else word for word in words.split()]
             count(f"{name}: {data}", run([program] + words), (int(status), text.replace("\\n", "\n").encode(), b""))
-    example = os.path.join(TOP, "examples", "points_sized.twkb")
-    count("example", run([program, "check", example]), (0, b"ok blobs=2286 vertices=2286\n", b""))
+    for example, blobs, vertices in EXAMPLES:
+        path = os.path.join(TOP, "examples", example)
+        line = f"ok blobs={blobs} vertices={vertices}\n"
+        count(example, run([program, "check", path]), (0, line.encode(), b""))
+
+
+def variants(layer):
+    """The layer cut after each byte, and with each byte changed."""
+    for place, byte in enumerate(layer):
+        yield layer[:place]
+        for other in {0, 1, byte ^ 1, byte ^ 2, byte ^ 16, byte ^ 128, 255} - {byte}:
+            yield layer[:place] + bytes([other]) + layer[place + 1 :]
+
+
+def changed_layers(program, folder):
+    with open(os.path.join(HERE, "cases.tsv")) as rows:
+        next(rows)
+        small = {row.split("\t")[2] for row in rows}
+    for data in sorted({variant for row in small for variant in variants(bytes.fromhex(row))}):
+        line = plain.answer(data)
+        layer = written(folder, "case.twkb", data)
+        count(f"changed: {data.hex()}", run([program, "check", layer]), (int(line.startswith("no")), line.encode(), b""))
 
 
 def usage(program, layer):
@@ -124,6 +153,7 @@ def main():
         program = shutil.copy(built, os.path.join(folder, "twkb_tool"))
         layer = written(folder, "layer.twkb", POINT)
         layers(program, folder)
+        changed_layers(program, folder)
         usage(program, layer)
         files(program, folder, layer)
         outputs(program, folder, layer)
