@@ -1,13 +1,14 @@
 # `make help` says what there is. Each target needs the Rattle kit, whose command is rt.
 PROGRAM = build/twkb_tool
-LAYER = examples/points_sized.twkb
+LAYERS = examples/coast_lines_sized.twkb examples/coast_collections.twkb examples/coast_z.twkb examples/points_sized.twkb
 
-.PHONY: help kit build demo test refusals clean
+.PHONY: help kit build demo test bench refusals clean
 
 help:
 	@echo 'make build      prove and build the program: $(PROGRAM)'
-	@echo 'make demo       build, and check the example layer'
+	@echo 'make demo       build, and check layers that PostGIS wrote'
 	@echo 'make test       build, test the program from end to end, and run the merge gate'
+	@echo 'make bench      build, and compare with plain Rust on 40 MB (needs rustc)'
 	@echo 'make refusals   refuse each allocation of the program in turn (some minutes)'
 	@echo 'make clean      remove what was built'
 
@@ -21,11 +22,14 @@ build: kit
 	cp crates/twkb_tool/out/twkb_tool $(PROGRAM)
 
 demo: build
-	$(PROGRAM) check $(LAYER)
+	@for layer in $(LAYERS); do echo $(PROGRAM) check $$layer; $(PROGRAM) check $$layer || exit; done
 
 test: build
 	python3 tests/run.py $(PROGRAM)
 	rt ci
+
+bench: build
+	python3 bench/run.py $(PROGRAM)
 
 # Each allocation of the whole program in turn; it builds the program for each, so the gate leaves it out.
 refusals: kit

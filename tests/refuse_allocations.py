@@ -16,7 +16,7 @@ REASONS = {"twkb_tool: cannot read words", "twkb_tool: cannot open file", "twkb_
 
 
 def run(call):
-    words = ["rt", "try", "--fail-alloc", str(call), "--", "check", "data/point.twkb"]
+    words = ["rt", "try", "--fail-alloc", str(call), "--", "check", "data/line.twkb"]
     done = subprocess.run(words, cwd=CRATE, capture_output=True, text=True)
     said = [line for line in done.stderr.splitlines() if line.startswith("twkb_tool: ")]
     return done.returncode, done.stdout, said
@@ -28,7 +28,7 @@ def main():
     for call in range(1, 500):
         status, text, said = run(call)
         if status == 0:
-            failed += (text, said) != ("ok blobs=1 vertices=1\n", [])
+            failed += (text, said) != ("ok blobs=1 vertices=2\n", [])
             break
         if (status, text) != (3, "") or len(said) != 1 or said[0] not in REASONS:
             failed += 1
