@@ -24,3 +24,4 @@ pub mod HeadFacts
 pub mod GeometrySteps
 pub mod MemberSteps
 pub mod AuditFacts
+pub mod LongLists

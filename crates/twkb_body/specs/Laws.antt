@@ -5,6 +5,7 @@ use Rattle.twkb_body.specs.Geometry.{Geometry}
 use Rattle.twkb_body.specs.Encoding.{BlobUnder, Blob}
 use Rattle.twkb_body.specs.Claims.{offset_of, claims}
 use Rattle.twkb_body.specs.Begun.{IsBegun, IsViable}
+use Rattle.twkb_body.specs.Audited.{EndsInIds}
 
 -- at most one kind of field is due after given bytes
 abbrev pub OneDue : Type 0
@@ -18,6 +19,10 @@ NoneDue = (p : List ℕ) (g : Geometry) (due : Field) → Blob g p 1 → IsBegun
 abbrev pub GoesOn : Type 0
 GoesOn = (p rest : List ℕ) (due : Field) → IsBegun 1 p due → IsViable (p ++ rest) → rest ≢ []
     → (front : List ℕ) × (behind : List ℕ) × (rest ≡ front ++ behind) × IsField due front × IsViable (p ++ front)
+
+-- what ends right after the seventeenth id of a list is begun
+abbrev pub LongListsAreBegun : Type 0
+LongListsAreBegun = (p : List ℕ) → EndsInIds 17 1 p → (due : Field) × IsBegun 1 p due
 
 -- of given bytes at most one front is a blob, of one tree
 abbrev pub OneBlob : Type 0

@@ -1,12 +1,14 @@
 //! The laws of blobs, begun and whole: each function does nothing, and its contract is the law.
-ghost use Rattle.twkb_body.specs.Laws.{OneDue, NoneDue, GoesOn, OneBlob, StaysBlob, RisingClaims};
+ghost use Rattle.twkb_body.specs.Laws.{OneDue, NoneDue, GoesOn, LongListsAreBegun, OneBlob, StaysBlob, RisingClaims};
 
 /// After given bytes at most one kind of field is due, and none after a whole blob. Bytes that a blob can begin with go
 /// on, behind any prefix of theirs after which a field is due, by one field of that kind, and a blob can begin so too.
+/// What ends right after the seventeenth id of a list is begun.
 pub fn fields_due()
     ensures at_most_one { OneDue }
     ensures none_after_a_blob { NoneDue }
     ensures goes_on { GoesOn }
+    ensures long_lists { LongListsAreBegun }
 {}
 
 /// Of given bytes at most one front is a blob, of one tree. It stays a blob where geometries may stand deeper. Its claims

@@ -1,6 +1,7 @@
 use Rattle.std.proofs.Common.{◌-◌, refl, arith}
 use Rattle.twkb_head.specs.BegunHeader.{deepest}
 use Rattle.twkb_body.proofs.BlobLaws.{one_due, none_due, goes_on}
+use Rattle.twkb_body.proofs.LongLists.{ids_begun}
 use Rattle.twkb_body.proofs.laws.fields_due.Goals as goal
 
 pub returns : goal.returns
@@ -8,4 +9,5 @@ returns c = record {
   at_most_one = one_due (deepest - 1) 1 refl (omega arith);
   none_after_a_blob = none_due (deepest - 1) 1 refl (omega arith);
   goes_on = goes_on (deepest - 1) 1 refl (omega arith);
+  long_lists = λ p ends. ids_begun 17 (omega arith) 1 p ends;
 }
