@@ -1,5 +1,5 @@
 -- The loop of audits: what it has counted, and where it stops.
-use Rattle.std.proofs.Common.{◌≡◌, ℕ, ◌+◌, ◌-◌, ◌^◌, ◌<◌, ◌≤◌, List, [], ◌∷◌, ◌++◌, length, take, drop, refl, sym, ap, subst, ◌∙◌, arith, length-append, sum_by, All, inl, inr}
+use Rattle.std.proofs.Common.{◌≡◌, ℕ, ◌+◌, ◌-◌, ◌^◌, ◌<◌, ◌≤◌, List, [], ◌∷◌, ◌++◌, length, take, drop, refl, sym, ap, subst, ◌∙◌, arith, length-append, inl, inr}
 use Rattle.std.proofs.lemmas.List.{length-take, take_all}
 use Rattle.std.proofs.lemmas.List.Elements.{All-nil, All-push}
 use Rattle.std.proofs.lemmas.List.Sums.{sum_by-append, sum_by-cons}
@@ -11,9 +11,8 @@ use Rattle.twkb_body.specs.declared.answers.AuditFault.TheVariants.{Malformed as
 use Rattle.twkb_body.specs.Geometry.{Geometry, vertices}
 use Rattle.twkb_body.specs.Claims.{IsCertified}
 use Rattle.twkb_body.specs.Audited.{IsAudited, IsRefusedBlob}
-use Rattle.twkb_body.specs.Found.{number_of}
 use Rattle.twkb_layer.specs.Layer.{IsCertifiedLayer, IsCounted, vertex_count}
-use Rattle.twkb_layer.specs.Refusal.{IsRefusedFor, refusal_of, number_of_why}
+use Rattle.twkb_layer.specs.Refusal.{IsRefusedFor, refusal_of}
 use Rattle.twkb_layer.proofs.Layers.{blob_some, layer_grows, layer_once, layer_short}
 use Rattle.twkb_layer.proofs.VertexCounts.{layer_few}
 

@@ -1,6 +1,6 @@
 -- The laws of layers.
-use Rattle.std.proofs.Common.{◌≡◌, ◌≢◌, ℕ, suc, ◌+◌, ◌-◌, ◌<◌, ◌≤◌, List, [], ◌∷◌, ◌++◌, length, take, drop, refl, sym, ap, ap₂, subst, ◌∙◌, append_assoc, arith, length-append}
-use Rattle.std.proofs.lemmas.List.{take-append-drop, take_at, drop_at, append-nil, append_cancel_left, length-take, length-drop, take-append-le, drop-append-le}
+use Rattle.std.proofs.Common.{◌≡◌, ℕ, ◌-◌, ◌<◌, ◌≤◌, List, [], ◌∷◌, ◌++◌, length, take, drop, refl, sym, ap, ap₂, subst, ◌∙◌, append_assoc, arith, length-append}
+use Rattle.std.proofs.lemmas.List.{take-append-drop, take_at, drop_at, append-nil}
 use Rattle.twkb_head.specs.BegunHeader.{deepest}
 use Rattle.twkb_body.specs.Geometry.{Geometry, geometry}
 use Rattle.twkb_body.specs.Encoding.{Blob, BlobUnder}

@@ -1,15 +1,15 @@
 -- The laws of refusals.
-use Rattle.std.proofs.Common.{◌≡◌, ℕ, suc, ◌+◌, false, List, [], ◌∷◌, ◌++◌, length, take, drop, Option, Some, None, Err, ◌⊎◌, inl, inr, All, refl, sym, ap, ap₂, subst, ◌∙◌, append_assoc, arith, length-append}
+use Rattle.std.proofs.Common.{◌≡◌, ℕ, suc, ◌+◌, false, List, [], ◌∷◌, ◌++◌, length, take, drop, Some, None, Err, ◌⊎◌, inl, inr, All, refl, sym, ap, ap₂, subst, ◌∙◌, append_assoc, arith, length-append}
 use Rattle.std.proofs.lemmas.List.{take-append-drop, append-nil, append_cancel_right, length-take, length-drop}
-use Rattle.std.proofs.lemmas.List.Elements.{All-nil, All-head, All-tail}
+use Rattle.std.proofs.lemmas.List.Elements.{All-head, All-tail}
 use Rattle.twkb_head.specs.declared.refusal.Why.{Why}
 use Rattle.twkb_head.specs.Plan.{Fault, fault}
 use Rattle.twkb_head.proofs.FieldCuts.{err_is}
 use Rattle.twkb_body.specs.Geometry.{Geometry}
 use Rattle.twkb_body.specs.Encoding.{Blob}
-use Rattle.twkb_body.specs.Claims.{Claim, claims, IsCertified, IsTrueClaim, IsFirstFalse, offset_of, kind_of}
+use Rattle.twkb_body.specs.Claims.{claims, IsCertified}
 use Rattle.twkb_body.specs.BodyPlan.{read_blob}
-use Rattle.twkb_body.specs.Pass.{Refused, NamesFirstFalse}
+use Rattle.twkb_body.specs.Pass.{NamesFirstFalse}
 use Rattle.twkb_body.specs.Audited.{IsFalseClaim}
 use Rattle.twkb_body.proofs.BlobLaws.{wrong_fails}
 use Rattle.twkb_body.proofs.ClaimPlaces.{claims_move}

@@ -1,14 +1,14 @@
 -- A blob has no more vertices than bytes, and so has a layer.
-use Rattle.std.proofs.Common.{◌≡◌, ℕ, suc, ◌+◌, ◌≤◌, Bool, true, false, ℤ, List, [], ◌∷◌, ◌++◌, length, map, flat_map, take, drop, Option, sym, ap, subst, ◌∙◌, arith, length-append, sum_by}
-use Rattle.std.proofs.lemmas.List.{length-map, length-take, length-drop, take-append-drop}
+use Rattle.std.proofs.Common.{◌≡◌, ℕ, suc, ◌+◌, ◌≤◌, Bool, true, false, ℤ, List, [], ◌∷◌, ◌++◌, length, map, flat_map, take, drop, Option, sym, ap, ◌∙◌, arith, length-append}
+use Rattle.std.proofs.lemmas.List.{length-map, take-append-drop}
 use Rattle.std.proofs.lemmas.List.Sums.{sum_by-cons}
 use Rattle.twkb_head.specs.Parts.{Sequence, Counted}
-use Rattle.twkb_head.specs.Header.{Header, IsSigned, axes_of}
+use Rattle.twkb_head.specs.Header.{Header, axes_of}
 use Rattle.twkb_head.specs.BegunHeader.{is_collection, deepest}
 use Rattle.twkb_head.specs.declared.kinds.Kind.{Kind}
 use Rattle.twkb_head.specs.declared.kinds.Kind.TheVariants.{Point, LineString, Polygon, MultiPoint, MultiLineString, MultiPolygon, GeometryCollection}
 use Rattle.twkb_body.specs.Geometry.{Geometry, Members, geometry, none, more, Lengths, PointValue, Ring, PolygonValue, vertex_of, points_of, vertices, member_vertices, member_count}
-use Rattle.twkb_body.specs.Encoding.{Blob, BlobUnder, BlobsUnder, IsBody, is_multi, IsNumbers, IsPoint, IsRing, IsPolygon, IsPart}
+use Rattle.twkb_body.specs.Encoding.{BlobUnder, BlobsUnder, IsBody, is_multi, IsNumbers, IsPoint, IsRing, IsPolygon, IsPart}
 use Rattle.twkb_body.proofs.PartPlans.{flat_single}
 use Rattle.twkb_layer.specs.Layer.{IsLayer, size_of, vertex_count}
 

@@ -1,152 +1,84 @@
 //! Worked layers that are certified, and how many blobs and vertices they have.
+use super::bytes_of;
 use crate::{Cursor, certify};
 
 #[test]
 fn layers_are_certified(rt: HostRuntime) {
-    let table: [(&[u8], usize, usize); 32] = [
-        // empty layer
-        (&[], 0, 0),
-        // point
-        (&[0x01, 0x00, 0x02, 0x04], 1, 1),
-        // sized point
-        (&[0x01, 0x02, 0x02, 0x02, 0x04], 1, 1),
-        // long varint
-        (&[0x01, 0x00, 0x82, 0x00, 0x04], 1, 1),
-        // coarse point
-        (&[0x11, 0x00, 0xB6, 0x40, 0x00], 1, 1),
-        // unused metadata bits
-        (&[0x01, 0xE0, 0x02, 0x04], 1, 1),
-        // id bit on a point
-        (&[0x01, 0x04, 0x02, 0x04], 1, 1),
-        // empty sized point
-        (&[0x01, 0x12, 0x00], 1, 0),
-        // point with Z
-        (&[0x01, 0x08, 0x09, 0x02, 0x04, 0xC8, 0x01], 1, 1),
-        // point with Z and M
-        (&[0x01, 0x08, 0x03, 0x02, 0x04, 0x06, 0x08], 1, 1),
-        // point with M
-        (&[0x01, 0x08, 0x62, 0x02, 0x04, 0xD0, 0x0F], 1, 1),
-        // extended byte without axes
-        (&[0x01, 0x08, 0xFC, 0x02, 0x04], 1, 1),
-        // empty point
-        (&[0x01, 0x10], 1, 0),
-        // line
-        (&[0x02, 0x00, 0x02, 0x02, 0x02, 0x08, 0x08], 1, 2),
-        // two rings run on
+    let table = [
+        ("empty layer", "", 0, 0),
+        ("point", "01000204", 1, 1),
+        ("sized point", "0102020204", 1, 1),
+        ("long varint", "0100820004", 1, 1),
+        ("coarse point", "1100B64000", 1, 1),
+        ("unused metadata bits", "01E00204", 1, 1),
+        ("id bit on a point", "01040204", 1, 1),
+        ("empty sized point", "011200", 1, 0),
+        ("point with Z", "0108090204C801", 1, 1),
+        ("point with Z and M", "01080302040608", 1, 1),
+        ("point with M", "0108620204D00F", 1, 1),
+        ("extended byte without axes", "0108FC0204", 1, 1),
+        ("empty point", "0110", 1, 0),
+        ("line", "02000202020808", 1, 2),
+        ("two rings run on", "030002010202010202", 1, 2),
+        ("polygon without rings", "030000", 1, 0),
+        ("lines", "0500020202020202010202", 1, 3),
+        ("sized line", "0202050202020808", 1, 2),
+        ("boxed line", "020309020802080202020808", 1, 2),
         (
-            &[0x03, 0x00, 0x02, 0x01, 0x02, 0x02, 0x01, 0x02, 0x02],
-            1,
-            2,
-        ),
-        // polygon without rings
-        (&[0x03, 0x00, 0x00], 1, 0),
-        // lines
-        (
-            &[
-                0x05, 0x00, 0x02, 0x02, 0x02, 0x02, 0x02, 0x02, 0x01, 0x02, 0x02,
-            ],
-            1,
-            3,
-        ),
-        // sized line
-        (&[0x02, 0x02, 0x05, 0x02, 0x02, 0x02, 0x08, 0x08], 1, 2),
-        // boxed line
-        (
-            &[
-                0x02, 0x03, 0x09, 0x02, 0x08, 0x02, 0x08, 0x02, 0x02, 0x02, 0x08, 0x08,
-            ],
-            1,
-            2,
-        ),
-        // box and member at two precisions
-        (
-            &[
-                0x07, 0x01, 0x02, 0x02, 0x02, 0x02, 0x01, 0x21, 0x00, 0x1E, 0x1E,
-            ],
+            "box and member at two precisions",
+            "0701020202020121001E1E",
             1,
             1,
         ),
-        // 31 nested collections
         (
-            &[
-                0x07, 0x00, 0x01, 0x07, 0x00, 0x01, 0x07, 0x00, 0x01, 0x07, 0x00, 0x01, 0x07, 0x00,
-                0x01, 0x07, 0x00, 0x01, 0x07, 0x00, 0x01, 0x07, 0x00, 0x01, 0x07, 0x00, 0x01, 0x07,
-                0x00, 0x01, 0x07, 0x00, 0x01, 0x07, 0x00, 0x01, 0x07, 0x00, 0x01, 0x07, 0x00, 0x01,
-                0x07, 0x00, 0x01, 0x07, 0x00, 0x01, 0x07, 0x00, 0x01, 0x07, 0x00, 0x01, 0x07, 0x00,
-                0x01, 0x07, 0x00, 0x01, 0x07, 0x00, 0x01, 0x07, 0x00, 0x01, 0x07, 0x00, 0x01, 0x07,
-                0x00, 0x01, 0x07, 0x00, 0x01, 0x07, 0x00, 0x01, 0x07, 0x00, 0x01, 0x07, 0x00, 0x01,
-                0x07, 0x00, 0x01, 0x07, 0x00, 0x01, 0x07, 0x00, 0x01, 0x01, 0x10,
-            ],
+            "31 nested collections",
+            "0700010700010700010700010700010700010700010700010700010700010700010700010700010700010700010700010700010700010700010700010700010700010700010700010700010700010700010700010700010700010700010110",
             1,
             0,
         ),
-        // differences restart
+        ("differences restart", "0700020100020201000202", 1, 2),
+        ("negative extent over nothing", "02010201000000", 1, 0),
         (
-            &[
-                0x07, 0x00, 0x02, 0x01, 0x00, 0x02, 0x02, 0x01, 0x00, 0x02, 0x02,
-            ],
+            "box with an axis that the member lacks",
+            "0709010002000214000101000202",
+            1,
+            1,
+        ),
+        ("empty point with a box", "011114001400", 1, 0),
+        ("empty collection", "0710", 1, 0),
+        (
+            "box past 64 bits",
+            "0101FEFFFFFFFFFFFFFFFF01FEFFFFFFFFFFFFFFFF010000FEFFFFFFFFFFFFFFFF0100",
+            1,
+            1,
+        ),
+        ("sized collection", "0702050101000204", 1, 1),
+        ("ids", "040402020400000202", 1, 2),
+        (
+            "17 ids",
+            "04041100020406080A0C0E10121416181A1C1E2000000000000000000000000000000000000000000000000000000000000000000000",
+            1,
+            17,
+        ),
+        ("one polygon with an id", "0604010E01010202", 1, 1),
+        (
+            "equal ids in two lists",
+            "070002040401020000040401020000",
             1,
             2,
         ),
-        // negative extent over nothing
-        (&[0x02, 0x01, 0x02, 0x01, 0x00, 0x00, 0x00], 1, 0),
-        // box with an axis that the member lacks
-        (
-            &[
-                0x07, 0x09, 0x01, 0x00, 0x02, 0x00, 0x02, 0x14, 0x00, 0x01, 0x01, 0x00, 0x02, 0x02,
-            ],
-            1,
-            1,
-        ),
-        // empty point with a box
-        (&[0x01, 0x11, 0x14, 0x00, 0x14, 0x00], 1, 0),
-        // empty collection
-        (&[0x07, 0x10], 1, 0),
-        // box past 64 bits
-        (
-            &[
-                0x01, 0x01, 0xFE, 0xFF, 0xFF, 0xFF, 0xFF, 0xFF, 0xFF, 0xFF, 0xFF, 0x01, 0xFE, 0xFF,
-                0xFF, 0xFF, 0xFF, 0xFF, 0xFF, 0xFF, 0xFF, 0x01, 0x00, 0x00, 0xFE, 0xFF, 0xFF, 0xFF,
-                0xFF, 0xFF, 0xFF, 0xFF, 0xFF, 0x01, 0x00,
-            ],
-            1,
-            1,
-        ),
-        // sized collection
-        (&[0x07, 0x02, 0x05, 0x01, 0x01, 0x00, 0x02, 0x04], 1, 1),
-        // ids
-        (
-            &[0x04, 0x04, 0x02, 0x02, 0x04, 0x00, 0x00, 0x02, 0x02],
-            1,
-            2,
-        ),
-        // one polygon with an id
-        (&[0x06, 0x04, 0x01, 0x0E, 0x01, 0x01, 0x02, 0x02], 1, 1),
-        // equal ids in two lists
-        (
-            &[
-                0x07, 0x00, 0x02, 0x04, 0x04, 0x01, 0x02, 0x00, 0x00, 0x04, 0x04, 0x01, 0x02, 0x00,
-                0x00,
-            ],
-            1,
-            2,
-        ),
-        // two points, one after another
-        (
-            &[0x01, 0x02, 0x02, 0x02, 0x04, 0x01, 0x00, 0x02, 0x04],
-            2,
-            2,
-        ),
+        ("two points", "010202020401000204", 2, 2),
     ];
-    for (bytes, blobs, vertices) in table {
-        match certify(rt.alloc(), Cursor::new(bytes)) {
+    for (name, hex, blobs, vertices) in table {
+        let (room, len) = bytes_of(hex);
+        match certify(rt.alloc(), Cursor::new(&room[..len])) {
             Ok(layer) => {
-                assert_eq!(rt; layer.blobs(), blobs);
-                assert_eq!(rt; layer.vertices(), vertices);
-                assert_eq!(rt; layer.len(), bytes.len());
-                assert_eq!(rt; layer.read_count(), bytes.len() as u64);
+                assert_eq!(rt; layer.blobs(), blobs, "{name}");
+                assert_eq!(rt; layer.vertices(), vertices, "{name}");
+                assert_eq!(rt; layer.len(), len, "{name}");
+                assert_eq!(rt; layer.read_count(), len as u64, "{name}");
             }
-            Err(refusal) => panic!(rt; "{refusal}, of {bytes:?}"),
+            Err(refusal) => panic!(rt; "{name}: {refusal}"),
         }
     }
 }

@@ -1,5 +1,3 @@
-use Rattle.std.proofs.Common.{ap, sym, subst}
-use Rattle.twkb_layer.specs.Layer.{IsCertifiedLayer}
 use Rattle.twkb_layer.proofs.Counting.{counted_is}
 use Rattle.twkb_layer.proofs.certified.Certified.blobs.Goals as goal
 
