@@ -30,6 +30,7 @@ impl Model for Extent {
 
 impl Extent {
     /// No vertex seen.
+    #[inline(always)]
     pub fn empty() -> Extent
         ensures { result ≡ reach_of [] }
     {
@@ -49,6 +50,7 @@ impl Extent {
     }
 
     /// The vertices that either has seen.
+    #[inline(always)]
     pub fn merge(&mut self, other: &Extent)
         ensures { self.new ≡ both self.old other.now }
     {
@@ -59,6 +61,7 @@ impl Extent {
     }
 
     /// Whether the box holds all vertices seen, in each axis that the box and some vertex have.
+    #[inline(always)]
     pub fn within(&self, bounds: &Bounds) -> bool
         ensures { IsTrue result ↔ IsReachWithin self.now bounds.now }
     {
@@ -81,6 +84,7 @@ impl Extent {
     }
 
     // What was seen of each axis.
+    #[inline(always)]
     pub(crate) fn from_spans(
         x: Option<Span>,
         y: Option<Span>,
@@ -107,6 +111,7 @@ fn alone(number: Option<i128>) -> Option<Span>
 }
 
 /// The numbers of both.
+#[inline(always)]
 fn joined(a: Option<Span>, b: Option<Span>) -> Option<Span>
     ensures { result ≡ spans_joined a b }
 {
@@ -121,6 +126,7 @@ fn joined(a: Option<Span>, b: Option<Span>) -> Option<Span>
 }
 
 /// Whether what was seen is within the span, where there are both.
+#[inline(always)]
 fn covers(span: Option<Span>, seen: Option<Span>) -> bool
     ensures { IsTrue result ↔ IsCovered span seen }
 {

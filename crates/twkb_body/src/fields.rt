@@ -6,6 +6,7 @@ use twkb_head::{Malformed, Why};
 use twkb_num::{Cursor, NumFault};
 
 /// The unsigned number at the place.
+#[inline(always)]
 pub fn take_number(cursor: &mut Cursor) -> Result<u64, Malformed>
     ensures { number_at cursor.old ≡ (result, cursor.new) }
 {

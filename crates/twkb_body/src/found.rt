@@ -24,6 +24,7 @@ pub struct Found {
 
 impl Found {
     /// Nothing read.
+    #[inline(always)]
     pub fn nothing() -> Found
         ensures { summary result ≡ nothing }
     {
@@ -35,6 +36,7 @@ impl Found {
     }
 
     /// What was found, and what was found behind it.
+    #[inline(always)]
     pub fn then(self, next: Found) -> Found
         requires { self.vertices + next.vertices < 2 ^ 64 }
         ensures { summary result ≡ after (summary self) (summary next) }
@@ -50,6 +52,7 @@ impl Found {
 
     /// A geometry that ends at `stop`, over what was found inside it and of its ids: what is false of the geometry itself
     /// stands before what is false inside.
+    #[inline(always)]
     pub fn judged(self, head: &Head, ids: Option<FalseClaim>, stop: usize) -> Found
         requires { IfSome head.now.size (λ size. size.after ≤ stop) }
         ensures vertices { result.vertices ≡ self.vertices }
@@ -66,6 +69,7 @@ impl Found {
 }
 
 /// The size, if it is false of a geometry that ends at `stop`.
+#[inline(always)]
 fn judge_size(size: Option<SizeField>, stop: usize) -> Option<FalseClaim>
     requires { IfSome size (λ size. size.after ≤ stop) }
     ensures { named result ≡ size_judged size stop }
@@ -80,6 +84,7 @@ fn judge_size(size: Option<SizeField>, stop: usize) -> Option<FalseClaim>
 }
 
 /// The box, if some vertex of this extent is outside.
+#[inline(always)]
 fn judge_box(field: Option<BoxField>, extent: &Extent) -> Option<FalseClaim>
     ensures { named result ≡ box_judged field extent.now }
 {
@@ -90,6 +95,7 @@ fn judge_box(field: Option<BoxField>, extent: &Extent) -> Option<FalseClaim>
 }
 
 /// The claim, if it is false.
+#[inline(always)]
 pub fn claimed(holds: bool, offset: usize, claim: Claim) -> Option<FalseClaim>
     ensures { named result ≡ false_at holds offset (number_of claim) }
 {

@@ -32,6 +32,7 @@ pub fn take_parts(
 }
 
 /// A point, a line or a polygon, as the kind has it.
+#[inline(always)]
 pub fn take_part(
     cursor: &mut Cursor,
     kind: Kind,
@@ -53,6 +54,7 @@ pub fn take_part(
 }
 
 /// The rings of a polygon.
+#[inline(always)]
 fn take_polygon(cursor: &mut Cursor, axes: usize, trail: &mut Trail) -> Result<(), Malformed>
     requires some { 1 ≤ axes }
     requires few { axes ≤ 4 }
@@ -68,6 +70,7 @@ fn take_polygon(cursor: &mut Cursor, axes: usize, trail: &mut Trail) -> Result<(
 }
 
 /// The points of a ring, or of a line.
+#[inline(always)]
 fn take_ring(cursor: &mut Cursor, axes: usize, trail: &mut Trail) -> Result<(), Malformed>
     requires some { 1 ≤ axes }
     requires few { axes ≤ 4 }

@@ -53,6 +53,7 @@ impl Range {
     }
 
     /// The range in units, of coordinates at a precision.
+    #[inline(always)]
     pub fn in_units(&self, precision: i8) -> Option<Span>
         requires { IsPrecision precision }
         ensures { result ≡ scaled precision self.now }
@@ -101,6 +102,7 @@ impl Ranges {
     }
 
     /// All of them in units, by the precisions of the header.
+    #[inline(always)]
     pub fn in_units(&self, xy: i8, z: Option<u8>, m: Option<u8>) -> Extent
         requires xy { IsPrecision xy }
         requires z_high { IfSome z (λ p. p ≤ 7) }
@@ -116,6 +118,7 @@ impl Ranges {
         )
     }
 
+    #[inline(always)]
     fn axis(&self, axis: usize, precision: i8) -> Option<Span>
         requires within { axis < 4 }
         requires precision { IsPrecision precision }
@@ -125,6 +128,7 @@ impl Ranges {
         range.in_units(precision)
     }
 
+    #[inline(always)]
     fn axis_if(&self, axis: usize, precision: Option<u8>) -> Option<Span>
         requires within { axis < 4 }
         requires precision { IfSome precision (λ p. p ≤ 7) }

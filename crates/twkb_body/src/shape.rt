@@ -57,6 +57,7 @@ pub fn take_shape<A: Allocator>(
 }
 
 /// What was found on the way, in units.
+#[inline(always)]
 fn found_on(trail: &Trail, head: &Head) -> Found
     requires xy { IsPrecision head.now.xy }
     requires z_high { IfSome head.now.z (λ p. p ≤ 7) }
@@ -73,6 +74,7 @@ fn found_on(trail: &Trail, head: &Head) -> Found
 }
 
 /// How many coordinates a point has.
+#[inline(always)]
 fn axes_of(head: &Head) -> usize
     ensures some { 1 ≤ result }
     ensures few { result ≤ 4 }
@@ -82,6 +84,7 @@ fn axes_of(head: &Head) -> usize
 }
 
 /// Whether the body of a kind begins with a count of its parts.
+#[inline(always)]
 fn is_multi(kind: Kind) -> bool
     ensures { result ≡ is_multi kind }
 {

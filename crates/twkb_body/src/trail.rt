@@ -21,6 +21,7 @@ pub struct Trail {
 
 impl Trail {
     /// No point yet.
+    #[inline(always)]
     pub fn new() -> Trail
         ensures last { result.last ≡ zeros }
         ensures ranges { (axis : ℕ) → slice_index_or result.ranges.axes axis None ≡ None }
