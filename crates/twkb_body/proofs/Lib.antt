@@ -3,15 +3,16 @@ pub mod PartPlans
 pub mod Bodies
 pub mod Geometries
 pub mod BlobLaws
+pub mod Growing
+pub mod Orders
+pub mod LongLists
 pub mod Examples
 pub mod Reaches
 pub mod Judging
 pub mod Passes
 pub mod ClaimPlaces
-pub mod Growing
-pub mod Orders
-pub mod Distinct
 pub mod Scales
+pub mod Distinct
 pub mod Points
 pub mod Walks
 pub mod BodyRuns
@@ -24,4 +25,3 @@ pub mod HeadFacts
 pub mod GeometrySteps
 pub mod MemberSteps
 pub mod AuditFacts
-pub mod LongLists

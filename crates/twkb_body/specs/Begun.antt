@@ -25,13 +25,15 @@ pub data IsBegunList {A : Type 0} (ids : Bool) (Whole : A → List ℕ → Type 
       → points ≡ flat_map points_in xs ++ last → p ≡ count ++ (id_list ++ (wholes ++ rest))
       → IsBegunList ids Whole points_in Begun points p due
 
--- a ring, a polygon or a part begun
+-- a ring begun
 abbrev pub IsBegunRing : ℕ → List PointValue → List ℕ → Field → Type 0
 IsBegunRing axes = IsBegunList false (IsPoint axes) (λ point. point ∷ []) (IsBegunPoint axes)
 
+-- a polygon begun
 abbrev pub IsBegunPolygon : ℕ → List PointValue → List ℕ → Field → Type 0
 IsBegunPolygon axes = IsBegunList false (IsRing axes) (λ ring. ring) (IsBegunRing axes)
 
+-- a part of the kind begun
 abbrev pub IsBegunPart : Kind → ℕ → List PointValue → List ℕ → Field → Type 0
 IsBegunPart Point axes = IsBegunPoint axes
 IsBegunPart MultiPoint axes = IsBegunPoint axes

@@ -11,15 +11,19 @@ use Rattle.twkb_body.specs.Geometry.{Geometry, Members, none, PointValue, Ring, 
 use Rattle.twkb_body.specs.Encoding.{is_multi}
 use Rattle.twkb_body.specs.BodyPlan.{first_of, behind, add, sums, ring_sums, zeros, ListHead, Body, parts_body, members_body, part_body, no_body, geometry_from, members_of}
 
+-- a point
 abbrev pub point_at : ℕ → PointValue → Reader PointValue
 point_at axes s = many_at axes (λ s z. behind s) (λ s. coordinate_at (first_of s)) s
 
+-- a ring, or a line
 abbrev pub ring_at : ℕ → PointValue → Reader Ring
 ring_at axes s r = number_at r >>= λ n. many_at n add (point_at axes) s
 
+-- a polygon
 abbrev pub polygon_at : ℕ → PointValue → Reader PolygonValue
 polygon_at axes s r = number_at r >>= λ n. many_at n sums (ring_at axes) s
 
+-- a part of the kind
 abbrev pub part_at : Kind → ℕ → PointValue → Reader PolygonValue
 part_at Point axes s r = viewed (λ p. (p ∷ []) ∷ []) (point_at axes s r)
 part_at MultiPoint axes s r = viewed (λ p. (p ∷ []) ∷ []) (point_at axes s r)
@@ -43,6 +47,7 @@ unfoldable pub shape_at : Bool → Header → Reader Body
 shape_at false h r = viewed part_body (part_at h.kind (axes_of h) zeros r)
 shape_at true h r = list_at h.ids r >>= λ list a. viewed (parts_body list) (many_at (list.0).0 ring_sums (part_at h.kind (axes_of h)) zeros a)
 
+-- the body that a header announces
 unfoldable pub body_at : Bool → Bool → Header → (ℕ → Reader Members) → Reader Body
 body_at true collection h members r = (Ok no_body, r)
 body_at false true h members r = list_at h.ids r >>= λ list a. viewed (members_body list) (members (list.0).0 a)
@@ -58,6 +63,7 @@ parts_at levels members r =
 abbrev pub members_at : Reader Geometry → ℕ → Reader Members
 members_at each n r = viewed members_of (many_at n (λ (s : ℤ) (g : Geometry). s) (λ s. each) (pos 0) r)
 
+-- a geometry, over the reader of its members
 abbrev pub geometry_by : ℕ → (ℕ → Reader Members) → Reader Geometry
 geometry_by levels members r = viewed (λ x. geometry_from x.0 x.1) (spanned r (parts_at levels members r))
 

@@ -135,5 +135,6 @@ unfoldable mutual
 abbrev pub Blob : Geometry → List ℕ → ℕ → Type 0
 Blob = BlobUnder deepest
 
+-- one blob after another
 abbrev pub Blobs : Members → List ℕ → ℕ → Type 0
 Blobs = BlobsUnder deepest

@@ -16,9 +16,11 @@ number_of Size = 6
 number_of Box = 7
 number_of Ids = 8
 
+-- a false claim by its offset and the number of its kind
 abbrev pub named : Option FalseClaim → Refused
 named refused = option_map (λ f. (f.offset, number_of f.claim)) refused
 
+-- what was found, as the pass has it
 abbrev pub summary : Found → Summary
 summary f = record { count = f.vertices; reach = f.extent; refused = named f.refused }
 

@@ -36,11 +36,13 @@ pub record Sums (tight : Bool) (g : Geometry) (start : ℕ) (s : Summary) : Type
   pub reach : s.reach ≡ reach_of (vertices g)
   pub refused : NamesFirstFalse (claims_in tight g start) s.refused
 
+-- the same of members
 pub record MemberSums (tight : Bool) (gs : Members) (start : ℕ) (s : Summary) : Type 0 where
   pub count : s.count ≡ length (member_vertices gs)
   pub reach : s.reach ≡ reach_of (member_vertices gs)
   pub refused : NamesFirstFalse (member_claims tight gs start) s.refused
 
+-- nothing was read
 abbrev pub nothing : Summary
 nothing = record { count = 0; reach = reach_of []; refused = None }
 
@@ -54,27 +56,33 @@ covers None range = true
 covers (Some span) None = true
 covers (Some span) (Some range) = int_le span.lo range.lo && int_le range.hi span.hi
 
+-- whether a box holds the reach
 abbrev pub is_within : Reach → Bounds → Bool
 is_within reach box = covers (Some box.x) reach.x && (covers (Some box.y) reach.y && (covers box.z reach.z && covers box.m reach.m))
 
+-- whether neither end is a step away
 abbrev pub hugs : Span → ℤ → Option Span → Bool
 hugs span step None = true
 hugs span step (Some range) = int_lt (range.lo -ℤ span.lo) step && int_lt (span.hi -ℤ range.hi) step
 
+-- the same, where the box has the axis
 abbrev pub hugs_if_both : Option Span → Option ℕ → Option Span → Bool
 hugs_if_both None p range = true
 hugs_if_both (Some span) None range = true
 hugs_if_both (Some span) (Some p) range = hugs span (units_of (pos 1) (pos p)) range
 
+-- whether a box is tight
 abbrev pub is_tight : ℤ → Option ℕ → Option ℕ → Bounds → Reach → Bool
 is_tight xy z m box reach =
     hugs box.x (units_of (pos 1) xy) reach.x
     && (hugs box.y (units_of (pos 1) xy) reach.y && (hugs_if_both box.z z reach.z && hugs_if_both box.m m reach.m))
 
+-- whether an id differs from those of a list
 abbrev pub differs : ℤ → List ℤ → Bool
 differs a [] = true
 differs a (b ∷ bs) = not (int_eq a b) && differs a bs
 
+-- whether the ids of a list differ
 abbrev pub are_distinct : List ℤ → Bool
 are_distinct [] = true
 are_distinct (a ∷ bs) = differs a bs && are_distinct bs
@@ -84,16 +92,19 @@ abbrev pub false_at : Bool → ℕ → ℕ → Refused
 false_at true at kind = None
 false_at false at kind = Some (at, kind)
 
+-- the size, if it is false
 abbrev pub size_refused : ℕ → Lengths → Option ℕ → Refused
 size_refused start l None = None
 size_refused start l (Some n) = false_at (n == l.whole - (l.before + l.size)) (start + l.before) 6
 
+-- the box, if it is false, or in tight checking not tight
 abbrev pub box_refused : Bool → ℕ → Header → Reach → Option (List (ℤ × ℤ)) → Refused
 box_refused tight at h reach None = None
 box_refused tight at h reach (Some ranges) =
     first (false_at (is_within reach (bounds_of h.xy h.z h.m ranges)) at 7)
     (cond tight (false_at (is_tight h.xy h.z h.m (bounds_of h.xy h.z h.m ranges) reach) at 9) None)
 
+-- the ids, if two are equal
 abbrev pub ids_refused : ℕ → Option (List ℤ) → Refused
 ids_refused at None = None
 ids_refused at (Some ids) = false_at (are_distinct ids) at 8

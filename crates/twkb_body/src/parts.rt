@@ -55,6 +55,7 @@ pub fn take_part(
 }
 
 /// The rings of a polygon.
+#[inline(always)]
 fn take_polygon(cursor: &mut Cursor, axes: usize, trail: &mut Trail) -> Result<(), Malformed>
     requires some { 1 ≤ axes }
     requires few { axes ≤ 4 }
@@ -70,6 +71,7 @@ fn take_polygon(cursor: &mut Cursor, axes: usize, trail: &mut Trail) -> Result<(
 }
 
 /// The points of a ring, or of a line.
+#[inline(always)]
 fn take_ring(cursor: &mut Cursor, axes: usize, trail: &mut Trail) -> Result<(), Malformed>
     requires some { 1 ≤ axes }
     requires few { axes ≤ 4 }
