@@ -1,8 +1,8 @@
 //! Blobs whose answers are known from the format's own words; all that comes of them by a cut or by one changed byte,
 //! against a plain program; and memory that runs out.
 use super::*;
-use linked_list_allocator::LocalHeap;
 use plain::plain_audit;
+use refusing::Refusing;
 use std::alloc::Global;
 use std::process::Abort;
 use std::test::Fail;
@@ -359,37 +359,34 @@ fn depths(rt: HostRuntime) -> Result<(), Fail> {
     Ok(())
 }
 
-// A heap that is too small refuses the growth behind the sixteenth id, and none else is asked for.
+// Each allocation is refused in turn, until an audit meets no refusal. Only a list of more than sixteen ids asks for any.
 #[test]
 fn memory_runs_out(rt: HostRuntime) -> Result<(), Fail> {
-    let mut refusals = 0usize;
-    for size in 0..100usize {
-        let heap = LocalHeap::new(rt.alloc(), 16 * size)?;
+    let mut refusals = 0u64;
+    for call in 0..10u64 {
+        let memory = Refusing::new(rt.alloc(), call);
         let mut cursor = Cursor::new(&SEVENTEEN_IDS);
-        match audit_in(&heap, &mut cursor) {
-            Err(AuditFault::Memory) => {
-                assert_eq!(&rt; cursor.place(), 0);
-                assert_eq!(&rt; refusals, size);
-                refusals = size + 1;
-            }
-            answer => assert_eq!(&rt;
-                answer,
-                Ok(Audit {
-                    vertices: 17,
-                    stop: 54
-                })
-            ),
-        }
-        for (bytes, vertices) in CERTIFIED {
-            if bytes.len() < SEVENTEEN_IDS.len() {
-                let stop = bytes.len();
-                assert_eq!(&rt;
-                    audit_in(&heap, &mut Cursor::new(bytes)),
-                    Ok(Audit { vertices, stop })
-                );
-            }
+        let answer = audit_in(&memory, &mut cursor);
+        if memory.has_refused() {
+            assert_eq!(&rt; answer, Err(AuditFault::Memory));
+            assert_eq!(&rt; cursor.place(), 0);
+            refusals = call + 1;
+        } else {
+            let stop = SEVENTEEN_IDS.len();
+            assert_eq!(&rt; answer, Ok(Audit { vertices: 17, stop }));
         }
     }
-    assert!(&rt; 0 < refusals && refusals < 100);
+    assert!(&rt; 0 < refusals && refusals < 10, "{refusals}");
+    for (bytes, vertices) in CERTIFIED {
+        if bytes.len() < SEVENTEEN_IDS.len() {
+            let memory = Refusing::new(rt.alloc(), 0);
+            let stop = bytes.len();
+            assert_eq!(&rt;
+                audit_in(&memory, &mut Cursor::new(bytes)),
+                Ok(Audit { vertices, stop })
+            );
+            assert!(&rt; !memory.has_refused());
+        }
+    }
     Ok(())
 }

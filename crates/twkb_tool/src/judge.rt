@@ -9,7 +9,10 @@ use twkb_layer::{Cursor, Refusal, certify_in};
 #[derive(Clone, Copy, Debug, PartialEq, Eq)]
 pub enum Judgement {
     /// A certified layer, with its numbers of blobs and of vertices.
-    Certified { blobs: usize, vertices: usize },
+    Certified {
+        blobs: usize,
+        vertices: usize,
+    },
     /// None: the first blob that is malformed or has a false claim, an offset in the file, and the number of its kind.
     Refused {
         blob: usize,

@@ -1,6 +1,6 @@
 //! Allocations that are refused, each in turn.
-use crate::request::Request;
 use crate::judge::Verdict;
+use crate::request::Request;
 use crate::run::{RunFault, run_in};
 use crate::streams::memory::{MemSink, MemSource};
 use refusing::Refusing;
@@ -9,9 +9,11 @@ use std::process::Abort;
 use std::test::Fail;
 
 /// A multipoint of seventeen points, whose ids need memory.
-const SEVENTEEN_IDS: &[u8] = b"\x04\x04\x11\x00\x02\x04\x06\x08\x0A\x0C\x0E\x10\x12\x14\x16\x18\x1A\x1C\x1E\x20\
+const SEVENTEEN_IDS: &[u8] =
+    b"\x04\x04\x11\x00\x02\x04\x06\x08\x0A\x0C\x0E\x10\x12\x14\x16\x18\x1A\x1C\x1E\x20\
 \x00\x00\x00\x00\x00\x00\x00\x00\x00\x00\x00\x00\x00\x00\x00\x00\x00\
 \x00\x00\x00\x00\x00\x00\x00\x00\x00\x00\x00\x00\x00\x00\x00\x00\x00";
+
 const TEXT: &str = "ok blobs=1 vertices=17\n";
 
 /// One run with all its memory from an allocator: whether it answered that memory ran out.

@@ -11,20 +11,18 @@ use std::process::Abort;
 use std::test::Fail;
 
 /// Runs `check` with streams that move `step` bytes at a call, and compares text, verdict and status.
-fn checks(
-    rt: &impl Abort,
-    alloc: Global,
-    bytes: &[u8],
-    step: usize,
-    text: &str,
-) -> Result<(), Fail>
+fn checks(rt: &impl Abort, alloc: Global, bytes: &[u8], step: usize, text: &str) -> Result<(), Fail>
     requires { 0 < step }
 {
     let mut source = MemSource::new(bytes, step, None);
     let mut sink = MemSink::new(alloc, 100, step, None)?;
     let outcome = run(alloc, &mut source, &mut sink, &Request::Check, 1000);
     let is_certified = text.starts_with("ok");
-    let verdict = if is_certified { Verdict::Yes } else { Verdict::No };
+    let verdict = if is_certified {
+        Verdict::Yes
+    } else {
+        Verdict::No
+    };
     assert_eq!(rt; sink.bytes(), text.as_bytes());
     assert_eq!(rt; outcome, Ok(verdict));
     assert_eq!(rt; status_of(&outcome), u8::from(!is_certified));

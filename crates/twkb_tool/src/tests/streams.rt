@@ -1,19 +1,18 @@
 //! Sources and sinks that fail, that have no end, and those over real files.
-use crate::request::Request;
 use crate::judge::Verdict;
+use crate::request::Request;
 use crate::run::{RunFault, run};
 use crate::status::status_of;
 use crate::streams::io::{FromReader, ToWriter};
 use crate::streams::memory::{MemSink, MemSource};
 use crate::streams::{Sink, Source, SourceFailed};
-use std::env;
-use std::fs;
 use std::fs::File;
-use std::io;
 use std::io::{Read, Write};
 use std::test::Fail;
+use std::{env, fs, io};
 
 const POINT: [u8; 5] = [0x01, 0x02, 0x02, 0x02, 0x04];
+
 const TEXT: &str = "ok blobs=1 vertices=1\n";
 
 #[test]
