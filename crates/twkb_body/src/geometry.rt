@@ -25,8 +25,10 @@ pub fn take_geometry<A: Allocator>(
     requires deepest { depth ≤ deepest }
     ensures { ReadsOrStops (geometry_at (deepest - depth) cursor.old) (λ g found. IsFound g cursor.old.place cursor.new.place found) (HasLongList depth (rest cursor.old)) cursor.old result cursor.new }
 {
+    // The proof knows from here that the place is within the bytes.
     let _start = cursor.place();
     let head = read_head(cursor, depth)?;
+    // The proof knows from here that the place is within the bytes.
     let _body = cursor.place();
     if head.empty {
         let stop = cursor.place();
@@ -42,6 +44,7 @@ pub fn take_geometry<A: Allocator>(
     let mut found = Found::nothing();
     for _ in 0..list.count {
         let member = take_geometry(alloc, cursor, depth + 1)?;
+        // The proof knows from here that the place is within the bytes.
         let _stop = cursor.place();
         found = found.then(member);
     }

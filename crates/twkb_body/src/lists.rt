@@ -32,6 +32,7 @@ pub fn take_list<A: Allocator>(
 ) -> Result<List, Stopped>
     ensures { ReadsOrStops (list_at has_ids cursor.old) (λ head list. IsListFound cursor.old cursor.new head list) (HasManyIdsAfterCount has_ids (rest cursor.old)) cursor.old result cursor.new }
 {
+    // The proof knows from here that the place is within the bytes.
     let _start = cursor.place();
     let count = take_number(cursor)?;
     if has_ids {
@@ -50,6 +51,7 @@ pub fn take_list<A: Allocator>(
 fn take_ids<A: Allocator>(alloc: &A, cursor: &mut Cursor, count: u64) -> Result<bool, Stopped>
     ensures { ReadsOrStops (signeds_at count cursor.old) (λ ids distinct. IsTrue distinct ↔ AllPairs (λ a b. a ≢ b) ids) (HasManyIds count (rest cursor.old)) cursor.old result cursor.new }
 {
+    // The proof knows from here that the place is within the bytes.
     let _start = cursor.place();
     let mut ids: SmallVec<i64, 16, &A> = SmallVec::new(alloc);
     for _ in 0..count {

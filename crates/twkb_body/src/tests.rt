@@ -278,6 +278,13 @@ fn malformed_blobs(rt: HostRuntime) {
         assert_eq!(rt; audit(rt.alloc(), &mut cursor), Err(fault), "of {bytes:?}");
         assert_eq!(rt; cursor.place(), 0);
     }
+    let mut equal_ids = SEVENTEEN_IDS;
+    equal_ids[19] = equal_ids[3];
+    let fault = AuditFault::FalseClaim {
+        offset: 3,
+        claim: Claim::Ids,
+    };
+    assert_eq!(rt; audit(rt.alloc(), &mut Cursor::new(&equal_ids)), Err(fault));
 }
 
 #[test]

@@ -69,6 +69,7 @@ pub fn take_point(cursor: &mut Cursor, axes: usize, trail: &mut Trail) -> Result
         trail.last[axis] = coordinate;
         trail.ranges.add(axis, coordinate);
     }
+    // The proof knows from here that the place is within the bytes.
     let _stop = cursor.place();
     trail.points += 1;
     Ok(())

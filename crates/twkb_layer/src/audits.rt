@@ -27,6 +27,7 @@ pub fn audit_all<A: Allocator>(alloc: &A, cursor: &mut Cursor) -> Result<Totals,
     ensures kinds { IfErr result NamesKind }
     ensures complete { (trees : List Geometry) → IsCertifiedLayer trees cursor.old.bytes → IsOkUnless result Refusal.Memory }
 {
+    // The proof knows from here that the place is within the bytes.
     let _start = cursor.place();
     let mut totals = Totals {
         blobs: 0,

@@ -1,23 +1,16 @@
 -- What the bytes of a file are.
-use Rattle.std.specs.Prelude.{◌≡◌, ℕ, ◌≤◌, List, length}
+use Rattle.std.specs.Prelude.{ℕ, ◌≤◌, List}
 use Rattle.twkb_body.specs.Geometry.{Geometry}
-use Rattle.twkb_layer.specs.Layer.{IsCertifiedLayer, vertex_count}
+use Rattle.twkb_layer.specs.Layer.{IsCertifiedLayer, IsCounted}
 use Rattle.twkb_layer.specs.Refusal.{IsRefusal}
 use Rattle.twkb_tool.specs.declared.judge.Judgement.{Judgement}
 use Rattle.twkb_tool.specs.declared.judge.Judgement.TheVariants.{Certified, Refused}
 use Rattle.twkb_tool.specs.declared.judge.Verdict.{Verdict}
 use Rattle.twkb_tool.specs.declared.judge.Verdict.TheVariants.{Yes, No}
 
--- the bytes are a certified layer with so many blobs and vertices
-pub record IsCertifiedWith (bytes : List ℕ) (blobs vertices : ℕ) : Type 0 where
-  pub trees : List Geometry
-  pub layer : IsCertifiedLayer trees bytes
-  pub blobs_are : blobs ≡ length trees
-  pub vertices_are : vertices ≡ vertex_count trees
-
 -- the judgement is right of the bytes
 abbrev pub IsJudgement : List ℕ → Judgement → Type 0
-IsJudgement bytes (Certified blobs vertices) = IsCertifiedWith bytes blobs vertices
+IsJudgement bytes (Certified blobs vertices) = IsCounted bytes blobs vertices
 IsJudgement bytes (Refused blob offset kind) = IsRefusal bytes blob offset kind
 
 -- the kind of a refusal has a word

@@ -9,10 +9,11 @@ use Rattle.twkb_tool.specs.declared.run.RunFault.TheVariants.{Read, TooLarge, Me
 
 -- ---- reading
 
--- the source gave these bytes, at most so many, and has none to come
+-- the source gave these bytes, at most so many, has none to come, and its last call did not fail
 pub record GivesAll (limit : ℕ) (s t : SourceState) (given : List ℕ) : Type 0 where
   pub gives : Gives s t given
   pub ends : IsTrue s.tells → t.rest ≡ []
+  pub fine : t.failed ≡ false
   pub within : length given ≤ limit
 
 -- no piece came, and why

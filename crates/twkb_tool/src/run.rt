@@ -120,6 +120,7 @@ fn take_piece<A: Allocator, S: Source>(
     ensures piece { IfOk result (λ n. (given : List ℕ) × Gives (S.state source.old) (S.state source.new) given
         × (length given ≡ n) × (bytes.new.items ≡ bytes.old.items ++ given)) }
     ensures end { result ≡ Ok 0 → IsTrue (S.state source.old).tells → (S.state source.new).rest ≡ [] }
+    ensures fine { OnOk result ((S.state source.new).failed ≡ false) }
     ensures within { OnOk result (vec_len bytes.new ≤ limit + 1) }
     ensures err { IfErr result (λ fault. StopsPiece fault (S.state source.old) (S.state source.new)) }
 {
