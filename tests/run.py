@@ -23,7 +23,7 @@ LINE = b"ok blobs=1 vertices=1\n"
 POINT = bytes.fromhex("01000204")
 NOBODY = 65534
 GREATEST_FILE = 268435456
-# Blobs and vertices as PostGIS counts them.
+# Layers that PostGIS wrote, with their blobs and vertices.
 EXAMPLES = [
     ("points_sized.twkb", 2286, 2286),
     ("coast_lines_sized.twkb", 1715, 14590),
