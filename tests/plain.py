@@ -1,4 +1,4 @@
-"""A plain checker of TWKB layers, written from docs/FORMAT.md alone, to compare the program with.
+"""A plain checker of TWKB layers by the rules of docs/FORMAT.md, to compare the program with.
 
 `answer(bytes)` is the line that `check` has to print. It is short rather than fast: a geometry is read into a tree, and
 its claims are listed and judged afterwards.
