@@ -12,6 +12,7 @@ pub enum NumFault {
 }
 
 /// The number that the front of `bytes` spells, and the length of its spelling.
+#[inline(always)]
 pub fn decode(bytes: &[u8]) -> Result<(u64, usize), NumFault>
     ensures len { IfOk result (λ read. read.1 ≤ length bytes.now) }
     ensures ok { IfOk result (λ read. Spells (take read.1 bytes.now) read.0) }
