@@ -15,17 +15,29 @@ use std::marker::Model;
 pub struct Cursor<'a> {
     bytes: &'a [u8],
     place: usize,
-    count: u64,
+    // The count is that of `counted_before` and of the bytes from `start` to the place, so that a read
+    // moves the place alone. A jump starts anew; a fault, whose bytes aren't passed, adds to `counted_before`.
+    start: usize,
+    counted_before: u64,
 }
 
 impl<'a> Model for Cursor<'a> {
-    ghost use Rattle.twkb_num.specs.Cursor.{Reading, IsSound};
+    ghost use Rattle.std.specs.Prelude.{◌-◌, ◌≤◌};
+    ghost use Rattle.twkb_num.specs.Cursor.{Reading, IsSound, added};
 
     ghost Value = { Reading };
 
-    ghost view = { λ c. record { bytes = c.bytes.now; place = c.place; count = c.count } };
+    ghost view = { λ c. record {
+      bytes = c.bytes.now;
+      place = c.place;
+      count = added c.counted_before (c.place - c.start);
+    } };
 
-    ghost invariant = { λ c. IsSound (record { bytes = c.bytes.now; place = c.place; count = c.count }) };
+    ghost invariant = { λ c. (c.start ≤ c.place) × IsSound (record {
+      bytes = c.bytes.now;
+      place = c.place;
+      count = added c.counted_before (c.place - c.start);
+    }) };
 }
 
 impl<'a> Cursor<'a> {
@@ -37,7 +49,8 @@ impl<'a> Cursor<'a> {
         Cursor {
             bytes,
             place: 0,
-            count: 0,
+            start: 0,
+            counted_before: 0,
         }
     }
 
@@ -64,7 +77,8 @@ impl<'a> Cursor<'a> {
     pub fn read_count(&self) -> u64
         ensures { result ≡ self.now.count }
     {
-        self.count
+        let passed = self.place - self.start;
+        self.counted_before.saturating_add(passed as u64)
     }
 
     /// Moves to a place, before or after the present one. The count is unchanged.
@@ -73,6 +87,8 @@ impl<'a> Cursor<'a> {
         requires { place ≤ length self.old.bytes }
         ensures { self.new ≡ record self.old { place = place } }
     {
+        self.counted_before = self.read_count();
+        self.start = place;
         self.place = place;
     }
 
@@ -86,7 +102,6 @@ impl<'a> Cursor<'a> {
     {
         let byte = *self.bytes.get(self.place)?;
         self.place += 1;
-        self.count = self.count.saturating_add(1);
         Some(byte)
     }
 
@@ -107,14 +122,12 @@ impl<'a> Cursor<'a> {
         if let Some(&first) = self.bytes.get(self.place) {
             if first < 128 {
                 self.place += 1;
-                self.count = self.count.saturating_add(1);
                 return Ok(u64::from(first));
             }
             if let Some(&second) = self.bytes.get(self.place + 1)
                 && second < 128
             {
                 self.place += 2;
-                self.count = self.count.saturating_add(2);
                 return Ok(u64::from(first % 128) + 128 * u64::from(second));
             }
         }
@@ -134,7 +147,6 @@ impl<'a> Cursor<'a> {
         match decode(bytes) {
             Ok((value, len)) => {
                 self.place += len;
-                self.count = self.count.saturating_add(len as u64);
                 Ok(value)
             }
             Err(fault) => {
@@ -142,7 +154,7 @@ impl<'a> Cursor<'a> {
                     NumFault::Cut => bytes.len(),
                     NumFault::Long => 10,
                 };
-                self.count = self.count.saturating_add(looked_at as u64);
+                self.counted_before = self.counted_before.saturating_add(looked_at as u64);
                 Err(fault)
             }
         }

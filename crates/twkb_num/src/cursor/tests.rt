@@ -44,7 +44,8 @@ fn the_greatest_count_stays(rt: HostRuntime) {
     let mut cursor = Cursor {
         bytes: &[0x01, 0x80, 0x01, 0x80],
         place: 0,
-        count: u64::MAX - 1,
+        start: 0,
+        counted_before: u64::MAX - 1,
     };
     assert_eq!(rt; cursor.byte(), Some(1));
     assert_eq!(rt; cursor.read_count(), u64::MAX);

@@ -1,6 +1,6 @@
-use Rattle.std.proofs.Common.{◌+◌, ◌*◌, arith}
+use Rattle.std.proofs.Common.{◌+◌, ◌-◌, ◌*◌, arith}
 use Rattle.std.proofs.lemmas.Grind.{common_steps}
-use Rattle.twkb_num.specs.Cursor.{Reading, passed, IsMoved}
+use Rattle.twkb_num.specs.Cursor.{Reading, added, passed, IsMoved}
 use Rattle.twkb_num.specs.Varint.{Spells}
 use Rattle.twkb_num.proofs.ReadLaws.{Ok-complete, Ok-no_fault, result-complete}
 use Rattle.twkb_num.proofs.cursor.Cursor.uvarint.Goals as goal
@@ -8,7 +8,7 @@ use Rattle.twkb_num.proofs.cursor.Cursor.uvarint.Goals as goal
 pub returns-then-first-lt128 : goal.returns-then-first-lt128
 returns-then-first-lt128 c =
     let old = c.args.self.now in
-    let new : Reading = record { bytes = c.self.inside.bytes.now; place = c.self.inside.place + 1; count = c.saturating_add-self-inside.result } in
+    let new : Reading = record { bytes = c.self.inside.bytes.now; place = c.self.inside.place + 1; count = added c.self.inside.counted_before (c.self.inside.place + 1 - c.self.inside.start) } in
     let spells : Spells (passed old new) c.from.result = grind (arith, common_steps) in
     let moved : IsMoved old new = grind (arith, common_steps) in
     record { ok = spells; moved = moved; complete = Ok-complete old new _ spells moved; fault = Ok-no_fault old new _ spells moved; still = tt }
@@ -16,7 +16,7 @@ returns-then-first-lt128 c =
 pub returns-in-Some : goal.returns-in-Some
 returns-in-Some c =
     let old = c.args.self.now in
-    let new : Reading = record { bytes = c.self.inside.bytes.now; place = c.self.inside.place + 2; count = c.saturating_add-self-inside-in-Some.result } in
+    let new : Reading = record { bytes = c.self.inside.bytes.now; place = c.self.inside.place + 2; count = added c.self.inside.counted_before (c.self.inside.place + 2 - c.self.inside.start) } in
     let spells : Spells (passed old new) (c.from-in-Some.result + 128 * c.from-in-Some-2.result) = grind (arith, common_steps) in
     let moved : IsMoved old new = grind (arith, common_steps) in
     record { ok = spells; moved = moved; complete = Ok-complete old new _ spells moved; fault = Ok-no_fault old new _ spells moved; still = tt }
