@@ -33,7 +33,6 @@
 mod answers;
 mod auditing;
 mod extent;
-mod fields;
 mod found;
 mod geometry;
 mod ids;

@@ -7,12 +7,12 @@ ghost use Rattle.twkb_body.specs.BodyReader.{list_at};
 ghost use Rattle.twkb_body.specs.IdLists.{HasManyIds, HasManyIdsAfterCount, IsListFound};
 
 use crate::answers::Claim;
-use crate::fields::{take_number, take_signed};
 use crate::found::{FalseClaim, claimed};
 use crate::ids::are_distinct;
 use crate::stopped::Stopped;
 use smallvec::SmallVec;
 use std::alloc::Allocator;
+use twkb_head::{take_number, take_signed};
 use twkb_num::Cursor;
 
 /// A count, and, where ids are announced, the ids, if they are not distinct.

@@ -6,9 +6,8 @@ ghost use Rattle.twkb_body.specs.BodyReader.{ring_at, polygon_at, part_at};
 ghost use Rattle.twkb_body.specs.Geometry.{points_of};
 ghost use Rattle.twkb_body.specs.Walk.{IsWalked};
 
-use crate::fields::take_number;
 use crate::trail::{Trail, take_point};
-use twkb_head::{Kind, Malformed};
+use twkb_head::{Kind, Malformed, take_number};
 use twkb_num::Cursor;
 
 /// A count of parts, and the parts, of a kind that has them.

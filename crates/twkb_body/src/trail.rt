@@ -5,9 +5,8 @@ ghost use Rattle.twkb_body.specs.BodyReader.{point_at};
 ghost use Rattle.twkb_body.specs.BodyPlan.{zeros};
 ghost use Rattle.twkb_body.specs.Walk.{IsWalked};
 
-use crate::fields::take_signed;
 use crate::range::Ranges;
-use twkb_head::{Malformed, Why};
+use twkb_head::{Malformed, Why, take_signed};
 use twkb_num::Cursor;
 
 /// What a pass carries of the points under one header.

@@ -1,4 +1,4 @@
-//! The fields of a header, each read by itself.
+//! The fields of a header, each read by itself; its two readers of numbers read those of a body too.
 //!
 //! Each reader answers as the reader of the same name in `specs/` does (`byte_at`, `number_at`, ..): with the value, past
 //! the field, or with the field's place and what is wrong there.
@@ -46,7 +46,10 @@ pub fn take_byte(cursor: &mut Cursor) -> Result<u8, Malformed>
     }
 }
 
-/// The unsigned number at the place.
+/// The unsigned number at the place, or the place and what is wrong there.
+///
+/// On `Ok` the cursor is behind the number. On `Err` the place is as it was, which is the offset of the refusal; its
+/// reason is `Cut` or `Varint`, and the bytes looked at are counted.
 #[inline(always)]
 pub fn take_number(cursor: &mut Cursor) -> Result<u64, Malformed>
     ensures { number_at cursor.old ≡ (result, cursor.new) }
@@ -57,7 +60,7 @@ pub fn take_number(cursor: &mut Cursor) -> Result<u64, Malformed>
     }
 }
 
-/// The signed number at the place.
+/// The signed number at the place, by zigzag, or the place and what is wrong there; else as [`take_number`].
 #[inline(always)]
 pub fn take_signed(cursor: &mut Cursor) -> Result<i64, Malformed>
     ensures { signed_at cursor.old ≡ (result, cursor.new) }

@@ -10,6 +10,9 @@
 //! - On `Err` a [`Malformed`] names the first field that can't follow the bytes before it, and says [`Why`]; the cursor
 //!   is back at its place, and only the count has moved.
 //!
+//! [`take_number`] and [`take_signed`] read a single number in the same way. A header's numbers are read by them, and so
+//! are those of the body behind it.
+//!
 //! A header has at most 93 bytes: three single ones, a size of ten, and a box of eight numbers of ten bytes each.
 //!
 //!     let mut cursor = Cursor::new(&[0x02, 0x03, 0x09, 0x02, 0x08, 0x02, 0x08, 0x02, 0x02, 0x02, 0x08, 0x08]);
@@ -19,7 +22,8 @@
 //! What the bytes of a header are is said in `specs/Header.antt` (`IsHeader`), what a header that is begun may go on with
 //! in `specs/BegunHeader.antt`, and what the answers of `read_head` mean in `specs/Head.antt` and `specs/Refusal.antt`.
 //! [`laws`] has what holds of these definitions alone. The other files of `specs/` are devices of proofs: reading as a
-//! plan of fields (`Plan`, `HeadPlan`) and as the code does it, one field after another (`Reader`, `HeadReader`).
+//! plan of fields (`Plan`, `HeadPlan`) and as the code does it, one field after another (`Reader`, `HeadReader`). Of these
+//! the contracts of the two readers of numbers name `number_at` and `signed_at` (`specs/Reader.antt`).
 #![tactic(auto)]
 
 mod bits;
@@ -35,6 +39,7 @@ mod refusal;
 mod tests;
 
 pub use boxes::{Bounds, Span, Vertex};
+pub use fields::{take_number, take_signed};
 pub use header::{BoxField, Head, SizeField};
 pub use kinds::{DEEPEST, Kind};
 pub use read::read_head;
