@@ -3,11 +3,11 @@ use Rattle.std.proofs.Common.{◌≡◌, ℕ, suc, ◌+◌, ◌≤◌, Bool, tru
 use Rattle.twkb_head.specs.Header.{Header}
 use Rattle.twkb_head.specs.BegunHeader.{is_collection}
 use Rattle.twkb_body.specs.Geometry.{Geometry, Members, geometry, none, more, Lengths, lengths_of, PolygonValue, member_count}
-use Rattle.twkb_body.specs.Encoding.{is_multi, IsNumbers, IsBody, StartsWithHeader, BlobUnder, BlobsUnder}
+use Rattle.twkb_body.specs.Encoding.{is_multi, IsNumbers, IsBody, IsHeaderThenBody, BlobUnder, BlobsUnder}
 use Rattle.twkb_body.specs.Pass.{member_total, HasOrder, HaveOrder}
 
 -- the header, with its size and its box, and the body behind it
-starts_order : (h : Header) (l : Lengths) (bytes body : List ℕ) → StartsWithHeader h l bytes body → (l.before + l.size ≤ l.header) × (l.whole ≡ l.header + length body)
+starts_order : (h : Header) (l : Lengths) (bytes body : List ℕ) → IsHeaderThenBody h l bytes body → (l.before + l.size ≤ l.header) × (l.whole ≡ l.header + length body)
 starts_order h l bytes body s =
     let e = s.header.extended_bytes in
     let z = s.header.size_bytes in

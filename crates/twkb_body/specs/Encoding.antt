@@ -109,8 +109,8 @@ IsBody true collection h l ids polygons n Each bytes = IsNothing l ids polygons 
 IsBody false true h l ids polygons n Each bytes = (polygons ≡ []) × IsList h l ids n Each bytes
 IsBody false false h l ids polygons n Each bytes = (n ≡ 0) × IsShape h l ids polygons bytes
 
--- the header stands first, and the lengths are those of its fields
-pub record StartsWithHeader (h : Header) (l : Lengths) (bytes body : List ℕ) : Type 0 where
+-- the bytes are the header, whose fields have these lengths, and then the body
+pub record IsHeaderThenBody (h : Header) (l : Lengths) (bytes body : List ℕ) : Type 0 where
   pub head : List ℕ
   pub fields : bytes ≡ head ++ body
   pub header : IsHeader h head
@@ -123,7 +123,7 @@ unfoldable mutual
   -- The bytes are the geometry's, which stands at the depth, where the deepest may stand at the limit; its size number is free.
   pub BlobUnder : ℕ → Geometry → List ℕ → ℕ → Type 0
   BlobUnder limit (geometry h l ids polygons members) bytes depth =
-      (body : List ℕ) × StartsWithHeader h l bytes body × IsAllowedUnder limit h.kind depth
+      (body : List ℕ) × IsHeaderThenBody h l bytes body × IsAllowedUnder limit h.kind depth
       × IsBody h.empty (is_collection h.kind) h l ids polygons (member_count members) (λ rest. BlobsUnder limit members rest (suc depth)) body
 
   -- one geometry after another
