@@ -1,6 +1,7 @@
 //! Reading a header.
-ghost use Rattle.std.specs.Prelude.{◌≡◌, ◌≢◌, ◌↔◌, ◌-◌, ◌≤◌, option_map, IfOk, OnOk, IfErr, IsOk};
+ghost use Rattle.std.specs.Prelude.{◌≡◌, ◌≢◌, ◌↔◌, ◌-◌, ◌≤◌, option_map, IfOk, OnOk, IfErr, IfSome, IsOk};
 ghost use Rattle.twkb_num.specs.Cursor.{rest, passed, counted, IsMoved};
+ghost use Rattle.twkb_num.specs.Units.{IsPrecision};
 ghost use Rattle.twkb_head.specs.BegunHeader.{deepest};
 ghost use Rattle.twkb_head.specs.declared.refusal.Why.TheVariants.{Range};
 ghost use Rattle.twkb_head.specs.Head.{StartsWithHeader, IsHeadAt};
@@ -31,6 +32,11 @@ pub fn read_head(cursor: &mut Cursor, depth: u8) -> Result<Head, Malformed>
     ensures ok { IfOk result (λ head. IsHeadAt head depth cursor.old.place (passed cursor.old cursor.new)) }
     ensures moved { OnOk result (IsMoved cursor.old cursor.new) }
 
+    // Its precisions lie in their ranges.
+    ensures xy { IfOk result (λ head. IsPrecision head.xy) }
+    ensures z_high { IfOk result (λ head. IfSome head.z (λ p. p ≤ 7)) }
+    ensures m_high { IfOk result (λ head. IfSome head.m (λ p. p ≤ 7)) }
+
     // It names the first field that can't follow, for one of the first four reasons, and counts what it looked at.
     ensures refused { IfErr result (λ m. IsRefusedHead m depth cursor.old.place (rest cursor.old)) }
     ensures no_range { IfErr result (λ m. m.why ≢ Range) }
@@ -49,7 +55,10 @@ pub fn read_head(cursor: &mut Cursor, depth: u8) -> Result<Head, Malformed>
 #[tactic(auto, unfolding(crate::specs::HeadReader::head_at))]
 fn take_head(cursor: &mut Cursor, depth: u8) -> Result<Head, Malformed>
     requires { depth ≤ deepest }
-    ensures { head_at (deepest - depth) cursor.old ≡ (result, cursor.new) }
+    ensures read { head_at (deepest - depth) cursor.old ≡ (result, cursor.new) }
+    ensures xy { IfOk result (λ head. IsPrecision head.xy) }
+    ensures z_high { IfOk result (λ head. IfSome head.z (λ p. p ≤ 7)) }
+    ensures m_high { IfOk result (λ head. IfSome head.m (λ p. p ≤ 7)) }
 {
     let start = cursor.place();
     let (kind, xy) = take_type(cursor, depth)?;

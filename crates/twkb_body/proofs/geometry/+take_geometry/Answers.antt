@@ -10,7 +10,7 @@ use Rattle.twkb_body.specs.BodyReader.{list_at, shape_at, geometry_at}
 use Rattle.twkb_body.specs.IdLists.{HasManyIdsAfterCount}
 use Rattle.twkb_body.specs.Inside.{of_head}
 use Rattle.twkb_body.specs.Audited.{HasLongList}
-use Rattle.twkb_body.proofs.HeadFacts.{head_xy, head_m, head_size}
+use Rattle.twkb_body.proofs.HeadFacts.{head_size}
 use Rattle.twkb_body.proofs.GeometrySteps.{members_under, header_fails, body_gives, body_fails, empty_body, shape_body, shape_of_head, nothing_inside, geometry_found}
 use Rattle.twkb_body.proofs.MemberSteps.{collection_below, members_begin, members_go_on, members_fail, members_end, no_list, no_member, collection_gives, members_inside, long_list_own, long_list_member}
 use Rattle.twkb_body.proofs.Stopping.{stops_outside}
@@ -34,12 +34,6 @@ returns-then-head g t c =
           (nothing_inside (of_head c.in_ok-head.head) _ _ c.nothing.ensures refl) c.judged.ensures.vertices c.judged.ensures.extent (rw c.place-stop.ensures.value at c.judged.ensures.refused),
     )
 
-pub take_shape-requires-clause-xy : goal.take_shape-requires-clause-xy
-take_shape-requires-clause-xy g t c = head_xy _ _ c.in_ok-head.head c.args.depth c.place-start.ensures.sound c.in_ok-head.ensures.ok c.in_ok-head.ensures.moved
-
-pub take_shape-requires-clause-m_high : goal.take_shape-requires-clause-m_high
-take_shape-requires-clause-m_high g t c = head_m _ _ c.in_ok-head.head c.args.depth c.place-start.ensures.sound c.in_ok-head.ensures.ok c.in_ok-head.ensures.moved
-
 pub returns-in_err-shape : goal.returns-in_err-shape
 returns-in_err-shape g t c =
     let p = err_from_is_err_and c.from_residual-in_err-shape.result c.from_residual-in_err-shape.ensures.1 in
@@ -57,7 +51,7 @@ returns-in_err-shape g t c =
 pub judged-requires-then-not-collection : goal.judged-requires-then-not-collection
 judged-requires-then-not-collection g t c =
     let s = c.in_ok-shape.ensures in
-    head_size _ _ c.in_ok-head.head c.args.depth c.place-start.ensures.sound c.in_ok-head.ensures.ok c.in_ok-head.ensures.moved _
+    head_size _ _ c.in_ok-head.head c.args.depth c.in_ok-head.ensures.ok c.in_ok-head.ensures.moved _
     (omega (arith, s.2.few, c.place-stop-then-not-collection.ensures.value))
 
 pub returns-then-not-collection : goal.returns-then-not-collection

@@ -8,8 +8,8 @@ use Rattle.twkb_head.specs.BegunHeader.{deepest}
 use Rattle.twkb_head.proofs.HeadSteps.{head_is}
 use Rattle.twkb_head.proofs.read.take_head.Goals as goal
 
-pub returns : goal.returns
-returns c =
+pub returns-clause-read : goal.returns-clause-read
+returns-clause-read c =
     let b8 : c.has_bit.result ≡ has_bit c.in_ok-metadata.metadata 8 = c.has_bit.ensures in
     let b2 : c.has_bit-2.result ≡ has_bit c.in_ok-metadata.metadata 2 = c.has_bit-2.ensures in
     let b1 : c.has_bit-3.result ≡ has_bit c.in_ok-metadata.metadata 1 = c.has_bit-3.ensures in
