@@ -195,13 +195,7 @@ impl<'a> Plain<'a> {
             return Err(malformed(start, Why::Depth));
         }
         let metadata = self.byte()?;
-        let extended = if metadata & 8 > 0 { self.byte()? } else { 0 };
-        let mut axes = Axes {
-            xy: PRECISIONS[usize::from(first / 16)],
-            z: precision_if(extended & 1 > 0, extended / 4 % 8),
-            m: precision_if(extended & 2 > 0, extended / 32),
-            last: [0; 4],
-        };
+        let mut axes = self.axes(first, metadata & 8 > 0)?;
         let size_offset = self.offset();
         let size = if metadata & 2 > 0 {
             Some(self.unsigned()?)
@@ -218,18 +212,36 @@ impl<'a> Plain<'a> {
         if metadata & 16 == 0 {
             self.body(alloc, depth, kind, metadata & 4 > 0, &mut axes)?;
         }
+        self.judge_size(size, size_offset, box_offset);
+        self.judge_box(bounds, box_offset, before);
+        Ok(())
+    }
+
+    fn axes(&mut self, first: u8, is_extended: bool) -> Result<Axes, Stop> {
+        let extended = if is_extended { self.byte()? } else { 0 };
+        Ok(Axes {
+            xy: PRECISIONS[usize::from(first / 16)],
+            z: precision_if(extended & 1 > 0, extended / 4 % 8),
+            m: precision_if(extended & 2 > 0, extended / 32),
+            last: [0; 4],
+        })
+    }
+
+    fn judge_size(&mut self, size: Option<u64>, offset: usize, after: usize) {
         if let Some(size) = size {
-            let length = self.offset().wrapping_sub(box_offset) as u64;
-            self.tell(size == length, size_offset, Claim::Size);
+            let length = self.offset().wrapping_sub(after) as u64;
+            self.tell(size == length, offset, Claim::Size);
         }
+    }
+
+    fn judge_box(&mut self, bounds: Option<Bounds>, offset: usize, before: usize) {
         if let Some(bounds) = bounds {
             let mut holds = true;
             for vertex in self.vertices.iter().skip(before) {
                 holds = holds && bounds.holds(vertex);
             }
-            self.tell(holds, box_offset, Claim::Box);
+            self.tell(holds, offset, Claim::Box);
         }
-        Ok(())
     }
 
     #[cycle(reading)]
