@@ -25,3 +25,4 @@ pub mod HeadFacts
 pub mod GeometrySteps
 pub mod MemberSteps
 pub mod AuditFacts
+pub mod VertexCounts
