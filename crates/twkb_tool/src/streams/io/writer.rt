@@ -1,0 +1,64 @@
+//! A sink over std's `Write`, which tells no bytes.
+ghost use Rattle.std.specs.Prelude.{◌≡◌, false};
+
+use crate::streams::{Sink, SinkFailed};
+use std::io::Write;
+
+/// A sink over a writer. An interrupted call, and one that takes no byte of some, is a failure.
+#[derive(Drop)]
+pub struct ToWriter<W> {
+    writer: W,
+    moved: u64,
+    failed: bool,
+    flushing: bool,
+}
+
+impl<W: Write> ToWriter<W> {
+    /// A sink that has taken nothing yet.
+    pub fn new(writer: W) -> ToWriter<W>
+        ensures moved { (⟦<ToWriter<W> as Sink>⟧.state result).moved ≡ 0 }
+        ensures failed { (⟦<ToWriter<W> as Sink>⟧.state result).failed ≡ false }
+    {
+        ToWriter {
+            writer,
+            moved: 0,
+            failed: false,
+            flushing: false,
+        }
+    }
+}
+
+impl<W: Write> Sink for ToWriter<W> {
+    ghost use Rattle.std.specs.Prelude.{false, []};
+
+    ghost state = { λ s. record { tells = false; bytes = []; moved = s.moved; failed = s.failed; flushing = s.flushing } };
+
+    fn put(&mut self, piece: &[u8]) -> Result<usize, SinkFailed> {
+        self.flushing = false;
+        match self.writer.write(piece) {
+            Ok(n) if n > 0 || piece.is_empty() => {
+                self.failed = false;
+                self.moved = self.moved.saturating_add(n as u64);
+                Ok(n)
+            }
+            _ => {
+                self.failed = true;
+                Err(SinkFailed)
+            }
+        }
+    }
+
+    fn flush(&mut self) -> Result<(), SinkFailed> {
+        self.flushing = true;
+        self.failed = self.writer.flush().is_err();
+        if self.failed { Err(SinkFailed) } else { Ok(()) }
+    }
+
+    fn failed(&self) -> bool {
+        self.failed
+    }
+
+    fn moved(&self) -> u64 {
+        self.moved
+    }
+}
