@@ -18,6 +18,7 @@ impl<W: Write> ToWriter<W> {
     pub fn new(writer: W) -> ToWriter<W>
         ensures moved { (⟦<ToWriter<W> as Sink>⟧.state result).moved ≡ 0 }
         ensures failed { (⟦<ToWriter<W> as Sink>⟧.state result).failed ≡ false }
+        ensures flushing { (⟦<ToWriter<W> as Sink>⟧.state result).flushing ≡ false }
     {
         ToWriter {
             writer,
