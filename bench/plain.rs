@@ -112,16 +112,31 @@ fn first(a: Option<(usize, &'static str)>, b: Option<(usize, &'static str)>) -> 
     }
 }
 
-fn geometry(reader: &mut Reader, depth: u8) -> Read<Judged> {
+struct Head {
+    kind: u8,
+    metadata: u8,
+    scales: [Option<i128>; 4],
+    /// Where the size stands, its value, and the place behind it.
+    size: Option<(usize, u64, usize)>,
+    bounds: Option<(usize, Extent)>,
+}
+
+#[inline(always)]
+fn kind(reader: &mut Reader, depth: u8) -> Read<u8> {
     let start = reader.place;
-    let kind_byte = reader.byte()?;
-    let kind = kind_byte & 15;
-    if !(1..=7).contains(&kind) {
+    let byte = reader.byte()?;
+    if !(1..=7).contains(&(byte & 15)) {
         return Err((start, Stop::Kind));
     }
-    if kind == 7 && depth == 32 {
+    if byte & 15 == 7 && depth == 32 {
         return Err((start, Stop::Depth));
     }
+    Ok(byte)
+}
+
+#[inline(always)]
+fn head(reader: &mut Reader, depth: u8) -> Read<Head> {
+    let kind_byte = kind(reader, depth)?;
     let raw = i32::from(kind_byte >> 4);
     let precision = (raw >> 1) ^ -(raw & 1);
     let metadata = reader.byte()?;
@@ -139,59 +154,78 @@ fn geometry(reader: &mut Reader, depth: u8) -> Read<Judged> {
     }
     let mut bounds = None;
     if metadata & 1 != 0 {
+        bounds = Some((reader.place, spans(reader, &scales)?));
+    }
+    Ok(Head { kind: kind_byte & 15, metadata, scales, size, bounds })
+}
+
+#[inline(always)]
+fn spans(reader: &mut Reader, scales: &[Option<i128>; 4]) -> Read<Extent> {
+    let mut spans: Extent = [None; 4];
+    for axis in 0..4 {
+        if let Some(scale) = scales[axis] {
+            let low = i128::from(reader.signed()?);
+            let high = low + i128::from(reader.signed()?);
+            spans[axis] = Some((low * scale, high * scale));
+        }
+    }
+    Ok(spans)
+}
+
+/// The count of a list, and its ids, if two are equal.
+#[inline(always)]
+fn list(reader: &mut Reader, metadata: u8) -> Read<(u64, Option<(usize, &'static str)>)> {
+    let count = reader.unsigned()?;
+    let mut refused = None;
+    if metadata & 4 != 0 {
         let offset = reader.place;
-        let mut spans: Extent = [None; 4];
-        for axis in 0..4 {
-            if let Some(scale) = scales[axis] {
-                let low = i128::from(reader.signed()?);
-                let high = low + i128::from(reader.signed()?);
-                spans[axis] = Some((low * scale, high * scale));
+        let mut ids = HashSet::new();
+        for _ in 0..count {
+            if !ids.insert(reader.signed()?) {
+                refused = Some((offset, "ids"));
             }
         }
-        bounds = Some((offset, spans));
     }
+    Ok((count, refused))
+}
+
+fn members(reader: &mut Reader, depth: u8, count: u64) -> Read<Judged> {
     let mut judged = Judged { vertices: 0, extent: [None; 4], refused: None };
-    let mut ids_refused = None;
-    if metadata & 16 == 0 {
-        let mut count = 1;
-        if kind >= 4 {
-            count = reader.unsigned()?;
-            if metadata & 4 != 0 {
-                let offset = reader.place;
-                let mut ids = HashSet::new();
-                for _ in 0..count {
-                    if !ids.insert(reader.signed()?) {
-                        ids_refused = Some((offset, "ids"));
-                    }
-                }
+    for _ in 0..count {
+        let member = geometry(reader, depth + 1)?;
+        judged.vertices += member.vertices;
+        judged.refused = first(judged.refused, member.refused);
+        for axis in 0..4 {
+            if let Some((low, high)) = member.extent[axis] {
+                add(&mut judged.extent, axis, low, high);
             }
-        }
-        if kind == 7 {
-            for _ in 0..count {
-                let member = geometry(reader, depth + 1)?;
-                judged.vertices += member.vertices;
-                judged.refused = first(judged.refused, member.refused);
-                for axis in 0..4 {
-                    if let Some((low, high)) = member.extent[axis] {
-                        add(&mut judged.extent, axis, low, high);
-                    }
-                }
-            }
-        } else {
-            let mut shape = Shape { reader, scales, last: [0; 4], extent: [None; 4], vertices: 0 };
-            for _ in 0..count {
-                match kind {
-                    1 | 4 => shape.point()?,
-                    2 | 5 => shape.line()?,
-                    _ => shape.polygon()?,
-                }
-            }
-            judged.vertices = shape.vertices;
-            judged.extent = shape.extent;
         }
     }
-    judged.refused = first(ids_refused, judged.refused);
-    if let Some((offset, spans)) = bounds {
+    Ok(judged)
+}
+
+#[inline(always)]
+fn shape(reader: &mut Reader, head: &Head, count: u64) -> Read<Judged> {
+    let mut shape = Shape { reader, scales: head.scales, last: [0; 4], extent: [None; 4], vertices: 0 };
+    for _ in 0..count {
+        match head.kind {
+            1 | 4 => shape.point()?,
+            2 | 5 => shape.line()?,
+            _ => shape.polygon()?,
+        }
+    }
+    Ok(Judged { vertices: shape.vertices, extent: shape.extent, refused: None })
+}
+
+fn geometry(reader: &mut Reader, depth: u8) -> Read<Judged> {
+    let head = head(reader, depth)?;
+    let mut judged = Judged { vertices: 0, extent: [None; 4], refused: None };
+    if head.metadata & 16 == 0 {
+        let (count, refused) = if head.kind >= 4 { list(reader, head.metadata)? } else { (1, None) };
+        judged = if head.kind == 7 { members(reader, depth, count)? } else { shape(reader, &head, count)? };
+        judged.refused = first(refused, judged.refused);
+    }
+    if let Some((offset, spans)) = head.bounds {
         let outside = (0..4).any(|axis| match (spans[axis], judged.extent[axis]) {
             (Some((low, high)), Some((least, greatest))) => least < low || high < greatest,
             _ => false,
@@ -200,7 +234,7 @@ fn geometry(reader: &mut Reader, depth: u8) -> Read<Judged> {
             judged.refused = first(Some((offset, "box")), judged.refused);
         }
     }
-    if let Some((offset, size, after)) = size {
+    if let Some((offset, size, after)) = head.size {
         if size != (reader.place - after) as u64 {
             judged.refused = first(Some((offset, "size")), judged.refused);
         }

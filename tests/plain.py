@@ -43,83 +43,102 @@ def zigzag(number):
     return number // 2 if number % 2 == 0 else -(number + 1) // 2
 
 
-def read_geometry(reader, depth, claims):
-    """The vertices in units, as lists of a coordinate or None for each of X, Y, Z and M."""
-    at = reader.place
-    first = reader.byte()
-    kind = first % 16
-    if kind not in TYPES:
-        raise Malformed(at, "type")
-    if kind == COLLECTION and depth == DEEPEST:
-        raise Malformed(at, "depth")
-    metadata = reader.byte()
-    precisions = [zigzag(first // 16), zigzag(first // 16), None, None]
-    if metadata & 8:
-        extended = reader.byte()
-        precisions[2] = extended // 4 % 8 if extended & 1 else None
-        precisions[3] = extended // 32 if extended & 2 else None
-    axes = [axis for axis in range(4) if precisions[axis] is not None]
-    size = box = ids = None
-    if metadata & 2:
-        size_at, size = reader.place, reader.unsigned()
-        after = reader.place
-    if metadata & 1:
-        box_at, box = reader.place, [None] * 4
-        for axis in axes:
-            low = reader.signed()
-            scale = 10 ** (7 - precisions[axis])
-            box[axis] = (low * scale, (low + reader.signed()) * scale)
-    vertices = []
-    if not metadata & 16:
-        last = [0] * 4
+class Head:
+    """The header of a geometry at a depth, and where its size and its box stand."""
 
-        def point():
-            vertex = [None] * 4
-            for axis in axes:
-                offset = reader.place
-                last[axis] += reader.signed()
-                if not -(2**63) <= last[axis] < 2**63:
-                    raise Malformed(offset, "range")
-                vertex[axis] = last[axis] * 10 ** (7 - precisions[axis])
-            vertices.append(vertex)
+    def __init__(self, reader, depth):
+        at, first = reader.place, reader.byte()
+        self.kind = first % 16
+        if self.kind not in TYPES:
+            raise Malformed(at, "type")
+        if self.kind == COLLECTION and depth == DEEPEST:
+            raise Malformed(at, "depth")
+        self.metadata = reader.byte()
+        self.precisions = [zigzag(first // 16), zigzag(first // 16), None, None]
+        if self.metadata & 8:
+            extended = reader.byte()
+            self.precisions[2] = extended // 4 % 8 if extended & 1 else None
+            self.precisions[3] = extended // 32 if extended & 2 else None
+        self.axes = [axis for axis in range(4) if self.precisions[axis] is not None]
+        self.size_at = reader.place
+        self.size = reader.unsigned() if self.metadata & 2 else None
+        self.box_at = reader.place
+        self.box = [self.range(reader, axis) for axis in range(4)] if self.metadata & 1 else None
 
-        def line():
-            many(point)
+    def range(self, reader, axis):
+        if axis not in self.axes:
+            return None
+        low = reader.signed()
+        return self.units(axis, low), self.units(axis, low + reader.signed())
 
-        def polygon():
-            many(line)
+    def units(self, axis, coordinate):
+        return coordinate * 10 ** (7 - self.precisions[axis])
 
-        def many(part):
-            count = reader.unsigned()
-            while count > 0:
-                part()
-                count -= 1
+    def holds(self, vertex):
+        """Whether the box has the vertex in each axis that both have."""
+        return all(
+            self.box[axis] is None or vertex[axis] is None or self.box[axis][0] <= vertex[axis] <= self.box[axis][1]
+            for axis in range(4)
+        )
 
-        def member():
-            vertices.extend(read_geometry(reader, depth + 1, claims))
 
+class Body:
+    """The vertices of a body, in units, as lists of a coordinate or None for each of X, Y, Z and M."""
+
+    def __init__(self, reader, head, depth, claims):
+        self.reader, self.head, self.depth, self.claims = reader, head, depth, claims
+        self.last, self.vertices, self.ids_at, self.ids = [0] * 4, [], None, []
+        if not head.metadata & 16:
+            self.read()
+
+    def read(self):
+        kind = self.head.kind
         if kind <= 3:
-            [point, line, polygon][kind - 1]()
-        else:
-            count = reader.unsigned()
-            if metadata & 4:
-                ids_at, ids = reader.place, []
-                while len(ids) < count:
-                    ids.append(reader.signed())
-            while count > 0:
-                [point, line, polygon, member][kind - 4]()
-                count -= 1
-    if size is not None and size != reader.place - after:
-        claims.append((size_at, "size"))
-    if box is not None and any(
-        box[axis] is not None and vertex[axis] is not None and not box[axis][0] <= vertex[axis] <= box[axis][1]
-        for vertex in vertices
-        for axis in range(4)
-    ):
-        claims.append((box_at, "box"))
-    if ids is not None and len(set(ids)) < len(ids):
-        claims.append((ids_at, "ids"))
-    return vertices
+            [self.point, self.line, self.polygon][kind - 1]()
+            return
+        count = self.reader.unsigned()
+        if self.head.metadata & 4:
+            self.ids_at = self.reader.place
+            while len(self.ids) < count:
+                self.ids.append(self.reader.signed())
+        self.many(count, [self.point, self.line, self.polygon, self.member][kind - 4])
+
+    def many(self, count, part):
+        while count > 0:
+            part()
+            count -= 1
+
+    def point(self):
+        vertex = [None] * 4
+        for axis in self.head.axes:
+            offset = self.reader.place
+            self.last[axis] += self.reader.signed()
+            if not -(2**63) <= self.last[axis] < 2**63:
+                raise Malformed(offset, "range")
+            vertex[axis] = self.head.units(axis, self.last[axis])
+        self.vertices.append(vertex)
+
+    def line(self):
+        self.many(self.reader.unsigned(), self.point)
+
+    def polygon(self):
+        self.many(self.reader.unsigned(), self.line)
+
+    def member(self):
+        self.vertices.extend(read_geometry(self.reader, self.depth + 1, self.claims))
+
+
+def read_geometry(reader, depth, claims):
+    """The vertices of a geometry; what it claims falsely goes to the claims, with its offset."""
+    head = Head(reader, depth)
+    body = Body(reader, head, depth, claims)
+    if head.size is not None and head.size != reader.place - head.box_at:
+        claims.append((head.size_at, "size"))
+    if head.box is not None and not all(map(head.holds, body.vertices)):
+        claims.append((head.box_at, "box"))
+    if len(set(body.ids)) < len(body.ids):
+        claims.append((body.ids_at, "ids"))
+    return body.vertices
 
 
 def answer(data):
