@@ -1,5 +1,6 @@
 //! Worked files: layers that are certified, and layers that are refused.
 use crate::{Cursor, Refusal, certify};
+use std::alloc::Global;
 
 #[test]
 fn layers_are_certified(rt: HostRuntime) {
@@ -40,77 +41,68 @@ fn layers_are_certified(rt: HostRuntime) {
 }
 
 #[test]
-fn other_layers_are_refused(rt: HostRuntime) {
-    let table: [(&[u8], usize, usize, u8); 9] = [
-        // a point that is cut, behind a line
-        (
-            &[0x02, 0x00, 0x02, 0x02, 0x02, 0x08, 0x08, 0x01, 0x00, 0x02],
-            1,
-            10,
-            1,
-        ),
-        // a count of ids that the bytes don't keep
-        (
-            &[
-                0x04, 0x04, 0xFF, 0xFF, 0xFF, 0xFF, 0xFF, 0xFF, 0xFF, 0xFF, 0xFF, 0x01,
-            ],
-            0,
-            12,
-            1,
-        ),
-        (
-            &[
-                0x01, 0x00, 0x80, 0x80, 0x80, 0x80, 0x80, 0x80, 0x80, 0x80, 0x80, 0x02,
-            ],
-            0,
-            2,
-            2,
-        ),
-        (&[0x07, 0x00, 0x01, 0x0F, 0x00], 0, 3, 3),
-        (
-            &[
-                0x02, 0x00, 0x02, 0xFE, 0xFF, 0xFF, 0xFF, 0xFF, 0xFF, 0xFF, 0xFF, 0xFF, 0x01, 0x00,
-                0x02, 0x00,
-            ],
-            0,
-            14,
-            5,
-        ),
-        (&[0x01, 0x02, 0x03, 0x02, 0x04, 0x08], 0, 2, 6),
-        (
-            &[
-                0x07, 0x00, 0x01, 0x01, 0x01, 0x14, 0x00, 0x14, 0x00, 0x02, 0x04,
-            ],
-            0,
-            5,
-            7,
-        ),
-        // equal ids stand before a false size
-        (
-            &[
-                0x07, 0x04, 0x02, 0x02, 0x02, 0x01, 0x02, 0x03, 0x02, 0x04, 0x01, 0x10,
-            ],
-            0,
-            3,
-            8,
-        ),
-        // a false box behind a line
-        (
-            &[
-                0x02, 0x00, 0x02, 0x02, 0x02, 0x08, 0x08, 0x02, 0x03, 0x09, 0x02, 0x06, 0x02, 0x08,
-                0x02, 0x02, 0x02, 0x08, 0x08,
-            ],
-            1,
-            10,
-            7,
-        ),
-    ];
-    for (bytes, blob, offset, kind) in table {
-        let refusal = certify(rt.alloc(), Cursor::new(bytes)).err();
-        assert_eq!(rt;
-            refusal,
-            Some(Refusal::No { blob, offset, kind }),
-            "{bytes:?}"
-        );
-    }
+fn malformed_layers_are_refused(rt: HostRuntime) {
+    assert_eq!(rt;
+        refusal_of(rt.alloc(), &POINT_CUT_BEHIND_A_LINE),
+        no(1, 10, 1)
+    );
+    assert_eq!(rt; refusal_of(rt.alloc(), &MANY_IDS_ANNOUNCED), no(0, 12, 1));
+    assert_eq!(rt; refusal_of(rt.alloc(), &LONG_COORDINATE), no(0, 2, 2));
+    assert_eq!(rt;
+        refusal_of(rt.alloc(), &[0x07, 0x00, 0x01, 0x0F, 0x00]),
+        no(0, 3, 3)
+    );
+    assert_eq!(rt; refusal_of(rt.alloc(), &SUM_PAST_64_BITS), no(0, 14, 5));
 }
+
+#[test]
+fn false_claims_are_refused(rt: HostRuntime) {
+    assert_eq!(rt;
+        refusal_of(rt.alloc(), &[0x01, 0x02, 0x03, 0x02, 0x04, 0x08]),
+        no(0, 2, 6)
+    );
+    assert_eq!(rt; refusal_of(rt.alloc(), &BOX_OF_A_MEMBER), no(0, 5, 7));
+    assert_eq!(rt;
+        refusal_of(rt.alloc(), &EQUAL_IDS_BEFORE_A_SIZE),
+        no(0, 3, 8)
+    );
+    assert_eq!(rt; refusal_of(rt.alloc(), &BOX_BEHIND_A_LINE), no(1, 10, 7));
+}
+
+fn refusal_of(alloc: Global, bytes: &[u8]) -> Option<Refusal> {
+    certify(alloc, Cursor::new(bytes)).err()
+}
+
+fn no(blob: usize, offset: usize, kind: u8) -> Option<Refusal> {
+    Some(Refusal::No { blob, offset, kind })
+}
+
+const POINT_CUT_BEHIND_A_LINE: [u8; 10] = [
+    0x02, 0x00, 0x02, 0x02, 0x02, 0x08, 0x08, 0x01, 0x00, 0x02,
+];
+
+// A count of ids that the bytes don't keep.
+const MANY_IDS_ANNOUNCED: [u8; 12] = [
+    0x04, 0x04, 0xFF, 0xFF, 0xFF, 0xFF, 0xFF, 0xFF, 0xFF, 0xFF, 0xFF, 0x01,
+];
+
+const LONG_COORDINATE: [u8; 12] = [
+    0x01, 0x00, 0x80, 0x80, 0x80, 0x80, 0x80, 0x80, 0x80, 0x80, 0x80, 0x02,
+];
+
+const SUM_PAST_64_BITS: [u8; 16] = [
+    0x02, 0x00, 0x02, 0xFE, 0xFF, 0xFF, 0xFF, 0xFF, 0xFF, 0xFF, 0xFF, 0xFF, 0x01, 0x00, 0x02, 0x00,
+];
+
+const BOX_OF_A_MEMBER: [u8; 11] = [
+    0x07, 0x00, 0x01, 0x01, 0x01, 0x14, 0x00, 0x14, 0x00, 0x02, 0x04,
+];
+
+const EQUAL_IDS_BEFORE_A_SIZE: [u8; 12] = [
+    0x07, 0x04, 0x02, 0x02, 0x02, 0x01, 0x02, 0x03, 0x02, 0x04, 0x01, 0x10,
+];
+
+const BOX_BEHIND_A_LINE: [u8; 19] = [
+    0x02, 0x00, 0x02, 0x02, 0x02, 0x08, 0x08, 0x02, 0x03, 0x09, 0x02, 0x06, 0x02, 0x08, 0x02, 0x02,
+    0x02, 0x08, 0x08,
+];
