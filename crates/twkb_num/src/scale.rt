@@ -2,8 +2,8 @@
 ghost use Rattle.std.specs.Prelude.{◌≡◌, ◌^◌, ◌≤ℤ◌, pos, neg_ℤ};
 ghost use Rattle.twkb_num.specs.Units.{units_of, IsPrecision};
 
-/// 10 to the powers 0 to 15.
-const POWERS: [i128; 16] = [
+/// 10 to the powers 0 to 15. They have 64 bits, so that a coordinate of 64 bits takes one multiplication.
+const POWERS: [i64; 16] = [
     1,
     10,
     100,
@@ -33,5 +33,6 @@ pub fn units(coordinate: i128, precision: i8) -> i128
     requires greatest { coordinate ≤ℤ pos (2 ^ 64) }
     ensures { result ≡ units_of coordinate precision }
 {
-    coordinate * POWERS[usize::from(7i8.abs_diff(precision))]
+    let power = i128::from(POWERS[usize::from(7i8.abs_diff(precision))]);
+    coordinate * power
 }

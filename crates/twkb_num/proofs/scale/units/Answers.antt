@@ -1,7 +1,7 @@
-use Rattle.std.proofs.Common.{◌≡◌, ℕ, ◌<◌, ◌≤◌, ◌^◌, pos, ℤ, List, [], ◌∷◌, slice_index_or, unsigned_abs, ◌-ℤ◌, ◌*ℤ◌, FitsSigned, ap, ◌∙◌, arith, rules}
+use Rattle.std.proofs.Common.{◌≡◌, ℕ, ◌<◌, ◌≤◌, ◌^◌, pos, ℤ, List, [], ◌∷◌, slice_index_or, unsigned_abs, to_z, of_z, ◌-ℤ◌, ◌*ℤ◌, FitsSigned, ap, ◌∙◌, arith, rules}
 use Rattle.std.proofs.lemmas.Int.{ints, to_z-of_z, fits_signed_mul}
 use Rattle.std.proofs.Math.Nat.{pow-le-pow_right}
-use Rattle.std.specs.Int.{w8, w128}
+use Rattle.std.specs.Int.{w8, w64, w128}
 use Rattle.twkb_num.proofs.scale.units.Goals as goal
 
 -- the table, as a proof reads it
@@ -23,4 +23,6 @@ returns c =
     let fits : FitsSigned w128 c.args.coordinate = c.ranges.coordinate in
     let power_fits : FitsSigned w128 (pos (10 ^ k)) = search (rules, small) in
     let product_fits : FitsSigned w128 (c.args.coordinate *ℤ pos (10 ^ k)) = fits_signed_mul w128 c.args.coordinate (pos (10 ^ k)) (2 ^ 64) (10 ^ 15) large small (omega arith) in
-    rw at (simp to_z-of_z (ap (λ n. c.args.coordinate *ℤ pos (10 ^ n)) range))
+    let short : FitsSigned w64 (pos (10 ^ k)) = search (rules, small) in
+    let power : c.from-power.result ≡ pos (10 ^ k) = c.from-power.ensures ∙ ap (λ z. to_z w64 (of_z w64 z)) at ∙ to_z-of_z w64 (pos (10 ^ k)) short in
+    rw power (simp to_z-of_z (ap (λ n. c.args.coordinate *ℤ pos (10 ^ n)) range))
