@@ -9,7 +9,7 @@ help:
 	@echo 'make demo       build, and check layers that PostGIS wrote'
 	@echo 'make test       build, test the program from end to end, and run the merge gate'
 	@echo 'make bench      build, and compare with plain Rust on 40 MB (needs rustc)'
-	@echo 'make refusals   refuse each allocation of the program in turn (some minutes)'
+	@echo 'make refusals   refuse each allocation of the program in turn (builds it some fifty times)'
 	@echo 'make clean      remove what was built'
 
 kit:
