@@ -98,9 +98,16 @@ def changed_layers(program, folder):
 
 
 def usage(program, layer):
-    for words in [], ["report", layer], ["check"], ["check", layer, layer], ["--help"]:
+    said = [
+        ([], b"requires a subcommand"),
+        (["report", layer], b"unrecognized subcommand 'report'"),
+        (["check"], b"required arguments were not provided"),
+        (["check", layer, "other"], b"unexpected argument 'other' found"),
+        (["--help"], b"Usage: twkb_tool <COMMAND>"),
+    ]
+    for words, part in said:
         status, out, error = run([program] + words)
-        count(f"usage: {words}", (status, out, error != b""), (2, b"", True))
+        count(f"usage: {words}", (status, out, part in error), (2, b"", True))
 
 
 def files(program, folder, layer):

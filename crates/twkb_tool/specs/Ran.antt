@@ -26,8 +26,8 @@ StopsPiece (Write done) s t = ⊥
 -- reading stopped, and why: the last call failed, or one byte more than the limit came, or a growth was refused
 abbrev pub StopsReading : ℕ → RunFault → SourceState → SourceState → Type 0
 StopsReading limit Read s t = (given : List ℕ) × Gives s t given × (length given ≤ limit) × IsTrue t.failed
-StopsReading limit TooLarge s t = (given : List ℕ) × Gives s t given × (length given ≡ limit + 1)
-StopsReading limit Memory s t = (given : List ℕ) × Gives s t given × (length given ≤ limit)
+StopsReading limit TooLarge s t = (given : List ℕ) × Gives s t given × (length given ≡ limit + 1) × (t.failed ≡ false)
+StopsReading limit Memory s t = (given : List ℕ) × Gives s t given × (length given ≤ limit) × (t.failed ≡ false)
 StopsReading limit (Write done) s t = ⊥
 
 -- ---- writing

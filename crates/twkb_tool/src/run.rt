@@ -91,7 +91,8 @@ fn read_all<A: Allocator, S: Source>(
     source: &mut S,
     limit: usize,
 ) -> Result<Vec<u8, A>, RunFault>
-    requires { limit ≤ MAX_FILE }
+    requires limit { limit ≤ MAX_FILE }
+    requires source { (S.state source.old).failed ≡ false }
     ensures ok { IfOk result (λ bytes. GivesAll limit (S.state source.old) (S.state source.new) bytes.items) }
     ensures err { IfErr result (λ fault. StopsReading limit fault (S.state source.old) (S.state source.new)) }
 {

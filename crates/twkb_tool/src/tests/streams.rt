@@ -153,6 +153,29 @@ fn readers_and_writers_fail(rt: HostRuntime) -> Result<(), Fail> {
     Ok(())
 }
 
+/// It takes every byte, and then can't pass them on.
+#[derive(Drop)]
+struct Unflushed;
+
+impl Write for Unflushed {
+    fn write(&mut self, piece: &[u8]) -> io::Result<usize> {
+        Ok(piece.len())
+    }
+
+    fn flush(&mut self) -> io::Result<()> {
+        Err(io::Error::from(io::ErrorKind::Other))
+    }
+}
+
+#[test]
+fn a_flush_of_a_writer_fails(rt: HostRuntime) {
+    let mut source = MemSource::new(&POINT, 2, None);
+    let mut sink = ToWriter::new(Unflushed);
+    let outcome = run(rt.alloc(), &mut source, &mut sink, &Request::Check, 100);
+    assert_eq!(rt; outcome, Err(RunFault::Write { done: 22 }));
+    assert!(rt; sink.failed() && sink.moved() == 22);
+}
+
 #[test]
 fn a_run_goes_from_file_to_file(rt: HostRuntime) -> Result<(), Fail> {
     let folder = env::temp_dir(&rt)?;

@@ -2,6 +2,7 @@
 use crate::request::Request;
 use crate::status::usage_status;
 use crate::words::{Usage, request_of};
+use clap::error::ErrorKind;
 use std::test::Fail;
 
 #[test]
@@ -13,26 +14,37 @@ fn check_takes_a_file(rt: HostRuntime) -> Result<(), Fail> {
 }
 
 #[test]
-fn other_words_are_refused(rt: HostRuntime) -> Result<(), Fail> {
-    let lines: [&[&str]; 7] = [
-        &[],
-        &["twkb_tool"],
-        &["twkb_tool", "check"],
-        &["twkb_tool", "check", "a.twkb", "b.twkb"],
-        &["twkb_tool", "sum", "a.twkb"],
-        &["twkb_tool", "check", "--loud", "a.twkb"],
-        &["twkb_tool", "--help"],
+fn other_words_are_refused(rt: HostRuntime) {
+    let lines: [(&[&str], ErrorKind); 7] = [
+        (&[], ErrorKind::MissingSubcommand),
+        (&["twkb_tool"], ErrorKind::MissingSubcommand),
+        (&["twkb_tool", "check"], ErrorKind::MissingRequiredArgument),
+        (
+            &["twkb_tool", "check", "a.twkb", "b.twkb"],
+            ErrorKind::UnknownArgument,
+        ),
+        (
+            &["twkb_tool", "sum", "a.twkb"],
+            ErrorKind::InvalidSubcommand,
+        ),
+        (
+            &["twkb_tool", "check", "--loud", "a.twkb"],
+            ErrorKind::UnknownArgument,
+        ),
+        (&["twkb_tool", "--help"], ErrorKind::DisplayHelp),
     ];
-    for words in lines {
+    for (words, kind) in lines {
         match request_of(rt.alloc(), words) {
-            Err(usage) => {
-                assert!(rt; matches!(&usage, Usage::Words(Some(_))));
-                assert_eq!(rt; usage_status(&usage), 2);
-            }
-            Ok(_) => assert!(rt; false, "words that ask for nothing were read"),
+            Err(Usage::Words(Some(error))) => assert!(rt; error.kind() == kind, "{words:?}"),
+            _ => assert!(rt; false, "{words:?} were read, or refused for no kind"),
         }
     }
+}
+
+#[test]
+fn usages_have_their_statuses(rt: HostRuntime) {
+    let usage = request_of(rt.alloc(), &["twkb_tool", "check"]).err();
+    assert!(rt; matches!(&usage, Some(usage) if usage_status(usage) == 2));
     assert_eq!(rt; usage_status(&Usage::Words(None)), 2);
     assert_eq!(rt; usage_status(&Usage::Memory), 3);
-    Ok(())
 }
