@@ -3,6 +3,7 @@ use crate::request::Request;
 use crate::status::usage_status;
 use crate::words::{Usage, request_of};
 use clap::error::ErrorKind;
+use std::alloc::Global;
 use std::test::Fail;
 
 #[test]
@@ -13,32 +14,29 @@ fn check_takes_a_file(rt: HostRuntime) -> Result<(), Fail> {
     Ok(())
 }
 
+/// For which kind of error words are refused.
+fn kind_of(alloc: Global, words: &[&str]) -> Option<ErrorKind> {
+    match request_of(alloc, words) {
+        Err(Usage::Words(Some(error))) => Some(error.kind()),
+        _ => None,
+    }
+}
+
 #[test]
 fn other_words_are_refused(rt: HostRuntime) {
-    let lines: [(&[&str], ErrorKind); 7] = [
-        (&[], ErrorKind::MissingSubcommand),
-        (&["twkb_tool"], ErrorKind::MissingSubcommand),
-        (&["twkb_tool", "check"], ErrorKind::MissingRequiredArgument),
-        (
-            &["twkb_tool", "check", "a.twkb", "b.twkb"],
-            ErrorKind::UnknownArgument,
-        ),
-        (
-            &["twkb_tool", "sum", "a.twkb"],
-            ErrorKind::InvalidSubcommand,
-        ),
-        (
-            &["twkb_tool", "check", "--loud", "a.twkb"],
-            ErrorKind::UnknownArgument,
-        ),
-        (&["twkb_tool", "--help"], ErrorKind::DisplayHelp),
-    ];
-    for (words, kind) in lines {
-        match request_of(rt.alloc(), words) {
-            Err(Usage::Words(Some(error))) => assert!(rt; error.kind() == kind, "{words:?}"),
-            _ => assert!(rt; false, "{words:?} were read, or refused for no kind"),
-        }
-    }
+    let two_files = kind_of(rt.alloc(), &["twkb_tool", "check", "a.twkb", "b.twkb"]);
+    let option = kind_of(rt.alloc(), &["twkb_tool", "check", "--loud", "a.twkb"]);
+    let command = kind_of(rt.alloc(), &["twkb_tool", "sum", "a.twkb"]);
+    let no_file = kind_of(rt.alloc(), &["twkb_tool", "check"]);
+    let no_command = kind_of(rt.alloc(), &["twkb_tool"]);
+    let help = kind_of(rt.alloc(), &["twkb_tool", "--help"]);
+    assert!(rt; two_files == Some(ErrorKind::UnknownArgument));
+    assert!(rt; option == Some(ErrorKind::UnknownArgument));
+    assert!(rt; command == Some(ErrorKind::InvalidSubcommand));
+    assert!(rt; no_file == Some(ErrorKind::MissingRequiredArgument));
+    assert!(rt; no_command == Some(ErrorKind::MissingSubcommand));
+    assert!(rt; kind_of(rt.alloc(), &[]) == Some(ErrorKind::MissingSubcommand));
+    assert!(rt; help == Some(ErrorKind::DisplayHelp));
 }
 
 #[test]
