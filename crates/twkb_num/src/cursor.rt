@@ -1,7 +1,8 @@
 //! A cursor over bytes, which counts what it reads.
 ghost use Rattle.std.specs.Prelude.{◌≡◌, ◌≤◌, ◌↔◌, ℕ, ℤ, List, [], ◌∷◌, ◌++◌, length, IsNone, IfOk, IfErr, IfSome, IfNone, OnOk, OnSome};
 ghost use Rattle.twkb_num.specs.Cursor.{rest, passed, counted, IsMoved, IsSound};
-ghost use Rattle.twkb_num.specs.Varint.{Spells, SpellsSigned, Faults, looked_at};
+ghost use Rattle.twkb_num.specs.declared.varint.NumFault.TheVariants.{Cut};
+ghost use Rattle.twkb_num.specs.Varint.{Spells, SpellsSigned, Faults, IsCut, IsBegunBy, looked_at};
 
 use crate::signed::unzigzag;
 use crate::varint::{NumFault, decode};
@@ -119,24 +120,28 @@ impl<'a> Cursor<'a> {
         ensures still { IfErr result (λ fault.
             self.new ≡ counted self.old (looked_at fault (rest self.old))) }
     {
-        if let Some(&first) = self.bytes.get(self.place) {
-            if first < 128 {
-                self.place += 1;
-                return Ok(u64::from(first));
-            }
-            if let Some(&second) = self.bytes.get(self.place + 1)
-                && second < 128
-            {
-                self.place += 2;
-                return Ok(u64::from(first % 128) + 128 * u64::from(second));
-            }
+        let Some(&first) = self.bytes.get(self.place) else {
+            return self.cut();
+        };
+        if first < 128 {
+            self.place += 1;
+            return Ok(u64::from(first));
         }
-        self.any_uvarint()
+        let Some(&second) = self.bytes.get(self.place + 1) else {
+            return self.cut();
+        };
+        if second < 128 {
+            self.place += 2;
+            return Ok(u64::from(first % 128) + 128 * u64::from(second));
+        }
+        self.long_uvarint(u64::from(first % 128) + 128 * u64::from(second % 128))
     }
 
-    // The unsigned varint at the place, of any length. It is inlined so that the cursor stays in registers.
+    // The unsigned varint at the place, whose first two bytes go on, with `value` as the sum of their groups. It is inlined
+    // so that the cursor stays in registers.
     #[inline(always)]
-    fn any_uvarint(&mut self) -> Result<u64, NumFault>
+    fn long_uvarint(&mut self, value: u64) -> Result<u64, NumFault>
+        requires { IsBegunBy 2 (rest self.old) value }
         ensures ok { IfOk result (λ n. Spells (passed self.old self.new) n) }
         ensures moved { OnOk result (IsMoved self.old self.new) }
         ensures fault { (fault : NumFault) → (result ≡ Err fault) ↔ Faults fault (rest self.old) }
@@ -144,7 +149,7 @@ impl<'a> Cursor<'a> {
             self.new ≡ counted self.old (looked_at fault (rest self.old))) }
     {
         let bytes = &self.bytes[self.place..];
-        match decode(bytes) {
+        match decode(bytes, value) {
             Ok((value, len)) => {
                 self.place += len;
                 Ok(value)
@@ -154,10 +159,30 @@ impl<'a> Cursor<'a> {
                     NumFault::Cut => bytes.len(),
                     NumFault::Long => 10,
                 };
-                self.counted_before = self.counted_before.saturating_add(looked_at as u64);
+                self.look_at(looked_at);
                 Err(fault)
             }
         }
+    }
+
+    // The fault of bytes that end before a varint does: all of them are counted.
+    #[cold]
+    fn cut(&mut self) -> Result<u64, NumFault>
+        requires { IsCut (rest self.old) }
+        ensures cut { result ≡ Err Cut }
+        ensures fault { (fault : NumFault) → (result ≡ Err fault) ↔ Faults fault (rest self.old) }
+        ensures still { self.new ≡ counted self.old (length (rest self.old)) }
+    {
+        self.look_at(self.bytes[self.place..].len());
+        Err(NumFault::Cut)
+    }
+
+    // Counts bytes behind the place.
+    #[inline(always)]
+    fn look_at(&mut self, many: usize)
+        ensures { self.new ≡ counted self.old many }
+    {
+        self.counted_before = self.counted_before.saturating_add(many as u64);
     }
 
     /// The signed varint at the place, which it moves past: an unsigned one, read by zigzag.

@@ -1,6 +1,6 @@
 //! Unsigned varints of any length.
 ghost use Rattle.std.specs.Prelude.{◌≡◌, ◌+◌, ◌<◌, ◌≤◌, ◌↔◌, length, take, IfOk};
-ghost use Rattle.twkb_num.specs.Varint.{Spells, Faults};
+ghost use Rattle.twkb_num.specs.Varint.{Spells, Faults, IsBegunBy};
 
 /// Why no number stands at a place.
 #[derive(Clone, Copy, Debug, PartialEq, Eq)]
@@ -11,15 +11,17 @@ pub enum NumFault {
     Long = 2,
 }
 
-/// The number that the front of `bytes` spells, and the length of its spelling.
+/// The number that the front of `bytes` spells, and the length of its spelling. Its first two bytes are known to go on, with
+/// `value` as the sum of their groups.
 #[inline(always)]
-pub fn decode(bytes: &[u8]) -> Result<(u64, usize), NumFault>
+pub fn decode(bytes: &[u8], value: u64) -> Result<(u64, usize), NumFault>
+    requires { IsBegunBy 2 bytes.now value }
     ensures len { IfOk result (λ read. read.1 ≤ length bytes.now) }
     ensures ok { IfOk result (λ read. Spells (take read.1 bytes.now) read.0) }
     ensures fault { (fault : NumFault) → (result ≡ Err fault) ↔ Faults fault bytes.now }
 {
-    let mut value = 0;
-    for place in 0..9 {
+    let mut value = value;
+    for place in 2..9 {
         let Some(&byte) = bytes.get(place) else {
             return Err(NumFault::Cut);
         };

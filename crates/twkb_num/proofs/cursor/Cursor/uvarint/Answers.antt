@@ -13,15 +13,15 @@ returns-then-first-lt128 c =
     let moved : IsMoved old new = grind (arith, common_steps) in
     record { ok = spells; moved = moved; complete = Ok-complete old new _ spells moved; fault = Ok-no_fault old new _ spells moved; still = tt }
 
-pub returns-in-Some : goal.returns-in-Some
-returns-in-Some c =
+pub returns-then-second-lt128 : goal.returns-then-second-lt128
+returns-then-second-lt128 c =
     let old = c.args.self.now in
     let new : Reading = record { bytes = c.self.inside.bytes.now; place = c.self.inside.place + 2; count = added c.self.inside.counted_before (c.self.inside.place + 2 - c.self.inside.start) } in
-    let spells : Spells (passed old new) (c.from-in-Some.result + 128 * c.from-in-Some-2.result) = grind (arith, common_steps) in
+    let spells : Spells (passed old new) (c.from-then-second-lt128.result + 128 * c.from-then-second-lt128-2.result) = grind (arith, common_steps) in
     let moved : IsMoved old new = grind (arith, common_steps) in
     record { ok = spells; moved = moved; complete = Ok-complete old new _ spells moved; fault = Ok-no_fault old new _ spells moved; still = tt }
 
 pub returns-clause-complete : goal.returns-clause-complete
 returns-clause-complete c =
-    let reads = c.any_uvarint.ensures in
-    result-complete c.args.self.now c.any_uvarint.new.self c.any_uvarint.result reads.ok reads.moved reads.fault
+    let reads = c.long_uvarint.ensures in
+    result-complete c.args.self.now c.long_uvarint.new.self c.long_uvarint.result reads.ok reads.moved reads.fault

@@ -1,6 +1,6 @@
 use Rattle.std.proofs.Common.{arith}
 use Rattle.twkb_num.proofs.CursorLemmas.{slice_range-take}
-use Rattle.twkb_num.proofs.cursor.Cursor.any_uvarint.Goals as goal
+use Rattle.twkb_num.proofs.cursor.Cursor.long_uvarint.Goals as goal
 
 pub returns-in-Ok-clause-ok : goal.returns-in-Ok-clause-ok
 returns-in-Ok-clause-ok c =
