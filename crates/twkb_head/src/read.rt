@@ -43,11 +43,13 @@ pub fn read_head(cursor: &mut Cursor, depth: u8) -> Result<Head, Malformed>
     ensures still { IfErr result (λ m. cursor.new ≡ counted cursor.old (looked_at_until m cursor.old)) }
 {
     let start = cursor.place();
-    let head = take_head(cursor, depth);
-    if head.is_err() {
-        cursor.go_to(start);
+    match take_head(cursor, depth) {
+        Ok(head) => Ok(head),
+        Err(malformed) => {
+            cursor.go_to(start);
+            Err(malformed)
+        }
     }
-    head
 }
 
 /// The fields of the header at the place, in order. A refusal leaves the cursor at the field that is wrong.
