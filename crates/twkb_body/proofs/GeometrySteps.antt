@@ -1,7 +1,8 @@
 -- The steps of reading a geometry: its header, and what its body gives.
-use Rattle.std.proofs.Common.{◌≡◌, ℕ, zero, suc, ◌+◌, ◌-◌, ◌≤◌, ◌==◌, Bool, true, false, List, length, map, ℤ, Option, Some, None, option_map, Ok, refl, sym, ap, ap₂, subst, ◌∙◌, arith}
+use Rattle.std.proofs.Common.{◌≡◌, ℕ, zero, suc, ◌+◌, ◌-◌, ◌≤◌, ◌==◌, Bool, true, false, List, [], length, map, ℤ, Option, Some, None, option_map, Ok, refl, sym, ap, ap₂, subst, ◌∙◌, arith}
 use Rattle.twkb_num.specs.Cursor.{Reading, passed, IsMoved}
 use Rattle.twkb_head.specs.declared.header.Head.{Head}
+use Rattle.twkb_head.specs.declared.header.BoxField.{BoxField}
 use Rattle.twkb_head.specs.declared.refusal.Malformed.{Malformed}
 use Rattle.twkb_head.specs.Header.{Header}
 use Rattle.twkb_head.specs.BegunHeader.{is_collection}
@@ -9,16 +10,20 @@ use Rattle.twkb_head.specs.Head.{bounds_of, head_of, IsHeadAt}
 use Rattle.twkb_head.specs.HeadPlan.{HeadValue, head_plan}
 use Rattle.twkb_head.specs.Reader.{Answer, Reader, ◌>>=◌, viewed, read, Fails}
 use Rattle.twkb_body.specs.declared.found.Found.{Found}
-use Rattle.twkb_body.specs.declared.shape.Inside.{Inside}
-use Rattle.twkb_body.specs.Geometry.{Members, none, Lengths, points_of, vertex_of}
+use Rattle.twkb_body.specs.declared.inside.Inside.{Inside}
+use Rattle.twkb_body.specs.declared.seen.Seen.{Seen}
+use Rattle.twkb_body.specs.Geometry.{Geometry, Members, none, Lengths, points_of, vertex_of, vertices}
 use Rattle.twkb_body.specs.Encoding.{is_multi}
 use Rattle.twkb_body.specs.Extent.{Reach, reach_of, both}
 use Rattle.twkb_body.specs.BodyPlan.{Body, no_body, geometry_from}
 use Rattle.twkb_body.specs.BodyReader.{spanned, shape_at, body_at, parts_at, members_at, geometry_by, geometry_at}
-use Rattle.twkb_body.specs.Pass.{Summary, Refused, MemberSums, Sums, first, nothing, over, false_at, is_within, size_refused, box_refused, ids_refused}
-use Rattle.twkb_body.specs.Found.{named, summary, size_judged, box_judged, IsFound}
+use Rattle.twkb_body.specs.Pass.{Refused, NamesFirstFalse, MemberSums, Sums, first, nothing, over, false_at, is_within, size_refused, box_refused, ids_refused}
+use Rattle.twkb_body.specs.Found.{named, size_judged, box_judged, IsFound}
+use Rattle.twkb_body.specs.Seen.{HasSeen}
+use Rattle.twkb_body.specs.Claims.{claims_in}
 use Rattle.twkb_body.specs.Inside.{of_head, IsInside}
 use Rattle.twkb_body.proofs.Passes.{over_sums, none_sums}
+use Rattle.twkb_body.proofs.ShapeSteps.{both-none}
 
 -- the members of a collection with so many levels below it
 abbrev pub members_under : ℕ → ℕ → Reader Members
@@ -80,16 +85,18 @@ shape_of_head head h start size_place box_place stop e r = ap (λ (x : Head). sh
     same false = refl
     same true = refl
 
--- nothing is found in an empty body
-pub nothing_inside : (h : Header) (place : ℕ) (inside : Inside) → summary inside.found ≡ nothing → inside.ids ≡ None → IsInside h no_body place place inside
-nothing_inside h place inside e n = record {
+-- nothing is found in an empty body, and nothing is seen
+pub nothing_inside : (h : Header) (bounds : Option BoxField) (place : ℕ) (above : Seen) (inside : Inside) → inside.found.vertices ≡ 0 → inside.found.refused ≡ None
+    → named inside.boxed ≡ box_judged bounds (reach_of []) → inside.ids ≡ None → IsInside h bounds no_body place place above above inside
+nothing_inside h bounds place above inside v r boxed n = record {
   below = nothing;
   members = none_sums false (place + 0);
-  vertices = ap (λ (s : Summary). s.count) e;
-  extent = ap (λ (s : Summary). s.reach) e;
-  refused = ap (λ (s : Summary). s.refused) e;
+  vertices = v;
+  boxed = boxed;
+  seen = record { asked = refl; extent = λ t. sym (both-none above.extent) };
+  refused = ap named r;
   ids = ap named n;
-  few = let v : inside.found.vertices ≡ 0 = ap (λ (s : Summary). s.count) e in omega (arith, v);
+  few = omega (arith, v);
 }
 
 first-none : (x : Refused) → first x None ≡ x
@@ -121,24 +128,31 @@ module _ (head : Head) (depth : ℕ) (r a new : Reading) (at : IsHeadAt head dep
           let place : r.place + 2 + length at.is.extended_bytes + length at.is.size_bytes ≡ r.place + l.before + l.size = omega (arith, before, size) in
           ap₂ (λ (x : Reach) (p : ℕ). false_at (is_within x (bounds_of at.header.xy at.header.z at.header.m ranges)) p 7) e place ∙ sym (first-none _)
 
-  pub geometry_found : (b : Body) (inside : Inside) (judged : Found) → IsInside (of_head head) b a.place new.place inside
-      → judged.vertices ≡ inside.found.vertices → judged.extent ≡ inside.found.extent
-      → named judged.refused ≡ first (size_judged head.size new.place) (first (box_judged head.bounds inside.found.extent) (first (named inside.ids) (named inside.found.refused)))
+  pub geometry_found : (b : Body) (inside : Inside) (above after : Seen) (judged : Found) → IsInside (of_head head) head.bounds b a.place new.place above after inside
+      → judged.vertices ≡ inside.found.vertices
+      → named judged.refused ≡ first (size_judged head.size new.place) (first (named inside.boxed) (first (named inside.ids) (named inside.found.refused)))
       → IsFound (geometry_from ((record { header = at.header; before = 2 + length at.is.extended_bytes; size = length at.is.size_bytes }, a.place - r.place), b) (new.place - r.place)) r.place new.place judged
-  geometry_found b inside judged i vertices extent refused =
+      × HasSeen above after (reach_of (vertices (geometry_from ((record { header = at.header; before = 2 + length at.is.extended_bytes; size = length at.is.size_bytes }, a.place - r.place), b) (new.place - r.place))))
+  geometry_found b inside above after judged i counted refused =
+      let g : Geometry = geometry_from ((record { header = at.header; before = 2 + length at.is.extended_bytes; size = length at.is.size_bytes }, a.place - r.place), b) (new.place - r.place) in
       let l : Lengths = record { before = 2 + length at.is.extended_bytes; size = length at.is.size_bytes; header = a.place - r.place; count = b.count; list = b.list; whole = new.place - r.place } in
       let own = reach_of (map (vertex_of at.header) (points_of b.polygons)) in
       let body : a.place ≡ r.place + l.header = omega (arith, moved.ahead) in
       let below : MemberSums false b.members (r.place + l.header + l.list) i.below = subst (λ (p : ℕ). MemberSums false b.members (p + b.list) i.below) body i.members in
-      let seen : judged.extent ≡ both own i.below.reach =
-      extent ∙ i.extent ∙ ap (λ (h : Head). both (reach_of (map (vertex_of (of_head h)) (points_of b.polygons))) i.below.reach) at.fields in
+      let same : both (reach_of (map (vertex_of (of_head head)) (points_of b.polygons))) i.below.reach ≡ both own i.below.reach =
+      ap (λ (h : Head). both (reach_of (map (vertex_of (of_head h)) (points_of b.polygons))) i.below.reach) at.fields in
       let named_first : named judged.refused ≡ (over false at.header l b.ids r.place (length (points_of b.polygons)) own i.below).refused =
-      refused ∙ (λ j. first (size_same l refl refl refl j) (first (box_same l inside.found.extent (both own i.below.reach) refl refl (sym extent ∙ seen) j)
+      refused ∙ (λ j. first (size_same l refl refl refl j) (first ((i.boxed ∙ box_same l _ (both own i.below.reach) refl refl same) j)
       (first ((i.ids ∙ ap (λ (p : ℕ). ids_refused (p + b.count) b.ids) body) j) (i.refused j)))) in
-      let all : summary judged ≡ over false at.header l b.ids r.place (length (points_of b.polygons)) own i.below =
-      (λ j. record { count = (vertices ∙ i.vertices) j; reach = seen j; refused = named_first j }) in
-      record {
-        sums = subst (Sums false (geometry_from ((record { header = at.header; before = 2 + length at.is.extended_bytes; size = length at.is.size_bytes }, a.place - r.place), b) (new.place - r.place)) r.place) (sym all) (over_sums false at.header l b.ids b.polygons b.members r.place i.below below);
-        stop_is = omega (arith, moved.ahead, ahead);
-        few = omega (arith, vertices, i.few, moved.ahead);
-      }
+      let all : Sums false g r.place (over false at.header l b.ids r.place (length (points_of b.polygons)) own i.below) = over_sums false at.header l b.ids b.polygons b.members r.place i.below below in (
+        record {
+          sums = record {
+            count = counted ∙ i.vertices ∙ all.count;
+            reach = refl;
+            refused = subst (NamesFirstFalse (claims_in false g r.place)) (sym named_first) all.refused;
+          };
+          stop_is = omega (arith, moved.ahead, ahead);
+          few = omega (arith, counted, i.few, moved.ahead);
+        },
+        record { asked = i.seen.asked; extent = λ t. i.seen.extent t ∙ ap (both above.extent) (same ∙ all.reach) },
+      )

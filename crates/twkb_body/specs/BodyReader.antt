@@ -1,5 +1,5 @@
 -- Reading a geometry from a cursor as code does it: what its plan reads, one step after another.
-use Rattle.std.specs.Prelude.{ℕ, zero, suc, ◌-◌, Bool, true, false, [], ◌∷◌, ℤ, pos, Ok, Err}
+use Rattle.std.specs.Prelude.{ℕ, zero, suc, ◌-◌, Bool, true, false, [], ◌∷◌, None, ℤ, pos, Ok, Err}
 use Rattle.twkb_num.specs.Cursor.{Reading}
 use Rattle.twkb_head.specs.declared.kinds.Kind.{Kind}
 use Rattle.twkb_head.specs.declared.kinds.Kind.TheVariants.{Point, LineString, Polygon, MultiPoint, MultiLineString, MultiPolygon, GeometryCollection}
@@ -42,6 +42,11 @@ spanned r (Err m, a) = (Err m, a)
 unfoldable pub list_at : Bool → Reader ListHead
 list_at ids r = spanned r (number_at r) >>= λ n a. viewed (λ list. (n, list)) (spanned a (optional_at ids (signeds_at n.0) a))
 
+-- a count, and its ids, of a kind that has a list of parts; else one, with no ids
+abbrev pub count_at : Bool → Bool → Reader ListHead
+count_at false ids r = (Ok ((1, 0), (None, 0)), r)
+count_at true ids r = list_at ids r
+
 -- the body of a kind that is no collection
 unfoldable pub shape_at : Bool → Header → Reader Body
 shape_at false h r = viewed part_body (part_at h.kind (axes_of h) zeros r)
@@ -62,6 +67,10 @@ parts_at levels members r =
 -- the members of a collection, each read by a reader
 abbrev pub members_at : Reader Geometry → ℕ → Reader Members
 members_at each n r = viewed members_of (many_at n (λ (s : ℤ) (g : Geometry). s) (λ s. each) (pos 0) r)
+
+-- the body of a collection, over the reader of a member
+abbrev pub collection_at : Reader Geometry → Bool → Reader Body
+collection_at each ids r = list_at ids r >>= λ list a. viewed (members_body list) (members_at each (list.0).0 a)
 
 -- a geometry, over the reader of its members
 abbrev pub geometry_by : ℕ → (ℕ → Reader Members) → Reader Geometry

@@ -6,8 +6,8 @@ use Rattle.twkb_body.specs.declared.answers.Claim.{Claim}
 use Rattle.twkb_body.specs.declared.answers.Claim.TheVariants.{Size, Box, Ids}
 use Rattle.twkb_body.specs.declared.found.FalseClaim.{FalseClaim}
 use Rattle.twkb_body.specs.declared.found.Found.{Found}
-use Rattle.twkb_body.specs.Geometry.{Geometry, lengths_of}
-use Rattle.twkb_body.specs.Extent.{Reach}
+use Rattle.twkb_body.specs.Geometry.{Geometry, lengths_of, vertices}
+use Rattle.twkb_body.specs.Extent.{Reach, reach_of}
 use Rattle.twkb_body.specs.Pass.{Summary, Refused, Sums, false_at, is_within}
 
 -- the number of a kind of claim among the refusals
@@ -20,9 +20,9 @@ number_of Ids = 8
 abbrev pub named : Option FalseClaim → Refused
 named refused = option_map (λ f. (f.offset, number_of f.claim)) refused
 
--- what was found, as the pass has it
-abbrev pub summary : Found → Summary
-summary f = record { count = f.vertices; reach = f.extent; refused = named f.refused }
+-- what was found of geometries of this reach, as the pass has it
+abbrev pub summary : Found → Reach → Summary
+summary f reach = record { count = f.vertices; reach = reach; refused = named f.refused }
 
 -- the size, if it is false of a geometry that ends at stop
 abbrev pub size_judged : Option SizeField → ℕ → Refused
@@ -36,6 +36,6 @@ box_judged (Some field) reach = false_at (is_within reach field.bounds) field.of
 
 -- what was found is the geometry's, between two places, and it has no more vertices than bytes
 pub record IsFound (g : Geometry) (start stop : ℕ) (f : Found) : Type 0 where
-  pub sums : Sums false g start (summary f)
+  pub sums : Sums false g start (summary f (reach_of (vertices g)))
   pub stop_is : stop ≡ start + (lengths_of g).whole
   pub few : f.vertices + start ≤ stop

@@ -12,6 +12,7 @@ pub mod Pass
 pub mod Ranges
 pub mod Walk
 pub mod Found
+pub mod Seen
 pub mod Inside
 pub mod IdLists
 pub mod Stops

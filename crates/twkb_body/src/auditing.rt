@@ -8,6 +8,7 @@ ghost use Rattle.twkb_body.specs.Audited.{IsAudited, IsRefusedBlob};
 
 use crate::answers::{Audit, AuditFault};
 use crate::geometry::take_geometry;
+use crate::seen::Seen;
 use crate::stopped::Stopped;
 use std::alloc::{Allocator, Global};
 use twkb_num::Cursor;
@@ -36,7 +37,7 @@ pub fn audit_in<A: Allocator>(alloc: &A, cursor: &mut Cursor) -> Result<Audit, A
     ensures still { OnErr result ((cursor.new.bytes ≡ cursor.old.bytes) × (cursor.new.place ≡ cursor.old.place)) }
 {
     let start = cursor.place();
-    match take_geometry(alloc, cursor, 1) {
+    match take_geometry(alloc, cursor, 1, &mut Seen::unasked()) {
         Ok(found) => match found.refused {
             None => Ok(Audit {
                 vertices: found.vertices,

@@ -17,17 +17,17 @@
 //! audit(alloc, &mut cursor)        // Ok(Audit { vertices: 2, stop: 7 }): the line (1 1, 5 5)
 //! ```
 //!
-//! The pass carries no tree, no list of vertices and no bytes: the number of vertices, their extent, the first false claim
-//! and, for the time in which they are judged, the ids of one list, of which sixteen need no memory. Its time is O(n) in
-//! the bytes of the blob and O(n log n) in the ids of a list. Within a header least and greatest are raw 64-bit numbers,
-//! scaled to units once at its end. What a blob's way goes through is inlined into one function, which makes the audit two to
+//! The pass carries no tree, no list of vertices and no bytes: the number of vertices, the first false claim, for each box
+//! above the extent of what was read below it and, for the time in which they are judged, the ids of one list, of which
+//! sixteen need no memory. Its time is O(n) in the bytes of the blob and O(n log n) in the ids of a list. Within a header
+//! least and greatest are raw 64-bit numbers, scaled to units once at its end, if a box there or above asks for them. What a blob's way goes through is inlined into one function, which makes the audit two to
 //! three times as fast.
 //!
 //! What the bytes of a blob are is said in `specs/Encoding.antt` (`Blob`), over the trees of `specs/Geometry.antt`; what a
 //! tree claims in `specs/Claims.antt`; what a blob that is begun may go on with in `specs/Begun.antt`; why bytes are no blob
 //! in `specs/Malformation.antt`; and what the answers of an audit mean in `specs/Audited.antt`. The other files of `specs/`
 //! are devices of proofs: reading as a plan of fields (`BodyPlan`) and as the code does it (`BodyReader`), and what one
-//! pass carries in place of a tree (`Pass`, `Walk`, `Ranges`, `Found`, `Inside`).
+//! pass carries in place of a tree (`Pass`, `Walk`, `Ranges`, `Found`, `Seen`, `Inside`).
 #![tactic(auto)]
 
 mod answers;
@@ -36,10 +36,12 @@ mod extent;
 mod found;
 mod geometry;
 mod ids;
+mod inside;
 pub mod laws;
 mod lists;
 mod parts;
 mod range;
+mod seen;
 mod shape;
 mod stopped;
 #[cfg(test)]

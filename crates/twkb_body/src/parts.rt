@@ -10,7 +10,7 @@ use crate::trail::{Trail, take_point};
 use twkb_head::{Kind, Malformed, take_number};
 use twkb_num::Cursor;
 
-/// A count of parts, and the parts, of a kind that has them.
+/// So many parts.
 #[inline(always)]
 pub fn take_parts(
     cursor: &mut Cursor,
@@ -33,7 +33,7 @@ pub fn take_parts(
 
 /// A point, a line or a polygon, as the kind has it.
 #[inline(always)]
-pub fn take_part(
+fn take_part(
     cursor: &mut Cursor,
     kind: Kind,
     axes: usize,

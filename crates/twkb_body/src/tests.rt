@@ -9,6 +9,7 @@ use std::test::Fail;
 use twkb_head::{DEEPEST, Malformed, Why};
 use twkb_num::Cursor;
 
+mod boxes;
 mod plain;
 
 // Blobs, with the number of their vertices.
@@ -302,10 +303,7 @@ fn agrees(rt: &impl Abort, alloc: Global, bytes: &[u8]) {
     let mut cursor = Cursor::new(bytes);
     let answer = audit(alloc, &mut cursor);
     assert_eq!(rt; answer, plain_audit(alloc, bytes), "of {bytes:?}");
-    let place = match answer {
-        Ok(audit) => audit.stop,
-        Err(_) => 0,
-    };
+    let place = answer.map_or(0, |audit| audit.stop);
     assert_eq!(rt; cursor.place(), place);
 }
 

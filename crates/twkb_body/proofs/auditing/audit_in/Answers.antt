@@ -20,18 +20,18 @@ go_to-requires-in-Err g c =
 
 pub returns-in-None-clause-ok : goal.returns-in-None-clause-ok
 returns-in-None-clause-ok g c =
-    is_audited _ _ c.place-start.ensures.sound c.in-Ok.ensures.0 c.in-Ok.found c.in-Ok.ensures.1 c.in-Ok.ensures.2 c.in-None.is _ refl c.place.ensures.value
+    is_audited _ _ c.place-start.ensures.sound c.in-Ok.ensures.0 c.in-Ok.found c.in-Ok.ensures.1 c.in-Ok.ensures.2.0 c.in-None.is _ refl c.place.ensures.value
 
 pub returns-in-None-clause-moved : goal.returns-in-None-clause-moved
 returns-in-None-clause-moved g c = (blob_stands _ _ c.place-start.ensures.sound c.in-Ok.ensures.0 c.in-Ok.ensures.1).1
 
 pub returns-in-Some-clause-complete : goal.returns-in-Some-clause-complete
 returns-in-Some-clause-complete g c h front behind split blob certified =
-    absurd (not_certified _ _ c.place-start.ensures.sound c.in-Ok.ensures.0 c.in-Ok.found c.in-Ok.ensures.1 c.in-Ok.ensures.2 c.in-Some.refused c.in-Some.is h front behind split blob certified)
+    absurd (not_certified _ _ c.place-start.ensures.sound c.in-Ok.ensures.0 c.in-Ok.found c.in-Ok.ensures.1 c.in-Ok.ensures.2.0 c.in-Some.refused c.in-Some.is h front behind split blob certified)
 
 pub returns-in-Some-clause-refused : goal.returns-in-Some-clause-refused
 returns-in-Some-clause-refused g c =
-    is_false_claim _ _ c.place-start.ensures.sound c.in-Ok.ensures.0 c.in-Ok.found c.in-Ok.ensures.1 c.in-Ok.ensures.2 c.in-Some.refused c.in-Some.is
+    is_false_claim _ _ c.place-start.ensures.sound c.in-Ok.ensures.0 c.in-Ok.found c.in-Ok.ensures.1 c.in-Ok.ensures.2.0 c.in-Some.refused c.in-Some.is
 
 pub returns-in-Some-clause-still : goal.returns-in-Some-clause-still
 returns-in-Some-clause-still g c =

@@ -1,19 +1,30 @@
-use Rattle.std.proofs.Common.{refl, sym}
+use Rattle.std.proofs.Common.{refl}
+use Rattle.std.proofs.lemmas.Result.{err_from_is_err_and}
+use Rattle.twkb_num.specs.Cursor.{rest}
+use Rattle.twkb_body.specs.BodyReader.{count_at, shape_at}
+use Rattle.twkb_body.specs.Encoding.{is_multi}
+use Rattle.twkb_body.specs.IdLists.{HasManyIdsAfterCount}
 use Rattle.twkb_body.specs.Inside.{of_head}
-use Rattle.twkb_body.proofs.ShapeSteps.{shape_of_parts, shape_of_part}
+use Rattle.twkb_body.proofs.ShapeSteps.{no_count, no_parts, shape_of_parts}
+use Rattle.twkb_body.proofs.Stopping.{stops_outside}
 use Rattle.twkb_body.proofs.shape.take_shape.Goals as goal
 
-pub returns-in_ok-take_parts : goal.returns-in_ok-take_parts
-returns-in_ok-take_parts g c =
+pub returns-in_err-list : goal.returns-in_err-list
+returns-in_err-list g c =
+    let p = err_from_is_err_and c.from_residual.result c.from_residual.ensures.1 in
+    let head = c.args.head.now in
+    rw (p.1, p.2) (stops_outside (count_at (is_multi head.kind) head.ids c.args.cursor.now) (shape_at (is_multi head.kind) (of_head head) c.args.cursor.now) (HasManyIdsAfterCount head.ids (rest c.args.cursor.now)) (HasManyIdsAfterCount head.ids (rest c.args.cursor.now)) c.args.cursor.now c.args.cursor.now _ _
+    (λ m f. no_count (of_head head) _ m _ f) (λ bytes wants. (bytes, wants)) c.in_err-list.ensures)
+
+pub returns-in_err-take_parts : goal.returns-in_err-take_parts
+returns-in_err-take_parts g c =
+    let p = err_from_is_err_and c.from_residual-in_err-take_parts.result c.from_residual-in_err-take_parts.ensures.1 in
+    let list = c.in_ok-list.ensures in
+    rw (p.1, p.2) (no_parts (of_head c.args.head.now) _ _ _ list.0 c.in_ok-list.list c.new-trail.result c.axes_of.ensures.value c.new-trail.ensures.last list.1 list.2 _ _ c.in_err-take_parts.ensures)
+
+pub returns : goal.returns
+returns g c =
     let list = c.in_ok-list.ensures in
     let parts = c.in_ok-take_parts.ensures in
-    shape_of_parts (of_head c.args.head.now) c.axes_of-axes.result _ _ _ list.0 c.in_ok-list.list parts.0 c.new-trail.result _ _
-    (sym c.if-is_multi.ensures) c.axes_of-axes.ensures.value c.new-trail.ensures.last c.new-trail.ensures.ranges c.new-trail.ensures.points
-    list.1 list.2 parts.1 parts.2 c.found_on.ensures.vertices c.found_on.ensures.extent c.found_on.ensures.refused refl
-
-pub returns-in_ok-take_part : goal.returns-in_ok-take_part
-returns-in_ok-take_part g c =
-    let part = c.in_ok-take_part.ensures in
-    shape_of_part (of_head c.args.head.now) c.axes_of-axes.result _ _ part.0 c.new-trail.result _ _
-    (sym c.if-is_multi.ensures) c.axes_of-axes.ensures.value c.new-trail.ensures.last c.new-trail.ensures.ranges c.new-trail.ensures.points
-    part.1 part.2 c.found_on-else-is_multi.ensures.vertices c.found_on-else-is_multi.ensures.extent c.found_on-else-is_multi.ensures.refused refl
+    shape_of_parts (of_head c.args.head.now) _ _ _ list.0 c.in_ok-list.list c.new-trail.result c.axes_of.ensures.value c.new-trail.ensures.last list.1 list.2 _ parts.0 c.args.head.now.bounds _ _ _ _
+    c.new-trail.ensures.ranges c.new-trail.ensures.points parts.1 parts.2 c.found_on.ensures.vertices c.judge_trail.ensures.boxed c.judge_trail.ensures.seen c.found_on.ensures.refused refl
