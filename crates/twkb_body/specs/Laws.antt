@@ -1,6 +1,10 @@
--- The laws of blobs, begun and whole.
-use Rattle.std.specs.Prelude.{◌≡◌, ◌≢◌, ◌≤◌, ℕ, List, [], ◌++◌, AllPairs}
+-- The laws of blobs, begun and whole, and of extents.
+use Rattle.std.specs.Prelude.{◌≡◌, ◌≢◌, ◌≤◌, ℕ, List, [], ◌++◌, All, AllPairs, ◌↔◌}
+use Rattle.twkb_head.specs.declared.boxes.Bounds.{Bounds}
+use Rattle.twkb_head.specs.declared.boxes.Vertex.{Vertex}
 use Rattle.twkb_head.specs.BegunHeader.{Field, IsField}
+use Rattle.twkb_head.specs.Holds.{Holds}
+use Rattle.twkb_body.specs.Extent.{reach_of, both, IsReachWithin}
 use Rattle.twkb_body.specs.Geometry.{Geometry}
 use Rattle.twkb_body.specs.Encoding.{BlobUnder, Blob}
 use Rattle.twkb_body.specs.Claims.{offset_of, claims}
@@ -35,3 +39,11 @@ StaysBlob = (low high : ℕ) (g : Geometry) (bytes : List ℕ) (depth : ℕ) →
 -- the claims of a blob stand by rising offset
 abbrev pub RisingClaims : Type 0
 RisingClaims = (g : Geometry) (bytes : List ℕ) (start : ℕ) → Blob g bytes 1 → AllPairs (λ c d. offset_of c ≤ offset_of d) (claims g start)
+
+-- the reach of two lists of vertices is that of both
+abbrev pub ExtentsJoin : Type 0
+ExtentsJoin = (vs ws : List Vertex) → reach_of (vs ++ ws) ≡ both (reach_of vs) (reach_of ws)
+
+-- a box holds the reach of vertices exactly where it holds each of them
+abbrev pub ExtentsStandForAll : Type 0
+ExtentsStandForAll = (vs : List Vertex) (box : Bounds) → IsReachWithin (reach_of vs) box ↔ All (Holds box) vs

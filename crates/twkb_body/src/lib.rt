@@ -10,7 +10,8 @@
 //!   bytes before it, or, of a whole blob, the false claim of least offset; the cursor is where it was. [`audit_in`] is
 //!   the same over any allocator.
 //! - [`Extent`] keeps least and greatest coordinate per axis, which is all that boxes ask of vertices.
-//! - [`laws`] has the laws of the definitions: one kind of field due, one blob at the front, one tree.
+//! - [`laws`] has the laws of the definitions: one kind of field due, one blob at the front, one tree; and what an extent
+//!   says of its vertices.
 //!
 //! ```text
 //! let mut cursor = Cursor::new(&[0x02, 0x00, 0x02, 0x02, 0x02, 0x08, 0x08]);
@@ -20,8 +21,8 @@
 //! The pass carries no tree, no list of vertices and no bytes: the number of vertices, the first false claim, for each box
 //! above the extent of what was read below it and, for the time in which they are judged, the ids of one list, of which
 //! sixteen need no memory. Its time is O(n) in the bytes of the blob and O(n log n) in the ids of a list. Within a header
-//! least and greatest are raw 64-bit numbers, scaled to units once at its end, if a box there or above asks for them. What a blob's way goes through is inlined into one function, which makes the audit two to
-//! three times as fast.
+//! least and greatest are raw 64-bit numbers, scaled to units once at its end, if a box there or above asks for them. What a
+//! blob's way goes through is inlined into one function, which makes the audit two to three times as fast.
 //!
 //! What the bytes of a blob are is said in `specs/Encoding.antt` (`Blob`), over the trees of `specs/Geometry.antt`; what a
 //! tree claims in `specs/Claims.antt`; what a blob that is begun may go on with in `specs/Begun.antt`; why bytes are no blob

@@ -95,7 +95,7 @@ take_geometry-returns-in_err-inside-2 g t c =
     (λ bytes wants. (
       bytes ∙ ok.moved.bytes,
       long_list_inside c.args.depth (deepest - (c.args.depth + 1)) _ _ ok.ok.header (omega (arith, below)) c.requires.shallowest c.place-body.ensures.sound ok.moved ok.ok.is ok.ok.allowed full many
-      (subst (λ (b : Bool). WantsInside c.args.depth (deepest - (c.args.depth + 1)) b c.read_head.new.cursor) ids wants),
+          (subst (λ (b : Bool). WantsInside c.args.depth (deepest - (c.args.depth + 1)) b c.read_head.new.cursor) ids wants),
     ))
     c.in_err-inside-2.ensures)
 

@@ -1,0 +1,8 @@
+use Rattle.twkb_body.proofs.Reaches.{reach_append, within_from_all, all_from_within}
+use Rattle.twkb_body.proofs.laws.extents.Goals as goal
+
+pub returns : goal.returns
+returns c = record {
+  join = reach_append;
+  stand_for_all = λ vs box. (all_from_within box vs, within_from_all box vs);
+}
