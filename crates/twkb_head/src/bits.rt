@@ -5,6 +5,7 @@ ghost use Rattle.twkb_num.specs.Varint.{zigzag_value};
 ghost use Rattle.twkb_head.specs.Header.{has_bit, has_ids, z_in, m_in};
 
 use crate::kinds::Kind;
+use twkb_num::unzigzag;
 
 /// A bit of the metadata byte, by its value: a box stands in the header (TWKB specification, "Metadata Header"). The
 /// three bits that have no name here mean nothing, and may be set (this project's choice).
@@ -38,9 +39,7 @@ pub fn precision_of(byte: u8) -> i8
     ensures value { result ≡ zigzag_value (byte / 16) }
     ensures range { IsPrecision result }
 {
-    let raw = byte / 16;
-    let half = (raw / 2) as i8;
-    if raw % 2 == 0 { half } else { -half - 1 }
+    unzigzag(u64::from(byte / 16)) as i8
 }
 
 /// The precision of Z, where the extended dimensions byte has a Z (TWKB specification, "Extended
