@@ -27,6 +27,6 @@ mod tests;
 mod varint;
 
 pub use cursor::Cursor;
-pub use scale::units;
+pub use scale::{coordinate_of, units};
 pub use signed::{unzigzag, zigzag};
 pub use varint::NumFault;

@@ -1,6 +1,6 @@
-//! Coordinates in units.
-ghost use Rattle.std.specs.Prelude.{◌≡◌, ◌^◌, ◌≤ℤ◌, pos, neg_ℤ};
-ghost use Rattle.twkb_num.specs.Units.{units_of, IsPrecision};
+//! Coordinates in units, and back.
+ghost use Rattle.std.specs.Prelude.{◌≡◌, ◌^◌, ◌<◌, ◌≤◌, ◌≤ℤ◌, ◌-ℤ◌, ℤ, pos, neg_ℤ, unsigned_abs};
+ghost use Rattle.twkb_num.specs.Units.{units_of, IsPrecision, IsCoordinate};
 
 /// 10 to the powers 0 to 15. They have 64 bits, so that a coordinate of 64 bits takes one multiplication.
 const POWERS: [i64; 16] = [
@@ -33,6 +33,27 @@ pub fn units(coordinate: i128, precision: i8) -> i128
     requires greatest { coordinate ≤ℤ pos (2 ^ 64) }
     ensures { result ≡ units_of coordinate precision }
 {
-    let power = i128::from(POWERS[usize::from(7i8.abs_diff(precision))]);
-    coordinate * power
+    coordinate * i128::from(units_in_one(precision))
+}
+
+/// The coordinate at a precision that is so many units; there has to be one, of the size that `units` takes.
+pub fn coordinate_of(units: i128, precision: i8) -> i128
+    requires precision { IsPrecision precision }
+    requires exact { IsCoordinate precision units }
+    ensures { (coordinate : ℤ) → units ≡ units_of coordinate precision → result ≡ coordinate }
+{
+    let power = u128::from(units_in_one(precision).unsigned_abs());
+    let distance = (units.unsigned_abs() / power) as i128;
+    if units < 0 { -distance } else { distance }
+}
+
+/// How many units a coordinate of 1 is.
+#[inline(always)]
+fn units_in_one(precision: i8) -> i64
+    requires { IsPrecision precision }
+    ensures value { result ≡ pos (10 ^ unsigned_abs (pos 7 -ℤ precision)) }
+    ensures some { 0 < 10 ^ unsigned_abs (pos 7 -ℤ precision) }
+    ensures few { 10 ^ unsigned_abs (pos 7 -ℤ precision) ≤ 10 ^ 15 }
+{
+    POWERS[usize::from(7i8.abs_diff(precision))]
 }
