@@ -12,3 +12,4 @@ pub mod HeadReader
 pub use Rattle.twkb_num.specs.Cursor
 pub use Rattle.twkb_num.specs.Varint
 pub use Rattle.twkb_num.specs.Units
+pub mod Spelled

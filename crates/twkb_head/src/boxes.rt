@@ -1,14 +1,47 @@
 //! Vertices and boxes, in units.
 //!
 //! A unit is 10^-7 of a coordinate unit: coordinates of every precision are whole numbers of units, and compare as such.
-ghost use Rattle.std.specs.Prelude.{◌≡◌, ◌↔◌, IsTrue};
+ghost use Rattle.std.specs.Prelude.{◌≡◌, ◌↔◌, ◌+ℤ◌, IsTrue};
+ghost use Rattle.twkb_num.specs.Units.{IsPrecision};
+ghost use Rattle.twkb_head.specs.Head.{span_at};
 ghost use Rattle.twkb_head.specs.Holds.{IsWithin, IsWithinBoth, Holds};
+ghost use Rattle.twkb_head.specs.Spelled.{IsSpelled};
+
+use twkb_num::{coordinate_of, units};
 
 /// A closed range, in units. Where `lo` is above `hi` it holds nothing.
 #[derive(Clone, Copy, Debug, PartialEq, Eq)]
 pub struct Span {
     pub lo: i128,
     pub hi: i128,
+}
+
+impl Span {
+    /// The range that a box spells by a minimum and an extent at a precision. The maximum is their sum as whole numbers
+    /// and may pass 64 bits; a negative extent makes a range that holds nothing (this project's choice).
+    #[inline(always)]
+    pub fn spelled(minimum: i64, extent: i64, precision: i8) -> Span
+        requires { IsPrecision precision }
+        ensures { result ≡ span_at precision (minimum, minimum +ℤ extent) }
+    {
+        let least = i128::from(minimum);
+        let greatest = least + i128::from(extent);
+        Span {
+            lo: units(least, precision),
+            hi: units(greatest, precision),
+        }
+    }
+
+    /// The minimum and the extent that spell the range at a precision; there have to be such.
+    pub fn spelling(&self, precision: i8) -> (i64, i64)
+        requires precision { IsPrecision precision }
+        requires spelled { IsSpelled precision self.now }
+        ensures { self.now ≡ span_at precision (result.0, result.0 +ℤ result.1) }
+    {
+        let least = coordinate_of(self.lo, precision);
+        let greatest = coordinate_of(self.hi, precision);
+        (least as i64, (greatest - least) as i64)
+    }
 }
 
 /// A vertex, in units.

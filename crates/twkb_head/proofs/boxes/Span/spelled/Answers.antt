@@ -3,15 +3,15 @@ use Rattle.std.proofs.lemmas.Int.{ints, to_z-of_z}
 use mir.Val.{SFits, to_z, of_z}
 use Rattle.std.specs.Int.{w8, w128}
 use Rattle.twkb_num.specs.Units.{units_of}
-use Rattle.twkb_head.proofs.ranges.span.Goals as goal
+use Rattle.twkb_head.proofs.boxes.Span.spelled.Goals as goal
 
 pub returns : goal.returns
 returns c =
-    let low : to_z w128 (of_z w128 c.from-minimum.result) ≡ c.args.low = omega (arith, ints) in
-    let high : to_z w128 (of_z w128 (to_z w128 (of_z w128 c.from-minimum.result) +ℤ to_z w128 (of_z w128 c.from.result))) ≡ c.args.low +ℤ c.args.extent = omega (arith, ints) in
+    let low : to_z w128 (of_z w128 c.from-least.result) ≡ c.args.minimum = omega (arith, ints) in
+    let high : to_z w128 (of_z w128 (to_z w128 (of_z w128 c.from-least.result) +ℤ to_z w128 (of_z w128 c.from.result))) ≡ c.args.minimum +ℤ c.args.extent = omega (arith, ints) in
     let at : to_z w8 (of_z w8 c.args.precision) ≡ c.args.precision = omega (arith, ints) in
     let lo_fits : SFits w128 c.units.result = search rules in
     let hi_fits : SFits w128 c.units-2.result = search rules in
-    let lo : c.units.result ≡ units_of c.args.low c.args.precision = c.units.ensures ∙ ap₂ units_of low at in
-    let hi : c.units-2.result ≡ units_of (c.args.low +ℤ c.args.extent) c.args.precision = c.units-2.ensures ∙ ap₂ units_of high at in
+    let lo : c.units.result ≡ units_of c.args.minimum c.args.precision = c.units.ensures ∙ ap₂ units_of low at in
+    let hi : c.units-2.result ≡ units_of (c.args.minimum +ℤ c.args.extent) c.args.precision = c.units-2.ensures ∙ ap₂ units_of high at in
     λ j. record { lo = (to_z-of_z w128 c.units.result lo_fits ∙ lo) j; hi = (to_z-of_z w128 c.units-2.result hi_fits ∙ hi) j }
