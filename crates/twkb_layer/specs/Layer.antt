@@ -1,5 +1,6 @@
 -- Layers: blobs one after another, and nothing else.
-use Rattle.std.specs.Prelude.{◌≡◌, ℕ, List, [], ◌∷◌, take, drop, length, sum_by, All}
+use Rattle.std.specs.Prelude.{◌≡◌, ℕ, ◌+◌, ◌≤◌, List, [], ◌∷◌, take, drop, length, sum_by, All}
+use Rattle.twkb_num.specs.Cursor.{added}
 use Rattle.twkb_body.specs.Geometry.{Geometry, lengths_of, vertices}
 use Rattle.twkb_body.specs.Encoding.{Blob}
 use Rattle.twkb_body.specs.Claims.{IsCertified}
@@ -7,6 +8,10 @@ use Rattle.twkb_body.specs.Claims.{IsCertified}
 -- how many bytes a geometry takes
 abbrev pub size_of : Geometry → ℕ
 size_of tree = (lengths_of tree).whole
+
+-- how many of them its header takes
+abbrev pub header_size : Geometry → ℕ
+header_size tree = (lengths_of tree).header
 
 -- The bytes are these blobs, one after another. Each is cut off by its own length, so that no cut has to be named: `Laws`
 -- says that it is the same to cut anywhere.
@@ -22,6 +27,21 @@ pub record IsCertifiedLayer (trees : List Geometry) (bytes : List ℕ) : Type 0 
 -- how many vertices its blobs have
 abbrev pub vertex_count : List Geometry → ℕ
 vertex_count trees = sum_by (λ tree. length (vertices tree)) trees
+
+-- in file order, what is said of each blob by its number, its offset and its tree, from this number and offset on
+abbrev pub told_from : {A : Type 0} → (ℕ → ℕ → Geometry → A) → ℕ → ℕ → List Geometry → List A
+told_from says blob offset [] = []
+told_from says blob offset (tree ∷ trees) = says blob offset tree ∷ told_from says (blob + 1) (offset + size_of tree) trees
+
+-- the same of all blobs of a layer
+abbrev pub blob_by_blob : {A : Type 0} → (ℕ → ℕ → Geometry → A) → List Geometry → List A
+blob_by_blob says trees = told_from says 0 0 trees
+
+-- a count grew by no more than this, but for its greatest value
+pub record AddsAtMost (most old new : ℕ) : Type 0 where
+  pub read : ℕ
+  pub few : read ≤ most
+  pub is : new ≡ added old read
 
 -- A certified layer as callers see it: its bytes, and how many were read of them. Its trees are those that its bytes have.
 pub record Layer : Type 0 where

@@ -1,0 +1,170 @@
+-- A scan with the entries of a directory, on its way from entry to entry.
+use Rattle.std.proofs.Common.{◌≡◌, ℕ, ℤ, ◌+◌, ◌-◌, ◌^◌, ◌<◌, ◌≤◌, Bool, true, false, cond, List, [], ◌∷◌, ◌++◌, length, take, drop, get_or, Option, Some, None, option_map, refl, ap, subst, sym, ◌∙◌, arith, sum_by, slice_set, length-drop, append_assoc}
+use Rattle.std.specs.List.{list_any}
+use Rattle.std.proofs.lemmas.List.{append-nil, drop_more, drop_all, length-take}
+use Rattle.std.proofs.lemmas.List.Elements.{recursion_from_All}
+use Rattle.std.proofs.lemmas.List.Sums.{sum_by-cons}
+use Rattle.std.specs.List.{AllByRecursion}
+use Rattle.twkb_num.specs.Cursor.{added}
+use Rattle.twkb_head.specs.declared.boxes.Vertex.{Vertex}
+use Rattle.twkb_head.specs.declared.boxes.Bounds.{Bounds}
+use Rattle.twkb_head.specs.Header.{Header}
+use Rattle.twkb_head.specs.Head.{bounds_of}
+use Rattle.twkb_head.specs.Holds.{Holds}
+use Rattle.twkb_body.specs.Geometry.{Geometry, geometry, vertices}
+use Rattle.twkb_body.specs.Standing.{StandsAt}
+use Rattle.twkb_body.proofs.Entering.{reaches, boxed_holds}
+use Rattle.twkb_layer.specs.Directory.{Place, box_of, place_of, places, is_missed, directory_cost}
+use Rattle.twkb_layer.specs.Hits.{hits, cost, filled}
+use Rattle.twkb_layer.specs.Layer.{IsCertifiedLayer, size_of, told_from}
+use Rattle.twkb_layer.specs.Seeking.{outside}
+use Rattle.twkb_layer.specs.Window.{is_inside, box_misses}
+use Rattle.twkb_layer.specs.declared.hits.Hit.{Hit}
+use Rattle.twkb_layer.proofs.Layers.{blob_some, layer_once}
+use Rattle.twkb_layer.proofs.Scanning.{hits_from, Next, next_of, filled_none, hits_step, found_step, room_step, found_fits, added_twice, counted_none}
+
+-- ---- a box that misses
+
+none_of : (w box : Bounds) (vs : List Vertex) → box_misses w box ≡ true → AllByRecursion (Holds box) vs → list_any (is_inside w) vs ≡ false
+none_of w box [] miss h = refl
+none_of w box (v ∷ vs) miss h = rw (outside w box v miss h.0) (none_of w box vs miss h.1)
+
+-- a box that misses is there
+record HasMissed (w : Bounds) (h : Header) : Type 0 where
+  ranges : List (ℤ × ℤ)
+  box : h.box ≡ Some ranges
+  misses : box_misses w (bounds_of h.xy h.z h.m ranges) ≡ true
+
+missed_has : (w : Bounds) (h : Header) (box : Option (List (ℤ × ℤ))) → box ≡ h.box → is_missed w (option_map (λ ranges. bounds_of h.xy h.z h.m ranges) box) ≡ true → HasMissed w h
+missed_has w h None e m = absurd (cc (m))
+missed_has w h (Some ranges) e m = record { ranges = ranges; box = sym e; misses = m }
+
+-- a blob whose box misses the window has no vertex inside
+pub missed_none : (w : Bounds) (g : Geometry) (bytes : List ℕ) (place : ℕ) → StandsAt g 1 bytes place → is_missed w (box_of g) ≡ true → list_any (is_inside w) (vertices g) ≡ false
+missed_none w (geometry h l ids polygons members) bytes place at miss =
+    let k = missed_has w h h.box refl miss in
+    let boxed = boxed_holds h l ids polygons members 1 bytes place k.ranges at k.box in
+    none_of w (bounds_of h.xy h.z h.m k.ranges) (vertices (geometry h l ids polygons members)) k.misses (recursion_from_All (Holds (bounds_of h.xy h.z h.m k.ranges)) (vertices (geometry h l ids polygons members)) boxed)
+
+-- ---- a scan with entries
+pub record Looking (w : Bounds) (bytes : List ℕ) (count0 : ℕ) (room0 : List Hit) (entries : List Place) (count blob found : ℕ) (room : List Hit) : Type 0 where
+  pub trees : List Geometry
+  pub whole : IsCertifiedLayer trees bytes
+  pub rest : List Geometry
+  pub place : ℕ
+  pub seen : List Hit
+  pub left : IsCertifiedLayer rest (drop place bytes)
+  pub places_are : drop blob entries ≡ told_from place_of blob place rest
+  pub hits_are : hits trees w ≡ seen ++ hits_from blob place rest w
+  pub found_is : found ≡ length seen
+  pub room_is : room ≡ filled seen room0
+  pub count_is : added count (sum_by (directory_cost w) rest) ≡ added count0 (sum_by (directory_cost w) trees)
+  pub count_fits : count ≤ 2 ^ 64 - 1
+  pub found_small : found ≤ blob
+  pub within : place ≤ length bytes
+
+pub look_start : (w : Bounds) (bytes : List ℕ) (count0 : ℕ) (room0 : List Hit) (entries : List Place) (trees : List Geometry) → IsCertifiedLayer trees bytes → entries ≡ places trees → count0 < 2 ^ 64 → Looking w bytes count0 room0 entries count0 0 0 room0
+look_start w bytes count0 room0 entries trees whole are small = record {
+  trees = trees;
+  whole = whole;
+  rest = trees;
+  place = 0;
+  seen = [];
+  left = whole;
+  places_are = are;
+  hits_are = refl;
+  found_is = refl;
+  room_is = filled_none room0;
+  count_is = refl;
+  count_fits = omega (arith, small);
+  found_small = omega arith;
+  within = omega arith;
+}
+
+-- the entry of this number
+pub record Here (rest : List Geometry) (bytes : List ℕ) (place : ℕ) (entries : List Place) (blob : ℕ) (e : Place) : Type 0 where
+  pub next : Next rest bytes place
+  pub offset : e.offset ≡ place
+  pub bounds : e.bounds ≡ box_of next.tree
+  pub others : drop (blob + 1) entries ≡ told_from place_of (blob + 1) (place + size_of next.tree) next.after
+
+some_left : (rest : List Geometry) (bytes : List ℕ) (blob place : ℕ) (p : Place) (ps : List Place) → p ∷ ps ≡ told_from place_of blob place rest → IsCertifiedLayer rest (drop place bytes) → place < length bytes
+some_left [] bytes blob place p ps e left = absurd (cc (e))
+some_left (tree ∷ trees) bytes blob place p ps e left = omega (arith, length-drop place bytes, blob_some tree (take (size_of tree) (drop place bytes)) left.layer.0, length-take (size_of tree) (drop place bytes))
+
+first_of_places : (rest : List Geometry) (bytes : List ℕ) (place : ℕ) (entries : List Place) (blob : ℕ) (e : Place) → e ∷ drop (blob + 1) entries ≡ told_from place_of blob place rest → Next rest bytes place → Here rest bytes place entries blob e
+first_of_places rest bytes place entries blob e is n =
+    let both : e ∷ drop (blob + 1) entries ≡ (record { offset = place; bounds = box_of n.tree } ∷ told_from place_of (blob + 1) (place + size_of n.tree) n.after) = is ∙ ap (told_from place_of blob place) n.is in
+    let first : e ≡ record { offset = place; bounds = box_of n.tree } = cc (both) in
+    record { next = n; offset = ap (λ (p : Place). p.offset) first; bounds = ap (λ (p : Place). p.bounds) first; others = cc (both) }
+
+pub here_of : (w : Bounds) (bytes : List ℕ) (count0 : ℕ) (room0 : List Hit) (entries : List Place) (count blob found : ℕ) (room : List Hit) (s : Looking w bytes count0 room0 entries count blob found room) (e : Place) → e ≡ get_or entries blob e → blob < length entries
+    → Here s.rest bytes s.place entries blob e
+here_of w bytes count0 room0 entries count blob found room s e is lt =
+    let left : e ∷ drop (blob + 1) entries ≡ told_from place_of blob s.place s.rest = ap (λ (p : Place). p ∷ drop (blob + 1) entries) is ∙ (sym (drop_more entries blob e lt) ∙ s.places_are) in
+    first_of_places s.rest bytes s.place entries blob e left (next_of s.rest bytes s.place s.left (some_left s.rest bytes blob s.place _ _ left s.left))
+
+-- its blob stands there
+pub here_stands : (rest : List Geometry) (bytes now : List ℕ) (place : ℕ) (entries : List Place) (blob : ℕ) (e : Place) (h : Here rest bytes place entries blob e) → now ≡ bytes → StandsAt h.next.tree 1 now e.offset
+here_stands rest bytes now place entries blob e h same = rw (same, h.offset) h.next.stands
+
+pub look_step : (w : Bounds) (bytes : List ℕ) (count0 : ℕ) (room0 : List Hit) (entries : List Place) (count blob found : ℕ) (room : List Hit) (s : Looking w bytes count0 room0 entries count blob found room) (e : Place) (n : Here s.rest bytes s.place entries blob e)
+    (offset : ℕ) → offset ≡ e.offset → (new : ℕ) → new ≡ added count (directory_cost w n.next.tree) → (b : Bool) → b ≡ list_any (is_inside w) (vertices n.next.tree)
+    → Looking w bytes count0 room0 entries new (blob + 1) (cond b (found + 1) found) (cond b (slice_set room found (record { blob = blob; offset = offset })) room)
+look_step w bytes count0 room0 entries count blob found room s e h offset o new adds b is =
+    let n = h.next in
+    let place = s.place in
+    let hit : Hit = record { blob = blob; offset = place } in
+    let named : ◌≡◌ {A = Hit} (record { blob = blob; offset = offset }) hit = (λ j. record { blob = blob; offset = (o ∙ h.offset) j }) in
+    record {
+      trees = s.trees;
+      whole = s.whole;
+      rest = n.after;
+      place = place + size_of n.tree;
+      seen = s.seen ++ cond b (hit ∷ []) [];
+      left = n.goes_on;
+      places_are = h.others;
+      hits_are = s.hits_are ∙ (ap (λ ts. s.seen ++ hits_from blob place ts w) n.is ∙ (ap (λ hs. s.seen ++ hs) (hits_step w blob place n.tree n.after b is) ∙ sym (append_assoc s.seen (cond b (hit ∷ []) []) (hits_from (blob + 1) (place + size_of n.tree) n.after w))));
+      found_is = found_step s.seen found hit b s.found_is;
+      room_is = ap (λ (h : Hit). cond b (slice_set room found h) room) named ∙ room_step s.seen room0 room found hit b s.found_is s.room_is;
+      count_is = ap (λ (c : ℕ). added c (sum_by (directory_cost w) n.after)) adds ∙ (added_twice count (directory_cost w n.tree) (sum_by (directory_cost w) n.after) ∙ (ap (added count) (sym (sum_by-cons (directory_cost w) n.tree n.after)) ∙ (ap (λ ts. added count (sum_by (directory_cost w) ts)) (sym n.is) ∙ s.count_is)));
+      count_fits = omega (arith, adds);
+      found_small = found_fits b found blob s.found_small;
+      within = n.within;
+    }
+
+-- what a scan with entries found
+pub record Found (w : Bounds) (count0 : ℕ) (room0 : List Hit) (count found : ℕ) (room : List Hit) (trees : List Geometry) : Type 0 where
+  pub answer : found ≡ length (hits trees w)
+  pub room_is : room ≡ filled (hits trees w) room0
+  pub count_is : count ≡ added count0 (sum_by (directory_cost w) trees)
+
+no_places : (blob place : ℕ) (rest : List Geometry) → [] ≡ told_from place_of blob place rest → rest ≡ []
+no_places blob place [] e = refl
+no_places blob place (t ∷ ts) e = absurd (cc (e))
+
+pub look_end : (w : Bounds) (bytes : List ℕ) (count0 : ℕ) (room0 : List Hit) (entries : List Place) (count blob found : ℕ) (room : List Hit) → Looking w bytes count0 room0 entries count blob found room → length entries ≤ blob
+    → (trees : List Geometry) → IsCertifiedLayer trees bytes → Found w count0 room0 count found room trees
+look_end w bytes count0 room0 entries count blob found room s le trees h =
+    let none = no_places blob s.place s.rest (sym (drop_all blob entries le) ∙ s.places_are) in
+    let same : s.trees ≡ trees = layer_once s.trees trees bytes s.whole.layer h.layer in
+    let all : hits s.trees w ≡ s.seen = s.hits_are ∙ (ap (λ ts. s.seen ++ hits_from blob s.place ts w) none ∙ append-nil s.seen) in
+    let counts : count ≡ added count0 (sum_by (directory_cost w) s.trees) = counted_none count s.count_fits ∙ (ap (λ ts. added count (sum_by (directory_cost w) ts)) (sym none) ∙ s.count_is) in
+    subst (Found w count0 room0 count found room) same
+    (record { answer = s.found_is ∙ ap length (sym all); room_is = s.room_is ∙ ap (λ hs. filled hs room0) (sym all); count_is = counts })
+
+-- a blob that isn't looked at costs nothing
+pub missed_costs : (w : Bounds) (g : Geometry) (count : ℕ) → count < 2 ^ 64 → is_missed w (box_of g) ≡ true → count ≡ added count (directory_cost w g)
+missed_costs w g count small miss = counted_none count (omega arith) ∙ ap (added count) (sym (ap (λ (b : Bool). cond b 0 (cost w g)) miss))
+
+-- and one that is, as much as in any scan
+pub looked_costs : (w : Bounds) (g : Geometry) → is_missed w (box_of g) ≡ false → cost w g ≡ directory_cost w g
+looked_costs w g meets = sym (ap (λ (b : Bool). cond b 0 (cost w g)) meets)
+
+-- a blob that stands somewhere begins within the bytes
+pub stands_within : (g : Geometry) (bytes : List ℕ) (place : ℕ) → StandsAt g 1 bytes place → place ≤ length bytes
+stands_within (geometry h l ids polygons members) bytes place at = let r = reaches h l ids polygons members 1 bytes place at in omega (arith, r.1)
+
+-- what an entry's test says of the blob
+pub tests_box : (w : Bounds) (bounds box : Option Bounds) (a b : Bool) → a ≡ b → a ≡ is_missed w bounds → bounds ≡ box → is_missed w box ≡ b
+tests_box w bounds box a b e is same = ap (is_missed w) (sym same) ∙ (sym is ∙ e)
