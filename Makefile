@@ -2,7 +2,7 @@
 PROGRAM = build/twkb_tool
 LAYERS = examples/coast_lines_sized.twkb examples/coast_collections.twkb examples/coast_z.twkb examples/points_sized.twkb
 
-.PHONY: help kit build demo test bench refusals clean
+.PHONY: help kit build demo test bench refusals twins clean
 
 help:
 	@echo 'make build      prove and build the program: $(PROGRAM)'
@@ -10,6 +10,7 @@ help:
 	@echo 'make test       build, test the program from end to end, and run the merge gate'
 	@echo 'make bench      build, and compare with plain Rust on 40 MB (needs rustc)'
 	@echo 'make refusals   refuse each allocation of the program in turn (builds it some fifty times)'
+	@echo 'make twins      check the twins of the wrong bodies, which mean what the source means'
 	@echo 'make clean      remove what was built'
 
 kit:
@@ -34,6 +35,10 @@ bench: build
 # Each allocation of the whole program in turn; it builds the program for each, so the gate leaves it out.
 refusals: kit
 	python3 tests/refuse_allocations.py
+
+# Each is a check of its crate, so the gate leaves them out.
+twins: kit
+	python3 tests/twins.py
 
 clean:
 	rm -rf build crates/*/out
