@@ -1,14 +1,11 @@
 //! Allocations that are refused, each in turn.
-use crate::{Cursor, Refusal, certify_in};
+use super::lists::LINE_AND_POINT;
+use super::worked::{EMPTY, SEVENTEEN_IDS, TWO_BLOBS, flat};
+use super::{certified, window};
+use crate::{Certified, Cursor, Directory, Refusal, certify_in};
 use refusing::Refusing;
 use std::alloc::Allocator;
 use std::process::Abort;
-
-// The beginning of a multipoint with seventeen ids, all different, up to its points.
-const HEAD: [u8; 20] = [
-    0x04, 0x04, 0x11, 0x00, 0x02, 0x04, 0x06, 0x08, 0x0A, 0x0C, 0x0E, 0x10, 0x12, 0x14, 0x16, 0x18,
-    0x1A, 0x1C, 0x1E, 0x20,
-];
 
 /// One certification with all its memory from an allocator: whether it answered that memory ran out.
 fn runs_out<A: Allocator>(rt: &impl Abort, memory: &A, bytes: &[u8]) -> bool {
@@ -27,18 +24,16 @@ fn runs_out<A: Allocator>(rt: &impl Abort, memory: &A, bytes: &[u8]) -> bool {
 
 #[test]
 fn each_allocation_is_refused(rt: HostRuntime) {
-    let mut bytes = [0; 54];
-    bytes[..20].copy_from_slice(&HEAD);
     let mut refusals = 0u64;
     for call in 0..100u64 {
         let memory = Refusing::new(rt.alloc(), call);
-        let is_out = runs_out(&rt, &memory, &bytes);
+        let is_out = runs_out(&rt, &memory, &SEVENTEEN_IDS);
         assert_eq!(rt; is_out, memory.has_refused());
         if !is_out {
             break;
         }
         // The allocator grants the next call, and a new cursor gives the answer.
-        assert!(rt; !runs_out(&rt, &memory, &bytes));
+        assert!(rt; !runs_out(&rt, &memory, &SEVENTEEN_IDS));
         refusals = call + 1;
     }
     assert!(rt; 0 < refusals && refusals < 100, "{refusals}");
@@ -68,4 +63,91 @@ fn counts_take_no_memory(rt: HostRuntime) {
         assert_eq!(rt; refusal, Some(cut_at_the_end));
         assert!(rt; !memory.has_refused());
     }
+}
+
+// One list of two blobs with all its memory from an allocator: whether that was refused. A refusal comes before anything
+// is read.
+fn list_runs_out<A: Allocator>(rt: &impl Abort, memory: &A, layer: &mut Certified) -> bool {
+    let before = layer.read_count();
+    match layer.list_in(memory) {
+        Ok(rows) => {
+            assert_eq!(rt; rows.as_slice(), LINE_AND_POINT.as_slice());
+            let most = before.saturating_add(40);
+            assert!(rt; layer.read_count() <= most);
+            false
+        }
+        Err(_) => {
+            assert_eq!(rt; layer.read_count(), before);
+            true
+        }
+    }
+}
+
+#[test]
+fn refused_lists_may_be_repeated(rt: HostRuntime) {
+    let mut layer = certified(&rt, rt.alloc(), &TWO_BLOBS);
+    let mut refusals = 0u64;
+    for call in 0..100u64 {
+        let memory = Refusing::new(rt.alloc(), call);
+        let is_out = list_runs_out(&rt, &memory, &mut layer);
+        assert_eq!(rt; is_out, memory.has_refused());
+        if !is_out {
+            break;
+        }
+        assert!(rt; !list_runs_out(&rt, &memory, &mut layer));
+        assert_eq!(rt; layer.scan(&window(&flat((0, 10), (0, 10))), &mut []), 2);
+        refusals = call + 1;
+    }
+    assert!(rt; 0 < refusals && refusals < 100, "{refusals}");
+}
+
+// The same of building a directory.
+fn directory_runs_out<A: Allocator>(rt: &impl Abort, memory: &A, layer: &mut Certified) -> bool {
+    let before = layer.read_count();
+    match Directory::build_in(memory, layer) {
+        Ok(directory) => {
+            let most = before.saturating_add(40);
+            assert!(rt; layer.read_count() <= most);
+            let found = directory.scan(layer, &window(&flat((0, 10), (0, 10))), &mut []);
+            assert_eq!(rt; found, 2);
+            false
+        }
+        Err(_) => {
+            assert_eq!(rt; layer.read_count(), before);
+            true
+        }
+    }
+}
+
+#[test]
+fn refused_directories_may_be_built_again(rt: HostRuntime) {
+    let mut layer = certified(&rt, rt.alloc(), &TWO_BLOBS);
+    let mut refusals = 0u64;
+    for call in 0..100u64 {
+        let memory = Refusing::new(rt.alloc(), call);
+        let is_out = directory_runs_out(&rt, &memory, &mut layer);
+        assert_eq!(rt; is_out, memory.has_refused());
+        if !is_out {
+            break;
+        }
+        assert!(rt; !directory_runs_out(&rt, &memory, &mut layer));
+        assert_eq!(rt; layer.scan(&window(&flat((0, 10), (0, 10))), &mut []), 2);
+        refusals = call + 1;
+    }
+    assert!(rt; 0 < refusals && refusals < 100, "{refusals}");
+}
+
+// An allocator that would refuse its first call isn't asked.
+#[test]
+fn the_empty_layer_needs_no_memory(rt: HostRuntime) {
+    let memory = Refusing::new(rt.alloc(), 0);
+    let mut layer = certify_in(&memory, Cursor::new(&EMPTY)).expect(&rt, "no memory is asked for");
+    let rows = layer.list_in(&memory).expect(&rt, "no memory is asked for");
+    assert!(rt; rows.is_empty());
+    let directory = Directory::build_in(&memory, &mut layer).expect(&rt, "no memory is asked for");
+    assert_eq!(rt;
+        directory.scan(&mut layer, &window(&flat((0, 9), (0, 9))), &mut []),
+        0
+    );
+    assert!(rt; !memory.has_refused());
 }
