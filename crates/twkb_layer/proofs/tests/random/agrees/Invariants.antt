@@ -1,0 +1,5 @@
+use Rattle.twkb_layer.specs.Directory.{IsDirectoryOf}
+use Rattle.twkb_layer.proofs.tests.random.agrees.Given as goal
+
+abbrev pub invariant-loop : goal.invariant-loop
+invariant-loop g l = IsDirectoryOf l.directory l.layer.bytes

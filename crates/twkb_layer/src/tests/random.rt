@@ -1,0 +1,199 @@
+//! Layers and windows made at random, against a plain reader: it finds the hits by looking at each vertex, and the bytes
+//! that a scan reads by the lengths of all geometries.
+ghost use Rattle.std.specs.Prelude.{◌≡◌};
+ghost use Rattle.twkb_layer.specs.Directory.{IsDirectoryOf};
+
+use super::plain_scans::{plain_hits, plain_layer};
+use super::{NOWHERE, certified, window};
+use crate::{Bounds, Certified, Directory, Row, Vertex};
+use plain::{Layer, Work};
+use random_layers::Dice;
+use std::alloc::Global;
+use std::process::Abort;
+
+const LAYERS: u64 = 1000;
+
+const WINDOWS: u64 = 8;
+
+// What was met, so that no run tests nothing.
+#[derive(Clone, Copy, Debug)]
+struct Met {
+    kinds: [usize; 7],
+    hits: usize,
+    hits_by_more_axes: usize,
+    scans_without_hits: usize,
+    work: Work,
+    work_by_directory: Work,
+}
+
+impl Met {
+    fn new() -> Met {
+        Met {
+            kinds: [0; 7],
+            hits: 0,
+            hits_by_more_axes: 0,
+            scans_without_hits: 0,
+            work: Work::new(),
+            work_by_directory: Work::new(),
+        }
+    }
+
+    fn layer(&mut self, plain: &Layer) {
+        for geometry in &plain.geometries {
+            if let Some(kind) = self.kinds.get_mut(geometry.kind as usize) {
+                *kind = kind.saturating_add(1);
+            }
+        }
+    }
+
+    fn scan(&mut self, ranges: &Bounds, found: usize) {
+        self.hits = self.hits.saturating_add(found);
+        if ranges.z.is_some() || ranges.m.is_some() {
+            self.hits_by_more_axes = self.hits_by_more_axes.saturating_add(found);
+        }
+        if found == 0 {
+            self.scans_without_hits = self.scans_without_hits.saturating_add(1);
+        }
+    }
+
+    // Whether there were all seven kinds, hits and none, hops at each depth, and boxes that were met.
+    fn is_enough(&self) -> bool {
+        let [blobs, members, deeper] = self.work.hops;
+        let [_, members_by_directory, _] = self.work_by_directory.hops;
+        self.kinds.iter().all(|&kind| kind > 500)
+            && self.hits > 1000
+            && self.hits_by_more_axes > 100
+            && self.scans_without_hits > 1000
+            && blobs > 1000
+            && members > 1000
+            && deeper > 1000
+            && members_by_directory > 1000
+            && self.work.met > 1000
+    }
+}
+
+#[test]
+fn random_layers(rt: HostRuntime) {
+    let mut met = Met::new();
+    for seed in 0..LAYERS {
+        let bytes = random_layers::layer(rt.alloc(), seed).expect(&rt, "there is memory");
+        agrees(&rt, rt.alloc(), seed, &bytes, &mut met);
+    }
+    assert!(rt; met.is_enough(), "{met:?}");
+}
+
+// Whether the layer of this seed is certified, and its list and its scans are the plain reader's.
+fn agrees(rt: &impl Abort, alloc: Global, seed: u64, bytes: &[u8], met: &mut Met) {
+    let mut layer = certified(rt, alloc, bytes);
+    let plain = plain_layer(rt, alloc, bytes);
+    met.layer(&plain);
+    rows_agree(rt, alloc, &plain, &mut layer);
+    let directory = Directory::build(alloc, &mut layer).expect(rt, "there is memory");
+    let mut dice = Dice::new(seed);
+    for _ in 0..WINDOWS {
+        let near = place(&mut dice, &plain);
+        let ranges = random_layers::window(&mut dice, &near);
+        scans_agree(rt, &plain, &mut layer, &ranges, met);
+        directory_scans_agree(rt, &plain, &directory, &mut layer, &ranges, met);
+    }
+}
+
+// A vertex of the layer, or a corner of a box; the origin where there is none.
+fn place(dice: &mut Dice, plain: &Layer) -> Vertex {
+    let origin = Vertex {
+        x: 0,
+        y: 0,
+        z: None,
+        m: None,
+    };
+    if dice.once_in(2) {
+        let chosen = dice.below(plain.vertices.len() as u64) as usize;
+        return plain.vertices.get(chosen).copied().unwrap_or(origin);
+    }
+    let chosen = dice.below(plain.geometries.len() as u64) as usize;
+    let bounds = plain
+        .geometries
+        .get(chosen)
+        .and_then(|geometry| geometry.bounds);
+    match bounds {
+        Some(bounds) if dice.once_in(2) => Vertex {
+            x: bounds.x.lo,
+            y: bounds.y.lo,
+            z: bounds.z.map(|span| span.hi),
+            m: bounds.m.map(|span| span.lo),
+        },
+        Some(bounds) => Vertex {
+            x: bounds.x.hi,
+            y: bounds.y.hi,
+            z: bounds.z.map(|span| span.lo),
+            m: bounds.m.map(|span| span.hi),
+        },
+        None => origin,
+    }
+}
+
+fn rows_agree(rt: &impl Abort, alloc: Global, plain: &Layer, layer: &mut Certified)
+    ensures { layer.new.bytes ≡ layer.old.bytes }
+{
+    let blobs = plain.blobs(alloc).expect(rt, "there is memory");
+    assert_eq!(rt; layer.blobs(), blobs.len());
+    assert_eq!(rt; layer.vertices(), plain.vertices.len());
+    let rows = layer.list(alloc).expect(rt, "there is memory");
+    assert_eq!(rt; rows.len(), blobs.len());
+    for (blob, (row, geometry)) in rows.iter().zip(&blobs).enumerate() {
+        let expected = Row {
+            blob,
+            offset: geometry.offset,
+            bytes: geometry.whole,
+            vertices: geometry.vertices,
+            kind: geometry.kind,
+            precision: geometry.precision,
+            has_size: geometry.has_size,
+            has_box: geometry.bounds.is_some(),
+        };
+        assert_eq!(rt; *row, expected);
+    }
+}
+
+fn scans_agree(
+    rt: &impl Abort,
+    plain: &Layer,
+    layer: &mut Certified,
+    ranges: &Bounds,
+    met: &mut Met,
+)
+    ensures { layer.new.bytes ≡ layer.old.bytes }
+{
+    let work = plain.work(ranges);
+    let expected = plain_hits(plain, ranges);
+    let before = layer.read_count();
+    let mut room = [NOWHERE; 16];
+    let found = layer.scan(&window(ranges), &mut room);
+    assert_eq!(rt; (room, found), expected, "{ranges:?} of {plain:?}");
+    let read = before.saturating_add(work.read);
+    assert_eq!(rt; layer.read_count(), read, "{ranges:?} of {plain:?}");
+    met.work.and(&work);
+    met.scan(ranges, found);
+}
+
+fn directory_scans_agree(
+    rt: &impl Abort,
+    plain: &Layer,
+    directory: &Directory<Global>,
+    layer: &mut Certified,
+    ranges: &Bounds,
+    met: &mut Met,
+)
+    requires { IsDirectoryOf directory.now layer.old.bytes }
+    ensures { layer.new.bytes ≡ layer.old.bytes }
+{
+    let work = plain.work_by_directory(ranges);
+    let expected = plain_hits(plain, ranges);
+    let before = layer.read_count();
+    let mut room = [NOWHERE; 16];
+    let found = directory.scan(layer, &window(ranges), &mut room);
+    assert_eq!(rt; (room, found), expected, "{ranges:?} of {plain:?}");
+    let read = before.saturating_add(work.read);
+    assert_eq!(rt; layer.read_count(), read, "{ranges:?} of {plain:?}");
+    met.work_by_directory.and(&work);
+}
