@@ -23,7 +23,7 @@ use Rattle.twkb_body.specs.Seen.{HasSeen}
 use Rattle.twkb_body.specs.Claims.{claims_in}
 use Rattle.twkb_body.specs.Inside.{of_head, IsInside}
 use Rattle.twkb_body.proofs.Passes.{over_sums, none_sums}
-use Rattle.twkb_body.proofs.ShapeSteps.{both-none}
+use Rattle.twkb_body.proofs.Reaches.{both-none}
 
 -- the members of a collection with so many levels below it
 abbrev pub members_under : ℕ → ℕ → Reader Members

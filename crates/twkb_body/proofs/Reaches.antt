@@ -60,6 +60,13 @@ reach_append vs ws =
 pub both_assoc : (a b c : Reach) → both (both a b) c ≡ both a (both b c)
 both_assoc a b c = rw (joined_assoc a.x b.x c.x, joined_assoc a.y b.y c.y, joined_assoc a.z b.z c.z, joined_assoc a.m b.m c.m)
 
+joined-none : (a : Option Span) → joined a None ≡ a
+joined-none None = refl
+joined-none (Some a) = refl
+
+pub both-none : (r : Reach) → both r (reach_of []) ≡ r
+both-none r = λ j. record { x = joined-none r.x j; y = joined-none r.y j; z = joined-none r.z j; m = joined-none r.m j }
+
 -- ---- boxes
 least_above : (a b low : ℤ) → (low ≤ℤ int_min a b → (low ≤ℤ a) × (low ≤ℤ b))
 least_above a b low h = (omega (arith, ints, clamps), omega (arith, ints, clamps))

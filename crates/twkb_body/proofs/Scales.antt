@@ -1,18 +1,18 @@
 -- Ranges commute with the scale, which is positive.
-use Rattle.std.proofs.Common.{◌≡◌, ℕ, zero, suc, ◌+◌, ◌<◌, ◌^◌, ℤ, pos, ◌≤ℤ◌, ◌+ℤ◌, ◌-ℤ◌, ◌*ℤ◌, unsigned_abs, List, [], ◌∷◌, length, map, fold, filter_map, slice_get, Option, Some, None, refl, sym, ap, ap₂, ◌∙◌, arith, true}
+use Rattle.std.proofs.Common.{◌≡◌, ℕ, zero, suc, ◌^◌, ℤ, pos, ◌≤ℤ◌, ◌+ℤ◌, ◌-ℤ◌, ◌*ℤ◌, unsigned_abs, List, [], ◌∷◌, map, fold, filter_map, Option, Some, None, refl, sym, ap, ap₂, ◌∙◌, arith}
 use Rattle.std.proofs.Math.IntN.{suc_ℤ-*ℤ, *ℤ_comm, *ℤ-zero}
 use Rattle.std.proofs.lemmas.Int.{ints, clamps, by_lt_z}
 use Rattle.std.specs.Int.{int_min, int_max}
-use Rattle.std.specs.Prelude.{option_map, cond, is_some}
+use Rattle.std.specs.Prelude.{option_map}
 use Rattle.std.specs.List.{cons_option}
 use Rattle.twkb_num.specs.Units.{units_of}
 use Rattle.twkb_head.specs.declared.boxes.Vertex.{Vertex}
-use Rattle.twkb_head.specs.Header.{Header, axes_of}
+use Rattle.twkb_head.specs.Header.{Header}
 use Rattle.twkb_head.specs.Head.{m_axis}
 use Rattle.twkb_body.specs.Geometry.{PointValue, coordinate, vertex_of}
-use Rattle.twkb_body.specs.Extent.{reach_of, span_of}
-use Rattle.twkb_body.specs.Ranges.{scaled, scaled_if, raw_range, reach_in_units}
-use Rattle.twkb_body.specs.Walk.{HaveAxes}
+use Rattle.twkb_body.specs.Extent.{Reach, reach_of, span_of, both}
+use Rattle.twkb_body.specs.Ranges.{scaled, scaled_if, raw_of, widened, reach_in_units}
+use Rattle.twkb_body.proofs.Reaches.{reach_append, both_assoc, both-none}
 
 times_suc : (a : ℤ) (k : ℕ) → a *ℤ pos (suc k) ≡ a *ℤ pos k +ℤ a
 times_suc a k = *ℤ_comm a (pos (suc k)) ∙ suc_ℤ-*ℤ (pos k) a ∙ ap (λ (z : ℤ). z +ℤ a) (*ℤ_comm (pos k) a)
@@ -60,56 +60,46 @@ span_times p (c ∷ cs) =
     let greatest = fold_max_times (10 ^ unsigned_abs (pos 7 -ℤ p)) c cs in
     cc
 
--- a coordinate that is there
-there : (point : PointValue) (axis : ℕ) → axis < length point → slice_get point axis ≡ Some (coordinate point axis)
-there [] axis h = absurd (omega (arith, h))
-there (c ∷ point) zero h = refl
-there (c ∷ point) (suc axis) h = there point axis (omega (arith, h))
-
 -- ---- the points under one header
 module _ (h : Header) where
-  every : (get : Vertex → ℤ) (p : ℤ) (axis : ℕ) → axis < axes_of h → ((point : PointValue) → get (vertex_of h point) ≡ units_of (coordinate point axis) p)
-      → (points : List PointValue) → HaveAxes (axes_of h) points
-      → map get (map (vertex_of h) points) ≡ map (λ c. units_of c p) (filter_map (λ point. slice_get point axis) points)
-  every get p axis lt is [] have = refl
-  every get p axis lt is (point ∷ points) have =
-      ap₂ (λ (z : ℤ) (zs : List ℤ). z ∷ zs) (is point) (every get p axis lt is points have.1)
-      ∙ ap (λ (o : Option ℤ). map (λ c. units_of c p) (cons_option o (filter_map (λ point. slice_get point axis) points))) (sym (there point axis (omega (arith, lt, have.0))))
+  every : (get : Vertex → ℤ) (p : ℤ) → ((point : PointValue) → get (vertex_of h point) ≡ units_of (get (raw_of h point)) p) → (points : List PointValue)
+      → map get (map (vertex_of h) points) ≡ map (λ c. units_of c p) (map get (map (raw_of h) points))
+  every get p is [] = refl
+  every get p is (point ∷ points) = ap₂ (λ (z : ℤ) (zs : List ℤ). z ∷ zs) (is point) (every get p is points)
 
-  some : (get : Vertex → Option ℤ) (precision : Option ℕ) (axis : ℕ) → (is_some precision ≡ true → axis < axes_of h)
-      → ((point : PointValue) → get (vertex_of h point) ≡ option_map (λ p. units_of (coordinate point axis) (pos p)) precision) → (points : List PointValue) → HaveAxes (axes_of h) points
-      → span_of (filter_map get (map (vertex_of h) points)) ≡ scaled_if precision (raw_range points axis)
-  some get None axis lt is points have = ap span_of (no points)
+  some : (get : Vertex → Option ℤ) (precision : Option ℕ) (axis : ℕ) → ((point : PointValue) → get (vertex_of h point) ≡ option_map (λ p. units_of (coordinate point axis) (pos p)) precision)
+      → ((point : PointValue) → get (raw_of h point) ≡ option_map (λ p. coordinate point axis) precision) → (points : List PointValue)
+      → span_of (filter_map get (map (vertex_of h) points)) ≡ scaled_if precision (span_of (filter_map get (map (raw_of h) points)))
+  some get None axis is raw points = ap span_of (no points)
     where
       no : (ps : List PointValue) → filter_map get (map (vertex_of h) ps) ≡ []
       no [] = refl
       no (point ∷ ps) = ap (λ (z : Option ℤ). cons_option z (filter_map get (map (vertex_of h) ps))) (is point) ∙ no ps
-  some get (Some p) axis lt is points have = ap span_of (all points have) ∙ span_times (pos p) (filter_map (λ point. slice_get point axis) points)
+  some get (Some p) axis is raw points = ap span_of (all points) ∙ span_times (pos p) (filter_map get (map (raw_of h) points))
     where
-      all : (ps : List PointValue) → HaveAxes (axes_of h) ps → filter_map get (map (vertex_of h) ps) ≡ map (λ c. units_of c (pos p)) (filter_map (λ point. slice_get point axis) ps)
-      all [] have = refl
-      all (point ∷ ps) have =
+      all : (ps : List PointValue) → filter_map get (map (vertex_of h) ps) ≡ map (λ c. units_of c (pos p)) (filter_map get (map (raw_of h) ps))
+      all [] = refl
+      all (point ∷ ps) =
           ap (λ (z : Option ℤ). cons_option z (filter_map get (map (vertex_of h) ps))) (is point)
-          ∙ ap (λ (zs : List ℤ). units_of (coordinate point axis) (pos p) ∷ zs) (all ps have.1)
-          ∙ ap (λ (o : Option ℤ). map (λ c. units_of c (pos p)) (cons_option o (filter_map (λ point. slice_get point axis) ps))) (sym (there point axis (let l = lt refl in omega (arith, l, have.0))))
+          ∙ ap (λ (zs : List ℤ). units_of (coordinate point axis) (pos p) ∷ zs) (all ps)
+          ∙ ap (λ (o : Option ℤ). map (λ c. units_of c (pos p)) (cons_option o (filter_map get (map (raw_of h) ps)))) (sym (raw point))
 
-  -- The reach of the vertices is the ranges of the points, scaled once.
-  pub scaled_once : (points : List PointValue) → HaveAxes (axes_of h) points → reach_in_units h points ≡ reach_of (map (vertex_of h) points)
-  scaled_once points have =
-      let x : span_of (map (λ (v : Vertex). v.x) (map (vertex_of h) points)) ≡ scaled h.xy (raw_range points 0) =
-      ap span_of (every (λ v. v.x) h.xy 0 (omega arith) (λ point. refl) points have) ∙ span_times h.xy (filter_map (λ point. slice_get point 0) points) in
-      let y : span_of (map (λ (v : Vertex). v.y) (map (vertex_of h) points)) ≡ scaled h.xy (raw_range points 1) =
-      ap span_of (every (λ v. v.y) h.xy 1 (omega arith) (λ point. refl) points have) ∙ span_times h.xy (filter_map (λ point. slice_get point 1) points) in
-      let z : span_of (filter_map (λ (v : Vertex). v.z) (map (vertex_of h) points)) ≡ scaled_if h.z (raw_range points 2) =
-      some (λ v. v.z) h.z 2 (third h.z h.m) (λ point. refl) points have in
-      let m : span_of (filter_map (λ (v : Vertex). v.m) (map (vertex_of h) points)) ≡ scaled_if h.m (raw_range points (m_axis h.z)) =
-      some (λ v. v.m) h.m (m_axis h.z) (last h.z h.m) (λ point. refl) points have in
-      cc
-    where
-      third : (z m : Option ℕ) → is_some z ≡ true → 2 < 2 + cond (is_some z) 1 0 + cond (is_some m) 1 0
-      third None m e = absurd (cc (e))
-      third (Some p) m e = omega arith
+  -- The reach of the vertices is that of the points, scaled once.
+  pub scaled_once : (points : List PointValue) → reach_in_units h.xy h.z h.m (reach_of (map (raw_of h) points)) ≡ reach_of (map (vertex_of h) points)
+  scaled_once points =
+      let x : span_of (map (λ (v : Vertex). v.x) (map (vertex_of h) points)) ≡ scaled h.xy (span_of (map (λ (v : Vertex). v.x) (map (raw_of h) points))) =
+      ap span_of (every (λ v. v.x) h.xy (λ point. refl) points) ∙ span_times h.xy (map (λ (v : Vertex). v.x) (map (raw_of h) points)) in
+      let y : span_of (map (λ (v : Vertex). v.y) (map (vertex_of h) points)) ≡ scaled h.xy (span_of (map (λ (v : Vertex). v.y) (map (raw_of h) points))) =
+      ap span_of (every (λ v. v.y) h.xy (λ point. refl) points) ∙ span_times h.xy (map (λ (v : Vertex). v.y) (map (raw_of h) points)) in
+      let z : span_of (filter_map (λ (v : Vertex). v.z) (map (vertex_of h) points)) ≡ scaled_if h.z (span_of (filter_map (λ (v : Vertex). v.z) (map (raw_of h) points))) =
+      some (λ v. v.z) h.z 2 (λ point. refl) (λ point. refl) points in
+      let m : span_of (filter_map (λ (v : Vertex). v.m) (map (vertex_of h) points)) ≡ scaled_if h.m (span_of (filter_map (λ (v : Vertex). v.m) (map (raw_of h) points))) =
+      some (λ v. v.m) h.m (m_axis h.z) (λ point. refl) (λ point. refl) points in
+      (λ j. record { x = sym x j; y = sym y j; z = sym z j; m = sym m j })
 
-      last : (z m : Option ℕ) → is_some m ≡ true → m_axis z < 2 + cond (is_some z) 1 0 + cond (is_some m) 1 0
-      last z None e = absurd (cc (e))
-      last z (Some p) e = omega arith
+  -- Adding points one after another is adding them all.
+  pub widened_all : (reach : Reach) (points : List PointValue) → fold (widened h) reach points ≡ both reach (reach_of (map (raw_of h) points))
+  widened_all reach [] = sym (both-none reach)
+  widened_all reach (point ∷ points) =
+      widened_all (widened h reach point) points ∙ both_assoc reach (reach_of (raw_of h point ∷ [])) (reach_of (map (raw_of h) points))
+      ∙ ap (both reach) (sym (reach_append (raw_of h point ∷ []) (map (raw_of h) points)))

@@ -173,7 +173,7 @@ fit_sums ps f = fit_points zeros ps (λ i axis point z e h.
     ap fits (from_zeros axis (total axis (take (suc i) ps))) ∙ signed_fits (total axis (take (suc i) ps)) (f i axis point z e h))
 
 -- ---- polygons at their sums
-length-place : (s p : PointValue) → length (place s p) ≡ length p
+pub length-place : (s p : PointValue) → length (place s p) ≡ length p
 length-place s [] = refl
 length-place s (n ∷ p) = ap suc (length-place (behind s) p)
 

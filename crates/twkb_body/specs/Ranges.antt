@@ -1,12 +1,13 @@
 -- The ranges of raw coordinates under one header, scaled once at its end.
-use Rattle.std.specs.Prelude.{◌-◌, ◌^◌, ◌≡◌, ℕ, cond, ℤ, pos, neg_ℤ, ◌<ℤ◌, int_lt, List, filter_map, slice_get, Option, Some, None}
+use Rattle.std.specs.Prelude.{◌-◌, ◌^◌, ◌≡◌, ℕ, cond, ℤ, pos, neg_ℤ, ◌<ℤ◌, int_lt, [], ◌∷◌, Option, Some, None, option_map}
 use Rattle.twkb_num.specs.Units.{units_of}
 use Rattle.twkb_head.specs.declared.boxes.Span.{Span}
+use Rattle.twkb_head.specs.declared.boxes.Vertex.{Vertex}
 use Rattle.twkb_head.specs.Header.{Header}
 use Rattle.twkb_head.specs.Head.{m_axis}
 use Rattle.twkb_body.specs.declared.range.Range.TheInside.{Inside}
-use Rattle.twkb_body.specs.Geometry.{PointValue}
-use Rattle.twkb_body.specs.Extent.{Reach, span_of}
+use Rattle.twkb_body.specs.Geometry.{PointValue, coordinate}
+use Rattle.twkb_body.specs.Extent.{Reach, reach_of, both}
 
 -- a range in code, as two numbers: the least is above the greatest where there is none
 abbrev pub range_view : Inside → Option Span
@@ -26,14 +27,19 @@ abbrev pub scaled_if : Option ℕ → Option Span → Option Span
 scaled_if None range = None
 scaled_if (Some p) range = scaled (pos p) range
 
--- the least and the greatest raw coordinate of an axis, of the points that have it
-abbrev pub raw_range : List PointValue → ℕ → Option Span
-raw_range points axis = span_of (filter_map (λ point. slice_get point axis) points)
+-- a point of raw coordinates, of which it has those of the axes of its header
+abbrev pub raw_of : Header → PointValue → Vertex
+raw_of h point = record {
+  x = coordinate point 0;
+  y = coordinate point 1;
+  z = option_map (λ p. coordinate point 2) h.z;
+  m = option_map (λ p. coordinate point (m_axis h.z)) h.m;
+}
 
--- the ranges of the axes in units, by the precisions of a header
-abbrev pub axes_in_units : ℤ → Option ℕ → Option ℕ → (ℕ → Option Span) → Reach
-axes_in_units xy z m raw = record { x = scaled xy (raw 0); y = scaled xy (raw 1); z = scaled_if z (raw 2); m = scaled_if m (raw (m_axis z)) }
+-- a reach of raw coordinates, with a point more
+abbrev pub widened : Header → Reach → PointValue → Reach
+widened h reach point = both reach (reach_of (raw_of h point ∷ []))
 
--- the reach of all points under one header, scaled once
-abbrev pub reach_in_units : Header → List PointValue → Reach
-reach_in_units h points = axes_in_units h.xy h.z h.m (raw_range points)
+-- a reach of raw coordinates in units, by the precisions of a header
+abbrev pub reach_in_units : ℤ → Option ℕ → Option ℕ → Reach → Reach
+reach_in_units xy z m raw = record { x = scaled xy raw.x; y = scaled xy raw.y; z = scaled_if z raw.z; m = scaled_if m raw.m }

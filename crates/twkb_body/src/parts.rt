@@ -1,86 +1,109 @@
-//! The parts of a body that is no collection's: points, lines and polygons.
-ghost use Rattle.std.specs.Prelude.{◌≡◌, ◌≤◌, length, flat_map};
+//! The parts of a body that is no collection's: points, lines and polygons. An audit and a skim read them alike, and differ
+//! in what they add the points to.
+ghost use Rattle.std.specs.Prelude.{◌≡◌, ◌≤◌, IfSome, flat_map};
+ghost use Rattle.twkb_num.specs.Units.{IsPrecision};
+ghost use Rattle.twkb_head.specs.Header.{axes_with};
 ghost use Rattle.twkb_head.specs.Reader.{many_at, Reads};
 ghost use Rattle.twkb_body.specs.BodyPlan.{ring_sums};
 ghost use Rattle.twkb_body.specs.BodyReader.{ring_at, polygon_at, part_at};
 ghost use Rattle.twkb_body.specs.Geometry.{points_of};
+ghost use Rattle.twkb_body.specs.Inside.{of_head};
 ghost use Rattle.twkb_body.specs.Walk.{IsWalked};
 
+use crate::points::Points;
 use crate::trail::{Trail, take_point};
-use twkb_head::{Kind, Malformed, take_number};
+use twkb_head::{Head, Kind, Malformed, take_number};
 use twkb_num::Cursor;
 
 /// So many parts.
 #[inline(always)]
-pub fn take_parts(
+pub fn take_parts<P: Points>(
     cursor: &mut Cursor,
-    kind: Kind,
+    head: &Head,
     axes: usize,
     count: u64,
     trail: &mut Trail,
+    points: &mut P,
 ) -> Result<(), Malformed>
-    requires some { 1 ≤ axes }
-    requires few { axes ≤ 4 }
-    requires four { length trail.old.ranges.axes ≡ 4 }
-    requires points { trail.old.points ≤ cursor.old.place }
-    ensures { Reads (many_at count ring_sums (part_at kind axes) trail.old.last cursor.old) (λ parts done. IsWalked axes trail.old trail.new cursor.old.place cursor.new.place (points_of parts)) result cursor.new }
+    requires xy { IsPrecision head.now.xy }
+    requires z_high { IfSome head.now.z (λ p. p ≤ 7) }
+    requires m_high { IfSome head.now.m (λ p. p ≤ 7) }
+    requires axes { axes ≡ axes_with head.now.z head.now.m }
+    requires counted { trail.old.points ≤ cursor.old.place }
+    ensures { Reads (many_at count ring_sums (part_at head.now.kind axes) trail.old.last cursor.old) (λ parts done. IsWalked (P.step (of_head head.now)) axes trail.old trail.new (P.state points.old) (P.state points.new) cursor.old.place cursor.new.place (points_of parts)) result cursor.new }
 {
     for _ in 0..count {
-        take_part(cursor, kind, axes, trail)?;
+        take_part(cursor, head, axes, trail, points)?;
     }
     Ok(())
 }
 
 /// A point, a line or a polygon, as the kind has it.
 #[inline(always)]
-fn take_part(
+fn take_part<P: Points>(
     cursor: &mut Cursor,
-    kind: Kind,
+    head: &Head,
     axes: usize,
     trail: &mut Trail,
+    points: &mut P,
 ) -> Result<(), Malformed>
-    requires some { 1 ≤ axes }
-    requires few { axes ≤ 4 }
-    requires four { length trail.old.ranges.axes ≡ 4 }
-    requires points { trail.old.points ≤ cursor.old.place }
-    ensures { Reads (part_at kind axes trail.old.last cursor.old) (λ part done. IsWalked axes trail.old trail.new cursor.old.place cursor.new.place (flat_map (λ ring. ring) part)) result cursor.new }
+    requires xy { IsPrecision head.now.xy }
+    requires z_high { IfSome head.now.z (λ p. p ≤ 7) }
+    requires m_high { IfSome head.now.m (λ p. p ≤ 7) }
+    requires axes { axes ≡ axes_with head.now.z head.now.m }
+    requires counted { trail.old.points ≤ cursor.old.place }
+    ensures { Reads (part_at head.now.kind axes trail.old.last cursor.old) (λ part done. IsWalked (P.step (of_head head.now)) axes trail.old trail.new (P.state points.old) (P.state points.new) cursor.old.place cursor.new.place (flat_map (λ ring. ring) part)) result cursor.new }
 {
-    match kind {
-        Kind::Point | Kind::MultiPoint => take_point(cursor, axes, trail),
-        Kind::LineString | Kind::MultiLineString => take_ring(cursor, axes, trail),
-        Kind::Polygon | Kind::MultiPolygon => take_polygon(cursor, axes, trail),
+    match head.kind {
+        Kind::Point | Kind::MultiPoint => take_point(cursor, head, axes, trail, points),
+        Kind::LineString | Kind::MultiLineString => take_ring(cursor, head, axes, trail, points),
+        Kind::Polygon | Kind::MultiPolygon => take_polygon(cursor, head, axes, trail, points),
         Kind::GeometryCollection => Ok(()),
     }
 }
 
 /// The rings of a polygon.
 #[inline(always)]
-fn take_polygon(cursor: &mut Cursor, axes: usize, trail: &mut Trail) -> Result<(), Malformed>
-    requires some { 1 ≤ axes }
-    requires few { axes ≤ 4 }
-    requires four { length trail.old.ranges.axes ≡ 4 }
-    requires points { trail.old.points ≤ cursor.old.place }
-    ensures { Reads (polygon_at axes trail.old.last cursor.old) (λ polygon done. IsWalked axes trail.old trail.new cursor.old.place cursor.new.place (flat_map (λ ring. ring) polygon)) result cursor.new }
+fn take_polygon<P: Points>(
+    cursor: &mut Cursor,
+    head: &Head,
+    axes: usize,
+    trail: &mut Trail,
+    points: &mut P,
+) -> Result<(), Malformed>
+    requires xy { IsPrecision head.now.xy }
+    requires z_high { IfSome head.now.z (λ p. p ≤ 7) }
+    requires m_high { IfSome head.now.m (λ p. p ≤ 7) }
+    requires axes { axes ≡ axes_with head.now.z head.now.m }
+    requires counted { trail.old.points ≤ cursor.old.place }
+    ensures { Reads (polygon_at axes trail.old.last cursor.old) (λ polygon done. IsWalked (P.step (of_head head.now)) axes trail.old trail.new (P.state points.old) (P.state points.new) cursor.old.place cursor.new.place (flat_map (λ ring. ring) polygon)) result cursor.new }
 {
     let count = take_number(cursor)?;
     for _ in 0..count {
-        take_ring(cursor, axes, trail)?;
+        take_ring(cursor, head, axes, trail, points)?;
     }
     Ok(())
 }
 
 /// The points of a ring, or of a line.
 #[inline(always)]
-fn take_ring(cursor: &mut Cursor, axes: usize, trail: &mut Trail) -> Result<(), Malformed>
-    requires some { 1 ≤ axes }
-    requires few { axes ≤ 4 }
-    requires four { length trail.old.ranges.axes ≡ 4 }
-    requires points { trail.old.points ≤ cursor.old.place }
-    ensures { Reads (ring_at axes trail.old.last cursor.old) (λ ring done. IsWalked axes trail.old trail.new cursor.old.place cursor.new.place ring) result cursor.new }
+fn take_ring<P: Points>(
+    cursor: &mut Cursor,
+    head: &Head,
+    axes: usize,
+    trail: &mut Trail,
+    points: &mut P,
+) -> Result<(), Malformed>
+    requires xy { IsPrecision head.now.xy }
+    requires z_high { IfSome head.now.z (λ p. p ≤ 7) }
+    requires m_high { IfSome head.now.m (λ p. p ≤ 7) }
+    requires axes { axes ≡ axes_with head.now.z head.now.m }
+    requires counted { trail.old.points ≤ cursor.old.place }
+    ensures { Reads (ring_at axes trail.old.last cursor.old) (λ ring done. IsWalked (P.step (of_head head.now)) axes trail.old trail.new (P.state points.old) (P.state points.new) cursor.old.place cursor.new.place ring) result cursor.new }
 {
     let count = take_number(cursor)?;
     for _ in 0..count {
-        take_point(cursor, axes, trail)?;
+        take_point(cursor, head, axes, trail, points)?;
     }
     Ok(())
 }

@@ -2,14 +2,18 @@
 //!
 //! Raw coordinates have 64 bits and one precision per axis, so within a header two comparisons serve a coordinate, with
 //! no 128-bit arithmetic; the ends are scaled to units once.
-ghost use Rattle.std.specs.Prelude.{◌≡◌, ℕ, ◌<◌, ◌≤◌, length, slice_index_or, slice_set, IfSome, None, [], ◌∷◌};
+ghost use Rattle.std.specs.Prelude.{◌≡◌, ◌≤◌, IfSome, None, [], ◌∷◌, option_map};
+ghost use Rattle.std.specs.List.{cons_option};
 ghost use Rattle.twkb_num.specs.Units.{IsPrecision};
-ghost use Rattle.twkb_body.specs.Extent.{joined, span_of};
-ghost use Rattle.twkb_body.specs.Ranges.{scaled, scaled_if, axes_in_units};
+ghost use Rattle.twkb_body.specs.Extent.{joined, span_of, reach_of};
+ghost use Rattle.twkb_body.specs.Geometry.{coordinate};
+ghost use Rattle.twkb_body.specs.Ranges.{scaled, scaled_if, reach_in_units};
 
 use crate::extent::Extent;
+use crate::points::Points;
+use crate::shape::m_axis;
 use std::marker::Model;
-use twkb_head::Span;
+use twkb_head::{Head, Span};
 use twkb_num::units;
 
 /// The least and the greatest of raw coordinates; the least is above the greatest where there are none.
@@ -53,6 +57,17 @@ impl Range {
         self.greatest = self.greatest.max(coordinate);
     }
 
+    /// The coordinate of an axis of a point more, where the axis has a precision.
+    #[inline(always)]
+    pub fn add_if(&mut self, precision: Option<u8>, point: &[i64; 4], axis: usize)
+        requires { axis ≤ 3 }
+        ensures { self.new ≡ joined self.old (span_of (cons_option (option_map (λ p. coordinate point.now axis) precision) [])) }
+    {
+        if precision.is_some() {
+            self.add(point[axis]);
+        }
+    }
+
     /// The range in units, of coordinates at a precision.
     #[inline(always)]
     pub fn in_units(&self, precision: i8) -> Option<Span>
@@ -68,39 +83,49 @@ impl Range {
             })
         }
     }
+
+    /// The same where the axis has a precision.
+    #[inline(always)]
+    pub fn in_units_if(&self, precision: Option<u8>) -> Option<Span>
+        requires { IfSome precision (λ p. p ≤ 7) }
+        ensures { result ≡ scaled_if precision self.now }
+    {
+        match precision {
+            Some(precision) => self.in_units(precision as i8),
+            None => None,
+        }
+    }
 }
 
-/// The ranges of four axes, of which a header has two to four, in their order.
+/// The ranges of the axes that a header has.
 #[derive(Drop)]
 pub struct Ranges {
-    pub axes: [Range; 4],
+    x: Range,
+    y: Range,
+    z: Range,
+    m: Range,
+}
+
+impl Model for Ranges {
+    ghost use Rattle.twkb_body.specs.Extent.{Reach};
+
+    ghost Value = { Reach };
+
+    ghost view = { λ r. record { x = r.x; y = r.y; z = r.z; m = r.m } };
 }
 
 impl Ranges {
-    /// No coordinate in any axis.
+    /// No point.
     #[inline(always)]
     pub fn empty() -> Ranges
-        ensures four { length result.axes ≡ 4 }
-        ensures none { (axis : ℕ) → slice_index_or result.axes axis None ≡ None }
+        ensures { result ≡ reach_of [] }
     {
         Ranges {
-            axes: [
-                Range::empty(),
-                Range::empty(),
-                Range::empty(),
-                Range::empty(),
-            ],
+            x: Range::empty(),
+            y: Range::empty(),
+            z: Range::empty(),
+            m: Range::empty(),
         }
-    }
-
-    /// One coordinate more of an axis.
-    #[inline(always)]
-    pub fn add(&mut self, axis: usize, coordinate: i64)
-        requires { axis < 4 }
-        ensures { self.new.axes ≡ slice_set self.old.axes axis (joined (slice_index_or self.old.axes axis None) (span_of (coordinate ∷ []))) }
-    {
-        let range = &mut self.axes[axis];
-        range.add(coordinate);
     }
 
     /// All of them in units, by the precisions of the header.
@@ -109,36 +134,32 @@ impl Ranges {
         requires xy { IsPrecision xy }
         requires z_high { IfSome z (λ p. p ≤ 7) }
         requires m_high { IfSome m (λ p. p ≤ 7) }
-        ensures { result ≡ axes_in_units xy z m (λ axis. slice_index_or self.now.axes axis None) }
+        ensures { result ≡ reach_in_units xy z m self.now }
     {
-        let m_axis = if z.is_some() { 3 } else { 2 };
         Extent::from_spans(
-            self.axis(0, xy),
-            self.axis(1, xy),
-            self.axis_if(2, z),
-            self.axis_if(m_axis, m),
+            self.x.in_units(xy),
+            self.y.in_units(xy),
+            self.z.in_units_if(z),
+            self.m.in_units_if(m),
         )
     }
+}
+
+impl Points for Ranges {
+    ghost use Rattle.twkb_body.specs.Extent.{Reach};
+    ghost use Rattle.twkb_body.specs.Ranges.{widened};
+
+    ghost State = { Reach };
+
+    ghost state = { λ r. r };
+
+    ghost step = { widened };
 
     #[inline(always)]
-    fn axis(&self, axis: usize, precision: i8) -> Option<Span>
-        requires within { axis < 4 }
-        requires precision { IsPrecision precision }
-        ensures { result ≡ scaled precision (slice_index_or self.now.axes axis None) }
-    {
-        let range = &self.axes[axis];
-        range.in_units(precision)
-    }
-
-    #[inline(always)]
-    fn axis_if(&self, axis: usize, precision: Option<u8>) -> Option<Span>
-        requires within { axis < 4 }
-        requires precision { IfSome precision (λ p. p ≤ 7) }
-        ensures { result ≡ scaled_if precision (slice_index_or self.now.axes axis None) }
-    {
-        match precision {
-            Some(precision) => self.axis(axis, precision as i8),
-            None => None,
-        }
+    fn add(&mut self, head: &Head, point: &[i64; 4]) {
+        self.x.add(point[0]);
+        self.y.add(point[1]);
+        self.z.add_if(head.z, point, 2);
+        self.m.add_if(head.m, point, m_axis(head));
     }
 }

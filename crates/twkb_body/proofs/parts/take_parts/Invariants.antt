@@ -1,5 +1,6 @@
+use Rattle.twkb_body.specs.Inside.{of_head}
 use Rattle.twkb_body.proofs.Walks.{IsPartsLoop}
 use Rattle.twkb_body.proofs.parts.take_parts.Given as goal
 
 abbrev pub invariant-loop : goal.invariant-loop
-invariant-loop l = IsPartsLoop l.kind l.axes l.count l.fn.trail l.fn.cursor l.counter l.trail l.cursor
+invariant-loop g l = IsPartsLoop l.head.kind (g.P.Points.step (of_head l.head)) l.axes l.count l.fn.trail (g.P.Points.state l.fn.points) l.fn.cursor l.counter l.trail (g.P.Points.state l.points) l.cursor

@@ -1,5 +1,6 @@
+use Rattle.twkb_body.specs.Inside.{of_head}
 use Rattle.twkb_body.proofs.Walks.{IsPolygonLoop}
 use Rattle.twkb_body.proofs.parts.take_polygon.Given as goal
 
 abbrev pub invariant-loop : goal.invariant-loop
-invariant-loop l = IsPolygonLoop l.axes l.count l.fn.trail l.initial.cursor l.counter l.trail l.cursor
+invariant-loop g l = IsPolygonLoop (g.P.Points.step (of_head l.head)) l.axes l.count l.fn.trail (g.P.Points.state l.fn.points) l.initial.cursor l.counter l.trail (g.P.Points.state l.points) l.cursor

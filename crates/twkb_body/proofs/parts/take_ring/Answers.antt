@@ -2,27 +2,28 @@ use Rattle.std.proofs.Common.{arith, subst}
 use Rattle.std.proofs.lemmas.Result.{err_from_is_err_and}
 use Rattle.twkb_body.specs.BodyPlan.{add}
 use Rattle.twkb_body.specs.BodyReader.{point_at}
+use Rattle.twkb_body.specs.Inside.{of_head}
 use Rattle.twkb_body.specs.Walk.{IsWalked}
 use Rattle.twkb_body.proofs.PartPlans.{flat_single}
 use Rattle.twkb_body.proofs.Walks.{number_ahead, walk_goes_on, counted_fails, counted_ends, one_point, add_is_sums}
 use Rattle.twkb_body.proofs.parts.take_ring.Goals as goal
 
-pub take_point-requires-clause-points : goal.take_point-requires-clause-points
-take_point-requires-clause-points c =
+pub take_point-requires-clause-counted : goal.take_point-requires-clause-counted
+take_point-requires-clause-counted g c =
     let w = c.loop.invariant.walked in
-    omega (arith, w.points, w.ahead, number_ahead _ _ _ c.in_ok-count.ensures, c.requires.points)
+    omega (arith, w.points, w.ahead, number_ahead _ _ _ c.in_ok-count.ensures, c.requires.counted)
 
 pub returns-in_err-take_point : goal.returns-in_err-take_point
-returns-in_err-take_point c =
+returns-in_err-take_point g c =
     let p = err_from_is_err_and c.from_residual-in_err-take_point.result c.from_residual-in_err-take_point.ensures.1 in
-    rw (p.1, p.2) (counted_fails c.args.axes add (point_at c.args.axes) one_point add_is_sums c.in_ok-count.count c.args.trail.now c.take_number.new.cursor _ c.loop.counter _ _ _ _ c.in_ok-count.ensures c.loop-test.true c.in_err-take_point.ensures c.loop.invariant)
+    rw (p.1, p.2) (counted_fails (g.P.Points.step (of_head c.args.head.now)) c.args.axes add (point_at c.args.axes) one_point add_is_sums c.in_ok-count.count c.args.trail.now (g.P.Points.state c.args.points.now) c.take_number.new.cursor _ c.loop.counter _ _ _ _ _ c.in_ok-count.ensures c.loop-test.true c.in_err-take_point.ensures c.loop.invariant)
 
 pub loop-preserved : goal.loop-preserved
-loop-preserved c =
+loop-preserved g c =
     let read = c.in_ok-take_point.ensures in
-    walk_goes_on c.args.axes add (point_at c.args.axes) one_point add_is_sums c.in_ok-count.count c.args.trail.now c.take_number.new.cursor c.loop.counter _ _ _ _ read.0 c.loop-test.true read.1 read.2 c.loop.invariant
+    walk_goes_on (g.P.Points.step (of_head c.args.head.now)) c.args.axes add (point_at c.args.axes) one_point add_is_sums c.in_ok-count.count c.args.trail.now (g.P.Points.state c.args.points.now) c.take_number.new.cursor c.loop.counter _ _ _ _ _ _ read.0 c.loop-test.true read.1 read.2 c.loop.invariant
 
 pub returns : goal.returns
-returns c =
-    let t = counted_ends c.args.axes add (point_at c.args.axes) one_point add_is_sums c.in_ok-count.count c.args.trail.now c.take_number.new.cursor _ c.loop.counter _ _ c.in_ok-count.ensures (omega arith) c.loop.invariant in
-    (t.0, t.1, subst (IsWalked c.args.axes c.args.trail.now c.loop.trail c.args.cursor.now.place c.loop.cursor.place) (flat_single t.0) t.2)
+returns g c =
+    let t = counted_ends (g.P.Points.step (of_head c.args.head.now)) c.args.axes add (point_at c.args.axes) one_point add_is_sums c.in_ok-count.count c.args.trail.now (g.P.Points.state c.args.points.now) c.take_number.new.cursor _ c.loop.counter _ _ _ c.in_ok-count.ensures (omega arith) c.loop.invariant in
+    (t.0, t.1, subst (IsWalked (g.P.Points.step (of_head c.args.head.now)) c.args.axes c.args.trail.now c.loop.trail (g.P.Points.state c.args.points.now) (g.P.Points.state c.loop.points) c.args.cursor.now.place c.loop.cursor.place) (flat_single t.0) t.2)

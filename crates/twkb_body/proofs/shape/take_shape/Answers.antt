@@ -20,11 +20,11 @@ pub returns-in_err-take_parts : goal.returns-in_err-take_parts
 returns-in_err-take_parts g c =
     let p = err_from_is_err_and c.from_residual-in_err-take_parts.result c.from_residual-in_err-take_parts.ensures.1 in
     let list = c.in_ok-list.ensures in
-    rw (p.1, p.2) (no_parts (of_head c.args.head.now) _ _ _ list.0 c.in_ok-list.list c.new-trail.result c.axes_of.ensures.value c.new-trail.ensures.last list.1 list.2 _ _ c.in_err-take_parts.ensures)
+    rw (p.1, p.2) (no_parts (of_head c.args.head.now) _ _ _ list.0 c.in_ok-list.list.count c.new-trail.result c.axes_of-axes.ensures.value c.new-trail.ensures.last list.1 list.2.count _ _ c.in_err-take_parts.ensures)
 
 pub returns : goal.returns
 returns g c =
     let list = c.in_ok-list.ensures in
     let parts = c.in_ok-take_parts.ensures in
-    shape_of_parts (of_head c.args.head.now) _ _ _ list.0 c.in_ok-list.list c.new-trail.result c.axes_of.ensures.value c.new-trail.ensures.last list.1 list.2 _ parts.0 c.args.head.now.bounds _ _ _ _
-    c.new-trail.ensures.ranges c.new-trail.ensures.points parts.1 parts.2 c.found_on.ensures.vertices c.judge_trail.ensures.boxed c.judge_trail.ensures.seen c.found_on.ensures.refused refl
+    shape_of_parts (of_head c.args.head.now) _ _ _ list.0 c.in_ok-list.list.count c.new-trail.result c.axes_of-axes.ensures.value c.new-trail.ensures.last list.1 list.2.count c.in_ok-list.list _ parts.0 c.args.head.now.bounds _ _ _ _ _ _
+    list.2 c.empty-ranges.ensures c.new-trail.ensures.points parts.1 parts.2 c.found_on.ensures.vertices c.judge_ranges.ensures.boxed c.judge_ranges.ensures.seen c.found_on.ensures.refused refl
