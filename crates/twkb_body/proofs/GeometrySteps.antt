@@ -4,7 +4,7 @@ use Rattle.twkb_num.specs.Cursor.{Reading, passed, IsMoved}
 use Rattle.twkb_head.specs.declared.header.Head.{Head}
 use Rattle.twkb_head.specs.declared.header.BoxField.{BoxField}
 use Rattle.twkb_head.specs.declared.refusal.Malformed.{Malformed}
-use Rattle.twkb_head.specs.Header.{Header}
+use Rattle.twkb_head.specs.Header.{Header, is_multi}
 use Rattle.twkb_head.specs.BegunHeader.{is_collection}
 use Rattle.twkb_head.specs.Head.{bounds_of, head_of, IsHeadAt}
 use Rattle.twkb_head.specs.HeadPlan.{HeadValue, head_plan}
@@ -13,7 +13,6 @@ use Rattle.twkb_body.specs.declared.found.Found.{Found}
 use Rattle.twkb_body.specs.declared.inside.Inside.{Inside}
 use Rattle.twkb_body.specs.declared.seen.Seen.{Seen}
 use Rattle.twkb_body.specs.Geometry.{Geometry, Members, none, Lengths, points_of, vertex_of, vertices}
-use Rattle.twkb_body.specs.Encoding.{is_multi}
 use Rattle.twkb_body.specs.Extent.{Reach, reach_of, both}
 use Rattle.twkb_body.specs.BodyPlan.{Body, no_body, geometry_from}
 use Rattle.twkb_body.specs.BodyReader.{spanned, shape_at, body_at, parts_at, members_at, geometry_by, geometry_at}

@@ -84,3 +84,21 @@ module _ (count : ℕ) (from : Reading) where
           ),
         ),
       )
+
+-- ---- ids that are passed
+module _ (count : ℕ) (from : Reading) where
+  pub record IsPassLoop (i : ℕ) (r : Reading) : Type 0 where
+    pub front : List ℤ
+    pub read : IsLoop (λ s z. s) (λ s. signed_at) count (signeds_at count from) front i (pos 0) r
+
+  pub pass_begins : IsPassLoop 0 from
+  pass_begins = record { front = []; read = loop_begins (λ s z. s) (λ s. signed_at) count (signeds_at count from) (pos 0) from refl }
+
+  pub pass_goes_on : (i : ℕ) (r new : Reading) (id : ℤ) → i < count → signed_at r ≡ (Ok id, new) → IsPassLoop i r → IsPassLoop (i + 1) new
+  pass_goes_on i r new id lt e l = record { front = l.front ++ id ∷ []; read = loop_goes_on (λ s z. s) (λ s. signed_at) count (signeds_at count from) l.front i (pos 0) r new id lt e l.read }
+
+  pub pass_fails : (i : ℕ) (r new : Reading) (m : Malformed) → i < count → Fails (signed_at r) m new → IsPassLoop i r → Fails (signeds_at count from) m new
+  pass_fails i r new m lt e l = loop_fails (λ s z. s) (λ s. signed_at) count (signeds_at count from) l.front i (pos 0) r new m lt e l.read
+
+  pub pass_ends : (i : ℕ) (r : Reading) → i ≡ count → IsPassLoop i r → (ids : List ℤ) × (signeds_at count from ≡ (Ok ids, r)) × Unit {0}
+  pass_ends i r end l = (l.front, loop_ends (λ s z. s) (λ s. signed_at) count (signeds_at count from) l.front i (pos 0) r (omega (arith, end)) l.read, tt)

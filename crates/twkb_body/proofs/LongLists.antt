@@ -7,10 +7,10 @@ use Rattle.twkb_num.specs.Varint.{Spells}
 use Rattle.twkb_head.specs.declared.kinds.Kind.{Kind}
 use Rattle.twkb_head.specs.declared.kinds.Kind.TheVariants.{Point, LineString, Polygon, MultiPoint, MultiLineString, MultiPolygon, GeometryCollection}
 use Rattle.twkb_head.specs.Parts.{Times, Announced}
-use Rattle.twkb_head.specs.Header.{Header, IsHeader, IsSigned, axes_of, code_of, has_bit}
+use Rattle.twkb_head.specs.Header.{Header, IsHeader, IsSigned, axes_of, code_of, has_bit, is_multi}
 use Rattle.twkb_head.specs.BegunHeader.{is_collection, IsAllowedAt, Field, type_field, number_field, coordinate_field, type_due}
 use Rattle.twkb_body.specs.Geometry.{PointValue, none}
-use Rattle.twkb_body.specs.Encoding.{is_multi, SumsFit, BlobsUnder}
+use Rattle.twkb_body.specs.Encoding.{SumsFit, BlobsUnder}
 use Rattle.twkb_body.specs.Begun.{count_due, id_due, member_due, IsBegunPart, IsBegunNumbers, IsBegun, header_begun, shape_begun, members_begun, member_begun}
 use Rattle.twkb_body.specs.Audited.{EndsInIds, own_ids, member_ids}
 

@@ -1,9 +1,9 @@
 -- The parts of a blob stand in order.
 use Rattle.std.proofs.Common.{◌≡◌, ℕ, suc, ◌+◌, ◌≤◌, Bool, true, false, List, ◌++◌, length, ℤ, Option, sym, ap, ◌∙◌, arith, length-append}
-use Rattle.twkb_head.specs.Header.{Header}
+use Rattle.twkb_head.specs.Header.{Header, is_multi}
 use Rattle.twkb_head.specs.BegunHeader.{is_collection}
 use Rattle.twkb_body.specs.Geometry.{Geometry, Members, geometry, none, more, Lengths, lengths_of, PolygonValue, member_count}
-use Rattle.twkb_body.specs.Encoding.{is_multi, IsNumbers, IsBody, IsHeaderThenBody, BlobUnder, BlobsUnder}
+use Rattle.twkb_body.specs.Encoding.{IsNumbers, IsBody, IsHeaderThenBody, BlobUnder, BlobsUnder}
 use Rattle.twkb_body.specs.Pass.{member_total, HasOrder, HaveOrder}
 
 -- the header, with its size and its box, and the body behind it

@@ -2,10 +2,10 @@
 use Rattle.std.specs.Prelude.{◌≡◌, ℕ, suc, ◌<◌, Bool, true, false, List, [], ◌∷◌, ◌++◌, length, flat_map, ℤ, Option, ◌⊎◌}
 use Rattle.twkb_num.specs.Varint.{Spells}
 use Rattle.twkb_head.specs.Parts.{Sequence, Times, Announced}
-use Rattle.twkb_head.specs.Header.{Header, IsHeader, IsSigned, axes_of}
+use Rattle.twkb_head.specs.Header.{Header, IsHeader, IsSigned, axes_of, is_multi}
 use Rattle.twkb_head.specs.BegunHeader.{is_collection, IsAllowedUnder, deepest, Field, number_field, coordinate_field, IsFewer, IsBegunHeader}
 use Rattle.twkb_body.specs.Geometry.{Geometry, Members, PointValue, member_count}
-use Rattle.twkb_body.specs.Encoding.{Blob, BlobsUnder, IsPoint, IsRing, IsPart, is_multi, SumsFit}
+use Rattle.twkb_body.specs.Encoding.{Blob, BlobsUnder, IsPoint, IsRing, IsPart, SumsFit}
 use Rattle.twkb_head.specs.declared.kinds.Kind.{Kind}
 use Rattle.twkb_head.specs.declared.kinds.Kind.TheVariants.{Point, LineString, Polygon, MultiPoint, MultiLineString, MultiPolygon, GeometryCollection}
 

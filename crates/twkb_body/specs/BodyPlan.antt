@@ -2,12 +2,11 @@
 use Rattle.std.specs.Prelude.{ℕ, zero, suc, ◌+◌, ◌-◌, Bool, true, false, List, [], ◌∷◌, ℤ, pos, ◌+ℤ◌, Option, None, Result}
 use Rattle.twkb_head.specs.declared.kinds.Kind.{Kind}
 use Rattle.twkb_head.specs.declared.kinds.Kind.TheVariants.{Point, LineString, Polygon, MultiPoint, MultiLineString, MultiPolygon, GeometryCollection}
-use Rattle.twkb_head.specs.Header.{Header, axes_of}
+use Rattle.twkb_head.specs.Header.{Header, axes_of, is_multi}
 use Rattle.twkb_head.specs.BegunHeader.{is_collection, deepest}
 use Rattle.twkb_head.specs.Plan.{Fault, Plan, done, bind, run, many, measure, optional, number_plan, signeds_plan, coordinate_plan}
 use Rattle.twkb_head.specs.HeadPlan.{HeadValue, head_plan}
 use Rattle.twkb_body.specs.Geometry.{Geometry, Members, geometry, none, more, PointValue, Ring, PolygonValue}
-use Rattle.twkb_body.specs.Encoding.{is_multi}
 
 -- the first coordinate
 abbrev pub first_of : PointValue → ℤ

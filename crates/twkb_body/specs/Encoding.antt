@@ -3,7 +3,7 @@ use Rattle.std.specs.Prelude.{◌≡◌, ℕ, suc, ◌+◌, Bool, true, false, L
 use Rattle.std.specs.Int.{w64}
 use Rattle.twkb_num.specs.Varint.{Spells}
 use Rattle.twkb_head.specs.Parts.{Then, Sequence, Times, Counted, Announced}
-use Rattle.twkb_head.specs.Header.{Header, IsHeader, IsSigned, axes_of}
+use Rattle.twkb_head.specs.Header.{Header, IsHeader, IsSigned, axes_of, is_multi}
 use Rattle.twkb_head.specs.BegunHeader.{is_collection, IsAllowedUnder, deepest}
 use Rattle.twkb_body.specs.Geometry.{Geometry, Members, geometry, none, more, Lengths, PointValue, Ring, PolygonValue, points_of, member_count, coordinate}
 use Rattle.twkb_head.specs.declared.kinds.Kind.{Kind}
@@ -50,16 +50,6 @@ pub record IsSingle (h : Header) (l : Lengths) (ids : Option (List ℤ)) (parts 
   pub part_field : IsPart h.kind (axes_of h) part bytes
   pub ids_absent : ids ≡ None
   pub no_list : (l.count ≡ 0) × (l.list ≡ 0)
-
--- the kinds that have a count of members
-abbrev pub is_multi : Kind → Bool
-is_multi Point = false
-is_multi LineString = false
-is_multi Polygon = false
-is_multi MultiPoint = true
-is_multi MultiLineString = true
-is_multi MultiPolygon = true
-is_multi GeometryCollection = true
 
 -- the numbers in the bytes of a body that is no collection's
 abbrev pub IsNumbers : Bool → Header → Lengths → Option (List ℤ) → List PolygonValue → List ℕ → Type 0

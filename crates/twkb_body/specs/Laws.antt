@@ -1,5 +1,5 @@
--- The laws of blobs, begun and whole, and of extents.
-use Rattle.std.specs.Prelude.{◌≡◌, ◌≢◌, ◌≤◌, ℕ, List, [], ◌++◌, All, AllPairs, ◌↔◌}
+-- The laws of blobs, begun and whole, of extents, and of walks.
+use Rattle.std.specs.Prelude.{◌≡◌, ◌≢◌, ◌≤◌, ℕ, List, [], ◌++◌, All, AllPairs, ◌↔◌, ◌<◌, ◌+◌, ◌-◌, ◌^◌, min, Bool, false, length, fold}
 use Rattle.twkb_head.specs.declared.boxes.Bounds.{Bounds}
 use Rattle.twkb_head.specs.declared.boxes.Vertex.{Vertex}
 use Rattle.twkb_head.specs.BegunHeader.{Field, IsField}
@@ -10,6 +10,8 @@ use Rattle.twkb_body.specs.Encoding.{BlobUnder, Blob}
 use Rattle.twkb_body.specs.Claims.{offset_of, claims}
 use Rattle.twkb_body.specs.Begun.{IsBegun, IsViable}
 use Rattle.twkb_body.specs.Audited.{EndsInIds}
+use Rattle.twkb_body.specs.Visit.{walk}
+use Rattle.twkb_body.specs.Counting.{counts_on}
 
 -- at most one kind of field is due after given bytes
 abbrev pub OneDue : Type 0
@@ -47,3 +49,15 @@ ExtentsJoin = (vs ws : List Vertex) → reach_of (vs ++ ws) ≡ both (reach_of v
 -- a box holds the reach of vertices exactly where it holds each of them
 abbrev pub ExtentsStandForAll : Type 0
 ExtentsStandForAll = (vs : List Vertex) (box : Bounds) → IsReachWithin (reach_of vs) box ↔ All (Holds box) vs
+
+-- a walk reads no more than the blob has
+abbrev pub WalksWithin : {S : Type 0} → (S → Vertex → S) → (S → Bounds → Bool) → Type 0
+WalksWithin {S} step skips = (g : Geometry) (bytes : List ℕ) (s : S) → Blob g bytes 1 → walk g S step skips s ≤ length bytes
+
+-- where it skips no box, a walk reads all of the blob
+abbrev pub WalksThrough : {S : Type 0} → (S → Vertex → S) → (S → Bounds → Bool) → Type 0
+WalksThrough {S} step skips = ((s : S) (box : Bounds) → skips s box ≡ false) → (g : Geometry) (bytes : List ℕ) (s : S) → Blob g bytes 1 → walk g S step skips s ≡ length bytes
+
+-- a summary counts the vertices, up to the greatest number of 64 bits
+abbrev pub CountsAll : Type 0
+CountsAll = (n : ℕ) (vs : List Vertex) → n < 2 ^ 64 → fold counts_on n vs ≡ min (n + length vs) (2 ^ 64 - 1)

@@ -1,7 +1,7 @@
-//! The count of a list, and its ids.
+//! The count of a list, and its ids: judged by an audit, passed by a skim.
 ghost use Rattle.std.specs.Prelude.{◌≡◌, ◌↔◌, ◌≢◌, ◌+◌, ◌≤◌, ℕ, IsTrue, AllPairs};
 ghost use Rattle.twkb_num.specs.Cursor.{rest};
-ghost use Rattle.twkb_head.specs.Reader.{signeds_at};
+ghost use Rattle.twkb_head.specs.Reader.{signeds_at, Reads};
 ghost use Rattle.twkb_body.specs.Stops.{ReadsOrStops};
 ghost use Rattle.twkb_body.specs.BodyReader.{list_at};
 ghost use Rattle.twkb_body.specs.IdLists.{HasManyIds, HasManyIdsAfterCount, IsListFound};
@@ -12,7 +12,7 @@ use crate::ids::are_distinct;
 use crate::stopped::Stopped;
 use smallvec::SmallVec;
 use std::alloc::Allocator;
-use twkb_head::{take_number, take_signed};
+use twkb_head::{Malformed, take_number, take_signed};
 use twkb_num::Cursor;
 
 /// A count, and, where ids are announced, the ids, if they are not distinct.
@@ -59,4 +59,28 @@ fn take_ids<A: Allocator>(alloc: &A, cursor: &mut Cursor, count: u64) -> Result<
         ids.push(id)?;
     }
     Ok(are_distinct(&mut ids))
+}
+
+/// The count of a list, and past its ids, where they are announced.
+#[inline(always)]
+#[tactic(auto, unfolding(crate::specs::BodyReader::list_at))]
+pub fn pass_list(cursor: &mut Cursor, has_ids: bool) -> Result<u64, Malformed>
+    ensures { Reads (list_at has_ids cursor.old) (λ list count. count ≡ (list.0).0) result cursor.new }
+{
+    let count = take_number(cursor)?;
+    if has_ids {
+        pass_ids(cursor, count)?;
+    }
+    Ok(count)
+}
+
+/// Past so many ids.
+#[inline(always)]
+fn pass_ids(cursor: &mut Cursor, count: u64) -> Result<(), Malformed>
+    ensures { Reads (signeds_at count cursor.old) (λ ids done. Unit {0}) result cursor.new }
+{
+    for _ in 0..count {
+        take_signed(cursor)?;
+    }
+    Ok(())
 }

@@ -11,7 +11,6 @@ ghost use Rattle.twkb_body.specs.Ranges.{scaled, scaled_if, reach_in_units};
 
 use crate::extent::Extent;
 use crate::points::Points;
-use crate::shape::m_axis;
 use std::marker::Model;
 use twkb_head::{Head, Span};
 use twkb_num::units;
@@ -160,6 +159,6 @@ impl Points for Ranges {
         self.x.add(point[0]);
         self.y.add(point[1]);
         self.z.add_if(head.z, point, 2);
-        self.m.add_if(head.m, point, m_axis(head));
+        self.m.add_if(head.m, point, head.m_axis());
     }
 }

@@ -32,29 +32,35 @@ why_in (fault w d g) = w
 abbrev rest_in : Fault → List ℕ
 rest_in (fault w d g) = g
 
--- Two headers at the front of the same bytes are one: with a level below it each kind may stand.
+-- what is read of a header
+abbrev pub value_of : (h : Header) (a : List ℕ) → IsHeader h a → HeadValue
+value_of h a ih = record { header = h; before = 2 + length ih.extended_bytes; size = length ih.size_bytes }
+
+-- with a level below it each kind may stand
+shallow : (kind : KindOf) → IsAllowedWith 1 kind
+shallow Point = refl
+shallow LineString = refl
+shallow Polygon = refl
+shallow MultiPoint = refl
+shallow MultiLineString = refl
+shallow MultiPolygon = refl
+shallow GeometryCollection = refl
+
+header_runs : (h : Header) (a x : List ℕ) (ih : IsHeader h a) → run (head_plan 1) (a ++ x) ≡ Ok (value_of h a ih, x)
+header_runs h a x ih = run_again (head_plan 1) (value_of h a ih) a x (spelled_head 1 (value_of h a ih) a (record { header = ih; allowed = shallow h.kind; before = refl; size = refl }))
+
+-- Two headers at the front of the same bytes are one, with the same parts,
+pub parts_once : (h k : Header) (a x b y : List ℕ) → a ++ x ≡ b ++ y → (ih : IsHeader h a) (ik : IsHeader k b) → (value_of h a ih ≡ value_of k b ik) × (x ≡ y)
+parts_once h k a x b y e ih ik =
+    let both : (value_of h a ih, x) ≡ (value_of k b ik, y) =
+    ok_is {A = HeadValue × List ℕ} {E = Fault} (value_of h a ih, x) (value_of k b ik, y) (sym (header_runs h a x ih) ∙ ap (run (head_plan 1)) e ∙ header_runs k b y ik) in
+    (ap (λ (z : HeadValue × List ℕ). z.0) both, ap (λ (z : HeadValue × List ℕ). z.1) both)
+
+-- and end at one place.
 pub header_once : (h k : Header) (a x b y : List ℕ) → a ++ x ≡ b ++ y → IsHeader h a → IsHeader k b → (h ≡ k) × (a ≡ b)
 header_once h k a x b y e ih ik =
-    let hs = runs h a x ih in
-    let ks = runs k b y ik in
-    let both : (value h a ih, x) ≡ (value k b ik, y) = ok_is {A = HeadValue × List ℕ} {E = Fault} (value h a ih, x) (value k b ik, y) (sym hs ∙ ap (run (head_plan 1)) e ∙ ks) in
-    let behind : x ≡ y = ap (λ (z : HeadValue × List ℕ). z.1) both in
-    (ap (λ (z : HeadValue × List ℕ). z.0.header) both, append_cancel_right a b y (ap (λ (z : List ℕ). a ++ z) (sym behind) ∙ e))
-  where
-    value : (h : Header) (a : List ℕ) → IsHeader h a → HeadValue
-    value h a ih = record { header = h; before = 2 + length ih.extended_bytes; size = length ih.size_bytes }
-
-    shallow : (kind : KindOf) → IsAllowedWith 1 kind
-    shallow Point = refl
-    shallow LineString = refl
-    shallow Polygon = refl
-    shallow MultiPoint = refl
-    shallow MultiLineString = refl
-    shallow MultiPolygon = refl
-    shallow GeometryCollection = refl
-
-    runs : (h : Header) (a x : List ℕ) (ih : IsHeader h a) → run (head_plan 1) (a ++ x) ≡ Ok (value h a ih, x)
-    runs h a x ih = run_again (head_plan 1) (value h a ih) a x (spelled_head 1 (value h a ih) a (record { header = ih; allowed = shallow h.kind; before = refl; size = refl }))
+    let t = parts_once h k a x b y e ih ik in
+    (ap (λ (z : HeadValue). z.header) t.0, append_cancel_right a b y (ap (λ (z : List ℕ). a ++ z) (sym t.1) ∙ e))
 
 rest_length : (r : Reading) → length (rest r) ≡ length r.bytes - r.place
 rest_length r = grind (arith, common_steps)

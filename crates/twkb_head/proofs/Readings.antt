@@ -6,14 +6,14 @@ use Rattle.twkb_num.specs.Cursor.{Reading, rest, added, counted, IsMoved, IsSoun
 use Rattle.twkb_num.specs.Varint.{IsCut, IsLong}
 use Rattle.twkb_head.specs.BegunHeader.{Field, type_field, byte_field, number_field, coordinate_field, IsField}
 use Rattle.twkb_head.specs.Plan.{Request, type_byte, byte, number, coordinate, field_of, Fault, fault, cut_varint, cut_byte, cut_field, kind_of_code, judge_kind, judge, judged, step, Plan, done, ask, bind, run}
-use Rattle.twkb_head.specs.Reader.{Answer, ◌>>=◌, past, looked_in, read_judged, read_field, read}
+use Rattle.twkb_head.specs.Reader.{Answer, ◌>>=◌, past, looked_in, read_judged, read_field, read, Fails}
 use Rattle.twkb_num.proofs.CursorLemmas.{IsMoved-here, IsMoved-after, IsSound-moved}
 use Rattle.twkb_head.specs.declared.kinds.Kind.{Kind as KindOf}
 use Rattle.twkb_head.specs.declared.kinds.Kind.TheVariants.{GeometryCollection}
 use Rattle.twkb_head.specs.declared.refusal.Why.{Why}
 use Rattle.twkb_head.specs.declared.refusal.Why.TheVariants.{Cut, Varint, Kind, Depth, Range}
 use Rattle.twkb_head.specs.declared.refusal.Malformed.{Malformed}
-use Rattle.twkb_head.proofs.FieldCuts.{field_takes, number_fails, byte_fails}
+use Rattle.twkb_head.proofs.FieldCuts.{ok_is, field_takes, number_fails, byte_fails}
 
 -- no answer is both
 pub ok_not_err : {A : Type 0} (x : A) (m : Malformed) (a b : Reading) → (let z : Answer A = (Ok x, a) in z ≡ (Err m, b)) → ⊥
@@ -21,6 +21,15 @@ ok_not_err {A} x m a b e = apart (ap (λ (z : Answer A). z.0) e)
   where
     apart : (let z : Result A Malformed = Ok x in z ≡ Err m) → ⊥
     apart e = cc (e)
+
+-- an answer is one value, and one reading behind it; and no failure
+pub one_answer : {A : Type 0} (a : Answer A) (x y : A) (r s : Reading) → a ≡ (Ok x, r) → a ≡ (Ok y, s) → (x ≡ y) × (r ≡ s)
+one_answer {A} a x y r s e f =
+    let both : (let z : Answer A = (Ok x, r) in z ≡ (Ok y, s)) = sym e ∙ f in
+    (ok_is {A = A} {E = Malformed} x y (ap (λ (z : Answer A). z.0) both), ap (λ (z : Answer A). z.1) both)
+
+pub no_failure : {A : Type 0} (a : Answer A) (x : A) (r new : Reading) (m : Malformed) → a ≡ (Ok x, r) → Fails a m new → ⊥
+no_failure {A} a x r new m e f = ok_not_err x m r f.left (sym e ∙ f.is)
 
 -- one plan and then another
 pub read-bind : {A B : Type 0} (p : Plan A) (k : A → Plan B) (r : Reading) → read (bind p k) r ≡ (read p r >>= λ x. read (k x))

@@ -1,6 +1,6 @@
 -- The header of a geometry, as a value, and the bytes that are it (TWKB specification, "Type & Precision" to
 -- "Bounding Box").
-use Rattle.std.specs.Prelude.{◌≡◌, ℕ, ◌+◌, ◌/◌, ◌%◌, ◌==◌, if◌then◌else◌, Bool, false, is_some, List, [], ◌∷◌, ◌++◌, length, ℤ, ◌-ℤ◌, Option, Some, None, nat_lt}
+use Rattle.std.specs.Prelude.{◌≡◌, ℕ, ◌+◌, ◌/◌, ◌%◌, ◌==◌, if◌then◌else◌, Bool, true, false, is_some, List, [], ◌∷◌, ◌++◌, length, ℤ, ◌-ℤ◌, Option, Some, None, nat_lt}
 use Rattle.twkb_num.specs.Varint.{Spells, SpellsSigned, zigzag_value}
 use Rattle.twkb_head.specs.declared.kinds.Kind.{Kind}
 use Rattle.twkb_head.specs.declared.kinds.Kind.TheVariants.{Point, LineString, Polygon, MultiPoint, MultiLineString, MultiPolygon, GeometryCollection}
@@ -27,6 +27,16 @@ code_of MultiPoint = 4
 code_of MultiLineString = 5
 code_of MultiPolygon = 6
 code_of GeometryCollection = 7
+
+-- the kinds that have a count of members
+abbrev pub is_multi : Kind → Bool
+is_multi Point = false
+is_multi LineString = false
+is_multi Polygon = false
+is_multi MultiPoint = true
+is_multi MultiLineString = true
+is_multi MultiPolygon = true
+is_multi GeometryCollection = true
 
 -- how many coordinates a point has, by the precisions of Z and M: X, Y, and each of Z and M that is there
 abbrev pub axes_with : Option ℕ → Option ℕ → ℕ

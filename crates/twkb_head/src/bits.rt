@@ -74,6 +74,5 @@ pub fn m_of(extended: Option<u8>) -> Option<u8>
 pub fn ids_of(kind: Kind, metadata: u8) -> bool
     ensures { result ≡ has_ids kind metadata }
 {
-    let is_list = !matches!(kind, Kind::Point | Kind::LineString | Kind::Polygon);
-    !has_bit(metadata, EMPTY) && is_list && has_bit(metadata, IDS)
+    !has_bit(metadata, EMPTY) && kind.is_multi() && has_bit(metadata, IDS)
 }

@@ -1,4 +1,8 @@
 //! What a header says, and where its parts stand.
+ghost use Rattle.std.specs.Prelude.{◌≡◌, ◌≤◌};
+ghost use Rattle.twkb_head.specs.Head.{m_axis};
+ghost use Rattle.twkb_head.specs.Header.{axes_with};
+
 use crate::boxes::Bounds;
 use crate::kinds::Kind;
 
@@ -47,4 +51,25 @@ pub struct Head {
     pub start: usize,
     /// The first place behind the header.
     pub stop: usize,
+}
+
+impl Head {
+    /// How many coordinates a point has: X, Y, and each of Z and M that is there.
+    #[inline(always)]
+    pub fn axes(&self) -> usize
+        ensures some { 1 ≤ result }
+        ensures few { result ≤ 4 }
+        ensures value { result ≡ axes_with self.now.z self.now.m }
+    {
+        2 + usize::from(self.z.is_some()) + usize::from(self.m.is_some())
+    }
+
+    /// The place of M among them: behind X and Y, and behind Z where there is one.
+    #[inline(always)]
+    pub fn m_axis(&self) -> usize
+        ensures value { result ≡ m_axis self.now.z }
+        ensures high { result ≤ 3 }
+    {
+        2 + usize::from(self.z.is_some())
+    }
 }

@@ -1,6 +1,7 @@
 //! The seven types of a geometry, and how deep each may stand.
 ghost use Rattle.std.specs.Prelude.{◌≡◌, ◌%◌, ◌≤◌, ◌-◌, IfOk, IfErr};
-ghost use Rattle.twkb_head.specs.BegunHeader.{deepest};
+ghost use Rattle.twkb_head.specs.BegunHeader.{is_collection, deepest};
+ghost use Rattle.twkb_head.specs.Header.{is_multi};
 ghost use Rattle.twkb_head.specs.Plan.{kind_of_code, judge_kind};
 
 use crate::refusal::Why;
@@ -22,6 +23,24 @@ pub enum Kind {
     MultiPolygon,
     /// A list of geometries, each with a header of its own.
     GeometryCollection,
+}
+
+impl Kind {
+    /// Whether its body begins with a count, of parts or of members.
+    #[inline(always)]
+    pub fn is_multi(self) -> bool
+        ensures { result ≡ is_multi self }
+    {
+        !matches!(self, Kind::Point | Kind::LineString | Kind::Polygon)
+    }
+
+    /// Whether its members have headers of their own.
+    #[inline(always)]
+    pub fn is_collection(self) -> bool
+        ensures { result ≡ is_collection self }
+    {
+        matches!(self, Kind::GeometryCollection)
+    }
 }
 
 /// How deep the deepest geometry may stand, where a blob has depth 1 and a member of a collection one more than the

@@ -7,7 +7,7 @@ use Rattle.twkb_head.specs.declared.header.Head.{Head}
 use Rattle.twkb_head.specs.BegunHeader.{deepest}
 use Rattle.twkb_head.specs.Header.{Header}
 use Rattle.twkb_head.specs.Head.{IsHeadAt, bounds_of}
-use Rattle.twkb_body.specs.Count.{counts_on, never}
+use Rattle.twkb_body.specs.Counting.{counts_on, never}
 use Rattle.twkb_body.specs.Encoding.{BlobUnder}
 use Rattle.twkb_body.specs.Geometry.{Geometry, geometry, header_of, vertices}
 use Rattle.twkb_body.specs.Standing.{StandsAt}

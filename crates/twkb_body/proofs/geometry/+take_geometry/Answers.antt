@@ -4,7 +4,7 @@ use Rattle.twkb_num.specs.Cursor.{Reading, rest}
 use Rattle.twkb_head.specs.declared.header.Head.{Head}
 use Rattle.twkb_head.specs.BegunHeader.{is_collection, deepest}
 use Rattle.twkb_head.proofs.HeadBack.{head_value, head_fails}
-use Rattle.twkb_body.specs.Encoding.{is_multi}
+use Rattle.twkb_head.specs.Header.{is_multi}
 use Rattle.twkb_body.specs.BodyPlan.{no_body, members_body, members_of}
 use Rattle.twkb_body.specs.BodyReader.{list_at, shape_at, collection_at, geometry_at}
 use Rattle.twkb_body.specs.IdLists.{HasManyIdsAfterCount}
@@ -43,7 +43,7 @@ take_geometry-returns-in_err-inside g t c =
     let ok = c.in_ok-head.ensures in
     let headed = head_value c.args.depth c.requires.shallowest c.requires.deepest _ _ c.in_ok-head.head c.place-start.ensures.sound ok.ok ok.moved in
     let full : ok.ok.header.empty ≡ false = sym (ap (λ (h : Head). h.empty) ok.ok.fields) ∙ c.if-head.false in
-    let single : is_collection ok.ok.header.kind ≡ false = sym (ap (λ (h : Head). is_collection h.kind) ok.ok.fields) ∙ sym c.is_collection-collection.ensures ∙ c.if-not-collection.true in
+    let single : is_collection ok.ok.header.kind ≡ false = sym (ap (λ (h : Head). is_collection h.kind) ok.ok.fields) ∙ sym c.is_collection.ensures ∙ c.if-not-is_collection.true in
     let body = shape_body ok.ok.header (members_under (deepest - c.args.depth)) c.read_head.new.cursor full single ∙ sym (shape_of_head c.in_ok-head.head ok.ok.header _ _ _ _ ok.ok.fields c.read_head.new.cursor) in
     rw (p.1, p.2) (stops_outside (shape_at (is_multi c.in_ok-head.head.kind) (of_head c.in_ok-head.head) c.read_head.new.cursor) (geometry_at (deepest - c.args.depth) c.args.cursor.now)
     (HasManyIdsAfterCount c.in_ok-head.head.ids (rest c.read_head.new.cursor)) (HasLongList c.args.depth (rest c.args.cursor.now)) c.read_head.new.cursor c.args.cursor.now _ c.take_shape.new.cursor
@@ -51,30 +51,30 @@ take_geometry-returns-in_err-inside g t c =
     (λ bytes many. (bytes ∙ ok.moved.bytes, long_list_own c.args.depth _ _ ok.ok.header ok.moved ok.ok.is ok.ok.allowed c.in_ok-head.head.ids (ap (λ (h : Head). h.ids) ok.ok.fields) many))
     c.in_err-inside.ensures)
 
-pub take_geometry-judged-requires-then-not-collection : goal.take_geometry-judged-requires-then-not-collection
-take_geometry-judged-requires-then-not-collection g t c =
+pub take_geometry-judged-requires-then-not-is_collection : goal.take_geometry-judged-requires-then-not-is_collection
+take_geometry-judged-requires-then-not-is_collection g t c =
     let s = c.in_ok-inside.ensures in
     head_size _ _ c.in_ok-head.head c.args.depth c.in_ok-head.ensures.ok c.in_ok-head.ensures.moved _
-    (omega (arith, s.2.few, c.place-stop-then-not-collection.ensures.value))
+    (omega (arith, s.2.few, c.place-stop-then-not-is_collection.ensures.value))
 
-pub take_geometry-returns-then-not-collection : goal.take_geometry-returns-then-not-collection
-take_geometry-returns-then-not-collection g t c =
+pub take_geometry-returns-then-not-is_collection : goal.take_geometry-returns-then-not-is_collection
+take_geometry-returns-then-not-is_collection g t c =
     let ok = c.in_ok-head.ensures in
     let headed = head_value c.args.depth c.requires.shallowest c.requires.deepest _ _ c.in_ok-head.head c.place-start.ensures.sound ok.ok ok.moved in
     let full : ok.ok.header.empty ≡ false = sym (ap (λ (h : Head). h.empty) ok.ok.fields) ∙ c.if-head.false in
-    let single : is_collection ok.ok.header.kind ≡ false = sym (ap (λ (h : Head). is_collection h.kind) ok.ok.fields) ∙ sym c.is_collection-collection.ensures ∙ c.if-not-collection.true in
+    let single : is_collection ok.ok.header.kind ≡ false = sym (ap (λ (h : Head). is_collection h.kind) ok.ok.fields) ∙ sym c.is_collection.ensures ∙ c.if-not-is_collection.true in
     let body = shape_body ok.ok.header (members_under (deepest - c.args.depth)) c.read_head.new.cursor full single ∙ sym (shape_of_head c.in_ok-head.head ok.ok.header _ _ _ _ ok.ok.fields c.read_head.new.cursor) in
     let s = c.in_ok-inside.ensures in (
       _,
       body_gives (deepest - c.args.depth) c.args.cursor.now _ _ headed s.0 _ (body ∙ s.1),
-      geometry_found c.in_ok-head.head c.args.depth c.args.cursor.now c.read_head.new.cursor c.take_shape.new.cursor ok.ok ok.moved (omega (arith, s.2.few)) s.0 c.in_ok-inside.inside _ _ c.judged-then-not-collection.result
-          s.2 c.judged-then-not-collection.ensures.vertices (rw c.place-stop-then-not-collection.ensures.value at c.judged-then-not-collection.ensures.refused),
+      geometry_found c.in_ok-head.head c.args.depth c.args.cursor.now c.read_head.new.cursor c.take_shape.new.cursor ok.ok ok.moved (omega (arith, s.2.few)) s.0 c.in_ok-inside.inside _ _ c.judged-then-not-is_collection.result
+          s.2 c.judged-then-not-is_collection.ensures.vertices (rw c.place-stop-then-not-is_collection.ensures.value at c.judged-then-not-is_collection.ensures.refused),
     )
 
 pub take_geometry-take_members-requires : goal.take_geometry-take_members-requires
 take_geometry-take_members-requires g t c =
     let ok = c.in_ok-head.ensures in
-    let many : is_collection ok.ok.header.kind ≡ true = sym (ap (λ (h : Head). is_collection h.kind) ok.ok.fields) ∙ sym c.is_collection-collection.ensures ∙ c.if-not-collection.false in
+    let many : is_collection ok.ok.header.kind ≡ true = sym (ap (λ (h : Head). is_collection h.kind) ok.ok.fields) ∙ sym c.is_collection.ensures ∙ c.if-not-is_collection.false in
     let below = collection_below ok.ok.header.kind c.args.depth ok.ok.allowed many in
     search rules
 
@@ -84,7 +84,7 @@ take_geometry-returns-in_err-inside-2 g t c =
     let ok = c.in_ok-head.ensures in
     let headed = head_value c.args.depth c.requires.shallowest c.requires.deepest _ _ c.in_ok-head.head c.place-start.ensures.sound ok.ok ok.moved in
     let full : ok.ok.header.empty ≡ false = sym (ap (λ (h : Head). h.empty) ok.ok.fields) ∙ c.if-head.false in
-    let many : is_collection ok.ok.header.kind ≡ true = sym (ap (λ (h : Head). is_collection h.kind) ok.ok.fields) ∙ sym c.is_collection-collection.ensures ∙ c.if-not-collection.false in
+    let many : is_collection ok.ok.header.kind ≡ true = sym (ap (λ (h : Head). is_collection h.kind) ok.ok.fields) ∙ sym c.is_collection.ensures ∙ c.if-not-is_collection.false in
     let below = collection_below ok.ok.header.kind c.args.depth ok.ok.allowed many in
     let under : deepest - c.args.depth ≡ suc (deepest - (c.args.depth + 1)) = omega (arith, below) in
     let ids = ap (λ (h : Head). h.ids) ok.ok.fields in
@@ -110,7 +110,7 @@ take_geometry-returns g t c =
     let ok = c.in_ok-head.ensures in
     let headed = head_value c.args.depth c.requires.shallowest c.requires.deepest _ _ c.in_ok-head.head c.place-start.ensures.sound ok.ok ok.moved in
     let full : ok.ok.header.empty ≡ false = sym (ap (λ (h : Head). h.empty) ok.ok.fields) ∙ c.if-head.false in
-    let many : is_collection ok.ok.header.kind ≡ true = sym (ap (λ (h : Head). is_collection h.kind) ok.ok.fields) ∙ sym c.is_collection-collection.ensures ∙ c.if-not-collection.false in
+    let many : is_collection ok.ok.header.kind ≡ true = sym (ap (λ (h : Head). is_collection h.kind) ok.ok.fields) ∙ sym c.is_collection.ensures ∙ c.if-not-is_collection.false in
     let below = collection_below ok.ok.header.kind c.args.depth ok.ok.allowed many in
     let under : deepest - c.args.depth ≡ suc (deepest - (c.args.depth + 1)) = omega (arith, below) in
     let ids = ap (λ (h : Head). h.ids) ok.ok.fields in

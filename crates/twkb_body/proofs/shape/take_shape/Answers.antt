@@ -1,8 +1,8 @@
 use Rattle.std.proofs.Common.{refl}
 use Rattle.std.proofs.lemmas.Result.{err_from_is_err_and}
 use Rattle.twkb_num.specs.Cursor.{rest}
+use Rattle.twkb_head.specs.Header.{is_multi}
 use Rattle.twkb_body.specs.BodyReader.{count_at, shape_at}
-use Rattle.twkb_body.specs.Encoding.{is_multi}
 use Rattle.twkb_body.specs.IdLists.{HasManyIdsAfterCount}
 use Rattle.twkb_body.specs.Inside.{of_head}
 use Rattle.twkb_body.proofs.ShapeSteps.{no_count, no_parts, shape_of_parts}
@@ -20,11 +20,11 @@ pub returns-in_err-take_parts : goal.returns-in_err-take_parts
 returns-in_err-take_parts g c =
     let p = err_from_is_err_and c.from_residual-in_err-take_parts.result c.from_residual-in_err-take_parts.ensures.1 in
     let list = c.in_ok-list.ensures in
-    rw (p.1, p.2) (no_parts (of_head c.args.head.now) _ _ _ list.0 c.in_ok-list.list.count c.new-trail.result c.axes_of-axes.ensures.value c.new-trail.ensures.last list.1 list.2.count _ _ c.in_err-take_parts.ensures)
+    rw (p.1, p.2) (no_parts (of_head c.args.head.now) _ _ _ list.0 c.in_ok-list.list.count c.new-trail.result c.axes-axes.ensures.value c.new-trail.ensures.last list.1 list.2.count _ _ c.in_err-take_parts.ensures)
 
 pub returns : goal.returns
 returns g c =
     let list = c.in_ok-list.ensures in
     let parts = c.in_ok-take_parts.ensures in
-    shape_of_parts (of_head c.args.head.now) _ _ _ list.0 c.in_ok-list.list.count c.new-trail.result c.axes_of-axes.ensures.value c.new-trail.ensures.last list.1 list.2.count c.in_ok-list.list _ parts.0 c.args.head.now.bounds _ _ _ _ _ _
+    shape_of_parts (of_head c.args.head.now) _ _ _ list.0 c.in_ok-list.list.count c.new-trail.result c.axes-axes.ensures.value c.new-trail.ensures.last list.1 list.2.count c.in_ok-list.list _ parts.0 c.args.head.now.bounds _ _ _ _ _ _
     list.2 c.empty-ranges.ensures c.new-trail.ensures.points parts.1 parts.2 c.found_on.ensures.vertices c.judge_ranges.ensures.boxed c.judge_ranges.ensures.seen c.found_on.ensures.refused refl
