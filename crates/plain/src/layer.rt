@@ -1,6 +1,6 @@
 //! A layer as it was read, and what a scan of it answers.
 use crate::geometry::Geometry;
-use crate::window::{is_inside, is_missed};
+use crate::window::{is_inside, is_missed, touches};
 use crate::work::Work;
 use std::alloc::{AllocError, Global};
 use twkb_head::{Bounds, Vertex};
@@ -42,8 +42,8 @@ impl Layer {
         is_found
     }
 
-    /// What a scan for the window reads: of a geometry with a size and a box that misses the window the header alone; of
-    /// any other collection its header, count and ids, and then its members; of any other geometry all.
+    /// What a scan for the window reads: of a geometry with a size and a box that misses the window the header alone;
+    /// of any other collection its header, count and ids, and then its members; of any other geometry all.
     pub fn work(&self, window: &Bounds) -> Work {
         self.work_of(window, false)
     }
@@ -78,8 +78,10 @@ impl Layer {
             } else {
                 work.read(geometry.whole);
             }
-            if !is_apart && geometry.has_size && geometry.bounds.is_some() {
-                work.meet();
+            if let Some(bounds) = geometry.bounds {
+                if geometry.has_size && !is_apart {
+                    work.meet(touches(&bounds, window));
+                }
             }
         }
         work

@@ -46,6 +46,14 @@ pub fn is_missed(bounds: &Bounds, window: &Bounds) -> bool {
         || is_apart_if_both(bounds.m, window.m)
 }
 
+/// Whether an end of the box is an end of the window, in X or in Y, and the one goes on where the other stops.
+pub fn touches(bounds: &Bounds, window: &Bounds) -> bool {
+    bounds.x.hi == window.x.lo
+        || window.x.hi == bounds.x.lo
+        || bounds.y.hi == window.y.lo
+        || window.y.hi == bounds.y.lo
+}
+
 fn is_apart_if_both(range: Option<Span>, bound: Option<Span>) -> bool {
     match (range, bound) {
         (Some(range), Some(bound)) => is_apart(&range, &bound),

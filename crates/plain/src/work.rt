@@ -8,6 +8,8 @@ pub struct Work {
     pub hops: [u64; 3],
     /// The geometries with a size and a box that meets the window.
     pub met: u64,
+    /// Those of them whose box only touches it.
+    pub touched: u64,
 }
 
 impl Work {
@@ -16,6 +18,7 @@ impl Work {
             read: 0,
             hops: [0; 3],
             met: 0,
+            touched: 0,
         }
     }
 
@@ -34,15 +37,17 @@ impl Work {
         self.hops[level] = self.hops[level].wrapping_add(1);
     }
 
-    /// Meets a box.
-    pub fn meet(&mut self) {
+    /// Meets a box, which only touches the window or doesn't.
+    pub fn meet(&mut self, only_touches: bool) {
         self.met = self.met.wrapping_add(1);
+        self.touched = self.touched.wrapping_add(u64::from(only_touches));
     }
 
     /// The two together.
     pub fn and(&mut self, other: &Work) {
         self.read = self.read.wrapping_add(other.read);
         self.met = self.met.wrapping_add(other.met);
+        self.touched = self.touched.wrapping_add(other.touched);
         for level in 0..3 {
             self.hops[level] = self.hops[level].wrapping_add(other.hops[level]);
         }

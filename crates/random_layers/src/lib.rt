@@ -1,8 +1,8 @@
 //! Layers and windows for tests, made at random of a seed: the same for the same seed.
 //!
-//! A [`layer`] is a few blobs of all seven types, with collections in collections, at precisions that differ from header to
-//! header, some with Z or M, with ids, with a size or a box, and some empty. Each size, box and list of ids in it is true,
-//! since it is written after what it speaks of. A [`window`] lies on or beside a place that it is given.
+//! A [`layer`] is a few blobs of all seven types, with collections in collections, at precisions that differ from
+//! header to header, some with Z or M, with ids, with a size or a box, and some empty. Each size, box and list of ids in
+//! it is true, since it is written after what it speaks of. A [`window`] lies on or beside a place that it is given.
 #![tactic(auto)]
 
 mod dice;

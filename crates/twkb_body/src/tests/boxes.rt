@@ -1,4 +1,5 @@
 //! Boxes over members that have a box of their own, and over members that have none.
+use super::variants::variants_agree;
 use super::*;
 
 // A collection, a collection in it, and the point (3 4) in that. Boxes from 0 to 5 stand on the first, on the second, and
