@@ -1,31 +1,23 @@
 //! Worked files: layers that are certified, and layers that are refused.
+use super::worked::{
+    BOXED_LINE, BOXED_POINT, EMPTY, EMPTY_BOXED_POINT, MANY_IDS_ANNOUNCED, SEVENTEEN_IDS,
+    TWO_BLOBS, Z_IN_THE_BOX_ALONE,
+};
 use crate::{Cursor, Refusal, certify};
 use std::alloc::Global;
 
 #[test]
 fn layers_are_certified(rt: HostRuntime) {
-    // No blob, a line with a size and a box, two points, and a collection whose box has another precision than its member.
-    let table: [(&[u8], usize, usize); 4] = [
-        (&[], 0, 0),
-        (
-            &[
-                0x02, 0x03, 0x09, 0x02, 0x08, 0x02, 0x08, 0x02, 0x02, 0x02, 0x08, 0x08,
-            ],
-            1,
-            2,
-        ),
-        (
-            &[0x01, 0x02, 0x02, 0x02, 0x04, 0x01, 0x00, 0x02, 0x04],
-            2,
-            2,
-        ),
-        (
-            &[
-                0x07, 0x01, 0x02, 0x02, 0x02, 0x02, 0x01, 0x21, 0x00, 0x1E, 0x1E,
-            ],
-            1,
-            1,
-        ),
+    let table: [(&[u8], usize, usize); 9] = [
+        (&EMPTY, 0, 0),
+        (&BOXED_LINE, 1, 2),
+        (&TWO_BLOBS, 2, 3),
+        (&TWO_POINTS, 2, 2),
+        (&BOX_AT_ANOTHER_PRECISION, 1, 1),
+        (&Z_IN_THE_BOX_ALONE, 1, 1),
+        (&BOXED_POINT, 1, 1),
+        (&EMPTY_BOXED_POINT, 1, 0),
+        (&SEVENTEEN_IDS, 1, 17),
     ];
     for (bytes, blobs, vertices) in table {
         match certify(rt.alloc(), Cursor::new(bytes)) {
@@ -77,13 +69,15 @@ fn no(blob: usize, offset: usize, kind: u8) -> Option<Refusal> {
     Some(Refusal::No { blob, offset, kind })
 }
 
-const POINT_CUT_BEHIND_A_LINE: [u8; 10] = [
-    0x02, 0x00, 0x02, 0x02, 0x02, 0x08, 0x08, 0x01, 0x00, 0x02,
+const TWO_POINTS: [u8; 9] = [0x01, 0x02, 0x02, 0x02, 0x04, 0x01, 0x00, 0x02, 0x04];
+
+// A collection from 1 to 2, and in it a point at 1.5.
+const BOX_AT_ANOTHER_PRECISION: [u8; 11] = [
+    0x07, 0x01, 0x02, 0x02, 0x02, 0x02, 0x01, 0x21, 0x00, 0x1E, 0x1E,
 ];
 
-// A count of ids that the bytes don't keep.
-const MANY_IDS_ANNOUNCED: [u8; 12] = [
-    0x04, 0x04, 0xFF, 0xFF, 0xFF, 0xFF, 0xFF, 0xFF, 0xFF, 0xFF, 0xFF, 0x01,
+const POINT_CUT_BEHIND_A_LINE: [u8; 10] = [
+    0x02, 0x00, 0x02, 0x02, 0x02, 0x08, 0x08, 0x01, 0x00, 0x02,
 ];
 
 const LONG_COORDINATE: [u8; 12] = [

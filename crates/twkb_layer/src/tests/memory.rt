@@ -1,6 +1,6 @@
 //! Allocations that are refused, each in turn.
 use super::lists::LINE_AND_POINT;
-use super::worked::{EMPTY, SEVENTEEN_IDS, TWO_BLOBS, flat};
+use super::worked::{EMPTY, MANY_IDS_ANNOUNCED, SEVENTEEN_IDS, TWO_BLOBS, flat};
 use super::{certified, window};
 use crate::{Certified, Cursor, Directory, Refusal, certify_in};
 use refusing::Refusing;
@@ -47,11 +47,7 @@ const SIXTEEN_OF_MANY: [u8; 20] = [
 
 #[test]
 fn counts_take_no_memory(rt: HostRuntime) {
-    // As many ids as a count can announce, and none of them there.
-    let greatest = [
-        0x04, 0x04, 0xFF, 0xFF, 0xFF, 0xFF, 0xFF, 0xFF, 0xFF, 0xFF, 0xFF, 0x01,
-    ];
-    let layers: [&[u8]; 2] = [&greatest, &SIXTEEN_OF_MANY];
+    let layers: [&[u8]; 2] = [&MANY_IDS_ANNOUNCED, &SIXTEEN_OF_MANY];
     for bytes in layers {
         let memory = Refusing::new(rt.alloc(), 0);
         let refusal = certify_in(&memory, Cursor::new(bytes)).err();
@@ -65,8 +61,8 @@ fn counts_take_no_memory(rt: HostRuntime) {
     }
 }
 
-// One list of two blobs with all its memory from an allocator: whether that was refused. A refusal comes before anything
-// is read.
+// One list of two blobs with all its memory from an allocator: whether that was refused. A refusal comes before any
+// byte is read.
 fn list_runs_out<A: Allocator>(rt: &impl Abort, memory: &A, layer: &mut Certified) -> bool {
     let before = layer.read_count();
     match layer.list_in(memory) {

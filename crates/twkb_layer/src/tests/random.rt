@@ -1,5 +1,5 @@
-//! Layers and windows made at random, against a plain reader: it finds the hits by looking at each vertex, and the bytes
-//! that a scan reads by the lengths of all geometries.
+//! Layers and windows made at random, against a plain reader: it finds the hits by looking at each vertex, and the
+//! bytes that a scan reads by the lengths of all geometries.
 ghost use Rattle.std.specs.Prelude.{◌≡◌};
 ghost use Rattle.twkb_layer.specs.Directory.{IsDirectoryOf};
 
@@ -22,6 +22,7 @@ struct Met {
     hits: usize,
     hits_by_more_axes: usize,
     scans_without_hits: usize,
+    scans_upside_down: usize,
     work: Work,
     work_by_directory: Work,
 }
@@ -33,6 +34,7 @@ impl Met {
             hits: 0,
             hits_by_more_axes: 0,
             scans_without_hits: 0,
+            scans_upside_down: 0,
             work: Work::new(),
             work_by_directory: Work::new(),
         }
@@ -54,9 +56,12 @@ impl Met {
         if found == 0 {
             self.scans_without_hits = self.scans_without_hits.saturating_add(1);
         }
+        if ranges.x.lo > ranges.x.hi || ranges.y.lo > ranges.y.hi {
+            self.scans_upside_down = self.scans_upside_down.saturating_add(1);
+        }
     }
 
-    // Whether there were all seven kinds, hits and none, hops at each depth, and boxes that were met.
+    // Whether there were all seven kinds, hits and none, hops at each depth, and boxes that were met and only touched.
     fn is_enough(&self) -> bool {
         let [blobs, members, deeper] = self.work.hops;
         let [_, members_by_directory, _] = self.work_by_directory.hops;
@@ -64,11 +69,13 @@ impl Met {
             && self.hits > 1000
             && self.hits_by_more_axes > 100
             && self.scans_without_hits > 1000
+            && self.scans_upside_down > 100
             && blobs > 1000
             && members > 1000
             && deeper > 1000
             && members_by_directory > 1000
             && self.work.met > 1000
+            && self.work.touched > 100
     }
 }
 

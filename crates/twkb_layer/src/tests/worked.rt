@@ -66,6 +66,11 @@ pub const SEVENTEEN_IDS: [u8; 54] = [
     0, 0, 0, 0, 0, 0, 0, 0, 0, 0,
 ];
 
+/// As many ids as a count can announce, and none of them there.
+pub const MANY_IDS_ANNOUNCED: [u8; 12] = [
+    0x04, 0x04, 0xFF, 0xFF, 0xFF, 0xFF, 0xFF, 0xFF, 0xFF, 0xFF, 0xFF, 0x01,
+];
+
 /// A scan of a layer: its one hit, if there is one, and the bytes that it reads, without a directory and with one.
 #[derive(Clone, Copy)]
 pub struct Case {
