@@ -1,0 +1,57 @@
+//! Times scans of a certified layer, for comparison with other programs.
+//!
+//! `twkb_bench FILE REPEATS [WINDOW..] [build [WINDOW..]]` reads FILE whole and certifies it. It scans the layer for each
+//! window, hopping over what misses it; at the word `build` it builds a directory, with which it scans for the windows
+//! behind that. A line for each says how many blobs were found, how many bytes one scan read, and the best time of
+//! REPEATS. With 0 for REPEATS each is done once and isn't timed, so that two runs print the same. Words that ask for
+//! nothing end it with status 2, and what fails with status 1.
+#![tactic(auto)]
+
+mod request;
+mod timed;
+
+use request::{Request, request_of};
+use std::process::ExitCode;
+use std::{env, fs};
+use timed::{time_build, time_hops, time_lookups};
+use twkb_layer::{Cursor, certify};
+
+const USAGE: &str = "usage: twkb_bench FILE REPEATS [WINDOW..] [build [WINDOW..]]";
+
+fn main(rt: HostRuntime) -> ExitCode {
+    match run(&rt) {
+        Ok(true) => ExitCode::SUCCESS,
+        Ok(false) => {
+            let _ = eprintln!(rt; "{USAGE}");
+            ExitCode::from(2)
+        }
+        Err(error) => {
+            let _ = eprintln!(rt; "twkb_bench: {error}");
+            ExitCode::FAILURE
+        }
+    }
+}
+
+/// Does what the words ask for, and says whether they ask for anything.
+fn run(rt: &HostRuntime) -> anyhow::Result<bool> {
+    let words: Vec<String> = env::args(rt)?.collect(rt.alloc())?;
+    match request_of(rt.alloc(), words.as_slice())? {
+        Some(request) => {
+            measure(rt, &request)?;
+            Ok(true)
+        }
+        None => Ok(false),
+    }
+}
+
+/// Certifies the file, and times what is asked for.
+fn measure(rt: &HostRuntime, request: &Request) -> anyhow::Result<()> {
+    let bytes = fs::read(rt, request.path)?;
+    let mut layer = certify(rt.alloc(), Cursor::new(bytes.as_slice()))?;
+    time_hops(rt, &mut layer, &request.hops, request.repeats)?;
+    if let Some(windows) = &request.lookups {
+        let directory = time_build(rt, &mut layer, request.repeats)?;
+        time_lookups(rt, &mut layer, &directory, windows, request.repeats)?;
+    }
+    Ok(())
+}
