@@ -1,5 +1,6 @@
 # `make help` says what there is. Each target needs the Rattle kit, whose command is rt.
 PROGRAM = build/twkb_tool
+SCANNER = build/twkb_bench
 LAYERS = examples/coast_lines_sized.twkb examples/coast_collections.twkb examples/coast_z.twkb examples/points_sized.twkb
 
 .PHONY: help kit build demo test bench refusals twins clean
@@ -8,7 +9,7 @@ help:
 	@echo 'make build      prove and build the program: $(PROGRAM)'
 	@echo 'make demo       build, and check layers that PostGIS wrote'
 	@echo 'make test       build, test the program from end to end, and run the merge gate'
-	@echo 'make bench      build, and compare with plain Rust on 40 MB (needs rustc)'
+	@echo 'make bench      build, and compare with plain Rust on 40 MB (needs rustc; valgrind counts instructions)'
 	@echo 'make refusals   refuse each allocation of the program in turn (builds it some fifty times)'
 	@echo 'make twins      check the twins of the wrong bodies, which mean what the source means'
 	@echo 'make clean      remove what was built'
@@ -30,7 +31,9 @@ test: build
 	rt ci
 
 bench: build
-	python3 bench/run.py $(PROGRAM)
+	cd crates/twkb_bench && rt run -- /dev/null 0 > /dev/null
+	cp crates/twkb_bench/out/twkb_bench $(SCANNER)
+	python3 bench/run.py $(PROGRAM) $(SCANNER) $(RUNS)
 
 # Each allocation of the whole program in turn; it builds the program for each, so the gate leaves it out.
 refusals: kit

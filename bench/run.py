@@ -1,119 +1,201 @@
 #!/usr/bin/env python3
-"""Runs the built program and the same check in plain Rust on one large layer, in one run, and prints both.
+"""Runs the built programs and the same in plain Rust, in one run, and prints tables of times and instructions.
 
-usage: bench/run.py PROGRAM [RUNS]
+usage: bench/run.py TOOL SCANNER [RUNS]
 
-The layer is the examples over and over, up to 40 MB. plain.rs (std only) is built by `rustc -O`. The two take turns;
-of each the best wall time and the greatest memory are printed. What reading takes is timed on the same bytes with a first
-one that no blob begins with: both read them all and then refuse the first. The rest is the audit. Two ratios are printed,
-of the audits and of the whole runs. A plot goes to docs/bench.svg.
+TOOL is twkb_tool, whose `check` is timed as whole runs less runs on the same bytes with a first one that no blob
+begins with: these read the file and refuse it. SCANNER is twkb_bench, which times scans itself. They are compared with
+programs in plain Rust, std only: fast/ is the fastest that we know how to write, without SIMD; of the two called plain,
+plain.rs checks as one would write it at first, and hops.rs scans with all inlined. All take turns, and of each the best
+time of RUNS is kept. Times are of 40 MB, and instructions, which valgrind counts, of 4 MB: of whole processes for
+`check`, of one scan alone for the others. Where two answers differ, the run fails. A plot goes to docs/bench.svg.
 """
-import glob
 import os
-import subprocess
 import sys
 import tempfile
-import time
 
-HERE = os.path.dirname(os.path.abspath(__file__))
-TOP = os.path.dirname(HERE)
-BYTES = 40_000_000
-OURS, PLAIN = "twkb_tool", "plain Rust"
+import layers
+import plots
+import programs
+import symbols
+from programs import Best, field, instructions, one_more, the_same
 
-
-def large_layers(folder):
-    """The examples in turn, whole blobs only, since each example is a layer; and the same with a wrong first byte."""
-    layers = [open(path, "rb").read() for path in sorted(glob.glob(os.path.join(TOP, "examples", "*.twkb")))]
-    whole = b"".join(layers)
-    paths = [os.path.join(folder, name) for name in ("large.twkb", "refused.twkb")]
-    for path, first in zip(paths, (whole[:1], b"\x0f")):
-        # In pieces: a process that is started from here counts this one's greatest memory as its own.
-        with open(path, "wb") as file:
-            file.write(first + whole[1:])
-            for _ in range(-(-BYTES // len(whole)) - 1):
-                file.write(whole)
-    return paths
-
-
-class Timed:
-    """The best time, the greatest memory and the answers of the runs of a command."""
-
-    def __init__(self, *command):
-        self.command = command
-        self.seconds = []
-        self.kilobytes = []
-        self.answers = set()
-
-    def run(self):
-        start = time.perf_counter()
-        process = subprocess.Popen(self.command, stdout=subprocess.PIPE)
-        self.answers.add(process.stdout.read().decode().strip())
-        _, status, usage = os.wait4(process.pid, 0)
-        process.stdout.close()
-        if os.waitstatus_to_exitcode(status) not in (0, 1):
-            sys.exit(f"{self.command[0]} failed")
-        self.seconds.append(time.perf_counter() - start)
-        self.kilobytes.append(usage.ru_maxrss)
-
-    def best(self):
-        return 1000 * min(self.seconds)
+TIMED, COUNTED = 40_000_000, 4_000_000
+ONE_EUROPE, ONE_INDIES = "x=10..30,y=35..45", "x=100..140,y=-10..10"
+WHOLE, NOTHING = "x=-360..360,y=-360..360", "x=10..30,y=85..89"
+STEPS = {
+    "hop scan, 20 by 10 degrees": ONE_EUROPE,
+    "hop scan, 40 by 20 degrees": ONE_INDIES,
+    "hop scan that hits nothing": NOTHING,
+    "scan of everything": WHOLE,
+}
+BUILD, LOOKUP = "building a directory", "directory scan that hits nothing"
+# How many blobs of coast_lines_sized PostGIS finds in a window.
+POSTGIS = {ONE_EUROPE: 44, ONE_INDIES: 158, NOTHING: 0}
 
 
-def bar(y, label, value, greatest, unit):
-    width = 300 * value / greatest
-    return (
-        f'<text x="8" y="{y + 14}">{label}</text>'
-        f'<rect x="110" y="{y}" width="{width:.0f}" height="20" fill="#4477aa"/>'
-        f'<text x="{118 + width:.0f}" y="{y + 14}">{value:.0f} {unit}</text>'
-    )
+def units(window):
+    """The ends of a window as words, in units of a ten-millionth of a degree."""
+    return [str(int(end) * 10**7) for part in window.split(",") for end in part[2:].split("..")]
 
 
-def plot(path, sections):
-    """Bars of each section, which is a title, a unit, and names with their values."""
-    rows = []
-    for section, (title, unit, values) in enumerate(sections):
-        y = 8 + 90 * section
-        rows.append(f'<text x="8" y="{y + 12}" font-weight="bold">{title}</text>')
-        for line, (label, value) in enumerate(values.items()):
-            rows.append(bar(y + 22 + 28 * line, label, value, max(values.values()), unit))
-    with open(path, "w") as file:
-        file.write(
-            '<svg xmlns="http://www.w3.org/2000/svg" width="500" height="280" font-family="sans-serif" font-size="13">'
-            '<rect width="500" height="280" fill="white"/>' + "".join(rows) + "</svg>\n"
-        )
+class Programs:
+    """The programs by name, each with its words for a check or a scan."""
+
+    def __init__(self, folder, tool, scanner):
+        self.tool, self.scanner = os.path.abspath(tool), os.path.abspath(scanner)
+        # All modules at once, and twice over: so its loops come out best.
+        self.fast = programs.built(folder, "fast", "fast/main.rs", "-C", "codegen-units=1", "-C", "lto=thin")
+        self.plain = programs.built(folder, "plain", "plain.rs")
+        self.hops = programs.built(folder, "hops", "hops.rs")
+
+    def checks(self, layer):
+        return {
+            "ours": [self.tool, "check", layer],
+            "fast": [self.fast, "check", layer],
+            "plain": [self.plain, layer],
+        }
+
+    def scans(self, layer, window, repeats):
+        mode = "scanall" if window == WHOLE else "scan"
+        return {
+            "fast": [self.fast, mode, layer, *units(window), repeats],
+            "plain": [self.hops, layer, *units(window), repeats],
+        }
 
 
-def same(timed):
-    """The answer of all runs."""
-    answers = {answer for one in timed for answer in one.answers}
-    if len(answers) != 1:
-        sys.exit(f"the answers differ: {answers}")
-    return answers.pop()
+def note_checks(commands, bests, memories):
+    for name, command in commands.items():
+        (line, *_), seconds, kilobytes = programs.run(command)
+        bests.setdefault(name, Best()).note(1000 * seconds, line.split(" nanoseconds=")[0])
+        memories[name] = max(memories.get(name, 0), kilobytes / 1024)
+
+
+def note_scans(found, layer, bests):
+    """One round of each scan by each program."""
+    windows = list(STEPS.values())
+    lines, _, _ = programs.run([found.scanner, layer, "2", *windows, "build", NOTHING])
+    for step, line in zip([*STEPS, BUILD, LOOKUP], lines, strict=True):
+        answer = "built" if step == BUILD else field(line, "found")
+        bests.setdefault((step, "ours"), Best()).note(int(field(line, "nanoseconds")) / 1e6, answer)
+    for step, window in STEPS.items():
+        for name, command in found.scans(layer, window, "2").items():
+            (line,), _, _ = programs.run(command)
+            bests.setdefault((step, name), Best()).note(int(field(line, "nanoseconds")) / 1e6, field(line, "hits"))
+
+
+def count_scans(found, layer):
+    """The instructions of one of each of the scans alone."""
+    ours = [found.scanner, layer, "REPEATS"]
+    counts = {(step, "ours"): one_more([*ours, window], 0) for step, window in STEPS.items()}
+    counts[BUILD, "ours"] = one_more([*ours, "build"], 0)
+    both = one_more([*ours, "build", NOTHING], 0)
+    counts[LOOKUP, "ours"] = both and both - counts[BUILD, "ours"]
+    for step, window in STEPS.items():
+        for name, command in found.scans(layer, window, "REPEATS").items():
+            counts[step, name] = one_more(command, 1)
+    return counts
+
+
+def shown(value, digits=1):
+    return "" if value is None else f"{value:.{digits}f}"
+
+
+def ratio(value, over):
+    return "" if not value or not over else f"{value / over:.2f}"
+
+
+def row(title, kind, times, counts):
+    """A row of a table; the ratios are over the yardstick's."""
+    cells = [title, kind]
+    for values in (times, counts):
+        ours, fast, plain = (values.get(name) for name in ("ours", "fast", "plain"))
+        cells += [shown(ours), shown(fast), shown(plain), ratio(ours, fast), ratio(ours, plain)]
+    print("| " + " | ".join(cells) + " |")
+
+
+def heading():
+    columns = "ours | fast | plain | ours to fast | ours to plain"
+    print(f"| Step | Layer | ms: {columns} | million instructions: {columns} |")
+    print("|---" * 12 + "|")
+
+
+def table_of_checks(found, folder, runs):
+    """Prints the rows of `check`, and gives the times and memories of the mix for the plot."""
+    kept = {}
+    for kind in (*layers.EXAMPLES, layers.LONG):
+        times, memories = {}, {}
+        if kind in ("the mix", "lines"):
+            layer, _ = layers.write_layer(folder, kind, TIMED)
+            refused, _ = layers.write_layer(folder, kind, TIMED, layers.NO_BLOB)
+            whole, reading = {}, {}
+            for _ in range(runs):
+                note_checks(found.checks(layer), whole, memories)
+                note_checks(found.checks(refused), reading, {})
+            the_same(*reading.values())
+            the_same(*whole.values())
+            times = {name: whole[name].time - reading[name].time for name in whole}
+            kept[kind] = (times, {name: whole[name].time for name in whole}, memories)
+        small, _ = layers.write_layer(folder, kind, COUNTED)
+        row("check", kind, times, {name: instructions(command) for name, command in found.checks(small).items()})
+    return kept["the mix"]
+
+
+def table_of_scans(found, folder, runs):
+    """Prints the rows of scans and directories, and gives what a directory takes and how fast it is."""
+    notes = []
+    for kind in ("the mix", "lines"):
+        layer, copies = layers.write_layer(folder, kind, TIMED)
+        bests = {}
+        for _ in range(runs):
+            note_scans(found, layer, bests)
+        for step, window in STEPS.items():
+            hits = the_same(*(bests[step, name] for name in ("ours", "fast", "plain")))
+            if kind == "lines" and window in POSTGIS and int(hits) != POSTGIS[window] * copies:
+                sys.exit(f"{hits} blobs were found in {window}, {POSTGIS[window] * copies} by PostGIS")
+        the_same(bests[LOOKUP, "ours"], bests["hop scan that hits nothing", "ours"])
+        small, _ = layers.write_layer(folder, kind, COUNTED)
+        counts = count_scans(found, small)
+        for step in [*STEPS, BUILD, LOOKUP]:
+            # A directory is compared with the hop scans of the same window.
+            other = step if step in STEPS else "hop scan that hits nothing"
+            names = {"ours": (step, "ours"), "fast": (other, "fast"), "plain": (other, "plain")}
+            times = {name: bests[key].time for name, key in names.items()}
+            row(step, kind, times, {name: counts[key] for name, key in names.items()})
+        rate = bests["hop scan that hits nothing", "ours"].time / bests[LOOKUP, "ours"].time
+        notes.append(f"{kind}: {bytes_a_blob(found, folder, kind):.0f} bytes a blob in a directory, "
+                     f"whose scan that hits nothing has {rate:.1f} times the rate of the hop scan")
+    return notes
+
+
+def bytes_a_blob(found, folder, kind):
+    """What a further blob adds to the greatest memory of a process that builds a directory, its file left out."""
+    measured = []
+    for least_bytes in (TIMED // 2, TIMED):
+        layer, _ = layers.write_layer(folder, kind, least_bytes)
+        (line,), _, kilobytes = programs.run([found.scanner, layer, "0", "build"])
+        measured.append((1024 * kilobytes - os.path.getsize(layer), int(field(line, "blobs"))))
+    (fewer, few), (more, many) = measured
+    return (more - fewer) / (many - few)
 
 
 def main():
-    program = os.path.abspath(sys.argv[1])
-    runs = int(sys.argv[2]) if len(sys.argv) > 2 else 15
+    runs = int(sys.argv[3]) if len(sys.argv) > 3 else 10
     with tempfile.TemporaryDirectory() as folder:
-        layer, refused = large_layers(folder)
-        plain = os.path.join(folder, "plain")
-        subprocess.run(["rustc", "-O", "--edition", "2021", "-o", plain, os.path.join(HERE, "plain.rs")], check=True)
-        whole = {OURS: Timed(program, "check", layer), PLAIN: Timed(plain, layer)}
-        reading = {OURS: Timed(program, "check", refused), PLAIN: Timed(plain, refused)}
-        for _ in range(runs):
-            for timed in (*whole.values(), *reading.values()):
-                timed.run()
-        same(reading.values())
-        print(f"{os.path.getsize(layer)} bytes: {same(whole.values())}")
-    wholes = {name: timed.best() for name, timed in whole.items()}
-    audits = {name: wholes[name] - reading[name].best() for name in whole}
-    memories = {name: max(timed.kilobytes) / 1024 for name, timed in whole.items()}
-    for name in whole:
-        print(f"{name}: {wholes[name]:.0f} ms, {audits[name]:.0f} ms of it the audit; {memories[name]:.1f} MB")
-    for title, times in (("the audit", audits), ("the whole run", wholes)):
-        print(f"{title} takes {times[PLAIN] / times[OURS]:.2f} times as long in plain Rust")
-    sections = [("audit, best time", "ms", audits), ("whole run, best time", "ms", wholes), ("greatest memory", "MB", memories)]
-    plot(os.path.join(TOP, "docs", "bench.svg"), sections)
+        found = Programs(folder, *sys.argv[1:3])
+        heading()
+        audits, wholes, memories = table_of_checks(found, folder, runs)
+        notes = table_of_scans(found, folder, runs)
+        print("\n" + "\n".join(notes))
+        for title, times in (("the audit of the mix", audits), ("the whole run", wholes)):
+            print(f"{title} takes {times['plain'] / times['ours']:.2f} times as long in plain Rust")
+        symbols.tell(found.tool, "twkb_tool")
+        symbols.tell(found.scanner, "twkb_bench")
+    names = {"ours": "twkb_tool", "fast": "fast Rust", "plain": "plain Rust"}
+    sections = [("audit, best time", "ms", audits), ("whole run, best time", "ms", wholes)]
+    sections.append(("greatest memory", "MB", memories))
+    named = [(title, unit, {names[name]: value for name, value in values.items()}) for title, unit, values in sections]
+    plots.plot(os.path.join(layers.TOP, "docs", "bench.svg"), named)
 
 
 main()
