@@ -11,12 +11,25 @@ mod request;
 mod timed;
 
 use request::{Request, request_of};
+use std::alloc::AllocError;
 use std::process::ExitCode;
-use std::{env, fs};
+use std::{env, fs, io};
+use thiserror::Error;
 use timed::{time_build, time_hops, time_lookups};
-use twkb_layer::{Cursor, certify};
+use twkb_layer::{Cursor, Refusal, certify};
 
 const USAGE: &str = "usage: twkb_bench FILE REPEATS [WINDOW..] [build [WINDOW..]]";
+
+/// Why nothing was timed.
+#[derive(Debug, Drop, Error)]
+enum Failure {
+    #[error("{0}")]
+    Stream(#[from] io::Error),
+    #[error("{0}")]
+    Refused(#[from] Refusal),
+    #[error("out of memory")]
+    Memory(#[from] AllocError),
+}
 
 fn main(rt: HostRuntime) -> ExitCode {
     match run(&rt) {
@@ -33,7 +46,7 @@ fn main(rt: HostRuntime) -> ExitCode {
 }
 
 /// Does what the words ask for, and says whether they ask for anything.
-fn run(rt: &HostRuntime) -> anyhow::Result<bool> {
+fn run(rt: &HostRuntime) -> Result<bool, Failure> {
     let words: Vec<String> = env::args(rt)?.collect(rt.alloc())?;
     match request_of(rt.alloc(), words.as_slice())? {
         Some(request) => {
@@ -45,7 +58,7 @@ fn run(rt: &HostRuntime) -> anyhow::Result<bool> {
 }
 
 /// Certifies the file, and times what is asked for.
-fn measure(rt: &HostRuntime, request: &Request) -> anyhow::Result<()> {
+fn measure(rt: &HostRuntime, request: &Request) -> Result<(), Failure> {
     let bytes = fs::read(rt, request.path)?;
     let mut layer = certify(rt.alloc(), Cursor::new(bytes.as_slice()))?;
     time_hops(rt, &mut layer, &request.hops, request.repeats)?;
