@@ -1,5 +1,5 @@
 //! Geometries with all that is below them, and layers.
-ghost use Rattle.std.specs.Prelude.{◌≡◌, ◌<◌, ◌≤◌};
+ghost use Rattle.std.specs.Prelude.{◌≤◌};
 ghost use Rattle.twkb_head.specs.declared.kinds.TheConstants.{DEEPEST};
 
 use crate::fault::{Claim, Fault};
