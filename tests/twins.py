@@ -112,9 +112,11 @@ def texts_of(crate, name):
 
 
 def copy_into(room, crates):
-    for name in ("crates.txt", "HANDLES"):
-        shutil.copy2(os.path.join(TOP, name), room)
-    for crate in with_those_below(crates):
+    """The crates and those below them, as a repository of their own."""
+    below, wanted = stands_on(), with_those_below(crates)
+    shutil.copy2(os.path.join(TOP, "HANDLES"), room)
+    write(os.path.join(room, "crates.txt"), "".join(f"{crate}: {' '.join(below[crate])}\n" for crate in wanted))
+    for crate in wanted:
         shutil.copytree(os.path.join(TOP, "crates", crate), os.path.join(room, "crates", crate), symlinks=True)
 
 
