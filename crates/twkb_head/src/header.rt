@@ -61,7 +61,7 @@ impl Head {
         ensures few { result ≤ 4 }
         ensures value { result ≡ axes_with self.now.z self.now.m }
     {
-        2 + usize::from(self.z.is_some()) + usize::from(self.m.is_some())
+        self.m_axis() + usize::from(self.m.is_some())
     }
 
     /// The place of M among them: behind X and Y, and behind Z where there is one.
