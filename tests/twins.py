@@ -13,6 +13,7 @@ any failed. --only WORD tries those with the word in their names; --untwinned al
 import argparse
 import os
 import shutil
+import signal
 import subprocess
 import sys
 import tempfile
@@ -184,6 +185,8 @@ def main():
         parser.error(f"crates.txt lists no crate {unknown[0]}")
     crates = words.crates or list(known)
     twins = {crate: [name for name in edits(crate, "twins") if words.only in name] for crate in crates}
+    # A run that is ended takes its copy away too.
+    signal.signal(signal.SIGTERM, lambda *_: sys.exit(1))
     if words.only and not any(twins.values()):
         parser.error(f"no twin has {words.only} in its name")
     try_all(twins)
