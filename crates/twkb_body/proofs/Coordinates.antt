@@ -12,6 +12,7 @@ use Rattle.twkb_head.specs.Header.{Header, axes_with, axes_of}
 use Rattle.twkb_head.specs.Head.{m_axis}
 use Rattle.twkb_head.specs.Plan.{coordinate as coordinate_request, cut_field, judge, done}
 use Rattle.twkb_head.specs.Reader.{Answer, read_judged, read_field, read, coordinate_at, Fails}
+use Rattle.twkb_head.proofs.BoxNumbers.{z_among, m_among}
 use Rattle.twkb_head.proofs.FieldCuts.{field_takes}
 use Rattle.twkb_head.proofs.Readings.{ok_not_err}
 use Rattle.twkb_head.proofs.Loops.{IsLoop, loop_begins, loop_goes_on, loop_fails, loop_ends}
@@ -158,14 +159,6 @@ axes_few None (Some q) = omega arith
 axes_few (Some p) None = omega arith
 axes_few (Some p) (Some q) = omega arith
 
-third : (z m : Option ℕ) → is_some z ≡ true → 2 < 2 + cond (is_some z) 1 0 + cond (is_some m) 1 0
-third None m e = absurd (cc (e))
-third (Some p) m e = omega arith
-
-last_axis : (z m : Option ℕ) → is_some m ≡ true → m_axis z < 2 + cond (is_some z) 1 0 + cond (is_some m) 1 0
-last_axis z None e = absurd (cc (e))
-last_axis z (Some p) e = omega arith
-
 module _ (h : Header) where
   module _ (s ns : PointValue) (all : length ns ≡ axes_of h) where
     x_same : coordinate (add s ns) 0 ≡ coordinate (place s ns) 0
@@ -175,10 +168,10 @@ module _ (h : Header) where
     y_same = coordinates_same s ns 1 (omega (arith, all))
 
     z_same : (f : ℕ → ℤ → ℤ) → option_map (λ p. f p (coordinate (add s ns) 2)) h.z ≡ option_map (λ p. f p (coordinate (place s ns) 2)) h.z
-    z_same f = if_there f h.z (coordinate (add s ns) 2) (coordinate (place s ns) 2) (λ e. coordinates_same s ns 2 (let t = third h.z h.m e in omega (arith, all, t)))
+    z_same f = if_there f h.z (coordinate (add s ns) 2) (coordinate (place s ns) 2) (λ e. coordinates_same s ns 2 (let t = z_among h.z h.m e in omega (arith, all, t)))
 
     m_same : (f : ℕ → ℤ → ℤ) → option_map (λ p. f p (coordinate (add s ns) (m_axis h.z))) h.m ≡ option_map (λ p. f p (coordinate (place s ns) (m_axis h.z))) h.m
-    m_same f = if_there f h.m (coordinate (add s ns) (m_axis h.z)) (coordinate (place s ns) (m_axis h.z)) (λ e. coordinates_same s ns (m_axis h.z) (let t = last_axis h.z h.m e in omega (arith, all, t)))
+    m_same f = if_there f h.m (coordinate (add s ns) (m_axis h.z)) (coordinate (place s ns) (m_axis h.z)) (λ e. coordinates_same s ns (m_axis h.z) (let t = m_among h.z h.m e in omega (arith, all, t)))
 
   each_same : (of : PointValue → Vertex) → ((s ns : PointValue) → length ns ≡ axes_of h → of (add s ns) ≡ of (place s ns)) → (s : PointValue) (numbers : List PointValue) → HaveAxes (axes_of h) numbers
       → map of (lasts_from s numbers) ≡ map of (placed_from s numbers)

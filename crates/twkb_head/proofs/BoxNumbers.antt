@@ -31,13 +31,14 @@ further_spelled : (o : Option ℕ) (range : ℤ × ℤ) → (is_some o ≡ true 
 further_spelled None range fit = refl
 further_spelled (Some p) range fit = range_spelled (pos p) range (fit refl)
 
-axes_high : (z m : Option ℕ) → is_some z ≡ true → 2 < 2 + cond (is_some z) 1 0 + cond (is_some m) 1 0
-axes_high None m e = absurd (cc (e))
-axes_high (Some p) m e = omega arith
+-- Z and M, where they are there, are among the axes
+pub z_among : (z m : Option ℕ) → is_some z ≡ true → 2 < 2 + cond (is_some z) 1 0 + cond (is_some m) 1 0
+z_among None m e = absurd (cc (e))
+z_among (Some p) m e = omega arith
 
-axes_last : (z m : Option ℕ) → is_some m ≡ true → m_axis z < 2 + cond (is_some z) 1 0 + cond (is_some m) 1 0
-axes_last z None e = absurd (cc (e))
-axes_last z (Some p) e = omega arith
+pub m_among : (z m : Option ℕ) → is_some m ≡ true → m_axis z < 2 + cond (is_some z) 1 0 + cond (is_some m) 1 0
+m_among z None e = absurd (cc (e))
+m_among z (Some p) e = omega arith
 
 -- each range of a box
 pub box_ranges_spelled : (h : Header) (ranges : List (ℤ × ℤ)) (bytes : List ℕ) → IsBox (axes_of h) ranges bytes → AreSpelled h.xy h.z h.m (bounds_of h.xy h.z h.m ranges)
@@ -46,8 +47,8 @@ box_ranges_spelled h ranges bytes (all, numbers) =
     record {
       x = range_spelled h.xy (range_of ranges 0) (fit 0 (omega arith));
       y = range_spelled h.xy (range_of ranges 1) (fit 1 (omega arith));
-      z_is = further_spelled h.z (range_of ranges 2) (λ e. fit 2 (axes_high h.z h.m e));
-      m_is = further_spelled h.m (range_of ranges (m_axis h.z)) (λ e. fit (m_axis h.z) (axes_last h.z h.m e));
+      z_is = further_spelled h.z (range_of ranges 2) (λ e. fit 2 (z_among h.z h.m e));
+      m_is = further_spelled h.m (range_of ranges (m_axis h.z)) (λ e. fit (m_axis h.z) (m_among h.z h.m e));
     }
 
 announced_spelled : (h : Header) (place : ℕ) (there : Bool) (box : Option (List (ℤ × ℤ))) (bytes : List ℕ) → Announced there (IsBox (axes_of h)) box bytes
