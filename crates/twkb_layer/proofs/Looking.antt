@@ -109,13 +109,13 @@ pub here_stands : (rest : List Geometry) (bytes now : List ℕ) (place : ℕ) (e
 here_stands rest bytes now place entries blob e h same = rw (same, h.offset) h.next.stands
 
 pub look_step : (w : Bounds) (bytes : List ℕ) (count0 : ℕ) (room0 : List Hit) (entries : List Place) (count blob found : ℕ) (room : List Hit) (s : Looking w bytes count0 room0 entries count blob found room) (e : Place) (n : Here s.rest bytes s.place entries blob e)
-    (offset : ℕ) → offset ≡ e.offset → (new : ℕ) → new ≡ added count (directory_cost w n.next.tree) → (b : Bool) → b ≡ list_any (is_inside w) (vertices n.next.tree)
-    → Looking w bytes count0 room0 entries new (blob + 1) (cond b (found + 1) found) (cond b (slice_set room found (record { blob = blob; offset = offset })) room)
-look_step w bytes count0 room0 entries count blob found room s e h offset o new adds b is =
+    (reported : Hit) → reported ≡ record { blob = blob; offset = e.offset } → (new : ℕ) → new ≡ added count (directory_cost w n.next.tree) → (b : Bool) → b ≡ list_any (is_inside w) (vertices n.next.tree)
+    → Looking w bytes count0 room0 entries new (blob + 1) (cond b (found + 1) found) (cond b (slice_set room found reported) room)
+look_step w bytes count0 room0 entries count blob found room s e h reported is_hit new adds b is =
     let n = h.next in
     let place = s.place in
     let hit : Hit = record { blob = blob; offset = place } in
-    let named : ◌≡◌ {A = Hit} (record { blob = blob; offset = offset }) hit = (λ j. record { blob = blob; offset = (o ∙ h.offset) j }) in
+    let named : reported ≡ hit = is_hit ∙ (λ j. record { blob = blob; offset = h.offset j }) in
     record {
       trees = s.trees;
       whole = s.whole;
