@@ -24,11 +24,9 @@ impl Span {
         requires { IsPrecision precision }
         ensures { result ≡ span_at precision (minimum, minimum +ℤ extent) }
     {
-        let least = i128::from(minimum);
-        let greatest = least + i128::from(extent);
         Span {
-            lo: units(least, precision),
-            hi: units(greatest, precision),
+            lo: units(i128::from(minimum), precision),
+            hi: units(maximum(minimum, extent), precision),
         }
     }
 
@@ -42,6 +40,14 @@ impl Span {
         let greatest = coordinate_of(self.hi, precision);
         (least as i64, (greatest - least) as i64)
     }
+}
+
+/// The sum as a whole number, which may pass 64 bits.
+#[inline(always)]
+fn maximum(minimum: i64, extent: i64) -> i128
+    ensures { result ≡ minimum +ℤ extent }
+{
+    i128::from(minimum) + i128::from(extent)
 }
 
 /// A vertex, in units.

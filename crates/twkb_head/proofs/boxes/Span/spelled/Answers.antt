@@ -7,8 +7,8 @@ use Rattle.twkb_head.proofs.boxes.Span.spelled.Goals as goal
 
 pub returns : goal.returns
 returns c =
-    let low : to_z w128 (of_z w128 c.from-least.result) ≡ c.args.minimum = omega (arith, ints) in
-    let high : to_z w128 (of_z w128 (to_z w128 (of_z w128 c.from-least.result) +ℤ to_z w128 (of_z w128 c.from.result))) ≡ c.args.minimum +ℤ c.args.extent = omega (arith, ints) in
+    let low : to_z w128 (of_z w128 c.from.result) ≡ c.args.minimum = omega (arith, ints) in
+    let high : to_z w128 (of_z w128 c.maximum.result) ≡ c.args.minimum +ℤ c.args.extent = omega (arith, ints) in
     let at : to_z w8 (of_z w8 c.args.precision) ≡ c.args.precision = omega (arith, ints) in
     let lo_fits : SFits w128 c.units.result = search rules in
     let hi_fits : SFits w128 c.units-2.result = search rules in
