@@ -11,14 +11,18 @@ use Rattle.twkb_layer.specs.declared.entry.Entry.TheInside.{Inside}
 abbrev pub range_at : ℤ → ℤ × ℤ → Span
 range_at p numbers = span_at p (numbers.0, numbers.0 +ℤ numbers.1)
 
--- the box of an entry, where the precision of X and Y is there
-abbrev pub entry_box : Inside → Option Bounds
-entry_box e = option_map (λ xy. record {
+-- the box whose ranges an entry keeps, with this precision of X and Y
+abbrev pub box_at : ℤ → Inside → Bounds
+box_at xy e = record {
   x = range_at xy e.x;
   y = range_at xy e.y;
   z = option_map (λ p. range_at (pos p) e.z) e.z_precision;
   m = option_map (λ p. range_at (pos p) e.m) e.m_precision;
-}) e.xy_precision
+}
+
+-- the box of an entry, where the precision of X and Y is there
+abbrev pub entry_box : Inside → Option Bounds
+entry_box e = option_map (λ xy. box_at xy e) e.xy_precision
 
 abbrev pub entry_place : Inside → Place
 entry_place e = record { offset = e.offset; bounds = entry_box e }
