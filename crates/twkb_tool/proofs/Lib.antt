@@ -1,3 +1,4 @@
 pub mod OutputLemmas
 pub mod StreamLemmas
+pub mod WindowLemmas
 pub mod WordLemmas

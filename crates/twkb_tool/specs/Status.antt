@@ -4,7 +4,9 @@ use Rattle.twkb_tool.specs.declared.judge.Verdict.{Verdict}
 use Rattle.twkb_tool.specs.declared.judge.Verdict.TheVariants.{Yes, No}
 use Rattle.twkb_tool.specs.declared.run.RunFault.{RunFault}
 use Rattle.twkb_tool.specs.declared.words.Usage.{Usage}
-use Rattle.twkb_tool.specs.declared.words.Usage.TheVariants.{Words, Memory}
+use Rattle.twkb_tool.specs.declared.words.Usage.TheVariants.{Words, TooMany, Window, Memory}
+use Rattle.twkb_tool.specs.declared.status.HostFault.{HostFault}
+use Rattle.twkb_tool.specs.declared.status.HostFault.TheVariants.{Words as NoWords, File}
 
 -- 0 for a yes, 1 for a no, 3 where the run stopped
 abbrev pub status_of_run : Result Verdict RunFault → ℕ
@@ -15,4 +17,11 @@ status_of_run (Err fault) = 3
 -- 2 for words that ask for nothing, 3 where memory ran out
 abbrev pub status_of_usage : Usage → ℕ
 status_of_usage (Words error) = 2
+status_of_usage TooMany = 2
+status_of_usage (Window number why) = 2
 status_of_usage Memory = 3
+
+-- 3 where the host refused the words or the file
+abbrev pub status_of_host : HostFault → ℕ
+status_of_host NoWords = 3
+status_of_host File = 3

@@ -1,14 +1,19 @@
 -- What the words of a command line ask for.
-use Rattle.std.specs.Prelude.{◌≡◌, ◌≢◌, ◌⊎◌, List, Option, Some, None, Result, Ok, Err, codes, string_bytes, IsErrAnd, true}
+use Rattle.std.specs.Prelude.{◌≡◌, ◌≢◌, ◌⊎◌, ℕ, ◌+◌, ◌<◌, ◌≤◌, true, false, List, [], ◌∷◌, ◌++◌, length, Option, Some, None, Result, Ok, Err, codes, string_bytes, IsErrAnd}
+use Rattle.clap.specs.Lexer.{usize_max}
 use Rattle.clap.specs.Values.{kind_of}
-use Rattle.clap.specs.Words.{App, Row, Rule, Text, first_of, new_app, new_rule, with_rule, with_subcommand}
+use Rattle.clap.specs.Words.{App, Kinds, Row, Rule, Text, IsAmong, all_of, first_of, new_app, new_rule, with_rule, with_subcommand}
 use Rattle.clap.specs.Simple.{on_top}
 use Rattle.clap.specs.declared.error.kind.ErrorKind.TheVariants.{OutOfMemory}
+use Rattle.twkb_head.specs.declared.boxes.Bounds.{Bounds}
+use Rattle.twkb_layer.specs.WindowText.{IsWindowText, in_order}
+use Rattle.twkb_layer.specs.declared.window.BadWindow.{BadWindow}
+use Rattle.twkb_layer.specs.declared.window.BadWindow.TheVariants.{Form, Order}
 use Rattle.twkb_tool.specs.declared.request.Request.{Request}
-use Rattle.twkb_tool.specs.declared.request.Request.TheVariants.{Check}
+use Rattle.twkb_tool.specs.declared.request.Request.TheVariants.{Check, List as ListBlobs, Scan}
 use Rattle.twkb_tool.specs.declared.request.Line.{Line}
 use Rattle.twkb_tool.specs.declared.words.Usage.{Usage}
-use Rattle.twkb_tool.specs.declared.words.Usage.TheVariants.{Words, Memory}
+use Rattle.twkb_tool.specs.declared.words.Usage.TheVariants.{Words, TooMany, Window as NoWindow, Memory}
 
 -- ---- the command, in clap's terms
 
@@ -16,54 +21,128 @@ use Rattle.twkb_tool.specs.declared.words.Usage.TheVariants.{Words, Memory}
 abbrev pub file_rule : Rule
 file_rule = record (new_rule (codes "FILE")) { required = true }
 
+-- one word or more, which are required
+abbrev pub window_rule : Rule
+window_rule = record (new_rule (codes "WINDOW")) {
+  required = true;
+  range = Some (record { start_inclusive = 1; end_inclusive = usize_max });
+}
+
 -- `check FILE`
 abbrev pub check_app : App
 check_app = with_rule (new_app (codes "check")) file_rule
+
+-- `list FILE`
+abbrev pub list_app : App
+list_app = with_rule (new_app (codes "list")) file_rule
+
+-- `scan FILE WINDOW..`
+abbrev pub scan_app : App
+scan_app = with_rule (with_rule (new_app (codes "scan")) file_rule) window_rule
 
 -- `twkb_tool`, which requires a subcommand
 abbrev pub bare_app : App
 bare_app = on_top (λ s. record s { subcommand_required = true }) (new_app (codes "twkb_tool"))
 
--- `twkb_tool check FILE`
+-- the whole command: `twkb_tool` with each of these behind it
 unfoldable pub tool_app : App
-tool_app = with_subcommand bare_app check_app.top
+tool_app = with_subcommand (with_subcommand (with_subcommand bare_app check_app.top) list_app.top) scan_app.top
 
--- ---- what the matches come to
+-- ---- windows
 
--- the subcommand of this name asks for the request
-abbrev pub AsksFor : Text → Request → Type 0
-AsksFor name Check = name ≡ codes "check"
+-- the text is this window, and no lower bound is above its upper one
+pub record IsWindow (text : Text) (window : Bounds) : Type 0 where
+  pub text_is : IsWindowText text window
+  pub rises : in_order window ≡ true
 
--- the subcommand of this name is refused
-abbrev pub RefusedBy : Text → Usage → Type 0
-RefusedBy name (Words (Some e)) = ⊥
-RefusedBy name (Words None) = name ≢ codes "check"
-RefusedBy name Memory = ⊥
+-- why a text is no window: it has the form of none, or of one with a lower bound above its upper one
+abbrev pub IsBadText : Text → BadWindow → Type 0
+IsBadText text Form = (window : Bounds) → IsWindowText text window → ⊥
+IsBadText text Order = (window : Bounds) × IsWindowText text window × (in_order window ≡ false)
 
--- the matches are refused: there is no file among them, or no such subcommand, or memory ran out
-abbrev pub IsRefusedMatch : Text → List Row → Usage → Type 0
-IsRefusedMatch name rows (Words (Some e)) = ⊥
-IsRefusedMatch name rows (Words None) = (first_of (codes "FILE") rows ≡ None) ⊎ (name ≢ codes "check")
-IsRefusedMatch name rows Memory = Unit {0}
+-- the texts are these windows, one by one
+abbrev pub AreWindows : List Text → List Bounds → Type 0
+AreWindows [] [] = Unit {0}
+AreWindows (text ∷ texts) (window ∷ windows) = IsWindow text window × AreWindows texts windows
+AreWindows _ _ = ⊥
 
--- what the matches of a subcommand come to: its request, for the file among them
+-- the text of this number, from 1, is the first that is no window
+pub record IsFirstBad (texts : List Text) (number : ℕ) (why : BadWindow) : Type 0 where
+  pub windows : List Bounds
+  pub before : List Text
+  pub bad : Text
+  pub behind : List Text
+  pub parts : texts ≡ before ++ bad ∷ behind
+  pub number_is : number ≡ length before + 1
+  pub before_are : AreWindows before windows
+  pub bad_is : IsBadText bad why
+
+-- why texts are no windows, or memory ran out
+abbrev pub AreNoWindows : List Text → Usage → Type 0
+AreNoWindows texts (NoWindow number why) = IsFirstBad texts number why
+AreNoWindows texts Memory = Unit {0}
+AreNoWindows texts TooMany = ⊥
+AreNoWindows texts (Words error) = ⊥
+
+-- the most windows of a scan
+abbrev pub most_windows : ℕ
+most_windows = 64
+
+-- a scan has a window, and not too many
+abbrev pub HoldsWindows : Request → Type 0
+HoldsWindows (Scan windows) = (1 ≤ length windows.items) × (length windows.items ≤ most_windows)
+HoldsWindows Check = Unit {0}
+HoldsWindows ListBlobs = Unit {0}
+
+-- ---- what the matches of a subcommand come to
+
+-- the texts of the windows
+abbrev pub windows_in : List Row → Option (List Text)
+windows_in rows = all_of (codes "WINDOW") rows
+
+-- the subcommand of this name, with its matches, asks for the request
+abbrev pub AsksFor : Text → List Row → Request → Type 0
+AsksFor name rows Check = name ≡ codes "check"
+AsksFor name rows ListBlobs = name ≡ codes "list"
+AsksFor name rows (Scan windows) = (name ≡ codes "scan") × (texts : List Text) × (windows_in rows ≡ Some texts)
+    × AreWindows texts windows.items × (1 ≤ length texts) × (length texts ≤ most_windows)
+
+-- there is no such subcommand, or it is a scan that has no window
+abbrev pub LacksWord : Text → List Row → Type 0
+LacksWord name rows = ((name ≢ codes "check") × (name ≢ codes "list") × (name ≢ codes "scan"))
+    ⊎ ((name ≡ codes "scan") × ((windows_in rows ≡ None) ⊎ (windows_in rows ≡ Some [])))
+
+-- it asks for nothing, and why: a word is missing, or there are too many windows, or one of them is none, or memory ran out
+abbrev pub IsRefused : Text → List Row → Usage → Type 0
+IsRefused name rows (Words (Some error)) = ⊥
+IsRefused name rows (Words None) = LacksWord name rows
+IsRefused name rows TooMany = (name ≡ codes "scan") × (texts : List Text) × (windows_in rows ≡ Some texts)
+    × (most_windows < length texts)
+IsRefused name rows (NoWindow number why) = (name ≡ codes "scan") × (texts : List Text) × (windows_in rows ≡ Some texts)
+    × (length texts ≤ most_windows) × IsFirstBad texts number why
+IsRefused name rows Memory = Unit {0}
+
+-- what it comes to with this file, or with none
+abbrev pub ReadsWith : Option Text → Text → List Row → Result Line Usage → Type 0
+ReadsWith None name rows r = r ≡ Err (Words None)
+ReadsWith (Some file) name rows (Ok line) = (string_bytes line.path ≡ file) × AsksFor name rows line.request
+ReadsWith (Some file) name rows (Err usage) = IsRefused name rows usage
+
+-- what the matches of the subcommand of this name come to, with the file among them
 abbrev pub Reads : Text → List Row → Result Line Usage → Type 0
-Reads name rows (Ok line) = (first_of (codes "FILE") rows ≡ Some (string_bytes line.path)) × AsksFor name line.request
-Reads name rows (Err usage) = IsRefusedMatch name rows usage
+Reads name rows r = ReadsWith (first_of (codes "FILE") rows) name rows r
 
--- clap refused the words, or memory ran out
-abbrev pub IsRefusalOrMemory : Usage → Type 0
-IsRefusalOrMemory (Words (Some e)) = kind_of e ≢ OutOfMemory
-IsRefusalOrMemory (Words None) = ⊥
-IsRefusalOrMemory Memory = Unit {0}
+-- ---- what the words come to
 
--- it was not clap that refused the words
-abbrev pub IsNoRefusal : Usage → Type 0
-IsNoRefusal (Words (Some e)) = ⊥
-IsNoRefusal (Words None) = Unit {0}
-IsNoRefusal Memory = Unit {0}
+-- clap refused the words for one of these kinds of error, or memory ran out
+abbrev pub IsRefusalOrMemory : Kinds → Usage → Type 0
+IsRefusalOrMemory kinds (Words (Some error)) = (kind_of error ≢ OutOfMemory) × IsAmong (kind_of error) kinds
+IsRefusalOrMemory kinds (Words None) = ⊥
+IsRefusalOrMemory kinds TooMany = ⊥
+IsRefusalOrMemory kinds (NoWindow number why) = ⊥
+IsRefusalOrMemory kinds Memory = Unit {0}
 
--- what the subcommand that the words name, with its matches, comes to, or clap refused the words
+-- what words that parse come to, by the subcommand that they name and its matches: without one a word is missing
 abbrev pub Answers : Option (Text × List Row) → Result Line Usage → Type 0
-Answers None r = IsErrAnd r (λ u. (u ≡ Words None) ⊎ IsRefusalOrMemory u)
-Answers (Some p) r = Reads p.0 p.1 r ⊎ IsErrAnd r IsRefusalOrMemory
+Answers None r = IsErrAnd r (λ usage. (usage ≡ Words None) ⊎ (usage ≡ Memory))
+Answers (Some p) r = Reads p.0 p.1 r ⊎ (r ≡ Err Memory)

@@ -6,6 +6,9 @@
 //! error and a status (`status`).
 #![tactic(auto)]
 
+ghost use Rattle.std.specs.Prelude.{◌≡◌};
+ghost use Rattle.twkb_tool.specs.Status.{status_of_host, status_of_usage};
+
 pub mod judge;
 pub mod request;
 pub mod run;
@@ -18,7 +21,7 @@ pub mod words;
 
 use request::Line;
 use run::{MAX_FILE, run};
-use status::{status_of, usage_status};
+use status::{HostFault, host_status, status_of, usage_status};
 use std::fs::File;
 use std::process::ExitCode;
 use std::{env, io};
@@ -32,15 +35,11 @@ fn main(rt: HostRuntime) -> ExitCode {
 /// Runs the words' request, and gives the program's status.
 fn whole_status(rt: &HostRuntime) -> u8 {
     let Ok(words) = fetched_words(rt) else {
-        tell(rt, "cannot read words");
-        return 3;
+        return stopped(rt, HostFault::Words);
     };
     match request_of(rt.alloc(), words.as_slice()) {
         Ok(line) => run_line(rt, &line),
-        Err(usage) => {
-            tell_usage(rt, &usage);
-            usage_status(&usage)
-        }
+        Err(usage) => refused(rt, &usage),
     }
 }
 
@@ -52,8 +51,7 @@ fn fetched_words(rt: &HostRuntime) -> io::Result<Vec<String>> {
 /// Runs a line, and gives the program's status.
 fn run_line(rt: &HostRuntime, line: &Line) -> u8 {
     let Ok(file) = File::open(rt, line.path.as_str()) else {
-        tell(rt, "cannot open file");
-        return 3;
+        return stopped(rt, HostFault::File);
     };
     let mut source = FromReader::new(file);
     let mut sink = ToWriter::new(io::writer(rt));
@@ -64,15 +62,24 @@ fn run_line(rt: &HostRuntime, line: &Line) -> u8 {
     status_of(&outcome)
 }
 
-/// Says why the program stops. A message that can't be written is lost.
-fn tell(rt: &impl Eprint, why: &str) {
-    let _ = eprintln!(rt; "twkb_tool: {why}");
+// A message that can't be written is lost.
+
+/// Says what the host refused, and gives the program's status.
+fn stopped(rt: &impl Eprint, fault: HostFault) -> u8
+    ensures { result ≡ status_of_host fault }
+{
+    let _ = eprintln!(rt; "twkb_tool: {fault}");
+    host_status(fault)
 }
 
-fn tell_usage(rt: &impl Eprint, usage: &Usage) {
+/// Says why the words ask for nothing, and gives the program's status.
+fn refused(rt: &impl Eprint, usage: &Usage) -> u8
+    ensures { result ≡ status_of_usage usage.now }
+{
     let _ = match usage {
         Usage::Words(Some(error)) => eprint!(rt; "{error}"),
         Usage::Words(None) => Ok(()),
-        Usage::Memory => eprintln!(rt; "twkb_tool: {usage}"),
+        _ => eprintln!(rt; "twkb_tool: {usage}"),
     };
+    usage_status(usage)
 }

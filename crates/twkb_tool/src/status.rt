@@ -1,10 +1,22 @@
 //! What the program ends with.
 ghost use Rattle.std.specs.Prelude.{◌≡◌};
-ghost use Rattle.twkb_tool.specs.Status.{status_of_run, status_of_usage};
+ghost use Rattle.twkb_tool.specs.Status.{status_of_host, status_of_run, status_of_usage};
 
 use crate::judge::Verdict;
 use crate::run::RunFault;
 use crate::words::Usage;
+use thiserror::Error;
+
+/// What the host refused before a run.
+#[derive(Clone, Copy, Debug, PartialEq, Eq, Error)]
+pub enum HostFault {
+    /// The words can't be fetched.
+    #[error("cannot read words")]
+    Words,
+    /// The file can't be opened.
+    #[error("cannot open file")]
+    File,
+}
 
 /// The status of a run: 0 for yes, 1 for no, 3 where it stopped.
 pub fn status_of(outcome: &Result<Verdict, RunFault>) -> u8
@@ -22,7 +34,16 @@ pub fn usage_status(usage: &Usage) -> u8
     ensures { result ≡ status_of_usage usage.now }
 {
     match usage {
-        Usage::Words(_) => 2,
+        Usage::Words(_) | Usage::TooMany | Usage::Window { .. } => 2,
         Usage::Memory => 3,
+    }
+}
+
+/// The status of what the host refused: 3.
+pub fn host_status(fault: HostFault) -> u8
+    ensures { result ≡ status_of_host fault }
+{
+    match fault {
+        HostFault::Words | HostFault::File => 3,
     }
 }

@@ -1,10 +1,34 @@
 //! What words ask for.
 use crate::request::Request;
-use crate::status::usage_status;
+use crate::status::{HostFault, host_status, usage_status};
 use crate::words::{Usage, request_of};
 use clap::error::ErrorKind;
 use std::alloc::Global;
+use std::process::Abort;
 use std::test::Fail;
+use twkb_layer::{BadWindow, Span, Window};
+
+const UNIT: i128 = 10_000_000;
+
+const SQUARE: &str = "x=0..1,y=0..1";
+
+/// Words that ask to scan a file for 64 windows.
+fn sixty_four_windows() -> [&'static str; 67] {
+    let mut words = [SQUARE; 67];
+    words[0] = "twkb_tool";
+    words[1] = "scan";
+    words[2] = "a.twkb";
+    words
+}
+
+/// The same with one window more.
+fn sixty_five_windows() -> [&'static str; 68] {
+    let mut words = [SQUARE; 68];
+    words[0] = "twkb_tool";
+    words[1] = "scan";
+    words[2] = "a.twkb";
+    words
+}
 
 #[test]
 fn check_takes_a_file(rt: HostRuntime) -> Result<(), Fail> {
@@ -14,35 +38,279 @@ fn check_takes_a_file(rt: HostRuntime) -> Result<(), Fail> {
     Ok(())
 }
 
-/// For which kind of error words are refused.
+#[test]
+fn list_takes_a_file(rt: HostRuntime) -> Result<(), Fail> {
+    let line = request_of(rt.alloc(), &["twkb_tool", "list", "a.twkb"])?;
+    assert_eq!(rt; line.path.as_str(), "a.twkb");
+    assert!(rt; matches!(&line.request, Request::List));
+    Ok(())
+}
+
+/// Demands that words ask to scan `a.twkb` for these windows.
+fn assert_scans(
+    rt: &impl Abort,
+    alloc: Global,
+    words: &[&str],
+    wanted: &[Window],
+) -> Result<(), Fail> {
+    let line = request_of(alloc, words)?;
+    assert_eq!(rt; line.path.as_str(), "a.twkb");
+    match &line.request {
+        Request::Scan(windows) => assert_eq!(rt; windows.as_slice(), wanted),
+        _ => assert!(rt; false),
+    }
+    Ok(())
+}
+
+#[test]
+fn scan_takes_a_file_and_windows(rt: HostRuntime) -> Result<(), Fail> {
+    let small = "x=-0.5..0.0000001,y=1..1";
+    let tall = "x=0..1,y=0..1,z=-1..2,m=3..3";
+    let a = Window::new(
+        Span {
+            lo: -5_000_000,
+            hi: 1,
+        },
+        Span { lo: UNIT, hi: UNIT },
+    );
+    let unit = Span { lo: 0, hi: UNIT };
+    let b = Window::new(unit, unit)
+        .with_z(Span {
+            lo: -UNIT,
+            hi: 2 * UNIT,
+        })
+        .with_m(Span {
+            lo: 3 * UNIT,
+            hi: 3 * UNIT,
+        });
+    assert_scans(
+        &rt,
+        rt.alloc(),
+        &["twkb_tool", "scan", "a.twkb", small],
+        &[a],
+    )?;
+    assert_scans(
+        &rt,
+        rt.alloc(),
+        &["twkb_tool", "scan", "a.twkb", small, tall],
+        &[a, b],
+    )?;
+    assert_scans(
+        &rt,
+        rt.alloc(),
+        &["twkb_tool", "scan", "a.twkb", tall, small, tall],
+        &[b, a, b],
+    )?;
+    assert_scans(
+        &rt,
+        rt.alloc(),
+        &["twkb_tool", "scan", "--", "a.twkb", small],
+        &[a],
+    )
+}
+
+#[test]
+fn sixty_four_windows_are_taken(rt: HostRuntime) -> Result<(), Fail> {
+    let unit = Span { lo: 0, hi: UNIT };
+    assert_scans(
+        &rt,
+        rt.alloc(),
+        &sixty_four_windows(),
+        &[Window::new(unit, unit); 64],
+    )
+}
+
+/// Why words ask for nothing.
+fn usage_of(alloc: Global, words: &[&str]) -> Option<Usage> {
+    request_of(alloc, words).err()
+}
+
+/// The number and the reason of the window that words are refused for.
+fn bad_window(alloc: Global, words: &[&str]) -> Option<(usize, BadWindow)> {
+    match usage_of(alloc, words) {
+        Some(Usage::Window { number, why }) => Some((number, why)),
+        _ => None,
+    }
+}
+
+#[test]
+fn the_first_unreadable_window_is_named(rt: HostRuntime) {
+    let table = [
+        (["x=1..0,y=0..0", SQUARE, SQUARE], 1, BadWindow::Order),
+        (["x=1.,y=0..0", SQUARE, SQUARE], 1, BadWindow::Form),
+        ([SQUARE, "x=0..0,y=0.1..0", ""], 2, BadWindow::Order),
+        ([SQUARE, "", "x=1..0,y=0..0"], 2, BadWindow::Form),
+        (
+            [SQUARE, SQUARE, "x=0..1,y=0..1,m=0..1,z=0..1"],
+            3,
+            BadWindow::Form,
+        ),
+    ];
+    for ([a, b, c], number, why) in table {
+        let words = ["twkb_tool", "scan", "a.twkb", a, b, c];
+        assert_eq!(rt;
+            bad_window(rt.alloc(), &words),
+            Some((number, why)),
+            "{words:?}"
+        );
+    }
+}
+
+#[test]
+fn many_windows_are_counted_before_they_are_read(rt: HostRuntime) {
+    let mut words = sixty_five_windows();
+    assert!(rt; matches!(usage_of(rt.alloc(), &words), Some(Usage::TooMany)));
+    words[4] = "x=1..0,y=0..0";
+    assert!(rt; matches!(usage_of(rt.alloc(), &words), Some(Usage::TooMany)));
+}
+
+#[test]
+fn each_of_many_windows_is_read(rt: HostRuntime) {
+    let mut words = sixty_four_windows();
+    words[66] = "x";
+    assert_eq!(rt; bad_window(rt.alloc(), &words), Some((64, BadWindow::Form)));
+    words[4] = "x=1..0,y=0..0";
+    assert_eq!(rt; bad_window(rt.alloc(), &words), Some((2, BadWindow::Order)));
+}
+
+/// For which kind of error `clap` refuses words.
 fn kind_of(alloc: Global, words: &[&str]) -> Option<ErrorKind> {
-    match request_of(alloc, words) {
-        Err(Usage::Words(Some(error))) => Some(error.kind()),
+    match usage_of(alloc, words) {
+        Some(Usage::Words(Some(error))) => Some(error.kind()),
         _ => None,
     }
 }
 
 #[test]
 fn other_words_are_refused(rt: HostRuntime) {
-    let two_files = kind_of(rt.alloc(), &["twkb_tool", "check", "a.twkb", "b.twkb"]);
-    let option = kind_of(rt.alloc(), &["twkb_tool", "check", "--loud", "a.twkb"]);
-    let command = kind_of(rt.alloc(), &["twkb_tool", "sum", "a.twkb"]);
-    let no_file = kind_of(rt.alloc(), &["twkb_tool", "check"]);
-    let no_command = kind_of(rt.alloc(), &["twkb_tool"]);
-    let help = kind_of(rt.alloc(), &["twkb_tool", "--help"]);
-    assert!(rt; two_files == Some(ErrorKind::UnknownArgument));
-    assert!(rt; option == Some(ErrorKind::UnknownArgument));
-    assert!(rt; command == Some(ErrorKind::InvalidSubcommand));
-    assert!(rt; no_file == Some(ErrorKind::MissingRequiredArgument));
-    assert!(rt; no_command == Some(ErrorKind::MissingSubcommand));
-    assert!(rt; kind_of(rt.alloc(), &[]) == Some(ErrorKind::MissingSubcommand));
-    assert!(rt; help == Some(ErrorKind::DisplayHelp));
+    let table: [(&[&str], ErrorKind); 20] = [
+        (&[], ErrorKind::MissingSubcommand),
+        (&["twkb_tool"], ErrorKind::MissingSubcommand),
+        (
+            &["twkb_tool", "sum", "a.twkb"],
+            ErrorKind::InvalidSubcommand,
+        ),
+        (
+            &["twkb_tool", "Check", "a.twkb"],
+            ErrorKind::InvalidSubcommand,
+        ),
+        (&["twkb_tool", "check"], ErrorKind::MissingRequiredArgument),
+        (
+            &["twkb_tool", "check", "a.twkb", "b.twkb"],
+            ErrorKind::UnknownArgument,
+        ),
+        (
+            &["twkb_tool", "check", "--loud", "a.twkb"],
+            ErrorKind::UnknownArgument,
+        ),
+        (
+            &["twkb_tool", "check", "-a.twkb"],
+            ErrorKind::UnknownArgument,
+        ),
+        (&["twkb_tool", "list"], ErrorKind::MissingRequiredArgument),
+        (
+            &["twkb_tool", "list", "a.twkb", SQUARE],
+            ErrorKind::UnknownArgument,
+        ),
+        (&["twkb_tool", "scan"], ErrorKind::MissingRequiredArgument),
+        (
+            &["twkb_tool", "scan", "a.twkb"],
+            ErrorKind::MissingRequiredArgument,
+        ),
+        (
+            &["twkb_tool", "scan", SQUARE],
+            ErrorKind::MissingRequiredArgument,
+        ),
+        (
+            &["twkb_tool", "scan", "a.twkb", "-x=0..1,y=0..1"],
+            ErrorKind::UnknownArgument,
+        ),
+        (
+            &["twkb_tool", "scan", "a.twkb", SQUARE, "--x=0..1,y=0..1"],
+            ErrorKind::UnknownArgument,
+        ),
+        (&["twkb_tool", "--help"], ErrorKind::DisplayHelp),
+        (&["twkb_tool", "help", "scan"], ErrorKind::DisplayHelp),
+        (&["twkb_tool", "list", "-h"], ErrorKind::DisplayHelp),
+        (
+            &["twkb_tool", "scan", "a.twkb", "x=1..0,y=0..0", "--help"],
+            ErrorKind::DisplayHelp,
+        ),
+        (&["twkb_tool", "--version"], ErrorKind::UnknownArgument),
+    ];
+    for (words, kind) in table {
+        assert!(rt; kind_of(rt.alloc(), words) == Some(kind), "{words:?}");
+    }
+}
+
+#[test]
+fn a_path_may_be_any_word(rt: HostRuntime) -> Result<(), Fail> {
+    let table: [(&[&str], &str); 5] = [
+        (&["twkb_tool", "check", "--", "-a.twkb"], "-a.twkb"),
+        (&["twkb_tool", "check", "-"], "-"),
+        (&["twkb_tool", "check", "help"], "help"),
+        (&["twkb_tool", "list", "check"], "check"),
+        (&["", "list", "Küste 1.twkb"], "Küste 1.twkb"),
+    ];
+    for (words, path) in table {
+        assert_eq!(rt; request_of(rt.alloc(), words)?.path.as_str(), path);
+    }
+    Ok(())
 }
 
 #[test]
 fn usages_have_their_statuses(rt: HostRuntime) {
     let usage = request_of(rt.alloc(), &["twkb_tool", "check"]).err();
     assert!(rt; matches!(&usage, Some(usage) if usage_status(usage) == 2));
+    let window = Usage::Window {
+        number: 1,
+        why: BadWindow::Form,
+    };
     assert_eq!(rt; usage_status(&Usage::Words(None)), 2);
+    assert_eq!(rt; usage_status(&Usage::TooMany), 2);
+    assert_eq!(rt; usage_status(&window), 2);
     assert_eq!(rt; usage_status(&Usage::Memory), 3);
+    assert_eq!(rt; host_status(HostFault::Words), 3);
+    assert_eq!(rt; host_status(HostFault::File), 3);
+}
+
+/// Demands that a usage has this text.
+fn assert_says(rt: &impl Abort, alloc: Global, usage: &Usage, text: &str) -> Result<(), Fail> {
+    assert_eq!(rt; usage.to_string(alloc)?.as_str(), text);
+    Ok(())
+}
+
+#[test]
+fn usages_have_their_texts(rt: HostRuntime) -> Result<(), Fail> {
+    let form = Usage::Window {
+        number: 1,
+        why: BadWindow::Form,
+    };
+    let order = Usage::Window {
+        number: 64,
+        why: BadWindow::Order,
+    };
+    assert_says(&rt, rt.alloc(), &Usage::TooMany, "more than 64 windows")?;
+    assert_says(
+        &rt,
+        rt.alloc(),
+        &form,
+        "window 1: not of the form x=A..B,y=C..D[,z=E..F][,m=G..H]",
+    )?;
+    assert_says(
+        &rt,
+        rt.alloc(),
+        &order,
+        "window 64: lower bound above upper bound",
+    )?;
+    assert_says(&rt, rt.alloc(), &Usage::Memory, "out of memory")?;
+    assert_eq!(rt;
+        HostFault::Words.to_string(rt.alloc())?.as_str(),
+        "cannot read words"
+    );
+    assert_eq!(rt;
+        HostFault::File.to_string(rt.alloc())?.as_str(),
+        "cannot open file"
+    );
+    Ok(())
 }

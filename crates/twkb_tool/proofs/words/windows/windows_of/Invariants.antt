@@ -1,0 +1,9 @@
+use Rattle.std.proofs.Common.{◌≡◌, map, take, vec_len}
+use Rattle.twkb_tool.specs.Words.{AreWindows}
+use Rattle.twkb_tool.proofs.words.windows.windows_of.Given as goal
+
+abbrev pub invariant-loop-i : goal.invariant-loop-i
+invariant-loop-i l = record {
+  windows : AreWindows (take l.i (map (λ t. t.now) l.texts)) l.windows.items;
+  count : vec_len l.windows ≡ l.i;
+}
