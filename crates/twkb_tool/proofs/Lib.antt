@@ -1,4 +1,6 @@
-pub mod OutputLemmas
 pub mod StreamLemmas
 pub mod WindowLemmas
 pub mod WordLemmas
+pub mod ReadLemmas
+pub mod TextLemmas
+pub mod OutputLemmas

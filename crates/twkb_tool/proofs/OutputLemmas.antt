@@ -1,22 +1,31 @@
--- What a judgement says of the bytes of a file.
-use Rattle.std.proofs.Common.{◌≡◌, ℕ, List}
-use Rattle.twkb_layer.proofs.Refusals.{refused_none}
-use Rattle.twkb_tool.specs.Judgement.{IsJudgement, IsVerdict, verdict_of}
-use Rattle.twkb_tool.specs.Output.{IsOutput, text_of}
-use Rattle.twkb_tool.specs.declared.judge.Judgement.{Judgement}
-use Rattle.twkb_tool.specs.declared.judge.Judgement.TheVariants.{Certified, Refused}
+-- There is one output.
+use Rattle.std.proofs.Common.{◌≡◌, ◌∙◌, ℕ, List, Some, refl, sym, ap}
+use Rattle.twkb_layer.proofs.Layers.{layer_once}
+use Rattle.twkb_layer.proofs.Refusals.{refusal_once}
+use Rattle.twkb_tool.specs.Output.{IsOutput, IsLayerText, IsNoLine, word_of}
+use Rattle.twkb_tool.specs.declared.judge.Verdict.{Verdict}
+use Rattle.twkb_tool.specs.declared.judge.Verdict.TheVariants.{Yes, No}
 use Rattle.twkb_tool.specs.declared.request.Request.{Request}
 
-verdict_is : (bytes : List ℕ) (judgement : Judgement) → IsJudgement bytes judgement → IsVerdict bytes (verdict_of judgement)
-verdict_is bytes (Certified blobs vertices) right = (right.trees, right.layer)
-verdict_is bytes (Refused blob offset kind) right = λ trees layer. refused_none bytes blob offset kind trees right layer
+-- a layer has one text
+one_layer_text : (request : Request) (bytes text other : List ℕ) → IsLayerText request bytes text → IsLayerText request bytes other → text ≡ other
+one_layer_text request bytes text other a b =
+    let same = layer_once a.trees b.trees bytes a.layer.layer b.layer.layer in
+    rw (a.text_is, b.text_is, same) refl
 
--- the text of a right judgement, and its verdict, are the output
-pub judged_output : (request : Request) (bytes text : List ℕ) (judgement : Judgement) → IsJudgement bytes judgement → text ≡ text_of request judgement
-    → IsOutput request bytes text (verdict_of judgement)
-judged_output request bytes text judgement right is = record {
-  judgement = judgement;
-  right = right;
-  text_is = is;
-  verdict_is = verdict_is bytes judgement right;
-}
+one_word : (kind cause : ℕ) (word other : List ℕ) → kind ≡ cause → word_of kind ≡ Some word → word_of cause ≡ Some other → word ≡ other
+one_word kind cause word other same a b = let e : Some word ≡ Some other = sym a ∙ (ap word_of same ∙ b) in cc (e)
+
+-- what is refused has one line
+one_no_line : (bytes text other : List ℕ) → IsNoLine bytes text → IsNoLine bytes other → text ≡ other
+one_no_line bytes text other a b =
+    let same = refusal_once bytes a.blob a.offset a.kind b.blob b.offset b.kind a.refused b.refused in
+    let word = one_word a.kind b.kind a.word b.word same.2 a.named b.named in
+    rw (a.text_is, b.text_is, same.0, same.1, word) refl
+
+pub one_output : (request : Request) (bytes text other : List ℕ) (verdict decision : Verdict) → IsOutput request bytes text verdict → IsOutput request bytes other decision
+    → (text ≡ other) × (verdict ≡ decision)
+one_output request bytes text other Yes Yes a b = (one_layer_text request bytes text other a b, refl)
+one_output request bytes text other Yes No a b = absurd (b.none a.trees a.layer)
+one_output request bytes text other No Yes a b = absurd (a.none b.trees b.layer)
+one_output request bytes text other No No a b = (one_no_line bytes text other a b, refl)

@@ -1,25 +1,13 @@
 //! The judgement of a file.
-ghost use Rattle.std.specs.Prelude.{◌≡◌, IfOk};
-ghost use Rattle.twkb_tool.specs.Judgement.{IsJudgement, IsNamed, verdict_of};
+ghost use Rattle.std.specs.Prelude.{◌≤◌, length, IfOk};
+ghost use Rattle.twkb_tool.specs.Output.{IsOutput};
+ghost use Rattle.twkb_tool.specs.Words.{HoldsWindows};
 
+use crate::request::Request;
+use crate::run::MAX_FILE;
+use crate::text::{push_layer_text, push_no_line};
 use std::alloc::{AllocError, Allocator};
 use twkb_layer::{Cursor, Refusal, certify_in};
-
-/// What the bytes of a file are.
-#[derive(Clone, Copy, Debug, PartialEq, Eq)]
-pub enum Judgement {
-    /// A certified layer, with its numbers of blobs and of vertices.
-    Certified {
-        blobs: usize,
-        vertices: usize,
-    },
-    /// None: the first blob that is malformed or has a false claim, an offset in the file, and the number of its kind.
-    Refused {
-        blob: usize,
-        offset: usize,
-        kind: u8,
-    },
-}
 
 /// The answer to the question whether a file is a certified layer.
 #[derive(Clone, Copy, Debug, PartialEq, Eq)]
@@ -28,29 +16,26 @@ pub enum Verdict {
     No,
 }
 
-impl Judgement {
-    /// Yes for a certified layer.
-    pub fn verdict(&self) -> Verdict
-        ensures { result ≡ verdict_of self.now }
-    {
-        match self {
-            Judgement::Certified { .. } => Verdict::Yes,
-            Judgement::Refused { .. } => Verdict::No,
-        }
-    }
-}
-
-/// Judges the bytes of a file.
-pub fn judge<A: Allocator>(alloc: &A, bytes: &[u8]) -> Result<Judgement, AllocError>
-    ensures right { IfOk result (IsJudgement bytes.now) }
-    ensures named { IfOk result IsNamed }
+/// Judges the bytes of a file: the text for them, and the verdict.
+pub fn answer<'a, A: Allocator>(
+    alloc: &'a A,
+    request: &Request,
+    bytes: &[u8],
+) -> Result<(Vec<u8, &'a A>, Verdict), AllocError>
+    requires windows { HoldsWindows request.now }
+    requires small { length bytes.now ≤ MAX_FILE }
+    ensures { IfOk result (λ answer. IsOutput request.now bytes.now answer.0.items answer.1) }
 {
+    let mut text = Vec::new(alloc);
     match certify_in(alloc, Cursor::new(bytes)) {
-        Ok(layer) => Ok(Judgement::Certified {
-            blobs: layer.blobs(),
-            vertices: layer.vertices(),
-        }),
-        Err(Refusal::No { blob, offset, kind }) => Ok(Judgement::Refused { blob, offset, kind }),
+        Ok(mut layer) => {
+            push_layer_text(alloc, &mut text, request, &mut layer)?;
+            Ok((text, Verdict::Yes))
+        }
+        Err(Refusal::No { blob, offset, kind }) => {
+            push_no_line(&mut text, blob, offset, kind)?;
+            Ok((text, Verdict::No))
+        }
         Err(Refusal::Memory) => Err(AllocError),
     }
 }

@@ -8,8 +8,10 @@
 
 ghost use Rattle.std.specs.Prelude.{◌≡◌};
 ghost use Rattle.twkb_tool.specs.Status.{status_of_host, status_of_usage};
+ghost use Rattle.twkb_tool.specs.Words.{HoldsWindows};
 
 pub mod judge;
+pub mod laws;
 pub mod request;
 pub mod run;
 pub mod status;

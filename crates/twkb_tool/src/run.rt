@@ -1,13 +1,13 @@
 //! A whole run, from the bytes that come in to the text that goes out.
-ghost use Rattle.std.specs.Prelude.{◌≡◌, ℕ, ◌+◌, ◌<◌, ◌≤◌, List, [], ◌++◌, length, false, IfOk, IfErr, OnOk, IsTrue, vec_len};
+ghost use Rattle.std.specs.Prelude.{◌≡◌, ℕ, ◌+◌, ◌<◌, ◌≤◌, List, [], ◌++◌, length, take, false, IfOk, IfErr, OnOk, IsTrue, vec_len};
 ghost use Rattle.twkb_tool.specs.Output.{IsOutput};
 ghost use Rattle.twkb_tool.specs.Ran.{GivesAll, StopsPiece, StopsReading, PutsAll, StopsWriting, Ran};
 ghost use Rattle.twkb_tool.specs.Streams.{Gives};
+ghost use Rattle.twkb_tool.specs.Words.{HoldsWindows};
 
-use crate::judge::{Verdict, judge};
+use crate::judge::{Verdict, answer};
 use crate::request::Request;
 use crate::streams::{Sink, SinkFailed, Source, SourceFailed};
-use crate::text::text_of;
 use std::alloc::{AllocError, Allocator, Global};
 use thiserror::Error;
 
@@ -43,6 +43,7 @@ pub fn run<S: Source, K: Sink>(
     limit: usize,
 ) -> Result<Verdict, RunFault>
     requires limit { limit ≤ MAX_FILE }
+    requires windows { HoldsWindows request.now }
     requires source { (S.state source.old).failed ≡ false }
     requires sink { (K.state sink.old).failed ≡ false }
     ensures { Ran request.now limit (S.state source.old) (S.state source.new) (K.state sink.old) (K.state sink.new) result }
@@ -59,6 +60,7 @@ pub fn run_in<A: Allocator, S: Source, K: Sink>(
     limit: usize,
 ) -> Result<Verdict, RunFault>
     requires limit { limit ≤ MAX_FILE }
+    requires windows { HoldsWindows request.now }
     requires source { (S.state source.old).failed ≡ false }
     requires sink { (K.state sink.old).failed ≡ false }
     ensures { Ran request.now limit (S.state source.old) (S.state source.new) (K.state sink.old) (K.state sink.new) result }
@@ -72,19 +74,6 @@ pub fn run_in<A: Allocator, S: Source, K: Sink>(
     Ok(verdict)
 }
 
-/// The text for the bytes of a file, and the verdict.
-fn answer<'a, A: Allocator>(
-    alloc: &'a A,
-    request: &Request,
-    bytes: &[u8],
-) -> Result<(Vec<u8, &'a A>, Verdict), AllocError>
-    ensures { IfOk result (λ answer. IsOutput request.now bytes.now answer.0.items answer.1) }
-{
-    let judgement = judge(alloc, bytes)?;
-    let text = text_of(alloc, request, &judgement)?;
-    Ok((text, judgement.verdict()))
-}
-
 /// Reads to the end of the source, or one byte past the limit.
 fn read_all<A: Allocator, S: Source>(
     alloc: A,
@@ -96,45 +85,65 @@ fn read_all<A: Allocator, S: Source>(
     ensures ok { IfOk result (λ bytes. GivesAll limit (S.state source.old) (S.state source.new) bytes.items) }
     ensures err { IfErr result (λ fault. StopsReading limit fault (S.state source.old) (S.state source.new)) }
 {
-    let mut room = [0; ROOM];
     let mut bytes = Vec::new(alloc);
+    let mut held = 0;
     // The proof knows from here that the count so far fits.
     let _moved = source.moved();
-    while bytes.len() <= limit {
-        if take_piece(source, &mut room, &mut bytes, limit)? == 0 {
+    while held <= limit {
+        let n = take_piece(source, &mut bytes, held, limit + 1)?;
+        if n == 0 {
+            bytes.truncate(held);
             return Ok(bytes);
         }
+        held += n;
     }
     Err(RunFault::TooLarge)
 }
 
-/// Takes the next bytes, by way of `room`: how many there were. The bytes grow before the source is asked.
+/// Takes the next bytes, behind the `held` ones: how many there were. The buffer grows before the source is asked.
 fn take_piece<A: Allocator, S: Source>(
     source: &mut S,
-    room: &mut [u8],
     bytes: &mut Vec<u8, A>,
-    limit: usize,
+    held: usize,
+    most: usize,
 ) -> Result<usize, RunFault>
-    requires room { 0 < length room.old }
-    requires small { vec_len bytes.old ≤ limit }
-    requires limit { limit ≤ MAX_FILE }
+    requires held { held ≤ vec_len bytes.old }
+    requires more { held < most }
+    requires within { vec_len bytes.old ≤ most }
+    requires small { most ≤ MAX_FILE + 1 }
     ensures piece { IfOk result (λ n. (given : List ℕ) × Gives (S.state source.old) (S.state source.new) given
-        × (length given ≡ n) × (bytes.new.items ≡ bytes.old.items ++ given)) }
+        × (length given ≡ n) × (take (held + n) bytes.new.items ≡ take held bytes.old.items ++ given)) }
     ensures end { result ≡ Ok 0 → IsTrue (S.state source.old).tells → (S.state source.new).rest ≡ [] }
     ensures fine { OnOk result ((S.state source.new).failed ≡ false) }
-    ensures within { OnOk result (vec_len bytes.new ≤ limit + 1) }
+    ensures room { IfOk result (λ n. held + n ≤ vec_len bytes.new) }
+    ensures within { OnOk result (vec_len bytes.new ≤ most) }
     ensures err { IfErr result (λ fault. StopsPiece fault (S.state source.old) (S.state source.new)) }
 {
-    let want = room.len().min(limit + 1 - bytes.len());
-    if bytes.try_reserve(want).is_err() {
-        return Err(RunFault::Memory);
-    }
-    match source.take(&mut room[..want]) {
-        Ok(n) => {
-            bytes.extend_from_slice(&room[..n]).unwrap();
-            Ok(n)
-        }
+    grow(bytes, held, most)?;
+    match source.take(&mut bytes.as_mut_slice()[held..]) {
+        Ok(n) => Ok(n),
         Err(SourceFailed) => Err(RunFault::Read),
+    }
+}
+
+/// Grows the buffer, where all its bytes are held, by room for more, up to the most that it may have.
+fn grow<A: Allocator>(bytes: &mut Vec<u8, A>, held: usize, most: usize) -> Result<(), RunFault>
+    requires held { held ≤ vec_len bytes.old }
+    requires more { held < most }
+    requires within { vec_len bytes.old ≤ most }
+    requires small { most ≤ MAX_FILE + 1 }
+    ensures kept { OnOk result (take held bytes.new.items ≡ take held bytes.old.items) }
+    ensures more { OnOk result (held < vec_len bytes.new) }
+    ensures within { OnOk result (vec_len bytes.new ≤ most) }
+    ensures err { IfErr result (λ fault. fault ≡ RunFault.Memory) }
+{
+    let len = bytes.len();
+    if held < len {
+        return Ok(());
+    }
+    match bytes.resize(len + ROOM.min(most - len), 0) {
+        Ok(()) => Ok(()),
+        Err(AllocError) => Err(RunFault::Memory),
     }
 }
 

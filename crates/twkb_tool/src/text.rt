@@ -1,95 +1,172 @@
-//! The text that is printed.
-ghost use Rattle.std.specs.Prelude.{◌≡◌, ◌≤◌, ◌++◌, decimal, IfOk, OnOk};
-ghost use Rattle.twkb_tool.specs.Judgement.{IsNamed};
-ghost use Rattle.twkb_tool.specs.Output.{ok_line, no_line, word_of, text_of};
+//! The text that is printed for a certified layer.
+ghost use Rattle.std.specs.Prelude.{◌≡◌, ◌+◌, ◌-◌, ◌*◌, ◌^◌, ◌<◌, ◌≤◌, ◌++◌, List, length, flat_map, IfOk, OnOk, vec_len};
+ghost use Rattle.twkb_body.specs.Geometry.{Geometry};
+ghost use Rattle.twkb_layer.specs.Directory.{IsDirectoryOf, directory_cost};
+ghost use Rattle.twkb_layer.specs.Hits.{cost};
+ghost use Rattle.twkb_layer.specs.Layer.{IsCertifiedLayer, AddsAtMost};
+ghost use Rattle.twkb_layer.specs.Rows.{rows};
+ghost use Rattle.twkb_tool.specs.Output.{row_line, hit_line, end_line, window_text, scan_text, layer_text};
+ghost use Rattle.twkb_tool.specs.Words.{HoldsWindows};
 
-use crate::judge::Judgement;
+mod lines;
+
 use crate::request::Request;
-use itoa::Buffer;
+use crate::run::MAX_FILE;
+pub use lines::push_no_line;
+use lines::{push_end_line, push_hit_line, push_ok_line, push_row_line};
 use std::alloc::{AllocError, Allocator};
+use twkb_layer::{Certified, Directory, Hit, Row, Window};
 
-/// The text for a judgement.
-pub fn text_of<A: Allocator>(
-    alloc: A,
+/// Pushes the text for a certified layer.
+pub fn push_layer_text<'a, A: Allocator>(
+    alloc: &'a A,
+    out: &mut Vec<u8, &'a A>,
     request: &Request,
-    judgement: &Judgement,
-) -> Result<Vec<u8, A>, AllocError>
-    requires { IsNamed judgement.now }
-    ensures { IfOk result (λ text. text.items ≡ text_of request.now judgement.now) }
-{
-    let mut out = Vec::new(alloc);
-    match (request, judgement) {
-        (Request::Check, Judgement::Certified { blobs, vertices }) => {
-            push_ok_line(&mut out, *blobs, *vertices)?;
-        }
-        (Request::Check, Judgement::Refused { blob, offset, kind }) => {
-            push_no_line(&mut out, *blob, *offset, *kind)?;
-        }
-    }
-    Ok(out)
-}
-
-#[tactic(auto, unfolding(crate::specs::Output::ok_line))]
-fn push_ok_line<A: Allocator>(
-    out: &mut Vec<u8, A>,
-    blobs: usize,
-    vertices: usize,
+    layer: &mut Certified,
 ) -> Result<(), AllocError>
-    ensures { OnOk result (out.new.items ≡ out.old.items ++ ok_line blobs vertices) }
+    requires windows { HoldsWindows request.now }
+    requires small { length layer.old.bytes ≤ MAX_FILE }
+    requires read { layer.old.count ≤ MAX_FILE }
+    ensures { (trees : List Geometry) → IsCertifiedLayer trees layer.old.bytes → OnOk result (out.new.items ≡ out.old.items ++ layer_text request.now trees (length layer.old.bytes)) }
 {
-    push_text(out, "ok blobs=")?;
-    push_number(out, blobs)?;
-    push_text(out, " vertices=")?;
-    push_number(out, vertices)?;
-    push_text(out, "\n")
-}
-
-#[tactic(auto, unfolding(crate::specs::Output::no_line))]
-fn push_no_line<A: Allocator>(
-    out: &mut Vec<u8, A>,
-    blob: usize,
-    offset: usize,
-    kind: u8,
-) -> Result<(), AllocError>
-    requires { (1 ≤ kind) × (kind ≤ 8) }
-    ensures { OnOk result (out.new.items ≡ out.old.items ++ no_line blob offset kind) }
-{
-    push_text(out, "no blob=")?;
-    push_number(out, blob)?;
-    push_text(out, " offset=")?;
-    push_number(out, offset)?;
-    push_text(out, " kind=")?;
-    push_text(out, word_of(kind))?;
-    push_text(out, "\n")
-}
-
-/// The word for a kind of refusal.
-#[tactic(auto, unfolding(crate::specs::Output::word_of))]
-fn word_of(kind: u8) -> &'static str
-    requires { (1 ≤ kind) × (kind ≤ 8) }
-    ensures { result.now ≡ word_of kind }
-{
-    match kind {
-        1 => "cut",
-        2 => "varint",
-        3 => "type",
-        4 => "depth",
-        5 => "range",
-        6 => "size",
-        7 => "box",
-        _ => "ids",
+    match request {
+        Request::Check => push_ok_line(out, layer.blobs(), layer.vertices()),
+        Request::List => push_list(alloc, out, layer),
+        Request::Scan(windows) => push_scan(alloc, out, windows.as_slice(), layer),
     }
 }
 
-fn push_text<A: Allocator>(out: &mut Vec<u8, A>, piece: &str) -> Result<(), AllocError>
-    ensures { OnOk result (out.new.items ≡ out.old.items ++ piece.now) }
+// ---- a list
+
+/// A row for each blob.
+fn push_list<'a, A: Allocator>(
+    alloc: &'a A,
+    out: &mut Vec<u8, &'a A>,
+    layer: &mut Certified,
+) -> Result<(), AllocError>
+    ensures { (trees : List Geometry) → IsCertifiedLayer trees layer.old.bytes → OnOk result (out.new.items ≡ out.old.items ++ flat_map row_line (rows trees)) }
 {
-    out.extend_from_slice(piece.as_bytes())
+    let rows = layer.list_in(alloc)?;
+    push_rows(out, rows.as_slice())
 }
 
-fn push_number<A: Allocator>(out: &mut Vec<u8, A>, n: usize) -> Result<(), AllocError>
-    ensures { OnOk result (out.new.items ≡ out.old.items ++ decimal n) }
+fn push_rows<A: Allocator>(out: &mut Vec<u8, A>, rows: &[Row]) -> Result<(), AllocError>
+    ensures { OnOk result (out.new.items ≡ out.old.items ++ flat_map row_line rows.now) }
 {
-    let mut buffer = Buffer::new();
-    push_text(out, buffer.format(n))
+    for row in rows {
+        push_row_line(out, *row)?;
+    }
+    Ok(())
+}
+
+// ---- scans
+
+/// The hits of each window. One window is looked for blob after blob, more of them with a directory.
+fn push_scan<'a, A: Allocator>(
+    alloc: &'a A,
+    out: &mut Vec<u8, &'a A>,
+    windows: &[Window],
+    layer: &mut Certified,
+) -> Result<(), AllocError>
+    requires few { length windows.now ≤ 64 }
+    requires small { length layer.old.bytes ≤ MAX_FILE }
+    requires read { layer.old.count ≤ MAX_FILE }
+    ensures { (trees : List Geometry) → IsCertifiedLayer trees layer.old.bytes → OnOk result (out.new.items ≡ out.old.items ++ scan_text windows.now trees (length layer.old.bytes)) }
+{
+    let mut room = room_for(alloc, layer.blobs())?;
+    if let [window] = windows {
+        return push_window(out, layer, window, room.as_mut_slice());
+    }
+    let directory = Directory::build_in(alloc, layer)?;
+    push_windows(out, layer, &directory, windows, room.as_mut_slice())
+}
+
+/// Room for the hits of so many blobs.
+fn room_for<A: Allocator>(alloc: A, blobs: usize) -> Result<Vec<Hit, A>, AllocError>
+    ensures { IfOk result (λ room. vec_len room ≡ blobs) }
+{
+    let mut room = Vec::new(alloc);
+    room.resize(blobs, Hit { blob: 0, offset: 0 })?;
+    Ok(room)
+}
+
+/// What a scan for one window found and read.
+fn push_window<A: Allocator>(
+    out: &mut Vec<u8, A>,
+    layer: &mut Certified,
+    window: &Window,
+    room: &mut [Hit],
+) -> Result<(), AllocError>
+    requires room { (trees : List Geometry) × IsCertifiedLayer trees layer.old.bytes × (length trees ≤ length room.old) }
+    requires read { layer.old.count + length layer.old.bytes < 2 ^ 64 - 1 }
+    ensures { (trees : List Geometry) → IsCertifiedLayer trees layer.old.bytes → OnOk result (out.new.items ≡ out.old.items ++ window_text cost trees (length layer.old.bytes) window.now) }
+{
+    let before = layer.read_count();
+    let found = layer.scan(window, room);
+    let read = layer.read_count() - before;
+    push_found(out, &room[..found], read, layer.len())
+}
+
+/// The same for each window, with a directory.
+fn push_windows<A: Allocator, D: Allocator>(
+    out: &mut Vec<u8, A>,
+    layer: &mut Certified,
+    directory: &Directory<D>,
+    windows: &[Window],
+    room: &mut [Hit],
+) -> Result<(), AllocError>
+    requires directory { IsDirectoryOf directory.now layer.old.bytes }
+    requires room { (trees : List Geometry) × IsCertifiedLayer trees layer.old.bytes × (length trees ≤ length room.old) }
+    requires few { length windows.now ≤ 64 }
+    requires small { length layer.old.bytes ≤ MAX_FILE }
+    requires read { layer.old.count ≤ 3 * MAX_FILE }
+    ensures { (trees : List Geometry) → IsCertifiedLayer trees layer.old.bytes → OnOk result (out.new.items ≡ out.old.items ++ flat_map (window_text directory_cost trees (length layer.old.bytes)) windows.now) }
+{
+    for window in windows {
+        push_window_at(out, layer, directory, window, room)?;
+    }
+    Ok(())
+}
+
+/// The same for one window.
+fn push_window_at<A: Allocator, D: Allocator>(
+    out: &mut Vec<u8, A>,
+    layer: &mut Certified,
+    directory: &Directory<D>,
+    window: &Window,
+    room: &mut [Hit],
+) -> Result<(), AllocError>
+    requires directory { IsDirectoryOf directory.now layer.old.bytes }
+    requires room { (trees : List Geometry) × IsCertifiedLayer trees layer.old.bytes × (length trees ≤ length room.old) }
+    requires read { layer.old.count + length layer.old.bytes < 2 ^ 64 - 1 }
+    ensures text { (trees : List Geometry) → IsCertifiedLayer trees layer.old.bytes → OnOk result (out.new.items ≡ out.old.items ++ window_text directory_cost trees (length layer.old.bytes) window.now) }
+    ensures bytes { layer.new.bytes ≡ layer.old.bytes }
+    ensures few { AddsAtMost (length layer.old.bytes) layer.old.count layer.new.count }
+{
+    let before = layer.read_count();
+    let found = directory.scan(layer, window, room);
+    let read = layer.read_count() - before;
+    push_found(out, &room[..found], read, layer.len())
+}
+
+/// The lines of the hits, and how many there are, how many bytes were read for them and how many there are in all.
+fn push_found<A: Allocator>(
+    out: &mut Vec<u8, A>,
+    hits: &[Hit],
+    read: u64,
+    len: usize,
+) -> Result<(), AllocError>
+    ensures { OnOk result (out.new.items ≡ out.old.items ++ (flat_map hit_line hits.now ++ end_line (length hits.now) read len)) }
+{
+    push_hits(out, hits)?;
+    push_end_line(out, hits.len(), read, len)
+}
+
+fn push_hits<A: Allocator>(out: &mut Vec<u8, A>, hits: &[Hit]) -> Result<(), AllocError>
+    ensures { OnOk result (out.new.items ≡ out.old.items ++ flat_map hit_line hits.now) }
+{
+    for hit in hits {
+        push_hit_line(out, hit)?;
+    }
+    Ok(())
 }

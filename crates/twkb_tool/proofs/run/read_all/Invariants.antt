@@ -1,13 +1,14 @@
-use Rattle.std.proofs.Common.{◌≡◌, false, ◌-◌, ◌+◌, ◌≤◌, vec_len}
+use Rattle.std.proofs.Common.{◌≡◌, false, take, ◌-◌, ◌+◌, ◌≤◌, vec_len}
 use Rattle.twkb_tool.specs.Streams.{Gives}
 use Rattle.twkb_tool.proofs.run.read_all.Given as goal
 
-abbrev pub invariant-loop-room : goal.invariant-loop-room
-invariant-loop-room g l = record {
+abbrev pub invariant-loop-held : goal.invariant-loop-held
+invariant-loop-held g l = record {
+  held : l.held ≤ vec_len l.bytes;
   within : vec_len l.bytes ≤ l.limit + 1;
-  gives : Gives (g.S.Source.state l.initial.source) (g.S.Source.state l.source) l.bytes.items;
+  gives : Gives (g.S.Source.state l.initial.source) (g.S.Source.state l.source) (take l.held l.bytes.items);
   fine : (g.S.Source.state l.source).failed ≡ false;
 }
 
-abbrev pub decreases-loop-room : goal.decreases-loop-room
-decreases-loop-room g l = l.limit + 1 - vec_len l.bytes
+abbrev pub decreases-loop-held : goal.decreases-loop-held
+decreases-loop-held g l = l.limit + 1 - l.held

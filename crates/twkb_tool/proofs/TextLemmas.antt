@@ -1,0 +1,69 @@
+-- The lines of a window, of what a scan answered.
+use Rattle.std.proofs.Common.{◌≡◌, ◌∙◌, ℕ, ℤ, ◌+◌, ◌-◌, ◌^◌, ◌<◌, ◌≤◌, Bool, true, false, cond, List, [], ◌∷◌, ◌++◌, length, take, drop, flat_map, min, sum_by, codes, decimal, refl, ap, arith, append_assoc, length-append}
+use Rattle.std.proofs.lemmas.List.{take_all, take_at}
+use Rattle.std.specs.List.{list_any}
+use Rattle.twkb_head.specs.declared.boxes.Bounds.{Bounds}
+use Rattle.twkb_body.specs.Geometry.{Geometry, vertices}
+use Rattle.twkb_layer.specs.Hits.{hits, filled}
+use Rattle.twkb_layer.specs.Layer.{IsCertifiedLayer, AddsAtMost, size_of}
+use Rattle.twkb_layer.specs.Window.{is_inside}
+use Rattle.twkb_layer.specs.declared.hits.Hit.{Hit}
+use Rattle.twkb_layer.proofs.Layers.{layer_once}
+use Rattle.twkb_layer.proofs.Scanning.{hits_from}
+use Rattle.twkb_layer.specs.declared.row.Row.{Row}
+use Rattle.std.specs.Fmt.{signed_decimal}
+use Rattle.twkb_tool.specs.Output.{name_of, yes_no, row_line, hit_line, end_line, window_text}
+
+one_or_none : (b : Bool) (hit : Hit) → length (cond b (hit ∷ []) []) ≤ 1
+one_or_none true hit = omega arith
+one_or_none false hit = omega arith
+
+-- no more hits than blobs
+few_hits : (blob offset : ℕ) (trees : List Geometry) (w : Bounds) → length (hits_from blob offset trees w) ≤ length trees
+few_hits blob offset [] w = omega arith
+few_hits blob offset (t ∷ ts) w =
+    let hit : Hit = record { blob = blob; offset = offset } in
+    let first : List Hit = cond (list_any (is_inside w) (vertices t)) (hit ∷ []) [] in
+    omega (arith, one_or_none (list_any (is_inside w) (vertices t)) hit, few_hits (blob + 1) (offset + size_of t) ts w, length-append first (hits_from (blob + 1) (offset + size_of t) ts w))
+
+-- a room with a place for each holds them all in front
+all_in_front : (found room : List Hit) → length found ≤ length room → take (length found) (filled found room) ≡ found
+all_in_front found room h = take_at (take (length room) found) (drop (length found) room) (length found) (ap length (take_all (length room) found h)) ∙ take_all (length room) found h
+
+-- a room with a place for each blob of a layer has one for each blob
+enough_for : (places : ℕ) (bytes : List ℕ) (trees : List Geometry) → (given : List Geometry) × IsCertifiedLayer given bytes × (length given ≤ places) → IsCertifiedLayer trees bytes → length trees ≤ places
+enough_for places bytes trees (given, whole, enough) layer = omega (arith, enough, ap length (layer_once trees given bytes layer.layer whole.layer))
+
+pub found_fits_room : (bytes : List ℕ) (w : Bounds) (room0 room : List Hit) (found : ℕ) → (given : List Geometry) × IsCertifiedLayer given bytes × (length given ≤ length room0)
+    → ((trees : List Geometry) → IsCertifiedLayer trees bytes → found ≡ length (hits trees w)) → length room ≡ length room0 → found ≤ length room
+found_fits_room bytes w room0 room found (given, whole, enough) answer same = omega (arith, answer given whole, few_hits 0 0 given w, enough, same)
+
+-- how much a count grew, where it was far from its greatest value
+pub grew : (before after len read : ℕ) → AddsAtMost len before after → before + len < 2 ^ 64 - 1 → after ≡ min (before + read) (2 ^ 64 - 1) → after - before ≡ read
+grew before after len read few small is = omega (arith, few.few, few.is, small, is)
+
+-- what was found and read makes the lines of the window
+pub window_lines : (reads : Bounds → Geometry → ℕ) (w : Bounds) (trees : List Geometry) (bytes : List ℕ) (room0 room : List Hit) (found read len : ℕ)
+    → (given : List Geometry) × IsCertifiedLayer given bytes × (length given ≤ length room0) → IsCertifiedLayer trees bytes
+    → found ≡ length (hits trees w) → room ≡ filled (hits trees w) room0 → read ≡ sum_by (reads w) trees → len ≡ length bytes
+    → (flat_map hit_line (take found room) ++ end_line (length (take found room)) read len) ≡ window_text reads trees (length bytes) w
+window_lines reads w trees bytes room0 room found read len given layer answer filled_is read_is len_is =
+    let enough : length (hits trees w) ≤ length room0 = omega (arith, few_hits 0 0 trees w, enough_for (length room0) bytes trees given layer) in
+    let front : take found room ≡ hits trees w = rw (answer, filled_is) (all_in_front (hits trees w) room0 enough) in
+    rw (front, read_is, len_is) refl
+
+-- eight names and their values, one behind another
+joined : (out n1 v1 n2 v2 n3 v3 n4 v4 n5 v5 n6 v6 n7 v7 n8 v8 last : List ℕ)
+    → ((((((((out ++ (n1 ++ v1)) ++ (n2 ++ v2)) ++ (n3 ++ v3)) ++ (n4 ++ v4)) ++ (n5 ++ v5)) ++ (n6 ++ v6)) ++ (n7 ++ v7)) ++ (n8 ++ v8)) ++ last ≡ out ++ (n1 ++ v1 ++ n2 ++ v2 ++ n3 ++ v3 ++ n4 ++ v4 ++ n5 ++ v5 ++ n6 ++ v6 ++ n7 ++ v7 ++ n8 ++ v8 ++ last)
+joined out n1 v1 n2 v2 n3 v3 n4 v4 n5 v5 n6 v6 n7 v7 n8 v8 last = simp append_assoc refl
+
+-- a row's pieces, one behind another, make its line
+pub row_made : (row : Row) (out a b c d e f g h kind sized boxed : List ℕ) (precision : ℤ) → precision ≡ row.precision → kind ≡ name_of row.kind → sized ≡ yes_no row.has_size → boxed ≡ yes_no row.has_box
+    → a ≡ out ++ (codes "blob=" ++ decimal row.blob) → b ≡ a ++ (codes " offset=" ++ decimal row.offset) → c ≡ b ++ (codes " bytes=" ++ decimal row.bytes)
+    → d ≡ c ++ (codes " type=" ++ kind) → e ≡ d ++ (codes " precision=" ++ signed_decimal precision) → f ≡ e ++ (codes " vertices=" ++ decimal row.vertices)
+    → g ≡ f ++ (codes " size=" ++ sized) → h ≡ g ++ (codes " box=" ++ boxed) → h ++ codes "\n" ≡ out ++ row_line row
+unfolding row_line
+row_made row out a b c d e f g h kind sized boxed precision p k s x ea eb ec ed ee ef eg eh =
+    rw (eh, eg, ef, ee, ed, ec, eb, ea, p, k, s, x)
+    (joined out (codes "blob=") (decimal row.blob) (codes " offset=") (decimal row.offset) (codes " bytes=") (decimal row.bytes) (codes " type=") (name_of row.kind)
+    (codes " precision=") (signed_decimal row.precision) (codes " vertices=") (decimal row.vertices) (codes " size=") (yes_no row.has_size) (codes " box=") (yes_no row.has_box) (codes "\n"))

@@ -1,0 +1,16 @@
+use Rattle.std.proofs.Common.{◌≡◌, ◌+◌, ◌*◌, ◌≤◌, ◌++◌, List, length, take, flat_map}
+use Rattle.twkb_body.specs.Geometry.{Geometry}
+use Rattle.twkb_layer.specs.Directory.{directory_cost}
+use Rattle.twkb_layer.specs.Layer.{IsCertifiedLayer}
+use Rattle.twkb_tool.specs.Output.{window_text}
+use Rattle.twkb_tool.specs.declared.run.TheConstants.{MAX_FILE}
+use Rattle.twkb_tool.proofs.text.push_windows.Given as goal
+
+-- the windows so far have their lines, and no scan has read more than all bytes
+abbrev pub invariant-loop-window : goal.invariant-loop-window
+invariant-loop-window g l = record {
+  bytes : l.layer.bytes ≡ l.initial.layer.bytes;
+  read : l.layer.count ≤ (3 + l.window-index) * MAX_FILE;
+  text : (trees : List Geometry) → IsCertifiedLayer trees l.layer.bytes
+      → l.out.items ≡ l.initial.out.items ++ flat_map (window_text directory_cost trees (length l.layer.bytes)) (take l.window-index l.windows);
+}
