@@ -1,15 +1,26 @@
-"""A plain checker of TWKB layers by the rules of docs/FORMAT.md, to compare the program with.
+"""A plain second program, by the rules of docs/FORMAT.md, to compare the program with.
 
-`answer(bytes)` is the line that `check` has to print. It is short rather than fast: a geometry is read into a tree, and
-its claims are listed and judged afterwards.
+`check(bytes)`, `rows(bytes)` and `scan(bytes, windows)` are the lines that `check`, `list` and `scan` have to print. It is
+short rather than fast: a geometry is read into a tree, and its claims are listed and judged afterwards; a scan looks at
+every vertex for its hits, and adds up for what it reads.
 """
-TYPES = range(1, 8)
+import functools
+import re
+
+TYPES = ["point", "linestring", "polygon", "multipoint", "multilinestring", "multipolygon", "geometrycollection"]
 COLLECTION = 7
 DEEPEST = 32
+AXES = "xyzm"
+RANGE = r"(-?\d{1,27}(?:\.\d{1,7})?)\.\.(-?\d{1,27}(?:\.\d{1,7})?)"
+WINDOW = re.compile(f"x={RANGE},y={RANGE}(?:,z={RANGE})?(?:,m={RANGE})?", re.ASCII)
 
 
 class Malformed(Exception):
-    pass
+    """A field that can't follow: its offset and the kind of the refusal."""
+
+
+class Refused(Exception):
+    """A layer that isn't certified: the blob, the offset and the kind."""
 
 
 class Reader:
@@ -35,8 +46,7 @@ class Reader:
                 return number
 
     def signed(self):
-        number = self.unsigned()
-        return number // 2 if number % 2 == 0 else -(number + 1) // 2
+        return zigzag(self.unsigned())
 
 
 def zigzag(number):
@@ -49,7 +59,7 @@ class Head:
     def __init__(self, reader, depth):
         at, first = reader.place, reader.byte()
         self.kind = first % 16
-        if self.kind not in TYPES:
+        if not 1 <= self.kind <= len(TYPES):
             raise Malformed(at, "type")
         if self.kind == COLLECTION and depth == DEEPEST:
             raise Malformed(at, "depth")
@@ -81,15 +91,30 @@ class Head:
             for axis in range(4)
         )
 
+    def misses(self, window):
+        """Whether there is a box, and it ends before the window or begins behind it in an axis that both have."""
+        return self.box is not None and any(
+            ours is not None and its is not None and (ours[1] < its[0] or its[1] < ours[0])
+            for ours, its in zip(self.box, window)
+        )
 
-class Body:
-    """The vertices of a body, in units, as lists of a coordinate or None for each of X, Y, Z and M."""
 
-    def __init__(self, reader, head, depth, claims):
-        self.reader, self.head, self.depth, self.claims = reader, head, depth, claims
-        self.last, self.vertices, self.ids_at, self.ids = [0] * 4, [], None, []
-        if not head.metadata & 16:
+class Geometry:
+    """A geometry with its vertices, in units, as lists of a coordinate or None for each of X, Y, Z and M.
+
+    Its header begins at `start`, its body at `body`, its first member at `inside`, and it ends before `stop`. What it and
+    its members claim falsely goes to the claims, with its offset.
+    """
+
+    def __init__(self, reader, depth, claims):
+        self.reader, self.depth, self.claims, self.start = reader, depth, claims, reader.place
+        self.head = Head(reader, depth)
+        self.last, self.vertices, self.members, self.ids_at, self.ids = [0] * 4, [], [], None, []
+        self.body = self.inside = reader.place
+        if not self.head.metadata & 16:
             self.read()
+        self.stop = reader.place
+        self.judge()
 
     def read(self):
         kind = self.head.kind
@@ -101,6 +126,7 @@ class Body:
             self.ids_at = self.reader.place
             while len(self.ids) < count:
                 self.ids.append(self.reader.signed())
+        self.inside = self.reader.place
         self.many(count, [self.point, self.line, self.polygon, self.member][kind - 4])
 
     def many(self, count, part):
@@ -125,32 +151,96 @@ class Body:
         self.many(self.reader.unsigned(), self.line)
 
     def member(self):
-        self.vertices.extend(read_geometry(self.reader, self.depth + 1, self.claims))
+        self.members.append(Geometry(self.reader, self.depth + 1, self.claims))
+        self.vertices.extend(self.members[-1].vertices)
+
+    def judge(self):
+        head = self.head
+        if head.size is not None and head.size != self.stop - head.box_at:
+            self.claims.append((head.size_at, "size"))
+        if head.box is not None and not all(map(head.holds, self.vertices)):
+            self.claims.append((head.box_at, "box"))
+        if len(set(self.ids)) < len(self.ids):
+            self.claims.append((self.ids_at, "ids"))
+
+    def read_of(self, window):
+        """How many bytes of it a scan for the window reads."""
+        if self.head.size is not None and self.head.misses(window):
+            return self.body - self.start
+        if self.head.kind == COLLECTION and not self.head.metadata & 16:
+            return self.inside - self.start + sum(member.read_of(window) for member in self.members)
+        return self.stop - self.start
 
 
-def read_geometry(reader, depth, claims):
-    """The vertices of a geometry; what it claims falsely goes to the claims, with its offset."""
-    head = Head(reader, depth)
-    body = Body(reader, head, depth, claims)
-    if head.size is not None and head.size != reader.place - head.box_at:
-        claims.append((head.size_at, "size"))
-    if head.box is not None and not all(map(head.holds, body.vertices)):
-        claims.append((head.box_at, "box"))
-    if len(set(body.ids)) < len(body.ids):
-        claims.append((body.ids_at, "ids"))
-    return body.vertices
-
-
-def answer(data):
-    reader, blobs, vertices = Reader(data), 0, 0
+@functools.lru_cache(maxsize=1)
+def blobs_of(data):
+    """The blobs of a certified layer."""
+    reader, blobs = Reader(data), []
     while reader.place < len(data):
         claims = []
         try:
-            vertices += len(read_geometry(reader, 1, claims))
+            blob = Geometry(reader, 1, claims)
         except Malformed as fault:
-            return f"no blob={blobs} offset={fault.args[0]} kind={fault.args[1]}\n"
+            raise Refused(len(blobs), *fault.args) from None
         if claims:
-            offset, kind = min(claims)
-            return f"no blob={blobs} offset={offset} kind={kind}\n"
-        blobs += 1
-    return f"ok blobs={blobs} vertices={vertices}\n"
+            raise Refused(len(blobs), *min(claims))
+        blobs.append(blob)
+    return blobs
+
+
+def window_of(text):
+    """The ranges of a window in units, None for an axis that it doesn't bound; the word `form` or `order` where it is none."""
+    match = WINDOW.fullmatch(text)
+    if match is None:
+        return "form"
+    ends = [None if end is None else units_of(end) for end in match.groups()]
+    ranges = [None if low is None else (low, high) for low, high in zip(ends[::2], ends[1::2])]
+    return "order" if any(low > high for low, high in filter(None, ranges)) else ranges
+
+
+def units_of(number):
+    whole, _, fraction = number.partition(".")
+    return int(whole + fraction) * 10 ** (7 - len(fraction))
+
+
+def is_inside(vertex, window):
+    return all(
+        bounds is None or value is not None and bounds[0] <= value <= bounds[1] for value, bounds in zip(vertex, window)
+    )
+
+
+def lines(data, text):
+    """The text of the blobs of a layer, or the line of its refusal."""
+    try:
+        return text(blobs_of(data))
+    except Refused as refusal:
+        return "no blob={} offset={} kind={}\n".format(*refusal.args)
+
+
+def check(data):
+    return lines(data, lambda blobs: f"ok blobs={len(blobs)} vertices={sum(len(blob.vertices) for blob in blobs)}\n")
+
+
+def rows(data):
+    return lines(data, lambda blobs: "".join(row(number, blob) for number, blob in enumerate(blobs)))
+
+
+def row(number, blob):
+    head = blob.head
+    size, box = ("no" if there is None else "yes" for there in (head.size, head.box))
+    return (
+        f"blob={number} offset={blob.start} bytes={blob.stop - blob.start} type={TYPES[head.kind - 1]}"
+        f" precision={head.precisions[0]} vertices={len(blob.vertices)} size={size} box={box}\n"
+    )
+
+
+def scan(data, windows):
+    """The lines of a scan for windows by their ranges: from two windows on the tool keeps where each blob is, and its box."""
+    return lines(data, lambda blobs: "".join(found(blobs, len(data), window, len(windows) > 1) for window in windows))
+
+
+def found(blobs, length, window, with_directory):
+    hits = [number for number, blob in enumerate(blobs) if any(is_inside(vertex, window) for vertex in blob.vertices)]
+    read = sum(0 if with_directory and blob.head.misses(window) else blob.read_of(window) for blob in blobs)
+    listed = "".join(f"hit blob={number} offset={blobs[number].start}\n" for number in hits)
+    return f"{listed}hits={len(hits)} read={read} of={length}\n"
