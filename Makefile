@@ -1,12 +1,19 @@
-# `make help` says what there is. Each target needs the Rattle kit, whose command is rt.
+# `make help` says what there is. Each target but install and uninstall needs the Rattle kit, whose command is rt.
 PROGRAM = build/twkb_tool
 SCANNER = build/twkb_bench
 LAYERS = examples/coast_lines_sized.twkb examples/coast_collections.twkb examples/coast_z.twkb examples/points_sized.twkb
+PREFIX = /usr/local
+INTO = $(DESTDIR)$(PREFIX)
+MANUALS = share/man/man1
+BASH = share/bash-completion/completions
+ZSH = share/zsh/site-functions
 
-.PHONY: help kit build demo test bench refusals twins clean
+.PHONY: help kit build install uninstall demo test bench refusals twins clean
 
 help:
 	@echo 'make build      prove and build the program: $(PROGRAM)'
+	@echo 'make install    put the program, its manual page and completions below $(PREFIX), or PREFIX=..'
+	@echo 'make uninstall  take them away'
 	@echo 'make demo       build, and check layers that PostGIS wrote'
 	@echo 'make test       build, test the program from end to end, and run the merge gate'
 	@echo 'make bench      build, and compare with plain Rust on 40 MB (needs rustc; valgrind counts instructions)'
@@ -23,11 +30,27 @@ build: kit
 	@mkdir -p build
 	cp crates/twkb_tool/out/twkb_tool $(PROGRAM)
 
+# Installing needs no kit where the program is built already.
+$(PROGRAM):
+	@$(MAKE) --no-print-directory build
+
+install: | $(PROGRAM)
+	install -d "$(INTO)/bin" "$(INTO)/$(MANUALS)" "$(INTO)/$(BASH)" "$(INTO)/$(ZSH)"
+	install -m 755 $(PROGRAM) "$(INTO)/bin/twkb_tool"
+	install -m 644 docs/twkb_tool.1 "$(INTO)/$(MANUALS)/twkb_tool.1"
+	install -m 644 completions/twkb_tool.bash "$(INTO)/$(BASH)/twkb_tool"
+	install -m 644 completions/_twkb_tool "$(INTO)/$(ZSH)/_twkb_tool"
+
+uninstall:
+	rm -f "$(INTO)/bin/twkb_tool" "$(INTO)/$(MANUALS)/twkb_tool.1"
+	rm -f "$(INTO)/$(BASH)/twkb_tool" "$(INTO)/$(ZSH)/_twkb_tool"
+
 demo: build
 	@for layer in $(LAYERS); do echo $(PROGRAM) check $$layer; $(PROGRAM) check $$layer || exit; done
 
 test: build
 	python3 tests/run.py $(PROGRAM)
+	python3 tests/install.py
 	rt ci
 
 bench: build
