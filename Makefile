@@ -1,7 +1,8 @@
 # `make help` says what there is. Each target but install and uninstall needs the Rattle kit, whose command is rt.
 PROGRAM = build/twkb_tool
 SCANNER = build/twkb_bench
-LAYERS = examples/coast_lines_sized.twkb examples/coast_collections.twkb examples/coast_z.twkb examples/points_sized.twkb
+# What the program stands on, each behind what it stands on itself, and the program last.
+CRATES = refusing twkb_num twkb_head plain random_layers twkb_body twkb_layer twkb_tool
 PREFIX = /usr/local
 INTO = $(DESTDIR)$(PREFIX)
 MANUALS = share/man/man1
@@ -11,10 +12,10 @@ ZSH = share/zsh/site-functions
 .PHONY: help kit build install uninstall demo test bench refusals twins clean
 
 help:
-	@echo 'make build      prove and build the program: $(PROGRAM)'
+	@echo 'make build      prove and build the program: $(PROGRAM) (some minutes the first time)'
 	@echo 'make install    put the program, its manual page and completions below $(PREFIX), or PREFIX=..'
 	@echo 'make uninstall  take them away'
-	@echo 'make demo       build, and check layers that PostGIS wrote'
+	@echo 'make demo       build, and check, list and scan layers that PostGIS wrote'
 	@echo 'make test       build, test the program from end to end, and run the merge gate'
 	@echo 'make bench      build, and compare with plain Rust on 40 MB (needs rustc; valgrind counts instructions)'
 	@echo 'make refusals   refuse each allocation of the program in turn (builds it some fifty times)'
@@ -24,9 +25,16 @@ help:
 kit:
 	@$(if $(shell command -v rt),:,$(error The Rattle kit is missing: its command rt is not in PATH))
 
-# rt run builds a proved program alone, and then runs it: here on an empty layer.
+# Each crate is proved before those on it. rt run builds a proved program alone, and then runs it: here on an empty layer.
 build: kit
-	cd crates/twkb_tool && rt run -- check /dev/null > /dev/null
+	@echo 'Proving $(words $(CRATES)) crates and building the program takes some minutes the first time, then seconds.'
+	@number=0; for crate in $(CRATES); do \
+	    number=$$((number + 1)); \
+	    case $$crate in twkb_tool) command='run -- check /dev/null';; *) command=lib;; esac; \
+	    echo "proving $$crate, crate $$number of $(words $(CRATES))"; \
+	    (cd crates/$$crate && rt $$command > out.log 2>&1) || { cat crates/$$crate/out.log; exit 1; }; \
+	    rm crates/$$crate/out.log; \
+	done
 	@mkdir -p build
 	cp crates/twkb_tool/out/twkb_tool $(PROGRAM)
 
@@ -46,7 +54,7 @@ uninstall:
 	rm -f "$(INTO)/$(BASH)/twkb_tool" "$(INTO)/$(ZSH)/_twkb_tool"
 
 demo: build
-	@for layer in $(LAYERS); do echo $(PROGRAM) check $$layer; $(PROGRAM) check $$layer || exit; done
+	@examples/demo.sh $(PROGRAM)
 
 test: build
 	python3 tests/run.py $(PROGRAM)

@@ -1,0 +1,31 @@
+#!/bin/sh
+# Shows what the program says of the layers beside this script.
+# usage: examples/demo.sh [PROGRAM]   (build/twkb_tool where it is left out)
+set -eu
+program=${1:-build/twkb_tool}
+here=$(dirname "$0")
+
+shown() {
+    echo "\$ $*"
+    "$@"
+}
+
+# Some lines of what a command gives. All of it is read, since a write that nobody reads is a failure.
+some() {
+    lines=$1
+    shift
+    echo "\$ $* | sed -n $lines"
+    "$@" | sed -n "$lines"
+}
+
+for layer in points_sized coast_lines_sized coast_collections coast_z; do
+    shown "$program" check "$here/$layer.twkb"
+done
+some 1,3p "$program" list "$here/coast_lines_sized.twkb"
+some 1,3p "$program" list "$here/coast_collections.twkb"
+echo "# One window: the headers of all blobs are read, and the blobs whose box meets it."
+some '$p' "$program" scan "$here/coast_lines_sized.twkb" x=10..30,y=35..45
+echo "# Two windows: nothing is read of a blob whose box misses a window."
+some '/^hits/p' "$program" scan "$here/coast_lines_sized.twkb" x=10..30,y=35..45 x=100..140,y=-10..10
+echo "# Z is 7.3 everywhere, so a window above it has no hits."
+shown "$program" scan "$here/coast_z.twkb" x=-180..180,y=-90..90,z=8..9
