@@ -28,14 +28,13 @@ kit:
 # Each crate is proved before those on it. rt run builds a proved program alone, and then runs it: here on an empty layer.
 build: kit
 	@echo 'Proving $(words $(CRATES)) crates and building the program takes some minutes the first time, then seconds.'
+	@mkdir -p build
 	@number=0; for crate in $(CRATES); do \
 	    number=$$((number + 1)); \
 	    case $$crate in twkb_tool) command='run -- check /dev/null';; *) command=lib;; esac; \
 	    echo "proving $$crate, crate $$number of $(words $(CRATES))"; \
-	    (cd crates/$$crate && rt $$command > out.log 2>&1) || { cat crates/$$crate/out.log; exit 1; }; \
-	    rm crates/$$crate/out.log; \
+	    (cd crates/$$crate && rt $$command) > build/$$crate.log 2>&1 || { cat build/$$crate.log; exit 1; }; \
 	done
-	@mkdir -p build
 	cp crates/twkb_tool/out/twkb_tool $(PROGRAM)
 
 # Installing needs no kit where the program is built already.

@@ -10,12 +10,13 @@ shown() {
     "$@"
 }
 
-# Some lines of what a command gives. All of it is read, since a write that nobody reads is a failure.
+# Some lines of what a command gives. It is kept first, so that the script ends where the command fails.
 some() {
     lines=$1
     shift
-    echo "\$ $* | sed -n $lines"
-    "$@" | sed -n "$lines"
+    echo "\$ $* | sed -n '$lines'"
+    told=$("$@")
+    printf '%s\n' "$told" | sed -n "$lines"
 }
 
 for layer in points_sized coast_lines_sized coast_collections coast_z; do
