@@ -1,0 +1,38 @@
+#!/usr/bin/env python3
+"""Certifies layers in object storage on a Spark cluster: a layer a task, and no state between tasks.
+
+usage: spark-submit --files /usr/local/bin/twkb_tool certify_spark.py s3a://BUCKET/layers/*.twkb s3a://BUCKET/verdicts
+
+Writes a line for each layer: its status, its path and what was said, with tabs between. The status of the job is 0 where
+all are certified, else 1. A task holds its layer in memory twice, as Spark's and as the program's.
+"""
+import subprocess
+import sys
+import tempfile
+
+
+def verdict(layer, program):
+    """The status, the path and the line of a layer, which is its path and its bytes."""
+    path, data = layer
+    with tempfile.NamedTemporaryFile(suffix=".twkb") as file:
+        file.write(data)
+        file.flush()
+        done = subprocess.run([program, "check", file.name], capture_output=True, text=True)
+    return done.returncode, path, (done.stdout or done.stderr).rstrip("\n")
+
+
+def main():
+    from pyspark import SparkFiles
+    from pyspark.sql import SparkSession
+
+    layers, verdicts = sys.argv[1:]
+    context = SparkSession.builder.appName("certify layers").getOrCreate().sparkContext
+    # As many partitions as Spark makes of it, up to one for each layer.
+    found = context.binaryFiles(layers, minPartitions=1 << 20)
+    told = found.map(lambda layer: verdict(layer, SparkFiles.get("twkb_tool"))).cache()
+    told.map(lambda row: "\t".join(map(str, row))).saveAsTextFile(verdicts)
+    sys.exit(0 if told.filter(lambda row: row[0] != 0).isEmpty() else 1)
+
+
+if __name__ == "__main__":
+    main()
