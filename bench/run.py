@@ -121,7 +121,7 @@ def heading():
 
 
 def table_of_checks(found, folder, runs):
-    """Prints the rows of `check`, and gives the times and memories of the mix for the plot."""
+    """Prints the rows of `check`, and gives of the mix the times of audits, of whole runs and of reading, and the memories."""
     kept = {}
     for kind in (*layers.EXAMPLES, layers.LONG):
         times, memories = {}, {}
@@ -135,10 +135,27 @@ def table_of_checks(found, folder, runs):
             the_same(*reading.values())
             the_same(*whole.values())
             times = {name: whole[name].time - reading[name].time for name in whole}
-            kept[kind] = (times, {name: whole[name].time for name in whole}, memories)
+            wholes, reads = ({name: best.time for name, best in bests.items()} for bests in (whole, reading))
+            kept[kind] = (times, wholes, reads, memories)
         small, _ = layers.write_layer(folder, kind, COUNTED)
         row("check", kind, times, {name: instructions(command) for name, command in found.checks(small).items()})
     return kept["the mix"]
+
+
+def table_of_whole_runs(audits, wholes, reads, memories):
+    """Prints what whole runs of `check` on the mix take, from the start of the process to its end.
+
+    Reading is a run that ends at the first byte. The yardstick reads by std::fs::read, so its reading and our audit
+    together are what our whole run would take with a reading that costs nothing more.
+    """
+    print("\n| Whole run of check, the mix | ours | fast | plain | ours to fast | ours to plain |")
+    print("|---" * 6 + "|")
+    rows = {"all, ms": wholes, "reading alone, ms": reads, "greatest memory, MB": memories}
+    for title, values in rows.items():
+        ours, fast, plain = (values[name] for name in ("ours", "fast", "plain"))
+        print(f"| {title} | {shown(ours)} | {shown(fast)} | {shown(plain)} | {ratio(ours, fast)} | {ratio(ours, plain)} |")
+    together = audits["ours"] + reads["fast"]
+    print(f"our audit and the reading of fast take {together:.1f} ms together: our whole run is {ratio(wholes['ours'], together)} of it")
 
 
 def table_of_scans(found, folder, runs):
@@ -184,8 +201,9 @@ def main():
     with tempfile.TemporaryDirectory() as folder:
         found = Programs(folder, *sys.argv[1:3])
         heading()
-        audits, wholes, memories = table_of_checks(found, folder, runs)
+        audits, wholes, reads, memories = table_of_checks(found, folder, runs)
         notes = table_of_scans(found, folder, runs)
+        table_of_whole_runs(audits, wholes, reads, memories)
         print("\n" + "\n".join(notes))
         for title, times in (("the audit of the mix", audits), ("the whole run", wholes)):
             print(f"{title} takes {times['plain'] / times['ours']:.2f} times as long in plain Rust")
