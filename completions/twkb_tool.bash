@@ -3,7 +3,7 @@ _twkb_tool() {
     local word=${COMP_WORDS[COMP_CWORD]}
     COMPREPLY=()
     if ((COMP_CWORD == 1)); then
-        mapfile -t COMPREPLY < <(compgen -W 'check list scan --help' -- "$word")
+        mapfile -t COMPREPLY < <(compgen -W 'check list scan help --help' -- "$word")
     elif ((COMP_CWORD == 2)); then
         # As names of files are quoted, and a folder ends with a slash; outside of a completion there is nothing to set.
         compopt -o filenames 2> /dev/null

@@ -20,7 +20,7 @@ INSTALLED = {
     "share/bash-completion/completions/twkb_tool": ("completions/twkb_tool.bash", 0o644),
     "share/zsh/site-functions/_twkb_tool": ("completions/_twkb_tool", 0o644),
 }
-COMMANDS = ["check", "list", "scan"]
+COMMANDS = ["check", "help", "list", "scan"]
 
 
 def make(target, folder, prefix):
