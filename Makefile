@@ -9,7 +9,7 @@ MANUALS = share/man/man1
 BASH = share/bash-completion/completions
 ZSH = share/zsh/site-functions
 
-.PHONY: help kit build install uninstall demo test bench refusals twins clean
+.PHONY: help kit build install uninstall demo test bench picture refusals twins clean
 
 help:
 	@echo 'make build      prove and build the program: $(PROGRAM) (some minutes the first time)'
@@ -18,6 +18,7 @@ help:
 	@echo 'make demo       build, and check, list and scan layers that PostGIS wrote'
 	@echo 'make test       build, test the program from end to end, and run the merge gate'
 	@echo 'make bench      build, and compare with plain Rust on 40 MB (needs rustc; valgrind counts instructions)'
+	@echo 'make picture    build, and draw how much of a layer scans read: docs/hops.svg'
 	@echo 'make refusals   refuse each allocation of the program in turn (builds it some fifty times)'
 	@echo 'make twins      check the twins of the wrong bodies, which mean what the source means'
 	@echo 'make clean      remove what was built'
@@ -65,6 +66,9 @@ bench: build
 	cd crates/twkb_bench && rt run -- /dev/null 0 > /dev/null
 	cp crates/twkb_bench/out/twkb_bench $(SCANNER)
 	python3 bench/run.py $(PROGRAM) $(SCANNER) $(RUNS)
+
+picture: build
+	python3 bench/hops.py $(PROGRAM)
 
 # Each allocation of the whole program in turn; it builds the program for each, so the gate leaves it out.
 refusals: kit
