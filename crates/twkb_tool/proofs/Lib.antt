@@ -1,6 +1,8 @@
+pub mod LineLemmas
+pub mod OutputLemmas
+pub mod PlainWords
+pub mod ReadLemmas
 pub mod StreamLemmas
+pub mod TextLemmas
 pub mod WindowLemmas
 pub mod WordLemmas
-pub mod ReadLemmas
-pub mod TextLemmas
-pub mod OutputLemmas

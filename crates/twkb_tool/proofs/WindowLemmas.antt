@@ -50,9 +50,10 @@ windows_more refs i d before window lt h here =
     rw (take_more (values refs) i d.now low, at) (windows_snoc (take i (values refs)) before (get_or refs i d).now window h here)
 
 -- the next text is the first that is none
-pub first_bad : (refs : List (Bor Text)) (i : ℕ) (d : Bor Text) (before : List Bounds) (why : BadWindow) → i < length refs
-    → AreWindows (take i (values refs)) before → IsBadText (get_or refs i d).now why → IsFirstBad (values refs) (i + 1) why
-first_bad refs i d before why lt h bad =
+pub first_bad : (refs : List (Bor Text)) (i number : ℕ) (d : Bor Text) (before : List Bounds) (why : BadWindow) → i < length refs
+    → number ≡ i + 1 → AreWindows (take i (values refs)) before → IsBadText (get_or refs i d).now why
+    → IsFirstBad (values refs) number why
+first_bad refs i number d before why lt next h bad =
     let low : i < length (values refs) = rw (length-map refs (λ (t : Bor Text). t.now)) lt in
     let at : get_or (values refs) i d.now ≡ (get_or refs i d).now = get_or-map (λ (t : Bor Text). t.now) refs i d in
     let cut : values refs ≡ take i (values refs) ++ get_or (values refs) i d.now ∷ drop (suc i) (values refs) = split_at (values refs) i d.now low in

@@ -1,5 +1,5 @@
 -- What the words of a command line ask for.
-use Rattle.std.specs.Prelude.{◌≡◌, ◌≢◌, ◌⊎◌, ℕ, ◌+◌, ◌<◌, ◌≤◌, true, false, List, [], ◌∷◌, ◌++◌, length, Option, Some, None, Result, Ok, Err, codes, string_bytes, IsErrAnd}
+use Rattle.std.specs.Prelude.{◌≡◌, ◌≢◌, ◌⊎◌, ℕ, ◌+◌, ◌<◌, ◌≤◌, ◌==◌, Bool, not, true, false, List, [], ◌∷◌, ◌++◌, length, Option, Some, None, Result, Ok, Err, codes, string_bytes, IsErrAnd}
 use Rattle.clap.specs.Lexer.{usize_max}
 use Rattle.clap.specs.Values.{kind_of}
 use Rattle.clap.specs.Words.{App, Kinds, Row, Rule, Text, IsAmong, all_of, first_of, new_app, new_rule, with_rule, with_subcommand}
@@ -47,6 +47,11 @@ bare_app = on_top (λ s. record s { subcommand_required = true }) (new_app (code
 -- the whole command: `twkb_tool` with each of these behind it
 unfoldable pub tool_app : App
 tool_app = with_subcommand (with_subcommand (with_subcommand bare_app check_app.top) list_app.top) scan_app.top
+
+-- the word is no flag to clap: it doesn't begin with a minus
+abbrev pub is_value : Text → Bool
+is_value [] = true
+is_value (c ∷ cs) = not (c == 45)
 
 -- ---- windows
 
@@ -146,3 +151,28 @@ IsRefusalOrMemory kinds Memory = Unit {0}
 abbrev pub Answers : Option (Text × List Row) → Result Line Usage → Type 0
 Answers None r = IsErrAnd r (λ usage. (usage ≡ Words None) ⊎ (usage ≡ Memory))
 Answers (Some p) r = Reads p.0 p.1 r ⊎ (r ≡ Err Memory)
+
+-- ---- what words come to of which none begins with a minus
+
+-- the line is that of this file and request, or memory ran out
+abbrev pub IsLineOf : Text → Request → Result Line Usage → Type 0
+IsLineOf file request (Ok line) = (string_bytes line.path ≡ file) × (line.request ≡ request)
+IsLineOf file request (Err usage) = usage ≡ Memory
+
+-- the request is a scan for the windows of these texts, which aren't too many
+abbrev pub IsScanFor : List Text → Request → Type 0
+IsScanFor texts (Scan windows) = AreWindows texts windows.items × (length texts ≤ most_windows)
+IsScanFor texts Check = ⊥
+IsScanFor texts ListBlobs = ⊥
+
+-- why there is no such scan: the texts are too many, or one is no window, or memory ran out
+abbrev pub IsNoScan : List Text → Usage → Type 0
+IsNoScan texts TooMany = most_windows < length texts
+IsNoScan texts (NoWindow number why) = (length texts ≤ most_windows) × IsFirstBad texts number why
+IsNoScan texts Memory = Unit {0}
+IsNoScan texts (Words error) = ⊥
+
+-- the line is that of this file and such a scan, or there is none
+abbrev pub IsScanOf : Text → List Text → Result Line Usage → Type 0
+IsScanOf file texts (Ok line) = (string_bytes line.path ≡ file) × IsScanFor texts line.request
+IsScanOf file texts (Err usage) = IsNoScan texts usage
