@@ -51,7 +51,9 @@ fn fetched_words(rt: &HostRuntime) -> io::Result<Vec<String>> {
 }
 
 /// Runs a line, and gives the program's status.
-fn run_line(rt: &HostRuntime, line: &Line) -> u8 {
+fn run_line(rt: &HostRuntime, line: &Line) -> u8
+    requires { HoldsWindows line.now.request }
+{
     let Ok(file) = File::open(rt, line.path.as_str()) else {
         return stopped(rt, HostFault::File);
     };
