@@ -1,7 +1,11 @@
 //! Allocations that are refused, each in turn.
+ghost use Rattle.twkb_tool.specs.Words.{HoldsWindows};
+
+use super::{TWO_BLOBS, TWO_WINDOWS, TWO_WINDOWS_TEXT, scan_for};
 use crate::judge::Verdict;
 use crate::request::Request;
 use crate::run::{RunFault, run_in};
+use crate::status::status_of;
 use crate::streams::memory::{MemSink, MemSource};
 use refusing::Refusing;
 use std::alloc::{Allocator, Global};
@@ -14,39 +18,84 @@ const SEVENTEEN_IDS: &[u8] =
 \x00\x00\x00\x00\x00\x00\x00\x00\x00\x00\x00\x00\x00\x00\x00\x00\x00\
 \x00\x00\x00\x00\x00\x00\x00\x00\x00\x00\x00\x00\x00\x00\x00\x00\x00";
 
-const TEXT: &str = "ok blobs=1 vertices=17\n";
+/// A point whose X and Y have the precision -1.
+const COARSE_POINT: &[u8] = b"\x11\x00\xB6\x40\x00";
 
 /// One run with all its memory from an allocator: whether it answered that memory ran out.
-fn runs_out<A: Allocator>(rt: &impl Abort, alloc: Global, memory: &A) -> Result<bool, Fail> {
-    let mut source = MemSource::new(SEVENTEEN_IDS, 20, None);
+fn runs_out<A: Allocator>(
+    rt: &impl Abort,
+    alloc: Global,
+    memory: &A,
+    bytes: &[u8],
+    request: &Request,
+    text: &str,
+) -> Result<bool, Fail>
+    requires { HoldsWindows request.now }
+{
+    let mut source = MemSource::new(bytes, 20, None);
     let mut sink = MemSink::new(alloc, 100, 100, None)?;
-    match run_in(memory, &mut source, &mut sink, &Request::Check, 100) {
+    match run_in(memory, &mut source, &mut sink, request, 100) {
         Ok(verdict) => {
             assert_eq!(rt; verdict, Verdict::Yes);
-            assert_eq!(rt; sink.bytes(), TEXT.as_bytes());
+            assert_eq!(rt; sink.bytes(), text.as_bytes());
             Ok(false)
         }
         Err(fault) => {
             assert_eq!(rt; fault, RunFault::Memory);
+            assert_eq!(rt; status_of(&Err(fault)), 3);
             assert!(rt; sink.bytes().is_empty());
             Ok(true)
         }
     }
 }
 
-#[test]
-fn each_allocation_of_a_run_is_refused(rt: HostRuntime) -> Result<(), Fail> {
-    let mut refusals = 0u64;
+/// Refuses each allocation of a run in turn, and then makes the same call again: how many there were.
+fn refusals(
+    rt: &impl Abort,
+    alloc: Global,
+    bytes: &[u8],
+    request: &Request,
+    text: &str,
+) -> Result<u64, Fail>
+    requires { HoldsWindows request.now }
+{
     for call in 0..100u64 {
-        let memory = Refusing::new(rt.alloc(), call);
-        let is_out = runs_out(&rt, rt.alloc(), &memory)?;
+        let memory = Refusing::new(alloc, call);
+        let is_out = runs_out(rt, alloc, &memory, bytes, request, text)?;
         assert_eq!(rt; is_out, memory.has_refused());
         if !is_out {
-            break;
+            return Ok(call);
         }
-        refusals = call + 1;
+        // The allocator grants the next calls.
+        assert!(rt; !runs_out(rt, alloc, &memory, bytes, request, text)?);
     }
-    assert!(rt; 2 < refusals && refusals < 100, "{refusals}");
+    panic!(rt; "a run takes memory without end");
+}
+
+#[test]
+fn each_allocation_of_a_check_is_refused(rt: HostRuntime) -> Result<(), Fail> {
+    let text = "ok blobs=1 vertices=17\n";
+    let count = refusals(&rt, rt.alloc(), SEVENTEEN_IDS, &Request::Check, text)?;
+    // At least those for the bytes, the ids and the text.
+    assert!(rt; 3 <= count, "{count}");
+    Ok(())
+}
+
+#[test]
+fn each_allocation_of_a_list_is_refused(rt: HostRuntime) -> Result<(), Fail> {
+    let text = "blob=0 offset=0 bytes=5 type=point precision=-1 vertices=1 size=no box=no\n";
+    let count = refusals(&rt, rt.alloc(), COARSE_POINT, &Request::List, text)?;
+    // At least those for the bytes, the rows and the text.
+    assert!(rt; 3 <= count, "{count}");
+    Ok(())
+}
+
+#[test]
+fn each_allocation_of_a_scan_is_refused(rt: HostRuntime) -> Result<(), Fail> {
+    let request = scan_for(&rt, rt.alloc(), &TWO_WINDOWS)?;
+    let count = refusals(&rt, rt.alloc(), &TWO_BLOBS, &request, TWO_WINDOWS_TEXT)?;
+    // At least those for the bytes, the room, the directory and the text.
+    assert!(rt; 4 <= count, "{count}");
     Ok(())
 }
 

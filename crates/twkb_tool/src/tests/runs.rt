@@ -1,6 +1,5 @@
 //! Whole runs on worked files, stage by stage of the format.
-ghost use Rattle.std.specs.Prelude.{◌<◌};
-
+use super::answers;
 use crate::judge::Verdict;
 use crate::request::Request;
 use crate::run::{RunFault, run};
@@ -10,30 +9,11 @@ use std::alloc::Global;
 use std::process::Abort;
 use std::test::Fail;
 
-/// Runs `check` with streams that move `step` bytes at a call, and compares text, verdict and status.
-fn checks(rt: &impl Abort, alloc: Global, bytes: &[u8], step: usize, text: &str) -> Result<(), Fail>
-    requires { 0 < step }
-{
-    let mut source = MemSource::new(bytes, step, None);
-    let mut sink = MemSink::new(alloc, 100, step, None)?;
-    let outcome = run(alloc, &mut source, &mut sink, &Request::Check, 1000);
-    let is_certified = text.starts_with("ok");
-    let verdict = if is_certified {
-        Verdict::Yes
-    } else {
-        Verdict::No
-    };
-    assert_eq!(rt; sink.bytes(), text.as_bytes());
-    assert_eq!(rt; outcome, Ok(verdict));
-    assert_eq!(rt; status_of(&outcome), u8::from(!is_certified));
-    Ok(())
-}
-
 /// Runs `check` on each file, in pieces and at once.
 fn check_each(rt: &impl Abort, alloc: Global, files: &[(&[u8], &str)]) -> Result<(), Fail> {
     for (bytes, text) in files {
-        checks(rt, alloc, bytes, 1, text)?;
-        checks(rt, alloc, bytes, 1000, text)?;
+        answers(rt, alloc, bytes, 1, &Request::Check, text)?;
+        answers(rt, alloc, bytes, 1000, &Request::Check, text)?;
     }
     Ok(())
 }

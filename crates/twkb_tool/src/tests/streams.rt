@@ -1,4 +1,5 @@
 //! Sources and sinks that fail, that have no end, and those over real files.
+use super::{TWO_BLOBS, TWO_WINDOWS, TWO_WINDOWS_TEXT, scan_for};
 use crate::judge::Verdict;
 use crate::request::Request;
 use crate::run::{RunFault, run};
@@ -17,8 +18,8 @@ const TEXT: &str = "ok blobs=1 vertices=1\n";
 
 #[test]
 fn a_source_fails_at_each_call(rt: HostRuntime) -> Result<(), Fail> {
-    for k in 1..7 {
-        let mut source = MemSource::new(&POINT, 1, Some(k));
+    for k in 1..22 {
+        let mut source = MemSource::new(&TWO_BLOBS, 1, Some(k));
         let mut sink = MemSink::new(rt.alloc(), 100, 1, None)?;
         let outcome = run(rt.alloc(), &mut source, &mut sink, &Request::Check, 100);
         assert_eq!(rt; outcome, Err(RunFault::Read));
@@ -31,15 +32,26 @@ fn a_source_fails_at_each_call(rt: HostRuntime) -> Result<(), Fail> {
 
 #[test]
 fn a_sink_fails_at_each_call_up_to_the_flush(rt: HostRuntime) -> Result<(), Fail> {
-    for k in 1..24usize {
-        let mut source = MemSource::new(&POINT, 9, None);
+    for k in 1..TWO_WINDOWS_TEXT.len() + 2 {
+        let request = scan_for(&rt, rt.alloc(), &TWO_WINDOWS)?;
+        let mut source = MemSource::new(&TWO_BLOBS, 9, None);
         let mut sink = MemSink::new(rt.alloc(), 100, 1, Some(k))?;
-        let outcome = run(rt.alloc(), &mut source, &mut sink, &Request::Check, 100);
+        let outcome = run(rt.alloc(), &mut source, &mut sink, &request, 100);
         assert_eq!(rt; outcome, Err(RunFault::Write { done: k - 1 }));
         assert_eq!(rt; status_of(&outcome), 3);
-        assert_eq!(rt; sink.bytes(), &TEXT.as_bytes()[..k - 1]);
+        assert_eq!(rt; sink.bytes(), &TWO_WINDOWS_TEXT.as_bytes()[..k - 1]);
         assert!(rt; sink.failed() && sink.moved() == k as u64 - 1);
     }
+    Ok(())
+}
+
+#[test]
+fn a_flush_alone_fails(rt: HostRuntime) -> Result<(), Fail> {
+    let mut source = MemSource::new(&POINT, 9, None);
+    let mut sink = MemSink::new(rt.alloc(), 100, 100, Some(2))?;
+    let outcome = run(rt.alloc(), &mut source, &mut sink, &Request::Check, 100);
+    assert_eq!(rt; outcome, Err(RunFault::Write { done: 22 }));
+    assert_eq!(rt; sink.bytes(), TEXT.as_bytes());
     Ok(())
 }
 
@@ -49,6 +61,7 @@ fn a_sink_takes_three_bytes(rt: HostRuntime) -> Result<(), Fail> {
     let mut sink = MemSink::new(rt.alloc(), 3, 100, None)?;
     let outcome = run(rt.alloc(), &mut source, &mut sink, &Request::Check, 100);
     assert_eq!(rt; outcome, Err(RunFault::Write { done: 3 }));
+    assert_eq!(rt; status_of(&outcome), 3);
     assert_eq!(rt; sink.bytes(), b"ok ".as_slice());
     Ok(())
 }
@@ -92,6 +105,19 @@ fn a_source_without_end_is_too_large(rt: HostRuntime) -> Result<(), Fail> {
         assert_eq!(rt; outcome, Err(RunFault::TooLarge));
         assert!(rt; sink.bytes().is_empty());
         assert!(rt; source.moved() == limit as u64 + 1 && source.calls <= limit + 1);
+    }
+    Ok(())
+}
+
+#[test]
+fn a_byte_past_the_limit_ends_the_reading(rt: HostRuntime) -> Result<(), Fail> {
+    // Six bytes in one step or in six, where the seventh call would fail.
+    for step in [6usize, 1] {
+        let mut source = MemSource::new(&[1; 6], step, Some(7));
+        let mut sink = MemSink::new(rt.alloc(), 100, 1, None)?;
+        let outcome = run(rt.alloc(), &mut source, &mut sink, &Request::Check, 5);
+        assert_eq!(rt; outcome, Err(RunFault::TooLarge));
+        assert!(rt; source.moved() == 6 && sink.bytes().is_empty());
     }
     Ok(())
 }
