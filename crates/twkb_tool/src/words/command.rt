@@ -69,7 +69,8 @@ fn window_arg<'a>(alloc: Global) -> Arg<'a>
     ensures rule { rule_of result ≡ window_rule }
     ensures local { result.global ≡ false }
 {
-    Arg::new(alloc, "WINDOW").required(true).num_args(1..).help(
-        "x=A..B,y=C..D[,z=E..F][,m=G..H], ends included; at most 64 of them",
-    )
+    Arg::new(alloc, "WINDOW")
+        .required(true)
+        .num_args(1..)
+        .help("x=A..B,y=C..D[,z=E..F][,m=G..H], ends included")
 }
