@@ -4,9 +4,9 @@ use Rattle.std.specs.Prelude.{◌⊎◌, unwrap_or}
 use Rattle.std.specs.List.{list_all}
 use Rattle.clap.specs.Faults.{fault_of}
 use Rattle.clap.specs.Lexer.{usize_max}
-use Rattle.clap.specs.Words.{Row, Text, all_of, first_of, subcommand_of}
+use Rattle.clap.specs.Words.{Row, Text, first_of, subcommand_of}
 use Rattle.twkb_tool.proofs.PlainWords.{check_finds, check_parses, found, list_finds, list_parses, scan_finds, scan_parses}
-use Rattle.twkb_tool.specs.Words.{Answers, AsksFor, IsFirstBad, IsLineOf, IsNoScan, IsRefused, IsScanFor, IsScanOf, Reads, ReadsWith, is_value, most_windows, tool_app, windows_in}
+use Rattle.twkb_tool.specs.Words.{Answers, AsksFor, IsFirstBad, IsLineOf, IsNoScan, IsRefused, IsScanFor, IsScanOf, ReadsWith, is_value, most_windows, tool_app, windows_in}
 use Rattle.twkb_tool.specs.declared.request.Request.{Request}
 use Rattle.twkb_tool.specs.declared.request.Request.TheVariants.{Check, List as ListBlobs, Scan}
 use Rattle.twkb_tool.specs.declared.request.Line.{Line}

@@ -1,5 +1,5 @@
 -- Words of which none but the subcommand's name has a meaning to clap: they parse, and are found as they stand.
-use Rattle.std.proofs.Common.{◌≡◌, ◌∙◌, ℕ, ◌+◌, List, [], ◌∷◌, ◌++◌, Bool, true, false, refl, codes, Option, Some, None, ap, sym, append_assoc, append-nil, arith, length, ◌≤◌}
+use Rattle.std.proofs.Common.{◌≡◌, ◌∙◌, List, [], ◌∷◌, ◌++◌, Bool, true, false, refl, codes, Option, Some, None, ap, sym, append_assoc, append-nil, arith, length, ◌≤◌}
 use Rattle.std.proofs.Math.Dec.{eqb-suc-zero}
 use Rattle.std.proofs.lemmas.Bool.{le-ltb}
 use Rattle.std.specs.Prelude.{◌==◌, ◌&&◌, not, option_map, fold, is_some, nat_lt}
@@ -7,7 +7,7 @@ use Rattle.std.specs.List.{list_all}
 use Rattle.clap.specs.Faults.{check_fault, defaults_fault, entered_fault, fault_of, level_fault, settle_fault, turn_fault, walk_fault}
 use Rattle.clap.specs.Kinds.{values_kinds, Kinds, or_else}
 use Rattle.clap.specs.Simple.{App, Shape, built, built_leaf, entered, names_of}
-use Rattle.clap.specs.Walk.{Walk, Waiting, arg_by_index, finished, idle, nothing_held, positional, settled, used_by_id, walk, walk_from, walked}
+use Rattle.clap.specs.Walk.{Walk, arg_by_index, finished, idle, nothing_held, positional, settled, used_by_id, walk, walk_from, walked}
 use Rattle.clap.specs.Words.{Text, Row, all_of, first_of, subcommand_of}
 use Rattle.clap.specs.declared.builder.value_parser.ValueParser.TheVariants as vp
 use Rattle.clap.specs.Lexer.{usize_max}
