@@ -17,7 +17,7 @@ import layers
 import plots
 
 LAYER = os.path.join(layers.TOP, "examples", "coast_lines_sized.twkb")
-SIDES = [15, 30, 45, 60, 90, 180]
+SIDES = [5, 10, 15, 30, 45, 60, 90, 180]
 MOST_WINDOWS = 64
 
 
