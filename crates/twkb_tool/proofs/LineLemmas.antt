@@ -74,21 +74,16 @@ list_reads : (name : Text) (rows : List Row) (file : Text) (r : Result Line Usag
 list_reads name rows file (Ok line) n h = (h.0, asks_list name rows line.request n h.1)
 list_reads name rows file (Err usage) n h = only_memory name rows usage (inr n) h
 
-check_answers : (o : Option (Text × List Row)) (file : Text) (r : Result Line Usage) → found o ≡ Some (codes "check", Some file, None) → Answers o r → IsLineOf file Check r
-check_answers None file r e h = cc
-check_answers (Some p) file r e (inl h) =
+-- what the words come to that name such a subcommand, of which this is what its matches come to
+line_answers : (name : Text) (request : Request) (file : Text)
+    → ((own : Text) (rows : List Row) (r : Result Line Usage) → own ≡ name → ReadsWith (Some file) own rows r → IsLineOf file request r)
+    → (o : Option (Text × List Row)) (r : Result Line Usage) → found o ≡ Some (name, Some file, None) → Answers o r → IsLineOf file request r
+line_answers name request file reads None r e h = cc
+line_answers name request file reads (Some p) r e (inl h) =
     let read : ReadsWith (Some file) p.0 p.1 r = rw (← file_is p _ e) h in
-    check_reads p.0 p.1 file r (name_is p _ e) read
-check_answers (Some p) file (Ok line) e (inr h) = cc
-check_answers (Some p) file (Err usage) e (inr h) = cc
-
-list_answers : (o : Option (Text × List Row)) (file : Text) (r : Result Line Usage) → found o ≡ Some (codes "list", Some file, None) → Answers o r → IsLineOf file ListBlobs r
-list_answers None file r e h = cc
-list_answers (Some p) file r e (inl h) =
-    let read : ReadsWith (Some file) p.0 p.1 r = rw (← file_is p _ e) h in
-    list_reads p.0 p.1 file r (name_is p _ e) read
-list_answers (Some p) file (Ok line) e (inr h) = cc
-list_answers (Some p) file (Err usage) e (inr h) = cc
+    reads p.0 p.1 r (name_is p _ e) read
+line_answers name request file reads (Some p) (Ok line) e (inr h) = cc
+line_answers name request file reads (Some p) (Err usage) e (inr h) = cc
 
 -- ---- scan
 
@@ -135,7 +130,7 @@ check_line words program file r parsed is h =
     let fine : fault_of tool_app words ≡ [] = ap (λ (x : List Text). fault_of tool_app x) is ∙ check_parses program file h in
     let finds : found (subcommand_of tool_app words) ≡ Some (codes "check", Some file, None) =
     ap (λ (x : List Text). found (subcommand_of tool_app x)) is ∙ check_finds program file h in
-    check_answers (subcommand_of tool_app words) file r finds (parsed fine)
+    line_answers (codes "check") Check file (λ own rows. check_reads own rows file) (subcommand_of tool_app words) r finds (parsed fine)
 
 -- `list FILE`
 pub list_line : (words : List Text) (program file : Text) (r : Result Line Usage) → (fault_of tool_app words ≡ [] → Answers (subcommand_of tool_app words) r)
@@ -144,7 +139,7 @@ list_line words program file r parsed is h =
     let fine : fault_of tool_app words ≡ [] = ap (λ (x : List Text). fault_of tool_app x) is ∙ list_parses program file h in
     let finds : found (subcommand_of tool_app words) ≡ Some (codes "list", Some file, None) =
     ap (λ (x : List Text). found (subcommand_of tool_app x)) is ∙ list_finds program file h in
-    list_answers (subcommand_of tool_app words) file r finds (parsed fine)
+    line_answers (codes "list") ListBlobs file (λ own rows. list_reads own rows file) (subcommand_of tool_app words) r finds (parsed fine)
 
 -- `scan FILE WINDOW..`
 pub scan_line : (words : List Text) (program file window : Text) (windows : List Text) (r : Result Line Usage)
