@@ -28,17 +28,13 @@ window_rule = record (new_rule (codes "WINDOW")) {
   range = Some (record { start_inclusive = 1; end_inclusive = usize_max });
 }
 
--- `check FILE`
-abbrev pub check_app : App
-check_app = with_rule (new_app (codes "check")) file_rule
-
--- `list FILE`
-abbrev pub list_app : App
-list_app = with_rule (new_app (codes "list")) file_rule
+-- a subcommand of this name, and a file behind it
+abbrev pub file_app : Text → App
+file_app name = with_rule (new_app name) file_rule
 
 -- `scan FILE WINDOW..`
 abbrev pub scan_app : App
-scan_app = with_rule (with_rule (new_app (codes "scan")) file_rule) window_rule
+scan_app = with_rule (file_app (codes "scan")) window_rule
 
 -- `twkb_tool`, which requires a subcommand
 abbrev pub bare_app : App
@@ -46,7 +42,7 @@ bare_app = on_top (λ s. record s { subcommand_required = true }) (new_app (code
 
 -- the whole command: `twkb_tool` with each of these behind it
 unfoldable pub tool_app : App
-tool_app = with_subcommand (with_subcommand (with_subcommand bare_app check_app.top) list_app.top) scan_app.top
+tool_app = with_subcommand (with_subcommand (with_subcommand bare_app (file_app (codes "check")).top) (file_app (codes "list")).top) scan_app.top
 
 -- the word is no flag to clap: it doesn't begin with a minus
 abbrev pub is_value : Text → Bool

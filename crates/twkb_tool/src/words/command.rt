@@ -2,7 +2,7 @@
 ghost use Rattle.std.specs.Prelude.{◌≡◌, false, IfOk};
 ghost use Rattle.clap.specs.Words.{app_of, rule_of};
 ghost use Rattle.clap.specs.declared.builder.command.Command.TheViews.{out-Command};
-ghost use Rattle.twkb_tool.specs.Words.{file_rule, window_rule, bare_app, check_app, list_app, scan_app, tool_app};
+ghost use Rattle.twkb_tool.specs.Words.{file_rule, window_rule, bare_app, file_app, scan_app, tool_app};
 
 use clap::{Arg, Command};
 use std::alloc::{AllocError, Global};
@@ -13,8 +13,16 @@ pub fn tool_command<'a>(alloc: Global) -> Result<Command<'a>, AllocError>
     ensures { IfOk result (λ c. app_of c ≡ tool_app) }
 {
     bare_command(alloc)
-        .subcommand(check_command(alloc)?)?
-        .subcommand(list_command(alloc)?)?
+        .subcommand(file_command(
+            alloc,
+            "check",
+            "Certifies a layer, or names its first false claim",
+        )?)?
+        .subcommand(file_command(
+            alloc,
+            "list",
+            "Says of each blob of a certified layer what it is",
+        )?)?
         .subcommand(scan_command(alloc)?)
 }
 
@@ -27,32 +35,20 @@ fn bare_command<'a>(alloc: Global) -> Command<'a>
         .subcommand_required(true)
 }
 
-fn check_command<'a>(alloc: Global) -> Result<Command<'a>, AllocError>
-    ensures app { IfOk result (λ c. app_of c ≡ check_app) }
+/// A subcommand of this name whose one word is a file.
+fn file_command<'a>(alloc: Global, name: &'a str, about: &'a str) -> Result<Command<'a>, AllocError>
+    ensures app { IfOk result (λ c. app_of c ≡ file_app name.entry.now) }
     ensures local { IfOk result (λ c. (out-Command c).has_globals ≡ false) }
 {
-    Command::new(alloc, "check")
-        .about("Certifies a layer, or names its first false claim")
-        .arg(file_arg(alloc))
-}
-
-fn list_command<'a>(alloc: Global) -> Result<Command<'a>, AllocError>
-    ensures app { IfOk result (λ c. app_of c ≡ list_app) }
-    ensures local { IfOk result (λ c. (out-Command c).has_globals ≡ false) }
-{
-    Command::new(alloc, "list")
-        .about("Says of each blob of a certified layer what it is")
-        .arg(file_arg(alloc))
+    Command::new(alloc, name).about(about).arg(file_arg(alloc))
 }
 
 fn scan_command<'a>(alloc: Global) -> Result<Command<'a>, AllocError>
     ensures app { IfOk result (λ c. app_of c ≡ scan_app) }
     ensures local { IfOk result (λ c. (out-Command c).has_globals ≡ false) }
 {
-    Command::new(alloc, "scan")
-        .about("Names the blobs of a certified layer that have a vertex inside, for each window")
-        .arg(file_arg(alloc))?
-        .arg(window_arg(alloc))
+    let about = "Names the blobs of a certified layer that have a vertex inside, for each window";
+    file_command(alloc, "scan", about)?.arg(window_arg(alloc))
 }
 
 fn file_arg<'a>(alloc: Global) -> Arg<'a>
