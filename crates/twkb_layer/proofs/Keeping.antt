@@ -1,5 +1,5 @@
 -- What is kept of each blob, on its way from blob to blob; and what is read of one.
-use Rattle.std.proofs.Common.{◌≡◌, ℕ, ℤ, ◌+◌, ◌-◌, ◌*◌, ◌^◌, ◌<◌, ◌≤◌, Bool, List, [], ◌∷◌, ◌++◌, length, drop, map, fold, Option, Some, None, option_map, is_some, refl, ap, subst, sym, ◌∙◌, arith, length-append, length-drop, append_assoc}
+use Rattle.std.proofs.Common.{◌≡◌, ℕ, ℤ, ◌+◌, ◌-◌, ◌*◌, ◌^◌, ◌<◌, ◌≤◌, Bool, List, [], ◌∷◌, ◌++◌, length, drop, fold, Option, Some, None, option_map, is_some, refl, ap, subst, sym, ◌∙◌, arith, length-append, length-drop, append_assoc}
 use Rattle.std.proofs.lemmas.List.{append-nil}
 use Rattle.twkb_num.specs.Cursor.{Reading, added, passed, IsMoved}
 use Rattle.twkb_head.specs.declared.header.BoxField.{BoxField}
@@ -122,59 +122,50 @@ row_says g r head blob offset stop s many sized boxed p small at says o ends zer
 
 -- ---- the loop
 -- what is kept, and what is left
-module _ {T S : Type 0} (says : T → S) (told : ℕ → ℕ → Geometry → S) where
-  pub record Collecting (bytes : List ℕ) (count0 place count blob : ℕ) (items : List T) (len capacity : ℕ) : Type 0 where
+module _ {S : Type 0} (told : ℕ → ℕ → Geometry → S) where
+  pub record Collecting (bytes : List ℕ) (count0 place count blob : ℕ) (says : List S) (spare : ℕ) : Type 0 where
     pub trees : List Geometry
     pub whole : IsCertifiedLayer trees bytes
     pub rest : List Geometry
     pub left : IsCertifiedLayer rest (drop place bytes)
-    pub told_are : blob_by_blob told trees ≡ map says items ++ told_from told blob place rest
-    pub len_is : len ≡ blob
-    pub capacity_is : capacity ≡ length trees
+    pub told_are : blob_by_blob told trees ≡ says ++ told_from told blob place rest
     pub blob_is : blob + length rest ≡ length trees
+    pub spare_is : length rest ≤ spare
     pub read : ℕ
     pub count_is : count ≡ added count0 read
     pub read_few : read ≤ 2 * place
     pub within : place ≤ length bytes
 
-  pub collect_start : (bytes : List ℕ) (count0 : ℕ) (trees : List Geometry) (items : List T) (len capacity : ℕ) → IsCertifiedLayer trees bytes → count0 < 2 ^ 64 → items ≡ [] → len ≡ 0 → capacity ≡ length trees
-      → Collecting bytes count0 0 count0 0 items len capacity
-  collect_start bytes count0 trees items len capacity whole small none zero full = record {
+  pub collect_start : (bytes : List ℕ) (count0 : ℕ) (trees : List Geometry) (says : List S) (spare : ℕ) → IsCertifiedLayer trees bytes → count0 < 2 ^ 64 → says ≡ [] → length trees ≤ spare → Collecting bytes count0 0 count0 0 says spare
+  collect_start bytes count0 trees says spare whole small none room = record {
     trees = trees;
     whole = whole;
     rest = trees;
     left = whole;
-    told_are = ap (λ (xs : List T). map says xs ++ blob_by_blob told trees) (sym none);
-    len_is = zero;
-    capacity_is = full;
+    told_are = ap (λ (xs : List S). xs ++ blob_by_blob told trees) (sym none);
     blob_is = omega arith;
+    spare_is = room;
     read = 0;
     count_is = omega (arith, small);
     read_few = omega arith;
     within = omega arith;
   }
 
-  map_more : (items : List T) (x : T) → map says (items ++ x ∷ []) ≡ map says items ++ says x ∷ []
-  map_more [] x = refl
-  map_more (y ∷ ys) x = ap (λ ps. says y ∷ ps) (map_more ys x)
-
   -- one blob more
-  pub collect_step : (bytes : List ℕ) (count0 : ℕ) (now : Reading) (blob : ℕ) (items : List T) (len capacity : ℕ) (s : Collecting bytes count0 now.place now.count blob items len capacity) (n : Next s.rest bytes now.place)
-      (x : T) → says x ≡ told blob now.place n.tree → (new : Reading) → HasPassed n.tree now new
-      → (more : List T) (longer room : ℕ) → more ≡ items ++ x ∷ [] → longer ≡ len + 1 → room ≡ capacity → Collecting bytes count0 new.place new.count (blob + 1) more longer room
-  collect_step bytes count0 now blob items len capacity s n x is new past more longer room m l r =
+  pub collect_step : (bytes : List ℕ) (count0 : ℕ) (now : Reading) (blob : ℕ) (says : List S) (spare : ℕ) (s : Collecting bytes count0 now.place now.count blob says spare) (n : Next s.rest bytes now.place)
+      (new : Reading) → HasPassed n.tree now new → (more : List S) (left : ℕ) → more ≡ says ++ told blob now.place n.tree ∷ [] → spare ≤ left + 1 → Collecting bytes count0 new.place new.count (blob + 1) more left
+  collect_step bytes count0 now blob says spare s n new past more left m r =
       let place = now.place in
       let behind = told_from told (blob + 1) (place + size_of n.tree) n.after in record {
         trees = s.trees;
         whole = s.whole;
         rest = n.after;
         left = subst (λ (at : ℕ). IsCertifiedLayer n.after (drop at bytes)) (sym past.place) n.goes_on;
-        told_are = s.told_are ∙ (ap (λ ts. map says items ++ told_from told blob place ts) n.is ∙ (ap (λ (p : S). map says items ++ (p ∷ behind)) (sym is)
-            ∙ (sym (append_assoc (map says items) (says x ∷ []) behind) ∙ (ap (λ ps. ps ++ behind) (sym (map_more items x))
-            ∙ (λ j. map says (sym m j) ++ told_from told (blob + 1) (sym past.place j) n.after)))));
-        len_is = omega (arith, s.len_is, l);
-        capacity_is = omega (arith, s.capacity_is, r);
+        told_are = s.told_are ∙ (ap (λ ts. says ++ told_from told blob place ts) n.is
+            ∙ (sym (append_assoc says (told blob place n.tree ∷ []) behind)
+            ∙ (λ j. sym m j ++ told_from told (blob + 1) (sym past.place j) n.after)));
         blob_is = omega (arith, s.blob_is, ap length n.is);
+        spare_is = omega (arith, s.spare_is, r, ap length n.is);
         read = s.read + past.count.read;
         count_is = omega (arith, s.count_is, past.count.is);
         read_few = omega (arith, s.read_few, past.count.few, past.place);
@@ -182,19 +173,19 @@ module _ {T S : Type 0} (says : T → S) (told : ℕ → ℕ → Geometry → S)
       }
 
   -- there is room for one more
-  pub collect_fits : (bytes : List ℕ) (count0 place count blob : ℕ) (items : List T) (len capacity : ℕ) (s : Collecting bytes count0 place count blob items len capacity) → Next s.rest bytes place → (len < capacity) × (blob < length bytes)
-  collect_fits bytes count0 place count blob items len capacity s n =
-      let short = layer_short s.trees bytes s.whole.layer in
-      (omega (arith, s.len_is, s.capacity_is, s.blob_is, ap length n.is), omega (arith, s.blob_is, ap length n.is, short))
+  pub collect_fits : (bytes : List ℕ) (count0 place count blob : ℕ) (says : List S) (spare : ℕ) (s : Collecting bytes count0 place count blob says spare) → Next s.rest bytes place → (0 < spare) × (blob < length bytes)
+  collect_fits bytes count0 place count blob says spare s n =
+      let few = layer_short s.trees bytes s.whole.layer in
+      (omega (arith, s.spare_is, ap length n.is), omega (arith, s.blob_is, ap length n.is, few))
 
-  pub collect_end : (bytes : List ℕ) (count0 place count blob : ℕ) (items : List T) (len capacity : ℕ) → Collecting bytes count0 place count blob items len capacity → length bytes ≤ place
-      → (trees : List Geometry) → IsCertifiedLayer trees bytes → map says items ≡ blob_by_blob told trees
-  collect_end bytes count0 place count blob items len capacity s le trees h =
+  pub collect_end : (bytes : List ℕ) (count0 place count blob : ℕ) (says : List S) (spare : ℕ) → Collecting bytes count0 place count blob says spare → length bytes ≤ place
+      → (trees : List Geometry) → IsCertifiedLayer trees bytes → says ≡ blob_by_blob told trees
+  collect_end bytes count0 place count blob says spare s le trees h =
       let none = none_left s.rest bytes place s.left le in
-      sym (s.told_are ∙ (ap (λ ts. map says items ++ told_from told blob place ts) none ∙ append-nil (map says items))) ∙ ap (blob_by_blob told) (layer_once s.trees trees bytes s.whole.layer h.layer)
+      sym (s.told_are ∙ (ap (λ ts. says ++ told_from told blob place ts) none ∙ append-nil says)) ∙ ap (blob_by_blob told) (layer_once s.trees trees bytes s.whole.layer h.layer)
 
-  pub collect_adds : (bytes : List ℕ) (count0 place count blob : ℕ) (items : List T) (len capacity : ℕ) → Collecting bytes count0 place count blob items len capacity → AddsAtMost (2 * length bytes) count0 count
-  collect_adds bytes count0 place count blob items len capacity s = record { read = s.read; few = omega (arith, s.read_few, s.within); is = s.count_is }
+  pub collect_adds : (bytes : List ℕ) (count0 place count blob : ℕ) (says : List S) (spare : ℕ) → Collecting bytes count0 place count blob says spare → AddsAtMost (2 * length bytes) count0 count
+  collect_adds bytes count0 place count blob says spare s = record { read = s.read; few = omega (arith, s.read_few, s.within); is = s.count_is }
 
 pub adds_nothing : (most count : ℕ) → count < 2 ^ 64 → AddsAtMost most count count
 adds_nothing most count small = record { read = 0; few = omega arith; is = omega (arith, small) }

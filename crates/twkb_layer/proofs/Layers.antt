@@ -1,5 +1,5 @@
 -- The laws of layers.
-use Rattle.std.proofs.Common.{◌≡◌, ℕ, ◌-◌, ◌<◌, ◌≤◌, List, [], ◌∷◌, ◌++◌, length, take, drop, refl, sym, ap, ap₂, subst, ◌∙◌, append_assoc, arith, length-append}
+use Rattle.std.proofs.Common.{◌≡◌, ℕ, ◌-◌, ◌*◌, ◌≤◌, List, [], ◌∷◌, ◌++◌, length, take, drop, refl, sym, ap, ap₂, subst, ◌∙◌, append_assoc, arith, length-append}
 use Rattle.std.proofs.lemmas.List.{take-append-drop, take_at, drop_at, append-nil}
 use Rattle.twkb_head.specs.BegunHeader.{deepest}
 use Rattle.twkb_body.specs.Geometry.{Geometry, geometry}
@@ -19,8 +19,8 @@ one_blob = blob_once (deepest - 1) 1 refl (omega arith)
 pub size_of-blob : (g : Geometry) (bytes : List ℕ) → Blob g bytes 1 → size_of g ≡ length bytes
 size_of-blob g bytes b = (blob_order deepest g bytes 1 b).0
 
--- a blob has a byte
-pub blob_some : (g : Geometry) (bytes : List ℕ) → Blob g bytes 1 → 0 < length bytes
+-- a blob has two bytes at least
+pub blob_some : (g : Geometry) (bytes : List ℕ) → Blob g bytes 1 → 2 ≤ length bytes
 unfolding BlobUnder
 blob_some (geometry h l ids polygons members) bytes (body, starts, allowed, is_body) =
     omega (arith, ap length starts.fields, length-append starts.head body, ap length starts.header.fields)
@@ -97,8 +97,8 @@ layer_once trees others bytes l m =
     let b = layer_blobs others bytes m in
     (parts_once trees others a.0 b.0 a.1 b.1 (sym a.2 ∙ b.2)).0
 
--- a layer has no more blobs than bytes
-pub layer_short : (trees : List Geometry) (bytes : List ℕ) → IsLayer trees bytes → length trees ≤ length bytes
+-- and a layer two bytes for a blob
+pub layer_short : (trees : List Geometry) (bytes : List ℕ) → IsLayer trees bytes → 2 * length trees ≤ length bytes
 layer_short [] bytes l = omega arith
 layer_short (g ∷ gs) bytes l =
     let front = take (size_of g) bytes in

@@ -1,4 +1,4 @@
--- A scan with the entries of a directory, on its way from entry to entry.
+-- A scan with the slots of a directory, on its way from slot to slot.
 use Rattle.std.proofs.Common.{◌≡◌, ℕ, ℤ, ◌+◌, ◌-◌, ◌^◌, ◌<◌, ◌≤◌, Bool, true, false, cond, List, [], ◌∷◌, ◌++◌, length, take, drop, get_or, Option, Some, None, option_map, refl, ap, subst, sym, ◌∙◌, arith, sum_by, slice_set, length-drop, append_assoc}
 use Rattle.std.specs.List.{list_any}
 use Rattle.std.proofs.lemmas.List.{append-nil, drop_more, drop_all, length-take}
@@ -17,10 +17,11 @@ use Rattle.twkb_body.proofs.Entering.{reaches, boxed_holds}
 use Rattle.twkb_layer.specs.Directory.{Place, box_of, place_of, places, is_missed, directory_cost}
 use Rattle.twkb_layer.specs.Hits.{hits, cost, filled}
 use Rattle.twkb_layer.specs.Layer.{IsCertifiedLayer, size_of, told_from}
+use Rattle.twkb_layer.specs.Slots.{Said, unboxed, is_beyond, place_with, places_from, places_of}
 use Rattle.twkb_layer.specs.Seeking.{outside}
 use Rattle.twkb_layer.specs.Window.{is_inside, box_misses}
 use Rattle.twkb_layer.specs.declared.hits.Hit.{Hit}
-use Rattle.twkb_layer.proofs.Layers.{blob_some, layer_once}
+use Rattle.twkb_layer.proofs.Layers.{blob_some, layer_once, layer_short}
 use Rattle.twkb_layer.proofs.Scanning.{hits_from, Next, next_of, filled_none, hits_step, found_step, room_step, found_fits, added_twice, counted_none}
 
 -- ---- a box that misses
@@ -46,15 +47,15 @@ missed_none w (geometry h l ids polygons members) bytes place at miss =
     let boxed = boxed_holds h l ids polygons members 1 bytes place k.ranges at k.box in
     none_of w (bounds_of h.xy h.z h.m k.ranges) (vertices (geometry h l ids polygons members)) k.misses (recursion_from_All (Holds (bounds_of h.xy h.z h.m k.ranges)) (vertices (geometry h l ids polygons members)) boxed)
 
--- ---- a scan with entries
-pub record Looking (w : Bounds) (bytes : List ℕ) (count0 : ℕ) (room0 : List Hit) (entries : List Place) (count blob found : ℕ) (room : List Hit) : Type 0 where
+-- ---- a scan with slots
+pub record Looking (w : Bounds) (bytes : List ℕ) (count0 : ℕ) (room0 : List Hit) (beyond : Said) (slots : List Said) (count blob found : ℕ) (room : List Hit) : Type 0 where
   pub trees : List Geometry
   pub whole : IsCertifiedLayer trees bytes
   pub rest : List Geometry
   pub place : ℕ
   pub seen : List Hit
   pub left : IsCertifiedLayer rest (drop place bytes)
-  pub places_are : drop blob entries ≡ told_from place_of blob place rest
+  pub places_are : places_from beyond slots ≡ told_from place_of blob place rest
   pub hits_are : hits trees w ≡ seen ++ hits_from blob place rest w
   pub found_is : found ≡ length seen
   pub room_is : room ≡ filled seen room0
@@ -62,9 +63,10 @@ pub record Looking (w : Bounds) (bytes : List ℕ) (count0 : ℕ) (room0 : List 
   pub count_fits : count ≤ 2 ^ 64 - 1
   pub found_small : found ≤ blob
   pub within : place ≤ length bytes
+  pub blob_is : blob + length rest ≡ length trees
 
-pub look_start : (w : Bounds) (bytes : List ℕ) (count0 : ℕ) (room0 : List Hit) (entries : List Place) (trees : List Geometry) → IsCertifiedLayer trees bytes → entries ≡ places trees → count0 < 2 ^ 64 → Looking w bytes count0 room0 entries count0 0 0 room0
-look_start w bytes count0 room0 entries trees whole are small = record {
+pub look_start : (w : Bounds) (bytes : List ℕ) (count0 : ℕ) (room0 : List Hit) (slots : List Said) (trees : List Geometry) → IsCertifiedLayer trees bytes → places_of slots ≡ places trees → count0 < 2 ^ 64 → Looking w bytes count0 room0 (unboxed 0) slots count0 0 0 room0
+look_start w bytes count0 room0 slots trees whole are small = record {
   trees = trees;
   whole = whole;
   rest = trees;
@@ -79,39 +81,66 @@ look_start w bytes count0 room0 entries trees whole are small = record {
   count_fits = omega (arith, small);
   found_small = omega arith;
   within = omega arith;
+  blob_is = omega arith;
 }
 
--- the entry of this number
-pub record Here (rest : List Geometry) (bytes : List ℕ) (place : ℕ) (entries : List Place) (blob : ℕ) (e : Place) : Type 0 where
+-- a slot of Z and M: what it says goes on
+pub look_beyond : (w : Bounds) (bytes : List ℕ) (count0 : ℕ) (room0 : List Hit) (beyond slot : Said) (slots : List Said) (count blob found : ℕ) (room : List Hit) → Looking w bytes count0 room0 beyond (slot ∷ slots) count blob found room → true ≡ is_beyond slot.part
+    → Looking w bytes count0 room0 slot slots count blob found room
+look_beyond w bytes count0 room0 beyond slot slots count blob found room s is = record {
+  trees = s.trees;
+  whole = s.whole;
+  rest = s.rest;
+  place = s.place;
+  seen = s.seen;
+  left = s.left;
+  places_are = ap (λ (b : Bool). cond b (places_from slot slots) (place_with beyond slot ∷ places_from beyond slots)) is ∙ s.places_are;
+  hits_are = s.hits_are;
+  found_is = s.found_is;
+  room_is = s.room_is;
+  count_is = s.count_is;
+  count_fits = s.count_fits;
+  found_small = s.found_small;
+  within = s.within;
+  blob_is = s.blob_is;
+}
+
+-- the blob of a slot
+pub record Here (rest : List Geometry) (bytes : List ℕ) (place : ℕ) (beyond : Said) (slots : List Said) (blob : ℕ) (e : Place) : Type 0 where
   pub next : Next rest bytes place
   pub offset : e.offset ≡ place
   pub bounds : e.bounds ≡ box_of next.tree
-  pub others : drop (blob + 1) entries ≡ told_from place_of (blob + 1) (place + size_of next.tree) next.after
+  pub others : places_from beyond slots ≡ told_from place_of (blob + 1) (place + size_of next.tree) next.after
 
 some_left : (rest : List Geometry) (bytes : List ℕ) (blob place : ℕ) (p : Place) (ps : List Place) → p ∷ ps ≡ told_from place_of blob place rest → IsCertifiedLayer rest (drop place bytes) → place < length bytes
 some_left [] bytes blob place p ps e left = absurd (cc (e))
 some_left (tree ∷ trees) bytes blob place p ps e left = omega (arith, length-drop place bytes, blob_some tree (take (size_of tree) (drop place bytes)) left.layer.0, length-take (size_of tree) (drop place bytes))
 
-first_of_places : (rest : List Geometry) (bytes : List ℕ) (place : ℕ) (entries : List Place) (blob : ℕ) (e : Place) → e ∷ drop (blob + 1) entries ≡ told_from place_of blob place rest → Next rest bytes place → Here rest bytes place entries blob e
-first_of_places rest bytes place entries blob e is n =
-    let both : e ∷ drop (blob + 1) entries ≡ (record { offset = place; bounds = box_of n.tree } ∷ told_from place_of (blob + 1) (place + size_of n.tree) n.after) = is ∙ ap (told_from place_of blob place) n.is in
+first_of_places : (rest : List Geometry) (bytes : List ℕ) (place : ℕ) (beyond : Said) (slots : List Said) (blob : ℕ) (e : Place) → e ∷ places_from beyond slots ≡ told_from place_of blob place rest → Next rest bytes place → Here rest bytes place beyond slots blob e
+first_of_places rest bytes place beyond slots blob e is n =
+    let both : e ∷ places_from beyond slots ≡ (record { offset = place; bounds = box_of n.tree } ∷ told_from place_of (blob + 1) (place + size_of n.tree) n.after) = is ∙ ap (told_from place_of blob place) n.is in
     let first : e ≡ record { offset = place; bounds = box_of n.tree } = cc (both) in
     record { next = n; offset = ap (λ (p : Place). p.offset) first; bounds = ap (λ (p : Place). p.bounds) first; others = cc (both) }
 
-pub here_of : (w : Bounds) (bytes : List ℕ) (count0 : ℕ) (room0 : List Hit) (entries : List Place) (count blob found : ℕ) (room : List Hit) (s : Looking w bytes count0 room0 entries count blob found room) (e : Place) → e ≡ get_or entries blob e → blob < length entries
-    → Here s.rest bytes s.place entries blob e
-here_of w bytes count0 room0 entries count blob found room s e is lt =
-    let left : e ∷ drop (blob + 1) entries ≡ told_from place_of blob s.place s.rest = ap (λ (p : Place). p ∷ drop (blob + 1) entries) is ∙ (sym (drop_more entries blob e lt) ∙ s.places_are) in
-    first_of_places s.rest bytes s.place entries blob e left (next_of s.rest bytes s.place s.left (some_left s.rest bytes blob s.place _ _ left s.left))
+pub here_of : (w : Bounds) (bytes : List ℕ) (count0 : ℕ) (room0 : List Hit) (beyond slot : Said) (slots : List Said) (count blob found : ℕ) (room : List Hit) (s : Looking w bytes count0 room0 beyond (slot ∷ slots) count blob found room) (e : Place) → e ≡ place_with beyond slot → false ≡ is_beyond slot.part
+    → Here s.rest bytes s.place beyond slots blob e
+here_of w bytes count0 room0 beyond slot slots count blob found room s e is own =
+    let left : e ∷ places_from beyond slots ≡ told_from place_of blob s.place s.rest = ap (λ (p : Place). p ∷ places_from beyond slots) is ∙ (ap (λ (b : Bool). cond b (places_from slot slots) (place_with beyond slot ∷ places_from beyond slots)) own ∙ s.places_are) in
+    first_of_places s.rest bytes s.place beyond slots blob e left (next_of s.rest bytes s.place s.left (some_left s.rest bytes blob s.place _ _ left s.left))
 
--- its blob stands there
-pub here_stands : (rest : List Geometry) (bytes now : List ℕ) (place : ℕ) (entries : List Place) (blob : ℕ) (e : Place) (h : Here rest bytes place entries blob e) → now ≡ bytes → StandsAt h.next.tree 1 now e.offset
-here_stands rest bytes now place entries blob e h same = rw (same, h.offset) h.next.stands
+-- it stands there
+pub here_stands : (rest : List Geometry) (bytes now : List ℕ) (place : ℕ) (beyond : Said) (slots : List Said) (blob : ℕ) (e : Place) (h : Here rest bytes place beyond slots blob e) → now ≡ bytes → StandsAt h.next.tree 1 now e.offset
+here_stands rest bytes now place beyond slots blob e h same = rw (same, h.offset) h.next.stands
 
-pub look_step : (w : Bounds) (bytes : List ℕ) (count0 : ℕ) (room0 : List Hit) (entries : List Place) (count blob found : ℕ) (room : List Hit) (s : Looking w bytes count0 room0 entries count blob found room) (e : Place) (n : Here s.rest bytes s.place entries blob e)
+-- and its number fits
+pub here_fits : (w : Bounds) (bytes : List ℕ) (count0 : ℕ) (room0 : List Hit) (beyond slot : Said) (slots : List Said) (count blob found : ℕ) (room : List Hit) (s : Looking w bytes count0 room0 beyond (slot ∷ slots) count blob found room) (e : Place) → Here s.rest bytes s.place beyond slots blob e
+    → blob < length bytes
+here_fits w bytes count0 room0 beyond slot slots count blob found room s e h = omega (arith, s.blob_is, ap length h.next.is, layer_short s.trees bytes s.whole.layer)
+
+pub look_step : (w : Bounds) (bytes : List ℕ) (count0 : ℕ) (room0 : List Hit) (beyond slot : Said) (slots : List Said) (count blob found : ℕ) (room : List Hit) (s : Looking w bytes count0 room0 beyond (slot ∷ slots) count blob found room) (e : Place) (n : Here s.rest bytes s.place beyond slots blob e)
     (reported : Hit) → reported ≡ record { blob = blob; offset = e.offset } → (new : ℕ) → new ≡ added count (directory_cost w n.next.tree) → (b : Bool) → b ≡ list_any (is_inside w) (vertices n.next.tree)
-    → Looking w bytes count0 room0 entries new (blob + 1) (cond b (found + 1) found) (cond b (slice_set room found reported) room)
-look_step w bytes count0 room0 entries count blob found room s e h reported is_hit new adds b is =
+    → Looking w bytes count0 room0 beyond slots new (blob + 1) (cond b (found + 1) found) (cond b (slice_set room found reported) room)
+look_step w bytes count0 room0 beyond slot slots count blob found room s e h reported is_hit new adds b is =
     let n = h.next in
     let place = s.place in
     let hit : Hit = record { blob = blob; offset = place } in
@@ -131,9 +160,16 @@ look_step w bytes count0 room0 entries count blob found room s e h reported is_h
       count_fits = omega (arith, adds);
       found_small = found_fits b found blob s.found_small;
       within = n.within;
+      blob_is = omega (arith, s.blob_is, ap length n.is);
     }
 
--- what a scan with entries found
+-- the slot of this number, and those behind it
+pub slot_next : (w : Bounds) (bytes : List ℕ) (count0 : ℕ) (room0 : List Hit) (beyond : Said) (slots : List Said) (at : ℕ) (count blob found : ℕ) (room : List Hit) → Looking w bytes count0 room0 beyond (drop at slots) count blob found room → (slot : Said) → slot ≡ get_or slots at slot → at < length slots
+    → Looking w bytes count0 room0 beyond (slot ∷ drop (at + 1) slots) count blob found room
+slot_next w bytes count0 room0 beyond slots at count blob found room s slot is lt =
+    subst (λ ls. Looking w bytes count0 room0 beyond ls count blob found room) (drop_more slots at slot lt ∙ ap (λ (l : Said). l ∷ drop (at + 1) slots) (sym is)) s
+
+-- what a scan with slots found
 pub record Found (w : Bounds) (count0 : ℕ) (room0 : List Hit) (count found : ℕ) (room : List Hit) (trees : List Geometry) : Type 0 where
   pub answer : found ≡ length (hits trees w)
   pub room_is : room ≡ filled (hits trees w) room0
@@ -143,10 +179,10 @@ no_places : (blob place : ℕ) (rest : List Geometry) → [] ≡ told_from place
 no_places blob place [] e = refl
 no_places blob place (t ∷ ts) e = absurd (cc (e))
 
-pub look_end : (w : Bounds) (bytes : List ℕ) (count0 : ℕ) (room0 : List Hit) (entries : List Place) (count blob found : ℕ) (room : List Hit) → Looking w bytes count0 room0 entries count blob found room → length entries ≤ blob
+pub look_end : (w : Bounds) (bytes : List ℕ) (count0 : ℕ) (room0 : List Hit) (beyond : Said) (slots : List Said) (at count blob found : ℕ) (room : List Hit) → Looking w bytes count0 room0 beyond (drop at slots) count blob found room → length slots ≤ at
     → (trees : List Geometry) → IsCertifiedLayer trees bytes → Found w count0 room0 count found room trees
-look_end w bytes count0 room0 entries count blob found room s le trees h =
-    let none = no_places blob s.place s.rest (sym (drop_all blob entries le) ∙ s.places_are) in
+look_end w bytes count0 room0 beyond slots at count blob found room s le trees h =
+    let none = no_places blob s.place s.rest (sym (ap (places_from beyond) (drop_all at slots le)) ∙ s.places_are) in
     let same : s.trees ≡ trees = layer_once s.trees trees bytes s.whole.layer h.layer in
     let all : hits s.trees w ≡ s.seen = s.hits_are ∙ (ap (λ ts. s.seen ++ hits_from blob s.place ts w) none ∙ append-nil s.seen) in
     let counts : count ≡ added count0 (sum_by (directory_cost w) s.trees) = counted_none count s.count_fits ∙ (ap (λ ts. added count (sum_by (directory_cost w) ts)) (sym none) ∙ s.count_is) in

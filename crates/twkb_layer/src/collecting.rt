@@ -1,5 +1,5 @@
-//! What is kept of each blob of a certified layer: the rows of a list, and the entries of a directory.
-ghost use Rattle.std.specs.Prelude.{◌≡◌, ◌+◌, ◌*◌, ◌≤◌, ℕ, List, length, map, IfSome, IfOk, OnErr, IsOk};
+//! What is kept of each blob of a certified layer: the rows of a list, and the slots of a directory.
+ghost use Rattle.std.specs.Prelude.{◌≡◌, ◌+◌, ◌*◌, ◌<◌, ◌≤◌, ◌++◌, ◌∷◌, [], ℕ, List, length, IfSome};
 ghost use Rattle.twkb_num.specs.Cursor.{added};
 ghost use Rattle.twkb_num.specs.Units.{IsPrecision};
 ghost use Rattle.twkb_head.specs.Spelled.{AreSpelled};
@@ -8,51 +8,50 @@ ghost use Rattle.twkb_body.specs.Standing.{StandsAt};
 ghost use Rattle.twkb_layer.specs.Layer.{IsCertifiedLayer, header_size, blob_by_blob, AddsAtMost};
 ghost use Rattle.twkb_layer.specs.Collecting.{SaysOf, HasPassed};
 
-use std::alloc::{AllocError, Allocator};
 use twkb_head::{Head, read_head};
 use twkb_num::Cursor;
 
-/// What is kept of a blob.
-pub trait OfBlob: Drop {
-    /// What it says.
+/// What keeps something of each blob of a layer, one after another.
+pub trait Keeper: Drop {
+    /// What it says of a blob.
     ghost Says: { Type 0 };
 
-    ghost says: { Self → Says };
+    /// What it says of those that it has kept.
+    ghost says: { Self → List Says };
 
     /// What is to be said of the blob of a number, an offset and a tree.
     ghost of: { ℕ → ℕ → Geometry → Says };
 
-    /// Reads it of the blob at the place, and moves past the blob.
-    fn read(cursor: &mut Cursor, blob: usize) -> Self
-        requires { (g : Geometry) × StandsAt g 1 cursor.old.bytes cursor.old.place }
-        ensures says { (g : Geometry) → StandsAt g 1 cursor.old.bytes cursor.old.place → says result ≡ of blob cursor.old.place g }
+    /// For how many more it has memory.
+    ghost spare: { Self → ℕ };
+
+    /// Reads the blob at the place, keeps what is to be said of it, and moves past it.
+    fn keep(&mut self, cursor: &mut Cursor, blob: usize)
+        requires stands { (g : Geometry) × StandsAt g 1 cursor.old.bytes cursor.old.place }
+        requires spare { 0 < spare self.old }
+        ensures says { (g : Geometry) → StandsAt g 1 cursor.old.bytes cursor.old.place → says self.new ≡ says self.old ++ of blob cursor.old.place g ∷ [] }
+        ensures spare { spare self.old ≤ spare self.new + 1 }
         ensures passed { (g : Geometry) → StandsAt g 1 cursor.old.bytes cursor.old.place → HasPassed g cursor.old cursor.new };
 }
 
-/// What is kept of a certified layer of so many blobs, blob after blob. All memory is taken first.
-pub fn collect<T: OfBlob, A: Allocator>(
-    alloc: A,
-    cursor: &mut Cursor,
-    blobs: usize,
-) -> Result<Vec<T, A>, AllocError>
-    requires { (trees : List Geometry) × IsCertifiedLayer trees cursor.old.bytes × (blobs ≡ length trees) }
-    ensures kept { (trees : List Geometry) → IsCertifiedLayer trees cursor.old.bytes → IfOk result (λ list. map T.says list.items ≡ blob_by_blob T.of trees) }
-    ensures empty { blobs ≡ 0 → IsOk result }
+/// What is kept of a certified layer, blob after blob. It has memory for all of them.
+pub fn collect<K: Keeper>(mut keeper: K, cursor: &mut Cursor) -> K
+    requires empty { K.says keeper ≡ [] }
+    requires spare { (trees : List Geometry) × IsCertifiedLayer trees cursor.old.bytes × (length trees ≤ K.spare keeper) }
+    ensures kept { (trees : List Geometry) → IsCertifiedLayer trees cursor.old.bytes → K.says result ≡ blob_by_blob K.of trees }
     ensures bytes { cursor.new.bytes ≡ cursor.old.bytes }
     ensures count { AddsAtMost (2 * length cursor.old.bytes) cursor.old.count cursor.new.count }
     ensures grows { cursor.old.count ≤ cursor.new.count }
-    ensures unread { OnErr result (cursor.new.count ≡ cursor.old.count) }
 {
     // The proof knows from here that the numbers fit their types.
     let _start = cursor.place();
-    let mut kept = Vec::with_capacity(alloc, blobs)?;
     cursor.go_to(0);
     let mut blob = 0;
     while cursor.place() < cursor.len() {
-        kept.push_reserved(T::read(cursor, blob));
+        keeper.keep(cursor, blob);
         blob += 1;
     }
-    Ok(kept)
+    keeper
 }
 
 /// The header of the blob at the place, which stays there.

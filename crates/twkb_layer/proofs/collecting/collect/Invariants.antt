@@ -1,13 +1,13 @@
-use Rattle.std.proofs.Common.{◌≡◌, ◌<◌, ◌-◌, ◌^◌, length, vec_len, vec_capacity}
+use Rattle.std.proofs.Common.{◌≡◌, ◌<◌, ◌-◌, ◌^◌, length}
 use Rattle.twkb_layer.proofs.Keeping.{Collecting}
 use Rattle.twkb_layer.proofs.collecting.collect.Given as goal
 
-abbrev pub invariant-loop-kept : goal.invariant-loop-kept
-invariant-loop-kept g l = record {
+abbrev pub invariant-loop-keeper : goal.invariant-loop-keeper
+invariant-loop-keeper g l = record {
   bytes : l.cursor.bytes ≡ l.fn.cursor.bytes;
   small : length l.fn.cursor.bytes < 2 ^ 64;
-  going : Collecting g.T.OfBlob.says g.T.OfBlob.of l.fn.cursor.bytes l.fn.cursor.count l.cursor.place l.cursor.count l.blob l.kept.items (vec_len l.kept) (vec_capacity l.kept);
+  going : Collecting g.K.Keeper.of l.fn.cursor.bytes l.fn.cursor.count l.cursor.place l.cursor.count l.blob (g.K.Keeper.says l.keeper) (g.K.Keeper.spare l.keeper);
 }
 
-abbrev pub decreases-loop-kept : goal.decreases-loop-kept
-decreases-loop-kept g l = length l.cursor.bytes - l.cursor.place
+abbrev pub decreases-loop-keeper : goal.decreases-loop-keeper
+decreases-loop-keeper g l = length l.cursor.bytes - l.cursor.place

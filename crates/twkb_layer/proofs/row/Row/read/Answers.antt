@@ -1,7 +1,7 @@
 use Rattle.std.proofs.Common.{◌∙◌, arith}
 use Rattle.std.proofs.lemmas.Int.{to_z-of_z}
 use Rattle.twkb_layer.proofs.Keeping.{stands_still, passed_then, counting_few, row_says}
-use Rattle.twkb_layer.proofs.row.RowOfBlob.read.Goals as goal
+use Rattle.twkb_layer.proofs.row.Row.read.Goals as goal
 
 pub overflow_sub-result : goal.overflow_sub-result
 overflow_sub-result c =

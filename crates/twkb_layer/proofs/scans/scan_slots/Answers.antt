@@ -1,0 +1,81 @@
+use Rattle.std.proofs.Common.{refl, sym, ◌∙◌, arith, sum_by, true, false}
+use Rattle.twkb_layer.specs.Directory.{directory_cost}
+use Rattle.twkb_layer.proofs.Costs.{directory_costs_few}
+use Rattle.twkb_layer.proofs.Looking.{look_start, look_beyond, slot_next, here_of, here_stands, here_fits, look_step, look_end}
+use Rattle.twkb_layer.proofs.scans.scan_slots.Goals as goal
+use Rattle.twkb_layer.proofs.scans.scan_slots.Goals.{then-is_beyond, else-is_beyond, then-look_at, else-look_at}
+
+pub loop-slot-init : goal.loop-slot-init
+loop-slot-init c = record {
+  bytes = refl;
+  small = c.place-start.ensures.sound.length_fits;
+  going = rw c.unboxed-nothing.ensures (look_start _ _ _ _ _ c.requires.0 c.requires.1 c.requires.2 (let s = c.place-start.ensures.sound in omega arith));
+}
+
+pub look_at-requires : goal.look_at-requires
+look_at-requires c =
+    let inv = c.loop-slot.invariant in
+    let s = slot_next _ _ _ _ _ _ _ _ _ _ _ inv.going c.slot-item.result c.slot-item.is c.loop-slot-test.true in
+    let h = here_of _ _ _ _ _ _ _ _ _ _ _ s c.new-entry.result c.new-entry.ensures c.if-is_beyond.ensures in
+    (h.next.tree, here_stands _ _ _ _ _ _ _ _ h inv.bytes)
+
+pub report-requires : goal.report-requires
+report-requires c =
+    let inv = c.loop-slot.invariant in
+    let s = slot_next _ _ _ _ _ _ _ _ _ _ _ inv.going c.slot-item.result c.slot-item.is c.loop-slot-test.true in
+    let h = here_of _ _ _ _ _ _ _ _ _ _ _ s c.new-entry.result c.new-entry.ensures c.if-is_beyond.ensures in
+    omega (arith, here_fits _ _ _ _ _ _ _ _ _ _ _ s _ h, inv.going.found_small, inv.small)
+
+pub overflow_add-blob : goal.overflow_add-blob
+overflow_add-blob c =
+    let inv = c.loop-slot.invariant in
+    let s = slot_next _ _ _ _ _ _ _ _ _ _ _ inv.going c.slot-item.result c.slot-item.is c.loop-slot-test.true in
+    let h = here_of _ _ _ _ _ _ _ _ _ _ _ s c.new-entry.result c.new-entry.ensures c.if-is_beyond.ensures in
+    omega (arith, here_fits _ _ _ _ _ _ _ _ _ _ _ s _ h, inv.small)
+
+pub loop-slot-preserved : goal.loop-slot-preserved
+loop-slot-preserved c =
+    let inv = c.loop-slot.invariant in
+    let s = slot_next _ _ _ _ _ _ _ _ _ _ _ inv.going c.slot-item.result c.slot-item.is c.loop-slot-test.true in
+    elim c.if-is_beyond.branch [
+      | then-is_beyond w ↦ record {
+        bytes = rw w.cursor-is inv.bytes;
+        small = inv.small;
+        going = rw (w.cursor-is, w.room-is, w.beyond-is, w.blob-is, w.found-is) (look_beyond _ _ _ _ _ _ _ _ _ _ _ s w.if-is_beyond.ensures);
+      }
+      | else-is_beyond w ↦
+          let h = here_of _ _ _ _ _ _ _ _ _ _ _ s w.new-entry.result w.new-entry.ensures w.if-is_beyond.ensures in
+          let stands = here_stands _ _ _ _ _ _ _ _ h inv.bytes in
+          let found = w.look_at.ensures.found h.next.tree stands h.bounds in
+          let count = w.look_at.ensures.count h.next.tree stands h.bounds in
+          record {
+            bytes = rw w.cursor-is (w.look_at.ensures.bytes ∙ inv.bytes);
+            small = inv.small;
+            going = rw (w.cursor-is, w.room-is, w.beyond-is, w.blob-is, w.found-is) (elim w.if-look_at.branch [
+              | then-look_at v ↦ rw (v.found-is, v.report.ensures.found, v.room-is, v.report.ensures.room) (look_step _ _ _ _ _ _ _ _ _ _ _ s _ h _ v.hit.ensures _ count true (sym v.if-look_at.true ∙ found))
+              | else-look_at v ↦ rw (v.found-is, v.room-is) (look_step _ _ _ _ _ _ _ _ _ _ _ s _ h _ refl _ count false (sym v.if-look_at.false ∙ found))
+            ]);
+          }
+    ]
+
+pub returns-clause-answer : goal.returns-clause-answer
+returns-clause-answer c = λ trees h. (look_end _ _ _ _ _ _ _ _ _ _ _ c.loop-slot.invariant.going c.loop-slot-test.false trees h).answer
+
+pub returns-clause-room : goal.returns-clause-room
+returns-clause-room c = λ trees h. (look_end _ _ _ _ _ _ _ _ _ _ _ c.loop-slot.invariant.going c.loop-slot-test.false trees h).room_is
+
+pub returns-clause-count : goal.returns-clause-count
+returns-clause-count c = λ trees h. (look_end _ _ _ _ _ _ _ _ _ _ _ c.loop-slot.invariant.going c.loop-slot-test.false trees h).count_is
+
+pub returns-clause-grows : goal.returns-clause-grows
+returns-clause-grows c =
+    let all = look_end _ _ _ _ _ _ _ _ _ _ _ c.loop-slot.invariant.going c.loop-slot-test.false c.requires.0 c.requires.1 in
+    let first = c.place-start.ensures.sound in
+    omega (arith, all.count_is, first.count_fits)
+
+pub returns-clause-few : goal.returns-clause-few
+returns-clause-few c = record {
+  read = sum_by (directory_cost c.args.window.now) c.requires.0;
+  few = directory_costs_few c.args.window.now c.requires.0 _ c.requires.1.layer;
+  is = (look_end _ _ _ _ _ _ _ _ _ _ _ c.loop-slot.invariant.going c.loop-slot-test.false c.requires.0 c.requires.1).count_is;
+}

@@ -1,0 +1,10 @@
+use Rattle.std.proofs.Common.{◌≡◌, ◌<◌, ◌^◌, length, drop}
+use Rattle.twkb_layer.proofs.Looking.{Looking}
+use Rattle.twkb_layer.proofs.scans.scan_slots.Given as goal
+
+abbrev pub invariant-loop-slot : goal.invariant-loop-slot
+invariant-loop-slot l = record {
+  bytes : l.cursor.bytes ≡ l.fn.cursor.bytes;
+  small : length l.fn.cursor.bytes < 2 ^ 64;
+  going : Looking l.window l.fn.cursor.bytes l.fn.cursor.count l.fn.room l.beyond (drop l.slot-index l.slots) l.cursor.count l.blob l.found l.room;
+}
