@@ -46,11 +46,11 @@ grew before after len read few small is = omega (arith, few.few, few.is, small, 
 pub window_lines : (reads : Bounds → Geometry → ℕ) (w : Bounds) (trees : List Geometry) (bytes : List ℕ) (room0 room : List Hit) (found read len : ℕ)
     → (given : List Geometry) × IsCertifiedLayer given bytes × (length given ≤ length room0) → IsCertifiedLayer trees bytes
     → found ≡ length (hits trees w) → room ≡ filled (hits trees w) room0 → read ≡ sum_by (reads w) trees → len ≡ length bytes
-    → (flat_map hit_line (take found room) ++ end_line (length (take found room)) read len) ≡ window_text reads trees (length bytes) w
+    → (flat_map hit_line (take found room) ++ end_line found read len) ≡ window_text reads trees (length bytes) w
 window_lines reads w trees bytes room0 room found read len given layer answer filled_is read_is len_is =
     let enough : length (hits trees w) ≤ length room0 = omega (arith, few_hits 0 0 trees w, enough_for (length room0) bytes trees given layer) in
     let front : take found room ≡ hits trees w = rw (answer, filled_is) (all_in_front (hits trees w) room0 enough) in
-    rw (front, read_is, len_is) refl
+    rw (front, answer, read_is, len_is) refl
 
 -- eight names and their values, one behind another
 joined : (out n1 v1 n2 v2 n3 v3 n4 v4 n5 v5 n6 v6 n7 v7 n8 v8 last : List ℕ)

@@ -1,5 +1,5 @@
 -- Texts of windows, one by one.
-use Rattle.std.proofs.Common.{◌≡◌, ℕ, ◌+◌, ◌<◌, List, [], ◌∷◌, ◌++◌, Bool, true, false, Ok, Err, Result, refl, arith, length, map, take, drop, get_or, suc}
+use Rattle.std.proofs.Common.{◌≡◌, ◌∙◌, ℕ, ◌+◌, ◌<◌, List, [], ◌∷◌, ◌++◌, Bool, true, false, Ok, Err, Result, refl, arith, length, map, take, drop, get_or, suc}
 use Rattle.std.specs.Prelude.{IfErr, if◌then◌else◌}
 use Rattle.std.specs.Borrow.{Bor}
 use Rattle.std.proofs.lemmas.List.{length-map, length-take, take_more}
@@ -10,7 +10,9 @@ use Rattle.twkb_head.specs.declared.boxes.Bounds.{Bounds}
 use Rattle.twkb_layer.specs.WindowText.{IsWindowText, in_order}
 use Rattle.twkb_layer.specs.declared.window.BadWindow.{BadWindow}
 use Rattle.twkb_layer.specs.declared.window.BadWindow.TheVariants.{Form, Order}
-use Rattle.twkb_tool.specs.Words.{AreWindows, IsBadText, IsFirstBad, IsWindow}
+use Rattle.twkb_tool.specs.Words.{AreNoWindows, AreWindows, IsBadText, IsFirstBad, IsNoWindowMore, IsWindow}
+use Rattle.twkb_tool.specs.declared.words.Usage.{Usage}
+use Rattle.twkb_tool.specs.declared.words.Usage.TheVariants.{Words, TooMany, Window as NoWindow, Memory}
 
 -- ---- one text
 
@@ -50,7 +52,7 @@ windows_more refs i d before window lt h here =
     rw (take_more (values refs) i d.now low, at) (windows_snoc (take i (values refs)) before (get_or refs i d).now window h here)
 
 -- the next text is the first that is none
-pub first_bad : (refs : List (Bor Text)) (i number : ℕ) (d : Bor Text) (before : List Bounds) (why : BadWindow) → i < length refs
+first_bad : (refs : List (Bor Text)) (i number : ℕ) (d : Bor Text) (before : List Bounds) (why : BadWindow) → i < length refs
     → number ≡ i + 1 → AreWindows (take i (values refs)) before → IsBadText (get_or refs i d).now why
     → IsFirstBad (values refs) number why
 first_bad refs i number d before why lt next h bad =
@@ -67,3 +69,11 @@ first_bad refs i number d before why lt next h bad =
       before_are = h;
       bad_is = rw at bad;
     }
+
+-- where the next text makes no window more, the texts are none
+pub no_windows : (refs : List (Bor Text)) (i number : ℕ) (d : Bor Text) (before : List Bounds) (usage : Usage) → i < length refs
+    → number ≡ i + 1 → AreWindows (take i (values refs)) before → IsNoWindowMore number (get_or refs i d).now usage → AreNoWindows (values refs) usage
+no_windows refs i number d before (NoWindow n why) lt next h bad = first_bad refs i n d before why lt (bad.0 ∙ next) h bad.1
+no_windows refs i number d before Memory lt next h bad = tt
+no_windows refs i number d before TooMany lt next h bad = absurd bad
+no_windows refs i number d before (Words error) lt next h bad = absurd bad

@@ -1,5 +1,5 @@
 //! The text that is printed for a certified layer.
-ghost use Rattle.std.specs.Prelude.{◌≡◌, ◌+◌, ◌-◌, ◌*◌, ◌^◌, ◌<◌, ◌≤◌, ◌++◌, List, length, flat_map, IfOk, OnOk, vec_len};
+ghost use Rattle.std.specs.Prelude.{◌≡◌, ◌+◌, ◌-◌, ◌*◌, ◌^◌, ◌<◌, ◌≤◌, ◌++◌, List, length, flat_map, take, IfOk, OnOk, vec_len};
 ghost use Rattle.twkb_body.specs.Geometry.{Geometry};
 ghost use Rattle.twkb_layer.specs.Directory.{IsDirectoryOf, directory_cost};
 ghost use Rattle.twkb_layer.specs.Hits.{cost};
@@ -104,7 +104,7 @@ fn push_window<A: Allocator>(
     let before = layer.read_count();
     let found = layer.scan(window, room);
     let read = layer.read_count() - before;
-    push_found(out, &room[..found], read, layer.len())
+    push_found(out, room, found, read, layer.len())
 }
 
 /// The same for each window, with a directory.
@@ -146,20 +146,23 @@ fn push_window_at<A: Allocator, D: Allocator>(
     let before = layer.read_count();
     let found = directory.scan(layer, window, room);
     let read = layer.read_count() - before;
-    push_found(out, &room[..found], read, layer.len())
+    push_found(out, room, found, read, layer.len())
 }
 
-/// The lines of the hits, and how many there are, how many bytes were read for them and how many there are in all.
+/// The lines of what was found in the front of the room: the hits, how many there are, how many bytes were read for them
+/// and how many there are in all.
 fn push_found<A: Allocator>(
     out: &mut Vec<u8, A>,
-    hits: &[Hit],
+    room: &[Hit],
+    found: usize,
     read: u64,
     len: usize,
 ) -> Result<(), AllocError>
-    ensures { OnOk result (out.new.items ≡ out.old.items ++ (flat_map hit_line hits.now ++ end_line (length hits.now) read len)) }
+    requires { found ≤ length room.now }
+    ensures { OnOk result (out.new.items ≡ out.old.items ++ (flat_map hit_line (take found room.now) ++ end_line found read len)) }
 {
-    push_hits(out, hits)?;
-    push_end_line(out, hits.len(), read, len)
+    push_hits(out, &room[..found])?;
+    push_end_line(out, found, read, len)
 }
 
 fn push_hits<A: Allocator>(out: &mut Vec<u8, A>, hits: &[Hit]) -> Result<(), AllocError>

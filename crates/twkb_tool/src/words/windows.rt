@@ -1,6 +1,7 @@
 //! The windows among the words.
-ghost use Rattle.std.specs.Prelude.{◌≡◌, map, length, vec_len, IfOk, IfErr};
-ghost use Rattle.twkb_tool.specs.Words.{AreWindows, AreNoWindows, IsBadText, IsWindow};
+ghost use Rattle.std.specs.Prelude.{◌≡◌, [], ◌∷◌, ◌++◌, map, length, vec_len, IfOk, IfErr, OnOk};
+ghost use Rattle.twkb_head.specs.declared.boxes.Bounds.{Bounds};
+ghost use Rattle.twkb_tool.specs.Words.{AreWindows, AreNoWindows, IsBadText, IsNoWindowMore, IsWindow};
 
 use crate::words::Usage;
 use std::alloc::Global;
@@ -17,12 +18,20 @@ pub fn windows_of(alloc: Global, texts: &[&str]) -> Result<Vec<Window>, Usage>
 {
     let mut windows = Vec::new(alloc);
     for (i, text) in texts.iter().enumerate() {
-        match window_of(text) {
-            Ok(window) => windows.push(window).map_err(|_| Usage::Memory)?,
-            Err(why) => return Err(Usage::Window { number: i + 1, why }),
-        }
+        push_window(&mut windows, i + 1, text)?;
     }
     Ok(windows)
+}
+
+/// Reads the text of this number as a window, and pushes it.
+fn push_window(windows: &mut Vec<Window>, number: usize, text: &str) -> Result<(), Usage>
+    ensures ok { OnOk result ((window : Bounds) × IsWindow text.now window × (windows.new.items ≡ windows.old.items ++ window ∷ [])) }
+    ensures err { IfErr result (IsNoWindowMore number text.now) }
+{
+    match window_of(text) {
+        Ok(window) => windows.push(window).map_err(|_| Usage::Memory),
+        Err(why) => Err(Usage::Window { number, why }),
+    }
 }
 
 /// The window of a text.

@@ -1,15 +1,10 @@
-use Rattle.std.proofs.Common.{◌≡◌, ◌++◌, ◌∙◌, List, ℕ, OnOk, subst, sum_by, ◌-◌, ap, arith, length-take, length}
+use Rattle.std.proofs.Common.{◌≡◌, ◌++◌, ◌∙◌, List, ℕ, OnOk, subst, sum_by, ◌-◌, ap, arith, length}
 use Rattle.twkb_layer.specs.Directory.{directory_cost}
 use Rattle.twkb_tool.proofs.TextLemmas.{found_fits_room, grew, window_lines}
 use Rattle.twkb_tool.proofs.text.push_window_at.Goals as goal
 
-pub slice_bounds-push_found-end : goal.slice_bounds-push_found-end
-slice_bounds-push_found-end g c = found_fits_room _ _ _ _ _ c.requires.room c.scan-found.ensures.answer c.scan-found.auto.room
-
-pub slice_bounds-push_found-end-2 : goal.slice_bounds-push_found-end-2
-slice_bounds-push_found-end-2 g c =
-    let fits = found_fits_room _ _ _ _ _ c.requires.room c.scan-found.ensures.answer c.scan-found.auto.room in
-    omega (arith, fits, length-take c.scan-found.result c.scan-found.new.room)
+pub push_found-requires : goal.push_found-requires
+push_found-requires g c = found_fits_room _ _ _ _ _ c.requires.room c.scan-found.ensures.answer c.scan-found.auto.room
 
 pub returns-clause-text : goal.returns-clause-text
 returns-clause-text g c = λ trees layer.

@@ -1,12 +1,15 @@
-use Rattle.std.proofs.Common.{arith, rules}
-use Rattle.twkb_tool.proofs.WindowLemmas.{first_bad, windows_more}
+use Rattle.std.proofs.Common.{ap, arith, length, length-append, rules, [], ◌∷◌}
+use Rattle.twkb_tool.proofs.WindowLemmas.{no_windows, windows_more}
 use Rattle.twkb_tool.proofs.words.windows.windows_of.Goals as goal
 
-pub returns-in-Err-clause-err : goal.returns-in-Err-clause-err
-returns-in-Err-clause-err c =
-    first_bad c.args.texts.now c.loop-i.i _ _ c.loop-i.windows.items _ c.loop-i-test.true (omega arith) c.loop-i.invariant.windows c.in-Err.ensures.err
+pub returns-in_err-push_window-clause-err : goal.returns-in_err-push_window-clause-err
+returns-in_err-push_window-clause-err c =
+    let none = no_windows c.args.texts.now c.loop-i.i _ _ c.loop-i.windows.items _ c.loop-i-test.true (omega arith) c.loop-i.invariant.windows c.in_err-push_window.ensures.err in
+    search rules
 
 pub loop-i-preserved : goal.loop-i-preserved
 loop-i-preserved c =
-    let next = windows_more c.args.texts.now c.loop-i.i _ c.loop-i.windows.items c.in-Ok.window c.loop-i-test.true c.loop-i.invariant.windows c.in-Ok.ensures.ok in
-    record { windows = search rules; count = search rules }
+    let pushed = c.in_ok-push_window.ensures.ok in
+    let next = windows_more c.args.texts.now c.loop-i.i _ c.loop-i.windows.items pushed.0 c.loop-i-test.true c.loop-i.invariant.windows pushed.1 in
+    let longer = ap length pushed.2 in
+    record { windows = rw pushed.2 next; count = omega (arith, longer, length-append c.loop-i.windows.items (pushed.0 ∷ []), c.loop-i.invariant.count) }
