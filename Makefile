@@ -19,7 +19,7 @@ help:
 	@echo 'make test       build, test the program from end to end, and run the merge gate'
 	@echo 'make bench      build, and compare with plain Rust on 40 MB (needs rustc; valgrind counts instructions)'
 	@echo 'make picture    build, and draw how much of a layer scans read: docs/hops.svg'
-	@echo 'make refusals   refuse each allocation of the program in turn (builds it some fifty times)'
+	@echo 'make refusals   build, and refuse each call of the program for memory in turn (needs cc)'
 	@echo 'make twins      check the twins of the wrong bodies, which mean what the source means'
 	@echo 'make clean      remove what was built'
 
@@ -70,9 +70,9 @@ bench: build
 picture: build
 	python3 bench/hops.py $(PROGRAM)
 
-# Each allocation of the whole program in turn; it builds the program for each, so the gate leaves it out.
-refusals: kit
-	python3 tests/refuse_allocations.py
+# Each call of the whole program for memory in turn. It needs a C compiler, so the gate leaves it out.
+refusals: build
+	python3 tests/refuse_allocations.py $(PROGRAM)
 
 # Each is a check of its crate, so the gate leaves them out.
 twins: kit

@@ -1,28 +1,41 @@
 #!/usr/bin/env python3
-"""Refuses each allocation of whole runs in turn, those of reading the words among them, until none is left to refuse.
+"""Refuses each call for memory of whole runs of the program in turn, those of reading the words among them.
 
-usage: tests/refuse_allocations.py [NUMBER ..]   (of RUNS, from 0; each where none is named. With the kit's rt in PATH;
-it builds the program for each refusal, so it takes a while)
+usage: tests/refuse_allocations.py PROGRAM   (needs cc, which makes the library of tests/refuse.c)
 
-A run that can't do without what was refused has to put nothing, say why in one line on standard error and end with
-status 3; any other has to end as it does with all its memory, and after some of these in a row no allocation is left.
-The last line is `N refused, M failed`; the status is 1 where any failed.
+The library stands before the C library, so it is the built program itself that is refused. A run that can't do without
+what was refused has to put nothing, say why in one line on standard error and end with status 3; any other has to end
+as it does with all its memory. Prints for each run how many calls it has, and how many it can't do without. The last
+line is `N refused, M failed`; the status is 1 where any failed.
 """
 import os
 import subprocess
 import sys
+import tempfile
 
-CRATE = os.path.join(os.path.dirname(os.path.abspath(__file__)), "..", "crates", "twkb_tool")
+HERE = os.path.dirname(os.path.abspath(__file__))
 
-# The words, and the status and the text of their run. Those of a file that isn't there stop once the words are read,
-# and some stop before that: where a window is none, and where clap refuses them and makes a text of its own.
-SQUARE = "x=-0.5..0.0000001,y=1..1"
+# A line from 1 1 to 5 5, a point cut before its first number, and what is known of them.
+LINE = bytes.fromhex("02000202020808")
+ROW = "blob=0 offset=0 bytes=7 type=linestring precision=0 vertices=2 size=no box=no\n"
+HIT = "hit blob=0 offset=0\nhits=1 read=7 of=7\n"
+NO_HIT = "hits=0 read=7 of=7\n"
+CUT = bytes.fromhex("0100")
+
+# The words, and the status and the text of their run. Some stop once the words are read, as no file is there, and some
+# before that: where a window is none, and where clap refuses them and makes a text of its own.
+INSIDE, OUTSIDE = "x=1..1,y=1..1", "x=-0.5..0.0000001,y=1..1"
 RUNS = [
-    (["check", "data/line.twkb"], 0, "ok blobs=1 vertices=2\n"),
-    (["list", "none.twkb"], 3, ""),
-    (["scan", "none.twkb", SQUARE, SQUARE], 3, ""),
-    (["scan", "none.twkb", SQUARE, "x=1..0,y=0..0"], 2, ""),
-    (["scan", "none.twkb"], 2, ""),
+    (["check", "line"], 0, "ok blobs=1 vertices=2\n"),
+    (["check", "cut"], 1, "no blob=0 offset=2 kind=cut\n"),
+    (["list", "line"], 0, ROW),
+    (["scan", "line", INSIDE], 0, HIT),
+    (["scan", "line", OUTSIDE], 0, NO_HIT),
+    (["scan", "line", INSIDE, INSIDE], 0, HIT + HIT),
+    (["list", "none"], 3, ""),
+    (["scan", "none", INSIDE, OUTSIDE], 3, ""),
+    (["scan", "none", INSIDE, "x=1..0,y=0..0"], 2, ""),
+    (["scan", "none"], 2, ""),
 ]
 
 # Words and a file are fetched with memory of their own, so its want may show as any of these.
@@ -30,51 +43,63 @@ REASONS = {"twkb_tool: cannot read words", "twkb_tool: cannot open file", "twkb_
 # The first and the last of them have to come.
 EXPECTED = REASONS - {"twkb_tool: cannot open file"}
 
-# What rt says of a run, and not the program.
-OF_RT = ("allocations: ", "checked: ", "run=")
 
-# So many answers in a row say that nothing is left to refuse.
-ENOUGH = 4
+class Refuser:
+    """The program, and the library that refuses it a call."""
+
+    def __init__(self, program, folder):
+        self.program = os.path.abspath(program)
+        self.folder = folder
+        self.library = os.path.join(folder, "refuse.so")
+        source = os.path.join(HERE, "refuse.c")
+        subprocess.run(["cc", "-shared", "-fPIC", "-O1", "-o", self.library, source], check=True)
+
+    def run(self, words, call):
+        """The status, the text and the lines on standard error of a run that is refused this call; and its calls."""
+        counted, counts = os.pipe()
+        variables = {"LD_PRELOAD": self.library, "REFUSED": str(call), "COUNT": str(counts)}
+        done = subprocess.run(
+            [self.program, *words], cwd=self.folder, env=variables, pass_fds=[counts], capture_output=True, text=True
+        )
+        os.close(counts)
+        with os.fdopen(counted) as told:
+            count = int(told.read() or 0)
+        return (done.returncode, done.stdout, done.stderr.splitlines()), count
 
 
-def run(words, *options):
-    """The status of a run, its text, and the lines on standard error."""
-    done = subprocess.run(["rt", "try", *options, "--", *words], cwd=CRATE, capture_output=True, text=True)
-    return done.returncode, done.stdout, [line for line in done.stderr.splitlines() if not line.startswith(OF_RT)]
-
-
-def refuse_each(words, answer):
-    """How many allocations were refused, and what failed."""
-    refused = answered = 0
-    faults, seen = [], set()
-    for call in range(1, 1000):
-        status, text, said = run(words, "--fail-alloc", str(call))
-        if (status, text, said) == answer:
-            answered += 1
-            if answered == ENOUGH:
-                break
-            continue
-        answered = 0
-        refused += 1
-        if (status, text) != (3, "") or len(said) != 1 or said[0] not in REASONS:
-            faults.append(f"call {call}: status {status}, standard output {text!r}, standard error {said}")
-        seen.update(said)
-    else:
-        faults.append("there was always something left to refuse")
-    faults += [f"never said: {reason}" for reason in sorted(EXPECTED - seen)]
-    return refused, faults
+def refuse_each(refuser, words, status, text):
+    """How many calls were refused, how many of them the run can't do without, and what failed."""
+    answer, calls = refuser.run(words, 0)
+    faults = [] if answer[:2] == (status, text) and calls > 0 else [f"with all its memory, {calls} calls: {answer}"]
+    stopped, seen = 0, set()
+    for call in range(1, calls + 1):
+        other, count = refuser.run(words, call)
+        if count < call:
+            faults.append(f"call {call} never came")
+        elif other != answer:
+            stopped += 1
+            seen.update(other[2])
+            if other[:2] != (3, "") or len(other[2]) != 1 or other[2][0] not in REASONS:
+                faults.append(f"call {call}: {other}")
+    return calls, stopped, faults + [f"never said: {reason}" for reason in sorted(EXPECTED - seen)]
 
 
 def main():
+    if len(sys.argv) != 2:
+        sys.exit("usage: tests/refuse_allocations.py PROGRAM")
     refused = failed = 0
-    for words, status, text in [RUNS[int(number)] for number in sys.argv[1:]] or RUNS:
-        answer = run(words)
-        faults = [f"with all its memory it ends so: {answer}"] if answer[:2] != (status, text) else []
-        count, more = refuse_each(words, answer)
-        for fault in faults + more:
-            print(f"{' '.join(words)}: {fault}", flush=True)
-        refused += count
-        failed += len(faults + more)
+    with tempfile.TemporaryDirectory(prefix="refused-") as folder:
+        for name, data in [("line", LINE), ("cut", CUT)]:
+            with open(os.path.join(folder, name), "wb") as file:
+                file.write(data)
+        refuser = Refuser(sys.argv[1], folder)
+        for words, status, text in RUNS:
+            calls, stopped, faults = refuse_each(refuser, words, status, text)
+            print(f"{' '.join(words)}: {calls} calls refused, of which {stopped} end the run", flush=True)
+            for fault in faults:
+                print(f"    FAILED: {fault}", flush=True)
+            refused += calls
+            failed += len(faults)
     print(f"{refused} refused, {failed} failed")
     sys.exit(failed > 0)
 
