@@ -104,6 +104,9 @@ def words_of_clap(program, layer):
         (["check", layer, "other"], b"unexpected argument 'other' found"),
         (["list", layer, WINDOW], b"unexpected argument"),
         (["--help"], b"Usage: twkb_tool <COMMAND>"),
+        (["check", "--help"], b"Certifies a layer, or names its first false claim\n"),
+        (["list", "--help"], b"Says of each blob of a certified layer what it is\n"),
+        (["scan", "--help"], b"Names the blobs of a certified layer that have a vertex inside, for each window\n"),
     ]
     for words, part in said:
         status, out, error = run([program] + words)
