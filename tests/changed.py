@@ -62,7 +62,8 @@ def comparison(program, folder, data):
         (["scan", layer, texts[0]], plain.scan(data, windows[:1])),
         (["scan", layer, *texts], plain.scan(data, windows)),
     ]
-    wanted = [(["check", layer], plain.check(data)), *(others if certified else [chance.choice(others)])]
+    checks = [(["check", layer], plain.check(data)), (["check", "--tight", layer], plain.check(data, tight=True))]
+    wanted = [*checks, *(others if certified else [chance.choice(others)])]
     return [(words, run([program, *words]), answered(text)) for words, text in wanted]
 
 

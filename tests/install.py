@@ -88,6 +88,9 @@ def in_bash(folder):
         (["twkb_tool", "scan", "an"], ["another.twkb"]),
         (["twkb_tool", "scan", "another.twkb", ""], ["x="]),
         (["twkb_tool", "check", "another.twkb", ""], []),
+        (["twkb_tool", "check", "-"], ["--tight"]),
+        (["twkb_tool", "check", "another.twkb", "--"], ["--tight"]),
+        (["twkb_tool", "check", "--tight", "an"], ["another.twkb"]),
     ]
     for words, wanted in completed:
         count(f"bash: {words}", completed_by_bash(words, folder), wanted)
@@ -100,6 +103,8 @@ def in_zsh(folder):
         ("twkb_tool scan ano\t", "twkb_tool scan another.twkb "),
         ("twkb_tool check a\\ l\t", "twkb_tool check a\\ layer.twkb "),
         ("twkb_tool check another.twkb x\t", "twkb_tool check another.twkb x"),
+        ("twkb_tool check --t\t", "twkb_tool check --tight "),
+        ("twkb_tool check --tight ano\t", "twkb_tool check --tight another.twkb "),
     ]
     for keys, wanted in completed:
         with open(os.path.join(folder, ".keys"), "w") as file:

@@ -1,6 +1,7 @@
 """A plain second program, by the rules of docs/FORMAT.md, to compare the program with.
 
-`check(bytes)`, `rows(bytes)` and `scan(bytes, windows)` are the lines that `check`, `list` and `scan` have to print. It is
+`check(bytes)`, `check(bytes, tight=True)`, `rows(bytes)` and `scan(bytes, windows)` are the lines that `check`, `check
+--tight`, `list` and `scan` have to print. It is
 short rather than fast: a geometry is read into a tree, and its claims are listed and judged afterwards; a scan looks at
 every vertex for its hits, and adds up for what it reads.
 """
@@ -91,6 +92,17 @@ class Head:
             for axis in range(4)
         )
 
+    def is_loose(self, vertices):
+        """Whether an end of the box is a step of its precision or more beyond the vertices, in an axis that both have."""
+        for axis in range(4):
+            values = [vertex[axis] for vertex in vertices if vertex[axis] is not None]
+            if self.box[axis] is not None and values:
+                low, high = self.box[axis]
+                step = self.units(axis, 1)
+                if min(values) - low >= step or high - max(values) >= step:
+                    return True
+        return False
+
     def misses(self, window):
         """Whether there is a box, and it ends before the window or begins behind it in an axis that both have."""
         return self.box is not None and any(
@@ -160,6 +172,8 @@ class Geometry:
             self.claims.append((head.size_at, "size"))
         if head.box is not None and not all(map(head.holds, self.vertices)):
             self.claims.append((head.box_at, "box"))
+        if head.box is not None and head.is_loose(self.vertices):
+            self.claims.append((head.box_at, "loose"))
         if len(set(self.ids)) < len(self.ids):
             self.claims.append((self.ids_at, "ids"))
 
@@ -172,9 +186,9 @@ class Geometry:
         return self.stop - self.start
 
 
-@functools.lru_cache(maxsize=1)
-def blobs_of(data):
-    """The blobs of a certified layer."""
+@functools.lru_cache(maxsize=2)
+def blobs_of(data, tight=False):
+    """The blobs of a certified layer; in tight checking a loose box refuses it too."""
     reader, blobs = Reader(data), []
     while reader.place < len(data):
         claims = []
@@ -182,8 +196,9 @@ def blobs_of(data):
             blob = Geometry(reader, 1, claims)
         except Malformed as fault:
             raise Refused(len(blobs), *fault.args) from None
-        if claims:
-            raise Refused(len(blobs), *min(claims))
+        judged = [claim for claim in claims if tight or claim[1] != "loose"]
+        if judged:
+            raise Refused(len(blobs), *min(judged))
         blobs.append(blob)
     return blobs
 
@@ -209,16 +224,18 @@ def is_inside(vertex, window):
     )
 
 
-def lines(data, text):
+def lines(data, text, tight=False):
     """The text of the blobs of a layer, or the line of its refusal."""
     try:
-        return text(blobs_of(data))
+        return text(blobs_of(data, tight))
     except Refused as refusal:
         return "no blob={} offset={} kind={}\n".format(*refusal.args)
 
 
-def check(data):
-    return lines(data, lambda blobs: f"ok blobs={len(blobs)} vertices={sum(len(blob.vertices) for blob in blobs)}\n")
+def check(data, tight=False):
+    return lines(
+        data, lambda blobs: f"ok blobs={len(blobs)} vertices={sum(len(blob.vertices) for blob in blobs)}\n", tight
+    )
 
 
 def rows(data):

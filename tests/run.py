@@ -21,6 +21,7 @@ import time
 import changed
 import plain
 from harness import TOP, answered, count, counts, fault, run, table, written
+from widened import widened
 
 POINT = bytes.fromhex("01000204")
 LINE = "ok blobs=1 vertices=1\n"
@@ -28,7 +29,7 @@ ROW = "blob=0 offset=0 bytes=4 type=point precision=0 vertices=1 size=no box=no\
 HIT = "hit blob=0 offset=0\nhits=1 read=4 of=4\n"
 WINDOW = "x=1..1,y=2..2"
 # The words of each command but the layer, which stands behind the first, and what they give on POINT.
-COMMANDS = [(["check"], LINE), (["list"], ROW), (["scan", WINDOW], HIT), (["scan", WINDOW, WINDOW], HIT + HIT)]
+COMMANDS = [(["check"], LINE), (["check", "--tight"], LINE), (["list"], ROW), (["scan", WINDOW], HIT), (["scan", WINDOW, WINDOW], HIT + HIT)]
 NOBODY = 65534
 GREATEST_FILE, GREATEST_WINDOWS = 268435456, 64
 # Layers that PostGIS wrote, with their blobs and vertices.
@@ -69,7 +70,10 @@ def examples(program):
     for name, blobs, vertices in EXAMPLES:
         with open(example(name), "rb") as file:
             data = file.read()
-        count(f"check {name}", run([program, "check", example(name)]), answered(f"ok blobs={blobs} vertices={vertices}\n"))
+        certified = answered(f"ok blobs={blobs} vertices={vertices}\n")
+        count(f"check {name}", run([program, "check", example(name)]), certified)
+        # PostGIS makes boxes that are as small as their precision lets them be.
+        count(f"tight {name}", run([program, "check", "--tight", example(name)]), certified)
         listed = run([program, "list", example(name)])
         count(f"list {name}", listed, answered(plain.rows(data)))
         rows = listed[1].decode().splitlines()
@@ -93,6 +97,21 @@ def scans(program, name, data, windows):
         count(f"scan {name}, {len(texts)} windows", run([program, "scan", layer, *texts]), wanted)
 
 
+def wider_boxes(program, folder):
+    """Layers whose boxes are true and a degree too large: certified, loose, and scanned to the same hits."""
+    for name, blobs, vertices in EXAMPLES[1:]:
+        with open(example(name), "rb") as file:
+            data = widened(file.read(), 10**7)
+        layer = written(folder, "wider.twkb", data)
+        count(f"wider {name}", run([program, "check", layer]), answered(f"ok blobs={blobs} vertices={vertices}\n"))
+        tight = run([program, "check", layer, "--tight"])
+        count(f"wider {name}, tight", tight, answered(plain.check(data, tight=True)))
+        count(f"wider {name}, loose", tight[1].endswith(b" kind=loose\n"), True)
+        for window, hits in [(window, hits) for layer, window, hits in table("postgis.tsv") if layer == name][:8]:
+            got = run([program, "scan", layer, window])
+            count(f"wider {name} {window}", got[1].decode().rpartition("hits=")[2].split(" ")[0], hits)
+
+
 def words_of_clap(program, layer):
     said = [
         ([], b"requires a subcommand"),
@@ -103,6 +122,8 @@ def words_of_clap(program, layer):
         (["scan", layer], b"required arguments were not provided"),
         (["check", layer, "other"], b"unexpected argument 'other' found"),
         (["list", layer, WINDOW], b"unexpected argument"),
+        (["list", "--tight", layer], b"unexpected argument '--tight' found"),
+        (["scan", layer, WINDOW, "--tight"], b"unexpected argument '--tight' found"),
         (["--help"], b"Usage: twkb_tool <COMMAND>"),
         (["check", "--help"], b"Certifies a layer, or names its first false claim\n"),
         (["list", "--help"], b"Says of each blob of a certified layer what it is\n"),
@@ -239,6 +260,7 @@ def main():
         layer = written(folder, "layer.twkb", POINT)
         cases(program, folder)
         examples(program)
+        wider_boxes(program, folder)
         changed.layers(program, folder)
         changed.windows(program, layer, POINT)
         words_of_clap(program, layer)

@@ -6,20 +6,28 @@ use crate::fault::{Claim, Fault};
 use crate::geometry::Geometry;
 use crate::layer::Layer;
 use crate::reader::{Header, Reader};
+use crate::tight::is_loose;
 use crate::window::is_held;
 use std::alloc::Global;
 use twkb_head::{DEEPEST, Kind};
 
 /// The blob at the front of the bytes; what stands behind it isn't looked at.
 pub fn read_blob(alloc: Global, bytes: &[u8]) -> Result<Layer, Fault> {
-    let mut reader = Reader::new(alloc, bytes);
+    let mut reader = Reader::new(alloc, bytes, false);
+    reader.blob(alloc)?;
+    Ok(reader.layer)
+}
+
+/// The same in tight checking.
+pub fn read_blob_tight(alloc: Global, bytes: &[u8]) -> Result<Layer, Fault> {
+    let mut reader = Reader::new(alloc, bytes, true);
     reader.blob(alloc)?;
     Ok(reader.layer)
 }
 
 /// The bytes as one blob after another.
 pub fn read_layer(alloc: Global, bytes: &[u8]) -> Result<Layer, Fault> {
-    let mut reader = Reader::new(alloc, bytes);
+    let mut reader = Reader::new(alloc, bytes, false);
     // No blob is shorter than two bytes.
     for _ in 0..bytes.len() {
         if !reader.is_at_end() {
@@ -122,6 +130,11 @@ impl<'a> Reader<'a> {
                 holds = holds && is_held(vertex, &bounds);
             }
             self.tell(holds, offset, Claim::Box);
+            if self.is_tight {
+                let vertices = &self.layer.vertices;
+                let loose = is_loose(&bounds, &header.axes, vertices, vertices_before);
+                self.tell(!loose, offset, Claim::Loose);
+            }
         }
     }
 }

@@ -8,6 +8,8 @@ pub enum Claim {
     Size,
     Box,
     Ids,
+    /// Of a box, in tight checking alone.
+    Loose,
 }
 
 /// The first malformation of a blob, else the false claim of least offset.

@@ -6,7 +6,8 @@
 //! clause says what it answers: the tests compare.
 //!
 //! - [`read_blob`] reads the blob at the front of some bytes, and [`read_layer`] one blob after another to their end.
-//!   Each answers a [`Layer`], or the [`Fault`] that comes first.
+//!   Each answers a [`Layer`], or the [`Fault`] that comes first. [`read_blob_tight`] finds loose
+//!   boxes too.
 //! - A [`Layer`] says which blobs have a vertex inside a window, and how much a scan reads ([`Work`]).
 #![tactic(auto)]
 
@@ -15,10 +16,11 @@ mod fault;
 mod geometry;
 mod layer;
 mod reader;
+mod tight;
 mod window;
 mod work;
 
-pub use bodies::{read_blob, read_layer};
+pub use bodies::{read_blob, read_blob_tight, read_layer};
 pub use fault::{Claim, Fault};
 pub use geometry::Geometry;
 pub use layer::Layer;

@@ -14,14 +14,16 @@ pub struct Reader<'a> {
     pub layer: Layer,
     /// The false claim of least offset so far.
     pub lie: Option<(usize, Claim)>,
+    /// Whether loose boxes are false too.
+    pub is_tight: bool,
 }
 
 /// How the numbers under one header are read.
 #[derive(Clone, Copy)]
 pub struct Axes {
     pub xy: i8,
-    z: Option<i8>,
-    m: Option<i8>,
+    pub z: Option<i8>,
+    pub m: Option<i8>,
     last: [i128; 4],
 }
 
@@ -39,12 +41,13 @@ pub struct Header {
 }
 
 impl<'a> Reader<'a> {
-    pub fn new(alloc: Global, bytes: &'a [u8]) -> Reader<'a> {
+    pub fn new(alloc: Global, bytes: &'a [u8], is_tight: bool) -> Reader<'a> {
         Reader {
             total: bytes.len(),
             left: bytes,
             layer: Layer::new(alloc),
             lie: None,
+            is_tight,
         }
     }
 

@@ -1,5 +1,5 @@
 -- Points as sums, coordinate by coordinate: the loop over axes.
-use Rattle.std.proofs.Common.{◌≡◌, ℕ, zero, suc, ◌+◌, ◌<◌, ◌≤◌, true, cond, List, [], ◌∷◌, ◌++◌, length, drop, set, map, slice_index_or, ℤ, pos, ◌+ℤ◌, Option, Some, None, is_some, option_map, Result, Ok, Err, refl, sym, ap, ap₂, subst, ◌∙◌, arith, length-append}
+use Rattle.std.proofs.Common.{◌≡◌, ℕ, zero, suc, ◌+◌, ◌<◌, ◌≤◌, true, List, [], ◌∷◌, ◌++◌, length, drop, set, map, slice_index_or, ℤ, pos, ◌+ℤ◌, Option, Some, None, is_some, option_map, Result, Ok, Err, refl, sym, ap, ap₂, subst, ◌∙◌, arith, length-append}
 use Rattle.std.proofs.lemmas.Int.{ints}
 use Rattle.twkb_num.specs.Cursor.{Reading, rest}
 use Rattle.twkb_num.specs.Units.{units_of}

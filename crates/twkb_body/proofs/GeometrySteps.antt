@@ -1,5 +1,5 @@
 -- The steps of reading a geometry: its header, and what its body gives.
-use Rattle.std.proofs.Common.{◌≡◌, ℕ, zero, suc, ◌+◌, ◌-◌, ◌≤◌, ◌==◌, Bool, true, false, List, [], length, map, ℤ, Option, Some, None, option_map, Ok, refl, sym, ap, ap₂, subst, ◌∙◌, arith}
+use Rattle.std.proofs.Common.{◌≡◌, ℕ, zero, suc, ◌+◌, ◌-◌, ◌≤◌, ◌==◌, Bool, true, false, cond, List, [], length, map, ℤ, Option, Some, None, option_map, Ok, refl, sym, ap, ap₂, subst, ◌∙◌, arith}
 use Rattle.twkb_num.specs.Cursor.{Reading, passed, IsMoved}
 use Rattle.twkb_head.specs.declared.header.Head.{Head}
 use Rattle.twkb_head.specs.declared.header.BoxField.{BoxField}
@@ -16,10 +16,9 @@ use Rattle.twkb_body.specs.Geometry.{Geometry, Members, none, Lengths, points_of
 use Rattle.twkb_body.specs.Extent.{Reach, reach_of, both}
 use Rattle.twkb_body.specs.BodyPlan.{Body, no_body, geometry_from}
 use Rattle.twkb_body.specs.BodyReader.{spanned, shape_at, body_at, parts_at, members_at, geometry_by, geometry_at}
-use Rattle.twkb_body.specs.Pass.{Refused, NamesFirstFalse, MemberSums, Sums, first, nothing, over, false_at, is_within, size_refused, box_refused, ids_refused}
+use Rattle.twkb_body.specs.Pass.{IsRefusedFor, MemberSums, Sums, first, nothing, over, false_at, is_within, is_tight, size_refused, box_refused, ids_refused}
 use Rattle.twkb_body.specs.Found.{named, size_judged, box_judged, IsFound}
 use Rattle.twkb_body.specs.Seen.{HasSeen}
-use Rattle.twkb_body.specs.Claims.{claims_in}
 use Rattle.twkb_body.specs.Inside.{of_head, IsInside}
 use Rattle.twkb_body.proofs.Passes.{over_sums, none_sums}
 use Rattle.twkb_body.proofs.Reaches.{both-none}
@@ -85,11 +84,11 @@ shape_of_head head h start size_place box_place stop e r = ap (λ (x : Head). sh
     same true = refl
 
 -- nothing is found in an empty body, and nothing is seen
-pub nothing_inside : (h : Header) (bounds : Option BoxField) (place : ℕ) (above : Seen) (inside : Inside) → inside.found.vertices ≡ 0 → inside.found.refused ≡ None
-    → named inside.boxed ≡ box_judged bounds (reach_of []) → inside.ids ≡ None → IsInside h bounds no_body place place above above inside
-nothing_inside h bounds place above inside v r boxed n = record {
+pub nothing_inside : (tight : Bool) (h : Header) (bounds : Option BoxField) (place : ℕ) (above : Seen) (inside : Inside) → inside.found.vertices ≡ 0 → inside.found.refused ≡ None
+    → named inside.boxed ≡ box_judged tight h bounds (reach_of []) → inside.ids ≡ None → IsInside tight h bounds no_body place place above above inside
+nothing_inside tight h bounds place above inside v r boxed n = record {
   below = nothing;
-  members = none_sums false (place + 0);
+  members = none_sums tight (place + 0);
   vertices = v;
   boxed = boxed;
   seen = record { asked = refl; extent = λ t. sym (both-none above.extent) };
@@ -98,12 +97,8 @@ nothing_inside h bounds place above inside v r boxed n = record {
   few = omega (arith, v);
 }
 
-first-none : (x : Refused) → first x None ≡ x
-first-none None = refl
-first-none (Some at) = refl
-
 -- ---- the geometry, judged
-module _ (head : Head) (depth : ℕ) (r a new : Reading) (at : IsHeadAt head depth r.place (passed r a)) (moved : IsMoved r a) (ahead : a.place ≤ new.place) where
+module _ (tight : Bool) (head : Head) (depth : ℕ) (r a new : Reading) (at : IsHeadAt head depth r.place (passed r a)) (moved : IsMoved r a) (ahead : a.place ≤ new.place) where
   size_same : (l : Lengths) → l.before ≡ 2 + length at.is.extended_bytes → l.size ≡ length at.is.size_bytes → l.whole ≡ new.place - r.place
       → size_judged head.size new.place ≡ size_refused r.place l at.header.size
   size_same l before size whole = ap (λ (h : Head). size_judged h.size new.place) at.fields ∙ go at.header.size
@@ -117,38 +112,39 @@ module _ (head : Head) (depth : ℕ) (r a new : Reading) (at : IsHeadAt head dep
           ap₂ (λ (k p : ℕ). false_at (n == k) p 6) long place
 
   box_same : (l : Lengths) (reach reach' : Reach) → l.before ≡ 2 + length at.is.extended_bytes → l.size ≡ length at.is.size_bytes → reach ≡ reach'
-      → box_judged head.bounds reach ≡ box_refused false (r.place + l.before + l.size) at.header reach' at.header.box
-  box_same l reach reach' before size e = ap (λ (h : Head). box_judged h.bounds reach) at.fields ∙ go at.header.box
+      → box_judged tight (of_head head) head.bounds reach ≡ box_refused tight (r.place + l.before + l.size) at.header reach' at.header.box
+  box_same l reach reach' before size e = ap (λ (h : Head). box_judged tight (of_head h) h.bounds reach) at.fields ∙ go at.header.box
     where
-      go : (o : Option (List (ℤ × ℤ))) → box_judged (option_map (λ ranges. record { bounds = bounds_of at.header.xy at.header.z at.header.m ranges; offset = r.place + 2 + length at.is.extended_bytes + length at.is.size_bytes }) o) reach
-          ≡ box_refused false (r.place + l.before + l.size) at.header reach' o
+      go : (o : Option (List (ℤ × ℤ))) → box_judged tight (of_head (head_of at.header 0 0 0 0)) (option_map (λ ranges. record { bounds = bounds_of at.header.xy at.header.z at.header.m ranges; offset = r.place + 2 + length at.is.extended_bytes + length at.is.size_bytes }) o) reach
+          ≡ box_refused tight (r.place + l.before + l.size) at.header reach' o
       go None = refl
       go (Some ranges) =
           let place : r.place + 2 + length at.is.extended_bytes + length at.is.size_bytes ≡ r.place + l.before + l.size = omega (arith, before, size) in
-          ap₂ (λ (x : Reach) (p : ℕ). false_at (is_within x (bounds_of at.header.xy at.header.z at.header.m ranges)) p 7) e place ∙ sym (first-none _)
+          let box = bounds_of at.header.xy at.header.z at.header.m ranges in
+          ap₂ (λ (x : Reach) (p : ℕ). first (false_at (is_within x box) p 7) (cond tight (false_at (is_tight at.header.xy at.header.z at.header.m box x) p 9) None)) e place
 
-  pub geometry_found : (b : Body) (inside : Inside) (above after : Seen) (judged : Found) → IsInside (of_head head) head.bounds b a.place new.place above after inside
+  pub geometry_found : (b : Body) (inside : Inside) (above after : Seen) (judged : Found) → IsInside tight (of_head head) head.bounds b a.place new.place above after inside
       → judged.vertices ≡ inside.found.vertices
       → named judged.refused ≡ first (size_judged head.size new.place) (first (named inside.boxed) (first (named inside.ids) (named inside.found.refused)))
-      → IsFound (geometry_from ((record { header = at.header; before = 2 + length at.is.extended_bytes; size = length at.is.size_bytes }, a.place - r.place), b) (new.place - r.place)) r.place new.place judged
+      → IsFound tight (geometry_from ((record { header = at.header; before = 2 + length at.is.extended_bytes; size = length at.is.size_bytes }, a.place - r.place), b) (new.place - r.place)) r.place new.place judged
       × HasSeen above after (reach_of (vertices (geometry_from ((record { header = at.header; before = 2 + length at.is.extended_bytes; size = length at.is.size_bytes }, a.place - r.place), b) (new.place - r.place))))
   geometry_found b inside above after judged i counted refused =
       let g : Geometry = geometry_from ((record { header = at.header; before = 2 + length at.is.extended_bytes; size = length at.is.size_bytes }, a.place - r.place), b) (new.place - r.place) in
       let l : Lengths = record { before = 2 + length at.is.extended_bytes; size = length at.is.size_bytes; header = a.place - r.place; count = b.count; list = b.list; whole = new.place - r.place } in
       let own = reach_of (map (vertex_of at.header) (points_of b.polygons)) in
       let body : a.place ≡ r.place + l.header = omega (arith, moved.ahead) in
-      let below : MemberSums false b.members (r.place + l.header + l.list) i.below = subst (λ (p : ℕ). MemberSums false b.members (p + b.list) i.below) body i.members in
+      let below : MemberSums tight b.members (r.place + l.header + l.list) i.below = subst (λ (p : ℕ). MemberSums tight b.members (p + b.list) i.below) body i.members in
       let same : both (reach_of (map (vertex_of (of_head head)) (points_of b.polygons))) i.below.reach ≡ both own i.below.reach =
       ap (λ (h : Head). both (reach_of (map (vertex_of (of_head h)) (points_of b.polygons))) i.below.reach) at.fields in
-      let named_first : named judged.refused ≡ (over false at.header l b.ids r.place (length (points_of b.polygons)) own i.below).refused =
+      let named_first : named judged.refused ≡ (over tight at.header l b.ids r.place (length (points_of b.polygons)) own i.below).refused =
       refused ∙ (λ j. first (size_same l refl refl refl j) (first ((i.boxed ∙ box_same l _ (both own i.below.reach) refl refl same) j)
       (first ((i.ids ∙ ap (λ (p : ℕ). ids_refused (p + b.count) b.ids) body) j) (i.refused j)))) in
-      let all : Sums false g r.place (over false at.header l b.ids r.place (length (points_of b.polygons)) own i.below) = over_sums false at.header l b.ids b.polygons b.members r.place i.below below in (
+      let all : Sums tight g r.place (over tight at.header l b.ids r.place (length (points_of b.polygons)) own i.below) = over_sums tight at.header l b.ids b.polygons b.members r.place i.below below in (
         record {
           sums = record {
             count = counted ∙ i.vertices ∙ all.count;
             reach = refl;
-            refused = subst (NamesFirstFalse (claims_in false g r.place)) (sym named_first) all.refused;
+            refused = subst (IsRefusedFor tight g r.place) (sym named_first) all.refused;
           };
           stop_is = omega (arith, moved.ahead, ahead);
           few = omega (arith, counted, i.few, moved.ahead);

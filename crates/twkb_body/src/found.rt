@@ -1,11 +1,13 @@
 //! What one pass carries of what it has read, and the judging of claims.
 ghost use Rattle.std.specs.Prelude.{◌≡◌, ◌+◌, ◌^◌, ◌<◌, ◌≤◌, IfSome, None};
-ghost use Rattle.twkb_body.specs.Pass.{first, false_at};
+ghost use Rattle.twkb_num.specs.Units.{IsPrecision};
+ghost use Rattle.twkb_body.specs.Inside.{of_head};
+ghost use Rattle.twkb_body.specs.Pass.{first, false_at, is_tight};
 ghost use Rattle.twkb_body.specs.Found.{named, number_of, size_judged, box_judged};
 
 use crate::answers::Claim;
 use crate::extent::Extent;
-use twkb_head::{BoxField, SizeField};
+use twkb_head::{BoxField, Head, SizeField};
 
 /// A claim that is false, and where it stands.
 #[derive(Clone, Copy, Debug, PartialEq, Eq)]
@@ -63,15 +65,37 @@ pub fn judge_size(size: Option<SizeField>, stop: usize) -> Option<FalseClaim>
     }
 }
 
-/// The box, if some vertex of this extent is outside.
+/// The box, if some vertex of this extent is outside, or in tight checking if it is loose.
 #[inline(always)]
-pub fn judge_box(field: &Option<BoxField>, extent: &Extent) -> Option<FalseClaim>
-    ensures { named result ≡ box_judged field.now extent.now }
+pub fn judge_box(head: &Head, extent: &Extent, tight: bool) -> Option<FalseClaim>
+    requires xy { IsPrecision head.now.xy }
+    requires z_high { IfSome head.now.z (λ p. p ≤ 7) }
+    requires m_high { IfSome head.now.m (λ p. p ≤ 7) }
+    ensures { named result ≡ box_judged tight (of_head head.now) head.now.bounds extent.now }
 {
-    match field {
-        Some(field) => claimed(extent.within(&field.bounds), field.offset, Claim::Box),
+    match &head.bounds {
+        Some(field) => {
+            let outside = claimed(extent.within(&field.bounds), field.offset, Claim::Box);
+            if tight {
+                outside.or(judge_tight(head, field, extent))
+            } else {
+                outside
+            }
+        }
         None => None,
     }
+}
+
+/// The box, if it is loose at the precisions of its header.
+#[inline(always)]
+fn judge_tight(head: &Head, field: &BoxField, extent: &Extent) -> Option<FalseClaim>
+    requires xy { IsPrecision head.now.xy }
+    requires z_high { IfSome head.now.z (λ p. p ≤ 7) }
+    requires m_high { IfSome head.now.m (λ p. p ≤ 7) }
+    ensures { named result ≡ false_at (is_tight head.now.xy head.now.z head.now.m field.now.bounds extent.now) field.now.offset 9 }
+{
+    let hugs = extent.tight(&field.bounds, head.xy, head.z, head.m);
+    claimed(hugs, field.offset, Claim::Loose)
 }
 
 /// The claim, if it is false.

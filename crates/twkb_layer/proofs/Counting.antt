@@ -1,5 +1,5 @@
 -- The loop of audits: what it has counted, and where it stops.
-use Rattle.std.proofs.Common.{◌≡◌, ℕ, ◌+◌, ◌-◌, ◌^◌, ◌<◌, ◌≤◌, List, [], ◌∷◌, ◌++◌, length, take, drop, refl, sym, ap, subst, ◌∙◌, arith, length-append, inl, inr}
+use Rattle.std.proofs.Common.{◌≡◌, ℕ, ◌+◌, ◌-◌, ◌^◌, ◌<◌, ◌≤◌, Bool, true, false, List, [], ◌∷◌, ◌++◌, length, take, drop, refl, sym, ap, subst, ◌∙◌, arith, length-append, inl, inr}
 use Rattle.std.proofs.lemmas.List.{length-take, take_all}
 use Rattle.std.proofs.lemmas.List.Elements.{All-nil, All-push}
 use Rattle.std.proofs.lemmas.List.Sums.{sum_by-append, sum_by-cons}
@@ -10,9 +10,11 @@ use Rattle.twkb_body.specs.declared.answers.AuditFault.{AuditFault}
 use Rattle.twkb_body.specs.declared.answers.AuditFault.TheVariants.{Malformed as BadField, FalseClaim, Memory as NoMemory}
 use Rattle.twkb_body.specs.Geometry.{Geometry, vertices}
 use Rattle.twkb_body.specs.Claims.{IsCertified}
-use Rattle.twkb_body.specs.Audited.{IsAudited, IsRefusedBlob}
+use Rattle.twkb_body.specs.Tight.{HasTightBoxes}
+use Rattle.twkb_body.specs.TightlyAudited.{IsAuditedBy, IsRefusedBy}
 use Rattle.twkb_layer.specs.Layer.{IsCertifiedLayer, IsCounted, vertex_count}
-use Rattle.twkb_layer.specs.Refusal.{IsRefusedFor, refusal_of}
+use Rattle.twkb_layer.specs.Refusal.{refusal_of}
+use Rattle.twkb_layer.specs.Tight.{IsTightlyCounted, IsCountedBy, IsRefusedForBy}
 use Rattle.twkb_layer.proofs.Layers.{blob_some, layer_grows, layer_once, layer_short}
 use Rattle.twkb_layer.proofs.VertexCounts.{layer_few}
 
@@ -23,18 +25,28 @@ front_passed bytes a b same m =
     ∙ ap (λ l. take a.place bytes ++ take (b.place - a.place) (drop a.place l)) (sym same)
 
 -- nothing was counted before the first blob
-pub counted_none : (bytes : List ℕ) (place : ℕ) → place ≡ 0 → IsCounted (take place bytes) 0 0
-counted_none bytes place e = rw e (record {
+pub counted_none : (tight : Bool) (bytes : List ℕ) (place : ℕ) → place ≡ 0 → IsCountedBy tight (take place bytes) 0 0
+counted_none false bytes place e = rw e (record {
   trees = [];
   layer = record { layer = refl; certified = All-nil IsCertified };
   blobs_are = refl;
   vertices_are = refl;
 })
+counted_none true bytes place e = rw e (record {
+  trees = [];
+  layer = record { layer = record { layer = refl; certified = All-nil IsCertified }; tight = All-nil HasTightBoxes };
+  blobs_are = refl;
+  vertices_are = refl;
+})
+
+-- a layer without a loose box is a layer
+pub tight_is_counted : (bytes : List ℕ) (blobs count : ℕ) → IsTightlyCounted bytes blobs count → IsCounted bytes blobs count
+tight_is_counted bytes blobs count c = record { trees = c.trees; layer = c.layer.layer; blobs_are = c.blobs_are; vertices_are = c.vertices_are }
 
 -- a blob more was counted
-pub counted_more : (bytes : List ℕ) (a b : Reading) (blobs count : ℕ) (audit : Audit) → a.bytes ≡ bytes → IsCounted (take a.place bytes) blobs count
-    → IsMoved a b → IsAudited audit a.place (passed a b) → IsCounted (take b.place bytes) (blobs + 1) (count + audit.vertices)
-counted_more bytes a b blobs count audit same c m h = rw (front_passed bytes a b same m) (record {
+pub counted_more : (tight : Bool) (bytes : List ℕ) (a b : Reading) (blobs count : ℕ) (audit : Audit) → a.bytes ≡ bytes → IsCountedBy tight (take a.place bytes) blobs count
+    → IsMoved a b → IsAuditedBy tight audit a.place (passed a b) → IsCountedBy tight (take b.place bytes) (blobs + 1) (count + audit.vertices)
+counted_more false bytes a b blobs count audit same c m h = rw (front_passed bytes a b same m) (record {
   trees = c.trees ++ h.blob ∷ [];
   layer = record {
     layer = layer_grows c.trees (take a.place bytes) h.blob (passed a b) c.layer.layer h.is;
@@ -43,42 +55,80 @@ counted_more bytes a b blobs count audit same c m h = rw (front_passed bytes a b
   blobs_are = omega (arith, c.blobs_are, length-append c.trees (h.blob ∷ []));
   vertices_are = omega (arith, c.vertices_are, h.vertices_are, sum_by-append (λ (tree : Geometry). length (vertices tree)) c.trees (h.blob ∷ []), sum_by-cons (λ (tree : Geometry). length (vertices tree)) h.blob []);
 })
+counted_more true bytes a b blobs count audit same c m h = rw (front_passed bytes a b same m) (record {
+  trees = c.trees ++ h.blob ∷ [];
+  layer = record {
+    layer = record {
+      layer = layer_grows c.trees (take a.place bytes) h.blob (passed a b) c.layer.layer.layer h.is;
+      certified = All-push IsCertified c.trees h.blob c.layer.layer.certified h.certified;
+    };
+    tight = All-push HasTightBoxes c.trees h.blob c.layer.tight h.tight;
+  };
+  blobs_are = omega (arith, c.blobs_are, length-append c.trees (h.blob ∷ []));
+  vertices_are = omega (arith, c.vertices_are, h.vertices_are, sum_by-append (λ (tree : Geometry). length (vertices tree)) c.trees (h.blob ∷ []), sum_by-cons (λ (tree : Geometry). length (vertices tree)) h.blob []);
+})
 
 -- there are no more blobs and no more vertices than bytes
-pub counted_fits : (bytes : List ℕ) (place blobs count : ℕ) → IsCounted (take place bytes) blobs count → length bytes < 2 ^ 64
+plain_fits : (bytes : List ℕ) (place blobs count : ℕ) → IsCounted (take place bytes) blobs count → length bytes < 2 ^ 64
     → (blobs < 2 ^ 64) × (count < 2 ^ 64)
-counted_fits bytes place blobs count c fits =
+plain_fits bytes place blobs count c fits =
     let front = take place bytes in (
       omega (arith, c.blobs_are, layer_short c.trees front c.layer.layer, length-take place bytes),
       omega (arith, c.vertices_are, layer_few c.trees front c.layer.layer, length-take place bytes),
     )
 
+pub counted_fits : (tight : Bool) (bytes : List ℕ) (place blobs count : ℕ) → IsCountedBy tight (take place bytes) blobs count → length bytes < 2 ^ 64
+    → (blobs < 2 ^ 64) × (count < 2 ^ 64)
+counted_fits false bytes place blobs count c fits = plain_fits bytes place blobs count c fits
+counted_fits true bytes place blobs count c fits = plain_fits bytes place blobs count (tight_is_counted (take place bytes) blobs count c) fits
+
 -- an audit moves ahead
-pub audit_ahead : (a b : Reading) (audit : Audit) → IsMoved a b → IsAudited audit a.place (passed a b) → a.place < b.place
-audit_ahead a b audit m h = omega (arith, blob_some h.blob (passed a b) h.is, length-take (b.place - a.place) (drop a.place a.bytes))
+pub audit_ahead : (tight : Bool) (a b : Reading) (audit : Audit) → IsMoved a b → IsAuditedBy tight audit a.place (passed a b) → a.place < b.place
+audit_ahead false a b audit m h = omega (arith, blob_some h.blob (passed a b) h.is, length-take (b.place - a.place) (drop a.place a.bytes))
+audit_ahead true a b audit m h = omega (arith, blob_some h.blob (passed a b) h.is, length-take (b.place - a.place) (drop a.place a.bytes))
 
 -- at the end all is counted
-pub counted_all : (bytes : List ℕ) (place blobs count : ℕ) → IsCounted (take place bytes) blobs count → length bytes ≤ place → IsCounted bytes blobs count
-counted_all bytes place blobs count c h = subst (λ (l : List ℕ). IsCounted l blobs count) (take_all place bytes h) c
+pub counted_all : (tight : Bool) (bytes : List ℕ) (place blobs count : ℕ) → IsCountedBy tight (take place bytes) blobs count → length bytes ≤ place → IsCountedBy tight bytes blobs count
+counted_all tight bytes place blobs count c h = subst (λ (l : List ℕ). IsCountedBy tight l blobs count) (take_all place bytes h) c
 
 -- the blob at the place is refused
-pub audit_refused : (bytes : List ℕ) (a : Reading) (blobs count : ℕ) (fault : AuditFault) → a.bytes ≡ bytes → IsCounted (take a.place bytes) blobs count
-    → a.place < length bytes → IsRefusedBlob fault a.place (rest a) → IsRefusedFor (refusal_of blobs fault) bytes
-audit_refused bytes a blobs count (BadField m) same c more h = record {
+pub audit_refused : (tight : Bool) (bytes : List ℕ) (a : Reading) (blobs count : ℕ) (fault : AuditFault) → a.bytes ≡ bytes → IsCountedBy tight (take a.place bytes) blobs count
+    → a.place < length bytes → IsRefusedBy tight fault a.place (rest a) → IsRefusedForBy tight (refusal_of blobs fault) bytes
+audit_refused false bytes a blobs count (BadField m) same c more h = record {
   before = c.trees;
   start = a.place;
   begins = record { more = more; layer = c.layer };
   number = c.blobs_are;
   reason = inr (m.why, refl, rw same at h);
 }
-audit_refused bytes a blobs count (FalseClaim offset claim) same c more h = record {
+audit_refused false bytes a blobs count (FalseClaim offset claim) same c more h = record {
   before = c.trees;
   start = a.place;
   begins = record { more = more; layer = c.layer };
   number = c.blobs_are;
   reason = inl (rw same at h);
 }
-audit_refused bytes a blobs count NoMemory same c more h = record {
+audit_refused false bytes a blobs count NoMemory same c more h = record {
+  before = c.trees;
+  start = a.place;
+  begins = record { more = more; layer = c.layer };
+  list = rw same at h;
+}
+audit_refused true bytes a blobs count (BadField m) same c more h = record {
+  before = c.trees;
+  start = a.place;
+  begins = record { more = more; layer = c.layer };
+  number = c.blobs_are;
+  reason = inr (m.why, refl, rw same at h);
+}
+audit_refused true bytes a blobs count (FalseClaim offset claim) same c more h = record {
+  before = c.trees;
+  start = a.place;
+  begins = record { more = more; layer = c.layer };
+  number = c.blobs_are;
+  reason = inl (rw same at h);
+}
+audit_refused true bytes a blobs count NoMemory same c more h = record {
   before = c.trees;
   start = a.place;
   begins = record { more = more; layer = c.layer };

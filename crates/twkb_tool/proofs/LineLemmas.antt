@@ -5,10 +5,10 @@ use Rattle.std.specs.List.{list_all}
 use Rattle.clap.specs.Faults.{fault_of}
 use Rattle.clap.specs.Lexer.{usize_max}
 use Rattle.clap.specs.Words.{Row, Text, first_of, subcommand_of}
-use Rattle.twkb_tool.proofs.PlainWords.{check_finds, check_parses, found, list_finds, list_parses, scan_finds, scan_parses}
+use Rattle.twkb_tool.proofs.PlainWords.{check_finds, check_parses, found, list_finds, list_parses, scan_finds, scan_parses, tight_behind_finds, tight_behind_parses, tight_finds, tight_parses}
 use Rattle.twkb_tool.specs.Words.{Answers, AsksFor, IsFirstBad, IsLineOf, IsNoScan, IsRefused, IsScanFor, IsScanOf, ReadsWith, is_value, most_windows, tool_app, windows_in}
 use Rattle.twkb_tool.specs.declared.request.Request.{Request}
-use Rattle.twkb_tool.specs.declared.request.Request.TheVariants.{Check, List as ListBlobs, Scan}
+use Rattle.twkb_tool.specs.declared.request.Request.TheVariants.{Check, CheckTight, List as ListBlobs, Scan}
 use Rattle.twkb_tool.specs.declared.request.Line.{Line}
 use Rattle.twkb_tool.specs.declared.words.Usage.{Usage}
 use Rattle.twkb_tool.specs.declared.words.Usage.TheVariants.{Words, TooMany, Window as NoWindow, Memory}
@@ -16,16 +16,19 @@ use Rattle.twkb_tool.specs.declared.words.Usage.TheVariants.{Words, TooMany, Win
 -- ---- the parts of what was found
 
 abbrev Found : Type 0
-Found = Text × Option Text × Option (List Text)
+Found = Text × Option Text × Option Text × Option (List Text)
 
 name_is : (p : Text × List Row) (f : Found) → found (Some p) ≡ Some f → p.0 ≡ f.0
-name_is p f e = ap (λ (q : Option Found). (unwrap_or q ([], None, None)).0) e
+name_is p f e = ap (λ (q : Option Found). (unwrap_or q ([], None, None, None)).0) e
 
 file_is : (p : Text × List Row) (f : Found) → found (Some p) ≡ Some f → first_of (codes "FILE") p.1 ≡ f.1
-file_is p f e = ap (λ (q : Option Found). (unwrap_or q ([], None, None)).1) e
+file_is p f e = ap (λ (q : Option Found). (unwrap_or q ([], None, None, None)).1) e
 
-windows_are : (p : Text × List Row) (f : Found) → found (Some p) ≡ Some f → windows_in p.1 ≡ f.2
-windows_are p f e = ap (λ (q : Option Found). (unwrap_or q ([], None, None)).2) e
+flag_is : (p : Text × List Row) (f : Found) → found (Some p) ≡ Some f → first_of (codes "tight") p.1 ≡ f.2
+flag_is p f e = ap (λ (q : Option Found). (unwrap_or q ([], None, None, None)).2) e
+
+windows_are : (p : Text × List Row) (f : Found) → found (Some p) ≡ Some f → windows_in p.1 ≡ f.3
+windows_are p f e = ap (λ (q : Option Found). (unwrap_or q ([], None, None, None)).3) e
 
 -- ---- names
 
@@ -47,15 +50,27 @@ is_no_scan name (inr a) b = list_is_no_scan name a b
 
 -- ---- check and list
 
-asks_check : (name : Text) (rows : List Row) (request : Request) → name ≡ codes "check" → AsksFor name rows request → request ≡ Check
-asks_check name rows Check n h = refl
-asks_check name rows ListBlobs n h = absurd (check_is_no_list name n h)
-asks_check name rows (Scan windows) n h = absurd (check_is_no_scan name n h.0)
+-- with this flag the subcommand of this name asks for this request alone
+abbrev Asks : Text → Option Text → Request → Type 0
+Asks name flag request = (own : Text) (rows : List Row) (asked : Request) → own ≡ name → first_of (codes "tight") rows ≡ flag → AsksFor own rows asked → asked ≡ request
 
-asks_list : (name : Text) (rows : List Row) (request : Request) → name ≡ codes "list" → AsksFor name rows request → request ≡ ListBlobs
-asks_list name rows Check n h = absurd (check_is_no_list name h n)
-asks_list name rows ListBlobs n h = refl
-asks_list name rows (Scan windows) n h = absurd (list_is_no_scan name n h.0)
+asks_check : Asks (codes "check") (Some (codes "false")) Check
+asks_check name rows Check n f h = refl
+asks_check name rows CheckTight n f h = let bad : Some (codes "false") ≡ Some (codes "true") = sym f ∙ h.1 in cc
+asks_check name rows ListBlobs n f h = absurd (check_is_no_list name n h)
+asks_check name rows (Scan windows) n f h = absurd (check_is_no_scan name n h.0)
+
+asks_tight : Asks (codes "check") (Some (codes "true")) CheckTight
+asks_tight name rows Check n f h = absurd (h.1 f)
+asks_tight name rows CheckTight n f h = refl
+asks_tight name rows ListBlobs n f h = absurd (check_is_no_list name n h)
+asks_tight name rows (Scan windows) n f h = absurd (check_is_no_scan name n h.0)
+
+asks_list : Asks (codes "list") None ListBlobs
+asks_list name rows Check n f h = absurd (check_is_no_list name h.0 n)
+asks_list name rows CheckTight n f h = absurd (check_is_no_list name h.0 n)
+asks_list name rows ListBlobs n f h = refl
+asks_list name rows (Scan windows) n f h = absurd (list_is_no_scan name n h.0)
 
 only_memory : (name : Text) (rows : List Row) (usage : Usage) → (name ≡ codes "check") ⊎ (name ≡ codes "list") → IsRefused name rows usage → usage ≡ Memory
 only_memory name rows (Words (Some error)) n h = absurd h
@@ -66,24 +81,20 @@ only_memory name rows TooMany n h = absurd (is_no_scan name n h.0)
 only_memory name rows (NoWindow number why) n h = absurd (is_no_scan name n h.0)
 only_memory name rows Memory n h = refl
 
-check_reads : (name : Text) (rows : List Row) (file : Text) (r : Result Line Usage) → name ≡ codes "check" → ReadsWith (Some file) name rows r → IsLineOf file Check r
-check_reads name rows file (Ok line) n h = (h.0, asks_check name rows line.request n h.1)
-check_reads name rows file (Err usage) n h = only_memory name rows usage (inl n) h
-
-list_reads : (name : Text) (rows : List Row) (file : Text) (r : Result Line Usage) → name ≡ codes "list" → ReadsWith (Some file) name rows r → IsLineOf file ListBlobs r
-list_reads name rows file (Ok line) n h = (h.0, asks_list name rows line.request n h.1)
-list_reads name rows file (Err usage) n h = only_memory name rows usage (inr n) h
+line_reads : (name own : Text) (flag : Option Text) (request : Request) (rows : List Row) (file : Text) (r : Result Line Usage) → Asks name flag request → (own ≡ codes "check") ⊎ (own ≡ codes "list") → own ≡ name → first_of (codes "tight") rows ≡ flag
+    → ReadsWith (Some file) own rows r → IsLineOf file request r
+line_reads name own flag request rows file (Ok line) asks one n f h = (h.0, asks own rows line.request n f h.1)
+line_reads name own flag request rows file (Err usage) asks one n f h = only_memory own rows usage one h
 
 -- what the words come to that name such a subcommand, of which this is what its matches come to
-line_answers : (name : Text) (request : Request) (file : Text)
-    → ((own : Text) (rows : List Row) (r : Result Line Usage) → own ≡ name → ReadsWith (Some file) own rows r → IsLineOf file request r)
-    → (o : Option (Text × List Row)) (r : Result Line Usage) → found o ≡ Some (name, Some file, None) → Answers o r → IsLineOf file request r
-line_answers name request file reads None r e h = cc
-line_answers name request file reads (Some p) r e (inl h) =
+line_answers : (name : Text) (flag : Option Text) (request : Request) (file : Text) → Asks name flag request → ((own : Text) → own ≡ name → (own ≡ codes "check") ⊎ (own ≡ codes "list"))
+    → (o : Option (Text × List Row)) (r : Result Line Usage) → found o ≡ Some (name, Some file, flag, None) → Answers o r → IsLineOf file request r
+line_answers name flag request file asks one None r e h = cc
+line_answers name flag request file asks one (Some p) r e (inl h) =
     let read : ReadsWith (Some file) p.0 p.1 r = rw (← file_is p _ e) h in
-    reads p.0 p.1 r (name_is p _ e) read
-line_answers name request file reads (Some p) (Ok line) e (inr h) = cc
-line_answers name request file reads (Some p) (Err usage) e (inr h) = cc
+    line_reads name p.0 flag request p.1 file r asks (one p.0 (name_is p _ e)) (name_is p _ e) (flag_is p _ e) read
+line_answers name flag request file asks one (Some p) (Ok line) e (inr h) = cc
+line_answers name flag request file asks one (Some p) (Err usage) e (inr h) = cc
 
 -- ---- scan
 
@@ -91,7 +102,8 @@ same_texts : (rows : List Row) (a b : List Text) → windows_in rows ≡ Some a 
 same_texts rows a b x y = ap (λ (q : Option (List Text)). unwrap_or q []) (sym x ∙ y)
 
 asks_scan : (name : Text) (rows : List Row) (texts : List Text) (request : Request) → name ≡ codes "scan" → windows_in rows ≡ Some texts → AsksFor name rows request → IsScanFor texts request
-asks_scan name rows texts Check n w h = check_is_no_scan name h n
+asks_scan name rows texts Check n w h = check_is_no_scan name h.0 n
+asks_scan name rows texts CheckTight n w h = check_is_no_scan name h.0 n
 asks_scan name rows texts ListBlobs n w h = list_is_no_scan name h n
 asks_scan name rows texts (Scan windows) n w h = rw (same_texts rows texts h.1 w h.2) (h.3, h.5)
 
@@ -110,7 +122,7 @@ scan_reads : (name : Text) (rows : List Row) (file text : Text) (texts : List Te
 scan_reads name rows file t ts (Ok line) n w h = (h.0, asks_scan name rows (t ∷ ts) line.request n w h.1)
 scan_reads name rows file t ts (Err usage) n w h = refused_scan name rows t ts usage n w h
 
-scan_answers : (o : Option (Text × List Row)) (file text : Text) (texts : List Text) (r : Result Line Usage) → found o ≡ Some (codes "scan", Some file, Some (text ∷ texts)) → Answers o r → IsScanOf file (text ∷ texts) r
+scan_answers : (o : Option (Text × List Row)) (file text : Text) (texts : List Text) (r : Result Line Usage) → found o ≡ Some (codes "scan", Some file, None, Some (text ∷ texts)) → Answers o r → IsScanOf file (text ∷ texts) r
 scan_answers None file t ts r e h = cc
 scan_answers (Some p) file t ts r e (inl h) =
     let read : ReadsWith (Some file) p.0 p.1 r = rw (← file_is p _ e) h in
@@ -123,23 +135,35 @@ scan_answers (Some p) file t ts (Err (Words error)) e (inr h) = cc
 
 -- ---- the words
 
+-- words that parse, and are found as they stand
+line_of_words : (said words : List Text) (name : Text) (flag : Option Text) (request : Request) (file : Text) (r : Result Line Usage) → Asks name flag request → ((own : Text) → own ≡ name → (own ≡ codes "check") ⊎ (own ≡ codes "list"))
+    → (fault_of tool_app words ≡ [] → Answers (subcommand_of tool_app words) r) → words ≡ said → fault_of tool_app said ≡ [] → found (subcommand_of tool_app said) ≡ Some (name, Some file, flag, None) → IsLineOf file request r
+line_of_words said words name flag request file r asks one parsed is fine finds =
+    line_answers name flag request file asks one (subcommand_of tool_app words) r (ap (λ (x : List Text). found (subcommand_of tool_app x)) is ∙ finds) (parsed (ap (λ (x : List Text). fault_of tool_app x) is ∙ fine))
+
 -- `check FILE`
 pub check_line : (words : List Text) (program file : Text) (r : Result Line Usage) → (fault_of tool_app words ≡ [] → Answers (subcommand_of tool_app words) r)
     → words ≡ program ∷ codes "check" ∷ file ∷ [] → is_value file ≡ true → IsLineOf file Check r
 check_line words program file r parsed is h =
-    let fine : fault_of tool_app words ≡ [] = ap (λ (x : List Text). fault_of tool_app x) is ∙ check_parses program file h in
-    let finds : found (subcommand_of tool_app words) ≡ Some (codes "check", Some file, None) =
-    ap (λ (x : List Text). found (subcommand_of tool_app x)) is ∙ check_finds program file h in
-    line_answers (codes "check") Check file (λ own rows. check_reads own rows file) (subcommand_of tool_app words) r finds (parsed fine)
+    line_of_words (program ∷ codes "check" ∷ file ∷ []) words (codes "check") (Some (codes "false")) Check file r asks_check (λ own n. inl n) parsed is (check_parses program file h) (check_finds program file h)
+
+-- `check --tight FILE`
+pub tight_line : (words : List Text) (program file : Text) (r : Result Line Usage) → (fault_of tool_app words ≡ [] → Answers (subcommand_of tool_app words) r)
+    → words ≡ program ∷ codes "check" ∷ codes "--tight" ∷ file ∷ [] → is_value file ≡ true → IsLineOf file CheckTight r
+tight_line words program file r parsed is h =
+    line_of_words (program ∷ codes "check" ∷ codes "--tight" ∷ file ∷ []) words (codes "check") (Some (codes "true")) CheckTight file r asks_tight (λ own n. inl n) parsed is (tight_parses program file h) (tight_finds program file h)
+
+-- `check FILE --tight`
+pub tight_behind_line : (words : List Text) (program file : Text) (r : Result Line Usage) → (fault_of tool_app words ≡ [] → Answers (subcommand_of tool_app words) r)
+    → words ≡ program ∷ codes "check" ∷ file ∷ codes "--tight" ∷ [] → is_value file ≡ true → IsLineOf file CheckTight r
+tight_behind_line words program file r parsed is h =
+    line_of_words (program ∷ codes "check" ∷ file ∷ codes "--tight" ∷ []) words (codes "check") (Some (codes "true")) CheckTight file r asks_tight (λ own n. inl n) parsed is (tight_behind_parses program file h) (tight_behind_finds program file h)
 
 -- `list FILE`
 pub list_line : (words : List Text) (program file : Text) (r : Result Line Usage) → (fault_of tool_app words ≡ [] → Answers (subcommand_of tool_app words) r)
     → words ≡ program ∷ codes "list" ∷ file ∷ [] → is_value file ≡ true → IsLineOf file ListBlobs r
 list_line words program file r parsed is h =
-    let fine : fault_of tool_app words ≡ [] = ap (λ (x : List Text). fault_of tool_app x) is ∙ list_parses program file h in
-    let finds : found (subcommand_of tool_app words) ≡ Some (codes "list", Some file, None) =
-    ap (λ (x : List Text). found (subcommand_of tool_app x)) is ∙ list_finds program file h in
-    line_answers (codes "list") ListBlobs file (λ own rows. list_reads own rows file) (subcommand_of tool_app words) r finds (parsed fine)
+    line_of_words (program ∷ codes "list" ∷ file ∷ []) words (codes "list") None ListBlobs file r asks_list (λ own n. inr n) parsed is (list_parses program file h) (list_finds program file h)
 
 -- `scan FILE WINDOW..`
 pub scan_line : (words : List Text) (program file window : Text) (windows : List Text) (r : Result Line Usage)
@@ -150,6 +174,6 @@ scan_line words program file w ws r parsed is h k fits =
     let count : length words ≡ 4 + length ws = ap length is ∙ omega arith in
     let few : length (w ∷ ws) ≤ usize_max = omega arith in
     let fine : fault_of tool_app words ≡ [] = ap (λ (x : List Text). fault_of tool_app x) is ∙ scan_parses program file w ws h k few in
-    let finds : found (subcommand_of tool_app words) ≡ Some (codes "scan", Some file, Some (w ∷ ws)) =
+    let finds : found (subcommand_of tool_app words) ≡ Some (codes "scan", Some file, None, Some (w ∷ ws)) =
     ap (λ (x : List Text). found (subcommand_of tool_app x)) is ∙ scan_finds program file w ws h k in
     scan_answers (subcommand_of tool_app words) file w ws r finds (parsed fine)

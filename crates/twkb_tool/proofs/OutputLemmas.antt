@@ -1,25 +1,42 @@
 -- There is one output.
 use Rattle.std.proofs.Common.{◌≡◌, ◌∙◌, ℕ, List, Some, refl, sym, ap}
 use Rattle.twkb_layer.proofs.Layers.{layer_once}
-use Rattle.twkb_layer.proofs.Refusals.{refusal_once}
-use Rattle.twkb_tool.specs.Output.{IsOutput, IsLayerText, IsNoLine, word_of}
+use Rattle.twkb_body.specs.Geometry.{Geometry}
+use Rattle.twkb_layer.specs.Layer.{IsCertifiedLayer}
+use Rattle.twkb_layer.proofs.Refusals.{refusal_once, tight_refusal_once}
+use Rattle.twkb_tool.specs.Output.{IsAccepted, IsOutput, IsLayerText, IsNoLine, IsRefusalFor, word_of}
 use Rattle.twkb_tool.specs.declared.judge.Verdict.{Verdict}
 use Rattle.twkb_tool.specs.declared.judge.Verdict.TheVariants.{Yes, No}
 use Rattle.twkb_tool.specs.declared.request.Request.{Request}
+use Rattle.twkb_tool.specs.declared.request.Request.TheVariants.{Check, CheckTight, List as ListBlobs, Scan}
+
+-- what is accepted is a certified layer
+accepted_layer : (request : Request) (trees : List Geometry) (bytes : List ℕ) → IsAccepted request trees bytes → IsCertifiedLayer trees bytes
+accepted_layer Check trees bytes h = h
+accepted_layer CheckTight trees bytes h = h.layer
+accepted_layer ListBlobs trees bytes h = h
+accepted_layer (Scan windows) trees bytes h = h
 
 -- a layer has one text
 one_layer_text : (request : Request) (bytes text other : List ℕ) → IsLayerText request bytes text → IsLayerText request bytes other → text ≡ other
 one_layer_text request bytes text other a b =
-    let same = layer_once a.trees b.trees bytes a.layer.layer b.layer.layer in
+    let same = layer_once a.trees b.trees bytes (accepted_layer request a.trees bytes a.layer).layer (accepted_layer request b.trees bytes b.layer).layer in
     rw (a.text_is, b.text_is, same) refl
 
 one_word : (kind cause : ℕ) (word other : List ℕ) → kind ≡ cause → word_of kind ≡ Some word → word_of cause ≡ Some other → word ≡ other
 one_word kind cause word other same a b = let e : Some word ≡ Some other = sym a ∙ (ap word_of same ∙ b) in cc (e)
 
+-- bytes are refused in one way
+refused_once : (request : Request) (bytes : List ℕ) (blob offset kind blob' offset' kind' : ℕ) → IsRefusalFor request bytes blob offset kind → IsRefusalFor request bytes blob' offset' kind' → (blob ≡ blob') × (offset ≡ offset') × (kind ≡ kind')
+refused_once Check = refusal_once
+refused_once CheckTight = tight_refusal_once
+refused_once ListBlobs = refusal_once
+refused_once (Scan windows) = refusal_once
+
 -- what is refused has one line
-one_no_line : (bytes text other : List ℕ) → IsNoLine bytes text → IsNoLine bytes other → text ≡ other
-one_no_line bytes text other a b =
-    let same = refusal_once bytes a.blob a.offset a.kind b.blob b.offset b.kind a.refused b.refused in
+one_no_line : (request : Request) (bytes text other : List ℕ) → IsNoLine request bytes text → IsNoLine request bytes other → text ≡ other
+one_no_line request bytes text other a b =
+    let same = refused_once request bytes a.blob a.offset a.kind b.blob b.offset b.kind a.refused b.refused in
     let word = one_word a.kind b.kind a.word b.word same.2 a.named b.named in
     rw (a.text_is, b.text_is, same.0, same.1, word) refl
 
@@ -28,4 +45,4 @@ pub one_output : (request : Request) (bytes text other : List ℕ) (verdict deci
 one_output request bytes text other Yes Yes a b = (one_layer_text request bytes text other a b, refl)
 one_output request bytes text other Yes No a b = absurd (b.none a.trees a.layer)
 one_output request bytes text other No Yes a b = absurd (a.none b.trees b.layer)
-one_output request bytes text other No No a b = (one_no_line bytes text other a b, refl)
+one_output request bytes text other No No a b = (one_no_line request bytes text other a b, refl)

@@ -22,25 +22,46 @@ not_true true h = cc
 
 -- ---- one file
 
-abbrev pub found : Option (Text × List Row) → Option (Text × Option Text × Option (List Text))
-found = option_map (λ p. (p.0, first_of (codes "FILE") p.1, all_of (codes "WINDOW") p.1))
+-- the name of the subcommand, its file, its flag and its windows
+abbrev pub found : Option (Text × List Row) → Option (Text × Option Text × Option Text × Option (List Text))
+found = option_map (λ p. (p.0, first_of (codes "FILE") p.1, first_of (codes "tight") p.1, all_of (codes "WINDOW") p.1))
 
 pub check_parses : (program file : Text) → is_value file ≡ true → fault_of tool_app (program ∷ codes "check" ∷ file ∷ []) ≡ []
 unfolding clap_on_literals tool_app
 check_parses program [] h = refl
 check_parses program (c ∷ cs) h = let other : (c == 45) ≡ false = not_true _ h in simp other
 
-pub check_finds : (program file : Text) → is_value file ≡ true → found (subcommand_of tool_app (program ∷ codes "check" ∷ file ∷ [])) ≡ Some (codes "check", Some file, None)
+pub check_finds : (program file : Text) → is_value file ≡ true → found (subcommand_of tool_app (program ∷ codes "check" ∷ file ∷ [])) ≡ Some (codes "check", Some file, Some (codes "false"), None)
 unfolding clap_on_literals tool_app
 check_finds program [] h = refl
 check_finds program (c ∷ cs) h = let other : (c == 45) ≡ false = not_true _ h in simp other
+
+pub tight_parses : (program file : Text) → is_value file ≡ true → fault_of tool_app (program ∷ codes "check" ∷ codes "--tight" ∷ file ∷ []) ≡ []
+unfolding clap_on_literals tool_app
+tight_parses program [] h = refl
+tight_parses program (c ∷ cs) h = let other : (c == 45) ≡ false = not_true _ h in simp other
+
+pub tight_finds : (program file : Text) → is_value file ≡ true → found (subcommand_of tool_app (program ∷ codes "check" ∷ codes "--tight" ∷ file ∷ [])) ≡ Some (codes "check", Some file, Some (codes "true"), None)
+unfolding clap_on_literals tool_app
+tight_finds program [] h = refl
+tight_finds program (c ∷ cs) h = let other : (c == 45) ≡ false = not_true _ h in simp other
+
+pub tight_behind_parses : (program file : Text) → is_value file ≡ true → fault_of tool_app (program ∷ codes "check" ∷ file ∷ codes "--tight" ∷ []) ≡ []
+unfolding clap_on_literals tool_app
+tight_behind_parses program [] h = refl
+tight_behind_parses program (c ∷ cs) h = let other : (c == 45) ≡ false = not_true _ h in simp other
+
+pub tight_behind_finds : (program file : Text) → is_value file ≡ true → found (subcommand_of tool_app (program ∷ codes "check" ∷ file ∷ codes "--tight" ∷ [])) ≡ Some (codes "check", Some file, Some (codes "true"), None)
+unfolding clap_on_literals tool_app
+tight_behind_finds program [] h = refl
+tight_behind_finds program (c ∷ cs) h = let other : (c == 45) ≡ false = not_true _ h in simp other
 
 pub list_parses : (program file : Text) → is_value file ≡ true → fault_of tool_app (program ∷ codes "list" ∷ file ∷ []) ≡ []
 unfolding clap_on_literals tool_app
 list_parses program [] h = refl
 list_parses program (c ∷ cs) h = let other : (c == 45) ≡ false = not_true _ h in simp other
 
-pub list_finds : (program file : Text) → is_value file ≡ true → found (subcommand_of tool_app (program ∷ codes "list" ∷ file ∷ [])) ≡ Some (codes "list", Some file, None)
+pub list_finds : (program file : Text) → is_value file ≡ true → found (subcommand_of tool_app (program ∷ codes "list" ∷ file ∷ [])) ≡ Some (codes "list", Some file, None, None)
 unfolding clap_on_literals tool_app
 list_finds program [] h = refl
 list_finds program (c ∷ cs) h = let other : (c == 45) ≡ false = not_true _ h in simp other
@@ -201,7 +222,7 @@ scan_parses program file w ws h k few =
     ∙ ap (λ (x : Kinds). or_else x []) (scan_level_fault file w ws h k few)
 
 pub scan_finds : (program file window : Text) (windows : List Text) → is_value file ≡ true → list_all is_value (window ∷ windows) ≡ true
-    → found (subcommand_of tool_app (program ∷ codes "scan" ∷ file ∷ window ∷ windows)) ≡ Some (codes "scan", Some file, Some (window ∷ windows))
+    → found (subcommand_of tool_app (program ∷ codes "scan" ∷ file ∷ window ∷ windows)) ≡ Some (codes "scan", Some file, None, Some (window ∷ windows))
 unfolding clap_on_literals tool_app
 scan_finds program file w ws h k =
     ap (λ (x : Walk). found (entered (built tool_app) x.stopped)) (top_walk (file ∷ w ∷ ws))

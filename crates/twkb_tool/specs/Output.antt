@@ -10,12 +10,15 @@ use Rattle.twkb_layer.specs.Hits.{hits, cost}
 use Rattle.twkb_layer.specs.Layer.{IsCertifiedLayer, vertex_count}
 use Rattle.twkb_layer.specs.Refusal.{IsRefusal}
 use Rattle.twkb_layer.specs.Rows.{rows}
+use Rattle.twkb_layer.specs.Tight.{IsTightLayer, IsTightRefusal}
 use Rattle.twkb_layer.specs.declared.hits.Hit.{Hit}
+use Rattle.twkb_layer.specs.declared.refusal.Refusal.{Refusal}
+use Rattle.twkb_layer.specs.declared.refusal.Refusal.TheVariants.{No as Refused, Memory}
 use Rattle.twkb_layer.specs.declared.row.Row.{Row}
 use Rattle.twkb_tool.specs.declared.judge.Verdict.{Verdict}
 use Rattle.twkb_tool.specs.declared.judge.Verdict.TheVariants.{Yes, No}
 use Rattle.twkb_tool.specs.declared.request.Request.{Request}
-use Rattle.twkb_tool.specs.declared.request.Request.TheVariants.{Check, List as ListBlobs, Scan}
+use Rattle.twkb_tool.specs.declared.request.Request.TheVariants.{Check, CheckTight, List as ListBlobs, Scan}
 
 -- ---- words
 
@@ -30,6 +33,7 @@ word_of kind =
     else if kind == 6 then Some (codes "size")
     else if kind == 7 then Some (codes "box")
     else if kind == 8 then Some (codes "ids")
+    else if kind == 9 then Some (codes "loose")
     else None
 
 -- the name of a type
@@ -88,29 +92,49 @@ scan_text windows trees len = flat_map (window_text (reading windows) trees len)
 -- the text for what is asked for
 abbrev pub layer_text : Request → List Geometry → ℕ → List ℕ
 layer_text Check trees len = ok_line (length trees) (vertex_count trees)
+layer_text CheckTight trees len = ok_line (length trees) (vertex_count trees)
 layer_text ListBlobs trees len = flat_map row_line (rows trees)
 layer_text (Scan windows) trees len = scan_text windows.items trees len
 
 -- ---- the text for a file
 
--- the bytes are a certified layer, and this is its text
+-- the layers that are accepted for a request: the certified ones, and in tight checking those without a loose box
+abbrev pub IsAccepted : Request → List Geometry → List ℕ → Type 0
+IsAccepted Check trees bytes = IsCertifiedLayer trees bytes
+IsAccepted CheckTight trees bytes = IsTightLayer trees bytes
+IsAccepted ListBlobs trees bytes = IsCertifiedLayer trees bytes
+IsAccepted (Scan windows) trees bytes = IsCertifiedLayer trees bytes
+
+-- and the blob, the offset and the kind for which bytes are refused
+abbrev pub IsRefusalFor : Request → List ℕ → ℕ → ℕ → ℕ → Type 0
+IsRefusalFor Check bytes blob offset kind = IsRefusal bytes blob offset kind
+IsRefusalFor CheckTight bytes blob offset kind = IsTightRefusal bytes blob offset kind
+IsRefusalFor ListBlobs bytes blob offset kind = IsRefusal bytes blob offset kind
+IsRefusalFor (Scan windows) bytes blob offset kind = IsRefusal bytes blob offset kind
+
+-- the same of a refusal; one for want of memory says nothing of the bytes
+abbrev pub IsRefusedAs : Request → Refusal → List ℕ → Type 0
+IsRefusedAs request (Refused blob offset kind) bytes = IsRefusalFor request bytes blob offset kind
+IsRefusedAs request Memory bytes = Unit {0}
+
+-- the bytes are such a layer, and this is its text
 pub record IsLayerText (request : Request) (bytes text : List ℕ) : Type 0 where
   pub trees : List Geometry
-  pub layer : IsCertifiedLayer trees bytes
+  pub layer : IsAccepted request trees bytes
   pub text_is : text ≡ layer_text request trees (length bytes)
 
--- the bytes are no certified layer, and this is the line that says why
-pub record IsNoLine (bytes text : List ℕ) : Type 0 where
+-- the bytes are none, and this is the line that says why
+pub record IsNoLine (request : Request) (bytes text : List ℕ) : Type 0 where
   pub blob : ℕ
   pub offset : ℕ
   pub kind : ℕ
   pub word : List ℕ
-  pub none : (trees : List Geometry) → IsCertifiedLayer trees bytes → ⊥
-  pub refused : IsRefusal bytes blob offset kind
+  pub none : (trees : List Geometry) → IsAccepted request trees bytes → ⊥
+  pub refused : IsRefusalFor request bytes blob offset kind
   pub named : word_of kind ≡ Some word
   pub text_is : text ≡ no_line blob offset word
 
 -- the text and the verdict for the bytes
 abbrev pub IsOutput : Request → List ℕ → List ℕ → Verdict → Type 0
 IsOutput request bytes text Yes = IsLayerText request bytes text
-IsOutput request bytes text No = IsNoLine bytes text
+IsOutput request bytes text No = IsNoLine request bytes text

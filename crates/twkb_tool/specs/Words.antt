@@ -4,13 +4,14 @@ use Rattle.clap.specs.Lexer.{usize_max}
 use Rattle.clap.specs.Values.{kind_of}
 use Rattle.clap.specs.Words.{App, Kinds, Row, Rule, Text, IsAmong, all_of, first_of, new_app, new_rule, with_rule, with_subcommand}
 use Rattle.clap.specs.Simple.{on_top}
+use Rattle.clap.specs.declared.builder.action.ArgAction.TheVariants.{SetTrue}
 use Rattle.clap.specs.declared.error.kind.ErrorKind.TheVariants.{OutOfMemory}
 use Rattle.twkb_head.specs.declared.boxes.Bounds.{Bounds}
 use Rattle.twkb_layer.specs.WindowText.{IsWindowText, in_order}
 use Rattle.twkb_layer.specs.declared.window.BadWindow.{BadWindow}
 use Rattle.twkb_layer.specs.declared.window.BadWindow.TheVariants.{Form, Order}
 use Rattle.twkb_tool.specs.declared.request.Request.{Request}
-use Rattle.twkb_tool.specs.declared.request.Request.TheVariants.{Check, List as ListBlobs, Scan}
+use Rattle.twkb_tool.specs.declared.request.Request.TheVariants.{Check, CheckTight, List as ListBlobs, Scan}
 use Rattle.twkb_tool.specs.declared.request.Line.{Line}
 use Rattle.twkb_tool.specs.declared.words.Usage.{Usage}
 use Rattle.twkb_tool.specs.declared.words.Usage.TheVariants.{Words, TooMany, Window as NoWindow, Memory}
@@ -20,6 +21,10 @@ use Rattle.twkb_tool.specs.declared.words.Usage.TheVariants.{Words, TooMany, Win
 -- one word, which is required
 abbrev pub file_rule : Rule
 file_rule = record (new_rule (codes "FILE")) { required = true }
+
+-- a flag
+abbrev pub tight_rule : Rule
+tight_rule = record (new_rule (codes "tight")) { long = Some (codes "tight"); action = Some SetTrue }
 
 -- one word or more, which are required
 abbrev pub window_rule : Rule
@@ -32,6 +37,10 @@ window_rule = record (new_rule (codes "WINDOW")) {
 abbrev pub file_app : Text → App
 file_app name = with_rule (new_app name) file_rule
 
+-- `check [--tight] FILE`
+abbrev pub check_app : App
+check_app = with_rule (file_app (codes "check")) tight_rule
+
 -- `scan FILE WINDOW..`
 abbrev pub scan_app : App
 scan_app = with_rule (file_app (codes "scan")) window_rule
@@ -42,7 +51,7 @@ bare_app = on_top (λ s. record s { subcommand_required = true }) (new_app (code
 
 -- the whole command: `twkb_tool` with each of these behind it
 unfoldable pub tool_app : App
-tool_app = with_subcommand (with_subcommand (with_subcommand bare_app (file_app (codes "check")).top) (file_app (codes "list")).top) scan_app.top
+tool_app = with_subcommand (with_subcommand (with_subcommand bare_app check_app.top) (file_app (codes "list")).top) scan_app.top
 
 -- the word is no flag to clap: it doesn't begin with a minus
 abbrev pub is_value : Text → Bool
@@ -100,6 +109,7 @@ most_windows = 64
 abbrev pub HoldsWindows : Request → Type 0
 HoldsWindows (Scan windows) = (1 ≤ length windows.items) × (length windows.items ≤ most_windows)
 HoldsWindows Check = Unit {0}
+HoldsWindows CheckTight = Unit {0}
 HoldsWindows ListBlobs = Unit {0}
 
 -- ---- what the matches of a subcommand come to
@@ -108,9 +118,14 @@ HoldsWindows ListBlobs = Unit {0}
 abbrev pub windows_in : List Row → Option (List Text)
 windows_in rows = all_of (codes "WINDOW") rows
 
+-- the flag of this name is given
+abbrev pub IsGiven : Text → List Row → Type 0
+IsGiven name rows = first_of name rows ≡ Some (codes "true")
+
 -- the subcommand of this name, with its matches, asks for the request
 abbrev pub AsksFor : Text → List Row → Request → Type 0
-AsksFor name rows Check = name ≡ codes "check"
+AsksFor name rows Check = (name ≡ codes "check") × (IsGiven (codes "tight") rows → ⊥)
+AsksFor name rows CheckTight = (name ≡ codes "check") × IsGiven (codes "tight") rows
 AsksFor name rows ListBlobs = name ≡ codes "list"
 AsksFor name rows (Scan windows) = (name ≡ codes "scan") × (texts : List Text) × (windows_in rows ≡ Some texts)
     × AreWindows texts windows.items × (1 ≤ length texts) × (length texts ≤ most_windows)
@@ -166,6 +181,7 @@ IsLineOf file request (Err usage) = usage ≡ Memory
 abbrev pub IsScanFor : List Text → Request → Type 0
 IsScanFor texts (Scan windows) = AreWindows texts windows.items × (length texts ≤ most_windows)
 IsScanFor texts Check = ⊥
+IsScanFor texts CheckTight = ⊥
 IsScanFor texts ListBlobs = ⊥
 
 -- why there is no such scan: the texts are too many, or one is no window, or memory ran out

@@ -1,13 +1,15 @@
 //! The judgement of a file.
-ghost use Rattle.std.specs.Prelude.{◌≤◌, length, IfOk};
-ghost use Rattle.twkb_tool.specs.Output.{IsOutput};
+ghost use Rattle.std.specs.Prelude.{◌≡◌, ◌≤◌, List, length, IfOk, IfErr, IsOkUnless};
+ghost use Rattle.twkb_body.specs.Geometry.{Geometry};
+ghost use Rattle.twkb_layer.specs.Tight.{NamesTightKind};
+ghost use Rattle.twkb_tool.specs.Output.{IsOutput, IsAccepted, IsRefusedAs};
 ghost use Rattle.twkb_tool.specs.Words.{HoldsWindows};
 
 use crate::request::Request;
 use crate::run::MAX_FILE;
 use crate::text::{push_layer_text, push_no_line};
 use std::alloc::{AllocError, Allocator};
-use twkb_layer::{Cursor, Refusal, certify_in};
+use twkb_layer::{Certified, Cursor, Refusal, certify_in, certify_tight_in};
 
 /// The answer to the question whether a file is a certified layer.
 #[derive(Clone, Copy, Debug, PartialEq, Eq)]
@@ -27,7 +29,7 @@ pub fn answer<'a, A: Allocator>(
     ensures { IfOk result (λ answer. IsOutput request.now bytes.now answer.0.items answer.1) }
 {
     let mut text = Vec::new(alloc);
-    match certify_in(alloc, Cursor::new(bytes)) {
+    match certified(alloc, request, bytes) {
         Ok(mut layer) => {
             push_layer_text(alloc, &mut text, request, &mut layer)?;
             Ok((text, Verdict::Yes))
@@ -37,5 +39,25 @@ pub fn answer<'a, A: Allocator>(
             Ok((text, Verdict::No))
         }
         Err(Refusal::Memory) => Err(AllocError),
+    }
+}
+
+/// The bytes as a certified layer, or why they are refused for the request.
+fn certified<'b, A: Allocator>(
+    alloc: &A,
+    request: &Request,
+    bytes: &'b [u8],
+) -> Result<Certified<'b>, Refusal>
+    ensures accepted { IfOk result (λ layer. (trees : List Geometry) × IsAccepted request.now trees bytes.entry.now) }
+    ensures bytes { IfOk result (λ layer. layer.bytes ≡ bytes.entry.now) }
+    ensures read { IfOk result (λ layer. layer.count ≤ length bytes.entry.now) }
+    ensures refused { IfErr result (λ refusal. IsRefusedAs request.now refusal bytes.entry.now) }
+    ensures kinds { IfErr result NamesTightKind }
+    ensures complete { (trees : List Geometry) → IsAccepted request.now trees bytes.entry.now → IsOkUnless result Refusal.Memory }
+{
+    let cursor = Cursor::new(bytes);
+    match request {
+        Request::CheckTight => certify_tight_in(alloc, cursor),
+        Request::Check | Request::List | Request::Scan(_) => certify_in(alloc, cursor),
     }
 }

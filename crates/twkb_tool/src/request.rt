@@ -6,6 +6,8 @@ use twkb_layer::Window;
 pub enum Request {
     /// Certify it, or name its first false claim.
     Check,
+    /// The same, where a box that is larger than its vertices and its precision ask for is false too.
+    CheckTight,
     /// Say of each blob what it is, where it begins, and how much it has.
     List,
     /// For each window, in order, name the blobs that have a vertex inside. There are one to `MAX_WINDOWS`.

@@ -30,7 +30,9 @@ pub fn push_layer_text<'a, A: Allocator>(
     ensures { (trees : List Geometry) → IsCertifiedLayer trees layer.old.bytes → OnOk result (out.new.items ≡ out.old.items ++ layer_text request.now trees (length layer.old.bytes)) }
 {
     match request {
-        Request::Check => push_ok_line(out, layer.blobs(), layer.vertices()),
+        Request::Check | Request::CheckTight => {
+            push_ok_line(out, layer.blobs(), layer.vertices())
+        }
         Request::List => push_list(alloc, out, layer),
         Request::Scan(windows) => push_scan(alloc, out, windows.as_slice(), layer),
     }

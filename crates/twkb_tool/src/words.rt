@@ -15,7 +15,7 @@ use crate::request::{Line, Request};
 use clap::ArgMatches;
 use clap::error::ErrorKind;
 use command::tool_command;
-use found::{used, value_in, values_in};
+use found::{is_given, used, value_in, values_in};
 use std::alloc::{AllocError, Global};
 use std::convert::AsStr;
 use thiserror::Error;
@@ -45,6 +45,8 @@ pub fn request_of<S: AsStr>(alloc: Global, words: &[S]) -> Result<Line, Usage>
     ensures refused { fault_of tool_app (map S.text words.now) ≢ [] → IsErrAnd result (IsRefusalOrMemory (fault_of tool_app (map S.text words.now))) }
     ensures parsed { fault_of tool_app (map S.text words.now) ≡ [] → Answers (subcommand_of tool_app (map S.text words.now)) result }
     ensures check { (program file : Text) → map S.text words.now ≡ program ∷ codes "check" ∷ file ∷ [] → is_value file ≡ true → IsLineOf file Request.Check result }
+    ensures tight { (program file : Text) → map S.text words.now ≡ program ∷ codes "check" ∷ codes "--tight" ∷ file ∷ [] → is_value file ≡ true → IsLineOf file Request.CheckTight result }
+    ensures tight_behind { (program file : Text) → map S.text words.now ≡ program ∷ codes "check" ∷ file ∷ codes "--tight" ∷ [] → is_value file ≡ true → IsLineOf file Request.CheckTight result }
     ensures list { (program file : Text) → map S.text words.now ≡ program ∷ codes "list" ∷ file ∷ [] → is_value file ≡ true → IsLineOf file Request.List result }
     ensures scan { (program file window : Text) (windows : List Text) → map S.text words.now ≡ program ∷ codes "scan" ∷ file ∷ window ∷ windows → is_value file ≡ true → list_all is_value (window ∷ windows) ≡ true → IsScanOf file (window ∷ windows) result }
     ensures windows { IfOk result (λ line. HoldsWindows line.request) }
@@ -111,10 +113,22 @@ fn request_in(alloc: Global, name: &str, matches: &ArgMatches<'_>) -> Result<Req
     ensures err { IfErr result (IsRefused name.now (rows_of (found_of matches.now))) }
 {
     match name {
-        "check" => Ok(Request::Check),
+        "check" => Ok(check_of(matches)),
         "list" => Ok(Request::List),
         "scan" => scan_of(alloc, matches),
         _ => Err(Usage::Words(None)),
+    }
+}
+
+/// The request of `check`.
+fn check_of(matches: &ArgMatches<'_>) -> Request
+    ensures asks { AsksFor (codes "check") (rows_of (found_of matches.now)) result }
+    ensures windows { HoldsWindows result }
+{
+    if is_given(matches, "tight") {
+        Request::CheckTight
+    } else {
+        Request::Check
     }
 }
 

@@ -4,9 +4,9 @@ use plain::Fault;
 use std::alloc::Global;
 use std::process::Abort;
 
-// The audit of the plain reader.
-fn plain_audit(alloc: Global, bytes: &[u8]) -> Result<Audit, AuditFault> {
-    match plain::read_blob(alloc, bytes) {
+// The answer of the plain reader, as one of an audit.
+fn audited(answer: Result<plain::Layer, Fault>) -> Result<Audit, AuditFault> {
+    match answer {
         Ok(layer) => Ok(Audit {
             vertices: layer.vertices.len(),
             stop: layer.geometries.first().map_or(0, |blob| blob.whole),
@@ -19,48 +19,74 @@ fn plain_audit(alloc: Global, bytes: &[u8]) -> Result<Audit, AuditFault> {
                 plain::Claim::Size => Claim::Size,
                 plain::Claim::Box => Claim::Box,
                 plain::Claim::Ids => Claim::Ids,
+                plain::Claim::Loose => Claim::Loose,
             },
         }),
     }
 }
 
-// Whether both audits answer the same.
-fn agrees(rt: &impl Abort, alloc: Global, bytes: &[u8]) {
+// Whether one audit or the other answers as the plain reader does.
+fn agrees(rt: &impl Abort, alloc: Global, bytes: &[u8], is_tight: bool) {
     let mut cursor = Cursor::new(bytes);
-    let answer = audit(alloc, &mut cursor);
-    assert_eq!(rt; answer, plain_audit(alloc, bytes), "of {bytes:?}");
+    let (answer, plainly) = if is_tight {
+        let plainly = plain::read_blob_tight(alloc, bytes);
+        (audit_tight(alloc, &mut cursor), plainly)
+    } else {
+        let plainly = plain::read_blob(alloc, bytes);
+        (audit(alloc, &mut cursor), plainly)
+    };
+    assert_eq!(rt; answer, audited(plainly), "of {bytes:?}");
     let place = answer.map_or(0, |audit| audit.stop);
     assert_eq!(rt; cursor.place(), place);
 }
 
-/// Both audits agree on the bytes cut after each of them, and with each of them set to every value.
-pub fn variants_agree(rt: &impl Abort, alloc: Global, bytes: &[u8]) -> Result<(), Fail> {
+// They agree on the bytes cut after each of them, and with each of them set to every value.
+fn agree(rt: &impl Abort, alloc: Global, bytes: &[u8], is_tight: bool) -> Result<(), Fail> {
     let mut changed = Vec::new(alloc);
     changed.extend_from_slice(bytes)?;
     for k in 0..bytes.len() {
-        agrees(rt, alloc, &bytes[..k]);
+        agrees(rt, alloc, &bytes[..k], is_tight);
         for value in 0..=255u8 {
             changed[k] = value;
-            agrees(rt, alloc, &changed);
+            agrees(rt, alloc, &changed, is_tight);
         }
         changed[k] = bytes[k];
     }
     Ok(())
 }
 
+/// Both audits and the plain reader agree on all that comes of the bytes by a cut or by one changed byte.
+pub fn variants_agree(rt: &impl Abort, alloc: Global, bytes: &[u8]) -> Result<(), Fail> {
+    agree(rt, alloc, bytes, false)?;
+    agree(rt, alloc, bytes, true)
+}
+
 #[test]
 fn variants_of_certified_blobs(rt: HostRuntime) -> Result<(), Fail> {
     for (bytes, _) in CERTIFIED {
+        agree(&rt, rt.alloc(), bytes, false)?;
+    }
+    Ok(())
+}
+
+#[test]
+fn variants_of_certified_blobs_in_tight_checking(rt: HostRuntime) -> Result<(), Fail> {
+    for (bytes, _) in CERTIFIED {
+        agree(&rt, rt.alloc(), bytes, true)?;
+    }
+    Ok(())
+}
+
+#[test]
+fn variants_of_malformed_blobs(rt: HostRuntime) -> Result<(), Fail> {
+    for (bytes, _, _) in MALFORMED {
         variants_agree(&rt, rt.alloc(), bytes)?;
     }
     Ok(())
 }
 
 #[test]
-fn variants_of_other_blobs(rt: HostRuntime) -> Result<(), Fail> {
-    for (bytes, _, _) in MALFORMED {
-        variants_agree(&rt, rt.alloc(), bytes)?;
-    }
+fn variants_of_false_blobs(rt: HostRuntime) -> Result<(), Fail> {
     for (bytes, _, _) in FALSE {
         variants_agree(&rt, rt.alloc(), bytes)?;
     }

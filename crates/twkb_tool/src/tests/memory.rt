@@ -82,6 +82,15 @@ fn each_allocation_of_a_check_is_refused(rt: HostRuntime) -> Result<(), Fail> {
 }
 
 #[test]
+fn each_allocation_of_a_tight_check_is_refused(rt: HostRuntime) -> Result<(), Fail> {
+    let text = "ok blobs=1 vertices=17\n";
+    let count = refusals(&rt, rt.alloc(), SEVENTEEN_IDS, &Request::CheckTight, text)?;
+    // At least those for the bytes, the ids and the text.
+    assert!(rt; 3 <= count, "{count}");
+    Ok(())
+}
+
+#[test]
 fn each_allocation_of_a_list_is_refused(rt: HostRuntime) -> Result<(), Fail> {
     let text = "blob=0 offset=0 bytes=5 type=point precision=-1 vertices=1 size=no box=no\n";
     let count = refusals(&rt, rt.alloc(), COARSE_POINT, &Request::List, text)?;

@@ -244,6 +244,44 @@ fn places_of_malformations(rt: HostRuntime) -> Result<(), Fail> {
     check_each(&rt, rt.alloc(), &PLACES)
 }
 
+/// Files under tight checking.
+#[rattlefmt::skip]
+const TIGHT: [(&[u8], &str); 12] = [
+    // a box round its line
+    (b"\x02\x03\x09\x02\x08\x02\x08\x02\x02\x02\x08\x08", "ok blobs=1 vertices=2\n"),
+    // a collection's box a step of its own precision beyond a finer member
+    (b"\x07\x01\x02\x02\x02\x02\x01\x21\x00\x1E\x1E", "ok blobs=1 vertices=1\n"),
+    // X from 0 in place of 1
+    (b"\x02\x01\x00\x0A\x02\x08\x02\x02\x02\x08\x08", "no blob=0 offset=2 kind=loose\n"),
+    // X to 6 in place of 5
+    (b"\x02\x01\x02\x0A\x02\x08\x02\x02\x02\x08\x08", "no blob=0 offset=2 kind=loose\n"),
+    // a false box
+    (b"\x02\x03\x09\x02\x06\x02\x08\x02\x02\x02\x08\x08", "no blob=0 offset=3 kind=box\n"),
+    // two blobs
+    (b"\x02\x03\x09\x02\x08\x02\x08\x02\x02\x02\x08\x08\x01\x01\x14\x00\x14\x00\x14\x14", "ok blobs=2 vertices=3\n"),
+    // a negative extent over nothing
+    (b"\x02\x01\x02\x01\x00\x00\x00", "ok blobs=1 vertices=0\n"),
+    // Z that no vertex has, and X that one has
+    (b"\x07\x09\x01\x00\x02\x00\x02\x14\x00\x01\x01\x00\x02\x02", "no blob=0 offset=3 kind=loose\n"),
+    // a loose box before a false size
+    (b"\x02\x01\x00\x0A\x02\x08\x02\x02\x02\x08\x08\x01\x02\x03\x02\x04", "no blob=0 offset=2 kind=loose\n"),
+    // a point without a box
+    (b"\x01\x00\x02\x04", "ok blobs=1 vertices=1\n"),
+    // seventeen ids
+    (b"\x04\x04\x11\x00\x02\x04\x06\x08\x0A\x0C\x0E\x10\x12\x14\x16\x18\x1A\x1C\x1E\x20\0\0\0\0\0\0\0\0\0\0\0\0\0\0\0\0\0\0\0\0\0\0\0\0\0\0\0\0\0\0\0\0\0\0", "ok blobs=1 vertices=17\n"),
+    // two of them equal
+    (b"\x04\x04\x11\x00\x02\x04\x06\x08\x0A\x0C\x0E\x10\x12\x14\x16\x18\x1A\x1C\x1E\x00\0\0\0\0\0\0\0\0\0\0\0\0\0\0\0\0\0\0\0\0\0\0\0\0\0\0\0\0\0\0\0\0\0\0", "no blob=0 offset=3 kind=ids\n"),
+];
+
+#[test]
+fn tight_checking(rt: HostRuntime) -> Result<(), Fail> {
+    for (bytes, text) in &TIGHT {
+        answers(&rt, rt.alloc(), bytes, 1, &Request::CheckTight, text)?;
+        answers(&rt, rt.alloc(), bytes, 1000, &Request::CheckTight, text)?;
+    }
+    Ok(())
+}
+
 #[test]
 fn the_limit_is_the_most_bytes(rt: HostRuntime) -> Result<(), Fail> {
     let bytes = [0x02, 0x00, 0x02, 0x02, 0x02, 0x08, 0x08];

@@ -39,6 +39,20 @@ fn check_takes_a_file(rt: HostRuntime) -> Result<(), Fail> {
 }
 
 #[test]
+fn check_takes_a_flag_on_either_side(rt: HostRuntime) -> Result<(), Fail> {
+    let table: [[&str; 4]; 2] = [
+        ["twkb_tool", "check", "--tight", "a.twkb"],
+        ["twkb_tool", "check", "a.twkb", "--tight"],
+    ];
+    for words in table {
+        let line = request_of(rt.alloc(), &words)?;
+        assert_eq!(rt; line.path.as_str(), "a.twkb");
+        assert!(rt; matches!(&line.request, Request::CheckTight), "{words:?}");
+    }
+    Ok(())
+}
+
+#[test]
 fn list_takes_a_file(rt: HostRuntime) -> Result<(), Fail> {
     let line = request_of(rt.alloc(), &["twkb_tool", "list", "a.twkb"])?;
     assert_eq!(rt; line.path.as_str(), "a.twkb");
@@ -183,7 +197,7 @@ fn kind_of(alloc: Global, words: &[&str]) -> Option<ErrorKind> {
 
 #[test]
 fn other_words_are_refused(rt: HostRuntime) {
-    let table: [(&[&str], ErrorKind); 20] = [
+    let table: [(&[&str], ErrorKind); 25] = [
         (&[], ErrorKind::MissingSubcommand),
         (&["twkb_tool"], ErrorKind::MissingSubcommand),
         (
@@ -205,6 +219,26 @@ fn other_words_are_refused(rt: HostRuntime) {
         ),
         (
             &["twkb_tool", "check", "-a.twkb"],
+            ErrorKind::UnknownArgument,
+        ),
+        (
+            &["twkb_tool", "check", "--tight"],
+            ErrorKind::MissingRequiredArgument,
+        ),
+        (
+            &["twkb_tool", "check", "--tight", "--tight", "a.twkb"],
+            ErrorKind::ArgumentConflict,
+        ),
+        (
+            &["twkb_tool", "--tight", "check", "a.twkb"],
+            ErrorKind::UnknownArgument,
+        ),
+        (
+            &["twkb_tool", "list", "--tight", "a.twkb"],
+            ErrorKind::UnknownArgument,
+        ),
+        (
+            &["twkb_tool", "scan", "a.twkb", SQUARE, "--tight"],
             ErrorKind::UnknownArgument,
         ),
         (&["twkb_tool", "list"], ErrorKind::MissingRequiredArgument),

@@ -14,7 +14,7 @@ pub fn push_no_line<A: Allocator>(
     offset: usize,
     kind: u8,
 ) -> Result<(), AllocError>
-    requires { (1 ≤ kind) × (kind ≤ 8) }
+    requires { (1 ≤ kind) × (kind ≤ 9) }
     ensures { OnOk result ((word : List ℕ) × (word_of kind ≡ Some word) × (out.new.items ≡ out.old.items ++ no_line blob offset word)) }
 {
     push_number(out, "no blob=", blob)?;
@@ -84,7 +84,7 @@ pub fn push_end_line<A: Allocator>(
 /// The word for a kind of refusal.
 #[tactic(auto, unfolding(crate::specs::Output::word_of))]
 fn word_of(kind: u8) -> &'static str
-    requires { (1 ≤ kind) × (kind ≤ 8) }
+    requires { (1 ≤ kind) × (kind ≤ 9) }
     ensures { word_of kind ≡ Some result.now }
 {
     match kind {
@@ -96,6 +96,7 @@ fn word_of(kind: u8) -> &'static str
         6 => "size",
         7 => "box",
         8 => "ids",
+        9 => "loose",
         _ => unreachable!(),
     }
 }

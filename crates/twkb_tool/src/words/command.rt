@@ -2,22 +2,18 @@
 ghost use Rattle.std.specs.Prelude.{◌≡◌, false, IfOk};
 ghost use Rattle.clap.specs.Words.{app_of, rule_of};
 ghost use Rattle.clap.specs.declared.builder.command.Command.TheViews.{out-Command};
-ghost use Rattle.twkb_tool.specs.Words.{file_rule, window_rule, bare_app, file_app, scan_app, tool_app};
+ghost use Rattle.twkb_tool.specs.Words.{file_rule, tight_rule, window_rule, bare_app, file_app, check_app, scan_app, tool_app};
 
-use clap::{Arg, Command};
+use clap::{Arg, ArgAction, Command};
 use std::alloc::{AllocError, Global};
 
-/// `twkb_tool check FILE`, `twkb_tool list FILE` and `twkb_tool scan FILE WINDOW..`.
+/// `twkb_tool check [--tight] FILE`, `twkb_tool list FILE` and `twkb_tool scan FILE WINDOW..`.
 #[tactic(auto, unfolding(crate::specs::Words::tool_app))]
 pub fn tool_command<'a>(alloc: Global) -> Result<Command<'a>, AllocError>
     ensures { IfOk result (λ c. app_of c ≡ tool_app) }
 {
     bare_command(alloc)
-        .subcommand(file_command(
-            alloc,
-            "check",
-            "Certifies a layer, or names its first false claim",
-        )?)?
+        .subcommand(check_command(alloc)?)?
         .subcommand(file_command(
             alloc,
             "list",
@@ -43,6 +39,14 @@ fn file_command<'a>(alloc: Global, name: &'a str, about: &'a str) -> Result<Comm
     Command::new(alloc, name).about(about).arg(file_arg(alloc))
 }
 
+fn check_command<'a>(alloc: Global) -> Result<Command<'a>, AllocError>
+    ensures app { IfOk result (λ c. app_of c ≡ check_app) }
+    ensures local { IfOk result (λ c. (out-Command c).has_globals ≡ false) }
+{
+    let about = "Certifies a layer, or names its first false claim";
+    file_command(alloc, "check", about)?.arg(tight_arg(alloc))
+}
+
 fn scan_command<'a>(alloc: Global) -> Result<Command<'a>, AllocError>
     ensures app { IfOk result (λ c. app_of c ≡ scan_app) }
     ensures local { IfOk result (λ c. (out-Command c).has_globals ≡ false) }
@@ -58,6 +62,16 @@ fn file_arg<'a>(alloc: Global) -> Arg<'a>
     Arg::new(alloc, "FILE")
         .required(true)
         .help("A file of TWKB blobs, one after another")
+}
+
+fn tight_arg<'a>(alloc: Global) -> Arg<'a>
+    ensures rule { rule_of result ≡ tight_rule }
+    ensures local { result.global ≡ false }
+{
+    Arg::new(alloc, "tight")
+        .long("tight")
+        .action(ArgAction::SetTrue)
+        .help("Refuses boxes that are true and larger than they have to be, too")
 }
 
 /// Its number of values has no upper end: of too many windows `scan_of` says so itself.

@@ -1,6 +1,7 @@
 //! What `clap` found among the words.
-ghost use Rattle.std.specs.Prelude.{◌≡◌, map, option_map};
+ghost use Rattle.std.specs.Prelude.{◌≡◌, map, option_map, true, false};
 ghost use Rattle.clap.specs.Words.{all_of, first_of, found_of, rows_of, subcommand_rows_of};
+ghost use Rattle.twkb_tool.specs.Words.{IsGiven};
 
 use clap::ArgMatches;
 
@@ -17,6 +18,14 @@ pub fn value_in<'a>(matches: &ArgMatches<'a>, id: &str) -> Option<&'a str>
     ensures { option_map (λ s. s.now) result ≡ first_of id.now (rows_of (found_of matches.now)) }
 {
     matches.get_str(id)
+}
+
+/// Whether a flag was given.
+pub fn is_given(matches: &ArgMatches<'_>, id: &str) -> bool
+    ensures given { result ≡ true → IsGiven id.now (rows_of (found_of matches.now)) }
+    ensures missing { result ≡ false → IsGiven id.now (rows_of (found_of matches.now)) → ⊥ }
+{
+    matches!(value_in(matches, id), Some("true"))
 }
 
 /// All values of an argument.

@@ -32,8 +32,8 @@ take_geometry-returns-then-head g t c =
     let empty : ok.ok.header.empty ≡ true = sym (ap (λ (h : Head). h.empty) ok.ok.fields) ∙ c.if-head.true in (
       _,
       body_gives (deepest - c.args.depth) c.args.cursor.now _ _ headed no_body _ (empty_body ok.ok.header (members_under (deepest - c.args.depth)) c.read_head.new.cursor empty),
-      geometry_found c.in_ok-head.head c.args.depth c.args.cursor.now c.read_head.new.cursor c.read_head.new.cursor ok.ok ok.moved (omega arith) no_body (record { found = c.nothing.result; boxed = c.judge_box.result; ids = None }) _ _ c.judged.result
-          (nothing_inside (of_head c.in_ok-head.head) c.in_ok-head.head.bounds _ _ _ c.nothing.ensures.vertices c.nothing.ensures.refused (c.judge_box.ensures ∙ ap (box_judged c.in_ok-head.head.bounds) c.empty.ensures) refl)
+      geometry_found _ c.in_ok-head.head c.args.depth c.args.cursor.now c.read_head.new.cursor c.read_head.new.cursor ok.ok ok.moved (omega arith) no_body (record { found = c.nothing.result; boxed = c.judge_box.result; ids = None }) _ _ c.judged.result
+          (nothing_inside _ (of_head c.in_ok-head.head) c.in_ok-head.head.bounds _ _ _ c.nothing.ensures.vertices c.nothing.ensures.refused (c.judge_box.ensures ∙ ap (box_judged _ (of_head c.in_ok-head.head) c.in_ok-head.head.bounds) c.empty.ensures) refl)
           c.judged.ensures.vertices (rw c.place-stop.ensures.value at c.judged.ensures.refused),
     )
 
@@ -67,7 +67,7 @@ take_geometry-returns-then-not-is_collection g t c =
     let s = c.in_ok-inside.ensures in (
       _,
       body_gives (deepest - c.args.depth) c.args.cursor.now _ _ headed s.0 _ (body ∙ s.1),
-      geometry_found c.in_ok-head.head c.args.depth c.args.cursor.now c.read_head.new.cursor c.take_shape.new.cursor ok.ok ok.moved (omega (arith, s.2.few)) s.0 c.in_ok-inside.inside _ _ c.judged-then-not-is_collection.result
+      geometry_found _ c.in_ok-head.head c.args.depth c.args.cursor.now c.read_head.new.cursor c.take_shape.new.cursor ok.ok ok.moved (omega (arith, s.2.few)) s.0 c.in_ok-inside.inside _ _ c.judged-then-not-is_collection.result
           s.2 c.judged-then-not-is_collection.ensures.vertices (rw c.place-stop-then-not-is_collection.ensures.value at c.judged-then-not-is_collection.ensures.refused),
     )
 
@@ -118,7 +118,7 @@ take_geometry-returns g t c =
     let s = c.in_ok-inside-2.ensures in (
       _,
       body_gives (deepest - c.args.depth) c.args.cursor.now _ _ headed s.0 _ (body ∙ s.1),
-      geometry_found c.in_ok-head.head c.args.depth c.args.cursor.now c.read_head.new.cursor c.take_members.new.cursor ok.ok ok.moved (omega (arith, s.2.few)) s.0 c.in_ok-inside-2.inside _ _ c.judged-2.result
+      geometry_found _ c.in_ok-head.head c.args.depth c.args.cursor.now c.read_head.new.cursor c.take_members.new.cursor ok.ok ok.moved (omega (arith, s.2.few)) s.0 c.in_ok-inside-2.inside _ _ c.judged-2.result
           s.2 c.judged-2.ensures.vertices (rw c.place-stop-2.ensures.value at c.judged-2.ensures.refused),
     )
 
@@ -132,7 +132,7 @@ take_members-returns-in_err-list g t c =
     (λ m f. no_list inner c.args.head.now.ids _ m _ f) (λ bytes wants. (bytes, own_ids wants)) c.in_err-list.ensures)
 
 pub take_members-loop-init : goal.take_members-loop-init
-take_members-loop-init g t c = members_begin _ _ _ c.for_members-below.result.asked c.nothing-found.result c.for_members-below.result c.nothing-found.ensures.vertices c.nothing-found.ensures.refused refl c.for_members-below.ensures.extent
+take_members-loop-init g t c = members_begin _ _ _ _ c.for_members-below.result.asked c.nothing-found.result c.for_members-below.result c.nothing-found.ensures.vertices c.nothing-found.ensures.refused refl c.for_members-below.ensures.extent
 
 pub take_members-returns-in_err-member : goal.take_members-returns-in_err-member
 take_members-returns-in_err-member g t c =
@@ -143,7 +143,7 @@ take_members-returns-in_err-member g t c =
     rw (p.1, p.2) (stops_outside (geometry_at inner c.loop.cursor) (collection_at (geometry_at inner) c.args.head.now.ids c.args.cursor.now)
     (HasLongList (c.args.depth + 1) (rest c.loop.cursor)) (WantsInside c.args.depth inner c.args.head.now.ids c.args.cursor.now) c.loop.cursor c.args.cursor.now _ c.take_geometry.new.cursor
     (λ m f. no_member inner c.args.head.now.ids _ c.take_list.new.cursor list.0 list.1 c.in_ok-list.list.count list.2.count m _
-    (members_fail inner c.in_ok-list.list.count c.take_list.new.cursor c.for_members-below.result.asked c.loop.counter c.loop.found c.loop.below c.loop.cursor _ m c.loop-test.true f l))
+    (members_fail _ inner c.in_ok-list.list.count c.take_list.new.cursor c.for_members-below.result.asked c.loop.counter c.loop.found c.loop.below c.loop.cursor _ m c.loop-test.true f l))
     (λ bytes wants. (
       bytes ∙ member_bytes inner c.args.head.now.ids _ c.take_list.new.cursor c.loop.cursor list.0 c.loop.counter l.front c.place-start.ensures.sound list.1 l.so_far,
       member_ids list.0 c.take_list.new.cursor c.loop.cursor c.loop.counter l.front list.1 (omega (arith, c.loop-test.true, list.2.count)) l.so_far wants,
@@ -153,7 +153,7 @@ take_members-returns-in_err-member g t c =
 pub take_members-loop-preserved : goal.take_members-loop-preserved
 take_members-loop-preserved g t c =
     let m = c.in_ok-member.ensures in
-    members_go_on (deepest - (c.args.depth + 1)) c.in_ok-list.list.count c.take_list.new.cursor c.for_members-below.result.asked c.loop.counter c.loop.found c.in_ok-member.member c.then-found.result c.loop.below c.take_geometry.new.seen
+    members_go_on _ (deepest - (c.args.depth + 1)) c.in_ok-list.list.count c.take_list.new.cursor c.for_members-below.result.asked c.loop.counter c.loop.found c.in_ok-member.member c.then-found.result c.loop.below c.take_geometry.new.seen
     c.loop.cursor c.take_geometry.new.cursor m.0 c.loop-test.true m.1 m.2 c.then-found.ensures.vertices c.then-found.ensures.refused c.loop.invariant
 
 pub take_members-returns : goal.take_members-returns
@@ -161,9 +161,9 @@ take_members-returns g t c =
     let inner = deepest - (c.args.depth + 1) in
     let list = c.in_ok-list.ensures in
     let l = c.loop.invariant in
-    let read = members_end inner c.in_ok-list.list.count c.take_list.new.cursor c.for_members-below.result.asked c.loop.counter c.loop.found c.loop.below c.loop.cursor (omega arith) l in (
+    let read = members_end _ inner c.in_ok-list.list.count c.take_list.new.cursor c.for_members-below.result.asked c.loop.counter c.loop.found c.loop.below c.loop.cursor (omega arith) l in (
       members_body list.0 (members_of l.front),
       collection_gives inner c.args.head.now.ids _ c.take_list.new.cursor list.0 list.1 c.in_ok-list.list.count list.2.count l.front _ read,
-      members_inside (of_head c.args.head.now) c.args.head.now.bounds c.args.cursor.now c.take_list.new.cursor c.loop.cursor list.0 c.in_ok-list.list inner c.in_ok-list.list.count c.loop.counter
+      members_inside _ (of_head c.args.head.now) c.args.head.now.bounds c.args.cursor.now c.take_list.new.cursor c.loop.cursor list.0 c.in_ok-list.list inner c.in_ok-list.list.count c.loop.counter
           (record { found = c.loop.found; boxed = c.judge_box.result; ids = c.in_ok-list.list.ids }) _ _ c.loop.below c.for_members-below.result.asked list.2 refl (c.for_members-below.ensures.asked ∙ ap (λ (b : Bool). c.args.seen.now.asked || b) c.is_some.ensures) c.judge_box.ensures c.show.ensures l,
     )

@@ -1,0 +1,13 @@
+use Rattle.std.proofs.Common.{◌∙◌, ap, Bool, FitsSigned, rules}
+use Rattle.std.proofs.lemmas.Int.{to_z-of_z}
+use Rattle.std.specs.Int.{w8}
+use Rattle.twkb_body.specs.Pass.{false_at}
+use Rattle.twkb_body.proofs.Judging.{same_as_test, tight_decides}
+use Rattle.twkb_body.proofs.found.judge_tight.Goals as goal
+
+pub returns : goal.returns
+returns c =
+    let precise : FitsSigned w8 c.args.head.now.xy = search rules in
+    let hugs = simp to_z-of_z at c.tight-hugs.ensures in
+    let w = same_as_test c.tight-hugs.result _ hugs (tight_decides c.args.head.now.xy c.args.head.now.z c.args.head.now.m c.args.field.now.bounds c.args.extent.now) in
+    c.claimed.ensures ∙ ap (λ (b : Bool). false_at b c.args.field.now.offset 9) w
