@@ -6,7 +6,7 @@ use Rattle.twkb_body.specs.Inside.{of_head}
 use Rattle.twkb_body.proofs.shape.judge_ranges.Goals as goal
 
 pub returns-clause-boxed : goal.returns-clause-boxed
-returns-clause-boxed c =
+returns-clause-boxed g c =
     let precise : FitsSigned w8 c.args.head.now.xy = search rules in
     let reached = simp to_z-of_z at c.in_units-extent.ensures in
-    c.judge_box.ensures ∙ ap (box_judged c.args.tight (of_head c.args.head.now) c.args.head.now.bounds) reached
+    c.judge_box.ensures ∙ ap (box_judged _ (of_head c.args.head.now) c.args.head.now.bounds) reached
