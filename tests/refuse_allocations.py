@@ -15,8 +15,9 @@ import tempfile
 
 HERE = os.path.dirname(os.path.abspath(__file__))
 
-# A line from 1 1 to 5 5, a point cut before its first number, and what is known of them.
+# A line from 1 1 to 5 5, the same with a box from 0 1, a point cut before its first number, and what is known of them.
 LINE = bytes.fromhex("02000202020808")
+LOOSE = bytes.fromhex("0201000A02080202020808")
 ROW = "blob=0 offset=0 bytes=7 type=linestring precision=0 vertices=2 size=no box=no\n"
 HIT = "hit blob=0 offset=0\nhits=1 read=7 of=7\n"
 NO_HIT = "hits=0 read=7 of=7\n"
@@ -28,6 +29,8 @@ INSIDE, OUTSIDE = "x=1..1,y=1..1", "x=-0.5..0.0000001,y=1..1"
 RUNS = [
     (["check", "line"], 0, "ok blobs=1 vertices=2\n"),
     (["check", "cut"], 1, "no blob=0 offset=2 kind=cut\n"),
+    (["check", "--tight", "line"], 0, "ok blobs=1 vertices=2\n"),
+    (["check", "--tight", "loose"], 1, "no blob=0 offset=2 kind=loose\n"),
     (["list", "line"], 0, ROW),
     (["scan", "line", INSIDE], 0, HIT),
     (["scan", "line", OUTSIDE], 0, NO_HIT),
@@ -89,7 +92,7 @@ def main():
         sys.exit("usage: tests/refuse_allocations.py PROGRAM")
     refused = failed = 0
     with tempfile.TemporaryDirectory(prefix="refused-") as folder:
-        for name, data in [("line", LINE), ("cut", CUT)]:
+        for name, data in [("line", LINE), ("loose", LOOSE), ("cut", CUT)]:
             with open(os.path.join(folder, name), "wb") as file:
                 file.write(data)
         refuser = Refuser(sys.argv[1], folder)
