@@ -29,8 +29,15 @@ ROW = "blob=0 offset=0 bytes=4 type=point precision=0 vertices=1 size=no box=no\
 HIT = "hit blob=0 offset=0\nhits=1 read=4 of=4\n"
 WINDOW = "x=1..1,y=2..2"
 # The words of each command but the layer, which stands behind the first, and what they give on POINT.
-COMMANDS = [(["check"], LINE), (["check", "--tight"], LINE), (["list"], ROW), (["scan", WINDOW], HIT), (["scan", WINDOW, WINDOW], HIT + HIT)]
+COMMANDS = [
+    (["check"], LINE),
+    (["check", "--tight"], LINE),
+    (["list"], ROW),
+    (["scan", WINDOW], HIT),
+    (["scan", WINDOW, WINDOW], HIT + HIT),
+]
 NOBODY = 65534
+A_FILE = b"  A file of TWKB blobs, one after another\n"
 GREATEST_FILE, GREATEST_WINDOWS = 268435456, 64
 # Layers that PostGIS wrote, with their blobs and vertices.
 EXAMPLES = [
@@ -128,6 +135,11 @@ def words_of_clap(program, layer):
         (["check", "--help"], b"Certifies a layer, or names its first false claim\n"),
         (["list", "--help"], b"Says of each blob of a certified layer what it is\n"),
         (["scan", "--help"], b"Names the blobs of a certified layer that have a vertex inside, for each window\n"),
+        (["scan", "--help"], b"  x=A..B,y=C..D[,z=E..F][,m=G..H], ends included\n"),
+        (["check", "--help"], b"--tight  Refuses boxes that are true and larger than they have to be, too\n"),
+        (["check", "--help"], A_FILE),
+        (["list", "--help"], A_FILE),
+        (["scan", "--help"], A_FILE),
     ]
     for words, part in said:
         status, out, error = run([program] + words)
