@@ -5,7 +5,6 @@ use Rattle.twkb_head.specs.Parts.{Sequence, Announced}
 use Rattle.twkb_head.specs.Header.{IsByte, IsSigned, axes_with, z_in, m_in, code_of, has_bit}
 use Rattle.twkb_head.specs.declared.kinds.Kind.{Kind}
 use Rattle.twkb_head.specs.declared.kinds.Kind.TheVariants.{GeometryCollection}
-use Rattle.twkb_head.specs.declared.kinds.TheConstants.{DEEPEST}
 
 -- whether the members have headers of their own
 abbrev pub is_collection : Kind → Bool
@@ -17,9 +16,9 @@ is_collection _ = false
 abbrev pub IsAllowedUnder : ℕ → Kind → ℕ → Type 0
 IsAllowedUnder limit kind depth = (1 ≤ depth) × (depth + (if is_collection kind then 1 else 0) ≤ limit)
 
--- how deep a geometry may stand: the limit of this project
+-- how deep a geometry may stand: the limit of this project, whose number the definitions write here alone
 abbrev pub deepest : ℕ
-deepest = DEEPEST
+deepest = 64
 
 -- a kind may stand at a depth under that limit
 abbrev pub IsAllowedAt : Kind → ℕ → Type 0

@@ -45,7 +45,7 @@ impl Kind {
 
 /// How deep the deepest geometry may stand, where a blob has depth 1 and a member of a collection one more than the
 /// collection. A collection may stand at most one less deep (this project's choice).
-pub const DEEPEST: u8 = 32;
+pub const DEEPEST: u8 = 64;
 
 /// The kind that a type byte names, where it may stand at `depth`.
 #[inline(always)]
