@@ -5,8 +5,9 @@ use Rattle.twkb_head.specs.BegunHeader.{deepest}
 use Rattle.twkb_body.specs.Geometry.{Geometry, geometry}
 use Rattle.twkb_body.specs.Encoding.{Blob, BlobUnder}
 use Rattle.twkb_body.proofs.BlobLaws.{blob_once}
+use Rattle.twkb_body.proofs.Growing.{blob_stays}
 use Rattle.twkb_body.proofs.Orders.{blob_order}
-use Rattle.twkb_layer.specs.Layer.{IsLayer, size_of}
+use Rattle.twkb_layer.specs.Layer.{IsLayer, IsLayerUnder, IsCertifiedLayerUnder, size_of}
 use Rattle.twkb_layer.specs.Laws.{AreBlobs, joined}
 
 -- ---- blobs
@@ -104,3 +105,14 @@ layer_short (g ∷ gs) bytes l =
     let front = take (size_of g) bytes in
     let behind = drop (size_of g) bytes in
     omega (arith, blob_some g front l.0, layer_short gs behind l.1, ap length (take-append-drop (size_of g) bytes), length-append front behind)
+
+-- ---- a layer under a greater limit
+
+pub layer_stays : (low high : ℕ) (trees : List Geometry) (bytes : List ℕ) → low ≤ high → IsLayerUnder low trees bytes → IsLayerUnder high trees bytes
+layer_stays low high [] bytes le l = l
+layer_stays low high (g ∷ gs) bytes le l =
+    (blob_stays low high le g (take (size_of g) bytes) 1 l.0, layer_stays low high gs (drop (size_of g) bytes) le l.1)
+
+pub certified_stays : (low high : ℕ) (trees : List Geometry) (bytes : List ℕ) → low ≤ high → IsCertifiedLayerUnder low trees bytes
+    → IsCertifiedLayerUnder high trees bytes
+certified_stays low high trees bytes le c = record { layer = layer_stays low high trees bytes le c.layer; certified = c.certified }

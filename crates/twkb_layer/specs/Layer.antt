@@ -1,8 +1,9 @@
 -- Layers: blobs one after another, and nothing else.
 use Rattle.std.specs.Prelude.{◌≡◌, ℕ, ◌+◌, ◌≤◌, List, [], ◌∷◌, take, drop, length, sum_by, All}
 use Rattle.twkb_num.specs.Cursor.{added}
+use Rattle.twkb_head.specs.BegunHeader.{deepest}
 use Rattle.twkb_body.specs.Geometry.{Geometry, lengths_of, vertices}
-use Rattle.twkb_body.specs.Encoding.{Blob}
+use Rattle.twkb_body.specs.Encoding.{BlobUnder}
 use Rattle.twkb_body.specs.Claims.{IsCertified}
 
 -- how many bytes a geometry takes
@@ -13,16 +14,24 @@ size_of tree = (lengths_of tree).whole
 abbrev pub header_size : Geometry → ℕ
 header_size tree = (lengths_of tree).header
 
--- The bytes are these blobs, one after another. Each is cut off by its own length, so that no cut has to be named: `Laws`
--- says that it is the same to cut anywhere.
-abbrev pub IsLayer : List Geometry → List ℕ → Type 0
-IsLayer [] bytes = bytes ≡ []
-IsLayer (tree ∷ trees) bytes = Blob tree (take (size_of tree) bytes) 1 × IsLayer trees (drop (size_of tree) bytes)
+-- The bytes are these blobs, one after another, where the deepest geometry may stand at the limit. Each is cut off by its own
+-- length, so that no cut has to be named: `Laws` says that it is the same to cut anywhere.
+abbrev pub IsLayerUnder : ℕ → List Geometry → List ℕ → Type 0
+IsLayerUnder limit [] bytes = bytes ≡ []
+IsLayerUnder limit (tree ∷ trees) bytes = BlobUnder limit tree (take (size_of tree) bytes) 1 × IsLayerUnder limit trees (drop (size_of tree) bytes)
 
--- a layer, and no claim in it is false
-pub record IsCertifiedLayer (trees : List Geometry) (bytes : List ℕ) : Type 0 where
-  pub layer : IsLayer trees bytes
+-- the same under the limit of this project
+abbrev pub IsLayer : List Geometry → List ℕ → Type 0
+IsLayer = IsLayerUnder deepest
+
+-- a layer under a limit, and no claim in it is false
+pub record IsCertifiedLayerUnder (limit : ℕ) (trees : List Geometry) (bytes : List ℕ) : Type 0 where
+  pub layer : IsLayerUnder limit trees bytes
   pub certified : All IsCertified trees
+
+-- the same under the limit of this project
+abbrev pub IsCertifiedLayer : List Geometry → List ℕ → Type 0
+IsCertifiedLayer = IsCertifiedLayerUnder deepest
 
 -- how many vertices its blobs have
 abbrev pub vertex_count : List Geometry → ℕ
