@@ -26,7 +26,7 @@ fn audited(answer: Result<plain::Layer, Fault>) -> Result<Audit, AuditFault> {
 }
 
 // Whether one audit or the other answers as the plain reader does.
-fn agrees(rt: &impl Abort, alloc: Global, bytes: &[u8], is_tight: bool) {
+pub fn agrees(rt: &impl Abort, alloc: Global, bytes: &[u8], is_tight: bool) {
     let mut cursor = Cursor::new(bytes);
     let (answer, plainly) = if is_tight {
         let plainly = plain::read_blob_tight(alloc, bytes);
