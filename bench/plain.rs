@@ -128,7 +128,7 @@ fn kind(reader: &mut Reader, depth: u8) -> Read<u8> {
     if !(1..=7).contains(&(byte & 15)) {
         return Err((start, Stop::Kind));
     }
-    if byte & 15 == 7 && depth == 32 {
+    if byte & 15 == 7 && depth == 64 {
         return Err((start, Stop::Depth));
     }
     Ok(byte)

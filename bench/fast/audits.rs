@@ -147,7 +147,7 @@ fn collection<'a>(
     over: Option<&Over>,
 ) -> Sure<'a> {
     let mut own = Over { frame, low: [0; 4], extent: [0; 4] };
-    let mut sure = kind < 7 || depth < 32;
+    let mut sure = kind < 7 || depth < 64;
     if metadata & 1 != 0 {
         sure &= over.is_none_or(|over| over.frame == frame);
         for axis in 0..axes as usize & 7 {

@@ -79,7 +79,7 @@ pub fn plain<F: FnMut(i128, i128)>(reader: &mut Reader, depth: u8, judge: bool, 
     let start = reader.place;
     let first = reader.byte()?;
     let kind = first & 15;
-    if kind == 0 || kind > 7 || kind == 7 && depth >= 32 {
+    if kind == 0 || kind > 7 || kind == 7 && depth >= 64 {
         return Err((start, if kind == 7 { "depth" } else { "type" }));
     }
     let metadata = reader.byte()?;
