@@ -9,7 +9,7 @@ MANUALS = share/man/man1
 BASH = share/bash-completion/completions
 ZSH = share/zsh/site-functions
 
-.PHONY: help kit build install uninstall demo test bench picture refusals twins clean
+.PHONY: help kit build install uninstall demo test bench picture refusals twins stack clean
 
 help:
 	@echo 'make build      prove and build the program: $(PROGRAM) (some minutes the first time)'
@@ -21,6 +21,7 @@ help:
 	@echo 'make picture    build, and draw how much of a layer scans read: docs/hops.svg'
 	@echo 'make refusals   build, and refuse each call of the program for memory in turn (needs cc)'
 	@echo 'make twins      check the twins of the wrong bodies, which mean what the source means'
+	@echo 'make stack      build, and measure how much stack the deepest collections take (gdb tells more)'
 	@echo 'make clean      remove what was built'
 
 kit:
@@ -77,6 +78,10 @@ refusals: build
 # Each is a check of its crate, so the gate leaves them out.
 twins: kit
 	python3 tests/twins.py
+
+# What it prints is of this machine, so the gate leaves it out.
+stack: build
+	python3 tests/stack.py $(PROGRAM)
 
 clean:
 	rm -rf build crates/*/out
