@@ -10,7 +10,7 @@ import re
 
 TYPES = ["point", "linestring", "polygon", "multipoint", "multilinestring", "multipolygon", "geometrycollection"]
 COLLECTION = 7
-DEEPEST = 32
+DEEPEST = 64
 AXES = "xyzm"
 RANGE = r"(-?\d{1,27}(?:\.\d{1,7})?)\.\.(-?\d{1,27}(?:\.\d{1,7})?)"
 WINDOW = re.compile(f"x={RANGE},y={RANGE}(?:,z={RANGE})?(?:,m={RANGE})?", re.ASCII)

@@ -5,7 +5,7 @@ usage: tests/run.py [PROGRAM]   (build/twkb_tool where it is left out)
 
 Runs on small layers are rows of cases.tsv: a name, the words after the program's name, of which FILE is the layer,
 the layer in hexadecimal, the status and the standard output. Each of these layers is also cut after each byte, and
-has each byte changed in some ways; the program is then compared with plain.py, which also lists and scans the examples.
+has each byte changed in some ways, of a long one the last 64; the program is then compared with plain.py, which also lists and scans the examples.
 How many blobs of these have a vertex in a window was asked of PostGIS (postgis.tsv). What needs more than a layer is below.
 Prints each difference, and last a line `N passed, M failed`; the status is 1 where any failed.
 """
