@@ -1,3 +1,5 @@
 pub mod Cursor
+pub mod Ends
 pub mod Units
 pub mod Varint
+pub mod Word

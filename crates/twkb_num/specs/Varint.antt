@@ -1,5 +1,5 @@
 -- Varints: which bytes spell which number, what a number means by zigzag, and the two faults.
-use Rattle.std.specs.Prelude.{◌≡◌, ℕ, ◌+◌, ◌-◌, ◌*◌, ◌/◌, ◌%◌, ◌^◌, ◌<◌, ◌≤◌, ◌==◌, if◌then◌else◌, ℤ, pos, neg_ℤ, List, [], ◌∷◌, length, take, slice_index}
+use Rattle.std.specs.Prelude.{◌≡◌, ℕ, ◌+◌, ◌-◌, ◌*◌, ◌/◌, ◌%◌, ◌^◌, ◌<◌, ◌≤◌, ◌==◌, if◌then◌else◌, ℤ, pos, neg_ℤ, ◌≤ℤ◌, ◌<ℤ◌, List, [], ◌∷◌, ◌++◌, length, take, slice_index}
 use Rattle.twkb_num.specs.declared.varint.NumFault.{NumFault}
 use Rattle.twkb_num.specs.declared.varint.NumFault.TheVariants.{Cut, Long}
 
@@ -52,3 +52,19 @@ zigzag_value n = if n % 2 == 0 then pos (n / 2) else neg_ℤ (pos ((n + 1) / 2))
 -- the bytes spell a number that means z by zigzag
 abbrev pub SpellsSigned : List ℕ → ℤ → Type 0
 SpellsSigned bytes z = (n : ℕ) × Spells bytes n × (zigzag_value n ≡ z)
+
+-- the bytes are a spelling of n, and behind it one of m
+pub record SpellsTwo (bytes : List ℕ) (n m : ℕ) : Type 0 where
+  pub front : List ℕ
+  pub behind : List ℕ
+  pub whole : bytes ≡ front ++ behind
+  pub first : Spells front n
+  pub second : Spells behind m
+
+-- the bytes spell a number that means x by zigzag, and behind it one that means y
+abbrev pub SpellsTwoSigned : List ℕ → ℤ → ℤ → Type 0
+SpellsTwoSigned bytes x y = (n m : ℕ) × SpellsTwo bytes n m × (zigzag_value n ≡ x) × (zigzag_value m ≡ y)
+
+-- a signed number that four bytes can spell
+abbrev pub IsShort : ℤ → Type 0
+IsShort z = (neg_ℤ (pos (2 ^ 27)) ≤ℤ z) × (z <ℤ pos (2 ^ 27))

@@ -1,17 +1,24 @@
 //! A cursor over bytes, which counts what it reads.
-ghost use Rattle.std.specs.Prelude.{◌≡◌, ◌≤◌, ◌↔◌, ℕ, ℤ, List, [], ◌∷◌, ◌++◌, length, IsNone, IfOk, IfErr, IfSome, IfNone, OnOk, OnSome};
+ghost use Rattle.std.specs.Prelude.{◌≡◌, ◌+◌, ◌≤◌, ◌↔◌, ℕ, ℤ, List, [], ◌∷◌, ◌++◌, length, take, IsNone, IfOk, IfErr, IfSome, IfNone, OnOk, OnSome};
 ghost use Rattle.twkb_num.specs.Cursor.{rest, passed, counted, IsMoved, IsSound};
+ghost use Rattle.twkb_num.specs.Ends.{IsFirstEnd};
 ghost use Rattle.twkb_num.specs.declared.varint.NumFault.TheVariants.{Cut};
-ghost use Rattle.twkb_num.specs.Varint.{Spells, SpellsSigned, Faults, IsCut, IsBegunBy, looked_at};
+ghost use Rattle.twkb_num.specs.Varint.{Spells, SpellsSigned, SpellsTwoSigned, IsShort, Faults, IsCut, IsBegunBy, looked_at};
 
+use crate::ends::first_end;
 use crate::signed::unzigzag;
 use crate::varint::{NumFault, decode};
+use crate::word::next_pair;
 use std::marker::Model;
 
 /// A place in bytes, and a count of the bytes read, which stays at `u64::MAX` once there.
 ///
-/// It isn't `Clone`, lends no bytes, and no call lowers its count: what reads through a cursor is counted.
+/// What a cursor reads is counted, and no call lowers its count. Two calls look ahead, at bytes that are counted when they
+/// are passed: [`Cursor::word`], and [`Cursor::ahead`], whose cursor may also be dropped. `None` of a call by words promises no
+/// more than that nothing was read.
 /// A contract sees it as a `Reading`. Each call takes constant time and space: a varint has at most ten bytes.
+/// Numbers may be read or passed by words of eight bytes ([`Cursor::svarint_pair`], [`Cursor::pass_varint`]). Then up to
+/// seven bytes behind them are touched too, as a cache line is, and the count is of the bytes that the numbers take.
 #[derive(Drop)]
 pub struct Cursor<'a> {
     bytes: &'a [u8],
@@ -91,6 +98,40 @@ impl<'a> Cursor<'a> {
         self.counted_before = self.read_count();
         self.start = place;
         self.place = place;
+    }
+
+    /// Another cursor at the same place with the same count, to look ahead with. What it reads is counted if the caller
+    /// goes on with it, and else forgotten.
+    #[inline(always)]
+    pub fn ahead(&self) -> Cursor<'a>
+        ensures { result ≡ self.now }
+    {
+        Cursor {
+            bytes: self.bytes,
+            place: self.place,
+            start: self.start,
+            counted_before: self.counted_before,
+        }
+    }
+
+    /// The next eight bytes, where so many are left. They are counted when they are passed.
+    #[inline(always)]
+    pub fn word(&self) -> Option<[u8; 8]>
+        ensures bytes { IfSome result (λ word. word ≡ take 8 (rest self.now)) }
+        ensures left { IfSome result (λ word. 8 ≤ length (rest self.now)) }
+    {
+        Some(*self.bytes[self.place..].first_chunk::<8>()?)
+    }
+
+    /// Past so many bytes, which are left.
+    #[inline(always)]
+    pub fn pass(&mut self, many: usize)
+        requires { many ≤ length (rest self.old) }
+        ensures moved { IsMoved self.old self.new }
+        ensures place { self.new.place ≡ self.old.place + many }
+        ensures passed { passed self.old self.new ≡ take many (rest self.old) }
+    {
+        self.place += many;
     }
 
     /// The byte at the place, which it moves past. `None` is the end.
@@ -199,6 +240,41 @@ impl<'a> Cursor<'a> {
             self.new ≡ counted self.old (looked_at fault (rest self.old))) }
     {
         Ok(unzigzag(self.uvarint()?))
+    }
+
+    /// Past the varint at the place, without asking for its number. Its end is found in one word of eight bytes; where fewer
+    /// are left, or it takes more, `None`, and the cursor is as it was.
+    #[inline(always)]
+    pub fn pass_varint(&mut self) -> Option<()>
+        ensures some { OnSome result ((n : ℕ) × Spells (passed self.old self.new) n) }
+        ensures moved { OnSome result (IsMoved self.old self.new) }
+        ensures none { IfNone result (self.new ≡ self.old) }
+    {
+        let len = self.short_length()?;
+        self.place += len;
+        Some(())
+    }
+
+    // How many bytes the varint at the place takes, where eight bytes are left and it takes no more.
+    #[inline(always)]
+    fn short_length(&self) -> Option<usize>
+        ensures { IfSome result (IsFirstEnd (rest self.now)) }
+    {
+        first_end(self.bytes[self.place..].first_chunk::<8>()?)
+    }
+
+    /// The two signed varints at the place, which it moves past, where each takes at most four bytes and eight bytes are
+    /// left. Else `None`: nothing was read, and two reads in turn say what stands there.
+    #[inline(always)]
+    pub fn svarint_pair(&mut self) -> Option<(i64, i64)>
+        ensures some { IfSome result (λ pair. SpellsTwoSigned (passed self.old self.new) pair.0 pair.1) }
+        ensures short { IfSome result (λ pair. IsShort pair.0 × IsShort pair.1) }
+        ensures moved { OnSome result (IsMoved self.old self.new) }
+        ensures none { IfNone result (self.new ≡ self.old) }
+    {
+        let pair = next_pair(self.bytes[self.place..].first_chunk::<8>()?)?;
+        self.place += pair.len;
+        Some((pair.first, pair.second))
     }
 }
 

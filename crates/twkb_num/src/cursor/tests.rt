@@ -1,4 +1,5 @@
 use super::*;
+use std::process::Abort;
 
 #[test]
 fn bytes_come_in_order(rt: HostRuntime) {
@@ -53,4 +54,163 @@ fn the_greatest_count_stays(rt: HostRuntime) {
     assert_eq!(rt; cursor.read_count(), u64::MAX);
     assert_eq!(rt; cursor.svarint(), Err(NumFault::Cut));
     assert_eq!(rt; cursor.read_count(), u64::MAX);
+}
+
+#[test]
+fn what_is_read_ahead_is_counted_by_who_goes_on(rt: HostRuntime) {
+    let mut cursor = Cursor::new(&[0x01, 0x02, 0x05, 0x06, 0x80]);
+    assert_eq!(rt; cursor.byte(), Some(1));
+    cursor.go_to(2);
+    assert_eq!(rt; cursor.byte(), Some(5));
+    let mut ahead = cursor.ahead();
+    assert_eq!(rt; ahead.place(), 3);
+    assert_eq!(rt; ahead.read_count(), 2);
+    assert_eq!(rt; ahead.svarint(), Ok(3));
+    assert_eq!(rt; ahead.svarint(), Err(NumFault::Cut));
+    assert_eq!(rt; ahead.place(), 4);
+    assert_eq!(rt; ahead.read_count(), 4);
+    assert_eq!(rt; cursor.place(), 3);
+    assert_eq!(rt; cursor.read_count(), 2);
+    cursor = ahead;
+    assert_eq!(rt; cursor.byte(), Some(0x80));
+    assert_eq!(rt; cursor.read_count(), 5);
+}
+
+#[test]
+fn a_word_is_the_next_eight_bytes(rt: HostRuntime) {
+    let bytes = [1, 2, 3, 4, 5, 6, 7, 8, 9];
+    let mut cursor = Cursor::new(&bytes);
+    assert_eq!(rt; cursor.word(), Some([1, 2, 3, 4, 5, 6, 7, 8]));
+    assert_eq!(rt; cursor.byte(), Some(1));
+    assert_eq!(rt; cursor.word(), Some([2, 3, 4, 5, 6, 7, 8, 9]));
+    assert_eq!(rt; cursor.place(), 1);
+    assert_eq!(rt; cursor.read_count(), 1);
+    assert_eq!(rt; cursor.byte(), Some(2));
+    assert_eq!(rt; cursor.word(), None);
+    cursor.go_to(9);
+    assert_eq!(rt; cursor.word(), None);
+    assert_eq!(rt; cursor.read_count(), 2);
+}
+
+#[test]
+fn bytes_are_counted_where_they_are_passed(rt: HostRuntime) {
+    let bytes = [1, 2, 3, 4, 5, 6, 7, 8, 9, 10, 11];
+    let mut cursor = Cursor::new(&bytes);
+    cursor.go_to(1);
+    cursor.pass(9);
+    assert_eq!(rt; cursor.place(), 10);
+    assert_eq!(rt; cursor.read_count(), 9);
+    cursor.pass(0);
+    assert_eq!(rt; cursor.byte(), Some(11));
+    assert_eq!(rt; cursor.read_count(), 10);
+}
+
+// A number of ten bytes, and behind it one of as many: from place k on the first has 10 - k bytes.
+const NUMBERS: [u8; 28] = [
+    0x81, 0x82, 0x83, 0x84, 0x85, 0x86, 0x87, 0x88, 0x89, 0x01, 0x91, 0x92, 0x93, 0x94, 0x95, 0x96,
+    0x97, 0x98, 0x99, 0x01, 0xA1, 0xA2, 0xA3, 0xA4, 0xA5, 0xA6, 0xA7, 0xA8,
+];
+
+// Varints of each length, with eight bytes left, or fewer, or more.
+#[test]
+fn passing_is_reading_without_the_number(rt: HostRuntime) {
+    for place in 0..10 {
+        for left in 0..=18 {
+            let bytes = &NUMBERS[place..place + left];
+            passes_as_it_reads(&rt, bytes, left >= 8 && place >= 2);
+        }
+    }
+}
+
+// The varint at the front is passed, as far as it is read, or the cursor stays as it is.
+fn passes_as_it_reads(rt: &impl Abort, bytes: &[u8], is_passed: bool) {
+    let mut reads = Cursor::new(bytes);
+    let mut passes = Cursor::new(bytes);
+    if is_passed {
+        assert!(rt; reads.uvarint().is_ok());
+        assert_eq!(rt; passes.pass_varint(), Some(()));
+    } else {
+        assert_eq!(rt; passes.pass_varint(), None);
+    }
+    assert_eq!(rt; passes.place(), reads.place());
+    assert_eq!(rt; passes.read_count(), reads.read_count());
+}
+
+#[test]
+fn varints_are_passed_up_to_their_ends(rt: HostRuntime) {
+    // Three bytes, one, and eight; then seven are left.
+    let bytes = [
+        0xFF, 0xFF, 0x01, 0x00, 0x80, 0x80, 0x80, 0x80, 0x80, 0x80, 0x80, 0x7F, 0x01, 0x01, 0x01,
+        0x01, 0x01, 0x01, 0x01,
+    ];
+    let mut cursor = Cursor::new(&bytes);
+    for place in [3, 4, 12] {
+        assert_eq!(rt; cursor.pass_varint(), Some(()));
+        assert_eq!(rt; cursor.place(), place);
+        assert_eq!(rt; cursor.read_count(), place as u64);
+    }
+    assert_eq!(rt; cursor.pass_varint(), None);
+    assert_eq!(rt; cursor.place(), 12);
+    assert_eq!(rt; cursor.read_count(), 12);
+}
+
+#[test]
+fn a_pair_is_two_reads(rt: HostRuntime) {
+    // Each of one byte, of two, of three and of four, and some of two lengths; then seven bytes are left.
+    let bytes = [
+        0x02, 0x01, 0xC8, 0x01, 0x81, 0x01, 0x80, 0x80, 0x01, 0x81, 0x80, 0x01, 0xFF, 0xFF, 0xFF,
+        0x7F, 0xFE, 0xFF, 0xFF, 0x7F, 0x81, 0x01, 0x80, 0x80, 0x01, 0x80, 0x80, 0x80, 0x01, 0x03,
+        0x04, 0xD0, 0x0F, 0x06, 0x07, 0x06, 0x07, 0x06, 0x07, 0x06,
+    ];
+    let table = [
+        (1, -1, 2),
+        (100, -65, 6),
+        (8192, -8193, 12),
+        (-134217728, 134217727, 20),
+        (-65, 8192, 25),
+        (1048576, -2, 30),
+        (2, 1000, 33),
+    ];
+    let mut cursor = Cursor::new(&bytes);
+    for (first, second, place) in table {
+        assert_eq!(rt; cursor.svarint_pair(), Some((first, second)));
+        assert_eq!(rt; cursor.place(), place);
+        assert_eq!(rt; cursor.read_count(), place as u64);
+    }
+    assert_eq!(rt; cursor.svarint_pair(), None);
+    assert_eq!(rt; cursor.place(), 33);
+    assert_eq!(rt; cursor.read_count(), 33);
+    assert_eq!(rt; cursor.svarint(), Ok(3));
+    assert_eq!(rt; cursor.svarint(), Ok(-4));
+}
+
+// Pairs of each two lengths, with seven bytes left, eight, and more.
+#[test]
+fn a_pair_has_four_bytes_each_at_most(rt: HostRuntime) {
+    for second in 1..=10 {
+        let mut bytes = NUMBERS;
+        bytes[9 + second] = 1;
+        for place in 0..10 {
+            let is_short = place >= 6 && second <= 4;
+            pair_like_two_reads(&rt, &bytes[place..place + 7], false);
+            pair_like_two_reads(&rt, &bytes[place..place + 8], is_short);
+            pair_like_two_reads(&rt, &bytes[place..], is_short);
+        }
+    }
+}
+
+// A pair is read at the front, which two reads in turn give too, or none, and nothing is passed.
+fn pair_like_two_reads(rt: &impl Abort, bytes: &[u8], is_read: bool) {
+    let mut reads = Cursor::new(bytes);
+    let mut pairs = Cursor::new(bytes);
+    if is_read {
+        match (reads.svarint(), reads.svarint()) {
+            (Ok(x), Ok(y)) => assert_eq!(rt; pairs.svarint_pair(), Some((x, y))),
+            _ => assert!(rt; false),
+        }
+    } else {
+        assert_eq!(rt; pairs.svarint_pair(), None);
+    }
+    assert_eq!(rt; pairs.place(), reads.place());
+    assert_eq!(rt; pairs.read_count(), reads.read_count());
 }

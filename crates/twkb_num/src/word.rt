@@ -1,0 +1,126 @@
+//! Two varints from the next eight bytes, read as one word.
+ghost use Rattle.std.specs.Prelude.{◌≡◌, ◌<◌, ◌≤◌, ◌^◌, take, IfSome};
+ghost use Rattle.twkb_num.specs.Varint.{IsShort, SpellsTwo, SpellsTwoSigned, zigzag_value};
+ghost use Rattle.twkb_num.specs.Word.{IsFront};
+
+use crate::signed::unzigzag;
+
+/// Two numbers, and the length of both spellings together.
+#[derive(Clone, Copy)]
+struct Two {
+    first: u64,
+    second: u64,
+    len: usize,
+}
+
+/// Two signed numbers, and the length of both spellings together.
+#[derive(Clone, Copy)]
+pub struct Pair {
+    pub first: i64,
+    pub second: i64,
+    pub len: usize,
+}
+
+impl Two {
+    /// What the numbers mean by zigzag.
+    #[inline(always)]
+    fn signed(self) -> Pair
+        ensures first { result.first ≡ zigzag_value self.first }
+        ensures second { result.second ≡ zigzag_value self.second }
+        ensures len { result.len ≡ self.len }
+    {
+        Pair {
+            first: unzigzag(self.first),
+            second: unzigzag(self.second),
+            len: self.len,
+        }
+    }
+}
+
+/// The numbers that the front of the eight bytes spells, where both take one byte or both take two. `None` says nothing.
+#[inline(always)]
+fn short_two(bytes: &[u8; 8]) -> Option<Two>
+    ensures len { IfSome result (λ two. two.len ≤ 8) }
+    ensures some { IfSome result (λ two. SpellsTwo (take two.len bytes.now) two.first two.second) }
+    ensures short { IfSome result (λ two. (two.first < 2 ^ 28) × (two.second < 2 ^ 28)) }
+{
+    let word = u64::from_le_bytes(*bytes);
+    if word & 0x8080_8080 == 0x0080_0080 {
+        // The second group of each number is pushed to its first.
+        let packed = (word & 0x007f_007f) + (word & 0x7f00_7f00) / 2;
+        return Some(Two {
+            first: packed % 65536,
+            second: packed / 65536,
+            len: 4,
+        });
+    }
+    if word & 0x8080 == 0 {
+        return Some(Two {
+            first: word % 128,
+            second: word / 256 % 128,
+            len: 2,
+        });
+    }
+    None
+}
+
+/// The signed numbers that the front of the eight bytes spells, where each takes at most four bytes. `None` says nothing.
+// Zigzag is undone where each length is known: behind both, the compiler would put the two numbers into one register.
+#[inline(always)]
+pub fn next_pair(bytes: &[u8; 8]) -> Option<Pair>
+    ensures len { IfSome result (λ pair. pair.len ≤ 8) }
+    ensures some { IfSome result (λ pair. SpellsTwoSigned (take pair.len bytes.now) pair.first pair.second) }
+    ensures short { IfSome result (λ pair. IsShort pair.first × IsShort pair.second) }
+{
+    match short_two(bytes) {
+        Some(two) => Some(two.signed()),
+        None => {
+            let two = mixed_two(bytes)?;
+            Some(two.signed())
+        }
+    }
+}
+
+/// A number, and the length of its spelling in bits: 8, 16, 24 or 32.
+#[derive(Clone, Copy)]
+struct Front {
+    value: u64,
+    bits: u32,
+}
+
+/// The same, where each takes at most four bytes.
+#[inline(always)]
+fn mixed_two(bytes: &[u8; 8]) -> Option<Two>
+    ensures len { IfSome result (λ two. two.len ≤ 8) }
+    ensures some { IfSome result (λ two. SpellsTwo (take two.len bytes.now) two.first two.second) }
+    ensures short { IfSome result (λ two. (two.first < 2 ^ 28) × (two.second < 2 ^ 28)) }
+{
+    let word = u64::from_le_bytes(*bytes);
+    let first = front_of((word % (1 << 32)) as u32)?;
+    let behind = word >> first.bits;
+    let second = front_of((behind % (1 << 32)) as u32)?;
+    Some(Two {
+        first: first.value,
+        second: second.value,
+        len: ((first.bits + second.bits) / 8) as usize,
+    })
+}
+
+// The number that the lowest bytes spell, if there is an end among them.
+#[inline(always)]
+fn front_of(low: u32) -> Option<Front>
+    ensures some { IfSome result (λ front. IsFront low front.bits front.value) }
+    ensures short { IfSome result (λ front. front.value < 2 ^ 28) }
+{
+    let ends = !low & 0x8080_8080;
+    if ends == 0 {
+        return None;
+    }
+    let bits = ends.trailing_zeros() + 1;
+    let cut = u64::from(low) % (1u64 << bits);
+    let value = cut % 128
+        + cut / 256 % 128 * 128
+        + cut / 65536 % 128 * 16384
+        + cut / 16777216 % 128 * 2097152;
+    Some(Front { value, bits })
+}
