@@ -12,3 +12,4 @@ pub mod HeadLaws
 pub mod HeadBack
 pub mod Limits
 pub mod BoxNumbers
+pub mod SizedPoints

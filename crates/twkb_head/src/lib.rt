@@ -10,6 +10,10 @@
 //! - On `Err` a [`Malformed`] names the first field that can't follow the bytes before it, and says [`Why`]; the cursor
 //!   is back at its place, and only the count has moved.
 //!
+//! [`read_flat_head`] reads a header of X and Y alone, with its box in raw numbers ([`FlatHead`]), and
+//! [`read_sized_point_head`] that of a point with a size and nothing else. They are for a look ahead: where another header
+//! stands, or none, they answer `None`.
+//!
 //! [`take_number`] and [`take_signed`] read a single number in the same way. A header's numbers are read by them, and so
 //! are those of the body behind it.
 //!
@@ -29,6 +33,7 @@
 mod bits;
 mod boxes;
 mod fields;
+mod flat;
 mod header;
 mod kinds;
 pub mod laws;
@@ -40,6 +45,7 @@ mod tests;
 
 pub use boxes::{Bounds, Span, Vertex};
 pub use fields::{take_number, take_signed};
+pub use flat::{FlatHead, RawBox, RawRange, read_flat_head, read_sized_point_head};
 pub use header::{BoxField, Head, SizeField};
 pub use kinds::{DEEPEST, Kind};
 pub use read::read_head;

@@ -100,7 +100,7 @@ fn take_extended(cursor: &mut Cursor, announced: bool) -> Result<Option<u8>, Mal
 
 /// The size, where it is announced (TWKB specification, "Size").
 #[inline(always)]
-fn take_size(cursor: &mut Cursor, announced: bool) -> Result<Option<u64>, Malformed>
+pub fn take_size(cursor: &mut Cursor, announced: bool) -> Result<Option<u64>, Malformed>
     ensures { optional_at announced number_at cursor.old ≡ (result, cursor.new) }
 {
     if announced {
@@ -112,7 +112,7 @@ fn take_size(cursor: &mut Cursor, announced: bool) -> Result<Option<u64>, Malfor
 
 /// A size, and where it stands.
 #[inline(always)]
-fn size_field(value: Option<u64>, offset: usize, after: usize) -> Option<SizeField>
+pub fn size_field(value: Option<u64>, offset: usize, after: usize) -> Option<SizeField>
     ensures { result ≡ option_map (λ value. record { value = value; offset = offset; after = after }) value }
 {
     value.map(|value| SizeField {
