@@ -12,21 +12,16 @@ use Rattle.twkb_head.specs.Reader.{Answer, Reader, ◌>>=◌, viewed, read, Fail
 use Rattle.twkb_body.specs.declared.found.Found.{Found}
 use Rattle.twkb_body.specs.declared.inside.Inside.{Inside}
 use Rattle.twkb_body.specs.declared.seen.Seen.{Seen}
-use Rattle.twkb_body.specs.Geometry.{Geometry, Members, none, Lengths, points_of, vertex_of, vertices}
+use Rattle.twkb_body.specs.Geometry.{Geometry, Members, Lengths, points_of, vertex_of, vertices}
 use Rattle.twkb_body.specs.Extent.{Reach, reach_of, both}
 use Rattle.twkb_body.specs.BodyPlan.{Body, no_body, geometry_from}
-use Rattle.twkb_body.specs.BodyReader.{spanned, shape_at, body_at, parts_at, members_at, geometry_by, geometry_at}
+use Rattle.twkb_body.specs.BodyReader.{spanned, shape_at, body_at, parts_at, geometry_by, geometry_at, members_under}
 use Rattle.twkb_body.specs.Pass.{IsRefusedFor, MemberSums, Sums, first, nothing, over, false_at, is_within, is_tight, size_refused, box_refused, ids_refused}
 use Rattle.twkb_body.specs.Found.{named, size_judged, box_judged, IsFound}
 use Rattle.twkb_body.specs.Seen.{HasSeen}
 use Rattle.twkb_body.specs.Inside.{of_head, IsInside}
 use Rattle.twkb_body.proofs.Passes.{over_sums, none_sums}
 use Rattle.twkb_body.proofs.Reaches.{both-none}
-
--- the members of a collection with so many levels below it
-abbrev pub members_under : ℕ → ℕ → Reader Members
-members_under zero = λ n r. (Ok none, r)
-members_under (suc levels) = members_at (geometry_at levels)
 
 geometry_is : (levels : ℕ) (r : Reading) → geometry_at levels r ≡ geometry_by levels (members_under levels) r
 unfolding geometry_at
@@ -82,6 +77,22 @@ shape_of_head head h start size_place box_place stop e r = ap (λ (x : Head). sh
     same : (multi : Bool) → shape_at multi (of_head (head_of h start size_place box_place stop)) r ≡ shape_at multi h r
     same false = refl
     same true = refl
+
+-- and so does every body
+pub body_of_head : (head : Head) (h : Header) (start size_place box_place stop : ℕ) → head ≡ head_of h start size_place box_place stop → (members : ℕ → Reader Members) (r : Reading)
+    → body_at head.empty (is_collection head.kind) (of_head head) members r ≡ body_at h.empty (is_collection h.kind) h members r
+unfolding body_at shape_at
+body_of_head head h start size_place box_place stop e members r =
+    ap (λ (x : Head). body_at x.empty (is_collection x.kind) (of_head x) members r) e ∙ same h.empty (is_collection h.kind)
+  where
+    shape : (multi : Bool) → shape_at multi (of_head (head_of h start size_place box_place stop)) r ≡ shape_at multi h r
+    shape false = refl
+    shape true = refl
+
+    same : (empty collection : Bool) → body_at empty collection (of_head (head_of h start size_place box_place stop)) members r ≡ body_at empty collection h members r
+    same true collection = refl
+    same false true = refl
+    same false false = shape (is_multi h.kind)
 
 -- nothing is found in an empty body, and nothing is seen
 pub nothing_inside : (tight : Bool) (h : Header) (bounds : Option BoxField) (place : ℕ) (above : Seen) (inside : Inside) → inside.found.vertices ≡ 0 → inside.found.refused ≡ None

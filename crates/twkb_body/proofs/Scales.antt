@@ -17,7 +17,7 @@ use Rattle.twkb_body.proofs.Reaches.{reach_append, both_assoc, both-none}
 times_suc : (a : ℤ) (k : ℕ) → a *ℤ pos (suc k) ≡ a *ℤ pos k +ℤ a
 times_suc a k = *ℤ_comm a (pos (suc k)) ∙ suc_ℤ-*ℤ (pos k) a ∙ ap (λ (z : ℤ). z +ℤ a) (*ℤ_comm (pos k) a)
 
-times_le : (k : ℕ) (a b : ℤ) → a ≤ℤ b → (a *ℤ pos k) ≤ℤ (b *ℤ pos k)
+pub times_le : (k : ℕ) (a b : ℤ) → a ≤ℤ b → (a *ℤ pos k) ≤ℤ (b *ℤ pos k)
 times_le zero a b h = rw (*ℤ-zero a, *ℤ-zero b) (omega (arith, ints))
 times_le (suc k) a b h = rw (times_suc a k, times_suc b k) (let less = times_le k a b h in omega (arith, ints))
 

@@ -1,8 +1,11 @@
 -- What reading numbers does to the differences under one header, and to what their points are added to.
-use Rattle.std.specs.Prelude.{◌≡◌, ℕ, ◌+◌, ◌≤◌, List, [], ◌∷◌, length, fold}
+use Rattle.std.specs.Prelude.{◌≡◌, ℕ, ◌+◌, ◌≤◌, List, [], ◌∷◌, length, fold, Ok}
+use Rattle.twkb_num.specs.Cursor.{Reading}
+use Rattle.twkb_head.specs.Reader.{many_at}
 use Rattle.twkb_body.specs.declared.trail.Trail.{Trail}
 use Rattle.twkb_body.specs.Geometry.{PointValue}
 use Rattle.twkb_body.specs.BodyPlan.{add, sums, place, map_from}
+use Rattle.twkb_body.specs.BodyReader.{point_at}
 
 -- each point has so many numbers
 abbrev pub HaveAxes : ℕ → List PointValue → Type 0
@@ -25,3 +28,10 @@ pub record IsWalked {S : Type 0} (step : S → PointValue → S) (axes : ℕ) (o
   pub added : state' ≡ fold step state (lasts_from old.last numbers)
   pub have : HaveAxes axes numbers
   pub ahead : length numbers + start ≤ stop
+
+-- So many points were read, one behind another, and added.
+pub record IsRun {S : Type 0} (step : S → PointValue → S) (axes : ℕ) (old new : Trail) (state state' : S) (from to : Reading) (count : ℕ) : Type 0 where
+  pub numbers : List PointValue
+  pub many : length numbers ≡ count
+  pub read : many_at count add (point_at axes) old.last from ≡ (Ok numbers, to)
+  pub walked : IsWalked step axes old new state state' from.place to.place numbers

@@ -1,11 +1,14 @@
 //! What is done with the points under one header.
 ghost use Rattle.std.specs.Prelude.{◌≡◌, ◌≤◌, IfSome};
 ghost use Rattle.twkb_num.specs.Units.{IsPrecision};
-ghost use Rattle.twkb_head.specs.Header.{Header};
+ghost use Rattle.twkb_head.specs.Header.{Header, axes_with};
 ghost use Rattle.twkb_body.specs.Geometry.{PointValue};
 ghost use Rattle.twkb_body.specs.Inside.{of_head};
+ghost use Rattle.twkb_body.specs.Walk.{IsRun};
 
+use crate::trail::Trail;
 use twkb_head::Head;
+use twkb_num::Cursor;
 
 /// What the points under one header are added to, in reading order.
 pub trait Points {
@@ -23,4 +26,12 @@ pub trait Points {
         requires z_high { IfSome head.now.z (λ p. p ≤ 7) }
         requires m_high { IfSome head.now.m (λ p. p ≤ 7) }
         ensures { state self.new ≡ step (of_head head.now) (state self.old) point.now };
+
+    /// Reads points of two axes ahead, from words of eight bytes: some of those at the place, and at most so many. Answers
+    /// how many there were, which may be none.
+    fn take_run(&mut self, cursor: &mut Cursor, head: &Head, most: u64, trail: &mut Trail) -> u64
+        requires flat { axes_with head.now.z head.now.m ≡ 2 }
+        requires counted { trail.old.points ≤ cursor.old.place }
+        ensures few { result ≤ most }
+        ensures run { IsRun (step (of_head head.now)) 2 trail.old trail.new (state self.old) (state self.new) cursor.old cursor.new result };
 }

@@ -11,9 +11,10 @@ ghost use Rattle.twkb_body.specs.Ranges.{scaled, scaled_if, reach_in_units};
 
 use crate::extent::Extent;
 use crate::points::Points;
+use crate::trail::Trail;
 use std::marker::Model;
 use twkb_head::{Head, Span};
-use twkb_num::units;
+use twkb_num::{Cursor, units};
 
 /// The least and the greatest of raw coordinates; the least is above the greatest where there are none.
 #[derive(Drop)]
@@ -160,5 +161,17 @@ impl Points for Ranges {
         self.y.add(point[1]);
         self.z.add_if(head.z, point, 2);
         self.m.add_if(head.m, point, head.m_axis());
+    }
+
+    // An audit comes here only where the quick pass gave up, or in tight checking, so its points are taken one by one.
+    #[inline(always)]
+    fn take_run(
+        &mut self,
+        _cursor: &mut Cursor,
+        _head: &Head,
+        _most: u64,
+        _trail: &mut Trail,
+    ) -> u64 {
+        0
     }
 }

@@ -5,9 +5,10 @@ ghost use Rattle.twkb_body.specs.Geometry.{vertex_of};
 ghost use Rattle.twkb_body.specs.Inside.{of_head};
 
 use crate::points::Points;
+use crate::trail::Trail;
 use crate::visit::Visit;
 use twkb_head::{Head, Vertex};
-use twkb_num::units;
+use twkb_num::{Cursor, units};
 
 impl<V: Visit> Points for V {
     ghost use Rattle.twkb_body.specs.Geometry.{vertex_of};
@@ -21,6 +22,18 @@ impl<V: Visit> Points for V {
     #[inline(always)]
     fn add(&mut self, head: &Head, point: &[i64; 4]) {
         self.point(&vertex_at(head, point));
+    }
+
+    // A visit reads nothing behind the part that it is to read, so it reads no words.
+    #[inline(always)]
+    fn take_run(
+        &mut self,
+        _cursor: &mut Cursor,
+        _head: &Head,
+        _most: u64,
+        _trail: &mut Trail,
+    ) -> u64 {
+        0
     }
 }
 

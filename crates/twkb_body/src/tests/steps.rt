@@ -15,8 +15,13 @@ const PRECISIONS: [([i8; 3], [u8; 2]); 5] = [
 // The least end of each axis in steps, of which each box has three.
 const LEAST: [i64; 4] = [-2, 5, -9, 0];
 
-fn put(out: &mut Vec<u8>, number: i64) -> Result<(), AllocError> {
-    let mut left = zigzag(number);
+// A signed number.
+pub fn put(out: &mut Vec<u8>, number: i64) -> Result<(), AllocError> {
+    put_unsigned(out, zigzag(number))
+}
+
+pub fn put_unsigned(out: &mut Vec<u8>, number: u64) -> Result<(), AllocError> {
+    let mut left = number;
     for _ in 0..10 {
         if left < 128 {
             out.push(left as u8)?;

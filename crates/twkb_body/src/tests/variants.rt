@@ -25,7 +25,7 @@ fn audited(answer: Result<plain::Layer, Fault>) -> Result<Audit, AuditFault> {
     }
 }
 
-// Whether one audit or the other answers as the plain reader does.
+// Whether one audit or the other answers as the plain reader does, and counts the bytes of a whole blob once.
 pub fn agrees(rt: &impl Abort, alloc: Global, bytes: &[u8], is_tight: bool) {
     let mut cursor = Cursor::new(bytes);
     let (answer, plainly) = if is_tight {
@@ -38,6 +38,9 @@ pub fn agrees(rt: &impl Abort, alloc: Global, bytes: &[u8], is_tight: bool) {
     assert_eq!(rt; answer, audited(plainly), "of {bytes:?}");
     let place = answer.map_or(0, |audit| audit.stop);
     assert_eq!(rt; cursor.place(), place);
+    if answer.is_ok() {
+        assert_eq!(rt; cursor.read_count(), place as u64, "of {bytes:?}");
+    }
 }
 
 // They agree on the bytes cut after each of them, and with each of them set to every value.

@@ -6,14 +6,14 @@ use Rattle.twkb_head.specs.BegunHeader.{is_collection, deepest}
 use Rattle.twkb_head.proofs.HeadBack.{head_value, head_fails}
 use Rattle.twkb_head.specs.Header.{is_multi}
 use Rattle.twkb_body.specs.BodyPlan.{no_body, members_body, members_of}
-use Rattle.twkb_body.specs.BodyReader.{list_at, shape_at, collection_at, geometry_at}
+use Rattle.twkb_body.specs.BodyReader.{list_at, shape_at, collection_at, geometry_at, members_under}
 use Rattle.twkb_body.specs.IdLists.{HasManyIdsAfterCount}
 use Rattle.twkb_body.specs.Found.{box_judged}
 use Rattle.twkb_body.specs.Inside.{of_head}
 use Rattle.twkb_body.specs.Audited.{HasLongList}
 use Rattle.twkb_body.specs.Stops.{WantsInside, own_ids, member_ids}
 use Rattle.twkb_body.proofs.HeadFacts.{head_size}
-use Rattle.twkb_body.proofs.GeometrySteps.{members_under, header_fails, body_gives, body_fails, empty_body, shape_body, shape_of_head, nothing_inside, geometry_found}
+use Rattle.twkb_body.proofs.GeometrySteps.{header_fails, body_gives, body_fails, empty_body, shape_body, shape_of_head, nothing_inside, geometry_found}
 use Rattle.twkb_body.proofs.MemberSteps.{collection_below, collection_body, members_begin, members_go_on, members_fail, members_end, no_list, no_member, collection_gives, members_inside, member_bytes, long_list_own, long_list_inside}
 use Rattle.twkb_body.proofs.Stopping.{stops_outside}
 use Rattle.twkb_body.proofs.geometry.+take_geometry.Goals as goal

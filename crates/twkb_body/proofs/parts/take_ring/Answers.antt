@@ -5,25 +5,43 @@ use Rattle.twkb_body.specs.BodyReader.{point_at}
 use Rattle.twkb_body.specs.Inside.{of_head}
 use Rattle.twkb_body.specs.Walk.{IsWalked}
 use Rattle.twkb_body.proofs.PartPlans.{flat_single}
+use Rattle.twkb_body.proofs.Runs.{ring_goes_far}
 use Rattle.twkb_body.proofs.Walks.{number_ahead, walk_goes_on, counted_fails, counted_ends, one_point, add_is_sums}
 use Rattle.twkb_body.proofs.parts.take_ring.Goals as goal
 
+pub take_ahead-done-requires-clause-counted : goal.take_ahead-done-requires-clause-counted
+take_ahead-done-requires-clause-counted g c =
+    let w = c.loop-done.invariant.read.walked in
+    omega (arith, w.points, w.ahead, number_ahead _ _ _ c.in_ok-count.ensures, c.requires.counted)
+
 pub take_point-requires-clause-counted : goal.take_point-requires-clause-counted
 take_point-requires-clause-counted g c =
-    let w = c.loop.invariant.walked in
-    omega (arith, w.points, w.ahead, number_ahead _ _ _ c.in_ok-count.ensures, c.requires.counted)
+    let w = c.loop-done.invariant.read.walked in
+    let run = c.take_ahead-done.ensures.run.walked in
+    omega (arith, w.points, w.ahead, run.points, run.ahead, number_ahead _ _ _ c.in_ok-count.ensures, c.requires.counted)
 
 pub returns-in_err-take_point : goal.returns-in_err-take_point
 returns-in_err-take_point g c =
     let p = err_from_is_err_and c.from_residual-in_err-take_point.result c.from_residual-in_err-take_point.ensures.1 in
-    rw (p.1, p.2) (counted_fails (g.P.Points.step (of_head c.args.head.now)) c.args.axes add (point_at c.args.axes) one_point add_is_sums c.in_ok-count.count c.args.trail.now (g.P.Points.state c.args.points.now) c.take_number.new.cursor _ c.loop.counter _ _ _ _ _ c.in_ok-count.ensures c.loop-test.true c.in_err-take_point.ensures c.loop.invariant)
+    let far = ring_goes_far (g.P.Points.step (of_head c.args.head.now)) c.args.axes c.in_ok-count.count c.args.trail.now (g.P.Points.state c.args.points.now) c.take_number.new.cursor c.loop-done.done c.take_ahead-done.result _ _ _ _ _ _ (omega (arith, c.if-done-count.true)) c.take_ahead-done.ensures.run c.loop-done.invariant.read in
+    rw (p.1, p.2) (counted_fails (g.P.Points.step (of_head c.args.head.now)) c.args.axes add (point_at c.args.axes) one_point add_is_sums c.in_ok-count.count c.args.trail.now (g.P.Points.state c.args.points.now) c.take_number.new.cursor _ _ _ _ _ _ _ c.in_ok-count.ensures c.if-done-count.true c.in_err-take_point.ensures far)
 
-pub loop-preserved : goal.loop-preserved
-loop-preserved g c =
+pub loop-done-preserved-then-done-count : goal.loop-done-preserved-then-done-count
+loop-done-preserved-then-done-count g c =
+    let far = ring_goes_far (g.P.Points.step (of_head c.args.head.now)) c.args.axes c.in_ok-count.count c.args.trail.now (g.P.Points.state c.args.points.now) c.take_number.new.cursor c.loop-done.done c.take_ahead-done.result _ _ _ _ _ _ (omega (arith, c.if-done-count.true)) c.take_ahead-done.ensures.run c.loop-done.invariant.read in
     let read = c.in_ok-take_point.ensures in
-    walk_goes_on (g.P.Points.step (of_head c.args.head.now)) c.args.axes add (point_at c.args.axes) one_point add_is_sums c.in_ok-count.count c.args.trail.now (g.P.Points.state c.args.points.now) c.take_number.new.cursor c.loop.counter _ _ _ _ _ _ read.0 c.loop-test.true read.1 read.2 c.loop.invariant
+    record {
+      within = omega (arith, c.if-done-count.true);
+      read = walk_goes_on (g.P.Points.step (of_head c.args.head.now)) c.args.axes add (point_at c.args.axes) one_point add_is_sums c.in_ok-count.count c.args.trail.now (g.P.Points.state c.args.points.now) c.take_number.new.cursor _ _ _ _ _ _ _ read.0 c.if-done-count.true read.1 read.2 far;
+    }
+
+pub loop-done-preserved : goal.loop-done-preserved
+loop-done-preserved g c = record {
+  within = omega (arith, c.loop-done.invariant.within, c.take_ahead-done.ensures.few);
+  read = ring_goes_far (g.P.Points.step (of_head c.args.head.now)) c.args.axes c.in_ok-count.count c.args.trail.now (g.P.Points.state c.args.points.now) c.take_number.new.cursor c.loop-done.done c.take_ahead-done.result _ _ _ _ _ _ (omega (arith, c.loop-done.invariant.within, c.take_ahead-done.ensures.few)) c.take_ahead-done.ensures.run c.loop-done.invariant.read;
+}
 
 pub returns : goal.returns
 returns g c =
-    let t = counted_ends (g.P.Points.step (of_head c.args.head.now)) c.args.axes add (point_at c.args.axes) one_point add_is_sums c.in_ok-count.count c.args.trail.now (g.P.Points.state c.args.points.now) c.take_number.new.cursor _ c.loop.counter _ _ _ c.in_ok-count.ensures (omega arith) c.loop.invariant in
-    (t.0, t.1, subst (IsWalked (g.P.Points.step (of_head c.args.head.now)) c.args.axes c.args.trail.now c.loop.trail (g.P.Points.state c.args.points.now) (g.P.Points.state c.loop.points) c.args.cursor.now.place c.loop.cursor.place) (flat_single t.0) t.2)
+    let t = counted_ends (g.P.Points.step (of_head c.args.head.now)) c.args.axes add (point_at c.args.axes) one_point add_is_sums c.in_ok-count.count c.args.trail.now (g.P.Points.state c.args.points.now) c.take_number.new.cursor _ c.loop-done.done _ _ _ c.in_ok-count.ensures (omega (arith, c.loop-done.invariant.within)) c.loop-done.invariant.read in
+    (t.0, t.1, subst (IsWalked (g.P.Points.step (of_head c.args.head.now)) c.args.axes c.args.trail.now c.loop-done.trail (g.P.Points.state c.args.points.now) (g.P.Points.state c.loop-done.points) c.args.cursor.now.place c.loop-done.cursor.place) (flat_single t.0) t.2)

@@ -26,5 +26,6 @@ pub returns : goal.returns
 returns g c =
     let list = c.in_ok-list.ensures in
     let parts = c.in_ok-take_parts.ensures in
-    shape_of_parts (of_head c.args.head.now) _ _ _ list.0 c.in_ok-list.list.count c.new-trail.result c.axes-axes.ensures.value c.new-trail.ensures.last list.1 list.2.count _ c.in_ok-list.list _ parts.0 c.args.head.now.bounds _ _ _ _ _ _
-    list.2 c.empty-ranges.ensures c.new-trail.ensures.points parts.1 parts.2 c.found_on.ensures.vertices c.judge_ranges.ensures.boxed c.judge_ranges.ensures.seen c.found_on.ensures.refused refl
+    let shape = shape_of_parts (of_head c.args.head.now) _ _ _ list.0 c.in_ok-list.list.count c.new-trail.result c.axes-axes.ensures.value c.new-trail.ensures.last list.1 list.2.count _ c.in_ok-list.list _ parts.0 c.args.head.now.bounds _ _ _ _ _ _
+    list.2 c.empty-ranges.ensures c.new-trail.ensures.points parts.1 parts.2 c.found_on.ensures.vertices c.judge_ranges.ensures.boxed c.judge_ranges.ensures.seen c.found_on.ensures.refused refl in
+    (_, shape.0, shape.1)

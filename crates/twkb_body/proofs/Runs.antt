@@ -1,0 +1,109 @@
+-- Runs of points: many points read at once, within a loop over more, and one point more behind a run.
+use Rattle.std.proofs.Common.{◌≡◌, ℕ, zero, suc, ◌+◌, ◌≤◌, List, [], ◌∷◌, ◌++◌, flat_map, Ok, Err, refl, sym, ap, subst, ◌∙◌, append_assoc, arith, length-append}
+use Rattle.std.proofs.lemmas.List.{append-nil}
+use Rattle.std.proofs.lemmas.Grind.{flat_map-append}
+use Rattle.twkb_num.specs.Cursor.{Reading}
+use Rattle.twkb_head.specs.Reader.{Answer, Reader, ◌>>=◌, viewed, many_at}
+use Rattle.twkb_head.proofs.Loops.{IsLoop, loop_begins, loop_goes_on, loop_ends}
+use Rattle.twkb_head.proofs.Readings.{ok_not_err}
+use Rattle.twkb_body.specs.declared.trail.Trail.{Trail}
+use Rattle.twkb_body.specs.Geometry.{PointValue}
+use Rattle.twkb_body.specs.BodyPlan.{add, sums}
+use Rattle.twkb_body.specs.BodyReader.{point_at}
+use Rattle.twkb_body.specs.Walk.{IsWalked, IsRun}
+use Rattle.twkb_body.proofs.PartPlans.{flat_single}
+use Rattle.twkb_body.proofs.Walks.{IsRingLoop, one_point, walked_none, walked_then}
+
+-- the state behind many values
+abbrev pub afters : {A S : Type 0} → (S → A → S) → S → List A → S
+afters after s [] = s
+afters after s (x ∷ xs) = afters after (after s x) xs
+
+sums_are : (s : PointValue) (ps : List PointValue) → afters add s ps ≡ sums s ps
+sums_are s [] = refl
+sums_are s (p ∷ ps) = sums_are (add s p) ps
+
+-- the values of an answer, if any
+values_of : {A : Type 0} → Answer (List A) → List A
+values_of (Ok xs, r) = xs
+values_of (Err m, r) = []
+
+module _ {A S : Type 0} (after : S → A → S) (read : S → Reader A) (count : ℕ) (total : Answer (List A)) where
+  -- a loop goes on by so many values
+  abbrev Far : ℕ → Type 0
+  Far k = (front : List A) (i : ℕ) (s : S) (r new : Reading) (xs : List A) → i + k ≤ count → many_at k after read s r ≡ (Ok xs, new) → IsLoop after read count total front i s r
+      → IsLoop after read count total (front ++ xs) (i + k) (afters after s xs) new
+
+  far_none : Far 0
+  unfolding values_of
+  far_none front i s r new xs le e l =
+      let none : [] ≡ xs = ap values_of e in
+      let same : r ≡ new = ap (λ (a : Answer (List A)). a.1) e in
+      let start : IsLoop after read count total (front ++ []) (i + 0) s r =
+      subst (λ (zs : List A). IsLoop after read count total zs (i + 0) s r) (sym (append-nil front)) (subst (λ (n : ℕ). IsLoop after read count total front n s r) (omega arith) l) in
+      subst (λ (q : Reading). IsLoop after read count total (front ++ xs) (i + 0) (afters after s xs) q) same
+      (subst (λ (zs : List A). IsLoop after read count total (front ++ zs) (i + 0) (afters after s zs) r) none start)
+
+  far_more : (k : ℕ) → Far k → Far (suc k)
+  unfolding values_of
+  far_more k far front i s r new xs le e l = go (read s r) refl e
+    where
+      others : (x : A) (mid : Reading) → read s r ≡ (Ok x, mid) → (b : Answer (List A)) → many_at k after read (after s x) mid ≡ b → viewed (λ ys. x ∷ ys) b ≡ (Ok xs, new)
+          → IsLoop after read count total (front ++ xs) (i + suc k) (afters after s xs) new
+      others x mid one (Err m, q) many e = absurd (ok_not_err xs m new q (sym e))
+      others x mid one (Ok ys, q) many e =
+          let whole : x ∷ ys ≡ xs = ap values_of e in
+          let same : q ≡ new = ap (λ (a : Answer (List A)). a.1) e in
+          let more = far (front ++ x ∷ []) (i + 1) (after s x) mid q ys (omega (arith, le)) many (loop_goes_on after read count total front i s r mid x (omega (arith, le)) one l) in
+          let joined : IsLoop after read count total (front ++ (x ∷ ys)) (i + 1 + k) (afters after s (x ∷ ys)) q =
+          subst (λ (zs : List A). IsLoop after read count total zs (i + 1 + k) (afters after (after s x) ys) q) (append_assoc front (x ∷ []) ys) more in
+          let counted : IsLoop after read count total (front ++ (x ∷ ys)) (i + suc k) (afters after s (x ∷ ys)) q =
+          subst (λ (n : ℕ). IsLoop after read count total (front ++ (x ∷ ys)) n (afters after s (x ∷ ys)) q) (omega arith) joined in
+          subst (λ (z : Reading). IsLoop after read count total (front ++ xs) (i + suc k) (afters after s xs) z) same
+          (subst (λ (zs : List A). IsLoop after read count total (front ++ zs) (i + suc k) (afters after s zs) q) whole counted)
+
+      go : (a : Answer A) → read s r ≡ a → (a >>= λ x q. viewed (λ ys. x ∷ ys) (many_at k after read (after s x) q)) ≡ (Ok xs, new)
+          → IsLoop after read count total (front ++ xs) (i + suc k) (afters after s xs) new
+      go (Err m, q) one e = absurd (ok_not_err xs m new q (sym e))
+      go (Ok x, mid) one e = others x mid one (many_at k after read (after s x) mid) refl e
+
+  pub goes_far : (k : ℕ) → Far k
+  goes_far zero = far_none
+  goes_far (suc k) = far_more k (goes_far k)
+
+module _ {S : Type 0} (step : S → PointValue → S) (axes : ℕ) where
+  -- nothing is read
+  pub run_none : (a : Trail) (s : S) (r : Reading) → IsRun step axes a a s s r r 0
+  run_none a s r = record { numbers = []; many = refl; read = refl; walked = walked_none step axes a s r.place }
+
+  -- a ring's loop goes on by a run
+  pub ring_goes_far : (count : ℕ) (start : Trail) (state : S) (from : Reading) (i k : ℕ) (now next : Trail) (t u : S) (r new : Reading) → i + k ≤ count → IsRun step axes now next t u r new k
+      → IsRingLoop step axes count start state from i now t r → IsRingLoop step axes count start state from (i + k) next u new
+  ring_goes_far count start state from i k now next t u r new le run l = record {
+    front = l.front ++ run.numbers;
+    read = subst (λ (s : PointValue). IsLoop add (point_at axes) count (many_at count add (point_at axes) start.last from) (l.front ++ run.numbers) (i + k) s new)
+        (sums_are now.last run.numbers ∙ sym run.walked.last)
+        (goes_far add (point_at axes) count (many_at count add (point_at axes) start.last from) k l.front i now.last r new run.numbers le run.read l.read);
+    number = length-append l.front run.numbers ∙ omega (arith, l.number, run.many);
+    walked = subst (IsWalked step axes start next state u from.place new.place)
+        (ap (λ (zs : List PointValue). flat_map one_point l.front ++ zs) (sym (flat_single run.numbers)) ∙ sym (flat_map-append one_point l.front run.numbers))
+        (walked_then step axes start now next state t u from.place r.place new.place (flat_map one_point l.front) run.numbers l.walked run.walked);
+  }
+
+  -- a run, and a point behind it
+  pub run_goes_on : (start now next : Trail) (s t u : S) (from r new : Reading) (i : ℕ) (p : PointValue) → point_at axes now.last r ≡ (Ok p, new) → IsWalked step axes now next t u r.place new.place (p ∷ [])
+      → IsRun step axes start now s t from r i → IsRun step axes start next s u from new (i + 1)
+  run_goes_on start now next s t u from r new i p one walked run =
+      let total = many_at (i + 1) add (point_at axes) start.last from in
+      let begun : IsLoop add (point_at axes) (i + 1) total [] 0 start.last from = loop_begins add (point_at axes) (i + 1) total start.last from refl in
+      let there : IsLoop add (point_at axes) (i + 1) total ([] ++ run.numbers) (0 + i) (afters add start.last run.numbers) r =
+      goes_far add (point_at axes) (i + 1) total i [] 0 start.last from r run.numbers (omega arith) run.read begun in
+      let here : IsLoop add (point_at axes) (i + 1) total ([] ++ run.numbers) (0 + i) now.last r =
+      subst (λ (s : PointValue). IsLoop add (point_at axes) (i + 1) total ([] ++ run.numbers) (0 + i) s r) (sums_are start.last run.numbers ∙ sym run.walked.last) there in
+      record {
+        numbers = run.numbers ++ p ∷ [];
+        many = length-append run.numbers (p ∷ []) ∙ ap (λ (k : ℕ). k + 1) run.many;
+        read = loop_ends add (point_at axes) (i + 1) total (run.numbers ++ p ∷ []) (0 + i + 1) (add now.last p) new (omega arith)
+            (loop_goes_on add (point_at axes) (i + 1) total run.numbers (0 + i) now.last r new p (omega arith) one here);
+        walked = walked_then step axes start now next s t u from.place r.place new.place run.numbers (p ∷ []) run.walked walked;
+      }

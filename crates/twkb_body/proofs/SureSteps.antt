@@ -1,0 +1,321 @@
+-- The steps of the quick pass: what holds of all points holds of the box, and nothing of the geometry is false.
+use Rattle.std.proofs.Common.{◌≡◌, ℕ, zero, suc, ◌+◌, ◌-◌, ◌/◌, ◌%◌, ◌^◌, ◌<◌, ◌≤◌, ◌==◌, if◌then◌else◌, Bool, true, false, List, [], ◌∷◌, ◌++◌, map, fold, ℤ, pos, neg_ℤ, ◌+ℤ◌, ◌-ℤ◌, ◌≤ℤ◌, unsigned_abs, Option, Some, None, option_map, IfSome, All, Ok, refl, sym, ap, ap₂, subst, ◌∙◌, arith}
+use Rattle.std.proofs.lemmas.Bool.{lt-ltb, eq-eqb}
+use Rattle.std.proofs.lemmas.Int.{ints}
+use Rattle.std.proofs.lemmas.List.Elements.{All-nil, All-cons, All-head, All-tail, All-append}
+use Rattle.std.proofs.lemmas.List.{append-nil}
+use Rattle.twkb_num.specs.Cursor.{Reading, passed, IsMoved, IsSound}
+use Rattle.twkb_num.specs.Units.{units_of}
+use Rattle.twkb_head.specs.declared.boxes.Vertex.{Vertex}
+use Rattle.twkb_head.specs.declared.flat.RawBox.{RawBox}
+use Rattle.twkb_head.specs.declared.flat.RawRange.{RawRange}
+use Rattle.twkb_head.specs.declared.header.Head.{Head}
+use Rattle.twkb_head.specs.declared.header.BoxField.{BoxField}
+use Rattle.twkb_head.specs.BegunHeader.{deepest, is_collection}
+use Rattle.twkb_head.specs.declared.flat.FlatHead.{FlatHead}
+use Rattle.twkb_head.specs.Flat.{raw_span, raw_bounds, whole_head, IsSizedPoint}
+use Rattle.twkb_head.specs.Head.{IsHeadAt}
+use Rattle.twkb_num.specs.Varint.{Spells, zigzag_value}
+use Rattle.twkb_head.specs.declared.kinds.Kind.{Kind}
+use Rattle.twkb_head.specs.declared.kinds.Kind.TheVariants.{Point}
+use Rattle.twkb_head.specs.Header.{Header, axes_of, axes_with, is_multi}
+use Rattle.twkb_head.specs.Plan.{fits}
+use Rattle.twkb_head.proofs.Steps.{read_signed, coordinate_ok}
+use Rattle.twkb_head.specs.Holds.{IsWithin, Holds}
+use Rattle.twkb_head.specs.Reader.{Answer, ◌>>=◌, viewed, many_at, number_at, coordinate_at}
+use Rattle.twkb_head.proofs.HeadBack.{head_value}
+use Rattle.twkb_body.specs.declared.frame.Frame.{Frame}
+use Rattle.twkb_body.specs.declared.inside.Inside.{Inside}
+use Rattle.twkb_body.specs.Boxed.{is_in_range, is_in_box, Held, held_with}
+use Rattle.twkb_body.specs.BodyPlan.{Body, ListHead, absolute, zeros, sums, ring_sums, parts_body, members_body, members_of}
+use Rattle.twkb_body.specs.BodyReader.{point_at, part_at, count_at, body_at, members_under}
+use Rattle.twkb_body.specs.Extent.{Reach, reach_of, both}
+use Rattle.twkb_body.specs.Found.{box_judged, size_judged}
+use Rattle.twkb_body.specs.Geometry.{PointValue, none, points_of, vertex_of, coordinate, vertices as vertices_of, member_vertices}
+use Rattle.twkb_body.specs.IdLists.{IsListFound}
+use Rattle.twkb_body.specs.Inside.{of_head, IsInside}
+use Rattle.twkb_body.specs.Pass.{first, false_at, is_within}
+use Rattle.twkb_body.specs.Ranges.{widened}
+use Rattle.twkb_body.specs.Sure.{faultless, unseen, AddsParts, frame_bounds, IsHeldBy, IsFrameUnder, body_vertices, IsSureBody, IsSure}
+use Rattle.twkb_body.specs.Walk.{HaveAxes, lasts_from}
+use Rattle.twkb_body.proofs.BoxedRuns.{reaches_decides, both_true}
+use Rattle.twkb_body.proofs.Coordinates.{coordinate_ahead, vertices_same}
+use Rattle.twkb_body.proofs.FlatRuns.{two_coordinates}
+use Rattle.twkb_body.proofs.GeometrySteps.{body_gives, shape_body, body_of_head, geometry_found}
+use Rattle.twkb_body.proofs.MemberSteps.{members-push, IsMemberLoop, members_begin, members_go_on, members_end, collection_body, collection_gives, members_inside}
+use Rattle.twkb_body.proofs.Passes.{vertices_pushed}
+use Rattle.twkb_body.proofs.Judging.{box_decides}
+use Rattle.twkb_body.proofs.ListSteps.{list_without}
+use Rattle.twkb_body.proofs.Reaches.{reach_append}
+use Rattle.twkb_body.proofs.Scales.{times_le}
+use Rattle.twkb_body.proofs.ShapeSteps.{shape_of_parts}
+use Rattle.twkb_body.proofs.Sums.{points_absolute}
+
+-- the count of a list without ids
+pub count_without : (multi ids : Bool) (r mid : Reading) (n : ℕ) → multi ≡ true → ids ≡ false → number_at r ≡ (Ok n, mid)
+    → (x : ListHead) × (count_at multi ids r ≡ (Ok x, mid)) × IsListFound r mid x (record { count = n; ids = None })
+count_without multi ids r mid n many absent counted =
+    let list = list_without r mid n counted ids absent in
+    (list.0, ap (λ (b : Bool). count_at b ids r) many ∙ list.1, list.2)
+
+-- ---- what a box of raw numbers holds, it holds in units
+within_units : (p : ℤ) (range : RawRange) (c : ℤ) → is_in_range range c ≡ true → IsWithin (raw_span p range) (units_of c p)
+within_units p range c e =
+    let near = (reaches_decides range.extent (c -ℤ range.minimum)).0 e in (
+      times_le (10 ^ unsigned_abs (pos 7 -ℤ p)) range.minimum c (omega (arith, ints, near.0)),
+      times_le (10 ^ unsigned_abs (pos 7 -ℤ p)) c (range.minimum +ℤ range.extent) (omega (arith, ints, near.1)),
+    )
+
+holds_vertex : (h : Header) (box : RawBox) (p : PointValue) → is_in_box box p ≡ true → Holds (raw_bounds h.xy box) (vertex_of h p)
+holds_vertex h box p e =
+    let two = both_true _ _ e in
+    record { x = within_units h.xy box.x (coordinate p 0) two.0; y = within_units h.xy box.y (coordinate p 1) two.1; z = tt; m = tt }
+
+-- a box that holds the points behind the last holds them all
+held_before : (h : Header) (held : Held) (ps : List PointValue) → (fold (held_with h) held ps).inside ≡ true → held.inside ≡ true
+held_before h held [] e = e
+held_before h held (p ∷ ps) e = (both_true _ _ (held_before h (held_with h held p) ps e)).0
+
+pub holds_all : (h : Header) (held : Held) (ps : List PointValue) → (fold (held_with h) held ps).inside ≡ true → All (Holds (raw_bounds h.xy held.box)) (map (vertex_of h) ps)
+holds_all h held [] e = All-nil (Holds (raw_bounds h.xy held.box))
+holds_all h held (p ∷ ps) e =
+    All-cons (Holds (raw_bounds h.xy held.box)) (vertex_of h p) (map (vertex_of h) ps) (holds_vertex h held.box p (both_true _ _ (held_before h (held_with h held p) ps e)).1) (holds_all h (held_with h held p) ps e)
+
+-- ---- the body of a shape
+module _ (levels : ℕ) (head : Head) (old new : Reading) (vertices : ℕ) (two : axes_of (of_head head) ≡ 2) (full : head.empty ≡ false) (single : is_collection head.kind ≡ false) where
+  -- what is added to other things might be added to ranges
+  module _ {S : Type 0} (step : S → PointValue → S) (s t : S) (added : AddsParts step head 2 old new s t vertices) where
+    abbrev numbers : List PointValue
+    numbers = points_of added.parts
+
+    have : HaveAxes (axes_of (of_head head)) (points_of added.parts)
+    have = subst (λ (n : ℕ). HaveAxes n (points_of added.parts)) (sym two) added.walked.have
+
+    abbrev ranges : Reach
+    ranges = fold (widened (of_head head)) (reach_of []) (lasts_from zeros numbers)
+
+    -- the vertices that the last points are
+    vertices_are : map (vertex_of (of_head head)) (lasts_from zeros numbers) ≡ body_vertices (of_head head) (parts_body added.list added.parts)
+    unfolding member_vertices
+    vertices_are =
+        vertices_same (of_head head) zeros numbers have ∙ ap (map (vertex_of (of_head head))) (sym (points_absolute added.parts))
+        ∙ sym (append-nil (map (vertex_of (of_head head)) (points_of (absolute added.parts))))
+
+    body_of : (frame : Option Frame) → IsHeldBy frame (map (vertex_of (of_head head)) (lasts_from zeros numbers)) → IsSureBody levels head frame old new vertices
+    body_of frame held =
+        let w = added.walked in
+        let shape = shape_of_parts (of_head head) old 2 added.middle added.list (added.list.0).0 (record { last = zeros; points = 0 }) (sym two) refl added.counted refl
+        false (record { count = (added.list.0).0; ids = None }) new added.parts None added.after (reach_of []) ranges unseen unseen (record { found = faultless vertices; boxed = None; ids = None })
+        added.found refl refl added.read (record { last = w.last; points = w.points; added = refl; have = w.have; ahead = w.ahead }) added.vertices_are refl
+        (record { asked = refl; extent = λ e. absurd (cc (e)) }) refl refl in
+        record {
+          body = parts_body added.list added.parts;
+          read = shape_body (of_head head) (members_under levels) old full single ∙ shape.0;
+          inside = shape.1;
+          held = subst (IsHeldBy frame) vertices_are held;
+        }
+
+  pub body_unboxed : {S : Type 0} (step : S → PointValue → S) (s t : S) → AddsParts step head 2 old new s t vertices → IsSureBody levels head None old new vertices
+  body_unboxed step s t added = body_of step s t added None tt
+
+  pub body_boxed : (frame : Frame) (held : Held) → frame.xy ≡ head.xy → AddsParts (held_with (of_head head)) head 2 old new (record { box = frame.bounds; inside = true }) held vertices → held.inside ≡ true
+      → IsSureBody levels head (Some frame) old new vertices
+  body_boxed frame held precision added inside =
+      let points = lasts_from zeros (points_of added.parts) in
+      let start : Held = record { box = frame.bounds; inside = true } in
+      let all : (fold (held_with (of_head head)) start points).inside ≡ true = ap (λ (h : Held). h.inside) (sym added.walked.added) ∙ inside in
+      body_of (held_with (of_head head)) start held added (Some frame)
+      (subst (λ (p : ℤ). All (Holds (raw_bounds p frame.bounds)) (map (vertex_of (of_head head)) points)) (sym precision) (holds_all (of_head head) start points all))
+
+-- ---- a point alone, whose numbers are told by their ends
+opposite_fits : (m : ℕ) → m ≤ 2 ^ 63 → fits (neg_ℤ (pos m)) ≡ true
+opposite_fits zero h = refl
+opposite_fits (suc k) h = lt-ltb k (2 ^ 63) (omega (arith, h))
+
+zigzag_fits : (n : ℕ) → n < 2 ^ 64 → fits (zigzag_value n) ≡ true
+zigzag_fits n h = go (n % 2 == 0)
+  where
+    go : (even : Bool) → fits (if even then pos (n / 2) else neg_ℤ (pos ((n + 1) / 2))) ≡ true
+    go true = lt-ltb (n / 2) (2 ^ 63) (omega (arith, h))
+    go false = opposite_fits ((n + 1) / 2) (omega (arith, h))
+
+from_zero : (z : ℤ) → pos 0 +ℤ z ≡ z
+from_zero z = omega (arith, ints)
+
+-- a number behind zero is a coordinate
+first_coordinate : (old new : Reading) (n : ℕ) → Spells (passed old new) n → IsMoved old new → coordinate_at (pos 0) old ≡ (Ok (zigzag_value n), new)
+first_coordinate old new n spells moved =
+    coordinate_ok (pos 0) old new (zigzag_value n) (ap fits (from_zero (zigzag_value n)) ∙ zigzag_fits n spells.fits) (read_signed old new (zigzag_value n) (n, spells, refl) moved)
+
+pub point_sure : (levels : ℕ) (head : Head) (old middle new : Reading) (n m : ℕ) → head.kind ≡ Point → head.z ≡ None → head.m ≡ None → head.empty ≡ false → Spells (passed old middle) n → IsMoved old middle → Spells (passed middle new) m → IsMoved middle new
+    → IsSureBody levels head None old new 1
+point_sure levels head old middle new n m kind z m_none full first first_moved second second_moved =
+    body_unboxed levels head old new 1 (ap₂ axes_with z m_none) full (ap is_collection kind) (λ (s : Unit {0}) point. s) tt tt parts
+  where
+    x : ℤ
+    x = zigzag_value n
+
+    y : ℤ
+    y = zigzag_value m
+
+    across : coordinate_at (pos 0) old ≡ (Ok x, middle)
+    across = first_coordinate old middle n first first_moved
+
+    up : coordinate_at (pos 0) middle ≡ (Ok y, new)
+    up = first_coordinate middle new m second second_moved
+
+    point : point_at 2 zeros old ≡ (Ok (x ∷ y ∷ []), new)
+    point = two_coordinates (pos 0) (pos 0) x y (pos 0 ∷ pos 0 ∷ []) old middle new across up
+
+    one : many_at 1 ring_sums (part_at Point 2) zeros old ≡ (Ok ((((x ∷ y ∷ []) ∷ []) ∷ []) ∷ []), new)
+    one = ap (λ (a : Answer PointValue). viewed (λ p. (p ∷ []) ∷ []) a >>= λ part r. viewed (λ parts. part ∷ parts) (many_at 0 ring_sums (part_at Point 2) (ring_sums zeros part) r)) point
+
+    parts : AddsParts (λ (s : Unit {0}) point. s) head 2 old new tt tt 1
+    parts = record {
+      list = ((1, 0), (None, 0));
+      middle = old;
+      parts = (((x ∷ y ∷ []) ∷ []) ∷ []) ∷ [];
+      after = record { last = sums zeros ((x ∷ y ∷ []) ∷ []); points = 1 };
+      counted = ap (λ (b : Bool). count_at b head.ids old) (ap is_multi kind);
+      found = record { count = refl; lengths = omega arith; refused = refl };
+      read = ap (λ (k : Kind). many_at 1 ring_sums (part_at k 2) zeros old) kind ∙ one;
+      walked = record {
+        last = refl;
+        points = refl;
+        added = refl;
+        have = (refl, tt);
+        ahead = let a = coordinate_ahead (pos 0) x old middle across in let b = coordinate_ahead (pos 0) y middle new up in omega (arith, a, b);
+      };
+      vertices_are = refl;
+    }
+
+-- ---- the members of a collection
+pub held_with_more : (frame : Option Frame) (vs ws : List Vertex) → IsHeldBy frame vs → IsHeldBy frame ws → IsHeldBy frame (vs ++ ws)
+held_with_more None vs ws a b = tt
+held_with_more (Some frame) vs ws a b = All-append (Holds (frame_bounds frame)) vs ws a b
+
+module _ (levels count : ℕ) (from : Reading) (frame : Option Frame) where
+  -- i members were read, of which nothing is false, and whose vertices the frame holds
+  pub record IsSureLoop (i vertices : ℕ) (r : Reading) : Type 0 where
+    pub loop : IsMemberLoop false levels count from false i (faultless vertices) unseen r
+    pub held : IsHeldBy frame (member_vertices (members_of loop.front))
+
+  nothing_held : (frame : Option Frame) → IsHeldBy frame (member_vertices none)
+  unfolding member_vertices
+  nothing_held None = tt
+  nothing_held (Some frame) = All-nil (Holds (frame_bounds frame))
+
+  pub sure_begins : IsSureLoop 0 0 from
+  sure_begins = record { loop = members_begin false levels count from false (faultless 0) unseen refl refl refl refl; held = nothing_held frame }
+
+  pub sure_goes_on : (i before vertices next : ℕ) (r new : Reading) → i < count → IsSure levels frame r new vertices → next ≡ before + vertices → IsSureLoop i before r → IsSureLoop (i + 1) next new
+  sure_goes_on i before vertices next r new lt sure sum l = record {
+    loop = members_go_on false levels count from false i (faultless before) (faultless vertices) (faultless next) unseen unseen r new sure.whole lt sure.read
+        (sure.found, record { asked = refl; extent = λ e. absurd (cc (e)) }) sum refl l.loop;
+    held = subst (IsHeldBy frame) (sym (ap member_vertices (members-push l.loop.front sure.whole) ∙ vertices_pushed (members_of l.loop.front) sure.whole))
+        (held_with_more frame (member_vertices (members_of l.loop.front)) (vertices_of sure.whole) l.held sure.held);
+  }
+
+pub members_sure : (head : Head) (depth inner : ℕ) (old middle new : Reading) (frame : Option Frame) (count vertices i : ℕ) → deepest - depth ≡ suc inner → head.empty ≡ false → is_collection head.kind ≡ true → head.ids ≡ false
+    → number_at old ≡ (Ok count, middle) → i ≡ count → IsSureLoop inner count middle frame i vertices new → IsSureBody (deepest - depth) head frame old new vertices
+unfolding member_vertices
+members_sure head depth inner old middle new frame count vertices i under full many absent counted end l =
+    let list = list_without old middle count counted head.ids absent in
+    let read = members_end false inner count middle false i (faultless vertices) unseen new end l.loop in
+    record {
+      body = members_body list.0 (members_of l.loop.front);
+      read = collection_body (deepest - depth) inner (of_head head) old under full many ∙ collection_gives inner head.ids old middle list.0 list.1 count list.2.count l.loop.front new read;
+      inside = members_inside false (of_head head) None old middle new list.0 (record { count = count; ids = None }) inner count i (record { found = faultless vertices; boxed = None; ids = None }) unseen unseen unseen false
+          list.2 refl refl refl (record { asked = refl; extent = λ e. absurd (cc (e)) }) l.loop;
+      held = l.held;
+    }
+
+-- ---- the geometry
+-- a box that is there is the frame's
+abbrev pub IsBoxOf : Option Frame → Option BoxField → Type 0
+IsBoxOf frame box = IfSome box (λ field. (f : Frame) × (frame ≡ Some f) × (field.bounds ≡ frame_bounds f))
+
+pub own_box : (flat : FlatHead) (above frame : Option Frame) → IsFrameUnder above flat.head.xy flat.bounds frame → IsBoxOf frame (whole_head flat).bounds
+own_box flat above frame under = go flat.bounds under.own_is
+  where
+    go : (own : Option RawBox) → IfSome own (λ box. frame ≡ Some (record { xy = flat.head.xy; bounds = box })) → IsBoxOf frame (option_map (λ box. record { bounds = raw_bounds flat.head.xy box; offset = flat.box_place }) own)
+    go None e = tt
+    go (Some box) e = (record { xy = flat.head.xy; bounds = box }, e, refl)
+
+-- a frame that holds the vertices of a body makes its box true
+box_true : (h : Header) (frame : Option Frame) (box : Option BoxField) (body : Body) (below : Reach) → below ≡ reach_of (member_vertices body.members) → IsBoxOf frame box → IsHeldBy frame (body_vertices h body)
+    → None ≡ box_judged false h box (both (reach_of (map (vertex_of h) (points_of body.polygons))) below)
+box_true h frame None body below e own held = refl
+box_true h frame (Some field) body below e (f, is, bounds) held =
+    let own = map (vertex_of h) (points_of body.polygons) in
+    let all : All (Holds (frame_bounds f)) (body_vertices h body) = subst (λ (o : Option Frame). IsHeldBy o (body_vertices h body)) is held in
+    let within : is_within (both (reach_of own) below) field.bounds ≡ true =
+    (λ j. is_within (both (reach_of own) (e j)) (bounds j)) ∙ ap (λ (r : Reach). is_within r (frame_bounds f)) (sym (reach_append own (member_vertices body.members))) ∙ (box_decides (frame_bounds f) (body_vertices h body)).1 all in
+    sym (ap (λ (b : Bool). first (false_at b field.offset 7) None) within)
+
+pub geometry_sure : (head plain : Head) (depth : ℕ) (above frame : Option Frame) (r mid new : Reading) (vertices : ℕ) → 1 ≤ depth → depth ≤ deepest → IsSound r → IsHeadAt head depth r.place (passed r mid) → IsMoved r mid
+    → head ≡ record plain { bounds = head.bounds } → IsBoxOf frame head.bounds → ((vs : List Vertex) → IsHeldBy frame vs → IsHeldBy above vs)
+    → IsSureBody (deepest - depth) plain frame mid new vertices → None ≡ size_judged head.size new.place → IsSure (deepest - depth) above r new vertices
+unfolding vertices_of
+geometry_sure head plain depth above frame r mid new vertices some deep sound at moved same box above_holds sure size =
+    let headed = head_value depth some deep r mid head sound at moved in
+    let members = members_under (deepest - depth) in
+    let i = sure.inside in
+    let inside : Inside = record { found = faultless vertices; boxed = None; ids = None } in
+    let read : body_at head.empty (is_collection head.kind) (of_head head) members mid ≡ (Ok sure.body, new) = ap (λ (x : Head). body_at x.empty (is_collection x.kind) (of_head x) members mid) same ∙ sure.read in
+    let held : IsHeldBy frame (body_vertices (of_head head) sure.body) = subst (λ (x : Head). IsHeldBy frame (body_vertices (of_head x) sure.body)) (sym same) sure.held in
+    let in_head : IsInside false (of_head head) None sure.body mid.place new.place unseen unseen inside = subst (λ (x : Head). IsInside false (of_head x) None sure.body mid.place new.place unseen unseen inside) (sym same) i in
+    let boxed : IsInside false (of_head head) head.bounds sure.body mid.place new.place unseen unseen inside = record {
+      below = in_head.below;
+      members = in_head.members;
+      vertices = in_head.vertices;
+      boxed = box_true (of_head head) frame head.bounds sure.body in_head.below.reach in_head.members.reach box held;
+      seen = in_head.seen;
+      refused = in_head.refused;
+      ids = in_head.ids;
+      few = in_head.few;
+    } in
+    let vertices_are : body_vertices (of_head head) sure.body ≡ body_vertices at.header sure.body = ap (λ (x : Head). body_vertices (of_head x) sure.body) at.fields in
+    let found = geometry_found false head depth r mid new at moved (omega (arith, boxed.few)) sure.body inside unseen unseen (faultless vertices) boxed refl
+    (ap (λ o. first o (first None (first None None))) size) in
+    record {
+      whole = _;
+      read = body_gives (deepest - depth) r mid _ headed sure.body new (sym (body_of_head head at.header _ _ _ _ at.fields members mid) ∙ read);
+      found = found.0;
+      held = subst (IsHeldBy above) vertices_are (above_holds (body_vertices (of_head head) sure.body) held);
+    }
+
+-- a size that counts to the end is true
+pub size_true : (head : Head) (size after stop : ℕ) → IsSizedPoint head size after → stop - after ≡ size → None ≡ size_judged head.size stop
+size_true head size after stop sized e =
+    sym (ap (λ o. size_judged o stop) sized.size_is ∙ ap (λ (b : Bool). false_at b sized.offset 6) (eq-eqb size (stop - after) (sym e)))
+
+-- ---- frames
+within_wider : (p : ℤ) (inner outer : RawRange) (c : ℤ) → outer.minimum ≤ℤ inner.minimum → (inner.minimum +ℤ inner.extent) ≤ℤ (outer.minimum +ℤ outer.extent) → IsWithin (raw_span p inner) c → IsWithin (raw_span p outer) c
+within_wider p inner outer c low high (above, below) =
+    let low_units = times_le (10 ^ unsigned_abs (pos 7 -ℤ p)) outer.minimum inner.minimum low in
+    let high_units = times_le (10 ^ unsigned_abs (pos 7 -ℤ p)) (inner.minimum +ℤ inner.extent) (outer.minimum +ℤ outer.extent) high in
+    (omega (arith, ints, low_units, above), omega (arith, ints, high_units, below))
+
+-- what a box holds that lies in another, the other holds
+pub holds_wider : (p : ℤ) (inner outer : RawBox) → outer.x.minimum ≤ℤ inner.x.minimum → (inner.x.minimum +ℤ inner.x.extent) ≤ℤ (outer.x.minimum +ℤ outer.x.extent)
+    → outer.y.minimum ≤ℤ inner.y.minimum → (inner.y.minimum +ℤ inner.y.extent) ≤ℤ (outer.y.minimum +ℤ outer.y.extent)
+    → (vs : List Vertex) → All (Holds (raw_bounds p inner)) vs → All (Holds (raw_bounds p outer)) vs
+holds_wider p inner outer x_low x_high y_low y_high [] all = All-nil (Holds (raw_bounds p outer))
+holds_wider p inner outer x_low x_high y_low y_high (v ∷ vs) all =
+    let one = All-head (Holds (raw_bounds p inner)) v vs all in
+    All-cons (Holds (raw_bounds p outer)) v vs (record {
+      x = within_wider p inner.x outer.x v.x x_low x_high one.x;
+      y = within_wider p inner.y outer.y v.y y_low y_high one.y;
+      z = tt;
+      m = tt;
+    }) (holds_wider p inner outer x_low x_high y_low y_high vs (All-tail (Holds (raw_bounds p inner)) v vs all))
+
+pub frame_inside : (xy p q : ℤ) → p ≡ xy → q ≡ xy → (outer inner : RawBox) → outer.x.minimum ≤ℤ inner.x.minimum → (inner.x.minimum +ℤ inner.x.extent) ≤ℤ (outer.x.minimum +ℤ outer.x.extent)
+    → outer.y.minimum ≤ℤ inner.y.minimum → (inner.y.minimum +ℤ inner.y.extent) ≤ℤ (outer.y.minimum +ℤ outer.y.extent)
+    → IsFrameUnder (Some (record { xy = p; bounds = outer })) xy (Some inner) (Some (record { xy = q; bounds = inner }))
+frame_inside xy p q above_is own_is outer inner x_low x_high y_low y_high = record {
+  precision = own_is;
+  own_is = λ j. Some (record { xy = own_is j; bounds = inner });
+  above_holds = λ vs held. subst (λ (r : ℤ). All (Holds (raw_bounds r outer)) vs) (own_is ∙ sym above_is) (holds_wider q inner outer x_low x_high y_low y_high vs held);
+}

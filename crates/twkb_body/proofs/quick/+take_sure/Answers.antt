@@ -1,0 +1,30 @@
+use Rattle.std.proofs.Common.{◌≡◌, ◌+◌, ◌-◌, suc, refl, ap, ◌∙◌, arith}
+use Rattle.std.proofs.lemmas.Int.{ints}
+use mir.Val.{to_z, of_z}
+use mir.Syntax.{w8}
+use Rattle.twkb_head.specs.BegunHeader.{deepest}
+use Rattle.twkb_head.specs.Flat.{whole_head}
+use Rattle.twkb_body.specs.Found.{size_judged}
+use Rattle.twkb_body.proofs.SureSteps.{own_box, geometry_sure, sure_begins, sure_goes_on, members_sure}
+use Rattle.twkb_body.proofs.quick.+take_sure.Goals as goal
+
+pub take_sure-returns-in-None : goal.take_sure-returns-in-None
+take_sure-returns-in-None t c =
+    let flat = c.in_ok-flat.flat in
+    let fits : to_z w8 (of_z w8 flat.head.xy) ≡ flat.head.xy = omega (arith, ints, c.in_ok-flat.ensures.xy.0, c.in_ok-flat.ensures.xy.1) in
+    let under = rw fits at c.in_ok-frame.ensures in
+    geometry_sure (whole_head flat) flat.head c.args.depth c.args.above.now c.in_ok-frame.frame c.args.cursor.now c.read_flat_head.new.cursor _ _ c.requires.shallowest c.requires.deepest c.place-start.ensures.sound
+    c.in_ok-flat.ensures.ok c.in_ok-flat.ensures.moved refl (own_box flat c.args.above.now c.in_ok-frame.frame under) under.above_holds c.in_ok-vertices.ensures
+    (c.in-None.ensures ∙ ap (size_judged flat.head.size) c.place-stop.ensures.value)
+
+pub take_sure_members-loop-init : goal.take_sure_members-loop-init
+take_sure_members-loop-init t c = sure_begins _ _ _ _
+
+pub take_sure_members-loop-preserved : goal.take_sure_members-loop-preserved
+take_sure_members-loop-preserved t c = sure_goes_on _ _ _ _ c.loop.counter c.loop.vertices c.in_ok-member.member _ c.loop.cursor c.take_sure.new.cursor c.loop-test.true c.in_ok-member.ensures refl c.loop.invariant
+
+pub take_sure_members-returns : goal.take_sure_members-returns
+take_sure_members-returns t c =
+    let under : deepest - c.args.depth ≡ suc (deepest - (c.args.depth + 1)) = omega (arith, c.requires.below) in
+    members_sure c.args.head.now c.args.depth (deepest - (c.args.depth + 1)) c.args.cursor.now c.take_number.new.cursor c.loop.cursor c.args.frame.now c.in-Ok.count c.loop.vertices c.loop.counter under
+    c.requires.full c.requires.kind c.requires.ids c.in-Ok.ensures (omega arith) c.loop.invariant

@@ -1,0 +1,216 @@
+//! The quick pass: blobs of the common forms, which it certifies at sight. What it isn't sure of goes to the audit.
+//!
+//! It is sure of geometries of X and Y alone that have neither ids nor an empty one among them, where each box lies in
+//! that of the geometry above, at the same precision. Then a box holds all vertices below it if each box holds the points
+//! of its own geometry, and no extent is handed up.
+ghost use Rattle.std.specs.Prelude.{◌≡◌, ◌-◌, ◌+◌, ◌≤◌, None, false, true, IfSome, IfNone, Ok};
+ghost use Rattle.twkb_num.specs.Units.{IsPrecision};
+ghost use Rattle.twkb_head.specs.BegunHeader.{deepest, is_collection, IsAllowedAt};
+ghost use Rattle.twkb_head.specs.Header.{is_multi};
+ghost use Rattle.twkb_body.specs.BodyPlan.{ListHead};
+ghost use Rattle.twkb_body.specs.BodyReader.{count_at};
+ghost use Rattle.twkb_body.specs.IdLists.{IsListFound};
+ghost use Rattle.twkb_body.specs.Inside.{of_head};
+ghost use Rattle.twkb_body.specs.Sure.{AddsParts, IsSureBody, IsSure};
+
+use crate::boxed::Boxed;
+use crate::found::judge_size;
+use crate::frame::Frame;
+use crate::parts::take_parts;
+use crate::points::Points;
+use crate::trail::Trail;
+use crate::unboxed::Unboxed;
+use twkb_head::{Head, read_flat_head, read_sized_point_head, take_number};
+use twkb_num::Cursor;
+
+/// How many vertices the blob at the place has, if the quick pass is sure of it; it is passed. Else `None`: what was looked
+/// at isn't counted.
+#[inline(always)]
+pub fn take_at_sight(cursor: &mut Cursor) -> Option<usize>
+    ensures some { IfSome result (IsSure (deepest - 1) None cursor.old cursor.new) }
+    ensures none { IfNone result (cursor.new ≡ cursor.old) }
+{
+    match take_sized_point(cursor) {
+        Some(vertices) => Some(vertices),
+        None => take_ahead(cursor),
+    }
+}
+
+/// The same, but for points with a size alone.
+// It isn't inlined, so that a layer of points is read with the cursor in registers.
+#[inline(never)]
+fn take_ahead(cursor: &mut Cursor) -> Option<usize>
+    ensures some { IfSome result (IsSure (deepest - 1) None cursor.old cursor.new) }
+    ensures none { IfNone result (cursor.new ≡ cursor.old) }
+{
+    let mut ahead = cursor.ahead();
+    let vertices = take_sure(&mut ahead, 1, &None)?;
+    *cursor = ahead;
+    Some(vertices)
+}
+
+/// A point that has a true size and nothing else. Its numbers are told by their ends alone, since no box asks for them.
+#[inline(always)]
+fn take_sized_point(cursor: &mut Cursor) -> Option<usize>
+    ensures some { IfSome result (IsSure (deepest - 1) None cursor.old cursor.new) }
+    ensures none { IfNone result (cursor.new ≡ cursor.old) }
+{
+    // The proof knows from here that the place is within the bytes.
+    let _start = cursor.place();
+    let mut ahead = cursor.ahead();
+    let size = read_sized_point_head(&mut ahead)?;
+    let after = ahead.place();
+    ahead.pass_varint()?;
+    ahead.pass_varint()?;
+    if (ahead.place() - after) as u64 != size {
+        return None;
+    }
+    *cursor = ahead;
+    Some(1)
+}
+
+/// How many vertices the geometry at the place has, which stands at `depth`, if all that it claims is true and the frame
+/// above holds them. Else `None`, and the cursor is somewhere behind its place.
+#[cycle(take_sure)]
+fn take_sure(cursor: &mut Cursor, depth: u8, above: &Option<Frame>) -> Option<usize>
+    requires shallowest { 1 ≤ depth }
+    requires deepest { depth ≤ deepest }
+    ensures { IfSome result (IsSure (deepest - depth) above.now cursor.old cursor.new) }
+{
+    // The proof knows from here that the place is within the bytes.
+    let _start = cursor.place();
+    let flat = read_flat_head(cursor, depth)?;
+    // The proof knows from here that the place is within the bytes.
+    let _body = cursor.place();
+    if flat.head.ids {
+        return None;
+    }
+    let frame = Frame::under(above, flat.head.xy, flat.bounds)?;
+    let vertices = take_sure_body(cursor, depth, &flat.head, &frame)?;
+    let stop = cursor.place();
+    match judge_size(flat.head.size, stop) {
+        None => Some(vertices),
+        Some(_) => None,
+    }
+}
+
+/// The body of a geometry that stands at `depth`, if the frame holds its vertices.
+#[cycle(take_sure)]
+#[inline(always)]
+fn take_sure_body(
+    cursor: &mut Cursor,
+    depth: u8,
+    head: &Head,
+    frame: &Option<Frame>,
+) -> Option<usize>
+    requires shallowest { 1 ≤ depth }
+    requires allowed { IsAllowedAt head.now.kind depth }
+    requires xy { IsPrecision head.now.xy }
+    requires z { head.now.z ≡ None }
+    requires m { head.now.m ≡ None }
+    requires full { head.now.empty ≡ false }
+    requires ids { head.now.ids ≡ false }
+    requires frame { IfSome frame.now (λ f. f.xy ≡ head.now.xy) }
+    ensures { IfSome result (IsSureBody (deepest - depth) head.now frame.now cursor.old cursor.new) }
+{
+    if head.kind.is_collection() {
+        take_sure_members(cursor, depth, head, frame)
+    } else {
+        take_sure_shape(cursor, depth, head, frame)
+    }
+}
+
+/// The members of a collection that stands at `depth`, if the frame holds their vertices.
+#[cycle(take_sure)]
+#[inline(always)]
+fn take_sure_members(
+    cursor: &mut Cursor,
+    depth: u8,
+    head: &Head,
+    frame: &Option<Frame>,
+) -> Option<usize>
+    requires shallowest { 1 ≤ depth }
+    requires below { depth + 1 ≤ deepest }
+    requires full { head.now.empty ≡ false }
+    requires kind { is_collection head.now.kind ≡ true }
+    requires ids { head.now.ids ≡ false }
+    ensures { IfSome result (IsSureBody (deepest - depth) head.now frame.now cursor.old cursor.new) }
+{
+    let Ok(count) = take_number(cursor) else {
+        return None;
+    };
+    let mut vertices = 0;
+    for _ in 0..count {
+        let member = take_sure(cursor, depth + 1, frame)?;
+        // The proof knows from here that the place is within the bytes.
+        let _stop = cursor.place();
+        vertices += member;
+    }
+    Some(vertices)
+}
+
+/// The body of a geometry that stands at `depth` and is no collection, if the frame holds its points.
+#[inline(always)]
+fn take_sure_shape(
+    cursor: &mut Cursor,
+    depth: u8,
+    head: &Head,
+    frame: &Option<Frame>,
+) -> Option<usize>
+    requires xy { IsPrecision head.now.xy }
+    requires z { head.now.z ≡ None }
+    requires m { head.now.m ≡ None }
+    requires full { head.now.empty ≡ false }
+    requires kind { is_collection head.now.kind ≡ false }
+    requires ids { head.now.ids ≡ false }
+    requires frame { IfSome frame.now (λ f. f.xy ≡ head.now.xy) }
+    ensures { IfSome result (IsSureBody (deepest - depth) head.now frame.now cursor.old cursor.new) }
+{
+    match frame {
+        Some(frame) => {
+            let mut boxed = Boxed::new(&frame.bounds)?;
+            let vertices = take_flat_parts(cursor, head, &mut boxed)?;
+            if !boxed.is_inside() {
+                return None;
+            }
+            Some(vertices)
+        }
+        None => {
+            let vertices = take_flat_parts(cursor, head, &mut Unboxed)?;
+            Some(vertices)
+        }
+    }
+}
+
+/// The parts of a body of X and Y alone.
+#[inline(always)]
+fn take_flat_parts<P: Points>(cursor: &mut Cursor, head: &Head, points: &mut P) -> Option<usize>
+    requires xy { IsPrecision head.now.xy }
+    requires z { head.now.z ≡ None }
+    requires m { head.now.m ≡ None }
+    requires ids { head.now.ids ≡ false }
+    ensures { IfSome result (AddsParts (P.step (of_head head.now)) head.now 2 cursor.old cursor.new (P.state points.old) (P.state points.new)) }
+{
+    let count = take_flat_count(cursor, head)?;
+    let mut trail = Trail::new();
+    let Ok(()) = take_parts(cursor, head, 2, count, &mut trail, points) else {
+        return None;
+    };
+    Some(trail.points)
+}
+
+/// How many parts there are: the count of a list without ids, or one.
+#[inline(always)]
+fn take_flat_count(cursor: &mut Cursor, head: &Head) -> Option<u64>
+    requires { head.now.ids ≡ false }
+    ensures { IfSome result (λ count. (list : ListHead) × (count_at (is_multi head.now.kind) head.now.ids cursor.old ≡ (Ok list, cursor.new))
+        × IsListFound cursor.old cursor.new list (record { count = count; ids = None })) }
+{
+    if !head.kind.is_multi() {
+        return Some(1);
+    }
+    match take_number(cursor) {
+        Ok(count) => Some(count),
+        Err(_) => None,
+    }
+}
