@@ -17,7 +17,7 @@ use Rattle.twkb_body.proofs.Entering.{reaches, boxed_holds}
 use Rattle.twkb_layer.specs.Directory.{Place, box_of, place_of, places, is_missed, directory_cost}
 use Rattle.twkb_layer.specs.Hits.{hits, cost, filled}
 use Rattle.twkb_layer.specs.Layer.{IsCertifiedLayer, size_of, told_from}
-use Rattle.twkb_layer.specs.Slots.{Said, unboxed, is_beyond, place_with, places_from, places_of}
+use Rattle.twkb_layer.specs.Slots.{Said, unboxed, place_with, places_from, places_of}
 use Rattle.twkb_layer.specs.Seeking.{outside}
 use Rattle.twkb_layer.specs.Window.{is_inside, box_misses}
 use Rattle.twkb_layer.specs.declared.hits.Hit.{Hit}
@@ -85,7 +85,7 @@ look_start w bytes count0 room0 slots trees whole are small = record {
 }
 
 -- a slot of Z and M: what it says goes on
-pub look_beyond : (w : Bounds) (bytes : List ℕ) (count0 : ℕ) (room0 : List Hit) (beyond slot : Said) (slots : List Said) (count blob found : ℕ) (room : List Hit) → Looking w bytes count0 room0 beyond (slot ∷ slots) count blob found room → true ≡ is_beyond slot.part
+pub look_beyond : (w : Bounds) (bytes : List ℕ) (count0 : ℕ) (room0 : List Hit) (beyond slot : Said) (slots : List Said) (count blob found : ℕ) (room : List Hit) → Looking w bytes count0 room0 beyond (slot ∷ slots) count blob found room → true ≡ slot.beyond
     → Looking w bytes count0 room0 slot slots count blob found room
 look_beyond w bytes count0 room0 beyond slot slots count blob found room s is = record {
   trees = s.trees;
@@ -122,7 +122,7 @@ first_of_places rest bytes place beyond slots blob e is n =
     let first : e ≡ record { offset = place; bounds = box_of n.tree } = cc (both) in
     record { next = n; offset = ap (λ (p : Place). p.offset) first; bounds = ap (λ (p : Place). p.bounds) first; others = cc (both) }
 
-pub here_of : (w : Bounds) (bytes : List ℕ) (count0 : ℕ) (room0 : List Hit) (beyond slot : Said) (slots : List Said) (count blob found : ℕ) (room : List Hit) (s : Looking w bytes count0 room0 beyond (slot ∷ slots) count blob found room) (e : Place) → e ≡ place_with beyond slot → false ≡ is_beyond slot.part
+pub here_of : (w : Bounds) (bytes : List ℕ) (count0 : ℕ) (room0 : List Hit) (beyond slot : Said) (slots : List Said) (count blob found : ℕ) (room : List Hit) (s : Looking w bytes count0 room0 beyond (slot ∷ slots) count blob found room) (e : Place) → e ≡ place_with beyond slot → false ≡ slot.beyond
     → Here s.rest bytes s.place beyond slots blob e
 here_of w bytes count0 room0 beyond slot slots count blob found room s e is own =
     let left : e ∷ places_from beyond slots ≡ told_from place_of blob s.place s.rest = ap (λ (p : Place). p ∷ places_from beyond slots) is ∙ (ap (λ (b : Bool). cond b (places_from slot slots) (place_with beyond slot ∷ places_from beyond slots)) own ∙ s.places_are) in

@@ -1,43 +1,34 @@
 //! The slots of a directory.
-ghost use Rattle.std.specs.Prelude.{◌≡◌, ◌+◌, ◌<◌, ◌≤◌, ◌||◌, ◌++◌, ◌∷◌, [], cond, Some, None, IfSome, is_some, option_map, pos, vec_len, vec_capacity};
+ghost use Rattle.std.specs.Prelude.{◌≡◌, ◌+◌, ◌*◌, ◌/◌, ◌%◌, ◌^◌, ◌<◌, ◌≤◌, ◌+ℤ◌, ◌==◌, nat_le, nat_lt, if◌then◌else◌, ◌||◌, ◌&&◌, ◌++◌, ◌∷◌, [], true, false, Some, None, IfSome, is_some, option_map, option_and_then, vec_len, vec_capacity};
 ghost use Rattle.twkb_num.specs.Units.{IsPrecision};
 ghost use Rattle.twkb_head.specs.Spelled.{AreSpelled, IsSpelled, IsSpelledIfAny};
-ghost use Rattle.twkb_layer.specs.Directory.{is_missed};
-ghost use Rattle.twkb_layer.specs.Slots.{range_at, unboxed, is_beyond, is_deep, place_with, places_of};
+ghost use Rattle.twkb_layer.specs.Raw.{precision_of};
+ghost use Rattle.twkb_layer.specs.Slots.{range_at, range_in, unboxed, AreInner, IsJudged, places_of};
 ghost use Rattle.twkb_layer.specs.Window.{lie_apart_if_both};
 
 use crate::collecting::{Keeper, header_at};
-use crate::hits::Hit;
 use crate::passer::Passer;
+use crate::raw::RawWindows;
 use crate::window::Window;
+use crate::word::{BEYOND, NEAR, UNBOXED, WIDE, Word};
 use std::alloc::Allocator;
 use std::marker::Model;
 use twkb_body::{Bounds, Span, skim};
 use twkb_head::Head;
-use twkb_num::Cursor;
+use twkb_num::{Cursor, units};
 
-/// What a slot of a directory says.
-#[derive(Clone, Copy, PartialEq, Eq)]
-pub enum Part {
-    /// Where a blob begins, and its box in X and Y, if it has one. There is no more of it.
-    Flat,
-    /// The same of a blob whose box has Z or M too: a slot before it says them.
-    Deep,
-    /// The box of the blob of the next slot in Z and M.
-    Beyond,
-}
+/// How far the offset of a slot goes. What passes that stands in a slot before it, as Z and M do.
+const REACH: usize = 1 << 57;
 
 /// A slot of a directory.
 ///
-/// Each range is kept as the box spells it, by a minimum and an extent of 64 bits, with its precision. So a slot takes 48
-/// bytes, where a `Bounds` in an `Option` alone takes 176. Z and M, which few layers have, stand in a slot of their own:
-/// what a scan reads of memory is what takes its time.
+/// A box is kept in raw integers, with its precision, so that a scan compares numbers of 64 bits: by its ends where these are
+/// such numbers, and else by its minima and extents, as its header spells it. So a slot takes 40 bytes, where a `Bounds` in
+/// an `Option` alone takes 176. Z and M, which few layers have, stand in a slot of their own before that of their blob: what a
+/// scan reads of memory is what takes its time.
 #[derive(Drop)]
 pub struct Slot {
-    part: Part,
-    first_precision: Option<i8>,
-    second_precision: Option<i8>,
-    offset: usize,
+    word: Word,
     /// In X, or in Z.
     first: (i64, i64),
     /// In Y, or in M.
@@ -45,182 +36,179 @@ pub struct Slot {
 }
 
 impl Model for Slot {
-    ghost use Rattle.twkb_layer.specs.Slots.{Said, slot_says, IsPrecise};
+    ghost use Rattle.twkb_layer.specs.Slots.{Said, slot_says, HasInnerEnds};
 
     ghost Value = { Said };
 
     ghost view = { slot_says };
 
-    ghost invariant = { IsPrecise };
+    ghost invariant = { HasInnerEnds };
 }
 
 impl Slot {
     /// Of a blob without a box.
-    pub fn unboxed(offset: usize) -> Slot
-        ensures { result ≡ unboxed offset }
+    pub fn unboxed(offset: usize, deep: bool) -> Slot
+        requires { offset < 2 ^ 57 }
+        ensures { result ≡ record { beyond = false; deep = deep; offset = offset; first = None; second = None } }
     {
         Slot {
-            part: Part::Flat,
-            first_precision: None,
-            second_precision: None,
-            offset,
+            word: Word::new(0, UNBOXED, deep, offset as u64),
             first: (0, 0),
             second: (0, 0),
         }
     }
 
     /// Of a blob with a box.
-    pub fn boxed(offset: usize, part: Part, bounds: &Bounds, precision: i8) -> Slot
+    pub fn boxed(offset: usize, deep: bool, bounds: &Bounds, precision: i8) -> Slot
+        requires offset { offset < 2 ^ 57 }
         requires precision { IsPrecision precision }
         requires x_spelled { IsSpelled precision bounds.now.x }
         requires y_spelled { IsSpelled precision bounds.now.y }
-        ensures { result ≡ record { part = part; offset = offset; first = Some bounds.now.x; second = Some bounds.now.y } }
+        ensures { result ≡ record { beyond = false; deep = deep; offset = offset; first = Some bounds.now.x; second = Some bounds.now.y } }
     {
-        Slot {
-            part,
-            first_precision: Some(precision),
-            second_precision: Some(precision),
-            offset,
-            first: bounds.x.spelling(precision),
-            second: bounds.y.spelling(precision),
+        let code = (precision + 8) as u64;
+        let x = bounds.x.spelling(precision);
+        let y = bounds.y.spelling(precision);
+        match (inner_ends(x), inner_ends(y)) {
+            (Some(first), Some(second)) => Slot {
+                word: Word::new(code, NEAR, deep, offset as u64),
+                first,
+                second,
+            },
+            _ => Slot {
+                word: Word::new(code, WIDE, deep, offset as u64),
+                first: x,
+                second: y,
+            },
         }
     }
 
-    /// What a box has in Z and M.
-    pub fn beyond(bounds: &Bounds, z: Option<u8>, m: Option<u8>) -> Slot
-        requires z_high { IfSome z (λ p. p ≤ 7) }
-        requires m_high { IfSome m (λ p. p ≤ 7) }
-        requires z_spelled { IsSpelledIfAny z bounds.now.z }
-        requires m_spelled { IsSpelledIfAny m bounds.now.m }
-        ensures { result ≡ record { part = Part.Beyond; offset = 0; first = bounds.now.z; second = bounds.now.m } }
+    /// What a box has in Z and M, and how far the offset passes a slot's reach.
+    pub fn beyond(offset: usize, z: Kept, m: Kept) -> Slot
+        ensures { result ≡ record { beyond = true; deep = false; offset = offset / 2 ^ 57 * 2 ^ 57; first = z; second = m } }
     {
+        let passed = (offset / REACH) as u64;
         Slot {
-            part: Part::Beyond,
-            first_precision: signed(z),
-            second_precision: signed(m),
-            offset: 0,
-            first: spelling_if_any(bounds.z, z),
-            second: spelling_if_any(bounds.m, m),
+            word: Word::new(z.code, BEYOND, false, m.code + 16 * passed),
+            first: z.numbers,
+            second: m.numbers,
         }
     }
 
-    /// Whether it says what the box of the next slot's blob has in Z and M.
+    /// Whether it says what the next slot has no place for.
     #[inline(always)]
     pub fn is_beyond(&self) -> bool
-        ensures { result ≡ is_beyond self.now.part }
+        ensures { result ≡ self.now.beyond }
     {
-        matches!(self.part, Part::Beyond)
+        self.word.form() == BEYOND
     }
 
+    /// Whether the slot before it says more of its blob.
     #[inline(always)]
-    fn is_deep(&self) -> bool
-        ensures { result ≡ is_deep self.now.part }
+    pub fn is_deep(&self) -> bool
+        ensures { result ≡ self.now.deep }
     {
-        matches!(self.part, Part::Deep)
+        self.word.is_deep()
+    }
+
+    /// The offset that it says.
+    #[inline(always)]
+    pub fn offset(&self) -> usize
+        ensures value { result ≡ self.now.offset }
+        ensures far { result ≤ 127 * 2 ^ 57 }
+        ensures near { self.now.beyond ≡ false → result < 2 ^ 57 }
+    {
+        let rest = self.word.rest() as usize;
+        if self.is_beyond() {
+            rest / 16 % 128 * REACH
+        } else {
+            rest
+        }
+    }
+
+    /// Whether its box misses the window in X or in Y, where it keeps the ends of one.
+    #[inline(always)]
+    pub fn misses_by_ends(&self, windows: &RawWindows) -> Option<bool>
+        ensures { IfSome result (IsJudged windows.now self.now) }
+    {
+        if self.word.form() == NEAR {
+            Some(windows.at(self.word.code()).misses(self.first, self.second))
+        } else {
+            None
+        }
     }
 
     /// The range in X, or in Z.
-    #[inline(always)]
-    fn first(&self) -> Option<Span>
+    pub fn first(&self) -> Option<Span>
         ensures { result ≡ self.now.first }
     {
-        spelled_if_any(self.first, self.first_precision)
+        range_of(self.word.form(), self.word.code(), self.first)
     }
 
     /// The range in Y, or in M.
-    #[inline(always)]
-    fn second(&self) -> Option<Span>
+    pub fn second(&self) -> Option<Span>
         ensures { result ≡ self.now.second }
     {
-        spelled_if_any(self.second, self.second_precision)
-    }
-
-    /// Whether it has a range in Y, or in M.
-    #[inline(always)]
-    fn has_second(&self) -> bool
-        ensures { result ≡ is_some self.now.second }
-    {
-        self.second_precision.is_some()
-    }
-
-    /// Whether what it says of Y misses the window.
-    #[inline(always)]
-    fn misses_in_y(&self, window: &Window) -> bool
-        ensures { result ≡ lie_apart_if_both self.now.second (Some window.now.y) }
-    {
-        match self.second() {
-            Some(y) => window.misses_in_y(&y),
-            None => false,
-        }
+        let code = if self.is_beyond() {
+            (self.word.rest() % 16) as usize
+        } else {
+            self.word.code()
+        };
+        range_of(self.word.form(), code, self.second)
     }
 
     /// Whether what it says of Z and M misses the window.
-    #[inline(always)]
-    fn misses_in_z_or_m(&self, window: &Window) -> bool
+    pub fn misses_in_z_or_m(&self, window: &Window) -> bool
         ensures { result ≡ (lie_apart_if_both self.now.first window.now.z || lie_apart_if_both self.now.second window.now.m) }
     {
         window.misses_in_z_or_m(self.first(), self.second())
     }
 }
 
-/// What the slots of a directory say of a blob: its own, and the last one before it that says Z and M.
+/// The range of an axis that a box may lack: a minimum and an extent, and the code of their precision, which is below 8 where
+/// there is none.
 #[derive(Drop)]
-pub struct Entry<'a> {
-    slot: &'a Slot,
-    beyond: &'a Slot,
+pub struct Kept {
+    code: u64,
+    numbers: (i64, i64),
 }
 
-impl<'a> Model for Entry<'a> {
-    ghost use Rattle.twkb_layer.specs.Directory.{Place};
-    ghost use Rattle.twkb_layer.specs.Slots.{place_with};
+impl Model for Kept {
+    ghost use Rattle.std.specs.Prelude.{◌<◌, Option};
+    ghost use Rattle.twkb_head.specs.declared.boxes.Span.{Span};
+    ghost use Rattle.twkb_layer.specs.Slots.{range_in};
 
-    ghost Value = { Place };
+    ghost Value = { Option Span };
 
-    ghost view = { λ e. place_with e.beyond.now e.slot.now };
+    ghost view = { λ k. range_in 3 k.code k.numbers };
+
+    ghost invariant = { λ k. k.code < 16 };
 }
 
-impl<'a> Entry<'a> {
-    #[inline(always)]
-    pub fn new(beyond: &'a Slot, slot: &'a Slot) -> Entry<'a>
-        ensures { result ≡ place_with beyond.now slot.now }
+impl Kept {
+    /// The range of an axis, at its precision.
+    fn of(span: Option<Span>, precision: Option<u8>) -> Kept
+        requires high { IfSome precision (λ p. p ≤ 7) }
+        requires spelled { IsSpelledIfAny precision span }
+        ensures { result ≡ span }
     {
-        Entry { slot, beyond }
-    }
-
-    /// Where the blob begins.
-    #[inline(always)]
-    pub fn offset(&self) -> usize
-        ensures { result ≡ self.now.offset }
-    {
-        let slot = self.slot;
-        slot.offset
-    }
-
-    /// The hit that its blob of this number is, if it is one.
-    #[inline(always)]
-    pub fn hit(&self, blob: usize) -> Hit
-        ensures { result ≡ record { blob = blob; offset = self.now.offset } }
-    {
-        Hit {
-            blob,
-            offset: self.offset(),
+        match (span, precision) {
+            (Some(span), Some(precision)) => Kept {
+                code: u64::from(precision) + 8,
+                numbers: span.spelling(precision as i8),
+            },
+            _ => Kept {
+                code: 0,
+                numbers: (0, 0),
+            },
         }
     }
 
-    /// Whether it has a box, and this misses the window. An axis is only computed where those before it don't tell.
-    #[inline(always)]
-    pub fn misses(&self, window: &Window) -> bool
-        ensures { result ≡ is_missed window.now self.now.bounds }
+    /// Whether there is a range.
+    fn is_some(&self) -> bool
+        ensures { result ≡ is_some self.now }
     {
-        if !self.slot.has_second() {
-            return false;
-        }
-        let Some(x) = self.slot.first() else {
-            return false;
-        };
-        window.misses_in_x(&x)
-            || self.slot.misses_in_y(window)
-            || (self.slot.is_deep() && self.beyond.misses_in_z_or_m(window))
+        self.code > 7
     }
 }
 
@@ -257,55 +245,72 @@ fn push<A: Allocator>(slots: &mut Vec<Slot, A>, offset: usize, head: &Head)
     ensures capacity { vec_capacity slots.new ≡ vec_capacity slots.old }
     ensures len { vec_len slots.new ≤ vec_len slots.old + 2 }
 {
+    let (z, m) = further(head);
+    let deep = passes_a_slot(offset, &z, &m);
+    if deep {
+        slots.push_reserved(Slot::beyond(offset, z, m));
+    }
     let slot = match &head.bounds {
-        None => Slot::unboxed(offset),
-        Some(field) => {
-            let bounds = &field.bounds;
-            if bounds.z.is_none() && bounds.m.is_none() {
-                Slot::boxed(offset, Part::Flat, bounds, head.xy)
-            } else {
-                slots.push_reserved(Slot::beyond(bounds, head.z, head.m));
-                Slot::boxed(offset, Part::Deep, bounds, head.xy)
-            }
-        }
+        None => Slot::unboxed(offset % REACH, deep),
+        Some(field) => Slot::boxed(offset % REACH, deep, &field.bounds, head.xy),
     };
     slots.push_reserved(slot);
 }
 
-/// A precision of Z or M, as one of X and Y is kept.
-fn signed(precision: Option<u8>) -> Option<i8>
-    requires { IfSome precision (λ p. p ≤ 7) }
-    ensures { result ≡ option_map pos precision }
+/// What the box of a header has in Z and in M.
+fn further(head: &Head) -> (Kept, Kept)
+    requires z_high { IfSome head.now.z (λ p. p ≤ 7) }
+    requires m_high { IfSome head.now.m (λ p. p ≤ 7) }
+    requires spelled { IfSome head.now.bounds (λ field. AreSpelled head.now.xy head.now.z head.now.m field.bounds) }
+    ensures z { result.0 ≡ option_and_then (λ field. field.bounds.z) head.now.bounds }
+    ensures m { result.1 ≡ option_and_then (λ field. field.bounds.m) head.now.bounds }
 {
-    match precision {
-        Some(precision) => Some(precision as i8),
-        None => None,
+    match &head.bounds {
+        None => (Kept::of(None, None), Kept::of(None, None)),
+        Some(field) => (
+            Kept::of(field.bounds.z, head.z),
+            Kept::of(field.bounds.m, head.m),
+        ),
     }
 }
 
-/// The numbers that spell the range of an axis, where it has one.
-fn spelling_if_any(span: Option<Span>, precision: Option<u8>) -> (i64, i64)
-    requires high { IfSome precision (λ p. p ≤ 7) }
-    requires spelled { IsSpelledIfAny precision span }
-    ensures { span ≡ option_map (λ p. range_at (pos p) result) precision }
+/// Whether a blob has something that its own slot has no place for.
+fn passes_a_slot(offset: usize, z: &Kept, m: &Kept) -> bool
+    ensures { result ≡ (is_some z.now || (is_some m.now || nat_le (2 ^ 57) offset)) }
 {
-    match (span, precision) {
-        (Some(span), Some(precision)) => span.spelling(precision as i8),
-        _ => (0, 0),
+    z.is_some() || m.is_some() || offset >= REACH
+}
+
+/// The range of an axis, where a slot of this form has one.
+fn range_of(form: u64, code: usize, numbers: (i64, i64)) -> Option<Span>
+    requires { code < 16 }
+    ensures { result ≡ range_in form code numbers }
+{
+    let precision = code as i8 - 8;
+    if form == NEAR {
+        Some(Span {
+            lo: units(i128::from(numbers.0), precision),
+            hi: units(i128::from(numbers.1), precision),
+        })
+    } else if form == WIDE || (form == BEYOND && code > 7) {
+        Some(Span::spelled(numbers.0, numbers.1, precision))
+    } else {
+        None
     }
 }
 
-/// The range of an axis, where it has one.
-#[inline(always)]
-fn spelled_if_any(numbers: (i64, i64), precision: Option<i8>) -> Option<Span>
-    requires { IfSome precision IsPrecision }
-    ensures { result ≡ option_map (λ p. range_at p numbers) precision }
+/// The ends of the range that a minimum and an extent spell, where both lie between the ends of 64 bits.
+fn inner_ends(numbers: (i64, i64)) -> Option<(i64, i64)>
+    ensures { IfSome result (λ ends. AreInner ends × (ends ≡ (numbers.0, numbers.0 +ℤ numbers.1))) }
 {
-    match precision {
-        Some(precision) => Some(Span::spelled(numbers.0, numbers.1, precision)),
-        None => None,
+    let (least, extent) = numbers;
+    let greatest = least.checked_add(extent)?;
+    if i64::MIN < least && extent >= 0 && greatest < i64::MAX {
+        Some((least, greatest))
+    } else {
+        None
     }
 }
 
 // What a slot of a directory takes.
-const _: () = prove!(size_of::<Slot>() <= 48);
+const _: () = prove!(size_of::<Slot>() <= 40);

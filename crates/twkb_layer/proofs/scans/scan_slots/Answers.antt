@@ -1,5 +1,10 @@
-use Rattle.std.proofs.Common.{refl, sym, ◌∙◌, arith, sum_by, true, false}
+use Rattle.std.proofs.Common.{refl, sym, ap, ◌∙◌, arith, sum_by, true, false}
+use Rattle.std.specs.List.{list_any}
+use Rattle.twkb_num.specs.Cursor.{added}
+use Rattle.twkb_head.specs.declared.boxes.Bounds.{Bounds}
+use Rattle.twkb_body.specs.Geometry.{vertices}
 use Rattle.twkb_layer.specs.Directory.{directory_cost}
+use Rattle.twkb_layer.specs.Window.{is_inside}
 use Rattle.twkb_layer.proofs.Costs.{directory_costs_few}
 use Rattle.twkb_layer.proofs.Looking.{look_start, look_beyond, slot_next, here_of, here_stands, here_fits, look_step, look_end}
 use Rattle.twkb_layer.proofs.scans.scan_slots.Goals as goal
@@ -46,8 +51,8 @@ loop-slot-preserved c =
       | else-is_beyond w ↦
           let h = here_of _ _ _ _ _ _ _ _ _ _ _ s w.new-entry.result w.new-entry.ensures w.if-is_beyond.ensures in
           let stands = here_stands _ _ _ _ _ _ _ _ h inv.bytes in
-          let found = w.look_at.ensures.found h.next.tree stands h.bounds in
-          let count = w.look_at.ensures.count h.next.tree stands h.bounds in
+          let found = w.look_at.ensures.found h.next.tree stands h.bounds ∙ ap (λ (v : Bounds). list_any (is_inside v) (vertices h.next.tree)) c.new-windows.ensures in
+          let count = w.look_at.ensures.count h.next.tree stands h.bounds ∙ ap (λ (v : Bounds). added c.loop-slot.cursor.count (directory_cost v h.next.tree)) c.new-windows.ensures in
           record {
             bytes = rw w.cursor-is (w.look_at.ensures.bytes ∙ inv.bytes);
             small = inv.small;

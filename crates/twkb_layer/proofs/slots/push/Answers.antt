@@ -1,22 +1,58 @@
-use Rattle.std.proofs.Common.{List, Some, None, refl}
-use Rattle.twkb_layer.specs.Slots.{Said, unboxed}
-use Rattle.twkb_layer.specs.declared.slots.Part.{Part}
-use Rattle.twkb_layer.proofs.Placing.{places_flat, places_deep, box_flat}
+use Rattle.std.proofs.Common.{List, Some, None, refl, sym, ap, ◌∙◌, arith}
+use Rattle.std.specs.Option.{option_and_then}
+use Rattle.twkb_layer.specs.Slots.{Said}
+use Rattle.twkb_layer.proofs.Placing.{places_flat, places_deep, nothing_beyond, own_slot, slot_before, deep_unboxed, deep_boxed, flat_unboxed, flat_boxed}
 use Rattle.twkb_layer.proofs.slots.push.Goals as goal
-use Rattle.twkb_layer.proofs.slots.push.Goals.{in-None, in-Some+then-is_none+then-is_none-2, in-Some+else-is_none}
+use Rattle.twkb_layer.proofs.slots.push.Goals.{then-deep, else-deep, in-None, in-Some}
+
+pub push_reserved-requires-2 : goal.push_reserved-requires-2
+push_reserved-requires-2 g c = elim c.if-deep.branch [
+  | then-deep w ↦ rw w.slots-is (omega (arith, w.push_reserved.ensures.len, w.push_reserved.ensures.capacity, c.requires.spare))
+  | else-deep w ↦ rw w.slots-is (omega (arith, c.requires.spare))
+]
+
+pub returns-clause-capacity : goal.returns-clause-capacity
+returns-clause-capacity g c = rw c.push_reserved-2.ensures.capacity (elim c.if-deep.branch [
+  | then-deep w ↦ rw w.slots-is w.push_reserved.ensures.capacity
+  | else-deep w ↦ rw w.slots-is
+])
+
+pub returns-clause-len : goal.returns-clause-len
+returns-clause-len g c = rw c.push_reserved-2.ensures.len (elim c.if-deep.branch [
+  | then-deep w ↦ rw w.slots-is (omega (arith, w.push_reserved.ensures.len))
+  | else-deep w ↦ rw w.slots-is (omega arith)
+])
 
 pub returns-clause-says : goal.returns-clause-says
 returns-clause-says g c =
     let kept : List Said = c.args.slots.now.items in
-    rw c.push_reserved-2.ensures.items (elim c.match-head.branch [
-      | in-None w ↦ rw (w.slots-is, w.slot-is, w.unboxed-slot.ensures, w.in-None.is) (places_flat kept (unboxed c.args.offset) (record { offset = c.args.offset; bounds = None }) refl refl refl)
-      | in-Some+then-is_none+then-is_none-2 w ↦
-          let box = w.in-Some.field.bounds in
-          let whole = box_flat box.x box.y box.z box.m w.if-is_none.ensures w.if-is_none-2.ensures in
-          rw (w.slots-is, w.slot-is, w.boxed.ensures, w.in-Some.is)
-          (places_flat kept (record { part = Part.Flat; offset = c.args.offset; first = Some box.x; second = Some box.y }) (record { offset = c.args.offset; bounds = Some box }) refl refl (λ j. record { offset = c.args.offset; bounds = whole j }))
-      | in-Some+else-is_none w ↦
-          let box = w.in-Some.field.bounds in
-          rw (w.slots-is, w.push_reserved.ensures.items, w.slot-is, w.boxed-else-is_none.ensures, w.beyond.ensures, w.in-Some.is)
-          (places_deep kept (record { part = Part.Beyond; offset = 0; first = box.z; second = box.m }) (record { part = Part.Deep; offset = c.args.offset; first = Some box.x; second = Some box.y }) (record { offset = c.args.offset; bounds = Some box }) refl refl refl)
+    let offset = c.args.offset in
+    let deep = c.passes_a_slot-deep.result in
+    let z = c.further-z.result.0 in
+    let m = c.further-z.result.1 in
+    rw c.push_reserved-2.ensures.items (elim c.if-deep.branch [
+      | then-deep w ↦ rw (w.slots-is, w.push_reserved.ensures.items, w.beyond.ensures) (elim c.match-head.branch [
+        | in-None v ↦
+            let place = deep_unboxed offset deep z m w.if-deep.true in
+            rw (v.slot-is, v.unboxed-slot.ensures, v.in-None.is) (places_deep kept (slot_before offset z m) (own_slot offset deep None None) _ refl refl place)
+        | in-Some v ↦
+            let box = v.in-Some.field.bounds in
+            let z_is = c.further-z.ensures.z ∙ ap (option_and_then (λ field. field.bounds.z)) v.in-Some.is in
+            let m_is = c.further-z.ensures.m ∙ ap (option_and_then (λ field. field.bounds.m)) v.in-Some.is in
+            let place = deep_boxed offset deep z m box w.if-deep.true z_is m_is in
+            rw (v.slot-is, v.boxed-slot.ensures, v.in-Some.is) (places_deep kept (slot_before offset z m) (own_slot offset deep (Some box.x) (Some box.y)) _ refl refl place)
+      ])
+      | else-deep w ↦
+          let nothing = nothing_beyond z m offset (sym c.passes_a_slot-deep.ensures ∙ w.if-deep.false) in
+          rw w.slots-is (elim c.match-head.branch [
+            | in-None v ↦
+                let place = flat_unboxed offset deep z m w.if-deep.false nothing.2 in
+                rw (v.slot-is, v.unboxed-slot.ensures, v.in-None.is) (places_flat kept (own_slot offset deep None None) _ refl w.if-deep.false place)
+            | in-Some v ↦
+                let box = v.in-Some.field.bounds in
+                let z_is = sym nothing.0 ∙ (c.further-z.ensures.z ∙ ap (option_and_then (λ field. field.bounds.z)) v.in-Some.is) in
+                let m_is = sym nothing.1 ∙ (c.further-z.ensures.m ∙ ap (option_and_then (λ field. field.bounds.m)) v.in-Some.is) in
+                let place = flat_boxed offset deep z m box w.if-deep.false nothing.2 z_is m_is in
+                rw (v.slot-is, v.boxed-slot.ensures, v.in-Some.is) (places_flat kept (own_slot offset deep (Some box.x) (Some box.y)) _ refl w.if-deep.false place)
+          ])
     ])

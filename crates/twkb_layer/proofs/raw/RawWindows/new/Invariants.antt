@@ -1,0 +1,6 @@
+use Rattle.std.proofs.Common.{◌≡◌, length}
+use Rattle.twkb_layer.proofs.Raws.{AreRawBelow}
+use Rattle.twkb_layer.proofs.raw.RawWindows.new.Given as goal
+
+abbrev pub invariant-loop-code : goal.invariant-loop-code
+invariant-loop-code l = (length l.raws ≡ 16) × AreRawBelow l.code l.window l.raws

@@ -1,0 +1,152 @@
+//! Windows in raw integers: the numbers as headers and bodies have them, which mean units by a precision.
+ghost use Rattle.std.specs.Prelude.{◌≡◌, ◌<◌, ◌<ℤ◌, ◌*ℤ◌, ◌||◌, ℤ, pos, int_lt, slice_get, IfSome};
+ghost use Rattle.twkb_num.specs.Units.{IsPrecision, units_of};
+ghost use Rattle.twkb_layer.specs.Raw.{IsInner, IsRawRange, IsRawWindow, precision_of};
+
+use crate::window::Window;
+use std::marker::Model;
+use twkb_body::Span;
+use twkb_num::units;
+
+/// The ends of a range in raw integers at some precision, as far as 64 bits go.
+#[derive(Clone, Copy)]
+pub struct RawRange {
+    pub least: i64,
+    pub greatest: i64,
+}
+
+impl RawRange {
+    /// The ends of a range in units: its lower one rounded up, and its upper one rounded down.
+    pub fn of(range: &Span, precision: i8) -> RawRange
+        requires { IsPrecision precision }
+        ensures { IsRawRange precision range.now result }
+    {
+        let unit = units(1, precision);
+        RawRange {
+            least: least_from(range.lo, unit),
+            greatest: greatest_to(range.hi, unit),
+        }
+    }
+
+    /// Whether the range between two numbers lies apart.
+    #[inline(always)]
+    fn misses(&self, ends: (i64, i64)) -> bool
+        ensures { result ≡ (int_lt ends.1 self.now.least || int_lt self.now.greatest ends.0) }
+    {
+        ends.1 < self.least || self.greatest < ends.0
+    }
+}
+
+/// A window in X and Y in raw integers at some precision.
+#[derive(Clone, Copy)]
+pub struct RawWindow {
+    pub x: RawRange,
+    pub y: RawRange,
+}
+
+impl RawWindow {
+    /// Whether the box between these numbers in X and in Y lies apart. An axis is only compared where the one before it
+    /// doesn't tell.
+    #[inline(always)]
+    pub fn misses(&self, x: (i64, i64), y: (i64, i64)) -> bool
+        ensures { result ≡ ((int_lt x.1 self.now.x.least || int_lt self.now.x.greatest x.0) || (int_lt y.1 self.now.y.least || int_lt self.now.y.greatest y.0)) }
+    {
+        self.x.misses(x) || self.y.misses(y)
+    }
+}
+
+/// A window, in units and in raw integers at each precision.
+#[derive(Drop)]
+pub struct RawWindows<'w> {
+    window: &'w Window,
+    /// By the codes of precisions.
+    raws: [RawWindow; 16],
+}
+
+impl<'w> Model for RawWindows<'w> {
+    ghost use Rattle.twkb_head.specs.declared.boxes.Bounds.{Bounds};
+    ghost use Rattle.twkb_layer.specs.Raw.{AreRawWindows};
+
+    ghost Value = { Bounds };
+
+    ghost view = { λ w. w.window.now };
+
+    ghost invariant = { λ w. AreRawWindows w.window.now w.raws };
+}
+
+impl<'w> RawWindows<'w> {
+    /// Of a window: sixty-four divisions, once for a scan.
+    pub fn new(window: &'w Window) -> RawWindows<'w>
+        ensures { result ≡ window.now }
+    {
+        let nowhere = RawRange {
+            least: 0,
+            greatest: 0,
+        };
+        let mut raws = [RawWindow {
+            x: nowhere,
+            y: nowhere,
+        }; 16];
+        for code in 0..16 {
+            raws[code] = window.raw(code as i8 - 8);
+        }
+        RawWindows { window, raws }
+    }
+
+    /// The window in units.
+    #[inline(always)]
+    pub fn window(&self) -> &'w Window
+        ensures { result.now ≡ self.now }
+    {
+        self.window
+    }
+
+    /// The window at the precision of a code.
+    #[inline(always)]
+    pub fn at(&self, code: usize) -> RawWindow
+        requires { code < 16 }
+        ensures { IsRawWindow (precision_of code) self.now result }
+    {
+        self.raws[code]
+    }
+}
+
+/// The least of the numbers that are no less than `lo` in units, as far as 64 bits go.
+fn least_from(lo: i128, unit: i128) -> i64
+    requires { pos 0 <ℤ unit }
+    ensures { (c : ℤ) → IsInner c → int_lt (c *ℤ unit) lo ≡ int_lt c result }
+{
+    let quotient = lo / unit;
+    if lo % unit > 0 {
+        in_64_bits(quotient + 1)
+    } else {
+        in_64_bits(quotient)
+    }
+}
+
+/// The greatest of the numbers that are no more than `hi` in units, as far as 64 bits go.
+fn greatest_to(hi: i128, unit: i128) -> i64
+    requires { pos 0 <ℤ unit }
+    ensures { (c : ℤ) → IsInner c → int_lt hi (c *ℤ unit) ≡ int_lt result c }
+{
+    let quotient = hi / unit;
+    if hi % unit < 0 {
+        in_64_bits(quotient - 1)
+    } else {
+        in_64_bits(quotient)
+    }
+}
+
+/// The number, or the end of 64 bits that is nearest. It compares as before with the numbers between these ends.
+fn in_64_bits(number: i128) -> i64
+    ensures below { (c : ℤ) → IsInner c → int_lt c number ≡ int_lt c result }
+    ensures above { (c : ℤ) → IsInner c → int_lt number c ≡ int_lt result c }
+{
+    if number < i128::from(i64::MIN) {
+        i64::MIN
+    } else if number > i128::from(i64::MAX) {
+        i64::MAX
+    } else {
+        number as i64
+    }
+}

@@ -1,0 +1,70 @@
+//! What a slot of a directory keeps besides ranges, in one word of 64 bits.
+ghost use Rattle.std.specs.Prelude.{◌≡◌, ◌<◌, ◌^◌};
+ghost use Rattle.twkb_layer.specs.Word.{Packed};
+
+use std::marker::Model;
+
+/// A slot of a blob whose box is kept by its ends.
+pub const NEAR: u64 = 0;
+/// A slot of a blob whose box is kept by least numbers and extents.
+pub const WIDE: u64 = 1;
+/// A slot of a blob without a box.
+pub const UNBOXED: u64 = 2;
+/// A slot of what the next one has no place for.
+pub const BEYOND: u64 = 3;
+
+/// From the lowest bit on: four bits of a code, two of a form, one that says whether a slot before it says more, and the
+/// rest.
+#[derive(Drop)]
+pub struct Word(u64);
+
+impl Model for Word {
+    ghost use Rattle.twkb_layer.specs.Word.{Packed, unpacked};
+
+    ghost Value = { Packed };
+
+    ghost view = { λ w. unpacked w.0 };
+}
+
+impl Word {
+    /// The word of these parts.
+    pub fn new(code: u64, form: u64, deep: bool, rest: u64) -> Word
+        requires code { code < 16 }
+        requires form { form < 4 }
+        requires rest { rest < 2 ^ 57 }
+        ensures { result ≡ record { code = code; form = form; deep = deep; rest = rest } }
+    {
+        Word(code + 16 * form + 64 * u64::from(deep) + 128 * rest)
+    }
+
+    #[inline(always)]
+    pub fn code(&self) -> usize
+        ensures value { result ≡ self.now.code }
+        ensures few { result < 16 }
+    {
+        (self.0 % 16) as usize
+    }
+
+    #[inline(always)]
+    pub fn form(&self) -> u64
+        ensures { result ≡ self.now.form }
+    {
+        self.0 / 16 % 4
+    }
+
+    /// Whether a slot before it says more.
+    #[inline(always)]
+    pub fn is_deep(&self) -> bool
+        ensures { result ≡ self.now.deep }
+    {
+        self.0 / 64 % 2 == 1
+    }
+
+    #[inline(always)]
+    pub fn rest(&self) -> u64
+        ensures value { result ≡ self.now.rest }
+        ensures few { result < 2 ^ 57 }
+    {
+        self.0 / 128
+    }
+}
