@@ -59,6 +59,7 @@ demo: build
 
 test: build
 	python3 tests/run.py $(PROGRAM)
+	python3 tests/looks_ahead.py
 	python3 tests/install.py
 	python3 tests/scripts.py $(PROGRAM)
 	rt ci

@@ -10,6 +10,8 @@ EXAMPLES = {
     "collections": ["coast_collections"],
     "the mix": ["coast_collections", "coast_lines_sized", "coast_z", "points_sized"],
 }
+BARE = "bare lines"
+IDS = "lists with ids"
 LONG = "long lines"
 # A first byte that no blob begins with: a program reads the whole file, and then refuses its first byte.
 NO_BLOB = b"\x0f"
@@ -19,8 +21,14 @@ def repeated(kind):
     """The bytes that are repeated: whole blobs, so that they stay a layer."""
     if kind == LONG:
         return long_line(random.Random(1), 400_000)
-    paths = [os.path.join(TOP, "examples", name + ".twkb") for name in EXAMPLES[kind]]
-    return b"".join(open(path, "rb").read() for path in paths)
+    if kind in (BARE, IDS):
+        lines = list(lines_of(example("coast_lines_sized")))
+        return bare_lines(lines) if kind == BARE else lists_with_ids(lines)
+    return b"".join(example(name) for name in EXAMPLES[kind])
+
+
+def example(name):
+    return open(os.path.join(TOP, "examples", name + ".twkb"), "rb").read()
 
 
 def write_layer(folder, kind, least_bytes, first=None):
@@ -47,6 +55,65 @@ def varint(number):
 
 def signed(number):
     return varint(2 * number if number >= 0 else -2 * number - 1)
+
+
+def number(data, place):
+    """The number that a varint spells, and the place behind it."""
+    value = shift = 0
+    while True:
+        value |= (data[place] & 127) << shift
+        place, shift = place + 1, shift + 7
+        if data[place - 1] < 128:
+            return value, place
+
+
+def unsigned_to_signed(value):
+    return value >> 1 ^ -(value & 1)
+
+
+def lines_of(data):
+    """The type byte, the body and the points of each line of a layer of lines with a size and a box."""
+    place = 0
+    while place < len(data):
+        kind = data[place]
+        size, place = number(data, place + 2)
+        stop = place + size
+        for _ in range(4):
+            _, place = number(data, place)
+        body, points, last = data[place:stop], [], [0, 0]
+        count, place = number(data, place)
+        for _ in range(count):
+            for axis in range(2):
+                difference, place = number(data, place)
+                last[axis] += unsigned_to_signed(difference)
+            points.append(tuple(last))
+        yield kind, body, points
+
+
+def bare_lines(lines):
+    """The lines with neither size nor box."""
+    return b"".join(bytes([kind, 0]) + body for kind, body, _ in lines)
+
+
+def lists_with_ids(lines):
+    """Three lines each as a list of lines with ids, a size and a box."""
+    out = bytearray()
+    for first in range(0, len(lines) - 2, 3):
+        three = [points for _, _, points in lines[first : first + 3]]
+        box = bytearray()
+        for axis in range(2):
+            places = [point[axis] for points in three for point in points]
+            box += signed(min(places)) + signed(max(places) - min(places))
+        body, last = bytearray(), (0, 0)
+        for points in three:
+            body += varint(len(points))
+            for point in points:
+                body += signed(point[0] - last[0]) + signed(point[1] - last[1])
+                last = point
+        ids = b"".join(signed(first + index) for index in range(3))
+        rest = bytes(box) + varint(3) + ids + bytes(body)
+        out += bytes([lines[first][0] & 0xF0 | 5, 0x07]) + varint(len(rest)) + rest
+    return bytes(out)
 
 
 def long_line(chance, vertices):

@@ -123,7 +123,7 @@ def heading():
 def table_of_checks(found, folder, runs):
     """Prints the rows of `check`, and gives of the mix the times of audits, of whole runs and of reading, and the memories."""
     kept = {}
-    for kind in (*layers.EXAMPLES, layers.LONG):
+    for kind in (*layers.EXAMPLES, layers.BARE, layers.IDS, layers.LONG):
         times, memories = {}, {}
         if kind in ("the mix", "lines"):
             layer, _ = layers.write_layer(folder, kind, TIMED)

@@ -3,10 +3,11 @@
 
 usage: tests/stack.py [PROGRAM]   (build/twkb_tool where it is left out)
 
-The layers are a point inside 0, 31 and 63 collections. For `check`, `check --tight` and `scan` the least limit of the stack
-is printed, in steps of a page, with which the program ends well TRIES times in a row, with no environment: what the limit
-counts begins a little lower each time. Where gdb is there, it then tells where the stack is whenever the audits and the
-scan of the deepest layer enter a geometry: how much a level of each takes.
+The layers are a point inside 0, 31 and 63 collections: one of X and Y alone, which the quick pass certifies, and one with an
+extended dimensions byte that says nothing, which the audit reads behind it. For `check`, `check --tight` and `scan` the least
+limit of the stack is printed, in steps of a page, with which the program ends well TRIES times in a row, with no environment:
+what the limit counts begins a little lower each time. Where gdb is there, it then tells where the stack is whenever the quick
+pass, the audits and the scan of the deepest layer enter a geometry: how much a level of each takes.
 """
 import os
 import re
@@ -20,7 +21,14 @@ from harness import TOP, written
 
 PAGE, TRIES = 4096, 20
 WINDOW = "x=1..1,y=2..2"
+POINTS = {"a point": "01000204", "an extended point": "0108000204"}
 WHERE = """set pagination off
+rbreak quick::take_sure
+commands
+silent
+printf "quick %ld\\n", (long)$rsp
+cont
+end
 rbreak geometry::take_geometry
 commands
 silent
@@ -52,24 +60,25 @@ def least(words):
 
 
 def places(words, folder):
-    """Where the stack is at each geometry of the audit, and at each of the scan."""
+    """Where the stack is at each geometry of the quick pass, at each of the audit, and at each of the scan."""
     script = written(folder, "where.gdb", WHERE.encode())
     told = subprocess.run(["gdb", "-nx", "-batch", "-x", script, "--args", *words], capture_output=True, text=True).stdout
-    return [[int(place) for place in re.findall(rf"^{step} (\d+)$", told, re.M)] for step in ("audit", "scan")]
+    return [[int(place) for place in re.findall(rf"^{step} (\d+)$", told, re.M)] for step in ("quick", "audit", "scan")]
 
 
 def main():
     program = os.path.abspath(sys.argv[1] if len(sys.argv) > 1 else os.path.join(TOP, "build", "twkb_tool"))
     with tempfile.TemporaryDirectory() as folder:
-        for collections in (0, 31, 63):
-            layer = written(folder, "layer.twkb", bytes.fromhex("070001" * collections + "01000204"))
-            runs = {"check": ["check", layer], "check --tight": ["check", "--tight", layer], "scan": ["scan", layer, WINDOW]}
-            told = ", ".join(f"{name} {least([program, *words]) // 1024} KiB" for name, words in runs.items())
-            print(f"a point inside {collections} collections: {told}")
+        for point, spelled in POINTS.items():
+            for collections in (0, 31, 63):
+                layer = written(folder, "layer.twkb", bytes.fromhex("070001" * collections + spelled))
+                runs = {"check": ["check", layer], "check --tight": ["check", "--tight", layer], "scan": ["scan", layer, WINDOW]}
+                told = ", ".join(f"{name} {least([program, *words]) // 1024} KiB" for name, words in runs.items())
+                print(f"{point} inside {collections} collections: {told}")
         if shutil.which("gdb"):
-            audit, scan = places([program, *runs["scan"]], folder)
-            tight, _ = places([program, *runs["check --tight"]], folder)
-            for name, entered in (("audit", audit), ("tight audit", tight), ("scan", scan)):
+            quick, audit, scan = places([program, *runs["scan"]], folder)
+            _, tight, _ = places([program, *runs["check --tight"]], folder)
+            for name, entered in (("quick pass", quick), ("audit", audit), ("tight audit", tight), ("scan", scan)):
                 levels = {above - below for above, below in zip(entered, entered[1:])}
                 print(f"{name}: {len(entered)} geometries, each so many bytes below the one before it: {sorted(levels)}")
 

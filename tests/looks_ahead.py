@@ -1,0 +1,40 @@
+#!/usr/bin/env python3
+"""Where the code looks ahead: at bytes that a cursor counts only if they are passed. Only what the quick pass of an audit
+is made of may do so, since what a scan says of the bytes that it reads would else say less than it seems to."""
+import os
+import re
+import sys
+
+TOP = os.path.dirname(os.path.dirname(os.path.abspath(__file__)))
+# The calls that look ahead, and where each may stand.
+ALLOWED = {
+    ".ahead()": {"crates/twkb_body/src/quick.rt"},
+    ".word()": {"crates/twkb_head/src/flat.rt"},
+}
+
+
+def sources():
+    """The paths of the code of the crates, without tests."""
+    for folder, folders, names in os.walk(os.path.join(TOP, "crates")):
+        folders[:] = [name for name in folders if name not in ("out", "tests", "proofs", "specs")]
+        for name in sorted(names):
+            if name.endswith(".rt") and name != "tests.rt":
+                yield os.path.relpath(os.path.join(folder, name), TOP)
+
+
+def main():
+    found = {call: set() for call in ALLOWED}
+    for path in sources():
+        code = re.sub(r"//[^\n]*", "", open(os.path.join(TOP, path)).read())
+        for call in ALLOWED:
+            if call in code:
+                found[call].add(path)
+    wrong = [f"{call} stands in {', '.join(sorted(found[call]))}" for call in ALLOWED if found[call] != ALLOWED[call]]
+    for line in wrong:
+        print(line, file=sys.stderr)
+    print(f"{len(ALLOWED) - len(wrong)} passed, {len(wrong)} failed")
+    return 1 if wrong else 0
+
+
+if __name__ == "__main__":
+    sys.exit(main())
