@@ -1,6 +1,9 @@
 -- Ids that are read one after another.
-use Rattle.std.proofs.Common.{◌≡◌, ℕ, ◌+◌, ◌<◌, ◌≤◌, List, [], ◌∷◌, ◌++◌, length, take, drop, ℤ, pos, Ok, Err, refl, sym, ap, subst, ◌∙◌, append_assoc, arith, length-append}
+use Rattle.std.proofs.Common.{◌≡◌, ◌≢◌, ℕ, zero, suc, ◌+◌, ◌<◌, ◌≤◌, List, [], ◌∷◌, ◌++◌, length, take, drop, ℤ, pos, ◌≤ℤ◌, ◌<ℤ◌, All, AllPairs, Ok, Err, refl, sym, ap, subst, ◌∙◌, append_assoc, arith, length-append}
+use Rattle.std.proofs.lemmas.Int.{ints}
 use Rattle.std.proofs.lemmas.List.{take-append-drop, length-take}
+use Rattle.std.proofs.lemmas.List.Elements.{All-nil, All-cons, All-head, All-tail, All-append}
+use Rattle.std.proofs.lemmas.List.Kept.{AllPairs-cons}
 use Rattle.smallvec.specs.SmallVec.{SmallVec}
 use Rattle.twkb_num.specs.Cursor.{Reading, rest, IsSound}
 use Rattle.twkb_head.specs.declared.refusal.Malformed.{Malformed}
@@ -91,10 +94,10 @@ module _ (count : ℕ) (from : Reading) where
     pub front : List ℤ
     pub read : IsLoop (λ s z. s) (λ s. signed_at) count (signeds_at count from) front i (pos 0) r
 
-  pub pass_begins : IsPassLoop 0 from
+  abbrev pub pass_begins : IsPassLoop 0 from
   pass_begins = record { front = []; read = loop_begins (λ s z. s) (λ s. signed_at) count (signeds_at count from) (pos 0) from refl }
 
-  pub pass_goes_on : (i : ℕ) (r new : Reading) (id : ℤ) → i < count → signed_at r ≡ (Ok id, new) → IsPassLoop i r → IsPassLoop (i + 1) new
+  abbrev pub pass_goes_on : (i : ℕ) (r new : Reading) (id : ℤ) → i < count → signed_at r ≡ (Ok id, new) → IsPassLoop i r → IsPassLoop (i + 1) new
   pass_goes_on i r new id lt e l = record { front = l.front ++ id ∷ []; read = loop_goes_on (λ s z. s) (λ s. signed_at) count (signeds_at count from) l.front i (pos 0) r new id lt e l.read }
 
   pub pass_fails : (i : ℕ) (r new : Reading) (m : Malformed) → i < count → Fails (signed_at r) m new → IsPassLoop i r → Fails (signeds_at count from) m new
@@ -102,3 +105,42 @@ module _ (count : ℕ) (from : Reading) where
 
   pub pass_ends : (i : ℕ) (r : Reading) → i ≡ count → IsPassLoop i r → (ids : List ℤ) × (signeds_at count from ≡ (Ok ids, r)) × Unit {0}
   pass_ends i r end l = (l.front, loop_ends (λ s z. s) (λ s. signed_at) count (signeds_at count from) l.front i (pos 0) r (omega (arith, end)) l.read, tt)
+
+-- ---- ids that rise
+-- one more that differs from all
+pairs_more : (ids : List ℤ) (id : ℤ) → AllPairs (λ a b. a ≢ b) ids → All (λ a. a ≢ id) ids → AllPairs (λ a b. a ≢ b) (ids ++ id ∷ [])
+pairs_more [] id pairs differ = AllPairs-cons (λ a b. a ≢ b) id [] (All-nil (λ b. id ≢ b)) pairs
+pairs_more (a ∷ ids) id pairs differ =
+    AllPairs-cons (λ a b. a ≢ b) a (ids ++ id ∷ [])
+    (All-append (λ b. a ≢ b) ids (id ∷ []) (λ k d lt. pairs zero (suc k) d (omega arith) (omega arith)) (All-cons (λ b. a ≢ b) id [] (All-head (λ x. x ≢ id) a ids differ) (All-nil (λ b. a ≢ b))))
+    (pairs_more ids id (λ i j d lt within. pairs (suc i) (suc j) d (omega arith) (omega arith)) (All-tail (λ x. x ≢ id) a ids differ))
+
+-- what is at most the last is less than one that is greater, and differs from it
+below_next : (ids : List ℤ) (last id : ℤ) → last <ℤ id → All (λ a. a ≤ℤ last) ids → All (λ a. a ≤ℤ id) ids × All (λ a. a ≢ id) ids
+below_next ids last id lt below = (
+  (λ k d within. let low = below k d within in omega (arith, ints)),
+  (λ k d within same. let low = below k d within in omega (arith, ints, same)),
+)
+
+module _ (count : ℕ) (from : Reading) where
+  -- so many ids were read, which differ, and are at most the last
+  pub record IsRisingLoop (i : ℕ) (last : ℤ) (r : Reading) : Type 0 where
+    pub passed : IsPassLoop count from i r
+    pub differ : AllPairs (λ a b. a ≢ b) passed.front
+    pub below : All (λ a. a ≤ℤ last) passed.front
+
+  pub rising_begins : (last : ℤ) → IsRisingLoop 0 last from
+  rising_begins last = record { passed = pass_begins count from; differ = λ i j d lt within. absurd (omega arith); below = All-nil (λ a. a ≤ℤ last) }
+
+  pub rising_goes_on : (i : ℕ) (last id : ℤ) (r new : Reading) → i < count → last <ℤ id → signed_at r ≡ (Ok id, new) → IsRisingLoop i last r → IsRisingLoop (i + 1) id new
+  rising_goes_on i last id r new lt more e l =
+      let t = below_next l.passed.front last id more l.below in
+      record {
+        passed = pass_goes_on count from i r new id lt e l.passed;
+        differ = pairs_more l.passed.front id l.differ t.1;
+        below = All-append (λ a. a ≤ℤ id) l.passed.front (id ∷ []) t.0 (All-cons (λ a. a ≤ℤ id) id [] (omega (arith, ints)) (All-nil (λ a. a ≤ℤ id)));
+      }
+
+  pub rising_ends : (i : ℕ) (last : ℤ) (r : Reading) → i ≡ count → IsRisingLoop i last r → (ids : List ℤ) × (signeds_at count from ≡ (Ok ids, r)) × AllPairs (λ a b. a ≢ b) ids
+  rising_ends i last r end l =
+      (l.passed.front, loop_ends (λ s z. s) (λ s. signed_at) count (signeds_at count from) l.passed.front i (pos 0) r (omega (arith, end)) l.passed.read, l.differ)

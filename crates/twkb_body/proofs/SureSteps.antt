@@ -22,13 +22,13 @@ use Rattle.twkb_head.specs.Header.{Header, axes_of, axes_with, is_multi}
 use Rattle.twkb_head.specs.Plan.{fits}
 use Rattle.twkb_head.proofs.Steps.{read_signed, coordinate_ok}
 use Rattle.twkb_head.specs.Holds.{IsWithin, Holds}
-use Rattle.twkb_head.specs.Reader.{Answer, ◌>>=◌, viewed, many_at, number_at, coordinate_at}
+use Rattle.twkb_head.specs.Reader.{Answer, ◌>>=◌, viewed, many_at, coordinate_at}
 use Rattle.twkb_head.proofs.HeadBack.{head_value}
 use Rattle.twkb_body.specs.declared.frame.Frame.{Frame}
 use Rattle.twkb_body.specs.declared.inside.Inside.{Inside}
 use Rattle.twkb_body.specs.Boxed.{is_in_range, is_in_box, Held, held_with}
 use Rattle.twkb_body.specs.BodyPlan.{Body, ListHead, absolute, zeros, sums, ring_sums, parts_body, members_body, members_of}
-use Rattle.twkb_body.specs.BodyReader.{point_at, part_at, count_at, body_at, members_under}
+use Rattle.twkb_body.specs.BodyReader.{point_at, part_at, list_at, count_at, body_at, members_under}
 use Rattle.twkb_body.specs.Extent.{Reach, reach_of, both}
 use Rattle.twkb_body.specs.Found.{box_judged, size_judged}
 use Rattle.twkb_body.specs.Geometry.{PointValue, none, points_of, vertex_of, coordinate, vertices as vertices_of, member_vertices}
@@ -45,18 +45,10 @@ use Rattle.twkb_body.proofs.GeometrySteps.{body_gives, shape_body, body_of_head,
 use Rattle.twkb_body.proofs.MemberSteps.{members-push, IsMemberLoop, members_begin, members_go_on, members_end, collection_body, collection_gives, members_inside}
 use Rattle.twkb_body.proofs.Passes.{vertices_pushed}
 use Rattle.twkb_body.proofs.Judging.{box_decides}
-use Rattle.twkb_body.proofs.ListSteps.{list_without}
 use Rattle.twkb_body.proofs.Reaches.{reach_append}
 use Rattle.twkb_body.proofs.Scales.{times_le}
 use Rattle.twkb_body.proofs.ShapeSteps.{shape_of_parts}
 use Rattle.twkb_body.proofs.Sums.{points_absolute}
-
--- the count of a list without ids
-pub count_without : (multi ids : Bool) (r mid : Reading) (n : ℕ) → multi ≡ true → ids ≡ false → number_at r ≡ (Ok n, mid)
-    → (x : ListHead) × (count_at multi ids r ≡ (Ok x, mid)) × IsListFound r mid x (record { count = n; ids = None })
-count_without multi ids r mid n many absent counted =
-    let list = list_without r mid n counted ids absent in
-    (list.0, ap (λ (b : Bool). count_at b ids r) many ∙ list.1, list.2)
 
 -- ---- what a box of raw numbers holds, it holds in units
 within_units : (p : ℤ) (range : RawRange) (c : ℤ) → is_in_range range c ≡ true → IsWithin (raw_span p range) (units_of c p)
@@ -216,17 +208,17 @@ module _ (levels count : ℕ) (from : Reading) (frame : Option Frame) where
         (held_with_more frame (member_vertices (members_of l.loop.front)) (vertices_of sure.whole) l.held sure.held);
   }
 
-pub members_sure : (head : Head) (depth inner : ℕ) (old middle new : Reading) (frame : Option Frame) (count vertices i : ℕ) → deepest - depth ≡ suc inner → head.empty ≡ false → is_collection head.kind ≡ true → head.ids ≡ false
-    → number_at old ≡ (Ok count, middle) → i ≡ count → IsSureLoop inner count middle frame i vertices new → IsSureBody (deepest - depth) head frame old new vertices
+pub members_sure : (head : Head) (depth inner : ℕ) (old middle new : Reading) (frame : Option Frame) (list : ListHead) (count vertices i : ℕ) → deepest - depth ≡ suc inner → head.empty ≡ false → is_collection head.kind ≡ true
+    → list_at head.ids old ≡ (Ok list, middle) → IsListFound old middle list (record { count = count; ids = None }) → i ≡ count → IsSureLoop inner count middle frame i vertices new
+    → IsSureBody (deepest - depth) head frame old new vertices
 unfolding member_vertices
-members_sure head depth inner old middle new frame count vertices i under full many absent counted end l =
-    let list = list_without old middle count counted head.ids absent in
+members_sure head depth inner old middle new frame list count vertices i under full many listed found end l =
     let read = members_end false inner count middle false i (faultless vertices) unseen new end l.loop in
     record {
-      body = members_body list.0 (members_of l.loop.front);
-      read = collection_body (deepest - depth) inner (of_head head) old under full many ∙ collection_gives inner head.ids old middle list.0 list.1 count list.2.count l.loop.front new read;
-      inside = members_inside false (of_head head) None old middle new list.0 (record { count = count; ids = None }) inner count i (record { found = faultless vertices; boxed = None; ids = None }) unseen unseen unseen false
-          list.2 refl refl refl (record { asked = refl; extent = λ e. absurd (cc (e)) }) l.loop;
+      body = members_body list (members_of l.loop.front);
+      read = collection_body (deepest - depth) inner (of_head head) old under full many ∙ collection_gives inner head.ids old middle list listed count found.count l.loop.front new read;
+      inside = members_inside false (of_head head) None old middle new list (record { count = count; ids = None }) inner count i (record { found = faultless vertices; boxed = None; ids = None }) unseen unseen unseen false
+          found refl refl refl (record { asked = refl; extent = λ e. absurd (cc (e)) }) l.loop;
       held = l.held;
     }
 

@@ -1,14 +1,14 @@
 //! The quick pass: blobs of the common forms, which it certifies at sight. What it isn't sure of goes to the audit.
 //!
-//! It is sure of geometries of X and Y alone that have neither ids nor an empty one among them, where each box lies in
-//! that of the geometry above, at the same precision. Then a box holds all vertices below it if each box holds the points
+//! It is sure of geometries of X and Y alone, with no empty one among them, whose ids rise, and where each box lies in that
+//! of the geometry above, at the same precision. Then a box holds all vertices below it if each box holds the points
 //! of its own geometry, and no extent is handed up.
 ghost use Rattle.std.specs.Prelude.{◌≡◌, ◌-◌, ◌+◌, ◌≤◌, None, false, true, IfSome, IfNone, Ok};
 ghost use Rattle.twkb_num.specs.Units.{IsPrecision};
 ghost use Rattle.twkb_head.specs.BegunHeader.{deepest, is_collection, IsAllowedAt};
 ghost use Rattle.twkb_head.specs.Header.{is_multi};
 ghost use Rattle.twkb_body.specs.BodyPlan.{ListHead};
-ghost use Rattle.twkb_body.specs.BodyReader.{count_at};
+ghost use Rattle.twkb_body.specs.BodyReader.{count_at, list_at};
 ghost use Rattle.twkb_body.specs.IdLists.{IsListFound};
 ghost use Rattle.twkb_body.specs.Inside.{of_head};
 ghost use Rattle.twkb_body.specs.Sure.{AddsParts, IsSureBody, IsSure};
@@ -16,6 +16,7 @@ ghost use Rattle.twkb_body.specs.Sure.{AddsParts, IsSureBody, IsSure};
 use crate::boxed::Boxed;
 use crate::found::judge_size;
 use crate::frame::Frame;
+use crate::lists::take_rising;
 use crate::parts::take_parts;
 use crate::points::Points;
 use crate::trail::Trail;
@@ -82,9 +83,6 @@ fn take_sure(cursor: &mut Cursor, depth: u8, above: &Option<Frame>) -> Option<us
     let flat = read_flat_head(cursor, depth)?;
     // The proof knows from here that the place is within the bytes.
     let _body = cursor.place();
-    if flat.head.ids {
-        return None;
-    }
     let frame = Frame::under(above, flat.head.xy, flat.bounds)?;
     let vertices = take_sure_body(cursor, depth, &flat.head, &frame)?;
     let stop = cursor.place();
@@ -109,7 +107,6 @@ fn take_sure_body(
     requires z { head.now.z ≡ None }
     requires m { head.now.m ≡ None }
     requires full { head.now.empty ≡ false }
-    requires ids { head.now.ids ≡ false }
     requires frame { IfSome frame.now (λ f. f.xy ≡ head.now.xy) }
     ensures { IfSome result (IsSureBody (deepest - depth) head.now frame.now cursor.old cursor.new) }
 {
@@ -133,12 +130,9 @@ fn take_sure_members(
     requires below { depth + 1 ≤ deepest }
     requires full { head.now.empty ≡ false }
     requires kind { is_collection head.now.kind ≡ true }
-    requires ids { head.now.ids ≡ false }
     ensures { IfSome result (IsSureBody (deepest - depth) head.now frame.now cursor.old cursor.new) }
 {
-    let Ok(count) = take_number(cursor) else {
-        return None;
-    };
+    let count = take_sure_list(cursor, head.ids)?;
     let mut vertices = 0;
     for _ in 0..count {
         let member = take_sure(cursor, depth + 1, frame)?;
@@ -162,7 +156,6 @@ fn take_sure_shape(
     requires m { head.now.m ≡ None }
     requires full { head.now.empty ≡ false }
     requires kind { is_collection head.now.kind ≡ false }
-    requires ids { head.now.ids ≡ false }
     requires frame { IfSome frame.now (λ f. f.xy ≡ head.now.xy) }
     ensures { IfSome result (IsSureBody (deepest - depth) head.now frame.now cursor.old cursor.new) }
 {
@@ -188,10 +181,9 @@ fn take_flat_parts<P: Points>(cursor: &mut Cursor, head: &Head, points: &mut P) 
     requires xy { IsPrecision head.now.xy }
     requires z { head.now.z ≡ None }
     requires m { head.now.m ≡ None }
-    requires ids { head.now.ids ≡ false }
     ensures { IfSome result (AddsParts (P.step (of_head head.now)) head.now 2 cursor.old cursor.new (P.state points.old) (P.state points.new)) }
 {
-    let count = take_flat_count(cursor, head)?;
+    let count = take_sure_count(cursor, head)?;
     let mut trail = Trail::new();
     let Ok(()) = take_parts(cursor, head, 2, count, &mut trail, points) else {
         return None;
@@ -199,18 +191,32 @@ fn take_flat_parts<P: Points>(cursor: &mut Cursor, head: &Head, points: &mut P) 
     Some(trail.points)
 }
 
-/// How many parts there are: the count of a list without ids, or one.
+/// How many parts there are: one, or the count of a list whose ids rise, if it has ids.
 #[inline(always)]
-fn take_flat_count(cursor: &mut Cursor, head: &Head) -> Option<u64>
-    requires { head.now.ids ≡ false }
+fn take_sure_count(cursor: &mut Cursor, head: &Head) -> Option<u64>
     ensures { IfSome result (λ count. (list : ListHead) × (count_at (is_multi head.now.kind) head.now.ids cursor.old ≡ (Ok list, cursor.new))
         × IsListFound cursor.old cursor.new list (record { count = count; ids = None })) }
 {
-    if !head.kind.is_multi() {
-        return Some(1);
+    if head.kind.is_multi() {
+        take_sure_list(cursor, head.ids)
+    } else {
+        Some(1u64)
     }
-    match take_number(cursor) {
-        Ok(count) => Some(count),
-        Err(_) => None,
+}
+
+/// The count of a list, and its ids, where they are announced and rise.
+#[inline(always)]
+fn take_sure_list(cursor: &mut Cursor, has_ids: bool) -> Option<u64>
+    ensures { IfSome result (λ count. (list : ListHead) × (list_at has_ids cursor.old ≡ (Ok list, cursor.new))
+        × IsListFound cursor.old cursor.new list (record { count = count; ids = None })) }
+{
+    let Ok(count) = take_number(cursor) else {
+        return None;
+    };
+    // The proof knows from here that the place is within the bytes.
+    let _place = cursor.place();
+    if has_ids {
+        take_rising(cursor, count)?;
     }
+    Some(count)
 }

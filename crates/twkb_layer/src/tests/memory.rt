@@ -1,6 +1,6 @@
 //! Allocations that are refused, each in turn.
 use super::lists::LINE_AND_POINT;
-use super::worked::{EMPTY, MANY_IDS_ANNOUNCED, SEVENTEEN_IDS, TWO_BLOBS, flat};
+use super::worked::{EMPTY, FALLING_IDS, MANY_IDS_ANNOUNCED, TWO_BLOBS, flat};
 use super::{certified, window};
 use crate::{Certified, Cursor, Directory, Refusal, certify_in};
 use refusing::Refusing;
@@ -22,18 +22,19 @@ fn runs_out<A: Allocator>(rt: &impl Abort, memory: &A, bytes: &[u8]) -> bool {
     }
 }
 
+// A list of more than sixteen ids that don't rise.
 #[test]
 fn each_allocation_is_refused(rt: HostRuntime) {
     let mut refusals = 0u64;
     for call in 0..100u64 {
         let memory = Refusing::new(rt.alloc(), call);
-        let is_out = runs_out(&rt, &memory, &SEVENTEEN_IDS);
+        let is_out = runs_out(&rt, &memory, &FALLING_IDS);
         assert_eq!(rt; is_out, memory.has_refused());
         if !is_out {
             break;
         }
         // The allocator grants the next call, and a new cursor gives the answer.
-        assert!(rt; !runs_out(&rt, &memory, &SEVENTEEN_IDS));
+        assert!(rt; !runs_out(&rt, &memory, &FALLING_IDS));
         refusals = call + 1;
     }
     assert!(rt; 0 < refusals && refusals < 100, "{refusals}");

@@ -12,9 +12,15 @@ use std::alloc::{Allocator, Global};
 use std::process::Abort;
 use std::test::Fail;
 
-/// A multipoint of seventeen points, whose ids need memory.
+/// A multipoint of seventeen points, whose ids rise.
 const SEVENTEEN_IDS: &[u8] =
     b"\x04\x04\x11\x00\x02\x04\x06\x08\x0A\x0C\x0E\x10\x12\x14\x16\x18\x1A\x1C\x1E\x20\
+\x00\x00\x00\x00\x00\x00\x00\x00\x00\x00\x00\x00\x00\x00\x00\x00\x00\
+\x00\x00\x00\x00\x00\x00\x00\x00\x00\x00\x00\x00\x00\x00\x00\x00\x00";
+
+/// The same, and the last id is the least, so that it takes memory to see that they differ.
+const FALLING_IDS: &[u8] =
+    b"\x04\x04\x11\x00\x02\x04\x06\x08\x0A\x0C\x0E\x10\x12\x14\x16\x18\x1A\x1C\x1E\x01\
 \x00\x00\x00\x00\x00\x00\x00\x00\x00\x00\x00\x00\x00\x00\x00\x00\x00\
 \x00\x00\x00\x00\x00\x00\x00\x00\x00\x00\x00\x00\x00\x00\x00\x00\x00";
 
@@ -75,9 +81,11 @@ fn refusals(
 #[test]
 fn each_allocation_of_a_check_is_refused(rt: HostRuntime) -> Result<(), Fail> {
     let text = "ok blobs=1 vertices=17\n";
-    let count = refusals(&rt, rt.alloc(), SEVENTEEN_IDS, &Request::Check, text)?;
-    // At least those for the bytes, the ids and the text.
-    assert!(rt; 3 <= count, "{count}");
+    // At least those for the bytes and the text, and for ids that fall.
+    for (bytes, least) in [(SEVENTEEN_IDS, 2), (FALLING_IDS, 3)] {
+        let count = refusals(&rt, rt.alloc(), bytes, &Request::Check, text)?;
+        assert!(rt; least <= count, "{count}");
+    }
     Ok(())
 }
 

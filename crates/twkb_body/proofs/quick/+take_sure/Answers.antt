@@ -26,5 +26,6 @@ take_sure_members-loop-preserved t c = sure_goes_on _ _ _ _ c.loop.counter c.loo
 pub take_sure_members-returns : goal.take_sure_members-returns
 take_sure_members-returns t c =
     let under : deepest - c.args.depth ≡ suc (deepest - (c.args.depth + 1)) = omega (arith, c.requires.below) in
-    members_sure c.args.head.now c.args.depth (deepest - (c.args.depth + 1)) c.args.cursor.now c.take_number.new.cursor c.loop.cursor c.args.frame.now c.in-Ok.count c.loop.vertices c.loop.counter under
-    c.requires.full c.requires.kind c.requires.ids c.in-Ok.ensures (omega arith) c.loop.invariant
+    let list = c.in_ok-count.ensures in
+    members_sure c.args.head.now c.args.depth (deepest - (c.args.depth + 1)) c.args.cursor.now c.take_sure_list.new.cursor c.loop.cursor c.args.frame.now list.0 c.in_ok-count.count c.loop.vertices c.loop.counter under
+    c.requires.full c.requires.kind list.1 list.2 (omega arith) c.loop.invariant
