@@ -24,7 +24,7 @@ sums_are s [] = refl
 sums_are s (p ∷ ps) = sums_are (add s p) ps
 
 -- the values of an answer, if any
-values_of : {A : Type 0} → Answer (List A) → List A
+abbrev pub values_of : {A : Type 0} → Answer (List A) → List A
 values_of (Ok xs, r) = xs
 values_of (Err m, r) = []
 
@@ -35,7 +35,6 @@ module _ {A S : Type 0} (after : S → A → S) (read : S → Reader A) (count :
       → IsLoop after read count total (front ++ xs) (i + k) (afters after s xs) new
 
   far_none : Far 0
-  unfolding values_of
   far_none front i s r new xs le e l =
       let none : [] ≡ xs = ap values_of e in
       let same : r ≡ new = ap (λ (a : Answer (List A)). a.1) e in
@@ -45,7 +44,6 @@ module _ {A S : Type 0} (after : S → A → S) (read : S → Reader A) (count :
       (subst (λ (zs : List A). IsLoop after read count total (front ++ zs) (i + 0) (afters after s zs) r) none start)
 
   far_more : (k : ℕ) → Far k → Far (suc k)
-  unfolding values_of
   far_more k far front i s r new xs le e l = go (read s r) refl e
     where
       others : (x : A) (mid : Reading) → read s r ≡ (Ok x, mid) → (b : Answer (List A)) → many_at k after read (after s x) mid ≡ b → viewed (λ ys. x ∷ ys) b ≡ (Ok xs, new)

@@ -7,12 +7,14 @@ ghost use Rattle.std.specs.Prelude.{◌≡◌, ◌-◌, ◌+◌, ◌≤◌, None
 ghost use Rattle.twkb_num.specs.Units.{IsPrecision};
 ghost use Rattle.twkb_head.specs.BegunHeader.{deepest, is_collection, IsAllowedAt};
 ghost use Rattle.twkb_head.specs.Header.{is_multi};
+ghost use Rattle.twkb_body.specs.Bare.{unchanged};
 ghost use Rattle.twkb_body.specs.BodyPlan.{ListHead};
 ghost use Rattle.twkb_body.specs.BodyReader.{count_at, list_at};
 ghost use Rattle.twkb_body.specs.IdLists.{IsListFound};
 ghost use Rattle.twkb_body.specs.Inside.{of_head};
 ghost use Rattle.twkb_body.specs.Sure.{AddsParts, IsSureBody, IsSure};
 
+use crate::bare::pass_parts;
 use crate::boxed::Boxed;
 use crate::found::judge_size;
 use crate::frame::Frame;
@@ -169,10 +171,49 @@ fn take_sure_shape(
             Some(vertices)
         }
         None => {
-            let vertices = take_flat_parts(cursor, head, &mut Unboxed)?;
+            let vertices = take_unboxed(cursor, head)?;
             Some(vertices)
         }
     }
+}
+
+/// A body that no box asks for, by the ends of its numbers, or with its sums.
+#[inline(always)]
+fn take_unboxed(cursor: &mut Cursor, head: &Head) -> Option<usize>
+    requires xy { IsPrecision head.now.xy }
+    requires z { head.now.z ≡ None }
+    requires m { head.now.m ≡ None }
+    ensures { IfSome result (AddsParts unchanged head.now 2 cursor.old cursor.new tt tt) }
+{
+    let mut ahead = cursor.ahead();
+    match pass_bare_parts(&mut ahead, head) {
+        Some(vertices) => {
+            *cursor = ahead;
+            Some(vertices)
+        }
+        None => take_summed_parts(cursor, head),
+    }
+}
+
+/// The parts of a body, by the ends of their numbers.
+#[inline(always)]
+fn pass_bare_parts(cursor: &mut Cursor, head: &Head) -> Option<usize>
+    ensures { IfSome result (AddsParts unchanged head.now 2 cursor.old cursor.new tt tt) }
+{
+    let count = take_sure_count(cursor, head)?;
+    let points = pass_parts(cursor, head.kind, 2, count)?;
+    Some(points as usize)
+}
+
+/// The parts of a body with so many points, or such long numbers, that a sum might leave 64 bits.
+#[inline(never)]
+fn take_summed_parts(cursor: &mut Cursor, head: &Head) -> Option<usize>
+    requires xy { IsPrecision head.now.xy }
+    requires z { head.now.z ≡ None }
+    requires m { head.now.m ≡ None }
+    ensures { IfSome result (AddsParts unchanged head.now 2 cursor.old cursor.new tt tt) }
+{
+    take_flat_parts(cursor, head, &mut Unboxed)
 }
 
 /// The parts of a body of X and Y alone.

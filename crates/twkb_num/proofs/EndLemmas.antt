@@ -8,7 +8,7 @@ use Rattle.std.proofs.lemmas.Bool.{cases_lt}
 use Rattle.std.proofs.lemmas.List.{get_or-take}
 use Rattle.twkb_num.specs.Varint.{sum_of_groups, Spells}
 use Rattle.twkb_num.proofs.VarintLemmas.{sum_of_groups-fits, Spells-take}
-use Rattle.twkb_num.specs.Ends.{IsFirstEnd}
+use Rattle.twkb_num.specs.Ends.{IsFirstEnd, ended, four_bytes, eight_bytes}
 
 -- the lowest 1 of a number
 lowest_at : (n m k : ℕ) → n < 2 ^ 64 → n ≡ m * 2 ^ (k + 1) + 2 ^ k → trailing_zeros w64 n ≡ k
@@ -40,40 +40,26 @@ tops_4 : (a b c d : ℕ) → a < 256 → b < 256 → c < 256 → d < 256
 tops_4 a b c d in_a in_b in_c in_d =
     omega (arith, and_block 16 (d * 256 + c) 0x8080 (b * 256 + a) 0x8080 (omega arith) (omega arith), tops_2 a b in_a in_b, tops_2 c d in_c in_d)
 
--- eight numbers as one, each in a byte
-abbrev packed : (ℕ → ℕ) → ℕ → ℕ
-packed f i = (f (i + 3) * 256 + f (i + 2)) * 65536 + (f (i + 1) * 256 + f i)
-
--- whether a byte ends a varint, as a number
-abbrev ended : List ℕ → ℕ → ℕ
-ended bs k = (255 - slice_index bs k) / 128
-
--- the tops of four bytes, each turned round
-tops_four : (bs : List ℕ) (i : ℕ) → bit_and (packed (λ k. 255 - slice_index bs k) i) 0x80808080 ≡ packed (λ k. ended bs k * 128) i
-tops_four bs i = tops_4 (255 - slice_index bs i) (255 - slice_index bs (i + 1)) (255 - slice_index bs (i + 2)) (255 - slice_index bs (i + 3)) (omega arith) (omega arith) (omega arith) (omega arith)
+-- the tops of eight bytes
+pub tops_eight : (f : ℕ → ℕ) → ((k : ℕ) → k < 8 → f k < 256) → bit_and (eight_bytes f) 0x8080808080808080 ≡ eight_bytes (λ k. f k / 128 * 128)
+tops_eight f fit =
+    let halves : bit_and (four_bytes f 4 * 4294967296 + four_bytes f 0) 0x8080808080808080 ≡ bit_and (four_bytes f 4) 0x80808080 * 4294967296 + bit_and (four_bytes f 0) 0x80808080 =
+    and_block 32 (four_bytes f 4) 0x80808080 (four_bytes f 0) 0x80808080 (omega (arith, fit 0 (omega arith), fit 1 (omega arith), fit 2 (omega arith), fit 3 (omega arith))) (omega arith) in
+    halves ∙ ap₂ (λ x y. x * 4294967296 + y) (tops_4 (f 4) (f 5) (f 6) (f 7) (fit 4 (omega arith)) (fit 5 (omega arith)) (fit 6 (omega arith)) (fit 7 (omega arith))) (tops_4 (f 0) (f 1) (f 2) (f 3) (fit 0 (omega arith)) (fit 1 (omega arith)) (fit 2 (omega arith)) (fit 3 (omega arith)))
 
 -- a word of bytes turned round is one of the bytes turned round
-turned_by : (b c : ℕ → ℕ) (word : ℕ) → ((k : ℕ) → b k + c k ≡ 255) → word ≡ packed b 4 * 4294967296 + packed b 0
-    → 2 ^ 64 - 1 - word ≡ packed c 4 * 4294967296 + packed c 0
+turned_by : (b c : ℕ → ℕ) (word : ℕ) → ((k : ℕ) → b k + c k ≡ 255) → word ≡ eight_bytes b → 2 ^ 64 - 1 - word ≡ eight_bytes c
 turned_by b c word both e =
-    let sum : word + (packed c 4 * 4294967296 + packed c 0) ≡ 18446744073709551615 = omega (arith, e, both 0, both 1, both 2, both 3, both 4, both 5, both 6, both 7) in
+    let sum : word + eight_bytes c ≡ 18446744073709551615 = omega (arith, e, both 0, both 1, both 2, both 3, both 4, both 5, both 6, both 7) in
     omega (arith, sum)
 
-turned : (bs : List ℕ) (word : ℕ) → ((k : ℕ) → slice_index bs k < 256) → word ≡ from_le_bytes w64 bs
-    → 2 ^ 64 - 1 - word ≡ packed (λ k. 255 - slice_index bs k) 4 * 4294967296 + packed (λ k. 255 - slice_index bs k) 0
+turned : (bs : List ℕ) (word : ℕ) → ((k : ℕ) → slice_index bs k < 256) → word ≡ from_le_bytes w64 bs → 2 ^ 64 - 1 - word ≡ eight_bytes (λ k. 255 - slice_index bs k)
 turned bs word fit e = turned_by (slice_index bs) (λ k. 255 - slice_index bs k) word (λ k. omega (arith, fit k)) (omega (arith, e))
 
 -- so its tops are those of the bytes that end
-ends_are : (bs : List ℕ) (word : ℕ) → ((k : ℕ) → slice_index bs k < 256) → word ≡ from_le_bytes w64 bs
-    → bit_and (2 ^ 64 - 1 - word) 0x8080808080808080 ≡ packed (λ k. ended bs k * 128) 4 * 4294967296 + packed (λ k. ended bs k * 128) 0
+pub ends_are : (bs : List ℕ) (word : ℕ) → ((k : ℕ) → slice_index bs k < 256) → word ≡ from_le_bytes w64 bs → bit_and (2 ^ 64 - 1 - word) 0x8080808080808080 ≡ eight_bytes (λ k. ended bs k * 128)
 ends_are bs word fit e =
-    let high : ℕ = packed (λ k. 255 - slice_index bs k) 4 in
-    let low : ℕ = packed (λ k. 255 - slice_index bs k) 0 in
-    let high_tops : bit_and high 0x80808080 ≡ packed (λ k. ended bs k * 128) 4 = tops_four bs 4 in
-    let low_tops : bit_and low 0x80808080 ≡ packed (λ k. ended bs k * 128) 0 = tops_four bs 0 in
-    let halves : bit_and (high * 4294967296 + low) 0x8080808080808080 ≡ bit_and high 0x80808080 * 4294967296 + bit_and low 0x80808080 =
-    and_block 32 high 0x80808080 low 0x80808080 (omega arith) (omega arith) in
-    ap (λ x. bit_and x 0x8080808080808080) (turned bs word fit e) ∙ halves ∙ ap₂ (λ x y. x * 4294967296 + y) high_tops low_tops
+    ap (λ x. bit_and x 0x8080808080808080) (turned bs word fit e) ∙ tops_eight (λ k. 255 - slice_index bs k) (λ k h. omega arith)
 
 -- a byte goes on where it isn't ended
 is_end : (b : ℕ) → (255 - b) / 128 ≡ 1 → b < 128
@@ -99,65 +85,65 @@ zero_or_one (suc zero) h = inr refl
 zero_or_one (suc (suc n)) h = absurd (omega (arith, h))
 
 -- the lowest 1 of eight bytes that are each nothing or the top bit
-module _ (f : ℕ → ℕ) (n : ℕ) (bound : (k : ℕ) → f k ≤ 1) (is : n ≡ packed (λ k. f k * 128) 4 * 4294967296 + packed (λ k. f k * 128) 0) where
-  abbrev IsLowest : Type 0
+module _ (f : ℕ → ℕ) (n : ℕ) (bound : (k : ℕ) → k < 8 → f k ≤ 1) (is : n ≡ eight_bytes (λ k. f k * 128)) where
+  abbrev pub IsLowest : Type 0
   IsLowest = (i : ℕ) × (i < 8) × (trailing_zeros w64 n ≡ 8 * i + 7) × ((k : ℕ) → k < i → f k ≡ 0) × (f i ≡ 1)
 
   fits : n < 2 ^ 64
-  fits = omega (arith, is, bound 0, bound 1, bound 2, bound 3, bound 4, bound 5, bound 6, bound 7)
+  fits = omega (arith, is, bound 0 (omega arith), bound 1 (omega arith), bound 2 (omega arith), bound 3 (omega arith), bound 4 (omega arith), bound 5 (omega arith), bound 6 (omega arith), bound 7 (omega arith))
 
   lowest_7 : ((n ≡ 0) → ⊥) → ((k : ℕ) → k < 7 → f k ≡ 0) → IsLowest
   lowest_7 some on =
-      elim (zero_or_one (f 7) (bound 7)) [
+      elim (zero_or_one (f 7) (bound 7 (omega arith))) [
         | inl z ↦ absurd (some (omega (arith, is, z, on 0 (omega arith), on 1 (omega arith), on 2 (omega arith), on 3 (omega arith), on 4 (omega arith), on 5 (omega arith), on 6 (omega arith))))
         | inr o ↦ (7, omega arith, lowest_at n 0 63 fits (omega (arith, is, o, on 0 (omega arith), on 1 (omega arith), on 2 (omega arith), on 3 (omega arith), on 4 (omega arith), on 5 (omega arith), on 6 (omega arith))), on, o)
       ]
 
   lowest_6 : ((n ≡ 0) → ⊥) → ((k : ℕ) → k < 6 → f k ≡ 0) → IsLowest
   lowest_6 some on =
-      elim (zero_or_one (f 6) (bound 6)) [
+      elim (zero_or_one (f 6) (bound 6 (omega arith))) [
         | inl z ↦ lowest_7 some (more f 6 on z)
         | inr o ↦ (6, omega arith, lowest_at n (n / 2 ^ 56) 55 fits (omega (arith, is, o, on 0 (omega arith), on 1 (omega arith), on 2 (omega arith), on 3 (omega arith), on 4 (omega arith), on 5 (omega arith))), on, o)
       ]
 
   lowest_5 : ((n ≡ 0) → ⊥) → ((k : ℕ) → k < 5 → f k ≡ 0) → IsLowest
   lowest_5 some on =
-      elim (zero_or_one (f 5) (bound 5)) [
+      elim (zero_or_one (f 5) (bound 5 (omega arith))) [
         | inl z ↦ lowest_6 some (more f 5 on z)
         | inr o ↦ (5, omega arith, lowest_at n (n / 2 ^ 48) 47 fits (omega (arith, is, o, on 0 (omega arith), on 1 (omega arith), on 2 (omega arith), on 3 (omega arith), on 4 (omega arith))), on, o)
       ]
 
   lowest_4 : ((n ≡ 0) → ⊥) → ((k : ℕ) → k < 4 → f k ≡ 0) → IsLowest
   lowest_4 some on =
-      elim (zero_or_one (f 4) (bound 4)) [
+      elim (zero_or_one (f 4) (bound 4 (omega arith))) [
         | inl z ↦ lowest_5 some (more f 4 on z)
         | inr o ↦ (4, omega arith, lowest_at n (n / 2 ^ 40) 39 fits (omega (arith, is, o, on 0 (omega arith), on 1 (omega arith), on 2 (omega arith), on 3 (omega arith))), on, o)
       ]
 
   lowest_3 : ((n ≡ 0) → ⊥) → ((k : ℕ) → k < 3 → f k ≡ 0) → IsLowest
   lowest_3 some on =
-      elim (zero_or_one (f 3) (bound 3)) [
+      elim (zero_or_one (f 3) (bound 3 (omega arith))) [
         | inl z ↦ lowest_4 some (more f 3 on z)
         | inr o ↦ (3, omega arith, lowest_at n (n / 2 ^ 32) 31 fits (omega (arith, is, o, on 0 (omega arith), on 1 (omega arith), on 2 (omega arith))), on, o)
       ]
 
   lowest_2 : ((n ≡ 0) → ⊥) → ((k : ℕ) → k < 2 → f k ≡ 0) → IsLowest
   lowest_2 some on =
-      elim (zero_or_one (f 2) (bound 2)) [
+      elim (zero_or_one (f 2) (bound 2 (omega arith))) [
         | inl z ↦ lowest_3 some (more f 2 on z)
         | inr o ↦ (2, omega arith, lowest_at n (n / 2 ^ 24) 23 fits (omega (arith, is, o, on 0 (omega arith), on 1 (omega arith))), on, o)
       ]
 
   lowest_1 : ((n ≡ 0) → ⊥) → ((k : ℕ) → k < 1 → f k ≡ 0) → IsLowest
   lowest_1 some on =
-      elim (zero_or_one (f 1) (bound 1)) [
+      elim (zero_or_one (f 1) (bound 1 (omega arith))) [
         | inl z ↦ lowest_2 some (more f 1 on z)
         | inr o ↦ (1, omega arith, lowest_at n (n / 2 ^ 16) 15 fits (omega (arith, is, o, on 0 (omega arith))), on, o)
       ]
 
-  lowest_0 : ((n ≡ 0) → ⊥) → ((k : ℕ) → k < 0 → f k ≡ 0) → IsLowest
+  pub lowest_0 : ((n ≡ 0) → ⊥) → ((k : ℕ) → k < 0 → f k ≡ 0) → IsLowest
   lowest_0 some on =
-      elim (zero_or_one (f 0) (bound 0)) [
+      elim (zero_or_one (f 0) (bound 0 (omega arith))) [
         | inl z ↦ lowest_1 some (more f 0 on z)
         | inr o ↦ (0, omega arith, lowest_at n (n / 2 ^ 8) 7 fits (omega (arith, is, o)), on, o)
       ]
@@ -178,7 +164,7 @@ module _ (bs : List ℕ) (word : ℕ) (len : length bs ≡ 8) (fit : (k : ℕ) �
   pub end_found : ((bit_and (2 ^ 64 - 1 - word) 0x8080808080808080 ≡ 0) → ⊥) → IsFirstEnd bs (trailing_zeros w64 (bit_and (2 ^ 64 - 1 - word) 0x8080808080808080) / 8 + 1)
   end_found some =
       let n : ℕ = bit_and (2 ^ 64 - 1 - word) 0x8080808080808080 in
-      let (i, few, at, on, end) = lowest_0 (ended bs) n (λ k. at_most_one (slice_index bs k)) (ends_are bs word fit e) some (λ k h. absurd (omega (arith, h))) in
+      let (i, few, at, on, end) = lowest_0 (ended bs) n (λ k h. at_most_one (slice_index bs k)) (ends_are bs word fit e) some (λ k h. absurd (omega (arith, h))) in
       let many : trailing_zeros w64 n / 8 + 1 ≡ i + 1 = omega (arith, at) in
       rw many record {
         some = omega arith;
@@ -190,7 +176,7 @@ module _ (bs : List ℕ) (word : ℕ) (len : length bs ≡ 8) (fit : (k : ℕ) �
 
   pub no_end : bit_and (2 ^ 64 - 1 - word) 0x8080808080808080 ≡ 0 → (k : ℕ) → k < 8 → 128 ≤ slice_index bs k
   no_end none k h =
-      is_ended (slice_index bs k) (all_zero (ended bs) (bit_and (2 ^ 64 - 1 - word) 0x8080808080808080) (λ k. at_most_one (slice_index bs k)) (ends_are bs word fit e) none k h)
+      is_ended (slice_index bs k) (all_zero (ended bs) (bit_and (2 ^ 64 - 1 - word) 0x8080808080808080) (λ k h. at_most_one (slice_index bs k)) (ends_are bs word fit e) none k h)
 
 -- the first end in a chunk of bytes is theirs
 pub end_in_chunk : (bytes chunk : List ℕ) → chunk ≡ take 8 bytes → 8 ≤ length bytes → (end : Option ℕ) → IfSome end (IsFirstEnd chunk) → IfSome end (IsFirstEnd bytes)

@@ -65,6 +65,11 @@ pub record SpellsTwo (bytes : List ℕ) (n m : ℕ) : Type 0 where
 abbrev pub SpellsTwoSigned : List ℕ → ℤ → ℤ → Type 0
 SpellsTwoSigned bytes x y = (n m : ℕ) × SpellsTwo bytes n m × (zigzag_value n ≡ x) × (zigzag_value m ≡ y)
 
+-- the bytes spell these numbers, one behind another
+abbrev pub SpellsAll : List ℕ → List ℕ → Type 0
+SpellsAll bytes [] = bytes ≡ []
+SpellsAll bytes (n ∷ ns) = (front behind : List ℕ) × (bytes ≡ front ++ behind) × Spells front n × SpellsAll behind ns
+
 -- a signed number that four bytes can spell
 abbrev pub IsShort : ℤ → Type 0
 IsShort z = (neg_ℤ (pos (2 ^ 27)) ≤ℤ z) × (z <ℤ pos (2 ^ 27))

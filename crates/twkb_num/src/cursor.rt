@@ -1,11 +1,11 @@
 //! A cursor over bytes, which counts what it reads.
 ghost use Rattle.std.specs.Prelude.{◌≡◌, ◌+◌, ◌≤◌, ◌↔◌, ℕ, ℤ, List, [], ◌∷◌, ◌++◌, length, take, IsNone, IfOk, IfErr, IfSome, IfNone, OnOk, OnSome};
 ghost use Rattle.twkb_num.specs.Cursor.{rest, passed, counted, IsMoved, IsSound};
-ghost use Rattle.twkb_num.specs.Ends.{IsFirstEnd};
+ghost use Rattle.twkb_num.specs.Ends.{IsFirstEnd, SpellsMany};
 ghost use Rattle.twkb_num.specs.declared.varint.NumFault.TheVariants.{Cut};
 ghost use Rattle.twkb_num.specs.Varint.{Spells, SpellsSigned, SpellsTwoSigned, IsShort, Faults, IsCut, IsBegunBy, looked_at};
 
-use crate::ends::first_end;
+use crate::ends::{first_end, length_of};
 use crate::signed::unzigzag;
 use crate::varint::{NumFault, decode};
 use crate::word::next_pair;
@@ -17,7 +17,7 @@ use std::marker::Model;
 /// are passed: [`Cursor::word`], and [`Cursor::ahead`], whose cursor may also be dropped. `None` of a call by words promises no
 /// more than that nothing was read.
 /// A contract sees it as a `Reading`. Each call takes constant time and space: a varint has at most ten bytes.
-/// Numbers may be read or passed by words of eight bytes ([`Cursor::svarint_pair`], [`Cursor::pass_varint`]). Then up to
+/// Numbers may be read or passed by words of eight bytes ([`Cursor::svarint_pair`], [`Cursor::pass_varint`], [`Cursor::pass_varints`]). Then up to
 /// seven bytes behind them are touched too, as a cache line is, and the count is of the bytes that the numbers take.
 #[derive(Drop)]
 pub struct Cursor<'a> {
@@ -252,6 +252,20 @@ impl<'a> Cursor<'a> {
     {
         let len = self.short_length()?;
         self.place += len;
+        Some(())
+    }
+
+    /// Past so many varints, without asking for their numbers. Their ends are counted in words of eight bytes; where fewer are
+    /// left, or half a word has no end, as with varints of five bytes, `None`, and the cursor is as it was. The first varint may
+    /// take seven bytes.
+    #[inline(always)]
+    pub fn pass_varints(&mut self, many: u64) -> Option<()>
+        ensures some { OnSome result (SpellsMany (passed self.old self.new) many) }
+        ensures moved { OnSome result (IsMoved self.old self.new) }
+        ensures none { IfNone result (self.new ≡ self.old) }
+    {
+        let size = length_of(&self.bytes[self.place..], many)?;
+        self.place += size;
         Some(())
     }
 

@@ -1,9 +1,17 @@
-//! Where a varint ends, found in one word of eight bytes.
-ghost use Rattle.std.specs.Prelude.{◌≤◌, ◌<◌, ℕ, slice_index, IfSome, IfNone};
-ghost use Rattle.twkb_num.specs.Ends.{IsFirstEnd};
+//! Where varints end, found in words of eight bytes.
+ghost use Rattle.std.specs.Prelude.{◌≡◌, ◌↔◌, ◌+◌, ◌*◌, ◌-◌, ◌≤◌, ◌<◌, ◌^◌, ℕ, slice_index, IsTrue, IfSome, IfNone};
+ghost use Rattle.twkb_num.specs.Ends.{IsFirstEnd, ended, ends_to, eight_bytes, IsEnd, IsFrontOf};
 
 /// The top bit of each byte of a word, which is set where a varint goes on.
 const TOPS: u64 = 0x8080_8080_8080_8080;
+
+/// One in each byte of a word.
+const ONES: u64 = 0x0101_0101_0101_0101;
+
+/// The first seven bytes of a word, and the first four.
+const SEVEN: u64 = 0x00ff_ffff_ffff_ffff;
+
+const FOUR: u64 = 0xffff_ffff;
 
 /// How many of the eight bytes the varint at their front takes. `None`: none of them ends it.
 #[inline(always)]
@@ -17,4 +25,85 @@ pub fn first_end(bytes: &[u8; 8]) -> Option<usize>
         return None;
     }
     Some((ends.trailing_zeros() / 8) as usize + 1)
+}
+
+/// How many bytes the first so many varints take, where words of eight bytes tell: there is an end in each half of a word, or
+/// in seven bytes of the first. So each takes seven at most. Nothing waits for the length of a varint: ends are counted.
+#[inline(always)]
+pub fn length_of(bytes: &[u8], many: u64) -> Option<usize>
+    ensures { IfSome result (IsFrontOf bytes.now many) }
+{
+    let mut left = many;
+    let mut done = 0;
+    // Of the varint that goes on from the word before at most three bytes are passed.
+    let mut low = SEVEN;
+    while 0 < left {
+        let word = bytes[done..].first_chunk::<8>()?;
+        if !has_end_below(word, low) {
+            return None;
+        }
+        let here = count_of_ends(word);
+        if left <= here {
+            return Some(done + end_of(word, left));
+        }
+        if !has_high_end(word) {
+            return None;
+        }
+        left -= here;
+        done += 8;
+        low = FOUR;
+    }
+    Some(0)
+}
+
+/// The tops of the bytes that end a varint.
+#[inline(always)]
+fn tops_of_ends(bytes: &[u8; 8]) -> u64
+    ensures { result ≡ eight_bytes (λ k. ended bytes.now k * 128) }
+{
+    !u64::from_le_bytes(*bytes) & TOPS
+}
+
+/// In each byte, how many of those up to there end a varint.
+#[inline(always)]
+fn counts_of_ends(bytes: &[u8; 8]) -> u64
+    ensures { result ≡ eight_bytes (λ k. ends_to bytes.now (k + 1)) }
+{
+    (tops_of_ends(bytes) >> 7).wrapping_mul(ONES)
+}
+
+/// How many of the eight bytes end a varint.
+#[inline(always)]
+fn count_of_ends(bytes: &[u8; 8]) -> u64
+    ensures { result ≡ ends_to bytes.now 8 }
+{
+    counts_of_ends(bytes) >> 56
+}
+
+/// Whether a varint ends in the bytes that a mask has.
+#[inline(always)]
+fn has_end_below(bytes: &[u8; 8], low: u64) -> bool
+    ensures seven { low ≡ 2 ^ 56 - 1 → IsTrue result ↔ 1 ≤ ends_to bytes.now 7 }
+    ensures four { low ≡ 2 ^ 32 - 1 → IsTrue result ↔ 1 ≤ ends_to bytes.now 4 }
+{
+    tops_of_ends(bytes) & low != 0
+}
+
+/// Whether a varint ends in the last four bytes.
+#[inline(always)]
+fn has_high_end(bytes: &[u8; 8]) -> bool
+    ensures { IsTrue result ↔ ends_to bytes.now 4 < ends_to bytes.now 8 }
+{
+    tops_of_ends(bytes) >> 32 != 0
+}
+
+/// How many bytes there are up to the n-th end.
+#[inline(always)]
+fn end_of(bytes: &[u8; 8], n: u64) -> usize
+    requires some { 1 ≤ n }
+    requires there { n ≤ ends_to bytes.now 8 }
+    ensures { IsEnd bytes.now n result }
+{
+    let reached = (counts_of_ends(bytes) + TOPS - n * ONES) & TOPS;
+    (reached.trailing_zeros() / 8) as usize + 1
 }

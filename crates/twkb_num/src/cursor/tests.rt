@@ -1,5 +1,6 @@
 use super::*;
 use std::process::Abort;
+use std::test::Fail;
 
 #[test]
 fn bytes_come_in_order(rt: HostRuntime) {
@@ -152,6 +153,84 @@ fn varints_are_passed_up_to_their_ends(rt: HostRuntime) {
     assert_eq!(rt; cursor.pass_varint(), None);
     assert_eq!(rt; cursor.place(), 12);
     assert_eq!(rt; cursor.read_count(), 12);
+}
+
+// A varint of one to seven bytes, eight of one to four in many orders, and bytes behind them.
+#[test]
+fn many_varints_are_passed_as_they_are_read(rt: HostRuntime) -> Result<(), Fail> {
+    for first in 0..7 {
+        for step in 0..16 {
+            let mut bytes = Vec::new(rt.alloc());
+            for _ in 0..first {
+                bytes.push(0x81)?;
+            }
+            bytes.push(0x01)?;
+            for i in 0..8 {
+                for _ in 0..i * step / 4 % 4 {
+                    bytes.push(0x81)?;
+                }
+                bytes.push(0x01)?;
+            }
+            bytes.extend_from_slice(&[0x01; 8])?;
+            for many in 0..=9 {
+                passes_many_as_it_reads(&rt, &bytes, many);
+            }
+        }
+    }
+    Ok(())
+}
+
+fn passes_many_as_it_reads(rt: &impl Abort, bytes: &[u8], many: u64) {
+    let mut reads = Cursor::new(bytes);
+    for _ in 0..many {
+        assert!(rt; reads.uvarint().is_ok());
+    }
+    let mut passes = Cursor::new(bytes);
+    assert_eq!(rt; passes.pass_varints(many), Some(()));
+    assert_eq!(rt; passes.place(), reads.place());
+    assert_eq!(rt; passes.read_count(), reads.read_count());
+}
+
+// The fourth takes more and more bytes, in the first word and the second: all four of a half word go on.
+#[test]
+fn no_varint_goes_on_through_half_a_word(rt: HostRuntime) {
+    for length in [3, 4, 9, 10] {
+        let mut bytes = [0x01; 24];
+        for byte in bytes.iter_mut().skip(3).take(length - 1) {
+            *byte = 0x81;
+        }
+        for many in 0..6u64 {
+            if length <= 4 {
+                passes_many_as_it_reads(&rt, &bytes, many);
+            } else if 4 <= many {
+                is_left(&rt, &bytes, many);
+            }
+        }
+    }
+}
+
+// Nothing is passed, and nothing is counted.
+fn is_left(rt: &impl Abort, bytes: &[u8], many: u64) {
+    let mut cursor = Cursor::new(bytes);
+    assert_eq!(rt; cursor.pass_varints(many), None);
+    assert_eq!(rt; cursor.place(), 0);
+    assert_eq!(rt; cursor.read_count(), 0);
+}
+
+#[test]
+fn many_varints_are_passed_by_whole_words(rt: HostRuntime) {
+    let bytes = [0x01; 17];
+    for left in 0..=17usize {
+        for many in 0..=17u64 {
+            // The last of them stands in a word that is left whole.
+            let words = (many + 7) / 8;
+            if 8 * words <= left as u64 {
+                passes_many_as_it_reads(&rt, &bytes[..left], many);
+            } else {
+                is_left(&rt, &bytes[..left], many);
+            }
+        }
+    }
 }
 
 #[test]

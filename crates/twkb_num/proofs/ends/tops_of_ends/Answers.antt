@@ -1,0 +1,6 @@
+use Rattle.std.proofs.Common.{rules}
+use Rattle.twkb_num.proofs.EndLemmas.{ends_are}
+use Rattle.twkb_num.proofs.ends.tops_of_ends.Goals as goal
+
+pub returns : goal.returns
+returns c = ends_are c.args.bytes.now _ (search rules) c.from_le_bytes.ensures
