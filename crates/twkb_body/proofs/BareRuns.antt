@@ -9,7 +9,7 @@ use Rattle.twkb_num.specs.Varint.{Spells, SpellsAll, zigzag_value}
 use Rattle.twkb_num.specs.Ends.{SpellsMany}
 use Rattle.twkb_num.proofs.CursorLemmas.{IsMoved-here, IsMoved-after, IsSound-moved}
 use Rattle.twkb_num.proofs.PairLaws.{moved-two}
-use Rattle.twkb_head.specs.declared.header.Head.{Head}
+use Rattle.twkb_head.specs.declared.kinds.Kind.{Kind}
 use Rattle.twkb_head.specs.Header.{is_multi}
 use Rattle.twkb_head.specs.Reader.{Answer, Reader, ◌>>=◌, viewed, number_at, many_at, coordinate_at}
 use Rattle.twkb_head.proofs.Readings.{ok_not_err}
@@ -307,9 +307,9 @@ if_some None P Q f h = tt
 if_some (Some n) P Q f h = f n h
 
 -- behind a count they are the parts of a body
-pub bare_parts : (head : Head) (axes count points : ℕ) (list : ListHead) (old middle new : Reading) → count_at (is_multi head.kind) head.ids old ≡ (Ok list, middle) → IsListFound old middle list (record { count = count; ids = None })
-    → Leads axes (λ (s : PointValue). many_at count ring_sums (part_at head.kind axes) s) points_of middle new 0 points → AddsParts unchanged head axes old new tt tt points
-bare_parts head axes count points list old middle new counted found leads =
+pub bare_parts : (kind : Kind) (has_ids : Bool) (axes count points : ℕ) (list : ListHead) (old middle new : Reading) → count_at (is_multi kind) has_ids old ≡ (Ok list, middle) → IsListFound old middle list (record { count = count; ids = None })
+    → Leads axes (λ (s : PointValue). many_at count ring_sums (part_at kind axes) s) points_of middle new 0 points → AddsParts unchanged kind has_ids axes old new tt tt points
+bare_parts kind has_ids axes count points list old middle new counted found leads =
     let (parts, u, read, walked, near) = leads (record { last = zeros; points = 0 }) (some_points 0 (omega arith)) in
     record {
       list = list;
@@ -318,7 +318,7 @@ bare_parts head axes count points list old middle new counted found leads =
       after = u;
       counted = counted;
       found = subst (λ (n : ℕ). IsListFound old middle list (record { count = n; ids = None })) found.count found;
-      read = subst (λ (n : ℕ). many_at n ring_sums (part_at head.kind axes) zeros middle ≡ (Ok parts, new)) found.count read;
+      read = subst (λ (n : ℕ). many_at n ring_sums (part_at kind axes) zeros middle ≡ (Ok parts, new)) found.count read;
       walked = walked;
       vertices_are = sym near.counted;
     }

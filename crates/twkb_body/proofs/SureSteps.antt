@@ -76,7 +76,7 @@ holds_all h held (p ∷ ps) e =
 -- ---- the body of a shape
 module _ (levels : ℕ) (head : Head) (old new : Reading) (vertices : ℕ) (two : axes_of (of_head head) ≡ 2) (full : head.empty ≡ false) (single : is_collection head.kind ≡ false) where
   -- what is added to other things might be added to ranges
-  module _ {S : Type 0} (step : S → PointValue → S) (s t : S) (added : AddsParts step head 2 old new s t vertices) where
+  module _ {S : Type 0} (step : S → PointValue → S) (s t : S) (added : AddsParts step head.kind head.ids 2 old new s t vertices) where
     abbrev numbers : List PointValue
     numbers = points_of added.parts
 
@@ -107,10 +107,10 @@ module _ (levels : ℕ) (head : Head) (old new : Reading) (vertices : ℕ) (two 
           held = subst (IsHeldBy frame) vertices_are held;
         }
 
-  pub body_unboxed : {S : Type 0} (step : S → PointValue → S) (s t : S) → AddsParts step head 2 old new s t vertices → IsSureBody levels head None old new vertices
+  pub body_unboxed : {S : Type 0} (step : S → PointValue → S) (s t : S) → AddsParts step head.kind head.ids 2 old new s t vertices → IsSureBody levels head None old new vertices
   body_unboxed step s t added = body_of step s t added None tt
 
-  pub body_boxed : (frame : Frame) (held : Held) → frame.xy ≡ head.xy → AddsParts (held_with (of_head head)) head 2 old new (record { box = frame.bounds; inside = true }) held vertices → held.inside ≡ true
+  pub body_boxed : (frame : Frame) (held : Held) → frame.xy ≡ head.xy → AddsParts (held_with (of_head head)) head.kind head.ids 2 old new (record { box = frame.bounds; inside = true }) held vertices → held.inside ≡ true
       → IsSureBody levels head (Some frame) old new vertices
   body_boxed frame held precision added inside =
       let points = lasts_from zeros (points_of added.parts) in
@@ -162,7 +162,7 @@ point_sure levels head old middle new n m kind z m_none full first first_moved s
     one : many_at 1 ring_sums (part_at Point 2) zeros old ≡ (Ok ((((x ∷ y ∷ []) ∷ []) ∷ []) ∷ []), new)
     one = ap (λ (a : Answer PointValue). viewed (λ p. (p ∷ []) ∷ []) a >>= λ part r. viewed (λ parts. part ∷ parts) (many_at 0 ring_sums (part_at Point 2) (ring_sums zeros part) r)) point
 
-    parts : AddsParts (λ (s : Unit {0}) point. s) head 2 old new tt tt 1
+    parts : AddsParts (λ (s : Unit {0}) point. s) head.kind head.ids 2 old new tt tt 1
     parts = record {
       list = ((1, 0), (None, 0));
       middle = old;

@@ -1,7 +1,8 @@
 -- The quick pass: what it is sure of.
-use Rattle.std.specs.Prelude.{◌≡◌, ℕ, ℤ, false, List, [], ◌++◌, map, Option, Some, None, Ok, All, IfSome, ⊤}
+use Rattle.std.specs.Prelude.{◌≡◌, ℕ, ℤ, Bool, false, List, [], ◌++◌, map, Option, Some, None, Ok, All, IfSome, ⊤}
 use Rattle.twkb_num.specs.Cursor.{Reading}
 use Rattle.twkb_head.specs.declared.header.Head.{Head}
+use Rattle.twkb_head.specs.declared.kinds.Kind.{Kind}
 use Rattle.twkb_head.specs.declared.boxes.Bounds.{Bounds}
 use Rattle.twkb_head.specs.declared.boxes.Vertex.{Vertex}
 use Rattle.twkb_head.specs.declared.flat.RawBox.{RawBox}
@@ -31,16 +32,16 @@ faultless vertices = record { vertices = vertices; refused = None }
 abbrev pub unseen : Seen
 unseen = record { asked = false; extent = reach_of [] }
 
--- Behind a header the parts of a body were read, and their points added to a state. It has so many points, and its ids,
+-- Of this kind, with ids or none, the parts of a body were read, and their points added to a state. It has so many points, and its ids,
 -- if any, are true.
-pub record AddsParts {S : Type 0} (step : S → PointValue → S) (head : Head) (axes : ℕ) (old new : Reading) (state state' : S) (vertices : ℕ) : Type 0 where
+pub record AddsParts {S : Type 0} (step : S → PointValue → S) (kind : Kind) (has_ids : Bool) (axes : ℕ) (old new : Reading) (state state' : S) (vertices : ℕ) : Type 0 where
   pub list : ListHead
   pub middle : Reading
   pub parts : List PolygonValue
   pub after : Trail
-  pub counted : count_at (is_multi head.kind) head.ids old ≡ (Ok list, middle)
+  pub counted : count_at (is_multi kind) has_ids old ≡ (Ok list, middle)
   pub found : IsListFound old middle list (record { count = (list.0).0; ids = None })
-  pub read : many_at (list.0).0 ring_sums (part_at head.kind axes) zeros middle ≡ (Ok parts, new)
+  pub read : many_at (list.0).0 ring_sums (part_at kind axes) zeros middle ≡ (Ok parts, new)
   pub walked : IsWalked step axes (record { last = zeros; points = 0 }) after state state' middle.place new.place (points_of parts)
   pub vertices_are : vertices ≡ after.points
 

@@ -23,7 +23,7 @@ use crate::parts::take_parts;
 use crate::points::Points;
 use crate::trail::Trail;
 use crate::unboxed::Unboxed;
-use twkb_head::{Head, read_flat_head, read_sized_point_head, take_number};
+use twkb_head::{Head, Kind, read_flat_head, read_sized_point_head, take_number};
 use twkb_num::Cursor;
 
 /// How many vertices the blob at the place has, if the quick pass is sure of it; it is passed. Else `None`: what was looked
@@ -171,49 +171,56 @@ fn take_sure_shape(
             Some(vertices)
         }
         None => {
-            let vertices = take_unboxed(cursor, head)?;
+            let vertices = take_unboxed(cursor, head.kind, head.ids)?;
             Some(vertices)
         }
     }
 }
 
 /// A body that no box asks for, by the ends of its numbers, or with its sums.
-#[inline(always)]
-fn take_unboxed(cursor: &mut Cursor, head: &Head) -> Option<usize>
-    requires xy { IsPrecision head.now.xy }
-    requires z { head.now.z ≡ None }
-    requires m { head.now.m ≡ None }
-    ensures { IfSome result (AddsParts unchanged head.now 2 cursor.old cursor.new tt tt) }
+// It isn't inlined, and is handed no header, so that neither is set up where a box asks.
+#[inline(never)]
+fn take_unboxed(cursor: &mut Cursor, kind: Kind, has_ids: bool) -> Option<usize>
+    ensures { IfSome result (AddsParts unchanged kind has_ids 2 cursor.old cursor.new tt tt) }
 {
     let mut ahead = cursor.ahead();
-    match pass_bare_parts(&mut ahead, head) {
+    match pass_bare_parts(&mut ahead, kind, has_ids) {
         Some(vertices) => {
             *cursor = ahead;
             Some(vertices)
         }
-        None => take_summed_parts(cursor, head),
+        None => take_summed_parts(cursor, kind, has_ids),
     }
 }
 
 /// The parts of a body, by the ends of their numbers.
 #[inline(always)]
-fn pass_bare_parts(cursor: &mut Cursor, head: &Head) -> Option<usize>
-    ensures { IfSome result (AddsParts unchanged head.now 2 cursor.old cursor.new tt tt) }
+fn pass_bare_parts(cursor: &mut Cursor, kind: Kind, has_ids: bool) -> Option<usize>
+    ensures { IfSome result (AddsParts unchanged kind has_ids 2 cursor.old cursor.new tt tt) }
 {
-    let count = take_sure_count(cursor, head)?;
-    let points = pass_parts(cursor, head.kind, 2, count)?;
+    let count = take_sure_count(cursor, kind, has_ids)?;
+    let points = pass_parts(cursor, kind, 2, count)?;
     Some(points as usize)
 }
 
 /// The parts of a body with so many points, or such long numbers, that a sum might leave 64 bits.
 #[inline(never)]
-fn take_summed_parts(cursor: &mut Cursor, head: &Head) -> Option<usize>
-    requires xy { IsPrecision head.now.xy }
-    requires z { head.now.z ≡ None }
-    requires m { head.now.m ≡ None }
-    ensures { IfSome result (AddsParts unchanged head.now 2 cursor.old cursor.new tt tt) }
+fn take_summed_parts(cursor: &mut Cursor, kind: Kind, has_ids: bool) -> Option<usize>
+    ensures { IfSome result (AddsParts unchanged kind has_ids 2 cursor.old cursor.new tt tt) }
 {
-    take_flat_parts(cursor, head, &mut Unboxed)
+    let head = Head {
+        kind,
+        xy: 0,
+        z: None,
+        m: None,
+        size: None,
+        bounds: None,
+        ids: has_ids,
+        empty: false,
+        start: 0,
+        stop: 0,
+    };
+    take_flat_parts(cursor, &head, &mut Unboxed)
 }
 
 /// The parts of a body of X and Y alone.
@@ -222,9 +229,9 @@ fn take_flat_parts<P: Points>(cursor: &mut Cursor, head: &Head, points: &mut P) 
     requires xy { IsPrecision head.now.xy }
     requires z { head.now.z ≡ None }
     requires m { head.now.m ≡ None }
-    ensures { IfSome result (AddsParts (P.step (of_head head.now)) head.now 2 cursor.old cursor.new (P.state points.old) (P.state points.new)) }
+    ensures { IfSome result (AddsParts (P.step (of_head head.now)) head.now.kind head.now.ids 2 cursor.old cursor.new (P.state points.old) (P.state points.new)) }
 {
-    let count = take_sure_count(cursor, head)?;
+    let count = take_sure_count(cursor, head.kind, head.ids)?;
     let mut trail = Trail::new();
     let Ok(()) = take_parts(cursor, head, 2, count, &mut trail, points) else {
         return None;
@@ -234,12 +241,12 @@ fn take_flat_parts<P: Points>(cursor: &mut Cursor, head: &Head, points: &mut P) 
 
 /// How many parts there are: one, or the count of a list whose ids rise, if it has ids.
 #[inline(always)]
-fn take_sure_count(cursor: &mut Cursor, head: &Head) -> Option<u64>
-    ensures { IfSome result (λ count. (list : ListHead) × (count_at (is_multi head.now.kind) head.now.ids cursor.old ≡ (Ok list, cursor.new))
+fn take_sure_count(cursor: &mut Cursor, kind: Kind, has_ids: bool) -> Option<u64>
+    ensures { IfSome result (λ count. (list : ListHead) × (count_at (is_multi kind) has_ids cursor.old ≡ (Ok list, cursor.new))
         × IsListFound cursor.old cursor.new list (record { count = count; ids = None })) }
 {
-    if head.kind.is_multi() {
-        take_sure_list(cursor, head.ids)
+    if kind.is_multi() {
+        take_sure_list(cursor, has_ids)
     } else {
         Some(1u64)
     }
