@@ -1,5 +1,5 @@
 //! Lines and points in a box on each side of each condition of the quick pass, against the plain reader.
-use super::steps::put;
+use super::steps::{GREATEST, put};
 use super::variants::agrees;
 use super::*;
 use crate::quick::take_at_sight;
@@ -166,20 +166,6 @@ fn sums_about_what_is_near(rt: HostRuntime) -> Result<(), Fail> {
     }
     Ok(())
 }
-
-// The greatest numbers of one byte, of two, and so on to ten.
-const GREATEST: [i64; 10] = [
-    63,
-    8191,
-    1048575,
-    134217727,
-    17179869183,
-    2199023255551,
-    281474976710655,
-    36028797018963967,
-    4611686018427387903,
-    9223372036854775807,
-];
 
 // The box that reaches from zero to a number, and the least of it and the greatest missed by so much.
 fn reaching(number: i64, low: i64, high: i64) -> (i64, i64) {

@@ -1,25 +1,11 @@
 //! Lines, polygons and lists of points at random, each against a plain reader: numbers of each length, sums that leave 64
 //! bits, boxes whose ends are met or missed by one, and the end of the bytes at each distance.
-use super::steps::put;
+use super::steps::{GREATEST, put};
 use super::variants::agrees;
 use super::*;
 use random_layers::Dice;
 use std::alloc::{AllocError, Global};
 use twkb_num::zigzag;
-
-// The greatest numbers of one byte, of two, and so on to ten.
-const GREATEST: [i64; 10] = [
-    63,
-    8191,
-    1048575,
-    134217727,
-    17179869183,
-    2199023255551,
-    281474976710655,
-    36028797018963967,
-    4611686018427387903,
-    9223372036854775807,
-];
 
 // Mostly of one byte to three, else of one to ten.
 fn difference(dice: &mut Dice) -> i64 {

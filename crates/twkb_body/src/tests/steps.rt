@@ -15,6 +15,20 @@ const PRECISIONS: [([i8; 3], [u8; 2]); 5] = [
 // The least end of each axis in steps, of which each box has three.
 const LEAST: [i64; 4] = [-2, 5, -9, 0];
 
+// The greatest numbers of one byte, of two, and so on to ten.
+pub const GREATEST: [i64; 10] = [
+    63,
+    8191,
+    1048575,
+    134217727,
+    17179869183,
+    2199023255551,
+    281474976710655,
+    36028797018963967,
+    4611686018427387903,
+    9223372036854775807,
+];
+
 // A signed number.
 pub fn put(out: &mut Vec<u8>, number: i64) -> Result<(), AllocError> {
     put_unsigned(out, zigzag(number))

@@ -1,0 +1,178 @@
+//! Bodies that no box asks for, on each side of each condition of the pass that counts the ends of numbers, against the plain
+//! reader.
+use super::steps::{GREATEST, put, put_unsigned};
+use super::variants::agrees;
+use super::*;
+use crate::quick::take_at_sight;
+use random_layers::Dice;
+use std::alloc::{AllocError, Global};
+use std::process::Abort;
+
+// A number of one to four bytes, now and then of up to ten.
+fn number(dice: &mut Dice) -> i64 {
+    let lengths = if dice.once_in(40) { 10 } else { 4 };
+    let length = dice.below(lengths) as usize;
+    let greatest = GREATEST.get(length).copied().unwrap_or(0);
+    let number = dice.around(0, greatest);
+    if dice.once_in(2) {
+        number.wrapping_neg()
+    } else {
+        number
+    }
+}
+
+// A number of points, and their numbers.
+fn ring(out: &mut Vec<u8>, dice: &mut Dice) -> Result<(), AllocError> {
+    let points = dice.below(9);
+    put_unsigned(out, points)?;
+    for _ in 0..2 * points {
+        let step = number(dice);
+        put(out, step)?;
+    }
+    Ok(())
+}
+
+// A number of rings, and the rings.
+fn polygon(out: &mut Vec<u8>, dice: &mut Dice) -> Result<(), AllocError> {
+    let rings = dice.below(4);
+    put_unsigned(out, rings)?;
+    for _ in 0..rings {
+        ring(out, dice)?;
+    }
+    Ok(())
+}
+
+// A part of a kind.
+fn part(out: &mut Vec<u8>, dice: &mut Dice, kind: u64) -> Result<(), AllocError> {
+    match kind % 3 {
+        1 => {
+            let (x, y) = (number(dice), number(dice));
+            put(out, x)?;
+            put(out, y)
+        }
+        2 => ring(out, dice),
+        _ => polygon(out, dice),
+    }
+}
+
+// A geometry of each kind but a collection, with some bytes behind it, or cut.
+fn geometry(alloc: Global, dice: &mut Dice) -> Result<Vec<u8>, AllocError> {
+    let mut out = Vec::new(alloc);
+    let kind = 1 + dice.below(6);
+    out.push((kind % 8) as u8)?;
+    out.push(0x00)?;
+    let parts = if kind < 4 { 1 } else { dice.below(4) };
+    if 4 <= kind {
+        put_unsigned(&mut out, parts)?;
+    }
+    for _ in 0..parts {
+        part(&mut out, dice, kind)?;
+    }
+    if dice.once_in(6) {
+        let less = dice.below(9) as usize;
+        out.truncate(out.len().saturating_sub(less));
+    }
+    for _ in 0..dice.below(11) {
+        out.push(0x81)?;
+    }
+    Ok(out)
+}
+
+#[test]
+fn random_bodies_without_a_box(rt: HostRuntime) -> Result<(), Fail> {
+    let mut sure = 0u64;
+    for seed in 0..2000 {
+        let mut dice = Dice::new(seed);
+        let bytes = geometry(rt.alloc(), &mut dice)?;
+        agrees(&rt, rt.alloc(), &bytes, false);
+        if take_at_sight(&mut Cursor::new(&bytes)).is_some() {
+            sure += 1;
+        }
+    }
+    assert!(&rt; 1000 < sure && sure < 2000, "{sure}");
+    Ok(())
+}
+
+// So many points of two bytes.
+fn put_steps(out: &mut Vec<u8>, points: u64) -> Result<(), AllocError> {
+    put_unsigned(out, points)?;
+    for _ in 0..points {
+        out.extend_from_slice(&[0x02, 0x01])?;
+    }
+    Ok(())
+}
+
+// The quick pass is sure of so many vertices, as is the plain reader.
+fn is_sure_of(rt: &impl Abort, alloc: Global, bytes: &[u8], vertices: usize) {
+    let mut cursor = Cursor::new(bytes);
+    assert_eq!(rt; take_at_sight(&mut cursor), Some(vertices));
+    agrees(rt, alloc, bytes, false);
+}
+
+// Up to 2^14 points are passed by the ends of their numbers, more are summed.
+#[test]
+fn bodies_of_few_points_and_of_many(rt: HostRuntime) -> Result<(), Fail> {
+    for points in [16383, 16384, 16385, 16386] {
+        let mut line = Vec::new(rt.alloc());
+        line.extend_from_slice(&[0x02, 0x00])?;
+        put_steps(&mut line, points)?;
+        is_sure_of(&rt, rt.alloc(), &line, points as usize);
+        let mut polygon = Vec::new(rt.alloc());
+        polygon.extend_from_slice(&[0x03, 0x00, 0x03])?;
+        put_steps(&mut polygon, 8000)?;
+        put_steps(&mut polygon, points - 8000)?;
+        put_steps(&mut polygon, 1)?;
+        is_sure_of(&rt, rt.alloc(), &polygon, points as usize + 1);
+    }
+    Ok(())
+}
+
+// A line from the greatest number but so many, by so many steps of one.
+fn line_to_the_end(alloc: Global, less: i64, steps: u64) -> Result<Vec<u8>, AllocError> {
+    let mut out = Vec::new(alloc);
+    out.extend_from_slice(&[0x02, 0x00])?;
+    put_unsigned(&mut out, steps + 1)?;
+    put(&mut out, i64::MAX - less)?;
+    put(&mut out, 0)?;
+    for _ in 0..steps {
+        out.extend_from_slice(&[0x02, 0x00])?;
+    }
+    Ok(out)
+}
+
+#[test]
+fn sums_that_leave_64_bits(rt: HostRuntime) -> Result<(), Fail> {
+    for less in [0, 1, 2, 20] {
+        for steps in [0, 1, 2, 3, 19, 20, 21] {
+            let bytes = line_to_the_end(rt.alloc(), less, steps)?;
+            agrees(&rt, rt.alloc(), &bytes, false);
+        }
+    }
+    Ok(())
+}
+
+// A line of a point, of two such numbers and of a point, and so many bytes behind it.
+fn line_of(alloc: Global, x: i64, y: i64, behind: usize) -> Result<Vec<u8>, AllocError> {
+    let mut out = Vec::new(alloc);
+    out.extend_from_slice(&[0x02, 0x00, 0x03, 0x02, 0x01])?;
+    put(&mut out, x)?;
+    put(&mut out, y)?;
+    out.extend_from_slice(&[0x01, 0x02])?;
+    for _ in 0..behind {
+        out.push(0x81)?;
+    }
+    Ok(out)
+}
+
+#[test]
+fn bare_numbers_of_every_two_lengths(rt: HostRuntime) -> Result<(), Fail> {
+    for x in GREATEST {
+        for y in GREATEST {
+            for behind in 0..9 {
+                let bytes = line_of(rt.alloc(), x, -y, behind)?;
+                agrees(&rt, rt.alloc(), &bytes, false);
+            }
+        }
+    }
+    Ok(())
+}
