@@ -1,4 +1,4 @@
-"""Bars of times and memory, and curves of what is read, as pictures."""
+"""Bars of ratios, and curves of what is read, as pictures."""
 
 # Dark where the reader's screen is.
 STYLE = (
@@ -15,26 +15,33 @@ def write(path, width, height, parts):
         )
 
 
-def bar(y, label, value, greatest, unit):
-    width = 300 * value / greatest
+# Where bars begin, and how long a bar of one is.
+START, ONE = 270, 130
+
+
+def bar(y, label, value):
+    width = ONE * value
     return (
-        f'<text x="8" y="{y + 14}">{label}</text>'
-        f'<rect x="110" y="{y}" width="{width:.0f}" height="20" fill="#4477aa"/>'
-        f'<text x="{118 + width:.0f}" y="{y + 14}">{value:.0f} {unit}</text>'
+        f'<text x="8" y="{y + 13}">{label}</text>'
+        f'<rect x="{START}" y="{y}" width="{width:.0f}" height="18" fill="#4477aa"/>'
+        f'<text x="{START + 8 + width:.0f}" y="{y + 13}">{value:.2f}</text>'
     )
 
 
-def plot(path, sections):
-    """Bars of each section, which is a title, a unit, and names with their values."""
+def ratios(path, sections):
+    """Bars of each section, which is a title and names with their ratios, and a line where a ratio is one."""
     rows, y = [], 8
-    for title, unit, values in sections:
+    for title, values in sections:
         rows.append(f'<text x="8" y="{y + 12}" font-weight="bold">{title}</text>')
         y += 22
+        top = y - 2
         for label, value in values.items():
-            rows.append(bar(y, label, value, max(values.values()), unit))
-            y += 28
-        y += 12
-    write(path, 500, y, rows)
+            rows.append(bar(y, label, value))
+            y += 24
+        rows.append(f'<line class="line" x1="{START + ONE}" x2="{START + ONE}" y1="{top}" y2="{y - 2}"/>')
+        y += 14
+    longest = max(value for _, values in sections for value in values.values())
+    write(path, round(START + ONE * longest + 60), y, rows)
 
 
 # Where the picture of curves has its corners, and the steps of its scale.

@@ -8,7 +8,8 @@ begins with: these read the file and refuse it. SCANNER is twkb_bench, which tim
 programs in plain Rust, std only: fast/ is the fastest that we know how to write, without SIMD; of the two called plain,
 plain.rs checks as one would write it at first, and hops.rs scans with all inlined. All take turns, and of each the best
 time of RUNS is kept. Times are of 40 MB, and instructions, which valgrind counts, of 4 MB: of whole processes for
-`check`, of one scan alone for the others. Where two answers differ, the run fails. A plot goes to docs/bench.svg.
+`check`, of one scan alone for the others. Where two answers differ, the run fails. A plot of the times over the fastest
+program's goes to docs/bench.svg.
 """
 import os
 import sys
@@ -121,25 +122,25 @@ def heading():
 
 
 def table_of_checks(found, folder, runs):
-    """Prints the rows of `check`, and gives of the mix the times of audits, of whole runs and of reading, and the memories."""
+    """Prints the rows of `check`, and gives of each kind the times of audits, whole runs and reading, and memories."""
     kept = {}
     for kind in (*layers.EXAMPLES, layers.BARE, layers.IDS, layers.LONG):
-        times, memories = {}, {}
-        if kind in ("the mix", "lines"):
-            layer, _ = layers.write_layer(folder, kind, TIMED)
-            refused, _ = layers.write_layer(folder, kind, TIMED, layers.NO_BLOB)
-            whole, reading = {}, {}
-            for _ in range(runs):
-                note_checks(found.checks(layer), whole, memories)
-                note_checks(found.checks(refused), reading, {})
-            the_same(*reading.values())
-            the_same(*whole.values())
-            times = {name: whole[name].time - reading[name].time for name in whole}
-            wholes, reads = ({name: best.time for name, best in bests.items()} for bests in (whole, reading))
-            kept[kind] = (times, wholes, reads, memories)
+        layer, _ = layers.write_layer(folder, kind, TIMED)
+        refused, _ = layers.write_layer(folder, kind, TIMED, layers.NO_BLOB)
+        whole, reading, memories = {}, {}, {}
+        for _ in range(runs):
+            note_checks(found.checks(layer), whole, memories)
+            note_checks(found.checks(refused), reading, {})
+        the_same(*reading.values())
+        the_same(*whole.values())
+        os.remove(layer)
+        os.remove(refused)
+        times = {name: whole[name].time - reading[name].time for name in whole}
+        wholes, reads = ({name: best.time for name, best in bests.items()} for bests in (whole, reading))
+        kept[kind] = (times, wholes, reads, memories)
         small, _ = layers.write_layer(folder, kind, COUNTED)
         row("check", kind, times, {name: instructions(command) for name, command in found.checks(small).items()})
-    return kept["the mix"]
+    return kept
 
 
 def table_of_whole_runs(audits, wholes, reads, memories):
@@ -159,8 +160,8 @@ def table_of_whole_runs(audits, wholes, reads, memories):
 
 
 def table_of_scans(found, folder, runs):
-    """Prints the rows of scans and directories, and gives what a directory takes and how fast it is."""
-    notes = []
+    """Prints the rows of scans and directories, and gives notes on directories, and ratios of times."""
+    notes, over_fast = [], {}
     for kind in ("the mix", "lines"):
         layer, copies = layers.write_layer(folder, kind, TIMED)
         bests = {}
@@ -179,10 +180,12 @@ def table_of_scans(found, folder, runs):
             names = {"ours": (step, "ours"), "fast": (other, "fast"), "plain": (other, "plain")}
             times = {name: bests[key].time for name, key in names.items()}
             row(step, kind, times, {name: counts[key] for name, key in names.items()})
+            if step in STEPS:
+                over_fast[f"{step}, {kind}"] = times["ours"] / times["fast"]
         rate = bests["hop scan that hits nothing", "ours"].time / bests[LOOKUP, "ours"].time
         notes.append(f"{kind}: {bytes_a_blob(found, folder, kind):.0f} bytes a blob in a directory, "
                      f"whose scan that hits nothing has {rate:.1f} times the rate of the hop scan")
-    return notes
+    return notes, over_fast
 
 
 def bytes_a_blob(found, folder, kind):
@@ -201,19 +204,15 @@ def main():
     with tempfile.TemporaryDirectory() as folder:
         found = Programs(folder, *sys.argv[1:3])
         heading()
-        audits, wholes, reads, memories = table_of_checks(found, folder, runs)
-        notes = table_of_scans(found, folder, runs)
-        table_of_whole_runs(audits, wholes, reads, memories)
+        checks = table_of_checks(found, folder, runs)
+        notes, scans = table_of_scans(found, folder, runs)
+        table_of_whole_runs(*checks["the mix"])
         print("\n" + "\n".join(notes))
-        for title, times in (("the audit of the mix", audits), ("the whole run", wholes)):
-            print(f"{title} takes {times['plain'] / times['ours']:.2f} times as long in plain Rust")
         symbols.tell(found.tool, "twkb_tool")
         symbols.tell(found.scanner, "twkb_bench")
-    names = {"ours": "twkb_tool", "fast": "fast Rust", "plain": "plain Rust"}
-    sections = [("audit, best time", "ms", audits), ("whole run, best time", "ms", wholes)]
-    sections.append(("greatest memory", "MB", memories))
-    named = [(title, unit, {names[name]: value for name, value in values.items()}) for title, unit, values in sections]
-    plots.plot(os.path.join(layers.TOP, "docs", "bench.svg"), named)
+    audits = {kind: times["ours"] / times["fast"] for kind, (times, *_) in checks.items()}
+    sections = [("audits: time over that of fast", audits), ("scans: time over that of fast", scans)]
+    plots.ratios(os.path.join(layers.TOP, "docs", "bench.svg"), sections)
 
 
 main()

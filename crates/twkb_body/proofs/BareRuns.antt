@@ -15,7 +15,7 @@ use Rattle.twkb_head.specs.Reader.{Answer, Reader, ◌>>=◌, viewed, number_at,
 use Rattle.twkb_head.proofs.Readings.{ok_not_err}
 use Rattle.twkb_head.proofs.Steps.{read_signed, coordinate_ok, fits_true}
 use Rattle.twkb_body.specs.declared.trail.Trail.{Trail}
-use Rattle.twkb_body.specs.Bare.{unchanged, IsNear, IsNearTrail, Leads}
+use Rattle.twkb_body.specs.Bare.{unchanged, IsInSteps, IsShortTrail, Leads}
 use Rattle.twkb_body.specs.Geometry.{PointValue, Ring, PolygonValue, points_of}
 use Rattle.twkb_body.specs.BodyPlan.{ListHead, first_of, behind, add, sums, ring_sums, zeros}
 use Rattle.twkb_body.specs.BodyReader.{point_at, ring_at, part_at, count_at}
@@ -31,33 +31,33 @@ abbrev IsFew : ℕ → Type 0
 IsFew n = n < 2 ^ 49
 
 -- a number of seven bytes is near
-near_value : (n : ℕ) → n < 2 ^ 49 → IsNear 1 (zigzag_value n)
+near_value : (n : ℕ) → n < 2 ^ 49 → IsInSteps 1 (zigzag_value n)
 near_value n h = go (n % 2 == 0)
   where
-    go : (even : Bool) → IsNear 1 (if even then pos (n / 2) else neg_ℤ (pos ((n + 1) / 2)))
+    go : (even : Bool) → IsInSteps 1 (if even then pos (n / 2) else neg_ℤ (pos ((n + 1) / 2)))
     go true = (omega (arith, ints, h), omega (arith, ints, h))
     go false = (omega (arith, ints, h), omega (arith, ints, h))
 
-near_sum : (k : ℕ) (c z : ℤ) → IsNear k c → IsNear 1 z → IsNear (k + 1) (c +ℤ z)
+near_sum : (k : ℕ) (c z : ℤ) → IsInSteps k c → IsInSteps 1 z → IsInSteps (k + 1) (c +ℤ z)
 near_sum k c z (low, high) (less, more) = (omega (arith, ints, low, less), omega (arith, ints, high, more))
 
-near_more : (k : ℕ) (c : ℤ) → IsNear k c → IsNear (k + 1) c
+near_more : (k : ℕ) (c : ℤ) → IsInSteps k c → IsInSteps (k + 1) c
 near_more k c (low, high) = (omega (arith, ints, low), omega (arith, ints, high))
 
 -- a point more
-near_add : (k : ℕ) (s p : PointValue) → All (IsNear k) s → All (IsNear 1) p → length p ≤ length s → All (IsNear (k + 1)) (add s p) × (length (add s p) ≡ length s)
-near_add k [] [] all few le = (All-nil (IsNear (k + 1)), refl)
+near_add : (k : ℕ) (s p : PointValue) → All (IsInSteps k) s → All (IsInSteps 1) p → length p ≤ length s → All (IsInSteps (k + 1)) (add s p) × (length (add s p) ≡ length s)
+near_add k [] [] all few le = (All-nil (IsInSteps (k + 1)), refl)
 near_add k [] (n ∷ p) all few le = absurd (omega (arith, le))
 near_add k (c ∷ s) [] all few le =
-    let rest = near_add k s [] (All-tail (IsNear k) c s all) few (omega arith) in
-    (All-cons (IsNear (k + 1)) c s (near_more k c (All-head (IsNear k) c s all)) (subst (All (IsNear (k + 1))) (add_nothing s) rest.0), refl)
+    let rest = near_add k s [] (All-tail (IsInSteps k) c s all) few (omega arith) in
+    (All-cons (IsInSteps (k + 1)) c s (near_more k c (All-head (IsInSteps k) c s all)) (subst (All (IsInSteps (k + 1))) (add_nothing s) rest.0), refl)
   where
     add_nothing : (s : PointValue) → add s [] ≡ s
     add_nothing [] = refl
     add_nothing (c ∷ s) = refl
 near_add k (c ∷ s) (n ∷ p) all few le =
-    let rest = near_add k s p (All-tail (IsNear k) c s all) (All-tail (IsNear 1) n p few) (omega (arith, le)) in (
-      All-cons (IsNear (k + 1)) (c +ℤ n) (add s p) (near_sum k c n (All-head (IsNear k) c s all) (All-head (IsNear 1) n p few)) rest.0,
+    let rest = near_add k s p (All-tail (IsInSteps k) c s all) (All-tail (IsInSteps 1) n p few) (omega (arith, le)) in (
+      All-cons (IsInSteps (k + 1)) (c +ℤ n) (add s p) (near_sum k c n (All-head (IsInSteps k) c s all) (All-head (IsInSteps 1) n p few)) rest.0,
       omega (arith, rest.1),
     )
 
@@ -74,7 +74,7 @@ peel r new n ns (front, rest, whole, first, all) moved =
     )
 
 -- it is read as a coordinate
-one_coordinate : (k : ℕ) (c : ℤ) (n : ℕ) (r mid : Reading) → k < 2 ^ 14 → IsNear k c → n < 2 ^ 49 → Spells (passed r mid) n → IsMoved r mid → coordinate_at c r ≡ (Ok (zigzag_value n), mid)
+one_coordinate : (k : ℕ) (c : ℤ) (n : ℕ) (r mid : Reading) → k < 2 ^ 14 → IsInSteps k c → n < 2 ^ 49 → Spells (passed r mid) n → IsMoved r mid → coordinate_at c r ≡ (Ok (zigzag_value n), mid)
 one_coordinate k c n r mid few near small spells moved =
     let sum = near_sum k c (zigzag_value n) near (near_value n small) in
     coordinate_ok c r mid (zigzag_value n) (fits_true (c +ℤ zigzag_value n) (has_64_bits (c +ℤ zigzag_value n) (omega (arith, ints, sum.0, few)) (omega (arith, ints, sum.1, few))))
@@ -87,7 +87,7 @@ record IsPoint (axes more : ℕ) (s : PointValue) (r new : Reading) : Type 0 whe
   rest : List ℕ
   read : point_at axes s r ≡ (Ok point, mid)
   all : length point ≡ axes
-  near : All (IsNear 1) point
+  near : All (IsInSteps 1) point
   left : length rest ≡ more
   small : All IsFew rest
   spelled : SpellsAll (passed mid new) rest
@@ -95,7 +95,7 @@ record IsPoint (axes more : ℕ) (s : PointValue) (r new : Reading) : Type 0 whe
   on : IsMoved mid new
   ahead : axes + r.place ≤ mid.place
 
-one_point : (axes : ℕ) (s : PointValue) (k : ℕ) (ns : List ℕ) (more : ℕ) (r new : Reading) → k < 2 ^ 14 → IsSound r → length ns ≡ axes + more → axes ≤ length s → All (IsNear k) s → All IsFew ns
+one_point : (axes : ℕ) (s : PointValue) (k : ℕ) (ns : List ℕ) (more : ℕ) (r new : Reading) → k < 2 ^ 14 → IsSound r → length ns ≡ axes + more → axes ≤ length s → All (IsInSteps k) s → All IsFew ns
     → SpellsAll (passed r new) ns → IsMoved r new → IsPoint axes more s r new
 one_point zero s k ns more r new few sound many le near small spelled moved = record {
   point = [];
@@ -103,7 +103,7 @@ one_point zero s k ns more r new few sound many le near small spelled moved = re
   rest = ns;
   read = refl;
   all = refl;
-  near = All-nil (IsNear 1);
+  near = All-nil (IsInSteps 1);
   left = omega (arith, many);
   small = small;
   spelled = spelled;
@@ -115,15 +115,15 @@ one_point (suc axes) s k [] more r new few sound many le near small spelled move
 one_point (suc axes) [] k (n ∷ ns) more r new few sound many le near small spelled moved = absurd (omega (arith, le))
 one_point (suc axes) (c ∷ s) k (n ∷ ns) more r new few sound many le near small spelled moved =
     let (mid, there, on, first, others) = peel r new n ns spelled moved in
-    let one = one_coordinate k c n r mid few (All-head (IsNear k) c s near) (All-head IsFew n ns small) first there in
-    let p = one_point axes s k ns more mid new few (IsSound-moved r mid sound there) (omega (arith, many)) (omega (arith, le)) (All-tail (IsNear k) c s near) (All-tail IsFew n ns small) others on in
+    let one = one_coordinate k c n r mid few (All-head (IsInSteps k) c s near) (All-head IsFew n ns small) first there in
+    let p = one_point axes s k ns more mid new few (IsSound-moved r mid sound there) (omega (arith, many)) (omega (arith, le)) (All-tail (IsInSteps k) c s near) (All-tail IsFew n ns small) others on in
     record {
       point = zigzag_value n ∷ p.point;
       mid = p.mid;
       rest = p.rest;
       read = ap (λ (a : Answer ℤ). a >>= λ z q. viewed (λ cs. z ∷ cs) (many_at axes (λ (s : PointValue) (z : ℤ). behind s) (λ s. coordinate_at (first_of s)) s q)) one ∙ ap (viewed (λ (cs : PointValue). zigzag_value n ∷ cs)) p.read;
       all = omega (arith, p.all);
-      near = All-cons (IsNear 1) (zigzag_value n) p.point (near_value n (All-head IsFew n ns small)) p.near;
+      near = All-cons (IsInSteps 1) (zigzag_value n) p.point (near_value n (All-head IsFew n ns small)) p.near;
       left = p.left;
       small = p.small;
       spelled = p.spelled;
@@ -147,10 +147,10 @@ record ArePoints (axes count k : ℕ) (s : PointValue) (r new : Reading) : Type 
   number : length points ≡ count
   have : HaveAxes axes points
   four : length (sums s points) ≡ 4
-  near : All (IsNear (k + count)) (sums s points)
+  near : All (IsInSteps (k + count)) (sums s points)
   ahead : count + r.place ≤ new.place
 
-many_points : (axes count k : ℕ) (s : PointValue) (ns : List ℕ) (r new : Reading) → 1 ≤ axes → axes ≤ 4 → k + count ≤ 2 ^ 14 → IsSound r → length ns ≡ count * axes → length s ≡ 4 → All (IsNear k) s → All IsFew ns
+many_points : (axes count k : ℕ) (s : PointValue) (ns : List ℕ) (r new : Reading) → 1 ≤ axes → axes ≤ 4 → k + count ≤ 2 ^ 14 → IsSound r → length ns ≡ count * axes → length s ≡ 4 → All (IsInSteps k) s → All IsFew ns
     → SpellsAll (passed r new) ns → IsMoved r new → ArePoints axes count k s r new
 many_points axes zero k s (n ∷ ns) r new some le few sound many four near small spelled moved = absurd (omega (arith, many))
 many_points axes zero k s [] r new some le few sound many four near small spelled moved =
@@ -174,7 +174,7 @@ many_points axes (suc count) k s ns r new some le few sound many four near small
       number = omega (arith, q.number);
       have = (p.all, q.have);
       four = q.four;
-      near = let same : k + 1 + count ≡ k + suc count = omega arith in subst (λ (n : ℕ). All (IsNear n) (sums (add s p.point) q.points)) same q.near;
+      near = let same : k + 1 + count ≡ k + suc count = omega arith in subst (λ (n : ℕ). All (IsInSteps n) (sums (add s p.point) q.points)) same q.near;
       ahead = omega (arith, p.ahead, q.ahead, some);
     }
 
@@ -217,7 +217,7 @@ ring_leads axes count before after r mid new counted leads t near =
 module _ {A : Type 0} (axes : ℕ) (after : PointValue → A → PointValue) (each : PointValue → Reader A) (points_in : A → List PointValue) (after_is : (s : PointValue) (x : A) → after s x ≡ sums s (points_in x))
     (count before : ℕ) (from : Reading) where
   abbrev pub IsLeadLoop : ℕ → ℕ → Reading → Type 0
-  IsLeadLoop i points r = (t : Trail) → IsNearTrail before t → (u : Trail) × IsWalkLoop unchanged axes after each points_in after_is count t tt from i u tt r × IsNearTrail points u
+  IsLeadLoop i points r = (t : Trail) → IsShortTrail before t → (u : Trail) × IsWalkLoop unchanged axes after each points_in after_is count t tt from i u tt r × IsShortTrail points u
 
   pub lead_begins : IsLeadLoop 0 before from
   lead_begins t near = (t, walk_begins unchanged axes after each points_in after_is count t tt from, near)
@@ -281,17 +281,17 @@ pub nothing_leads : (axes before : ℕ) (r : Reading) → Leads axes (λ (s : Po
 nothing_leads axes before r t near = ([], t, refl, walked_none unchanged axes t tt r.place, near)
 
 -- zeros are near
-zero_near : (points : ℕ) → IsNear points (pos 0)
+zero_near : (points : ℕ) → IsInSteps points (pos 0)
 zero_near points = (omega (arith, ints), omega (arith, ints))
 
-zeros_near : (points : ℕ) → All (IsNear points) zeros
+zeros_near : (points : ℕ) → All (IsInSteps points) zeros
 zeros_near points =
     let one = zero_near points in
-    All-cons (IsNear points) (pos 0) (pos 0 ∷ pos 0 ∷ pos 0 ∷ []) one
-    (All-cons (IsNear points) (pos 0) (pos 0 ∷ pos 0 ∷ []) one (All-cons (IsNear points) (pos 0) (pos 0 ∷ []) one (All-cons (IsNear points) (pos 0) [] one (All-nil (IsNear points)))))
+    All-cons (IsInSteps points) (pos 0) (pos 0 ∷ pos 0 ∷ pos 0 ∷ []) one
+    (All-cons (IsInSteps points) (pos 0) (pos 0 ∷ pos 0 ∷ []) one (All-cons (IsInSteps points) (pos 0) (pos 0 ∷ []) one (All-cons (IsInSteps points) (pos 0) [] one (All-nil (IsInSteps points)))))
 
 -- a trail of so many points
-pub some_points : (points : ℕ) → points ≤ 2 ^ 14 → IsNearTrail points (record { last = zeros; points = points })
+pub some_points : (points : ℕ) → points ≤ 2 ^ 14 → IsShortTrail points (record { last = zeros; points = points })
 some_points points few = record { few = few; counted = refl; four = refl; near = zeros_near points }
 
 -- so a loop has few
