@@ -9,7 +9,7 @@ TOP = os.path.dirname(os.path.dirname(os.path.abspath(__file__)))
 # The calls that look ahead, and where each may stand.
 ALLOWED = {
     ".ahead()": {"crates/twkb_body/src/quick.rt"},
-    ".word()": {"crates/twkb_head/src/flat.rt"},
+    ".word()": {"crates/twkb_head/src/raw.rt"},
 }
 
 

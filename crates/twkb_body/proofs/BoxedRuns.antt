@@ -9,8 +9,8 @@ use Rattle.std.specs.Int.{w64}
 use Rattle.twkb_num.specs.Cursor.{Reading, passed, IsMoved}
 use Rattle.twkb_num.specs.Varint.{SpellsTwoSigned, IsShort}
 use Rattle.twkb_head.specs.Header.{Header}
-use Rattle.twkb_head.specs.declared.flat.RawBox.{RawBox}
-use Rattle.twkb_head.specs.declared.flat.RawRange.{RawRange}
+use Rattle.twkb_head.specs.declared.raw.RawBox.{RawBox}
+use Rattle.twkb_head.specs.declared.raw.RawRange.{RawRange}
 use Rattle.twkb_body.specs.declared.trail.Trail.{Trail}
 use Rattle.twkb_body.specs.Boxed.{reaches, is_in_box, Held, held_with, IsNearRange, IsNearBox}
 use Rattle.twkb_body.specs.Geometry.{PointValue}

@@ -7,13 +7,13 @@ use Rattle.std.proofs.lemmas.List.{append-nil}
 use Rattle.twkb_num.specs.Cursor.{Reading, passed, IsMoved, IsSound}
 use Rattle.twkb_num.specs.Units.{units_of}
 use Rattle.twkb_head.specs.declared.boxes.Vertex.{Vertex}
-use Rattle.twkb_head.specs.declared.flat.RawBox.{RawBox}
-use Rattle.twkb_head.specs.declared.flat.RawRange.{RawRange}
+use Rattle.twkb_head.specs.declared.raw.RawBox.{RawBox}
+use Rattle.twkb_head.specs.declared.raw.RawRange.{RawRange}
 use Rattle.twkb_head.specs.declared.header.Head.{Head}
 use Rattle.twkb_head.specs.declared.header.BoxField.{BoxField}
 use Rattle.twkb_head.specs.BegunHeader.{deepest, is_collection}
-use Rattle.twkb_head.specs.declared.flat.FlatHead.{FlatHead}
-use Rattle.twkb_head.specs.Flat.{raw_span, raw_bounds, whole_head, IsSizedPoint}
+use Rattle.twkb_head.specs.declared.raw.RawHead.{RawHead}
+use Rattle.twkb_head.specs.Raw.{raw_span, raw_bounds, whole_head, IsSizedPoint}
 use Rattle.twkb_head.specs.Head.{IsHeadAt}
 use Rattle.twkb_num.specs.Varint.{Spells, zigzag_value}
 use Rattle.twkb_head.specs.declared.kinds.Kind.{Kind}
@@ -227,7 +227,7 @@ members_sure head depth inner old middle new frame list count vertices i under f
 abbrev pub IsBoxOf : Option Frame → Option BoxField → Type 0
 IsBoxOf frame box = IfSome box (λ field. (f : Frame) × (frame ≡ Some f) × (field.bounds ≡ frame_bounds f))
 
-pub own_box : (flat : FlatHead) (above frame : Option Frame) → IsFrameUnder above flat.head.xy flat.bounds frame → IsBoxOf frame (whole_head flat).bounds
+pub own_box : (flat : RawHead) (above frame : Option Frame) → IsFrameUnder above flat.head.xy flat.bounds frame → IsBoxOf frame (whole_head flat).bounds
 own_box flat above frame under = go flat.bounds under.own_is
   where
     go : (own : Option RawBox) → IfSome own (λ box. frame ≡ Some (record { xy = flat.head.xy; bounds = box })) → IsBoxOf frame (option_map (λ box. record { bounds = raw_bounds flat.head.xy box; offset = flat.box_place }) own)

@@ -1,8 +1,8 @@
 -- Points that are asked for nothing but whether a box of raw numbers holds them.
 use Rattle.std.specs.Prelude.{◌^◌, Bool, ◌&&◌, ℤ, pos, neg_ℤ, ◌-ℤ◌, ◌≤ℤ◌, int_le}
 use Rattle.twkb_head.specs.Header.{Header}
-use Rattle.twkb_head.specs.declared.flat.RawBox.{RawBox}
-use Rattle.twkb_head.specs.declared.flat.RawRange.{RawRange}
+use Rattle.twkb_head.specs.declared.raw.RawBox.{RawBox}
+use Rattle.twkb_head.specs.declared.raw.RawRange.{RawRange}
 use Rattle.twkb_body.specs.Geometry.{PointValue, coordinate}
 
 -- a distance from a minimum lies within an extent

@@ -21,7 +21,7 @@ use crate::parts::take_parts;
 use crate::points::Points;
 use crate::trail::Trail;
 use crate::unboxed::Unboxed;
-use twkb_head::{Head, read_flat_head, read_sized_point_head, take_number};
+use twkb_head::{Head, read_raw_head, read_sized_point_head, take_number};
 use twkb_num::Cursor;
 
 /// How many vertices the blob at the place has, if the quick pass is sure of it; it is passed. Else `None`: what was looked
@@ -80,7 +80,7 @@ fn take_sure(cursor: &mut Cursor, depth: u8, above: &Option<Frame>) -> Option<us
 {
     // The proof knows from here that the place is within the bytes.
     let _start = cursor.place();
-    let flat = read_flat_head(cursor, depth)?;
+    let flat = read_raw_head(cursor, depth)?;
     // The proof knows from here that the place is within the bytes.
     let _body = cursor.place();
     let frame = Frame::under(above, flat.head.xy, flat.bounds)?;

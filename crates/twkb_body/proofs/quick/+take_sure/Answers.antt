@@ -3,7 +3,7 @@ use Rattle.std.proofs.lemmas.Int.{ints}
 use mir.Val.{to_z, of_z}
 use mir.Syntax.{w8}
 use Rattle.twkb_head.specs.BegunHeader.{deepest}
-use Rattle.twkb_head.specs.Flat.{whole_head}
+use Rattle.twkb_head.specs.Raw.{whole_head}
 use Rattle.twkb_body.specs.Found.{size_judged}
 use Rattle.twkb_body.proofs.SureSteps.{own_box, geometry_sure, sure_begins, sure_goes_on, members_sure}
 use Rattle.twkb_body.proofs.quick.+take_sure.Goals as goal
@@ -13,7 +13,7 @@ take_sure-returns-in-None t c =
     let flat = c.in_ok-flat.flat in
     let fits : to_z w8 (of_z w8 flat.head.xy) ≡ flat.head.xy = omega (arith, ints, c.in_ok-flat.ensures.xy.0, c.in_ok-flat.ensures.xy.1) in
     let under = rw fits at c.in_ok-frame.ensures in
-    geometry_sure (whole_head flat) flat.head c.args.depth c.args.above.now c.in_ok-frame.frame c.args.cursor.now c.read_flat_head.new.cursor _ _ c.requires.shallowest c.requires.deepest c.place-start.ensures.sound
+    geometry_sure (whole_head flat) flat.head c.args.depth c.args.above.now c.in_ok-frame.frame c.args.cursor.now c.read_raw_head.new.cursor _ _ c.requires.shallowest c.requires.deepest c.place-start.ensures.sound
     c.in_ok-flat.ensures.ok c.in_ok-flat.ensures.moved refl (own_box flat c.args.above.now c.in_ok-frame.frame under) under.above_holds c.in_ok-vertices.ensures
     (c.in-None.ensures ∙ ap (size_judged flat.head.size) c.place-stop.ensures.value)
 

@@ -3,7 +3,7 @@ use Rattle.std.proofs.lemmas.Int.{ints}
 use mir.Val.{to_z, of_z}
 use Rattle.std.specs.Int.{w64}
 use Rattle.twkb_head.proofs.HeadSteps.{pair_range}
-use Rattle.twkb_head.proofs.flat.take_raw_range.Goals as goal
+use Rattle.twkb_head.proofs.raw.take_raw_range.Goals as goal
 
 pub returns-in-Some : goal.returns-in-Some
 returns-in-Some c =
