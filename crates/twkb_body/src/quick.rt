@@ -1,17 +1,17 @@
 //! The quick pass: blobs of the common forms, which it certifies at sight. What it isn't sure of goes to the audit.
 //!
-//! It is sure of geometries of X and Y alone, with no empty one among them, whose ids rise, and where each box lies in that
-//! of the geometry above, at the same precision. Then a box holds all vertices below it if each box holds the points
-//! of its own geometry, and no extent is handed up.
+//! It is sure of geometries with no empty one among them, whose ids rise, and where each box lies in that of the geometry
+//! above, and what stands below a box has its axes at its precisions. Then a box holds all vertices below it if each box
+//! holds the points of its own geometry, and no extent is handed up.
 ghost use Rattle.std.specs.Prelude.{◌≡◌, ◌-◌, ◌+◌, ◌≤◌, None, false, true, IfSome, IfNone, Ok};
 ghost use Rattle.twkb_num.specs.Units.{IsPrecision};
 ghost use Rattle.twkb_head.specs.BegunHeader.{deepest, is_collection, IsAllowedAt};
-ghost use Rattle.twkb_head.specs.Header.{is_multi};
+ghost use Rattle.twkb_head.specs.Header.{axes_with, is_multi};
 ghost use Rattle.twkb_body.specs.BodyPlan.{ListHead};
 ghost use Rattle.twkb_body.specs.BodyReader.{count_at, list_at};
 ghost use Rattle.twkb_body.specs.IdLists.{IsListFound};
 ghost use Rattle.twkb_body.specs.Inside.{of_head};
-ghost use Rattle.twkb_body.specs.Sure.{AddsParts, IsSureBody, IsSure};
+ghost use Rattle.twkb_body.specs.Sure.{framed, AddsParts, IsSureBody, IsSure};
 
 use crate::boxed::Boxed;
 use crate::found::judge_size;
@@ -80,13 +80,13 @@ fn take_sure(cursor: &mut Cursor, depth: u8, above: &Option<Frame>) -> Option<us
 {
     // The proof knows from here that the place is within the bytes.
     let _start = cursor.place();
-    let flat = read_raw_head(cursor, depth)?;
+    let raw = read_raw_head(cursor, depth)?;
     // The proof knows from here that the place is within the bytes.
     let _body = cursor.place();
-    let frame = Frame::under(above, flat.head.xy, flat.bounds)?;
-    let vertices = take_sure_body(cursor, depth, &flat.head, &frame)?;
+    let frame = Frame::under(above, &raw.head, raw.bounds)?;
+    let vertices = take_sure_body(cursor, depth, &raw.head, &frame)?;
     let stop = cursor.place();
-    match judge_size(flat.head.size, stop) {
+    match judge_size(raw.head.size, stop) {
         None => Some(vertices),
         Some(_) => None,
     }
@@ -104,10 +104,10 @@ fn take_sure_body(
     requires shallowest { 1 ≤ depth }
     requires allowed { IsAllowedAt head.now.kind depth }
     requires xy { IsPrecision head.now.xy }
-    requires z { head.now.z ≡ None }
-    requires m { head.now.m ≡ None }
+    requires z_high { IfSome head.now.z (λ p. p ≤ 7) }
+    requires m_high { IfSome head.now.m (λ p. p ≤ 7) }
     requires full { head.now.empty ≡ false }
-    requires frame { IfSome frame.now (λ f. f.xy ≡ head.now.xy) }
+    requires frame { IfSome frame.now (λ f. f ≡ framed head.now f.bounds) }
     ensures { IfSome result (IsSureBody (deepest - depth) head.now frame.now cursor.old cursor.new) }
 {
     if head.kind.is_collection() {
@@ -152,40 +152,61 @@ fn take_sure_shape(
     frame: &Option<Frame>,
 ) -> Option<usize>
     requires xy { IsPrecision head.now.xy }
-    requires z { head.now.z ≡ None }
-    requires m { head.now.m ≡ None }
+    requires z_high { IfSome head.now.z (λ p. p ≤ 7) }
+    requires m_high { IfSome head.now.m (λ p. p ≤ 7) }
     requires full { head.now.empty ≡ false }
     requires kind { is_collection head.now.kind ≡ false }
-    requires frame { IfSome frame.now (λ f. f.xy ≡ head.now.xy) }
+    requires frame { IfSome frame.now (λ f. f ≡ framed head.now f.bounds) }
     ensures { IfSome result (IsSureBody (deepest - depth) head.now frame.now cursor.old cursor.new) }
 {
     match frame {
         Some(frame) => {
             let mut boxed = Boxed::new(&frame.bounds)?;
-            let vertices = take_flat_parts(cursor, head, &mut boxed)?;
+            let vertices = take_sure_parts(cursor, head, &mut boxed)?;
             if !boxed.is_inside() {
                 return None;
             }
             Some(vertices)
         }
         None => {
-            let vertices = take_flat_parts(cursor, head, &mut Unboxed)?;
+            let vertices = take_sure_parts(cursor, head, &mut Unboxed)?;
             Some(vertices)
         }
     }
 }
 
-/// The parts of a body of X and Y alone.
+/// The parts of a body, of as many axes as its header has: the compiler knows how many.
 #[inline(always)]
-fn take_flat_parts<P: Points>(cursor: &mut Cursor, head: &Head, points: &mut P) -> Option<usize>
+fn take_sure_parts<P: Points>(cursor: &mut Cursor, head: &Head, points: &mut P) -> Option<usize>
     requires xy { IsPrecision head.now.xy }
-    requires z { head.now.z ≡ None }
-    requires m { head.now.m ≡ None }
-    ensures { IfSome result (AddsParts (P.step (of_head head.now)) head.now 2 cursor.old cursor.new (P.state points.old) (P.state points.new)) }
+    requires z_high { IfSome head.now.z (λ p. p ≤ 7) }
+    requires m_high { IfSome head.now.m (λ p. p ≤ 7) }
+    ensures { IfSome result (AddsParts (P.step (of_head head.now)) head.now (axes_with head.now.z head.now.m) cursor.old cursor.new (P.state points.old) (P.state points.new)) }
+{
+    match head.axes() {
+        2 => take_parts_of(cursor, head, 2, points),
+        3 => take_parts_of(cursor, head, 3, points),
+        _ => take_parts_of(cursor, head, 4, points),
+    }
+}
+
+/// The parts of a body of so many axes.
+#[inline(always)]
+fn take_parts_of<P: Points>(
+    cursor: &mut Cursor,
+    head: &Head,
+    axes: usize,
+    points: &mut P,
+) -> Option<usize>
+    requires xy { IsPrecision head.now.xy }
+    requires z_high { IfSome head.now.z (λ p. p ≤ 7) }
+    requires m_high { IfSome head.now.m (λ p. p ≤ 7) }
+    requires axes { axes ≡ axes_with head.now.z head.now.m }
+    ensures { IfSome result (AddsParts (P.step (of_head head.now)) head.now axes cursor.old cursor.new (P.state points.old) (P.state points.new)) }
 {
     let count = take_sure_count(cursor, head)?;
     let mut trail = Trail::new();
-    let Ok(()) = take_parts(cursor, head, 2, count, &mut trail, points) else {
+    let Ok(()) = take_parts(cursor, head, axes, count, &mut trail, points) else {
         return None;
     };
     Some(trail.points)

@@ -1,6 +1,6 @@
 use Rattle.std.proofs.Common.{◌≡◌}
 use Rattle.twkb_body.proofs.ShortRuns.{IsShortRun}
-use Rattle.twkb_body.proofs.unboxed.UnboxedPoints.take_run.Given as goal
+use Rattle.twkb_body.proofs.unboxed.take_flat_run.Given as goal
 
 abbrev pub invariant-loop : goal.invariant-loop
 invariant-loop l = record {

@@ -5,7 +5,7 @@ use mir.Val.{to_z, of_z}
 use Rattle.std.specs.Int.{w64}
 use Rattle.twkb_body.specs.Boxed.{is_in_range}
 use Rattle.twkb_body.specs.Geometry.{coordinate}
-use Rattle.twkb_body.proofs.boxed.is_in_box.Goals as goal
+use Rattle.twkb_body.proofs.boxed.is_in_flat.Goals as goal
 
 pub returns-then-is_in_range : goal.returns-then-is_in_range
 returns-then-is_in_range c =

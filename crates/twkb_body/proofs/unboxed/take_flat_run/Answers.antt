@@ -3,7 +3,7 @@ use Rattle.std.proofs.lemmas.Int.{ints}
 use mir.Val.{to_z, of_z}
 use Rattle.std.specs.Int.{w64}
 use Rattle.twkb_body.proofs.ShortRuns.{short_begins, short_goes_on}
-use Rattle.twkb_body.proofs.unboxed.UnboxedPoints.take_run.Goals as goal
+use Rattle.twkb_body.proofs.unboxed.take_flat_run.Goals as goal
 
 pub loop-init : goal.loop-init
 loop-init c =
