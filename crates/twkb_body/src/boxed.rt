@@ -92,7 +92,7 @@ impl Boxed {
 
     /// A run of points of three axes or four, in the same way.
     #[inline(always)]
-    fn take_further_run(
+    pub fn take_further_run(
         &mut self,
         cursor: &mut Cursor,
         _head: &Head,
@@ -111,22 +111,22 @@ impl Boxed {
             return 0;
         }
         let mut apart = distances(&bounds, &last);
-        let mut inside = self.inside;
-        let mut done = 0;
-        while inside && done < most {
+        let mut is_inside = self.inside;
+        let mut taken = 0;
+        while is_inside && taken < most {
             let Some(more) = take_differences(cursor, has_fourth) else {
                 break;
             };
             apart = apart.plus(&more);
-            inside = reach_all(&bounds, has_fourth, &apart);
-            done += 1;
+            is_inside = reach_all(&bounds, has_fourth, &apart);
+            taken += 1;
         }
         // The proof knows from here that the place is within the bytes.
         let _stop = cursor.place();
         trail.last = placed(&bounds, &apart);
-        trail.points += done as usize;
-        self.inside = inside;
-        done
+        trail.points += taken as usize;
+        self.inside = is_inside;
+        taken
     }
 
     /// Whether it holds all points.
@@ -199,11 +199,24 @@ fn is_in_flat(bounds: &RawBox, point: &[i64; 4]) -> bool
 }
 
 /// Whether a box holds the other coordinates of a point that has so many axes.
-#[inline(always)]
+// It isn't inlined: few points have these axes, and most of those that have are read in runs.
+#[inline(never)]
 fn is_in_further(axes: usize, bounds: &RawBox, point: &[i64; 4]) -> bool
     ensures { result ≡ is_in_further axes bounds.now point.now }
 {
     is_in_axis(2 < axes, &bounds.third, point[2]) && is_in_axis(3 < axes, &bounds.fourth, point[3])
+}
+
+/// The same: nothing is asked where there are no others.
+#[inline(always)]
+fn is_in_others(axes: usize, bounds: &RawBox, point: &[i64; 4]) -> bool
+    ensures { result ≡ is_in_further axes bounds.now point.now }
+{
+    if axes <= 2 {
+        true
+    } else {
+        is_in_further(axes, bounds, point)
+    }
 }
 
 /// Whether a box holds all coordinates of a point that has so many axes.
@@ -211,7 +224,7 @@ fn is_in_further(axes: usize, bounds: &RawBox, point: &[i64; 4]) -> bool
 fn is_in_box(axes: usize, bounds: &RawBox, point: &[i64; 4]) -> bool
     ensures { result ≡ is_in_box axes bounds.now point.now }
 {
-    is_in_further(axes, bounds, point) && is_in_flat(bounds, point)
+    is_in_others(axes, bounds, point) && is_in_flat(bounds, point)
 }
 
 /// Whether the ranges behind that of Y are near zero, and so are the coordinates of a point.
@@ -315,10 +328,10 @@ impl Points for Boxed {
         most: u64,
         trail: &mut Trail,
     ) -> u64 {
-        match axes {
-            2 => self.take_flat_run(cursor, head, most, trail),
-            3 => self.take_further_run(cursor, head, false, most, trail),
-            _ => self.take_further_run(cursor, head, true, most, trail),
+        if axes == 2 {
+            self.take_flat_run(cursor, head, most, trail)
+        } else {
+            0
         }
     }
 }

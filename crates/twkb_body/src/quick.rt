@@ -3,25 +3,27 @@
 //! It is sure of geometries with no empty one among them, whose ids rise, and where each box lies in that of the geometry
 //! above, and what stands below a box has its axes at its precisions. Then a box holds all vertices below it if each box
 //! holds the points of its own geometry, and no extent is handed up.
-ghost use Rattle.std.specs.Prelude.{◌≡◌, ◌-◌, ◌+◌, ◌≤◌, None, false, true, IfSome, IfNone, Ok};
+ghost use Rattle.std.specs.Prelude.{◌≡◌, ◌-◌, ◌+◌, ◌≤◌, None, false, true, Some, IfSome, IfNone, IsTrue, Ok};
 ghost use Rattle.twkb_num.specs.Units.{IsPrecision};
 ghost use Rattle.twkb_head.specs.BegunHeader.{deepest, is_collection, IsAllowedAt};
 ghost use Rattle.twkb_head.specs.Header.{axes_with, is_multi};
 ghost use Rattle.twkb_body.specs.BodyPlan.{ListHead};
 ghost use Rattle.twkb_body.specs.BodyReader.{count_at, list_at};
 ghost use Rattle.twkb_body.specs.IdLists.{IsListFound};
+ghost use Rattle.twkb_body.specs.Found.{size_judged};
 ghost use Rattle.twkb_body.specs.Inside.{of_head};
 ghost use Rattle.twkb_body.specs.Sure.{framed, AddsParts, IsSureBody, IsSure};
 
 use crate::boxed::Boxed;
 use crate::found::judge_size;
 use crate::frame::Frame;
+use crate::further::{BoxedFour, BoxedThree};
 use crate::lists::take_rising;
 use crate::parts::take_parts;
 use crate::points::Points;
 use crate::trail::Trail;
 use crate::unboxed::Unboxed;
-use twkb_head::{Head, read_raw_head, read_sized_point_head, take_number};
+use twkb_head::{Head, read_flat_head, read_raw_head, read_sized_point_head, take_number};
 use twkb_num::Cursor;
 
 /// How many vertices the blob at the place has, if the quick pass is sure of it; it is passed. Else `None`: what was looked
@@ -80,22 +82,81 @@ fn take_sure(cursor: &mut Cursor, depth: u8, above: &Option<Frame>) -> Option<us
 {
     // The proof knows from here that the place is within the bytes.
     let _start = cursor.place();
+    let Some(flat) = read_flat_head(cursor, depth) else {
+        return take_further(cursor, depth, above);
+    };
+    // The proof knows from here that the place is within the bytes.
+    let _body = cursor.place();
+    let frame = Frame::under(above, &flat.head, flat.bounds)?;
+    let vertices = take_flat_body(cursor, depth, &flat.head, &frame)?;
+    let stop = cursor.place();
+    if !is_size_true(&flat.head, stop) {
+        return None;
+    }
+    Some(vertices)
+}
+
+/// The same of any geometry that isn't empty, also with an extended dimensions byte.
+// It isn't inlined, so that geometries of X and Y alone are read with all in registers.
+#[cycle(take_sure)]
+#[inline(never)]
+fn take_further(cursor: &mut Cursor, depth: u8, above: &Option<Frame>) -> Option<usize>
+    requires shallowest { 1 ≤ depth }
+    requires deepest { depth ≤ deepest }
+    ensures { IfSome result (IsSure (deepest - depth) above.now cursor.old cursor.new) }
+{
+    // The proof knows from here that the place is within the bytes.
+    let _start = cursor.place();
     let raw = read_raw_head(cursor, depth)?;
     // The proof knows from here that the place is within the bytes.
     let _body = cursor.place();
-    let frame = Frame::under(above, &raw.head, raw.bounds)?;
-    let vertices = take_sure_body(cursor, depth, &raw.head, &frame)?;
+    let own = Frame::under(above, &raw.head, raw.bounds)?;
+    let vertices = take_further_body(cursor, depth, &raw.head, &own)?;
     let stop = cursor.place();
-    match judge_size(raw.head.size, stop) {
-        None => Some(vertices),
-        Some(_) => None,
+    if !is_size_true(&raw.head, stop) {
+        return None;
+    }
+    Some(vertices)
+}
+
+/// Whether the size of a geometry that ends there is true, if its header has one.
+#[inline(always)]
+fn is_size_true(head: &Head, stop: usize) -> bool
+    requires { IfSome head.now.size (λ size. size.after ≤ stop) }
+    ensures { IsTrue result → size_judged head.now.size stop ≡ None }
+{
+    judge_size(head.size, stop).is_none()
+}
+
+/// The body of a geometry of X and Y alone that stands at `depth`, if the frame holds its vertices.
+#[cycle(take_sure)]
+#[inline(always)]
+fn take_flat_body(
+    cursor: &mut Cursor,
+    depth: u8,
+    head: &Head,
+    frame: &Option<Frame>,
+) -> Option<usize>
+    requires shallowest { 1 ≤ depth }
+    requires allowed { IsAllowedAt head.now.kind depth }
+    requires xy { IsPrecision head.now.xy }
+    requires z { head.now.z ≡ None }
+    requires m { head.now.m ≡ None }
+    requires full { head.now.empty ≡ false }
+    requires frame { IfSome frame.now (λ f. f ≡ framed head.now f.bounds) }
+    ensures { IfSome result (IsSureBody (deepest - depth) head.now frame.now cursor.old cursor.new) }
+{
+    if head.kind.is_collection() {
+        take_sure_members(cursor, depth, head, frame)
+    } else {
+        take_flat_shape(cursor, depth, head, frame)
     }
 }
 
 /// The body of a geometry that stands at `depth`, if the frame holds its vertices.
 #[cycle(take_sure)]
 #[inline(always)]
-fn take_sure_body(
+fn take_further_body(
     cursor: &mut Cursor,
     depth: u8,
     head: &Head,
@@ -113,7 +174,7 @@ fn take_sure_body(
     if head.kind.is_collection() {
         take_sure_members(cursor, depth, head, frame)
     } else {
-        take_sure_shape(cursor, depth, head, frame)
+        take_further_shape(cursor, depth, head, frame)
     }
 }
 
@@ -143,9 +204,41 @@ fn take_sure_members(
     Some(vertices)
 }
 
+/// The body of a geometry of X and Y alone that stands at `depth` and is no collection, if the frame holds its points.
+#[inline(always)]
+fn take_flat_shape(
+    cursor: &mut Cursor,
+    depth: u8,
+    head: &Head,
+    frame: &Option<Frame>,
+) -> Option<usize>
+    requires xy { IsPrecision head.now.xy }
+    requires z { head.now.z ≡ None }
+    requires m { head.now.m ≡ None }
+    requires full { head.now.empty ≡ false }
+    requires kind { is_collection head.now.kind ≡ false }
+    requires frame { IfSome frame.now (λ f. f ≡ framed head.now f.bounds) }
+    ensures { IfSome result (IsSureBody (deepest - depth) head.now frame.now cursor.old cursor.new) }
+{
+    match frame {
+        Some(frame) => {
+            let mut boxed = Boxed::new(&frame.bounds)?;
+            let vertices = take_parts_of(cursor, head, 2, &mut boxed)?;
+            if !boxed.is_inside() {
+                return None;
+            }
+            Some(vertices)
+        }
+        None => {
+            let vertices = take_parts_of(cursor, head, 2, &mut Unboxed)?;
+            Some(vertices)
+        }
+    }
+}
+
 /// The body of a geometry that stands at `depth` and is no collection, if the frame holds its points.
 #[inline(always)]
-fn take_sure_shape(
+fn take_further_shape(
     cursor: &mut Cursor,
     depth: u8,
     head: &Head,
@@ -160,34 +253,80 @@ fn take_sure_shape(
     ensures { IfSome result (IsSureBody (deepest - depth) head.now frame.now cursor.old cursor.new) }
 {
     match frame {
-        Some(frame) => {
-            let mut boxed = Boxed::new(&frame.bounds)?;
-            let vertices = take_sure_parts(cursor, head, &mut boxed)?;
-            if !boxed.is_inside() {
-                return None;
-            }
-            Some(vertices)
-        }
-        None => {
-            let vertices = take_sure_parts(cursor, head, &mut Unboxed)?;
-            Some(vertices)
-        }
+        Some(frame) => match head.axes() {
+            4 => take_boxed_four(cursor, depth, head, frame),
+            3 => take_boxed_three(cursor, depth, head, frame),
+            _ => None,
+        },
+        None => take_further_unboxed(cursor, depth, head),
     }
 }
 
-/// The parts of a body, of as many axes as its header has: the compiler knows how many.
-#[inline(always)]
-fn take_sure_parts<P: Points>(cursor: &mut Cursor, head: &Head, points: &mut P) -> Option<usize>
+/// The same of three axes, in a frame.
+// This and the next two aren't inlined, since a function that would grow very large has nothing inlined.
+#[inline(never)]
+fn take_boxed_three(
+    cursor: &mut Cursor,
+    depth: u8,
+    head: &Head,
+    frame: &Frame,
+) -> Option<usize>
     requires xy { IsPrecision head.now.xy }
     requires z_high { IfSome head.now.z (λ p. p ≤ 7) }
     requires m_high { IfSome head.now.m (λ p. p ≤ 7) }
-    ensures { IfSome result (AddsParts (P.step (of_head head.now)) head.now (axes_with head.now.z head.now.m) cursor.old cursor.new (P.state points.old) (P.state points.new)) }
+    requires full { head.now.empty ≡ false }
+    requires kind { is_collection head.now.kind ≡ false }
+    requires axes { axes_with head.now.z head.now.m ≡ 3 }
+    requires frame { frame.now ≡ framed head.now frame.now.bounds }
+    ensures { IfSome result (IsSureBody (deepest - depth) head.now (Some frame.now) cursor.old cursor.new) }
 {
-    match head.axes() {
-        2 => take_parts_of(cursor, head, 2, points),
-        3 => take_parts_of(cursor, head, 3, points),
-        _ => take_parts_of(cursor, head, 4, points),
+    let boxed = Boxed::new(&frame.bounds)?;
+    let mut three = BoxedThree { boxed };
+    let vertices = take_parts_of(cursor, head, 3, &mut three)?;
+    if !three.boxed.is_inside() {
+        return None;
     }
+    Some(vertices)
+}
+
+/// The same of four axes.
+#[inline(never)]
+fn take_boxed_four(
+    cursor: &mut Cursor,
+    depth: u8,
+    head: &Head,
+    frame: &Frame,
+) -> Option<usize>
+    requires xy { IsPrecision head.now.xy }
+    requires z_high { IfSome head.now.z (λ p. p ≤ 7) }
+    requires m_high { IfSome head.now.m (λ p. p ≤ 7) }
+    requires full { head.now.empty ≡ false }
+    requires kind { is_collection head.now.kind ≡ false }
+    requires axes { axes_with head.now.z head.now.m ≡ 4 }
+    requires frame { frame.now ≡ framed head.now frame.now.bounds }
+    ensures { IfSome result (IsSureBody (deepest - depth) head.now (Some frame.now) cursor.old cursor.new) }
+{
+    let boxed = Boxed::new(&frame.bounds)?;
+    let mut four = BoxedFour { boxed };
+    let vertices = take_parts_of(cursor, head, 4, &mut four)?;
+    if !four.boxed.is_inside() {
+        return None;
+    }
+    Some(vertices)
+}
+
+/// The same in no frame.
+#[inline(never)]
+fn take_further_unboxed(cursor: &mut Cursor, depth: u8, head: &Head) -> Option<usize>
+    requires xy { IsPrecision head.now.xy }
+    requires z_high { IfSome head.now.z (λ p. p ≤ 7) }
+    requires m_high { IfSome head.now.m (λ p. p ≤ 7) }
+    requires full { head.now.empty ≡ false }
+    requires kind { is_collection head.now.kind ≡ false }
+    ensures { IfSome result (IsSureBody (deepest - depth) head.now None cursor.old cursor.new) }
+{
+    let vertices = take_parts_of(cursor, head, head.axes(), &mut Unboxed)?;
+    Some(vertices)
 }
 
 /// The parts of a body of so many axes.

@@ -47,7 +47,7 @@ pub use boxes::{Bounds, Span, Vertex};
 pub use fields::{take_number, take_signed};
 pub use header::{BoxField, Head, SizeField};
 pub use kinds::{DEEPEST, Kind};
-pub use raw::{RawBox, RawHead, RawRange, read_raw_head, read_sized_point_head};
+pub use raw::{RawBox, RawHead, RawRange, read_flat_head, read_raw_head, read_sized_point_head};
 pub use read::read_head;
 pub use refusal::{Malformed, Why};
 pub use twkb_num::Cursor;

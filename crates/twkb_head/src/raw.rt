@@ -5,7 +5,7 @@ ghost use Rattle.twkb_num.specs.Units.{IsPrecision};
 ghost use Rattle.twkb_head.specs.BegunHeader.{deepest};
 ghost use Rattle.twkb_head.specs.Raw.{raw_bounds, whole_head, AreFieldsOf, IsRangeIf, IsSizedPoint};
 ghost use Rattle.twkb_head.specs.Head.{IsHeadAt};
-ghost use Rattle.twkb_head.specs.Header.{has_bit};
+ghost use Rattle.twkb_head.specs.Header.{has_bit, z_in, m_in};
 ghost use Rattle.twkb_head.specs.HeadReader.{range_from, bounds_from, head_at};
 ghost use Rattle.twkb_head.specs.Reader.{byte_at, optional_at};
 
@@ -13,7 +13,7 @@ use crate::bits::{BOX, EMPTY, EXTENDED, SIZE, has_bit, ids_of, m_of, z_of};
 use crate::fields::{take_byte, take_signed, take_type};
 use crate::header::Head;
 use crate::kinds::Kind;
-use crate::read::{size_field, take_size};
+use crate::read::{size_field, take_extended, take_size};
 use twkb_num::Cursor;
 
 /// The two numbers of an axis of a box: a minimum, and the extent from there to the maximum.
@@ -66,6 +66,27 @@ pub fn read_raw_head(cursor: &mut Cursor, depth: u8) -> Option<RawHead>
     Some(raw)
 }
 
+/// The same, if it has no extended dimensions byte. Else `None`, and the cursor is as it was.
+// Most layers have no other headers. Here the compiler knows which axes there are.
+#[inline(always)]
+pub fn read_flat_head(cursor: &mut Cursor, depth: u8) -> Option<RawHead>
+    requires shallowest { 1 ≤ depth }
+    requires deepest { depth ≤ deepest }
+    ensures ok { IfSome result (λ flat. IsHeadAt (whole_head flat) depth cursor.old.place (passed cursor.old cursor.new)) }
+    ensures moved { OnSome result (IsMoved cursor.old cursor.new) }
+    ensures none { IfNone result (cursor.new ≡ cursor.old) }
+    ensures xy { IfSome result (λ flat. IsPrecision flat.head.xy) }
+    ensures flat { IfSome result (λ flat. (flat.head.z ≡ None) × (flat.head.m ≡ None) × (flat.head.empty ≡ false)) }
+    ensures no_box { IfSome result (λ flat. flat.head.bounds ≡ None) }
+{
+    // The proof knows from here that the place is within the bytes.
+    let _start = cursor.place();
+    let mut ahead = cursor.ahead();
+    let flat = take_flat_head(&mut ahead, depth)?;
+    *cursor = ahead;
+    Some(flat)
+}
+
 /// The size in the header at the place, if it is the header of a point that has a size of one byte and nothing else. Else
 /// `None`, and the cursor is as it was.
 #[inline(always)]
@@ -82,9 +103,7 @@ pub fn read_sized_point_head(cursor: &mut Cursor) -> Option<u64>
     Some(u64::from(word[2]))
 }
 
-/// The fields of such a header, in order.
-// Headers of X and Y alone, of which most layers have no others, have a path of their own: there the compiler knows which
-// axes there are.
+/// The fields of a header, in order.
 #[inline(always)]
 fn take_raw_head(cursor: &mut Cursor, depth: u8) -> Option<RawHead>
     requires { depth ≤ deepest }
@@ -102,37 +121,36 @@ fn take_raw_head(cursor: &mut Cursor, depth: u8) -> Option<RawHead>
     let Ok(metadata) = take_byte(cursor) else {
         return None;
     };
-    if has_bit(metadata, EXTENDED) || has_bit(metadata, EMPTY) {
-        take_extended_head(cursor, start, kind, xy, metadata)
-    } else {
-        take_raw_fields(cursor, start, kind, xy, metadata, None)
-    }
-}
-
-/// What is behind the metadata byte, if it announces an extended dimensions byte and a geometry that isn't empty.
-#[inline(never)]
-fn take_extended_head(
-    cursor: &mut Cursor,
-    start: usize,
-    kind: Kind,
-    xy: i8,
-    metadata: u8,
-) -> Option<RawHead>
-    requires { IsPrecision xy }
-    ensures fields { IfSome result (λ raw. AreFieldsOf raw start kind xy metadata cursor.old cursor.new) }
-    ensures xy { IfSome result (λ raw. IsPrecision raw.head.xy) }
-    ensures z_high { IfSome result (λ raw. IfSome raw.head.z (λ p. p ≤ 7)) }
-    ensures m_high { IfSome result (λ raw. IfSome raw.head.m (λ p. p ≤ 7)) }
-    ensures full { IfSome result (λ raw. raw.head.empty ≡ false) }
-    ensures no_box { IfSome result (λ raw. raw.head.bounds ≡ None) }
-{
-    if has_bit(metadata, EMPTY) || !has_bit(metadata, EXTENDED) {
-        return None;
-    }
-    let Ok(extended) = take_byte(cursor) else {
+    let Ok(extended) = take_extended(cursor, has_bit(metadata, EXTENDED)) else {
         return None;
     };
-    take_raw_fields(cursor, start, kind, xy, metadata, Some(extended))
+    if has_bit(metadata, EMPTY) {
+        return None;
+    }
+    take_raw_fields(cursor, start, kind, xy, metadata, extended)
+}
+
+/// The same of a header with no extended dimensions byte.
+#[inline(always)]
+fn take_flat_head(cursor: &mut Cursor, depth: u8) -> Option<RawHead>
+    requires { depth ≤ deepest }
+    ensures read { IfSome result (λ flat. head_at (deepest - depth) cursor.old ≡ (Ok (whole_head flat), cursor.new)) }
+    ensures xy { IfSome result (λ flat. IsPrecision flat.head.xy) }
+    ensures flat { IfSome result (λ flat. (flat.head.z ≡ None) × (flat.head.m ≡ None) × (flat.head.empty ≡ false)) }
+    ensures no_box { IfSome result (λ flat. flat.head.bounds ≡ None) }
+{
+    let start = cursor.place();
+    let Ok((kind, xy)) = take_type(cursor, depth) else {
+        return None;
+    };
+    let Ok(metadata) = take_byte(cursor) else {
+        return None;
+    };
+    if has_bit(metadata, EXTENDED) || has_bit(metadata, EMPTY) {
+        return None;
+    }
+    let flat = take_raw_fields(cursor, start, kind, xy, metadata, None)?;
+    Some(flat)
 }
 
 /// What is behind the extended dimensions byte, if there is one, of a geometry that isn't empty.
@@ -147,6 +165,7 @@ fn take_raw_fields(
 ) -> Option<RawHead>
     requires xy { IsPrecision xy }
     requires full { has_bit metadata 16 ≡ false }
+    ensures axes { IfSome result (λ raw. (raw.head.z ≡ z_in extended) × (raw.head.m ≡ m_in extended)) }
     ensures fields { (before : Reading) → optional_at (has_bit metadata 8) byte_at before ≡ (Ok extended, cursor.old)
         → IfSome result (λ raw. AreFieldsOf raw start kind xy metadata before cursor.new) }
     ensures xy { IfSome result (λ raw. IsPrecision raw.head.xy) }
@@ -214,13 +233,22 @@ fn take_range_if(cursor: &mut Cursor, is_there: bool) -> Option<RawRange>
     ensures { IfSome result (λ range. IsRangeIf is_there range cursor.old cursor.new) }
 {
     if is_there {
-        take_raw_range(cursor)
+        take_further_range(cursor)
     } else {
         Some(RawRange {
             minimum: 0,
             extent: 0,
         })
     }
+}
+
+/// Minimum and extent of Z or M.
+// It isn't inlined: few boxes have these axes, and a header that is smaller is inlined into each function that reads one.
+#[inline(never)]
+fn take_further_range(cursor: &mut Cursor) -> Option<RawRange>
+    ensures { IfSome result (λ range. range_from cursor.old ≡ (Ok (range.minimum, range.minimum +ℤ range.extent), cursor.new)) }
+{
+    take_raw_range(cursor)
 }
 
 /// Minimum and extent of an axis, from one word of eight bytes where they are short.
