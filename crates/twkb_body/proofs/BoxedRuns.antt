@@ -1,6 +1,6 @@
 -- Runs of points of two axes that a box holds: their distances from its minimum are at most its extent, so no sum leaves
 -- 64 bits.
-use Rattle.std.proofs.Common.{◌≡◌, ℕ, ◌+◌, ◌^◌, Bool, true, false, ◌&&◌, ◌∷◌, length, drop, slice_index_or, ℤ, pos, neg_ℤ, ◌+ℤ◌, ◌-ℤ◌, ◌≤ℤ◌, refl, sym, ap, ap₂, subst, ◌∙◌, arith}
+use Rattle.std.proofs.Common.{◌≡◌, ℕ, ◌+◌, Bool, true, false, ◌&&◌, ◌∷◌, length, drop, slice_index_or, ℤ, pos, ◌+ℤ◌, ◌-ℤ◌, ◌≤ℤ◌, refl, sym, ap, ap₂, subst, ◌∙◌, arith}
 use Rattle.std.proofs.lemmas.Bool.Decides.{Decides-and}
 use Rattle.std.proofs.lemmas.Int.{ints}
 use mir.Val.{SFits}
@@ -8,11 +8,11 @@ use Rattle.std.specs.Bool.{Decides}
 use Rattle.std.specs.Int.{w64}
 use Rattle.twkb_num.specs.Cursor.{Reading, passed, IsMoved}
 use Rattle.twkb_num.specs.Varint.{SpellsTwoSigned, IsShort}
-use Rattle.twkb_head.specs.Header.{Header}
-use Rattle.twkb_head.specs.declared.flat.RawBox.{RawBox}
-use Rattle.twkb_head.specs.declared.flat.RawRange.{RawRange}
+use Rattle.twkb_head.specs.Header.{Header, axes_of}
+use Rattle.twkb_head.specs.declared.raw.RawBox.{RawBox}
+use Rattle.twkb_head.specs.declared.raw.RawRange.{RawRange}
 use Rattle.twkb_body.specs.declared.trail.Trail.{Trail}
-use Rattle.twkb_body.specs.Boxed.{reaches, is_in_box, Held, held_with, IsNearRange, IsNearBox}
+use Rattle.twkb_body.specs.Boxed.{reaches, is_in_box, Held, held_with, IsNear, IsClose, IsMet, IsNearRange, IsNearBox}
 use Rattle.twkb_body.specs.Geometry.{PointValue}
 use Rattle.twkb_body.proofs.FlatRuns.{has_64_bits, IsFlatRun, flat_begins, flat_goes_on}
 use Rattle.twkb_body.proofs.Judging.{le_decides}
@@ -20,31 +20,20 @@ use Rattle.twkb_body.proofs.Judging.{le_decides}
 pub reaches_decides : (extent distance : ℤ) → Decides (reaches extent distance) ((pos 0 ≤ℤ distance) × (distance ≤ℤ extent))
 reaches_decides extent distance = Decides-and _ _ (le_decides (pos 0) distance) (le_decides distance extent)
 
--- distances that a run meets, and those of points in the box
-abbrev IsMet : ℤ → Type 0
-IsMet z = (neg_ℤ (pos (2 ^ 62 + 2 ^ 27)) ≤ℤ z) × (z ≤ℤ pos (2 ^ 62 + 2 ^ 27))
-
-abbrev IsClose : ℤ → Type 0
-IsClose z = (neg_ℤ (pos (2 ^ 62)) ≤ℤ z) × (z ≤ℤ pos (2 ^ 62))
-
--- a number near zero
-abbrev pub IsNear : ℤ → Type 0
-IsNear z = (neg_ℤ (pos (2 ^ 61)) ≤ℤ z) × (z ≤ℤ pos (2 ^ 61))
-
-reached : (range : RawRange) (distance : ℤ) → IsNearRange range → reaches range.extent distance ≡ true → IsClose distance
+pub reached : (range : RawRange) (distance : ℤ) → IsNearRange range → reaches range.extent distance ≡ true → IsClose distance
 reached range distance near e =
     let within = (reaches_decides range.extent distance).0 e in
     (omega (arith, ints, within.0), omega (arith, ints, within.1, near.few))
 
-met : (distance more : ℤ) → IsClose distance → IsShort more → IsMet (distance +ℤ more)
+pub met : (distance more : ℤ) → IsClose distance → IsShort more → IsMet (distance +ℤ more)
 met distance more close short = (omega (arith, ints, close.0, short.0), omega (arith, ints, close.1, short.1))
 
 -- the coordinate at a distance
-at_fits : (range : RawRange) (distance more : ℤ) → IsNearRange range → IsClose distance → IsShort more → SFits w64 ((range.minimum +ℤ distance) +ℤ more)
+pub at_fits : (range : RawRange) (distance more : ℤ) → IsNearRange range → IsClose distance → IsShort more → SFits w64 ((range.minimum +ℤ distance) +ℤ more)
 at_fits range distance more near close short =
     has_64_bits ((range.minimum +ℤ distance) +ℤ more) (omega (arith, ints, near.low, close.0, short.0)) (omega (arith, ints, near.high, close.1, short.1))
 
-from_minimum : (low distance : ℤ) → (low +ℤ distance) -ℤ low ≡ distance
+pub from_minimum : (low distance : ℤ) → (low +ℤ distance) -ℤ low ≡ distance
 from_minimum low distance = omega (arith, ints)
 
 pub both_true : (a b : Bool) → a && b ≡ true → (a ≡ true) × (b ≡ true)
@@ -74,10 +63,10 @@ module _ (h : Header) (start : Trail) (state : Held) (from : Reading) (box : Raw
     );
   }
 
-  pub boxed_goes_on : (across up x_more y_more across_next up_next : ℤ) (inside inside_next : Bool) (r new : Reading) (i : ℕ) → inside ≡ true → IsNearBox box
+  pub boxed_goes_on : (across up x_more y_more across_next up_next : ℤ) (inside inside_next : Bool) (r new : Reading) (i : ℕ) → axes_of h ≡ 2 → inside ≡ true → IsNearBox box
       → SpellsTwoSigned (passed r new) x_more y_more → IsShort x_more → IsShort y_more → IsMoved r new → across_next ≡ across +ℤ x_more → up_next ≡ up +ℤ y_more
       → inside_next ≡ (reaches box.x.extent across_next && reaches box.y.extent up_next) → IsBoxedRun across up inside r i → IsBoxedRun across_next up_next inside_next new (i + 1)
-  boxed_goes_on across up x_more y_more across_next up_next inside inside_next r new i so near spells x_short y_short moved across_is up_is inside_is l = record {
+  boxed_goes_on across up x_more y_more across_next up_next inside inside_next r new i two so near spells x_short y_short moved across_is up_is inside_is l = record {
     run = flat_goes_on (held_with h) start state from (box.x.minimum +ℤ across) (box.y.minimum +ℤ up) x_more y_more (box.x.minimum +ℤ across_next) (box.y.minimum +ℤ up_next)
         (record { box = box; inside = inside }) (record { box = box; inside = inside_next }) r new i spells moved
         (at_fits box.x across x_more near.0 close.0 x_short) (at_fits box.y up y_more near.1 close.1 y_short)
@@ -93,6 +82,6 @@ module _ (h : Header) (start : Trail) (state : Held) (from : Reading) (box : Raw
       point : PointValue
       point = (box.x.minimum +ℤ across_next) ∷ (box.y.minimum +ℤ up_next) ∷ drop 2 start.last
 
-      judged : inside_next ≡ (inside && is_in_box box point)
+      judged : inside_next ≡ (inside && is_in_box (axes_of h) box point)
       judged = inside_is ∙ ap₂ (λ (a b : ℤ). reaches box.x.extent a && reaches box.y.extent b) (sym (from_minimum box.x.minimum across_next)) (sym (from_minimum box.y.minimum up_next))
-          ∙ ap (λ (b : Bool). b && is_in_box box point) (sym so)
+          ∙ ap (λ (axes : ℕ). is_in_box axes box point) (sym two) ∙ ap (λ (b : Bool). b && is_in_box (axes_of h) box point) (sym so)

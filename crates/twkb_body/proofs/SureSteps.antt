@@ -1,32 +1,34 @@
 -- The steps of the quick pass: what holds of all points holds of the box, and nothing of the geometry is false.
-use Rattle.std.proofs.Common.{◌≡◌, ℕ, zero, suc, ◌+◌, ◌-◌, ◌/◌, ◌%◌, ◌^◌, ◌<◌, ◌≤◌, ◌==◌, if◌then◌else◌, Bool, true, false, List, [], ◌∷◌, ◌++◌, map, fold, ℤ, pos, neg_ℤ, ◌+ℤ◌, ◌-ℤ◌, ◌≤ℤ◌, unsigned_abs, Option, Some, None, option_map, IfSome, All, Ok, refl, sym, ap, ap₂, subst, ◌∙◌, arith}
-use Rattle.std.proofs.lemmas.Bool.{lt-ltb, eq-eqb}
+use Rattle.std.proofs.Common.{◌≡◌, ℕ, zero, suc, ◌+◌, ◌-◌, ◌/◌, ◌%◌, ◌^◌, ◌<◌, ◌≤◌, ◌==◌, if◌then◌else◌, nat_lt, Bool, true, false, not, List, [], ◌∷◌, ◌++◌, map, fold, ℤ, pos, neg_ℤ, ◌+ℤ◌, ◌-ℤ◌, unsigned_abs, Option, Some, None, option_map, IfSome, All, Ok, refl, sym, ap, ap₂, subst, ◌∙◌, arith}
+use Rattle.std.proofs.lemmas.Bool.{lt-ltb, eq-eqb, eqb-true}
 use Rattle.std.proofs.lemmas.Int.{ints}
+use Rattle.std.specs.Option.{option_eq}
 use Rattle.std.proofs.lemmas.List.Elements.{All-nil, All-cons, All-head, All-tail, All-append}
 use Rattle.std.proofs.lemmas.List.{append-nil}
 use Rattle.twkb_num.specs.Cursor.{Reading, passed, IsMoved, IsSound}
 use Rattle.twkb_num.specs.Units.{units_of}
+use Rattle.twkb_head.specs.declared.boxes.Bounds.{Bounds}
 use Rattle.twkb_head.specs.declared.boxes.Vertex.{Vertex}
-use Rattle.twkb_head.specs.declared.flat.RawBox.{RawBox}
-use Rattle.twkb_head.specs.declared.flat.RawRange.{RawRange}
+use Rattle.twkb_head.specs.declared.raw.RawBox.{RawBox}
+use Rattle.twkb_head.specs.declared.raw.RawRange.{RawRange}
 use Rattle.twkb_head.specs.declared.header.Head.{Head}
 use Rattle.twkb_head.specs.declared.header.BoxField.{BoxField}
 use Rattle.twkb_head.specs.BegunHeader.{deepest, is_collection}
-use Rattle.twkb_head.specs.declared.flat.FlatHead.{FlatHead}
-use Rattle.twkb_head.specs.Flat.{raw_span, raw_bounds, whole_head, IsSizedPoint}
-use Rattle.twkb_head.specs.Head.{IsHeadAt}
+use Rattle.twkb_head.specs.declared.raw.RawHead.{RawHead}
+use Rattle.twkb_head.specs.Raw.{ends_of, ranges_in, raw_bounds, whole_head, IsSizedPoint}
+use Rattle.twkb_head.specs.Head.{span_at, range_of, m_axis, IsHeadAt}
 use Rattle.twkb_num.specs.Varint.{Spells, zigzag_value}
 use Rattle.twkb_head.specs.declared.kinds.Kind.{Kind}
 use Rattle.twkb_head.specs.declared.kinds.Kind.TheVariants.{Point}
 use Rattle.twkb_head.specs.Header.{Header, axes_of, axes_with, is_multi}
 use Rattle.twkb_head.specs.Plan.{fits}
 use Rattle.twkb_head.proofs.Steps.{read_signed, coordinate_ok}
-use Rattle.twkb_head.specs.Holds.{IsWithin, Holds}
+use Rattle.twkb_head.specs.Holds.{IsWithin, IsWithinBoth, Holds}
 use Rattle.twkb_head.specs.Reader.{Answer, ◌>>=◌, viewed, many_at, coordinate_at}
 use Rattle.twkb_head.proofs.HeadBack.{head_value}
 use Rattle.twkb_body.specs.declared.frame.Frame.{Frame}
 use Rattle.twkb_body.specs.declared.inside.Inside.{Inside}
-use Rattle.twkb_body.specs.Boxed.{is_in_range, is_in_box, Held, held_with}
+use Rattle.twkb_body.specs.Boxed.{is_in_range, is_in_axis, is_in_box, Held, held_with}
 use Rattle.twkb_body.specs.BodyPlan.{Body, ListHead, absolute, zeros, sums, ring_sums, parts_body, members_body, members_of}
 use Rattle.twkb_body.specs.BodyReader.{point_at, part_at, list_at, count_at, body_at, members_under}
 use Rattle.twkb_body.specs.Extent.{Reach, reach_of, both}
@@ -36,7 +38,7 @@ use Rattle.twkb_body.specs.IdLists.{IsListFound}
 use Rattle.twkb_body.specs.Inside.{of_head, IsInside}
 use Rattle.twkb_body.specs.Pass.{first, false_at, is_within}
 use Rattle.twkb_body.specs.Ranges.{widened}
-use Rattle.twkb_body.specs.Sure.{faultless, unseen, AddsParts, frame_bounds, IsHeldBy, IsFrameUnder, body_vertices, IsSureBody, IsSure}
+use Rattle.twkb_body.specs.Sure.{LiesIn, LiesInAll, framed, faultless, unseen, AddsParts, frame_bounds, IsHeldBy, IsFrameUnder, body_vertices, IsSureBody, IsSure}
 use Rattle.twkb_body.specs.Walk.{HaveAxes, lasts_from}
 use Rattle.twkb_body.proofs.BoxedRuns.{reaches_decides, both_true}
 use Rattle.twkb_body.proofs.Coordinates.{coordinate_ahead, vertices_same}
@@ -51,37 +53,61 @@ use Rattle.twkb_body.proofs.ShapeSteps.{shape_of_parts}
 use Rattle.twkb_body.proofs.Sums.{points_absolute}
 
 -- ---- what a box of raw numbers holds, it holds in units
-within_units : (p : ℤ) (range : RawRange) (c : ℤ) → is_in_range range c ≡ true → IsWithin (raw_span p range) (units_of c p)
+within_units : (p : ℤ) (range : RawRange) (c : ℤ) → is_in_range range c ≡ true → IsWithin (span_at p (ends_of range)) (units_of c p)
 within_units p range c e =
     let near = (reaches_decides range.extent (c -ℤ range.minimum)).0 e in (
       times_le (10 ^ unsigned_abs (pos 7 -ℤ p)) range.minimum c (omega (arith, ints, near.0)),
       times_le (10 ^ unsigned_abs (pos 7 -ℤ p)) c (range.minimum +ℤ range.extent) (omega (arith, ints, near.1)),
     )
 
-holds_vertex : (h : Header) (box : RawBox) (p : PointValue) → is_in_box box p ≡ true → Holds (raw_bounds h.xy box) (vertex_of h p)
+-- the box of a header in units
+abbrev bounds_under : Header → RawBox → Bounds
+bounds_under h box = raw_bounds h.xy h.z h.m box
+
+-- in the axes behind that of Y
+z_held : (z m : Option ℕ) (box : RawBox) (p : PointValue) → is_in_axis (nat_lt 2 (axes_with z m)) box.third (coordinate p 2) ≡ true
+    → IsWithinBoth (option_map (λ q. span_at (pos q) (ends_of box.third)) z) (option_map (λ q. units_of (coordinate p 2) (pos q)) z)
+z_held None m box p e = tt
+z_held (Some q) None box p e = within_units (pos q) box.third (coordinate p 2) e
+z_held (Some q) (Some r) box p e = within_units (pos q) box.third (coordinate p 2) e
+
+m_held : (z m : Option ℕ) (box : RawBox) (p : PointValue) → is_in_axis (nat_lt 2 (axes_with z m)) box.third (coordinate p 2) ≡ true → is_in_axis (nat_lt 3 (axes_with z m)) box.fourth (coordinate p 3) ≡ true
+    → IsWithinBoth (option_map (λ q. span_at (pos q) (range_of (ranges_in box) (m_axis z))) m) (option_map (λ q. units_of (coordinate p (m_axis z)) (pos q)) m)
+m_held z None box p third fourth = tt
+m_held None (Some q) box p third fourth = within_units (pos q) box.third (coordinate p 2) third
+m_held (Some r) (Some q) box p third fourth = within_units (pos q) box.fourth (coordinate p 3) fourth
+
+holds_vertex : (h : Header) (box : RawBox) (p : PointValue) → is_in_box (axes_of h) box p ≡ true → Holds (bounds_under h box) (vertex_of h p)
 holds_vertex h box p e =
-    let two = both_true _ _ e in
-    record { x = within_units h.xy box.x (coordinate p 0) two.0; y = within_units h.xy box.y (coordinate p 1) two.1; z = tt; m = tt }
+    let all = both_true _ _ e in
+    let further = both_true _ _ all.0 in
+    let two = both_true _ _ all.1 in
+    record {
+      x = within_units h.xy box.x (coordinate p 0) two.0;
+      y = within_units h.xy box.y (coordinate p 1) two.1;
+      z = z_held h.z h.m box p further.0;
+      m = m_held h.z h.m box p further.0 further.1;
+    }
 
 -- a box that holds the points behind the last holds them all
 held_before : (h : Header) (held : Held) (ps : List PointValue) → (fold (held_with h) held ps).inside ≡ true → held.inside ≡ true
 held_before h held [] e = e
 held_before h held (p ∷ ps) e = (both_true _ _ (held_before h (held_with h held p) ps e)).0
 
-pub holds_all : (h : Header) (held : Held) (ps : List PointValue) → (fold (held_with h) held ps).inside ≡ true → All (Holds (raw_bounds h.xy held.box)) (map (vertex_of h) ps)
-holds_all h held [] e = All-nil (Holds (raw_bounds h.xy held.box))
+pub holds_all : (h : Header) (held : Held) (ps : List PointValue) → (fold (held_with h) held ps).inside ≡ true → All (Holds (bounds_under h held.box)) (map (vertex_of h) ps)
+holds_all h held [] e = All-nil (Holds (bounds_under h held.box))
 holds_all h held (p ∷ ps) e =
-    All-cons (Holds (raw_bounds h.xy held.box)) (vertex_of h p) (map (vertex_of h) ps) (holds_vertex h held.box p (both_true _ _ (held_before h (held_with h held p) ps e)).1) (holds_all h (held_with h held p) ps e)
+    All-cons (Holds (bounds_under h held.box)) (vertex_of h p) (map (vertex_of h) ps) (holds_vertex h held.box p (both_true _ _ (held_before h (held_with h held p) ps e)).1) (holds_all h (held_with h held p) ps e)
 
 -- ---- the body of a shape
-module _ (levels : ℕ) (head : Head) (old new : Reading) (vertices : ℕ) (two : axes_of (of_head head) ≡ 2) (full : head.empty ≡ false) (single : is_collection head.kind ≡ false) where
+module _ (levels : ℕ) (head : Head) (old new : Reading) (vertices axes : ℕ) (axes_are : axes_of (of_head head) ≡ axes) (full : head.empty ≡ false) (single : is_collection head.kind ≡ false) where
   -- what is added to other things might be added to ranges
-  module _ {S : Type 0} (step : S → PointValue → S) (s t : S) (added : AddsParts step head.kind head.ids 2 old new s t vertices) where
+  module _ {S : Type 0} (step : S → PointValue → S) (s t : S) (added : AddsParts step head.kind head.ids axes old new s t vertices) where
     abbrev numbers : List PointValue
     numbers = points_of added.parts
 
     have : HaveAxes (axes_of (of_head head)) (points_of added.parts)
-    have = subst (λ (n : ℕ). HaveAxes n (points_of added.parts)) (sym two) added.walked.have
+    have = subst (λ (n : ℕ). HaveAxes n (points_of added.parts)) (sym axes_are) added.walked.have
 
     abbrev ranges : Reach
     ranges = fold (widened (of_head head)) (reach_of []) (lasts_from zeros numbers)
@@ -96,7 +122,7 @@ module _ (levels : ℕ) (head : Head) (old new : Reading) (vertices : ℕ) (two 
     body_of : (frame : Option Frame) → IsHeldBy frame (map (vertex_of (of_head head)) (lasts_from zeros numbers)) → IsSureBody levels head frame old new vertices
     body_of frame held =
         let w = added.walked in
-        let shape = shape_of_parts (of_head head) old 2 added.middle added.list (added.list.0).0 (record { last = zeros; points = 0 }) (sym two) refl added.counted refl
+        let shape = shape_of_parts (of_head head) old axes added.middle added.list (added.list.0).0 (record { last = zeros; points = 0 }) (sym axes_are) refl added.counted refl
         false (record { count = (added.list.0).0; ids = None }) new added.parts None added.after (reach_of []) ranges unseen unseen (record { found = faultless vertices; boxed = None; ids = None })
         added.found refl refl added.read (record { last = w.last; points = w.points; added = refl; have = w.have; ahead = w.ahead }) added.vertices_are refl
         (record { asked = refl; extent = λ e. absurd (cc (e)) }) refl refl in
@@ -107,17 +133,17 @@ module _ (levels : ℕ) (head : Head) (old new : Reading) (vertices : ℕ) (two 
           held = subst (IsHeldBy frame) vertices_are held;
         }
 
-  pub body_unboxed : {S : Type 0} (step : S → PointValue → S) (s t : S) → AddsParts step head.kind head.ids 2 old new s t vertices → IsSureBody levels head None old new vertices
+  pub body_unboxed : {S : Type 0} (step : S → PointValue → S) (s t : S) → AddsParts step head.kind head.ids axes old new s t vertices → IsSureBody levels head None old new vertices
   body_unboxed step s t added = body_of step s t added None tt
 
-  pub body_boxed : (frame : Frame) (held : Held) → frame.xy ≡ head.xy → AddsParts (held_with (of_head head)) head.kind head.ids 2 old new (record { box = frame.bounds; inside = true }) held vertices → held.inside ≡ true
+  pub body_boxed : (frame : Frame) (held : Held) → frame ≡ framed head frame.bounds → AddsParts (held_with (of_head head)) head.kind head.ids axes old new (record { box = frame.bounds; inside = true }) held vertices → held.inside ≡ true
       → IsSureBody levels head (Some frame) old new vertices
-  body_boxed frame held precision added inside =
+  body_boxed frame held precisions added inside =
       let points = lasts_from zeros (points_of added.parts) in
       let start : Held = record { box = frame.bounds; inside = true } in
       let all : (fold (held_with (of_head head)) start points).inside ≡ true = ap (λ (h : Held). h.inside) (sym added.walked.added) ∙ inside in
       body_of (held_with (of_head head)) start held added (Some frame)
-      (subst (λ (p : ℤ). All (Holds (raw_bounds p frame.bounds)) (map (vertex_of (of_head head)) points)) (sym precision) (holds_all (of_head head) start points all))
+      (subst (λ (f : Frame). All (Holds (frame_bounds f)) (map (vertex_of (of_head head)) points)) (sym precisions) (holds_all (of_head head) start points all))
 
 -- ---- a point alone, whose numbers are told by their ends
 opposite_fits : (m : ℕ) → m ≤ 2 ^ 63 → fits (neg_ℤ (pos m)) ≡ true
@@ -142,7 +168,7 @@ first_coordinate old new n spells moved =
 pub point_sure : (levels : ℕ) (head : Head) (old middle new : Reading) (n m : ℕ) → head.kind ≡ Point → head.z ≡ None → head.m ≡ None → head.empty ≡ false → Spells (passed old middle) n → IsMoved old middle → Spells (passed middle new) m → IsMoved middle new
     → IsSureBody levels head None old new 1
 point_sure levels head old middle new n m kind z m_none full first first_moved second second_moved =
-    body_unboxed levels head old new 1 (ap₂ axes_with z m_none) full (ap is_collection kind) (λ (s : Unit {0}) point. s) tt tt parts
+    body_unboxed levels head old new 1 2 (ap₂ axes_with z m_none) full (ap is_collection kind) (λ (s : Unit {0}) point. s) tt tt parts
   where
     x : ℤ
     x = zigzag_value n
@@ -227,12 +253,12 @@ members_sure head depth inner old middle new frame list count vertices i under f
 abbrev pub IsBoxOf : Option Frame → Option BoxField → Type 0
 IsBoxOf frame box = IfSome box (λ field. (f : Frame) × (frame ≡ Some f) × (field.bounds ≡ frame_bounds f))
 
-pub own_box : (flat : FlatHead) (above frame : Option Frame) → IsFrameUnder above flat.head.xy flat.bounds frame → IsBoxOf frame (whole_head flat).bounds
-own_box flat above frame under = go flat.bounds under.own_is
+pub own_box : (raw : RawHead) (above frame : Option Frame) → IsFrameUnder above raw.head raw.bounds frame → IsBoxOf frame (whole_head raw).bounds
+own_box raw above frame under = go raw.bounds under.own_is
   where
-    go : (own : Option RawBox) → IfSome own (λ box. frame ≡ Some (record { xy = flat.head.xy; bounds = box })) → IsBoxOf frame (option_map (λ box. record { bounds = raw_bounds flat.head.xy box; offset = flat.box_place }) own)
+    go : (own : Option RawBox) → IfSome own (λ box. frame ≡ Some (framed raw.head box)) → IsBoxOf frame (option_map (λ box. record { bounds = raw_bounds raw.head.xy raw.head.z raw.head.m box; offset = raw.box_place }) own)
     go None e = tt
-    go (Some box) e = (record { xy = flat.head.xy; bounds = box }, e, refl)
+    go (Some box) e = (framed raw.head box, e, refl)
 
 -- a frame that holds the vertices of a body makes its box true
 box_true : (h : Header) (frame : Option Frame) (box : Option BoxField) (body : Body) (below : Reach) → below ≡ reach_of (member_vertices body.members) → IsBoxOf frame box → IsHeldBy frame (body_vertices h body)
@@ -283,31 +309,52 @@ size_true head size after stop sized e =
     sym (ap (λ o. size_judged o stop) sized.size_is ∙ ap (λ (b : Bool). false_at b sized.offset 6) (eq-eqb size (stop - after) (sym e)))
 
 -- ---- frames
-within_wider : (p : ℤ) (inner outer : RawRange) (c : ℤ) → outer.minimum ≤ℤ inner.minimum → (inner.minimum +ℤ inner.extent) ≤ℤ (outer.minimum +ℤ outer.extent) → IsWithin (raw_span p inner) c → IsWithin (raw_span p outer) c
-within_wider p inner outer c low high (above, below) =
-    let low_units = times_le (10 ^ unsigned_abs (pos 7 -ℤ p)) outer.minimum inner.minimum low in
-    let high_units = times_le (10 ^ unsigned_abs (pos 7 -ℤ p)) (inner.minimum +ℤ inner.extent) (outer.minimum +ℤ outer.extent) high in
+within_wider : (p : ℤ) (inner outer : RawRange) (c : ℤ) → LiesIn inner outer → IsWithin (span_at p (ends_of inner)) c → IsWithin (span_at p (ends_of outer)) c
+within_wider p inner outer c lies (above, below) =
+    let low_units = times_le (10 ^ unsigned_abs (pos 7 -ℤ p)) outer.minimum inner.minimum lies.low in
+    let high_units = times_le (10 ^ unsigned_abs (pos 7 -ℤ p)) (inner.minimum +ℤ inner.extent) (outer.minimum +ℤ outer.extent) lies.high in
     (omega (arith, ints, low_units, above), omega (arith, ints, high_units, below))
 
--- what a box holds that lies in another, the other holds
-pub holds_wider : (p : ℤ) (inner outer : RawBox) → outer.x.minimum ≤ℤ inner.x.minimum → (inner.x.minimum +ℤ inner.x.extent) ≤ℤ (outer.x.minimum +ℤ outer.x.extent)
-    → outer.y.minimum ≤ℤ inner.y.minimum → (inner.y.minimum +ℤ inner.y.extent) ≤ℤ (outer.y.minimum +ℤ outer.y.extent)
-    → (vs : List Vertex) → All (Holds (raw_bounds p inner)) vs → All (Holds (raw_bounds p outer)) vs
-holds_wider p inner outer x_low x_high y_low y_high [] all = All-nil (Holds (raw_bounds p outer))
-holds_wider p inner outer x_low x_high y_low y_high (v ∷ vs) all =
-    let one = All-head (Holds (raw_bounds p inner)) v vs all in
-    All-cons (Holds (raw_bounds p outer)) v vs (record {
-      x = within_wider p inner.x outer.x v.x x_low x_high one.x;
-      y = within_wider p inner.y outer.y v.y y_low y_high one.y;
-      z = tt;
-      m = tt;
-    }) (holds_wider p inner outer x_low x_high y_low y_high vs (All-tail (Holds (raw_bounds p inner)) v vs all))
+both_wider : (p : Option ℕ) (inner outer : RawRange) (c : Option ℤ) → LiesIn inner outer → IsWithinBoth (option_map (λ q. span_at (pos q) (ends_of inner)) p) c → IsWithinBoth (option_map (λ q. span_at (pos q) (ends_of outer)) p) c
+both_wider None inner outer c lies h = tt
+both_wider (Some q) inner outer None lies h = tt
+both_wider (Some q) inner outer (Some c) lies h = within_wider (pos q) inner outer c lies h
 
-pub frame_inside : (xy p q : ℤ) → p ≡ xy → q ≡ xy → (outer inner : RawBox) → outer.x.minimum ≤ℤ inner.x.minimum → (inner.x.minimum +ℤ inner.x.extent) ≤ℤ (outer.x.minimum +ℤ outer.x.extent)
-    → outer.y.minimum ≤ℤ inner.y.minimum → (inner.y.minimum +ℤ inner.y.extent) ≤ℤ (outer.y.minimum +ℤ outer.y.extent)
-    → IsFrameUnder (Some (record { xy = p; bounds = outer })) xy (Some inner) (Some (record { xy = q; bounds = inner }))
-frame_inside xy p q above_is own_is outer inner x_low x_high y_low y_high = record {
-  precision = own_is;
-  own_is = λ j. Some (record { xy = own_is j; bounds = inner });
-  above_holds = λ vs held. subst (λ (r : ℤ). All (Holds (raw_bounds r outer)) vs) (own_is ∙ sym above_is) (holds_wider q inner outer x_low x_high y_low y_high vs held);
+m_wider : (z m : Option ℕ) (inner outer : RawBox) (c : Option ℤ) → LiesInAll inner outer → IsWithinBoth (option_map (λ q. span_at (pos q) (range_of (ranges_in inner) (m_axis z))) m) c
+    → IsWithinBoth (option_map (λ q. span_at (pos q) (range_of (ranges_in outer) (m_axis z))) m) c
+m_wider None m inner outer c lies h = both_wider m inner.third outer.third c lies.third h
+m_wider (Some p) m inner outer c lies h = both_wider m inner.fourth outer.fourth c lies.fourth h
+
+-- what a box holds that lies in another, the other holds
+pub holds_wider : (xy : ℤ) (z m : Option ℕ) (inner outer : RawBox) → LiesInAll inner outer → (vs : List Vertex) → All (Holds (raw_bounds xy z m inner)) vs → All (Holds (raw_bounds xy z m outer)) vs
+holds_wider xy z m inner outer lies [] all = All-nil (Holds (raw_bounds xy z m outer))
+holds_wider xy z m inner outer lies (v ∷ vs) all =
+    let one = All-head (Holds (raw_bounds xy z m inner)) v vs all in
+    All-cons (Holds (raw_bounds xy z m outer)) v vs (record {
+      x = within_wider xy inner.x outer.x v.x lies.x one.x;
+      y = within_wider xy inner.y outer.y v.y lies.y one.y;
+      z = both_wider z inner.third outer.third v.z lies.third one.z;
+      m = m_wider z m inner outer v.m lies one.m;
+    }) (holds_wider xy z m inner outer lies vs (All-tail (Holds (raw_bounds xy z m inner)) v vs all))
+
+-- precisions that don't differ
+pub option_same : (a b : Option ℕ) → false ≡ not (option_eq (λ (m n : ℕ). m == n) a b) → a ≡ b
+option_same None None e = refl
+option_same None (Some n) e = absurd (cc (e))
+option_same (Some m) None e = absurd (cc (e))
+option_same (Some m) (Some n) e = ap Some (eqb-true m n (not_false (m == n) e))
+  where
+    not_false : (b : Bool) → false ≡ not b → b ≡ true
+    not_false true e = refl
+    not_false false e = absurd (cc (e))
+
+-- a box in that of a frame at the precisions of its header
+pub frame_inside : (frame : Frame) (head : Head) (inner : RawBox) → frame ≡ framed head frame.bounds → LiesInAll inner frame.bounds → IsFrameUnder (Some frame) head (Some inner) (Some (framed head inner))
+frame_inside frame head inner same lies = record {
+  precisions = refl;
+  own_is = refl;
+  above_holds = λ vs held. subst (λ (f : Frame). All (Holds (frame_bounds f)) vs) (sym same) (holds_wider head.xy head.z head.m inner frame.bounds lies vs held);
 }
+
+pub frame_above : (frame : Frame) (head : Head) → frame ≡ framed head frame.bounds → IsFrameUnder (Some frame) head None (Some frame)
+frame_above frame head same = record { precisions = same; own_is = tt; above_holds = λ vs held. held }

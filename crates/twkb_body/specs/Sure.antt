@@ -1,13 +1,14 @@
 -- The quick pass: what it is sure of.
-use Rattle.std.specs.Prelude.{◌≡◌, ℕ, ℤ, Bool, false, List, [], ◌++◌, map, Option, Some, None, Ok, All, IfSome, ⊤}
+use Rattle.std.specs.Prelude.{◌≡◌, ℕ, ◌+ℤ◌, ◌≤ℤ◌, Bool, false, List, [], ◌++◌, map, Option, Some, None, Ok, All, IfSome, ⊤}
 use Rattle.twkb_num.specs.Cursor.{Reading}
 use Rattle.twkb_head.specs.declared.header.Head.{Head}
 use Rattle.twkb_head.specs.declared.kinds.Kind.{Kind}
 use Rattle.twkb_head.specs.declared.boxes.Bounds.{Bounds}
 use Rattle.twkb_head.specs.declared.boxes.Vertex.{Vertex}
-use Rattle.twkb_head.specs.declared.flat.RawBox.{RawBox}
+use Rattle.twkb_head.specs.declared.raw.RawBox.{RawBox}
+use Rattle.twkb_head.specs.declared.raw.RawRange.{RawRange}
 use Rattle.twkb_head.specs.BegunHeader.{is_collection}
-use Rattle.twkb_head.specs.Flat.{raw_bounds}
+use Rattle.twkb_head.specs.Raw.{raw_bounds}
 use Rattle.twkb_head.specs.Header.{Header, is_multi}
 use Rattle.twkb_head.specs.Holds.{Holds}
 use Rattle.twkb_head.specs.Reader.{many_at}
@@ -47,17 +48,33 @@ pub record AddsParts {S : Type 0} (step : S → PointValue → S) (kind : Kind) 
 
 -- what a box that stands above holds, and what is held where none does
 abbrev pub frame_bounds : Frame → Bounds
-frame_bounds frame = raw_bounds frame.xy frame.bounds
+frame_bounds frame = raw_bounds frame.xy frame.z frame.m frame.bounds
 
 abbrev pub IsHeldBy : Option Frame → List Vertex → Type 0
 IsHeldBy None vertices = ⊤
 IsHeldBy (Some frame) vertices = All (Holds (frame_bounds frame)) vertices
 
--- The frame that a geometry with this precision and this box, if any, gives to its vertices under the one above: its own
--- box, which lies in that above, or else that above.
-pub record IsFrameUnder (above : Option Frame) (xy : ℤ) (own : Option RawBox) (frame : Option Frame) : Type 0 where
-  pub precision : IfSome frame (λ f. f.xy ≡ xy)
-  pub own_is : IfSome own (λ box. frame ≡ Some (record { xy = xy; bounds = box }))
+-- a range lies in another
+pub record LiesIn (inner outer : RawRange) : Type 0 where
+  pub low : outer.minimum ≤ℤ inner.minimum
+  pub high : (inner.minimum +ℤ inner.extent) ≤ℤ (outer.minimum +ℤ outer.extent)
+
+-- a box lies in another
+pub record LiesInAll (inner outer : RawBox) : Type 0 where
+  pub x : LiesIn inner.x outer.x
+  pub y : LiesIn inner.y outer.y
+  pub third : LiesIn inner.third outer.third
+  pub fourth : LiesIn inner.fourth outer.fourth
+
+-- a box at the precisions of a header
+abbrev pub framed : Head → RawBox → Frame
+framed head box = record { xy = head.xy; z = head.z; m = head.m; bounds = box }
+
+-- The frame that a geometry with this header and this box, if any, gives to its vertices under the one above: its own box,
+-- which lies in that above, or else that above.
+pub record IsFrameUnder (above : Option Frame) (head : Head) (own : Option RawBox) (frame : Option Frame) : Type 0 where
+  pub precisions : IfSome frame (λ f. f ≡ framed head f.bounds)
+  pub own_is : IfSome own (λ box. frame ≡ Some (framed head box))
   pub above_holds : (vertices : List Vertex) → IsHeldBy frame vertices → IsHeldBy above vertices
 
 -- the vertices of a body

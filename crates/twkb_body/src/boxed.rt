@@ -1,7 +1,12 @@
 //! Points under one header that are asked for nothing but whether a box of raw numbers holds them all.
 ghost use Rattle.std.specs.Prelude.{◌≡◌, ◌&&◌, ◌≤◌, ◌≤ℤ◌, ◌-ℤ◌, ◌^◌, pos, neg_ℤ, true, IfSome, ◌↔◌, IsTrue};
-ghost use Rattle.twkb_body.specs.Boxed.{reaches, is_in_range, is_in_box, IsNearRange, IsNearBox};
+ghost use Rattle.twkb_head.specs.Header.{axes_with};
+ghost use Rattle.twkb_body.specs.Boxed.{reaches, reaches_if, reach_further, reach_all, is_in_range, is_in_axis, is_in_flat, is_in_further, is_in_box, held_with, IsNear, IsClose, IsMet, IsNearRange, IsNearBox, AreNear};
+ghost use Rattle.twkb_body.specs.Inside.{of_head};
+ghost use Rattle.twkb_body.specs.Numbers.{listed, Each, axes_by, placed_at};
+ghost use Rattle.twkb_body.specs.Walk.{IsRun};
 
+use crate::numbers::{Numbers, take_differences};
 use crate::points::Points;
 use crate::trail::Trail;
 use std::marker::Model;
@@ -41,6 +46,87 @@ impl Boxed {
             bounds: *bounds,
             inside: true,
         })
+    }
+
+    /// A run of points of X and Y alone.
+    // All that changes from point to point is in locals. While points are in the box no sum leaves 64 bits, and the first
+    // that isn't ends the run.
+    #[inline(always)]
+    fn take_flat_run(
+        &mut self,
+        cursor: &mut Cursor,
+        _head: &Head,
+        most: u64,
+        trail: &mut Trail,
+    ) -> u64
+        requires flat { axes_with _head.now.z _head.now.m ≡ 2 }
+        requires counted { trail.old.points ≤ cursor.old.place }
+        ensures few { result ≤ most }
+        ensures run { IsRun (held_with (of_head _head.now)) 2 trail.old trail.new self.old self.new cursor.old cursor.new result }
+    {
+        if !is_near(trail.last[0]) || !is_near(trail.last[1]) {
+            return 0;
+        }
+        let RawBox { x, y, .. } = self.bounds;
+        let mut across = trail.last[0] - x.minimum;
+        let mut up = trail.last[1] - y.minimum;
+        let mut inside = self.inside;
+        let mut done = 0;
+        while inside && done < most {
+            let Some((x_more, y_more)) = cursor.svarint_pair() else {
+                break;
+            };
+            across += x_more;
+            up += y_more;
+            inside = reach_both(&self.bounds, across, up);
+            done += 1;
+        }
+        // The proof knows from here that the place is within the bytes.
+        let _stop = cursor.place();
+        trail.last[0] = x.minimum + across;
+        trail.last[1] = y.minimum + up;
+        trail.points += done as usize;
+        self.inside = inside;
+        done
+    }
+
+    /// A run of points of three axes or four, in the same way.
+    #[inline(always)]
+    pub fn take_further_run(
+        &mut self,
+        cursor: &mut Cursor,
+        _head: &Head,
+        has_fourth: bool,
+        most: u64,
+        trail: &mut Trail,
+    ) -> u64
+        requires further { axes_with _head.now.z _head.now.m ≡ axes_by has_fourth }
+        requires counted { trail.old.points ≤ cursor.old.place }
+        ensures few { result ≤ most }
+        ensures run { IsRun (held_with (of_head _head.now)) (axes_by has_fourth) trail.old trail.new self.old self.new cursor.old cursor.new result }
+    {
+        let bounds = self.bounds;
+        let last = Numbers::of(&trail.last);
+        if !are_near(&bounds, &last) {
+            return 0;
+        }
+        let mut apart = distances(&bounds, &last);
+        let mut is_inside = self.inside;
+        let mut taken = 0;
+        while is_inside && taken < most {
+            let Some(more) = take_differences(cursor, has_fourth) else {
+                break;
+            };
+            apart = apart.plus(&more);
+            is_inside = reach_all(&bounds, has_fourth, &apart);
+            taken += 1;
+        }
+        // The proof knows from here that the place is within the bytes.
+        let _stop = cursor.place();
+        trail.last = placed(&bounds, &apart);
+        trail.points += taken as usize;
+        self.inside = is_inside;
+        taken
     }
 
     /// Whether it holds all points.
@@ -96,12 +182,127 @@ fn is_in_range(range: &RawRange, coordinate: i64) -> bool
     0 <= distance && distance <= i128::from(range.extent)
 }
 
+/// The same of an axis, which a point may not have.
+#[inline(always)]
+fn is_in_axis(is_there: bool, range: &RawRange, coordinate: i64) -> bool
+    ensures { result ≡ is_in_axis is_there range.now coordinate }
+{
+    !is_there || is_in_range(range, coordinate)
+}
+
 /// Whether a box holds the X and the Y of a point.
 #[inline(always)]
-fn is_in_box(bounds: &RawBox, point: &[i64; 4]) -> bool
-    ensures { result ≡ is_in_box bounds.now point.now }
+fn is_in_flat(bounds: &RawBox, point: &[i64; 4]) -> bool
+    ensures { result ≡ is_in_flat bounds.now point.now }
 {
     is_in_range(&bounds.x, point[0]) && is_in_range(&bounds.y, point[1])
+}
+
+/// Whether a box holds the other coordinates of a point that has so many axes.
+// It isn't inlined: few points have these axes, and most of those that have are read in runs.
+#[inline(never)]
+fn is_in_further(axes: usize, bounds: &RawBox, point: &[i64; 4]) -> bool
+    ensures { result ≡ is_in_further axes bounds.now point.now }
+{
+    is_in_axis(2 < axes, &bounds.third, point[2]) && is_in_axis(3 < axes, &bounds.fourth, point[3])
+}
+
+/// The same: nothing is asked where there are no others.
+#[inline(always)]
+fn is_in_others(axes: usize, bounds: &RawBox, point: &[i64; 4]) -> bool
+    ensures { result ≡ is_in_further axes bounds.now point.now }
+{
+    if axes <= 2 {
+        true
+    } else {
+        is_in_further(axes, bounds, point)
+    }
+}
+
+/// Whether a box holds all coordinates of a point that has so many axes.
+#[inline(always)]
+fn is_in_box(axes: usize, bounds: &RawBox, point: &[i64; 4]) -> bool
+    ensures { result ≡ is_in_box axes bounds.now point.now }
+{
+    is_in_others(axes, bounds, point) && is_in_flat(bounds, point)
+}
+
+/// Whether the ranges behind that of Y are near zero, and so are the coordinates of a point.
+#[inline(always)]
+fn are_near(bounds: &RawBox, point: &Numbers) -> bool
+    ensures { IsTrue result → AreNear bounds.now point.now }
+{
+    if !is_near_range(&bounds.third) || !is_near_range(&bounds.fourth) {
+        return false;
+    }
+    if !is_near(point.x) || !is_near(point.y) || !is_near(point.third) {
+        return false;
+    }
+    is_near(point.fourth)
+}
+
+/// How far the coordinates of a point are from the minima of a box.
+#[inline(always)]
+fn distances(bounds: &RawBox, point: &Numbers) -> Numbers
+    requires bounds { IsNearBox bounds.now }
+    requires near { AreNear bounds.now point.now }
+    ensures placed { point.now ≡ placed_at bounds.now result }
+    ensures close { Each IsClose result }
+{
+    Numbers {
+        x: point.x - bounds.x.minimum,
+        y: point.y - bounds.y.minimum,
+        third: point.third - bounds.third.minimum,
+        fourth: point.fourth - bounds.fourth.minimum,
+    }
+}
+
+/// The coordinates at these distances from the minima of a box.
+#[inline(always)]
+fn placed(bounds: &RawBox, distances: &Numbers) -> [i64; 4]
+    requires bounds { IsNearBox bounds.now }
+    requires third { IsNearRange bounds.now.third }
+    requires fourth { IsNearRange bounds.now.fourth }
+    requires met { Each IsMet distances.now }
+    ensures { result ≡ listed (placed_at bounds.now distances.now) }
+{
+    [
+        bounds.x.minimum + distances.x,
+        bounds.y.minimum + distances.y,
+        bounds.third.minimum + distances.third,
+        bounds.fourth.minimum + distances.fourth,
+    ]
+}
+
+/// Whether the box reaches so far in the axis behind the third, if there is one.
+#[inline(always)]
+fn reaches_fourth(has_fourth: bool, extent: i64, distance: i64) -> bool
+    requires { pos 0 ≤ℤ extent }
+    ensures { result ≡ reaches_if has_fourth extent distance }
+{
+    !has_fourth || reaches(extent, distance)
+}
+
+/// Whether the box reaches so far in the axes behind that of Y.
+#[inline(always)]
+fn reach_further(bounds: &RawBox, has_fourth: bool, distances: &Numbers) -> bool
+    requires third { IsNearRange bounds.now.third }
+    requires fourth { IsNearRange bounds.now.fourth }
+    ensures { result ≡ reach_further bounds.now has_fourth distances.now }
+{
+    reaches(bounds.third.extent, distances.third)
+        && reaches_fourth(has_fourth, bounds.fourth.extent, distances.fourth)
+}
+
+/// Whether the box reaches so far in each axis.
+#[inline(always)]
+fn reach_all(bounds: &RawBox, has_fourth: bool, distances: &Numbers) -> bool
+    requires bounds { IsNearBox bounds.now }
+    requires third { IsNearRange bounds.now.third }
+    requires fourth { IsNearRange bounds.now.fourth }
+    ensures { result ≡ reach_all bounds.now has_fourth distances.now }
+{
+    reach_further(bounds, has_fourth, distances) && reach_both(bounds, distances.x, distances.y)
 }
 
 impl Points for Boxed {
@@ -114,37 +315,23 @@ impl Points for Boxed {
     ghost step = { held_with };
 
     #[inline(always)]
-    fn add(&mut self, _head: &Head, point: &[i64; 4]) {
-        self.inside = self.inside && is_in_box(&self.bounds, point);
+    fn add(&mut self, head: &Head, point: &[i64; 4]) {
+        self.inside = self.inside && is_in_box(head.axes(), &self.bounds, point);
     }
 
-    // All that changes from point to point is in locals. While points are in the box no sum leaves 64 bits, and the first
-    // that isn't ends the run.
     #[inline(always)]
-    fn take_run(&mut self, cursor: &mut Cursor, _head: &Head, most: u64, trail: &mut Trail) -> u64 {
-        if !is_near(trail.last[0]) || !is_near(trail.last[1]) {
-            return 0;
+    fn take_run(
+        &mut self,
+        cursor: &mut Cursor,
+        head: &Head,
+        axes: usize,
+        most: u64,
+        trail: &mut Trail,
+    ) -> u64 {
+        if axes == 2 {
+            self.take_flat_run(cursor, head, most, trail)
+        } else {
+            0
         }
-        let RawBox { x, y } = self.bounds;
-        let mut across = trail.last[0] - x.minimum;
-        let mut up = trail.last[1] - y.minimum;
-        let mut inside = self.inside;
-        let mut done = 0;
-        while inside && done < most {
-            let Some((x_more, y_more)) = cursor.svarint_pair() else {
-                break;
-            };
-            across += x_more;
-            up += y_more;
-            inside = reach_both(&self.bounds, across, up);
-            done += 1;
-        }
-        // The proof knows from here that the place is within the bytes.
-        let _stop = cursor.place();
-        trail.last[0] = x.minimum + across;
-        trail.last[1] = y.minimum + up;
-        trail.points += done as usize;
-        self.inside = inside;
-        done
     }
 }

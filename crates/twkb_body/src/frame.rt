@@ -1,34 +1,36 @@
 //! The box that the vertices of a geometry have to lie in: its own, or that of a geometry above.
 ghost use Rattle.std.specs.Prelude.{◌≡◌, ◌≤ℤ◌, ◌+ℤ◌, IfSome, IsTrue, option_map};
-ghost use Rattle.twkb_body.specs.Sure.{IsFrameUnder};
+ghost use Rattle.twkb_body.specs.Sure.{framed, IsFrameUnder, LiesIn, LiesInAll};
 
-use twkb_head::{RawBox, RawRange};
+use twkb_head::{Head, RawBox, RawRange};
 
-/// A box of raw numbers, and the precision that they have.
+/// A box of raw numbers, and the precisions that they have, for the axes that there are.
 #[derive(Clone, Copy, Debug)]
 pub struct Frame {
     pub xy: i8,
+    pub z: Option<u8>,
+    pub m: Option<u8>,
     pub bounds: RawBox,
 }
 
 impl Frame {
-    /// The frame of a geometry that stands under another: its own box, which has to lie in that above at the same precision;
-    /// or that above, at the same precision. `None`: the box doesn't lie there, or the precisions differ.
+    /// The frame of a geometry that stands under another: its own box, which has to lie in that above; or that above. The
+    /// axes and their precisions are to be those above. `None`: they differ, or the box doesn't lie there.
     #[inline(always)]
-    pub fn under(above: &Option<Frame>, xy: i8, own: Option<RawBox>) -> Option<Option<Frame>>
-        ensures { IfSome result (IsFrameUnder above.now xy own) }
+    pub fn under(above: &Option<Frame>, head: &Head, own: Option<RawBox>) -> Option<Option<Frame>>
+        ensures { IfSome result (IsFrameUnder above.now head.now own) }
     {
         let Some(frame) = above else {
-            return Some(Frame::of(xy, own));
+            return Some(Frame::of(head, own));
         };
-        if frame.xy != xy {
+        if frame.xy != head.xy || frame.z != head.z || frame.m != head.m {
             return None;
         }
         match own {
             None => Some(*above),
             Some(bounds) => {
-                if lies_in(&bounds.x, &frame.bounds.x) && lies_in(&bounds.y, &frame.bounds.y) {
-                    Some(Frame::of(xy, own))
+                if lies_in_all(&bounds, &frame.bounds) {
+                    Some(Frame::of(head, own))
                 } else {
                     None
                 }
@@ -38,21 +40,36 @@ impl Frame {
 
     /// The frame of a geometry's own box, if it has one.
     #[inline(always)]
-    fn of(xy: i8, own: Option<RawBox>) -> Option<Frame>
-        ensures { result ≡ option_map (λ box. record { xy = xy; bounds = box }) own }
+    fn of(head: &Head, own: Option<RawBox>) -> Option<Frame>
+        ensures { result ≡ option_map (framed head.now) own }
     {
         match own {
-            Some(bounds) => Some(Frame { xy, bounds }),
+            Some(bounds) => Some(Frame {
+                xy: head.xy,
+                z: head.z,
+                m: head.m,
+                bounds,
+            }),
             None => None,
         }
     }
 }
 
+/// Whether one box lies in another, of the same axes. Where an axis isn't there, both have zeros.
+#[inline(always)]
+fn lies_in_all(inner: &RawBox, outer: &RawBox) -> bool
+    ensures { IsTrue result → LiesInAll inner.now outer.now }
+{
+    lies_in(&inner.x, &outer.x)
+        && lies_in(&inner.y, &outer.y)
+        && lies_in(&inner.third, &outer.third)
+        && lies_in(&inner.fourth, &outer.fourth)
+}
+
 /// Whether one range lies in another.
 #[inline(always)]
 fn lies_in(inner: &RawRange, outer: &RawRange) -> bool
-    ensures low { IsTrue result → outer.now.minimum ≤ℤ inner.now.minimum }
-    ensures high { IsTrue result → (inner.now.minimum +ℤ inner.now.extent) ≤ℤ (outer.now.minimum +ℤ outer.now.extent) }
+    ensures { IsTrue result → LiesIn inner.now outer.now }
 {
     outer.minimum <= inner.minimum && maximum(inner) <= maximum(outer)
 }

@@ -8,7 +8,7 @@ ghost use Rattle.twkb_body.specs.BodyPlan.{ring_sums};
 ghost use Rattle.twkb_body.specs.BodyReader.{ring_at, polygon_at, part_at};
 ghost use Rattle.twkb_body.specs.Geometry.{points_of};
 ghost use Rattle.twkb_body.specs.Inside.{of_head};
-ghost use Rattle.twkb_body.specs.Walk.{IsRun, IsWalked};
+ghost use Rattle.twkb_body.specs.Walk.{IsWalked};
 
 use crate::points::Points;
 use crate::trail::{Trail, take_point};
@@ -104,33 +104,11 @@ fn take_ring<P: Points>(
     let count = take_number(cursor)?;
     let mut done = 0;
     while done < count {
-        done += take_ahead(cursor, head, axes, count - done, trail, points);
+        done += points.take_run(cursor, head, axes, count - done, trail);
         if done < count {
             take_point(cursor, head, axes, trail, points)?;
             done += 1;
         }
     }
     Ok(())
-}
-
-/// Some of the points at the place, at most so many, if they are read together: how many there were.
-#[inline(always)]
-fn take_ahead<P: Points>(
-    cursor: &mut Cursor,
-    head: &Head,
-    axes: usize,
-    most: u64,
-    trail: &mut Trail,
-    points: &mut P,
-) -> u64
-    requires axes { axes ≡ axes_with head.now.z head.now.m }
-    requires counted { trail.old.points ≤ cursor.old.place }
-    ensures few { result ≤ most }
-    ensures run { IsRun (P.step (of_head head.now)) axes trail.old trail.new (P.state points.old) (P.state points.new) cursor.old cursor.new result }
-{
-    if axes == 2 {
-        points.take_run(cursor, head, most, trail)
-    } else {
-        0
-    }
 }

@@ -27,11 +27,18 @@ pub trait Points {
         requires m_high { IfSome head.now.m (λ p. p ≤ 7) }
         ensures { state self.new ≡ step (of_head head.now) (state self.old) point.now };
 
-    /// Reads points of two axes ahead, from words of eight bytes: some of those at the place, and at most so many. Answers
-    /// how many there were, which may be none.
-    fn take_run(&mut self, cursor: &mut Cursor, head: &Head, most: u64, trail: &mut Trail) -> u64
-        requires flat { axes_with head.now.z head.now.m ≡ 2 }
+    /// Reads points ahead, from words of eight bytes: some of those at the place, and at most so many. Answers how many
+    /// there were, which may be none.
+    fn take_run(
+        &mut self,
+        cursor: &mut Cursor,
+        head: &Head,
+        axes: usize,
+        most: u64,
+        trail: &mut Trail,
+    ) -> u64
+        requires axes { axes ≡ axes_with head.now.z head.now.m }
         requires counted { trail.old.points ≤ cursor.old.place }
         ensures few { result ≤ most }
-        ensures run { IsRun (step (of_head head.now)) 2 trail.old trail.new (state self.old) (state self.new) cursor.old cursor.new result };
+        ensures run { IsRun (step (of_head head.now)) axes trail.old trail.new (state self.old) (state self.new) cursor.old cursor.new result };
 }

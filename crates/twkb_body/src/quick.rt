@@ -1,29 +1,23 @@
 //! The quick pass: blobs of the common forms, which it certifies at sight. What it isn't sure of goes to the audit.
 //!
-//! It is sure of geometries of X and Y alone, with no empty one among them, whose ids rise, and where each box lies in that
-//! of the geometry above, at the same precision. Then a box holds all vertices below it if each box holds the points
-//! of its own geometry, and no extent is handed up.
-ghost use Rattle.std.specs.Prelude.{◌≡◌, ◌-◌, ◌+◌, ◌≤◌, None, false, true, IfSome, IfNone, Ok};
+//! It is sure of geometries with no empty one among them, whose ids rise, and where each box lies in that of the geometry
+//! above, and what stands below a box has its axes at its precisions. Then a box holds all vertices below it if each box
+//! holds the points of its own geometry, and no extent is handed up.
+ghost use Rattle.std.specs.Prelude.{◌≡◌, ◌-◌, ◌+◌, ◌≤◌, None, false, true, Some, IfSome, IfNone, IsTrue};
 ghost use Rattle.twkb_num.specs.Units.{IsPrecision};
 ghost use Rattle.twkb_head.specs.BegunHeader.{deepest, is_collection, IsAllowedAt};
-ghost use Rattle.twkb_head.specs.Header.{is_multi};
-ghost use Rattle.twkb_body.specs.Bare.{unchanged};
-ghost use Rattle.twkb_body.specs.BodyPlan.{ListHead};
-ghost use Rattle.twkb_body.specs.BodyReader.{count_at, list_at};
-ghost use Rattle.twkb_body.specs.IdLists.{IsListFound};
-ghost use Rattle.twkb_body.specs.Inside.{of_head};
-ghost use Rattle.twkb_body.specs.Sure.{AddsParts, IsSureBody, IsSure};
+ghost use Rattle.twkb_head.specs.Header.{axes_with};
+ghost use Rattle.twkb_body.specs.Found.{size_judged};
+ghost use Rattle.twkb_body.specs.Sure.{framed, IsSureBody, IsSure};
 
-use crate::bare::pass_parts;
+mod parts;
+
+use self::parts::{take_parts_of, take_sure_list, take_unboxed};
 use crate::boxed::Boxed;
 use crate::found::judge_size;
 use crate::frame::Frame;
-use crate::lists::take_rising;
-use crate::parts::take_parts;
-use crate::points::Points;
-use crate::trail::Trail;
-use crate::unboxed::Unboxed;
-use twkb_head::{Head, Kind, read_flat_head, read_sized_point_head, take_number};
+use crate::further::{BoxedFour, BoxedThree};
+use twkb_head::{Head, read_flat_head, read_raw_head, read_sized_point_head};
 use twkb_num::Cursor;
 
 /// How many vertices the blob at the place has, if the quick pass is sure of it; it is passed. Else `None`: what was looked
@@ -82,22 +76,56 @@ fn take_sure(cursor: &mut Cursor, depth: u8, above: &Option<Frame>) -> Option<us
 {
     // The proof knows from here that the place is within the bytes.
     let _start = cursor.place();
-    let flat = read_flat_head(cursor, depth)?;
+    let Some(flat) = read_flat_head(cursor, depth) else {
+        return take_further(cursor, depth, above);
+    };
     // The proof knows from here that the place is within the bytes.
     let _body = cursor.place();
-    let frame = Frame::under(above, flat.head.xy, flat.bounds)?;
-    let vertices = take_sure_body(cursor, depth, &flat.head, &frame)?;
+    let frame = Frame::under(above, &flat.head, flat.bounds)?;
+    let vertices = take_flat_body(cursor, depth, &flat.head, &frame)?;
     let stop = cursor.place();
-    match judge_size(flat.head.size, stop) {
-        None => Some(vertices),
-        Some(_) => None,
+    if !is_size_true(&flat.head, stop) {
+        return None;
     }
+    Some(vertices)
 }
 
-/// The body of a geometry that stands at `depth`, if the frame holds its vertices.
+/// The same of any geometry that isn't empty, also with an extended dimensions byte.
+// It isn't inlined, so that geometries of X and Y alone are read with all in registers.
+#[cycle(take_sure)]
+#[inline(never)]
+fn take_further(cursor: &mut Cursor, depth: u8, above: &Option<Frame>) -> Option<usize>
+    requires shallowest { 1 ≤ depth }
+    requires deepest { depth ≤ deepest }
+    ensures { IfSome result (IsSure (deepest - depth) above.now cursor.old cursor.new) }
+{
+    // The proof knows from here that the place is within the bytes.
+    let _start = cursor.place();
+    let raw = read_raw_head(cursor, depth)?;
+    // The proof knows from here that the place is within the bytes.
+    let _body = cursor.place();
+    let own = Frame::under(above, &raw.head, raw.bounds)?;
+    let vertices = take_further_body(cursor, depth, &raw.head, &own)?;
+    let stop = cursor.place();
+    if !is_size_true(&raw.head, stop) {
+        return None;
+    }
+    Some(vertices)
+}
+
+/// Whether the size of a geometry that ends there is true, if its header has one.
+#[inline(always)]
+fn is_size_true(head: &Head, stop: usize) -> bool
+    requires { IfSome head.now.size (λ size. size.after ≤ stop) }
+    ensures { IsTrue result → size_judged head.now.size stop ≡ None }
+{
+    judge_size(head.size, stop).is_none()
+}
+
+/// The body of a geometry of X and Y alone that stands at `depth`, if the frame holds its vertices.
 #[cycle(take_sure)]
 #[inline(always)]
-fn take_sure_body(
+fn take_flat_body(
     cursor: &mut Cursor,
     depth: u8,
     head: &Head,
@@ -109,13 +137,38 @@ fn take_sure_body(
     requires z { head.now.z ≡ None }
     requires m { head.now.m ≡ None }
     requires full { head.now.empty ≡ false }
-    requires frame { IfSome frame.now (λ f. f.xy ≡ head.now.xy) }
+    requires frame { IfSome frame.now (λ f. f ≡ framed head.now f.bounds) }
     ensures { IfSome result (IsSureBody (deepest - depth) head.now frame.now cursor.old cursor.new) }
 {
     if head.kind.is_collection() {
         take_sure_members(cursor, depth, head, frame)
     } else {
-        take_sure_shape(cursor, depth, head, frame)
+        take_flat_shape(cursor, depth, head, frame)
+    }
+}
+
+/// The body of a geometry that stands at `depth`, if the frame holds its vertices.
+#[cycle(take_sure)]
+#[inline(always)]
+fn take_further_body(
+    cursor: &mut Cursor,
+    depth: u8,
+    head: &Head,
+    frame: &Option<Frame>,
+) -> Option<usize>
+    requires shallowest { 1 ≤ depth }
+    requires allowed { IsAllowedAt head.now.kind depth }
+    requires xy { IsPrecision head.now.xy }
+    requires z_high { IfSome head.now.z (λ p. p ≤ 7) }
+    requires m_high { IfSome head.now.m (λ p. p ≤ 7) }
+    requires full { head.now.empty ≡ false }
+    requires frame { IfSome frame.now (λ f. f ≡ framed head.now f.bounds) }
+    ensures { IfSome result (IsSureBody (deepest - depth) head.now frame.now cursor.old cursor.new) }
+{
+    if head.kind.is_collection() {
+        take_sure_members(cursor, depth, head, frame)
+    } else {
+        take_further_shape(cursor, depth, head, frame)
     }
 }
 
@@ -145,9 +198,9 @@ fn take_sure_members(
     Some(vertices)
 }
 
-/// The body of a geometry that stands at `depth` and is no collection, if the frame holds its points.
+/// The body of a geometry of X and Y alone that stands at `depth` and is no collection, if the frame holds its points.
 #[inline(always)]
-fn take_sure_shape(
+fn take_flat_shape(
     cursor: &mut Cursor,
     depth: u8,
     head: &Head,
@@ -158,113 +211,103 @@ fn take_sure_shape(
     requires m { head.now.m ≡ None }
     requires full { head.now.empty ≡ false }
     requires kind { is_collection head.now.kind ≡ false }
-    requires frame { IfSome frame.now (λ f. f.xy ≡ head.now.xy) }
+    requires frame { IfSome frame.now (λ f. f ≡ framed head.now f.bounds) }
     ensures { IfSome result (IsSureBody (deepest - depth) head.now frame.now cursor.old cursor.new) }
 {
     match frame {
         Some(frame) => {
             let mut boxed = Boxed::new(&frame.bounds)?;
-            let vertices = take_flat_parts(cursor, head, &mut boxed)?;
+            let vertices = take_parts_of(cursor, head, 2, &mut boxed)?;
             if !boxed.is_inside() {
                 return None;
             }
             Some(vertices)
         }
         None => {
-            let vertices = take_unboxed(cursor, head.kind, head.ids)?;
+            let vertices = take_unboxed(cursor, head.kind, head.ids, 2)?;
             Some(vertices)
         }
     }
 }
 
-/// A body that no box asks for, by the ends of its numbers, or with its sums.
-// It isn't inlined, and is handed no header, so that neither is set up where a box asks.
-#[inline(never)]
-fn take_unboxed(cursor: &mut Cursor, kind: Kind, has_ids: bool) -> Option<usize>
-    ensures { IfSome result (AddsParts unchanged kind has_ids 2 cursor.old cursor.new tt tt) }
-{
-    let mut ahead = cursor.ahead();
-    match pass_bare_parts(&mut ahead, kind, has_ids) {
-        Some(vertices) => {
-            *cursor = ahead;
-            Some(vertices)
-        }
-        None => take_summed_parts(cursor, kind, has_ids),
-    }
-}
-
-/// The parts of a body, by the ends of their numbers.
+/// The body of a geometry that stands at `depth` and is no collection, if the frame holds its points.
 #[inline(always)]
-fn pass_bare_parts(cursor: &mut Cursor, kind: Kind, has_ids: bool) -> Option<usize>
-    ensures { IfSome result (AddsParts unchanged kind has_ids 2 cursor.old cursor.new tt tt) }
-{
-    let count = take_sure_count(cursor, kind, has_ids)?;
-    let points = pass_parts(cursor, kind, 2, count)?;
-    Some(points as usize)
-}
-
-/// The parts of a body with so many points, or such long numbers, that a sum might leave 64 bits.
-#[inline(never)]
-fn take_summed_parts(cursor: &mut Cursor, kind: Kind, has_ids: bool) -> Option<usize>
-    ensures { IfSome result (AddsParts unchanged kind has_ids 2 cursor.old cursor.new tt tt) }
-{
-    let head = Head {
-        kind,
-        xy: 0,
-        z: None,
-        m: None,
-        size: None,
-        bounds: None,
-        ids: has_ids,
-        empty: false,
-        start: 0,
-        stop: 0,
-    };
-    take_flat_parts(cursor, &head, &mut Unboxed)
-}
-
-/// The parts of a body of X and Y alone.
-#[inline(always)]
-fn take_flat_parts<P: Points>(cursor: &mut Cursor, head: &Head, points: &mut P) -> Option<usize>
+fn take_further_shape(
+    cursor: &mut Cursor,
+    depth: u8,
+    head: &Head,
+    frame: &Option<Frame>,
+) -> Option<usize>
     requires xy { IsPrecision head.now.xy }
-    requires z { head.now.z ≡ None }
-    requires m { head.now.m ≡ None }
-    ensures { IfSome result (AddsParts (P.step (of_head head.now)) head.now.kind head.now.ids 2 cursor.old cursor.new (P.state points.old) (P.state points.new)) }
+    requires z_high { IfSome head.now.z (λ p. p ≤ 7) }
+    requires m_high { IfSome head.now.m (λ p. p ≤ 7) }
+    requires full { head.now.empty ≡ false }
+    requires kind { is_collection head.now.kind ≡ false }
+    requires frame { IfSome frame.now (λ f. f ≡ framed head.now f.bounds) }
+    ensures { IfSome result (IsSureBody (deepest - depth) head.now frame.now cursor.old cursor.new) }
 {
-    let count = take_sure_count(cursor, head.kind, head.ids)?;
-    let mut trail = Trail::new();
-    let Ok(()) = take_parts(cursor, head, 2, count, &mut trail, points) else {
-        return None;
-    };
-    Some(trail.points)
-}
-
-/// How many parts there are: one, or the count of a list whose ids rise, if it has ids.
-#[inline(always)]
-fn take_sure_count(cursor: &mut Cursor, kind: Kind, has_ids: bool) -> Option<u64>
-    ensures { IfSome result (λ count. (list : ListHead) × (count_at (is_multi kind) has_ids cursor.old ≡ (Ok list, cursor.new))
-        × IsListFound cursor.old cursor.new list (record { count = count; ids = None })) }
-{
-    if kind.is_multi() {
-        take_sure_list(cursor, has_ids)
-    } else {
-        Some(1u64)
+    match frame {
+        Some(frame) => match head.axes() {
+            4 => take_boxed_four(cursor, depth, head, frame),
+            3 => take_boxed_three(cursor, depth, head, frame),
+            _ => None,
+        },
+        None => {
+            let vertices = take_unboxed(cursor, head.kind, head.ids, head.axes())?;
+            Some(vertices)
+        }
     }
 }
 
-/// The count of a list, and its ids, where they are announced and rise.
-#[inline(always)]
-fn take_sure_list(cursor: &mut Cursor, has_ids: bool) -> Option<u64>
-    ensures { IfSome result (λ count. (list : ListHead) × (list_at has_ids cursor.old ≡ (Ok list, cursor.new))
-        × IsListFound cursor.old cursor.new list (record { count = count; ids = None })) }
+/// The same of three axes, in a frame.
+// This and the next aren't inlined, since a function that would grow very large has nothing inlined.
+#[inline(never)]
+fn take_boxed_three(
+    cursor: &mut Cursor,
+    depth: u8,
+    head: &Head,
+    frame: &Frame,
+) -> Option<usize>
+    requires xy { IsPrecision head.now.xy }
+    requires z_high { IfSome head.now.z (λ p. p ≤ 7) }
+    requires m_high { IfSome head.now.m (λ p. p ≤ 7) }
+    requires full { head.now.empty ≡ false }
+    requires kind { is_collection head.now.kind ≡ false }
+    requires axes { axes_with head.now.z head.now.m ≡ 3 }
+    requires frame { frame.now ≡ framed head.now frame.now.bounds }
+    ensures { IfSome result (IsSureBody (deepest - depth) head.now (Some frame.now) cursor.old cursor.new) }
 {
-    let Ok(count) = take_number(cursor) else {
+    let boxed = Boxed::new(&frame.bounds)?;
+    let mut three = BoxedThree { boxed };
+    let vertices = take_parts_of(cursor, head, 3, &mut three)?;
+    if !three.boxed.is_inside() {
         return None;
-    };
-    // The proof knows from here that the place is within the bytes.
-    let _place = cursor.place();
-    if has_ids {
-        take_rising(cursor, count)?;
     }
-    Some(count)
+    Some(vertices)
+}
+
+/// The same of four axes.
+#[inline(never)]
+fn take_boxed_four(
+    cursor: &mut Cursor,
+    depth: u8,
+    head: &Head,
+    frame: &Frame,
+) -> Option<usize>
+    requires xy { IsPrecision head.now.xy }
+    requires z_high { IfSome head.now.z (λ p. p ≤ 7) }
+    requires m_high { IfSome head.now.m (λ p. p ≤ 7) }
+    requires full { head.now.empty ≡ false }
+    requires kind { is_collection head.now.kind ≡ false }
+    requires axes { axes_with head.now.z head.now.m ≡ 4 }
+    requires frame { frame.now ≡ framed head.now frame.now.bounds }
+    ensures { IfSome result (IsSureBody (deepest - depth) head.now (Some frame.now) cursor.old cursor.new) }
+{
+    let boxed = Boxed::new(&frame.bounds)?;
+    let mut four = BoxedFour { boxed };
+    let vertices = take_parts_of(cursor, head, 4, &mut four)?;
+    if !four.boxed.is_inside() {
+        return None;
+    }
+    Some(vertices)
 }

@@ -169,6 +169,7 @@ impl Points for Ranges {
         &mut self,
         _cursor: &mut Cursor,
         _head: &Head,
+        _axes: usize,
         _most: u64,
         _trail: &mut Trail,
     ) -> u64 {

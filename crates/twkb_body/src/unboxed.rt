@@ -1,5 +1,6 @@
 //! Points under one header that nothing asks for.
-ghost use Rattle.std.specs.Prelude.{◌≤ℤ◌, ◌^◌, pos, neg_ℤ, ◌↔◌, IsTrue};
+ghost use Rattle.std.specs.Prelude.{◌≤◌, ◌≤ℤ◌, ◌^◌, pos, neg_ℤ, ◌↔◌, IsTrue};
+ghost use Rattle.twkb_body.specs.Walk.{IsRun};
 
 use crate::points::Points;
 use crate::trail::Trail;
@@ -33,28 +34,49 @@ impl Points for Unboxed {
     #[inline(always)]
     fn add(&mut self, _head: &Head, _point: &[i64; 4]) {}
 
-    // Both sums are in locals. While differences are short none leaves 64 bits, so none is tested.
     #[inline(always)]
-    fn take_run(&mut self, cursor: &mut Cursor, _head: &Head, most: u64, trail: &mut Trail) -> u64 {
-        let mut x = trail.last[0];
-        let mut y = trail.last[1];
-        if !is_close(x) || !is_close(y) {
-            return 0;
+    fn take_run(
+        &mut self,
+        cursor: &mut Cursor,
+        _head: &Head,
+        axes: usize,
+        most: u64,
+        trail: &mut Trail,
+    ) -> u64 {
+        if axes == 2 {
+            take_flat_run(cursor, most, trail)
+        } else {
+            0
         }
-        let mut done = 0;
-        for _ in 0..most.min(LONGEST) {
-            let Some((x_more, y_more)) = cursor.svarint_pair() else {
-                break;
-            };
-            x += x_more;
-            y += y_more;
-            done += 1;
-        }
-        // The proof knows from here that the place is within the bytes.
-        let _stop = cursor.place();
-        trail.last[0] = x;
-        trail.last[1] = y;
-        trail.points += done as usize;
-        done
     }
+}
+
+/// Points of X and Y alone.
+// Both sums are in locals. While differences are short none leaves 64 bits, so none is tested.
+#[inline(always)]
+fn take_flat_run(cursor: &mut Cursor, most: u64, trail: &mut Trail) -> u64
+    requires { trail.old.points ≤ cursor.old.place }
+    ensures few { result ≤ most }
+    ensures run { IsRun (λ (s : Unit {0}) point. s) 2 trail.old trail.new tt tt cursor.old cursor.new result }
+{
+    let mut x = trail.last[0];
+    let mut y = trail.last[1];
+    if !is_close(x) || !is_close(y) {
+        return 0;
+    }
+    let mut done = 0;
+    for _ in 0..most.min(LONGEST) {
+        let Some((x_more, y_more)) = cursor.svarint_pair() else {
+            break;
+        };
+        x += x_more;
+        y += y_more;
+        done += 1;
+    }
+    // The proof knows from here that the place is within the bytes.
+    let _stop = cursor.place();
+    trail.last[0] = x;
+    trail.last[1] = y;
+    trail.points += done as usize;
+    done
 }

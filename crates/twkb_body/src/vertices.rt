@@ -30,6 +30,7 @@ impl<V: Visit> Points for V {
         &mut self,
         _cursor: &mut Cursor,
         _head: &Head,
+        _axes: usize,
         _most: u64,
         _trail: &mut Trail,
     ) -> u64 {

@@ -3,7 +3,7 @@ use Rattle.std.proofs.Common.{◌≡◌, ℕ, ◌+◌, ◌/◌, ◌%◌, ◌<◌
 use Rattle.twkb_num.specs.Varint.{Spells, zigzag_value}
 use Rattle.twkb_head.specs.declared.header.Head.{Head}
 use Rattle.twkb_head.specs.declared.kinds.Kind.TheVariants.{Point}
-use Rattle.twkb_head.specs.Flat.{IsSizedPoint}
+use Rattle.twkb_head.specs.Raw.{IsSizedPoint}
 use Rattle.twkb_head.specs.Head.{head_of, IsHeadAt}
 use Rattle.twkb_head.specs.Header.{Header, IsHeader, has_bit}
 

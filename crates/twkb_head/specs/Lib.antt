@@ -9,7 +9,7 @@ pub mod Plan
 pub mod HeadPlan
 pub mod Reader
 pub mod HeadReader
-pub mod Flat
+pub mod Raw
 pub use Rattle.twkb_num.specs.Cursor
 pub use Rattle.twkb_num.specs.Varint
 pub use Rattle.twkb_num.specs.Units

@@ -10,7 +10,7 @@
 //! - On `Err` a [`Malformed`] names the first field that can't follow the bytes before it, and says [`Why`]; the cursor
 //!   is back at its place, and only the count has moved.
 //!
-//! [`read_flat_head`] reads a header of X and Y alone, with its box in raw numbers ([`FlatHead`]), and
+//! [`read_raw_head`] reads a header of a geometry that isn't empty, with its box in raw numbers ([`RawHead`]), and
 //! [`read_sized_point_head`] that of a point with a size and nothing else. They are for a look ahead: where another header
 //! stands, or none, they answer `None`.
 //!
@@ -33,11 +33,11 @@
 mod bits;
 mod boxes;
 mod fields;
-mod flat;
 mod header;
 mod kinds;
 pub mod laws;
 mod ranges;
+mod raw;
 mod read;
 mod refusal;
 #[cfg(test)]
@@ -45,9 +45,9 @@ mod tests;
 
 pub use boxes::{Bounds, Span, Vertex};
 pub use fields::{take_number, take_signed};
-pub use flat::{FlatHead, RawBox, RawRange, read_flat_head, read_sized_point_head};
 pub use header::{BoxField, Head, SizeField};
 pub use kinds::{DEEPEST, Kind};
+pub use raw::{RawBox, RawHead, RawRange, read_flat_head, read_raw_head, read_sized_point_head};
 pub use read::read_head;
 pub use refusal::{Malformed, Why};
 pub use twkb_num::Cursor;

@@ -88,7 +88,7 @@ fn take_head(cursor: &mut Cursor, depth: u8) -> Result<Head, Malformed>
 
 /// The extended dimensions byte, where it is announced (TWKB specification, "Extended Dimensions").
 #[inline(always)]
-fn take_extended(cursor: &mut Cursor, announced: bool) -> Result<Option<u8>, Malformed>
+pub fn take_extended(cursor: &mut Cursor, announced: bool) -> Result<Option<u8>, Malformed>
     ensures { optional_at announced byte_at cursor.old ≡ (result, cursor.new) }
 {
     if announced {

@@ -9,26 +9,26 @@ use Rattle.twkb_body.proofs.Runs.{ring_goes_far}
 use Rattle.twkb_body.proofs.Walks.{number_ahead, walk_goes_on, counted_fails, counted_ends, one_point, add_is_sums}
 use Rattle.twkb_body.proofs.parts.take_ring.Goals as goal
 
-pub take_ahead-done-requires-clause-counted : goal.take_ahead-done-requires-clause-counted
-take_ahead-done-requires-clause-counted g c =
+pub take_run-done-requires-clause-counted : goal.take_run-done-requires-clause-counted
+take_run-done-requires-clause-counted g c =
     let w = c.loop-done.invariant.read.walked in
     omega (arith, w.points, w.ahead, number_ahead _ _ _ c.in_ok-count.ensures, c.requires.counted)
 
 pub take_point-requires-clause-counted : goal.take_point-requires-clause-counted
 take_point-requires-clause-counted g c =
     let w = c.loop-done.invariant.read.walked in
-    let run = c.take_ahead-done.ensures.run.walked in
+    let run = c.take_run-done.ensures.run.walked in
     omega (arith, w.points, w.ahead, run.points, run.ahead, number_ahead _ _ _ c.in_ok-count.ensures, c.requires.counted)
 
 pub returns-in_err-take_point : goal.returns-in_err-take_point
 returns-in_err-take_point g c =
     let p = err_from_is_err_and c.from_residual-in_err-take_point.result c.from_residual-in_err-take_point.ensures.1 in
-    let far = ring_goes_far (g.P.Points.step (of_head c.args.head.now)) c.args.axes c.in_ok-count.count c.args.trail.now (g.P.Points.state c.args.points.now) c.take_number.new.cursor c.loop-done.done c.take_ahead-done.result _ _ _ _ _ _ (omega (arith, c.if-done-count.true)) c.take_ahead-done.ensures.run c.loop-done.invariant.read in
+    let far = ring_goes_far (g.P.Points.step (of_head c.args.head.now)) c.args.axes c.in_ok-count.count c.args.trail.now (g.P.Points.state c.args.points.now) c.take_number.new.cursor c.loop-done.done c.take_run-done.result _ _ _ _ _ _ (omega (arith, c.if-done-count.true)) c.take_run-done.ensures.run c.loop-done.invariant.read in
     rw (p.1, p.2) (counted_fails (g.P.Points.step (of_head c.args.head.now)) c.args.axes add (point_at c.args.axes) one_point add_is_sums c.in_ok-count.count c.args.trail.now (g.P.Points.state c.args.points.now) c.take_number.new.cursor _ _ _ _ _ _ _ c.in_ok-count.ensures c.if-done-count.true c.in_err-take_point.ensures far)
 
 pub loop-done-preserved-then-done-count : goal.loop-done-preserved-then-done-count
 loop-done-preserved-then-done-count g c =
-    let far = ring_goes_far (g.P.Points.step (of_head c.args.head.now)) c.args.axes c.in_ok-count.count c.args.trail.now (g.P.Points.state c.args.points.now) c.take_number.new.cursor c.loop-done.done c.take_ahead-done.result _ _ _ _ _ _ (omega (arith, c.if-done-count.true)) c.take_ahead-done.ensures.run c.loop-done.invariant.read in
+    let far = ring_goes_far (g.P.Points.step (of_head c.args.head.now)) c.args.axes c.in_ok-count.count c.args.trail.now (g.P.Points.state c.args.points.now) c.take_number.new.cursor c.loop-done.done c.take_run-done.result _ _ _ _ _ _ (omega (arith, c.if-done-count.true)) c.take_run-done.ensures.run c.loop-done.invariant.read in
     let read = c.in_ok-take_point.ensures in
     record {
       within = omega (arith, c.if-done-count.true);
@@ -37,8 +37,8 @@ loop-done-preserved-then-done-count g c =
 
 pub loop-done-preserved : goal.loop-done-preserved
 loop-done-preserved g c = record {
-  within = omega (arith, c.loop-done.invariant.within, c.take_ahead-done.ensures.few);
-  read = ring_goes_far (g.P.Points.step (of_head c.args.head.now)) c.args.axes c.in_ok-count.count c.args.trail.now (g.P.Points.state c.args.points.now) c.take_number.new.cursor c.loop-done.done c.take_ahead-done.result _ _ _ _ _ _ (omega (arith, c.loop-done.invariant.within, c.take_ahead-done.ensures.few)) c.take_ahead-done.ensures.run c.loop-done.invariant.read;
+  within = omega (arith, c.loop-done.invariant.within, c.take_run-done.ensures.few);
+  read = ring_goes_far (g.P.Points.step (of_head c.args.head.now)) c.args.axes c.in_ok-count.count c.args.trail.now (g.P.Points.state c.args.points.now) c.take_number.new.cursor c.loop-done.done c.take_run-done.result _ _ _ _ _ _ (omega (arith, c.loop-done.invariant.within, c.take_run-done.ensures.few)) c.take_run-done.ensures.run c.loop-done.invariant.read;
 }
 
 pub returns : goal.returns

@@ -1,21 +1,25 @@
-use Rattle.std.proofs.Common.{◌≡◌, ◌+◌, ◌-◌, suc, refl, ap, ◌∙◌, arith}
-use Rattle.std.proofs.lemmas.Int.{ints}
-use mir.Val.{to_z, of_z}
-use mir.Syntax.{w8}
+use Rattle.std.proofs.Common.{◌≡◌, ◌+◌, ◌-◌, suc, refl, sym, ap, ◌∙◌, arith}
 use Rattle.twkb_head.specs.BegunHeader.{deepest}
-use Rattle.twkb_head.specs.Flat.{whole_head}
+use Rattle.twkb_head.specs.Raw.{whole_head}
 use Rattle.twkb_body.specs.Found.{size_judged}
 use Rattle.twkb_body.proofs.SureSteps.{own_box, geometry_sure, sure_begins, sure_goes_on, members_sure}
 use Rattle.twkb_body.proofs.quick.+take_sure.Goals as goal
 
-pub take_sure-returns-in-None : goal.take_sure-returns-in-None
-take_sure-returns-in-None t c =
-    let flat = c.in_ok-flat.flat in
-    let fits : to_z w8 (of_z w8 flat.head.xy) ≡ flat.head.xy = omega (arith, ints, c.in_ok-flat.ensures.xy.0, c.in_ok-flat.ensures.xy.1) in
-    let under = rw fits at c.in_ok-frame.ensures in
+pub take_sure-returns : goal.take_sure-returns
+take_sure-returns t c =
+    let flat = c.in-Some.flat in
+    let under = c.in_ok-frame.ensures in
     geometry_sure (whole_head flat) flat.head c.args.depth c.args.above.now c.in_ok-frame.frame c.args.cursor.now c.read_flat_head.new.cursor _ _ c.requires.shallowest c.requires.deepest c.place-start.ensures.sound
-    c.in_ok-flat.ensures.ok c.in_ok-flat.ensures.moved refl (own_box flat c.args.above.now c.in_ok-frame.frame under) under.above_holds c.in_ok-vertices.ensures
-    (c.in-None.ensures ∙ ap (size_judged flat.head.size) c.place-stop.ensures.value)
+    c.in-Some.ensures.ok c.in-Some.ensures.moved refl (own_box flat c.args.above.now c.in_ok-frame.frame under) under.above_holds c.in_ok-vertices.ensures
+    (sym (ap (size_judged flat.head.size) (sym c.place-stop.ensures.value) ∙ c.if-not-is_size_true.ensures refl))
+
+pub take_further-returns : goal.take_further-returns
+take_further-returns t c =
+    let raw = c.in_ok-raw.raw in
+    let under = c.in_ok-own.ensures in
+    geometry_sure (whole_head raw) raw.head c.args.depth c.args.above.now c.in_ok-own.own c.args.cursor.now c.read_raw_head.new.cursor _ _ c.requires.shallowest c.requires.deepest c.place-start.ensures.sound
+    c.in_ok-raw.ensures.ok c.in_ok-raw.ensures.moved refl (own_box raw c.args.above.now c.in_ok-own.own under) under.above_holds c.in_ok-vertices.ensures
+    (sym (ap (size_judged raw.head.size) (sym c.place-stop.ensures.value) ∙ c.if-not-is_size_true.ensures refl))
 
 pub take_sure_members-loop-init : goal.take_sure_members-loop-init
 take_sure_members-loop-init t c = sure_begins _ _ _ _

@@ -3,15 +3,21 @@ use Rattle.twkb_head.specs.BegunHeader.{deepest}
 use Rattle.twkb_body.proofs.SureSteps.{IsSureLoop}
 use Rattle.twkb_body.proofs.quick.+take_sure.Given as goal
 
--- a collection reads its members a level below, and a geometry its own body at its level
+-- a collection reads its members a level below, and a geometry is read as one of more axes at its level
 abbrev pub decreases-take_sure : goal.decreases-take_sure
-decreases-take_sure l = 3 * (deepest - l.depth) + 2
+decreases-take_sure l = 4 * (deepest - l.depth) + 3
 
-abbrev pub decreases-take_sure_body : goal.decreases-take_sure_body
-decreases-take_sure_body l = 3 * (deepest - l.depth) + 1
+abbrev pub decreases-take_further : goal.decreases-take_further
+decreases-take_further l = 4 * (deepest - l.depth) + 2
+
+abbrev pub decreases-take_flat_body : goal.decreases-take_flat_body
+decreases-take_flat_body l = 4 * (deepest - l.depth) + 1
+
+abbrev pub decreases-take_further_body : goal.decreases-take_further_body
+decreases-take_further_body l = 4 * (deepest - l.depth) + 1
 
 abbrev pub decreases-take_sure_members : goal.decreases-take_sure_members
-decreases-take_sure_members l = 3 * (deepest - l.depth)
+decreases-take_sure_members l = 4 * (deepest - l.depth)
 
 abbrev pub invariant-take_sure_members-loop : goal.invariant-take_sure_members-loop
 invariant-take_sure_members-loop l = IsSureLoop (deepest - (l.depth + 1)) l.count l.initial.cursor l.frame l.counter l.vertices l.cursor

@@ -1,13 +1,25 @@
 use Rattle.std.proofs.Common.{◌≡◌, refl, arith}
 use Rattle.std.proofs.lemmas.Int.{ints}
-use mir.Val.{to_z, of_z}
-use mir.Syntax.{w8}
-use Rattle.twkb_body.proofs.SureSteps.{frame_inside}
+use Rattle.twkb_body.specs.Sure.{framed}
+use Rattle.twkb_body.proofs.SureSteps.{option_same, frame_inside, frame_above}
 use Rattle.twkb_body.proofs.frame.Frame.under.Goals as goal
 
-pub returns-then-lies_in-2 : goal.returns-then-lies_in-2
-returns-then-lies_in-2 c =
-    let xy : to_z w8 (of_z w8 c.args.xy) ≡ c.args.xy = omega (arith, ints) in
-    let above : c.in-Some.frame.xy ≡ c.args.xy = omega (arith, ints, c.if-frame-xy.false) in
-    rw (c.in-Some.is, c.in-Some-own.is, c.of-then-lies_in-2.ensures) (frame_inside c.args.xy c.in-Some.frame.xy _ above xy c.in-Some.frame.bounds c.in-Some-own.bounds
-    (c.if-lies_in.ensures.low refl) (c.if-lies_in.ensures.high refl) (c.if-lies_in-2.ensures.low refl) (c.if-lies_in-2.ensures.high refl))
+pub returns-then-lies_in_all : goal.returns-then-lies_in_all
+returns-then-lies_in_all c =
+    let frame = c.in-Some.frame in
+    let head = c.args.head.now in
+    let xy : frame.xy ≡ head.xy = omega (arith, ints, c.if-frame-head.false) in
+    let z = option_same frame.z head.z c.if-ne.ensures in
+    let m = option_same frame.m head.m c.if-ne-2.ensures in
+    let same : frame ≡ framed head frame.bounds = λ j. record { xy = xy j; z = z j; m = m j; bounds = frame.bounds } in
+    rw (c.in-Some.is, c.in-Some-own.is, c.of-then-lies_in_all.ensures) (frame_inside frame head c.in-Some-own.bounds same (c.if-lies_in_all.ensures refl))
+
+pub returns-in-None : goal.returns-in-None
+returns-in-None c =
+    let frame = c.in-Some.frame in
+    let head = c.args.head.now in
+    let xy : frame.xy ≡ head.xy = omega (arith, ints, c.if-frame-head.false) in
+    let z = option_same frame.z head.z c.if-ne.ensures in
+    let m = option_same frame.m head.m c.if-ne-2.ensures in
+    let same : frame ≡ framed head frame.bounds = λ j. record { xy = xy j; z = z j; m = m j; bounds = frame.bounds } in
+    rw (c.in-Some.is, c.in-None.is) (frame_above frame head same)

@@ -1,5 +1,0 @@
-use Rattle.twkb_body.proofs.BareRuns.{bare_parts}
-use Rattle.twkb_body.proofs.quick.pass_bare_parts.Goals as goal
-
-pub returns : goal.returns
-returns c = let count = c.in_ok-count.ensures in bare_parts c.args.kind c.args.has_ids 2 c.in_ok-count.count c.in_ok-points.points count.0 _ _ _ count.1 count.2 c.in_ok-points.ensures

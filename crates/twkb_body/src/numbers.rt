@@ -1,0 +1,110 @@
+//! A number for each axis of a point that has Z or M: differences from the point before, or distances from the minima of a
+//! box.
+ghost use Rattle.std.specs.Prelude.{◌≡◌, ◌≤◌, ◌≤ℤ◌, ◌<ℤ◌, ◌^◌, pos, neg_ℤ, false, true, ◌↔◌, IfSome, IfNone, IsTrue};
+ghost use Rattle.twkb_num.specs.Varint.{IsShort};
+ghost use Rattle.twkb_body.specs.Numbers.{listed, Each, IsIn64, plus, AreDifferences};
+
+use twkb_num::Cursor;
+
+/// A number for each axis, in the order X, Y, Z, M.
+#[derive(Clone, Copy, Debug)]
+pub struct Numbers {
+    pub x: i64,
+    pub y: i64,
+    /// That of Z where there is one, else that of M.
+    pub third: i64,
+    /// That of M where there is a Z too.
+    pub fourth: i64,
+}
+
+impl Numbers {
+    /// The coordinates of a point.
+    #[inline(always)]
+    pub fn of(point: &[i64; 4]) -> Numbers
+        ensures { point.now ≡ listed result }
+    {
+        Numbers {
+            x: point[0],
+            y: point[1],
+            third: point[2],
+            fourth: point[3],
+        }
+    }
+
+    /// The sums, axis by axis.
+    #[inline(always)]
+    pub fn plus(&self, more: &Numbers) -> Numbers
+        requires { Each IsIn64 (plus self.now more.now) }
+        ensures { result ≡ plus self.now more.now }
+    {
+        Numbers {
+            x: self.x + more.x,
+            y: self.y + more.y,
+            third: self.third + more.third,
+            fourth: self.fourth + more.fourth,
+        }
+    }
+}
+
+/// The differences of the point at the place, which has three axes or four, if words of eight bytes show them and they are
+/// short. Else `None`, and the cursor is as it was.
+#[inline(always)]
+pub fn take_differences(cursor: &mut Cursor, has_fourth: bool) -> Option<Numbers>
+    ensures some { IfSome result (λ more. AreDifferences has_fourth more cursor.old cursor.new) }
+    ensures none { IfNone result (cursor.new ≡ cursor.old) }
+{
+    if has_fourth {
+        take_four(cursor)
+    } else {
+        take_three(cursor)
+    }
+}
+
+/// The same of four axes: two pairs.
+#[inline(always)]
+fn take_four(cursor: &mut Cursor) -> Option<Numbers>
+    ensures some { IfSome result (λ more. AreDifferences true more cursor.old cursor.new) }
+    ensures none { IfNone result (cursor.new ≡ cursor.old) }
+{
+    let mut ahead = cursor.ahead();
+    let (x, y) = ahead.svarint_pair()?;
+    let (third, fourth) = ahead.svarint_pair()?;
+    *cursor = ahead;
+    Some(Numbers {
+        x,
+        y,
+        third,
+        fourth,
+    })
+}
+
+/// The same of three axes: a pair, and a number behind it.
+#[inline(always)]
+fn take_three(cursor: &mut Cursor) -> Option<Numbers>
+    ensures some { IfSome result (λ more. AreDifferences false more cursor.old cursor.new) }
+    ensures none { IfNone result (cursor.new ≡ cursor.old) }
+{
+    let mut ahead = cursor.ahead();
+    let (x, y) = ahead.svarint_pair()?;
+    let Ok(third) = ahead.svarint() else {
+        return None;
+    };
+    if !is_short(third) {
+        return None;
+    }
+    *cursor = ahead;
+    Some(Numbers {
+        x,
+        y,
+        third,
+        fourth: 0,
+    })
+}
+
+/// Whether four bytes can spell a number.
+#[inline(always)]
+fn is_short(number: i64) -> bool
+    ensures { IsTrue result ↔ IsShort number }
+{
+    -(1 << 27) <= number && number < 1 << 27
+}

@@ -1,0 +1,123 @@
+//! The parts of a body, for the quick pass: read with their points, or passed by the ends of their numbers.
+ghost use Rattle.std.specs.Prelude.{◌≡◌, ◌≤◌, None, IfSome, Ok};
+ghost use Rattle.twkb_num.specs.Units.{IsPrecision};
+ghost use Rattle.twkb_head.specs.Header.{axes_with, is_multi};
+ghost use Rattle.twkb_body.specs.Bare.{unchanged};
+ghost use Rattle.twkb_body.specs.BodyPlan.{ListHead};
+ghost use Rattle.twkb_body.specs.BodyReader.{count_at, list_at};
+ghost use Rattle.twkb_body.specs.IdLists.{IsListFound};
+ghost use Rattle.twkb_body.specs.Inside.{of_head};
+ghost use Rattle.twkb_body.specs.Sure.{AddsParts};
+
+use crate::bare::pass_parts;
+use crate::lists::take_rising;
+use crate::parts::take_parts;
+use crate::points::Points;
+use crate::trail::Trail;
+use crate::unboxed::Unboxed;
+use twkb_head::{Head, Kind, take_number};
+use twkb_num::Cursor;
+
+/// A body of so many axes that no box asks for, by the ends of its numbers, or with its sums.
+// It isn't inlined, and is handed no header, so that neither is set up where a box asks.
+#[inline(never)]
+pub fn take_unboxed(cursor: &mut Cursor, kind: Kind, has_ids: bool, axes: usize) -> Option<usize>
+    requires some { 2 ≤ axes }
+    requires few { axes ≤ 4 }
+    ensures { IfSome result (AddsParts unchanged kind has_ids axes cursor.old cursor.new tt tt) }
+{
+    let mut ahead = cursor.ahead();
+    match pass_bare_parts(&mut ahead, kind, has_ids, axes) {
+        Some(vertices) => {
+            *cursor = ahead;
+            Some(vertices)
+        }
+        None => take_summed_parts(cursor, kind, has_ids, axes),
+    }
+}
+
+/// The parts of a body, by the ends of their numbers.
+#[inline(always)]
+fn pass_bare_parts(cursor: &mut Cursor, kind: Kind, has_ids: bool, axes: usize) -> Option<usize>
+    requires some { 2 ≤ axes }
+    requires few { axes ≤ 4 }
+    ensures { IfSome result (AddsParts unchanged kind has_ids axes cursor.old cursor.new tt tt) }
+{
+    let count = take_sure_count(cursor, kind, has_ids)?;
+    let points = pass_parts(cursor, kind, axes, count)?;
+    Some(points as usize)
+}
+
+/// The parts of a body with so many points, or such long numbers, that a sum might leave 64 bits.
+#[inline(never)]
+fn take_summed_parts(cursor: &mut Cursor, kind: Kind, has_ids: bool, axes: usize) -> Option<usize>
+    requires some { 2 ≤ axes }
+    requires few { axes ≤ 4 }
+    ensures { IfSome result (AddsParts unchanged kind has_ids axes cursor.old cursor.new tt tt) }
+{
+    let head = Head {
+        kind,
+        xy: 0,
+        z: if 2 < axes { Some(0) } else { None },
+        m: if 3 < axes { Some(0) } else { None },
+        size: None,
+        bounds: None,
+        ids: has_ids,
+        empty: false,
+        start: 0,
+        stop: 0,
+    };
+    take_parts_of(cursor, &head, axes, &mut Unboxed)
+}
+
+/// The parts of a body of so many axes.
+#[inline(always)]
+pub fn take_parts_of<P: Points>(
+    cursor: &mut Cursor,
+    head: &Head,
+    axes: usize,
+    points: &mut P,
+) -> Option<usize>
+    requires xy { IsPrecision head.now.xy }
+    requires z_high { IfSome head.now.z (λ p. p ≤ 7) }
+    requires m_high { IfSome head.now.m (λ p. p ≤ 7) }
+    requires axes { axes ≡ axes_with head.now.z head.now.m }
+    ensures { IfSome result (AddsParts (P.step (of_head head.now)) head.now.kind head.now.ids axes cursor.old cursor.new (P.state points.old) (P.state points.new)) }
+{
+    let count = take_sure_count(cursor, head.kind, head.ids)?;
+    let mut trail = Trail::new();
+    let Ok(()) = take_parts(cursor, head, axes, count, &mut trail, points) else {
+        return None;
+    };
+    Some(trail.points)
+}
+
+/// How many parts there are: one, or the count of a list whose ids rise, if it has ids.
+#[inline(always)]
+fn take_sure_count(cursor: &mut Cursor, kind: Kind, has_ids: bool) -> Option<u64>
+    ensures { IfSome result (λ count. (list : ListHead) × (count_at (is_multi kind) has_ids cursor.old ≡ (Ok list, cursor.new))
+        × IsListFound cursor.old cursor.new list (record { count = count; ids = None })) }
+{
+    if kind.is_multi() {
+        take_sure_list(cursor, has_ids)
+    } else {
+        Some(1u64)
+    }
+}
+
+/// The count of a list, and its ids, where they are announced and rise.
+#[inline(always)]
+pub fn take_sure_list(cursor: &mut Cursor, has_ids: bool) -> Option<u64>
+    ensures { IfSome result (λ count. (list : ListHead) × (list_at has_ids cursor.old ≡ (Ok list, cursor.new))
+        × IsListFound cursor.old cursor.new list (record { count = count; ids = None })) }
+{
+    let Ok(count) = take_number(cursor) else {
+        return None;
+    };
+    // The proof knows from here that the place is within the bytes.
+    let _place = cursor.place();
+    if has_ids {
+        take_rising(cursor, count)?;
+    }
+    Some(count)
+}
