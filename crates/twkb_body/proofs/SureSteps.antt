@@ -28,7 +28,7 @@ use Rattle.twkb_head.specs.Reader.{Answer, ◌>>=◌, viewed, many_at, coordinat
 use Rattle.twkb_head.proofs.HeadBack.{head_value}
 use Rattle.twkb_body.specs.declared.frame.Frame.{Frame}
 use Rattle.twkb_body.specs.declared.inside.Inside.{Inside}
-use Rattle.twkb_body.specs.Boxed.{is_in_range, is_in_axis, is_in_box, Held, held_with}
+use Rattle.twkb_body.specs.Boxed.{is_in_range, is_in_axis, is_in_box, Held, held_then, held_with}
 use Rattle.twkb_body.specs.BodyPlan.{Body, ListHead, absolute, zeros, sums, ring_sums, parts_body, members_body, members_of}
 use Rattle.twkb_body.specs.BodyReader.{point_at, part_at, list_at, count_at, body_at, members_under}
 use Rattle.twkb_body.specs.Extent.{Reach, reach_of, both}
@@ -38,7 +38,7 @@ use Rattle.twkb_body.specs.IdLists.{IsListFound}
 use Rattle.twkb_body.specs.Inside.{of_head, IsInside}
 use Rattle.twkb_body.specs.Pass.{first, false_at, is_within}
 use Rattle.twkb_body.specs.Ranges.{widened}
-use Rattle.twkb_body.specs.Sure.{LiesIn, LiesInAll, framed, faultless, unseen, AddsParts, frame_bounds, IsHeldBy, IsFrameUnder, body_vertices, IsSureBody, IsSure}
+use Rattle.twkb_body.specs.Sure.{LiesIn, LiesInAll, framed, faultless, unseen, AddsParts, AddsHeld, frame_bounds, IsHeldBy, IsFrameUnder, body_vertices, IsSureBody, IsSure}
 use Rattle.twkb_body.specs.Walk.{HaveAxes, lasts_from}
 use Rattle.twkb_body.proofs.BoxedRuns.{reaches_decides, both_true}
 use Rattle.twkb_body.proofs.Coordinates.{coordinate_ahead, vertices_same}
@@ -144,6 +144,10 @@ module _ (levels : ℕ) (head : Head) (old new : Reading) (vertices axes : ℕ) 
       let all : (fold (held_with (of_head head)) start points).inside ≡ true = ap (λ (h : Held). h.inside) (sym added.walked.added) ∙ inside in
       body_of (held_with (of_head head)) start held added (Some frame)
       (subst (λ (f : Frame). All (Holds (frame_bounds f)) (map (vertex_of (of_head head)) points)) (sym precisions) (holds_all (of_head head) start points all))
+
+  pub body_held : (frame : Frame) → frame ≡ framed head frame.bounds → AddsHeld head.kind head.ids axes frame.bounds old new vertices → IsSureBody levels head (Some frame) old new vertices
+  body_held frame precisions (held, added, inside) =
+      body_boxed frame held precisions (subst (λ (n : ℕ). AddsParts (held_then n) head.kind head.ids axes old new (record { box = frame.bounds; inside = true }) held vertices) (sym axes_are) added) inside
 
 -- ---- a point alone, whose numbers are told by their ends
 opposite_fits : (m : ℕ) → m ≤ 2 ^ 63 → fits (neg_ℤ (pos m)) ≡ true
@@ -253,10 +257,10 @@ members_sure head depth inner old middle new frame list count vertices i under f
 abbrev pub IsBoxOf : Option Frame → Option BoxField → Type 0
 IsBoxOf frame box = IfSome box (λ field. (f : Frame) × (frame ≡ Some f) × (field.bounds ≡ frame_bounds f))
 
-pub own_box : (raw : RawHead) (above frame : Option Frame) → IsFrameUnder above raw.head raw.bounds frame → IsBoxOf frame (whole_head raw).bounds
+pub own_box : (raw : RawHead) (above frame : Option Frame) → IsFrameUnder above raw.head (option_map (framed raw.head) raw.bounds) frame → IsBoxOf frame (whole_head raw).bounds
 own_box raw above frame under = go raw.bounds under.own_is
   where
-    go : (own : Option RawBox) → IfSome own (λ box. frame ≡ Some (framed raw.head box)) → IsBoxOf frame (option_map (λ box. record { bounds = raw_bounds raw.head.xy raw.head.z raw.head.m box; offset = raw.box_place }) own)
+    go : (own : Option RawBox) → IfSome (option_map (framed raw.head) own) (λ f. frame ≡ Some f) → IsBoxOf frame (option_map (λ box. record { bounds = raw_bounds raw.head.xy raw.head.z raw.head.m box; offset = raw.box_place }) own)
     go None e = tt
     go (Some box) e = (framed raw.head box, e, refl)
 
@@ -348,13 +352,22 @@ option_same (Some m) (Some n) e = ap Some (eqb-true m n (not_false (m == n) e))
     not_false true e = refl
     not_false false e = absurd (cc (e))
 
--- a box in that of a frame at the precisions of its header
-pub frame_inside : (frame : Frame) (head : Head) (inner : RawBox) → frame ≡ framed head frame.bounds → LiesInAll inner frame.bounds → IsFrameUnder (Some frame) head (Some inner) (Some (framed head inner))
-frame_inside frame head inner same lies = record {
-  precisions = refl;
+-- a frame in that above, at the precisions of its header
+pub frame_inside : (outer inner : Frame) (head : Head) → outer ≡ framed head outer.bounds → inner ≡ framed head inner.bounds → LiesInAll inner.bounds outer.bounds → IsFrameUnder (Some outer) head (Some inner) (Some inner)
+frame_inside outer inner head same own lies = record {
+  precisions = own;
   own_is = refl;
-  above_holds = λ vs held. subst (λ (f : Frame). All (Holds (frame_bounds f)) vs) (sym same) (holds_wider head.xy head.z head.m inner frame.bounds lies vs held);
+  above_holds = λ vs held. subst (λ (f : Frame). All (Holds (frame_bounds f)) vs) (sym same)
+      (holds_wider head.xy head.z head.m inner.bounds outer.bounds lies vs (subst (λ (f : Frame). All (Holds (frame_bounds f)) vs) own held));
 }
 
 pub frame_above : (frame : Frame) (head : Head) → frame ≡ framed head frame.bounds → IsFrameUnder (Some frame) head None (Some frame)
 frame_above frame head same = record { precisions = same; own_is = tt; above_holds = λ vs held. held }
+
+-- a frame under none
+pub frame_alone : (head : Head) (own : Option Frame) → IfSome own (λ f. f ≡ framed head f.bounds) → IsFrameUnder None head own own
+frame_alone head own same = record { precisions = same; own_is = itself own; above_holds = λ vs held. tt }
+  where
+    itself : (own : Option Frame) → IfSome own (λ f. own ≡ Some f)
+    itself None = tt
+    itself (Some f) = refl

@@ -48,9 +48,13 @@ pub record Held : Type 0 where
   pub box : RawBox
   pub inside : Bool
 
--- the same, and one point more
+-- the same, and one point more of so many axes
+abbrev pub held_then : ℕ → Held → PointValue → Held
+held_then axes held point = record { box = held.box; inside = held.inside && is_in_box axes held.box point }
+
+-- one of the axes of a header
 abbrev pub held_with : Header → Held → PointValue → Held
-held_with h held point = record { box = held.box; inside = held.inside && is_in_box (axes_of h) held.box point }
+held_with h = held_then (axes_of h)
 
 -- a number near zero
 abbrev pub IsNear : ℤ → Type 0

@@ -1,5 +1,5 @@
 -- The quick pass: what it is sure of.
-use Rattle.std.specs.Prelude.{◌≡◌, ℕ, ◌+ℤ◌, ◌≤ℤ◌, Bool, false, List, [], ◌++◌, map, Option, Some, None, Ok, All, IfSome, ⊤}
+use Rattle.std.specs.Prelude.{◌≡◌, ℕ, ◌+ℤ◌, ◌≤ℤ◌, Bool, false, List, [], ◌++◌, map, Option, Some, None, Ok, All, IfSome, true, ⊤}
 use Rattle.twkb_num.specs.Cursor.{Reading}
 use Rattle.twkb_head.specs.declared.header.Head.{Head}
 use Rattle.twkb_head.specs.declared.kinds.Kind.{Kind}
@@ -17,6 +17,7 @@ use Rattle.twkb_body.specs.declared.found.Found.{Found}
 use Rattle.twkb_body.specs.declared.frame.Frame.{Frame}
 use Rattle.twkb_body.specs.declared.seen.Seen.{Seen}
 use Rattle.twkb_body.specs.Geometry.{Geometry, PointValue, PolygonValue, points_of, vertex_of, vertices as vertices_of, member_vertices}
+use Rattle.twkb_body.specs.Boxed.{Held, held_then}
 use Rattle.twkb_body.specs.BodyPlan.{Body, ListHead, ring_sums, zeros}
 use Rattle.twkb_body.specs.BodyReader.{part_at, count_at, body_at, geometry_at, members_under}
 use Rattle.twkb_body.specs.Extent.{reach_of}
@@ -46,6 +47,11 @@ pub record AddsParts {S : Type 0} (step : S → PointValue → S) (kind : Kind) 
   pub walked : IsWalked step axes (record { last = zeros; points = 0 }) after state state' middle.place new.place (points_of parts)
   pub vertices_are : vertices ≡ after.points
 
+-- The parts of a body were read, and a box of raw numbers holds their points.
+abbrev pub AddsHeld : Kind → Bool → ℕ → RawBox → Reading → Reading → ℕ → Type 0
+AddsHeld kind has_ids axes box old new vertices =
+    (held : Held) × AddsParts (held_then axes) kind has_ids axes old new (record { box = box; inside = true }) held vertices × (held.inside ≡ true)
+
 -- what a box that stands above holds, and what is held where none does
 abbrev pub frame_bounds : Frame → Bounds
 frame_bounds frame = raw_bounds frame.xy frame.z frame.m frame.bounds
@@ -70,11 +76,11 @@ pub record LiesInAll (inner outer : RawBox) : Type 0 where
 abbrev pub framed : Head → RawBox → Frame
 framed head box = record { xy = head.xy; z = head.z; m = head.m; bounds = box }
 
--- The frame that a geometry with this header and this box, if any, gives to its vertices under the one above: its own box,
+-- The frame that a geometry with this header and this own frame, if any, gives to its vertices under the one above: its own,
 -- which lies in that above, or else that above.
-pub record IsFrameUnder (above : Option Frame) (head : Head) (own : Option RawBox) (frame : Option Frame) : Type 0 where
+pub record IsFrameUnder (above : Option Frame) (head : Head) (own frame : Option Frame) : Type 0 where
   pub precisions : IfSome frame (λ f. f ≡ framed head f.bounds)
-  pub own_is : IfSome own (λ box. frame ≡ Some (framed head box))
+  pub own_is : IfSome own (λ f. frame ≡ Some f)
   pub above_holds : (vertices : List Vertex) → IsHeldBy frame vertices → IsHeldBy above vertices
 
 -- the vertices of a body

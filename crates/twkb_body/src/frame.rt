@@ -14,23 +14,28 @@ pub struct Frame {
 }
 
 impl Frame {
-    /// The frame of a geometry that stands under another: its own box, which has to lie in that above; or that above. The
-    /// axes and their precisions are to be those above. `None`: they differ, or the box doesn't lie there.
+    /// The frame of a geometry that stands under another: its own, which has to lie in that above; or that above. The axes
+    /// and their precisions are to be those above. `None`: they differ, or its own doesn't lie there.
     #[inline(always)]
-    pub fn under(above: &Option<Frame>, head: &Head, own: Option<RawBox>) -> Option<Option<Frame>>
-        ensures { IfSome result (IsFrameUnder above.now head.now own) }
+    pub fn under<'a>(
+        above: &'a Option<Frame>,
+        head: &Head,
+        own: &'a Option<Frame>,
+    ) -> Option<&'a Option<Frame>>
+        requires { IfSome own.now (λ f. f ≡ framed head.now f.bounds) }
+        ensures { IfSome result (λ frame. IsFrameUnder above.now head.now own.now frame.now) }
     {
         let Some(frame) = above else {
-            return Some(Frame::of(head, own));
+            return Some(own);
         };
         if frame.xy != head.xy || frame.z != head.z || frame.m != head.m {
             return None;
         }
         match own {
-            None => Some(*above),
-            Some(bounds) => {
-                if lies_in_all(&bounds, &frame.bounds) {
-                    Some(Frame::of(head, own))
+            None => Some(above),
+            Some(inner) => {
+                if lies_in_all(&inner.bounds, &frame.bounds) {
+                    Some(own)
                 } else {
                     None
                 }
@@ -40,7 +45,7 @@ impl Frame {
 
     /// The frame of a geometry's own box, if it has one.
     #[inline(always)]
-    fn of(head: &Head, own: Option<RawBox>) -> Option<Frame>
+    pub fn of(head: &Head, own: Option<RawBox>) -> Option<Frame>
         ensures { result ≡ option_map (framed head.now) own }
     {
         match own {

@@ -12,11 +12,10 @@ ghost use Rattle.twkb_body.specs.Sure.{framed, IsSureBody, IsSure};
 
 mod parts;
 
-use self::parts::{take_parts_of, take_sure_list, take_unboxed};
+use self::parts::{take_boxed, take_parts_of, take_sure_list, take_unboxed};
 use crate::boxed::Boxed;
 use crate::found::judge_size;
 use crate::frame::Frame;
-use crate::further::{BoxedFour, BoxedThree};
 use twkb_head::{Head, read_flat_head, read_raw_head, read_sized_point_head};
 use twkb_num::Cursor;
 
@@ -81,8 +80,9 @@ fn take_sure(cursor: &mut Cursor, depth: u8, above: &Option<Frame>) -> Option<us
     };
     // The proof knows from here that the place is within the bytes.
     let _body = cursor.place();
-    let frame = Frame::under(above, &flat.head, flat.bounds)?;
-    let vertices = take_flat_body(cursor, depth, &flat.head, &frame)?;
+    let own = Frame::of(&flat.head, flat.bounds);
+    let frame = Frame::under(above, &flat.head, &own)?;
+    let vertices = take_flat_body(cursor, depth, &flat.head, frame)?;
     let stop = cursor.place();
     if !is_size_true(&flat.head, stop) {
         return None;
@@ -104,8 +104,9 @@ fn take_further(cursor: &mut Cursor, depth: u8, above: &Option<Frame>) -> Option
     let raw = read_raw_head(cursor, depth)?;
     // The proof knows from here that the place is within the bytes.
     let _body = cursor.place();
-    let own = Frame::under(above, &raw.head, raw.bounds)?;
-    let vertices = take_further_body(cursor, depth, &raw.head, &own)?;
+    let own = Frame::of(&raw.head, raw.bounds);
+    let frame = Frame::under(above, &raw.head, &own)?;
+    let vertices = take_further_body(cursor, depth, &raw.head, frame)?;
     let stop = cursor.place();
     if !is_size_true(&raw.head, stop) {
         return None;
@@ -247,67 +248,13 @@ fn take_further_shape(
     ensures { IfSome result (IsSureBody (deepest - depth) head.now frame.now cursor.old cursor.new) }
 {
     match frame {
-        Some(frame) => match head.axes() {
-            4 => take_boxed_four(cursor, depth, head, frame),
-            3 => take_boxed_three(cursor, depth, head, frame),
-            _ => None,
-        },
+        Some(frame) => {
+            let vertices = take_boxed(cursor, head.kind, head.ids, head.axes(), &frame.bounds)?;
+            Some(vertices)
+        }
         None => {
             let vertices = take_unboxed(cursor, head.kind, head.ids, head.axes())?;
             Some(vertices)
         }
     }
-}
-
-/// The same of three axes, in a frame.
-// This and the next aren't inlined, since a function that would grow very large has nothing inlined.
-#[inline(never)]
-fn take_boxed_three(
-    cursor: &mut Cursor,
-    depth: u8,
-    head: &Head,
-    frame: &Frame,
-) -> Option<usize>
-    requires xy { IsPrecision head.now.xy }
-    requires z_high { IfSome head.now.z (λ p. p ≤ 7) }
-    requires m_high { IfSome head.now.m (λ p. p ≤ 7) }
-    requires full { head.now.empty ≡ false }
-    requires kind { is_collection head.now.kind ≡ false }
-    requires axes { axes_with head.now.z head.now.m ≡ 3 }
-    requires frame { frame.now ≡ framed head.now frame.now.bounds }
-    ensures { IfSome result (IsSureBody (deepest - depth) head.now (Some frame.now) cursor.old cursor.new) }
-{
-    let boxed = Boxed::new(&frame.bounds)?;
-    let mut three = BoxedThree { boxed };
-    let vertices = take_parts_of(cursor, head, 3, &mut three)?;
-    if !three.boxed.is_inside() {
-        return None;
-    }
-    Some(vertices)
-}
-
-/// The same of four axes.
-#[inline(never)]
-fn take_boxed_four(
-    cursor: &mut Cursor,
-    depth: u8,
-    head: &Head,
-    frame: &Frame,
-) -> Option<usize>
-    requires xy { IsPrecision head.now.xy }
-    requires z_high { IfSome head.now.z (λ p. p ≤ 7) }
-    requires m_high { IfSome head.now.m (λ p. p ≤ 7) }
-    requires full { head.now.empty ≡ false }
-    requires kind { is_collection head.now.kind ≡ false }
-    requires axes { axes_with head.now.z head.now.m ≡ 4 }
-    requires frame { frame.now ≡ framed head.now frame.now.bounds }
-    ensures { IfSome result (IsSureBody (deepest - depth) head.now (Some frame.now) cursor.old cursor.new) }
-{
-    let boxed = Boxed::new(&frame.bounds)?;
-    let mut four = BoxedFour { boxed };
-    let vertices = take_parts_of(cursor, head, 4, &mut four)?;
-    if !four.boxed.is_inside() {
-        return None;
-    }
-    Some(vertices)
 }

@@ -7,15 +7,17 @@ ghost use Rattle.twkb_body.specs.BodyPlan.{ListHead};
 ghost use Rattle.twkb_body.specs.BodyReader.{count_at, list_at};
 ghost use Rattle.twkb_body.specs.IdLists.{IsListFound};
 ghost use Rattle.twkb_body.specs.Inside.{of_head};
-ghost use Rattle.twkb_body.specs.Sure.{AddsParts};
+ghost use Rattle.twkb_body.specs.Sure.{AddsParts, AddsHeld};
 
 use crate::bare::pass_parts;
+use crate::boxed::Boxed;
+use crate::further::{BoxedFour, BoxedThree};
 use crate::lists::take_rising;
 use crate::parts::take_parts;
 use crate::points::Points;
 use crate::trail::Trail;
 use crate::unboxed::Unboxed;
-use twkb_head::{Head, Kind, take_number};
+use twkb_head::{Head, Kind, RawBox, take_number};
 use twkb_num::Cursor;
 
 /// A body of so many axes that no box asks for, by the ends of its numbers, or with its sums.
@@ -55,7 +57,23 @@ fn take_summed_parts(cursor: &mut Cursor, kind: Kind, has_ids: bool, axes: usize
     requires few { axes ≤ 4 }
     ensures { IfSome result (AddsParts unchanged kind has_ids axes cursor.old cursor.new tt tt) }
 {
-    let head = Head {
+    let head = head_of(kind, has_ids, axes);
+    take_parts_of(cursor, &head, axes, &mut Unboxed)
+}
+
+/// A header of so many axes that says nothing else.
+#[inline(always)]
+fn head_of(kind: Kind, has_ids: bool, axes: usize) -> Head
+    requires some { 2 ≤ axes }
+    requires few { axes ≤ 4 }
+    ensures kind { result.kind ≡ kind }
+    ensures ids { result.ids ≡ has_ids }
+    ensures axes { axes ≡ axes_with result.z result.m }
+    ensures xy { IsPrecision result.xy }
+    ensures z_high { IfSome result.z (λ p. p ≤ 7) }
+    ensures m_high { IfSome result.m (λ p. p ≤ 7) }
+{
+    Head {
         kind,
         xy: 0,
         z: if 2 < axes { Some(0) } else { None },
@@ -66,8 +84,66 @@ fn take_summed_parts(cursor: &mut Cursor, kind: Kind, has_ids: bool, axes: usize
         empty: false,
         start: 0,
         stop: 0,
-    };
-    take_parts_of(cursor, &head, axes, &mut Unboxed)
+    }
+}
+
+/// A body of three axes or four, if a box holds its points.
+#[inline(always)]
+pub fn take_boxed(
+    cursor: &mut Cursor,
+    kind: Kind,
+    has_ids: bool,
+    axes: usize,
+    bounds: &RawBox,
+) -> Option<usize>
+    ensures { IfSome result (AddsHeld kind has_ids axes bounds.now cursor.old cursor.new) }
+{
+    match axes {
+        4 => take_boxed_four(cursor, kind, has_ids, bounds),
+        3 => take_boxed_three(cursor, kind, has_ids, bounds),
+        _ => None,
+    }
+}
+
+/// The same of three axes.
+// This and the next aren't inlined, since a function that would grow very large has nothing inlined.
+#[inline(never)]
+fn take_boxed_three(
+    cursor: &mut Cursor,
+    kind: Kind,
+    has_ids: bool,
+    bounds: &RawBox,
+) -> Option<usize>
+    ensures { IfSome result (AddsHeld kind has_ids 3 bounds.now cursor.old cursor.new) }
+{
+    let head = head_of(kind, has_ids, 3);
+    let boxed = Boxed::new(bounds)?;
+    let mut three = BoxedThree { boxed };
+    let vertices = take_parts_of(cursor, &head, 3, &mut three)?;
+    if !three.boxed.is_inside() {
+        return None;
+    }
+    Some(vertices)
+}
+
+/// The same of four axes.
+#[inline(never)]
+fn take_boxed_four(
+    cursor: &mut Cursor,
+    kind: Kind,
+    has_ids: bool,
+    bounds: &RawBox,
+) -> Option<usize>
+    ensures { IfSome result (AddsHeld kind has_ids 4 bounds.now cursor.old cursor.new) }
+{
+    let head = head_of(kind, has_ids, 4);
+    let boxed = Boxed::new(bounds)?;
+    let mut four = BoxedFour { boxed };
+    let vertices = take_parts_of(cursor, &head, 4, &mut four)?;
+    if !four.boxed.is_inside() {
+        return None;
+    }
+    Some(vertices)
 }
 
 /// The parts of a body of so many axes.

@@ -1,7 +1,7 @@
 use Rattle.std.proofs.Common.{◌≡◌, refl, arith}
 use Rattle.std.proofs.lemmas.Int.{ints}
 use Rattle.twkb_body.specs.Sure.{framed}
-use Rattle.twkb_body.proofs.SureSteps.{option_same, frame_inside, frame_above}
+use Rattle.twkb_body.proofs.SureSteps.{option_same, frame_inside, frame_above, frame_alone}
 use Rattle.twkb_body.proofs.frame.Frame.under.Goals as goal
 
 pub returns-then-lies_in_all : goal.returns-then-lies_in_all
@@ -12,7 +12,7 @@ returns-then-lies_in_all c =
     let z = option_same frame.z head.z c.if-ne.ensures in
     let m = option_same frame.m head.m c.if-ne-2.ensures in
     let same : frame ≡ framed head frame.bounds = λ j. record { xy = xy j; z = z j; m = m j; bounds = frame.bounds } in
-    rw (c.in-Some.is, c.in-Some-own.is, c.of-then-lies_in_all.ensures) (frame_inside frame head c.in-Some-own.bounds same (c.if-lies_in_all.ensures refl))
+    rw (c.in-Some.is, c.in-Some-own.is) (frame_inside frame c.in-Some-own.inner head same (rw c.in-Some-own.is at c.requires) (c.if-lies_in_all.ensures refl))
 
 pub returns-in-None : goal.returns-in-None
 returns-in-None c =
@@ -23,3 +23,6 @@ returns-in-None c =
     let m = option_same frame.m head.m c.if-ne-2.ensures in
     let same : frame ≡ framed head frame.bounds = λ j. record { xy = xy j; z = z j; m = m j; bounds = frame.bounds } in
     rw (c.in-Some.is, c.in-None.is) (frame_above frame head same)
+
+pub returns-in_default : goal.returns-in_default
+returns-in_default c = rw c.in_default.is (frame_alone c.args.head.now c.args.own.now c.requires)
