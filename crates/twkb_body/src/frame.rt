@@ -17,13 +17,9 @@ impl Frame {
     /// The frame of a geometry that stands under another: its own, which has to lie in that above; or that above. The axes
     /// and their precisions are to be those above. `None`: they differ, or its own doesn't lie there.
     #[inline(always)]
-    pub fn under<'a>(
-        above: &'a Option<Frame>,
-        head: &Head,
-        own: &'a Option<Frame>,
-    ) -> Option<&'a Option<Frame>>
-        requires { IfSome own.now (λ f. f ≡ framed head.now f.bounds) }
-        ensures { IfSome result (λ frame. IsFrameUnder above.now head.now own.now frame.now) }
+    pub fn under(above: &Option<Frame>, head: &Head, own: Option<Frame>) -> Option<Option<Frame>>
+        requires { IfSome own (λ f. f ≡ framed head.now f.bounds) }
+        ensures { IfSome result (IsFrameUnder above.now head.now own) }
     {
         let Some(frame) = above else {
             return Some(own);
@@ -32,7 +28,7 @@ impl Frame {
             return None;
         }
         match own {
-            None => Some(above),
+            None => Some(*above),
             Some(inner) => {
                 if lies_in_all(&inner.bounds, &frame.bounds) {
                     Some(own)

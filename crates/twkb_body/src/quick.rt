@@ -81,8 +81,8 @@ fn take_sure(cursor: &mut Cursor, depth: u8, above: &Option<Frame>) -> Option<us
     // The proof knows from here that the place is within the bytes.
     let _body = cursor.place();
     let own = Frame::of(&flat.head, flat.bounds);
-    let frame = Frame::under(above, &flat.head, &own)?;
-    let vertices = take_flat_body(cursor, depth, &flat.head, frame)?;
+    let frame = Frame::under(above, &flat.head, own)?;
+    let vertices = take_flat_body(cursor, depth, &flat.head, &frame)?;
     let stop = cursor.place();
     if !is_size_true(&flat.head, stop) {
         return None;
@@ -105,8 +105,8 @@ fn take_further(cursor: &mut Cursor, depth: u8, above: &Option<Frame>) -> Option
     // The proof knows from here that the place is within the bytes.
     let _body = cursor.place();
     let own = Frame::of(&raw.head, raw.bounds);
-    let frame = Frame::under(above, &raw.head, &own)?;
-    let vertices = take_further_body(cursor, depth, &raw.head, frame)?;
+    let frame = Frame::under(above, &raw.head, own)?;
+    let vertices = take_further_body(cursor, depth, &raw.head, &frame)?;
     let stop = cursor.place();
     if !is_size_true(&raw.head, stop) {
         return None;
@@ -189,9 +189,11 @@ fn take_sure_members(
     ensures { IfSome result (IsSureBody (deepest - depth) head.now frame.now cursor.old cursor.new) }
 {
     let count = take_sure_list(cursor, head.ids)?;
+    // A copy, so that the frame of a geometry without members stays in registers.
+    let below = *frame;
     let mut vertices = 0;
     for _ in 0..count {
-        let member = take_sure(cursor, depth + 1, frame)?;
+        let member = take_sure(cursor, depth + 1, &below)?;
         // The proof knows from here that the place is within the bytes.
         let _stop = cursor.place();
         vertices += member;
@@ -249,7 +251,8 @@ fn take_further_shape(
 {
     match frame {
         Some(frame) => {
-            let vertices = take_boxed(cursor, head.kind, head.ids, head.axes(), &frame.bounds)?;
+            let bounds = frame.bounds;
+            let vertices = take_boxed(cursor, head.kind, head.ids, head.axes(), &bounds)?;
             Some(vertices)
         }
         None => {

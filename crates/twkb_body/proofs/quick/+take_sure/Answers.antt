@@ -9,16 +9,16 @@ pub take_sure-returns : goal.take_sure-returns
 take_sure-returns t c =
     let flat = c.in-Some.flat in
     let under = rw c.of-own.ensures at c.in_ok-frame.ensures in
-    geometry_sure (whole_head flat) flat.head c.args.depth c.args.above.now c.in_ok-frame.frame.now c.args.cursor.now c.read_flat_head.new.cursor _ _ c.requires.shallowest c.requires.deepest c.place-start.ensures.sound
-    c.in-Some.ensures.ok c.in-Some.ensures.moved refl (own_box flat c.args.above.now c.in_ok-frame.frame.now under) under.above_holds c.in_ok-vertices.ensures
+    geometry_sure (whole_head flat) flat.head c.args.depth c.args.above.now c.in_ok-frame.frame c.args.cursor.now c.read_flat_head.new.cursor _ _ c.requires.shallowest c.requires.deepest c.place-start.ensures.sound
+    c.in-Some.ensures.ok c.in-Some.ensures.moved refl (own_box flat c.args.above.now c.in_ok-frame.frame under) under.above_holds c.in_ok-vertices.ensures
     (sym (ap (size_judged flat.head.size) (sym c.place-stop.ensures.value) ∙ c.if-not-is_size_true.ensures refl))
 
 pub take_further-returns : goal.take_further-returns
 take_further-returns t c =
     let raw = c.in_ok-raw.raw in
     let under = rw c.of-own.ensures at c.in_ok-frame.ensures in
-    geometry_sure (whole_head raw) raw.head c.args.depth c.args.above.now c.in_ok-frame.frame.now c.args.cursor.now c.read_raw_head.new.cursor _ _ c.requires.shallowest c.requires.deepest c.place-start.ensures.sound
-    c.in_ok-raw.ensures.ok c.in_ok-raw.ensures.moved refl (own_box raw c.args.above.now c.in_ok-frame.frame.now under) under.above_holds c.in_ok-vertices.ensures
+    geometry_sure (whole_head raw) raw.head c.args.depth c.args.above.now c.in_ok-frame.frame c.args.cursor.now c.read_raw_head.new.cursor _ _ c.requires.shallowest c.requires.deepest c.place-start.ensures.sound
+    c.in_ok-raw.ensures.ok c.in_ok-raw.ensures.moved refl (own_box raw c.args.above.now c.in_ok-frame.frame under) under.above_holds c.in_ok-vertices.ensures
     (sym (ap (size_judged raw.head.size) (sym c.place-stop.ensures.value) ∙ c.if-not-is_size_true.ensures refl))
 
 pub take_sure_members-loop-init : goal.take_sure_members-loop-init

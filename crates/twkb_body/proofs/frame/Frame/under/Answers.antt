@@ -25,4 +25,4 @@ returns-in-None c =
     rw (c.in-Some.is, c.in-None.is) (frame_above frame head same)
 
 pub returns-in_default : goal.returns-in_default
-returns-in_default c = rw c.in_default.is (frame_alone c.args.head.now c.args.own.now c.requires)
+returns-in_default c = rw c.in_default.is (frame_alone c.args.head.now c.args.own c.requires)
