@@ -8,7 +8,10 @@ import sys
 TOP = os.path.dirname(os.path.dirname(os.path.abspath(__file__)))
 # The calls that look ahead, and where each may stand.
 ALLOWED = {
-    ".ahead()": {f"crates/twkb_body/src/{name}.rt" for name in ("numbers", "quick", "quick/parts")},
+    ".ahead()": {
+        "crates/twkb_head/src/raw.rt",
+        *(f"crates/twkb_body/src/{name}.rt" for name in ("numbers", "quick", "quick/parts")),
+    },
     ".word()": {"crates/twkb_head/src/raw.rt"},
 }
 

@@ -3,8 +3,8 @@
 
 usage: tests/stack.py [PROGRAM]   (build/twkb_tool where it is left out)
 
-The layers are a point inside 0, 31 and 63 collections: one of X and Y alone, which the quick pass certifies, and one with an
-extended dimensions byte that says nothing, which the audit reads behind it. For `check`, `check --tight` and `scan` the least
+The layers are a point inside 0, 31 and 63 collections, which the quick pass certifies, and two points there whose ids fall,
+which the audit reads behind it. For `check`, `check --tight` and `scan` the least
 limit of the stack is printed, in steps of a page, with which the program ends well TRIES times in a row, with no environment:
 what the limit counts begins a little lower each time. Where gdb is there, it then tells where the stack is whenever the quick
 pass, the audits and the scan of the deepest layer enter a geometry: how much a level of each takes.
@@ -21,7 +21,7 @@ from harness import TOP, written
 
 PAGE, TRIES = 4096, 20
 WINDOW = "x=1..1,y=2..2"
-POINTS = {"a point": "01000204", "an extended point": "0108000204"}
+POINTS = {"a point": "01000204", "points with ids": "040402040202040000"}
 WHERE = """set pagination off
 rbreak quick::take_sure
 commands

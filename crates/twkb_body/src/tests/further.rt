@@ -8,7 +8,9 @@ use std::process::Abort;
 
 // The axes behind that of Y, as the extended dimensions byte has them, and how many axes there are then.
 const Z: (u8, usize) = (0x01, 3);
+
 const M: (u8, usize) = (0x02, 3);
+
 const BOTH: (u8, usize) = (0x03, 4);
 
 // Each axis behind that of Y.
@@ -113,7 +115,12 @@ fn sums_agree(rt: &impl Abort, alloc: Global, about: i64) -> Result<(), AllocErr
             let second = first.wrapping_add(step);
             for (dims, axis) in FURTHER {
                 let points = [first, second, first, second].map(|at| in_axis(axis, at, 0));
-                for range in [(0, i64::MAX), (about, 0), (i64::MIN, i64::MAX), (first, step)] {
+                for range in [
+                    (0, i64::MAX),
+                    (about, 0),
+                    (i64::MIN, i64::MAX),
+                    (first, step),
+                ] {
                     line_agrees(rt, alloc, dims, &in_axis(axis, range, (0, 0)), &points)?;
                 }
             }
