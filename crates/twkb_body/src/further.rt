@@ -42,7 +42,8 @@ impl Points for BoxedThree {
         trail: &mut Trail,
     ) -> u64 {
         if axes == 3 {
-            self.boxed.take_further_run(cursor, head, false, most, trail)
+            self.boxed
+                .take_further_run(cursor, head, false, most, trail)
         } else {
             0
         }

@@ -10,9 +10,9 @@
 //! - On `Err` a [`Malformed`] names the first field that can't follow the bytes before it, and says [`Why`]; the cursor
 //!   is back at its place, and only the count has moved.
 //!
-//! [`read_raw_head`] reads a header of a geometry that isn't empty, with its box in raw numbers ([`RawHead`]), and
-//! [`read_sized_point_head`] that of a point with a size and nothing else. They are for a look ahead: where another header
-//! stands, or none, they answer `None`.
+//! [`read_raw_head`] reads a header of a geometry that isn't empty, with its box in raw numbers ([`RawHead`]),
+//! [`read_flat_head`] one that has no extended dimensions byte, and [`read_sized_point_head`] that of a point with a size and
+//! nothing else. They are for a look ahead: where another header stands, or none, they answer `None`.
 //!
 //! [`take_number`] and [`take_signed`] read a single number in the same way. A header's numbers are read by them, and so
 //! are those of the body behind it.

@@ -128,12 +128,7 @@ fn take_boxed_three(
 
 /// The same of four axes.
 #[inline(never)]
-fn take_boxed_four(
-    cursor: &mut Cursor,
-    kind: Kind,
-    has_ids: bool,
-    bounds: &RawBox,
-) -> Option<usize>
+fn take_boxed_four(cursor: &mut Cursor, kind: Kind, has_ids: bool, bounds: &RawBox) -> Option<usize>
     ensures { IfSome result (AddsHeld kind has_ids 4 bounds.now cursor.old cursor.new) }
 {
     let head = head_of(kind, has_ids, 4);

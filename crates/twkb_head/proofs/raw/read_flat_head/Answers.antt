@@ -1,5 +1,4 @@
-use Rattle.std.proofs.Common.{◌≡◌, ◌-◌, Ok, sym, ap, subst, ◌∙◌}
-use Rattle.twkb_num.specs.Cursor.{Reading}
+use Rattle.std.proofs.Common.{◌-◌, Ok, sym, ap, ◌∙◌}
 use Rattle.twkb_head.specs.BegunHeader.{deepest}
 use Rattle.twkb_head.specs.HeadReader.{head_at}
 use Rattle.twkb_head.proofs.HeadLaws.{head_ok, head_moved}
