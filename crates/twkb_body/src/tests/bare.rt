@@ -25,9 +25,10 @@ fn number(dice: &mut Dice) -> i64 {
 fn ring(out: &mut Vec<u8>, dice: &mut Dice) -> Result<(), AllocError> {
     let points = dice.below(9);
     put_unsigned(out, points)?;
-    for _ in 0..2 * points {
-        let step = number(dice);
-        put(out, step)?;
+    for _ in 0..points {
+        let (x, y) = (number(dice), number(dice));
+        put(out, x)?;
+        put(out, y)?;
     }
     Ok(())
 }
@@ -58,7 +59,7 @@ fn part(out: &mut Vec<u8>, dice: &mut Dice, kind: u64) -> Result<(), AllocError>
 // A geometry of each kind but a collection, with some bytes behind it, or cut.
 fn geometry(alloc: Global, dice: &mut Dice) -> Result<Vec<u8>, AllocError> {
     let mut out = Vec::new(alloc);
-    let kind = 1 + dice.below(6);
+    let kind = dice.below(6).wrapping_add(1);
     out.push((kind % 8) as u8)?;
     out.push(0x00)?;
     let parts = if kind < 4 { 1 } else { dice.below(4) };
@@ -86,7 +87,7 @@ fn random_bodies_without_a_box(rt: HostRuntime) -> Result<(), Fail> {
         let bytes = geometry(rt.alloc(), &mut dice)?;
         agrees(&rt, rt.alloc(), &bytes, false);
         if take_at_sight(&mut Cursor::new(&bytes)).is_some() {
-            sure += 1;
+            sure = sure.saturating_add(1);
         }
     }
     assert!(&rt; 1000 < sure && sure < 2000, "{sure}");
@@ -131,8 +132,8 @@ fn bodies_of_few_points_and_of_many(rt: HostRuntime) -> Result<(), Fail> {
 fn line_to_the_end(alloc: Global, less: i64, steps: u64) -> Result<Vec<u8>, AllocError> {
     let mut out = Vec::new(alloc);
     out.extend_from_slice(&[0x02, 0x00])?;
-    put_unsigned(&mut out, steps + 1)?;
-    put(&mut out, i64::MAX - less)?;
+    put_unsigned(&mut out, steps.saturating_add(1))?;
+    put(&mut out, i64::MAX.wrapping_sub(less))?;
     put(&mut out, 0)?;
     for _ in 0..steps {
         out.extend_from_slice(&[0x02, 0x00])?;
@@ -169,7 +170,7 @@ fn bare_numbers_of_every_two_lengths(rt: HostRuntime) -> Result<(), Fail> {
     for x in GREATEST {
         for y in GREATEST {
             for behind in 0..9 {
-                let bytes = line_of(rt.alloc(), x, -y, behind)?;
+                let bytes = line_of(rt.alloc(), x, y.wrapping_neg(), behind)?;
                 agrees(&rt, rt.alloc(), &bytes, false);
             }
         }

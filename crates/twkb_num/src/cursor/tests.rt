@@ -159,14 +159,14 @@ fn varints_are_passed_up_to_their_ends(rt: HostRuntime) {
 #[test]
 fn many_varints_are_passed_as_they_are_read(rt: HostRuntime) -> Result<(), Fail> {
     for first in 0..7 {
-        for step in 0..16 {
+        for step in 0..16u64 {
             let mut bytes = Vec::new(rt.alloc());
             for _ in 0..first {
                 bytes.push(0x81)?;
             }
             bytes.push(0x01)?;
-            for i in 0..8 {
-                for _ in 0..i * step / 4 % 4 {
+            for i in 0..8u64 {
+                for _ in 0..i.wrapping_mul(step) / 4 % 4 {
                     bytes.push(0x81)?;
                 }
                 bytes.push(0x01)?;
