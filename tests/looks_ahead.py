@@ -1,6 +1,8 @@
 #!/usr/bin/env python3
 """Where the code looks ahead: at bytes that a cursor counts only if they are passed. Only what the quick pass of an audit
-is made of may do so, since what a scan says of the bytes that it reads would else say less than it seems to."""
+is made of may do so, since what a scan says of the bytes that it reads would else say less than it seems to. A hop may look
+at a header with a cursor of its own, since whoever reads the blob, if it isn't hopped over, counts that header; it reads the
+box by words that end with the geometry."""
 import os
 import re
 import sys
@@ -10,11 +12,22 @@ TOP = os.path.dirname(os.path.dirname(os.path.abspath(__file__)))
 ALLOWED = {
     ".ahead()": {
         "crates/twkb_head/src/raw.rt",
-        *(f"crates/twkb_body/src/{name}.rt" for name in ("numbers", "quick", "quick/parts")),
+        "crates/twkb_head/src/boxed.rt",
+        "crates/twkb_layer/src/hops.rt",
+        *(f"crates/twkb_body/src/{name}.rt" for name in ("boxed", "numbers", "quick", "quick/parts")),
     },
     ".word()": {"crates/twkb_head/src/raw.rt"},
+    # Their words may end behind the geometry.
+    ".svarint_pair()": {
+        "crates/twkb_num/src/cursor.rt",
+        "crates/twkb_head/src/raw.rt",
+        *(f"crates/twkb_body/src/{name}.rt" for name in ("boxed", "numbers")),
+    },
+    ".pass_varint()": {"crates/twkb_body/src/quick.rt"},
+    ".pass_varints(": {"crates/twkb_body/src/bare.rt"},
     # What they answer `None` for they have looked at, and not counted.
     "read_flat_head(": {"crates/twkb_head/src/raw.rt", "crates/twkb_body/src/quick.rt"},
+    "read_boxed_head(": {"crates/twkb_head/src/boxed.rt", "crates/twkb_layer/src/hops.rt"},
     "read_sized_point_head(": {"crates/twkb_head/src/raw.rt", "crates/twkb_body/src/quick.rt"},
 }
 

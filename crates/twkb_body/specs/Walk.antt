@@ -1,9 +1,11 @@
 -- What reading numbers does to the differences under one header, and to what their points are added to.
 use Rattle.std.specs.Prelude.{◌≡◌, ℕ, ◌+◌, ◌≤◌, List, [], ◌∷◌, length, fold, Ok}
 use Rattle.twkb_num.specs.Cursor.{Reading}
+use Rattle.twkb_head.specs.declared.boxes.Vertex.{Vertex}
+use Rattle.twkb_head.specs.Header.{Header}
 use Rattle.twkb_head.specs.Reader.{many_at}
 use Rattle.twkb_body.specs.declared.trail.Trail.{Trail}
-use Rattle.twkb_body.specs.Geometry.{PointValue}
+use Rattle.twkb_body.specs.Geometry.{PointValue, vertex_of}
 use Rattle.twkb_body.specs.BodyPlan.{add, sums, place, map_from}
 use Rattle.twkb_body.specs.BodyReader.{point_at}
 
@@ -19,6 +21,10 @@ placed_from s numbers = map_from add place s numbers
 -- the same with all four axes: the sums that each point leaves
 abbrev pub lasts_from : PointValue → List PointValue → List PointValue
 lasts_from s numbers = map_from add add s numbers
+
+-- the state after a point is shown as a vertex, by the precisions of a header
+abbrev pub shown : {S : Type 0} → (S → Vertex → S) → Header → S → PointValue → S
+shown step h s point = step s (vertex_of h point)
 
 -- From one trail to another these numbers were read, between two places, of which each point takes a byte at least; and
 -- the points were added, one after another.

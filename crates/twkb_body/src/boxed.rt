@@ -110,11 +110,13 @@ impl Boxed {
         if !are_near(&bounds, &last) {
             return 0;
         }
+        // A cursor of the run's own, so that the one that is passed isn't written at each point.
+        let mut ahead = cursor.ahead();
         let mut apart = distances(&bounds, &last);
         let mut is_inside = self.inside;
         let mut taken = 0;
         while is_inside && taken < most {
-            let Some(more) = take_differences(cursor, has_fourth) else {
+            let Some(more) = take_differences(&mut ahead, has_fourth) else {
                 break;
             };
             apart = apart.plus(&more);
@@ -122,7 +124,8 @@ impl Boxed {
             taken += 1;
         }
         // The proof knows from here that the place is within the bytes.
-        let _stop = cursor.place();
+        let _stop = ahead.place();
+        *cursor = ahead;
         trail.last = placed(&bounds, &apart);
         trail.points += taken as usize;
         self.inside = is_inside;

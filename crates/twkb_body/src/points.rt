@@ -37,6 +37,9 @@ pub trait Points {
         most: u64,
         trail: &mut Trail,
     ) -> u64
+        requires xy { IsPrecision head.now.xy }
+        requires z_high { IfSome head.now.z (λ p. p ≤ 7) }
+        requires m_high { IfSome head.now.m (λ p. p ≤ 7) }
         requires axes { axes ≡ axes_with head.now.z head.now.m }
         requires counted { trail.old.points ≤ cursor.old.place }
         ensures few { result ≤ most }

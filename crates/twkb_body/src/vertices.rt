@@ -1,8 +1,10 @@
 //! The points under one header as vertices, each shown to a visitor.
-ghost use Rattle.std.specs.Prelude.{◌≡◌, ◌≤◌, IfSome, pos, option_map};
+ghost use Rattle.std.specs.Prelude.{◌≡◌, ◌≤◌, ◌≤ℤ◌, ◌^◌, ◌∷◌, IfSome, IsTrue, ◌↔◌, pos, neg_ℤ, option_map};
 ghost use Rattle.twkb_num.specs.Units.{IsPrecision, units_of};
-ghost use Rattle.twkb_body.specs.Geometry.{vertex_of};
+ghost use Rattle.twkb_head.specs.Header.{axes_with};
+ghost use Rattle.twkb_body.specs.Geometry.{PointValue, vertex_of};
 ghost use Rattle.twkb_body.specs.Inside.{of_head};
+ghost use Rattle.twkb_body.specs.Walk.{IsRun, shown};
 
 use crate::points::Points;
 use crate::trail::Trail;
@@ -10,31 +12,112 @@ use crate::visit::Visit;
 use twkb_head::{Head, Vertex};
 use twkb_num::{Cursor, units};
 
+/// A sum this far from zero at most stays within 64 bits for so many short differences, of at most 2^27.
+const FAR: i64 = 1 << 62;
+
+const LONGEST: u64 = 1 << 34;
+
 impl<V: Visit> Points for V {
-    ghost use Rattle.twkb_body.specs.Geometry.{vertex_of};
+    ghost use Rattle.twkb_body.specs.Walk.{shown};
 
     ghost State = { V.State };
 
     ghost state = { V.state };
 
-    ghost step = { λ h s point. V.step s (vertex_of h point) };
+    ghost step = { shown V.step };
 
     #[inline(always)]
     fn add(&mut self, head: &Head, point: &[i64; 4]) {
         self.point(&vertex_at(head, point));
     }
 
-    // A visit reads nothing behind the part that it is to read, so it reads no words.
     #[inline(always)]
     fn take_run(
         &mut self,
-        _cursor: &mut Cursor,
-        _head: &Head,
-        _axes: usize,
-        _most: u64,
-        _trail: &mut Trail,
+        cursor: &mut Cursor,
+        head: &Head,
+        axes: usize,
+        most: u64,
+        trail: &mut Trail,
     ) -> u64 {
-        0
+        if axes == 2 {
+            show_flat_run(self, cursor, head, most, trail)
+        } else {
+            0
+        }
+    }
+}
+
+/// Whether a sum is at most so far from zero.
+#[inline(always)]
+fn is_close(sum: i64) -> bool
+    ensures { IsTrue result ↔ ((neg_ℤ (pos (2 ^ 62)) ≤ℤ sum) × (sum ≤ℤ pos (2 ^ 62))) }
+{
+    -FAR <= sum && sum <= FAR
+}
+
+/// Shows some of the points at the place, and at most so many: those up to the first whose differences take more than four
+/// bytes each, or whose word might pass the end of the geometry.
+// Both sums are in locals. While differences are short none leaves 64 bits, so none is tested.
+#[inline(always)]
+fn show_flat_run<V: Visit>(
+    visitor: &mut V,
+    cursor: &mut Cursor,
+    head: &Head,
+    most: u64,
+    trail: &mut Trail,
+) -> u64
+    requires xy { IsPrecision head.now.xy }
+    requires flat { axes_with head.now.z head.now.m ≡ 2 }
+    requires counted { trail.old.points ≤ cursor.old.place }
+    ensures few { result ≤ most }
+    ensures run { IsRun (shown V.step (of_head head.now)) 2 trail.old trail.new (V.state visitor.old) (V.state visitor.new) cursor.old cursor.new result }
+{
+    let mut x = trail.last[0];
+    let mut y = trail.last[1];
+    if !is_close(x) || !is_close(y) {
+        return 0;
+    }
+    let mut done = 0;
+    for _ in 0..most.min(LONGEST) {
+        let stop = end_of(head, cursor.place(), most - done);
+        let Some((x_more, y_more)) = cursor.svarint_pair_before(stop) else {
+            break;
+        };
+        x += x_more;
+        y += y_more;
+        visitor.point(&flat_vertex(x, y, head));
+        done += 1;
+    }
+    // The proof knows from here that the place is within the bytes.
+    let _stop = cursor.place();
+    trail.last[0] = x;
+    trail.last[1] = y;
+    trail.points += done as usize;
+    done
+}
+
+/// Where the geometry ends, by its size, or a place before, since each of the points that are left takes two bytes at least.
+#[inline(always)]
+fn end_of(head: &Head, place: usize, left: u64) -> usize {
+    match head.size {
+        Some(size) => size.after.saturating_add(size.value as usize),
+        None => place.saturating_add((left as usize).saturating_mul(2)),
+    }
+}
+
+/// The vertex of a point of X and Y alone.
+#[inline(always)]
+fn flat_vertex(x: i64, y: i64, head: &Head) -> Vertex
+    requires xy { IsPrecision head.now.xy }
+    requires flat { axes_with head.now.z head.now.m ≡ 2 }
+    ensures { (others : PointValue) → result ≡ vertex_of (of_head head.now) (x ∷ y ∷ others) }
+{
+    Vertex {
+        x: scaled(x, head.xy),
+        y: scaled(y, head.xy),
+        z: None,
+        m: None,
     }
 }
 
@@ -47,11 +130,20 @@ fn vertex_at(head: &Head, point: &[i64; 4]) -> Vertex
     ensures { result ≡ vertex_of (of_head head.now) point.now }
 {
     Vertex {
-        x: units(i128::from(point[0]), head.xy),
-        y: units(i128::from(point[1]), head.xy),
+        x: scaled(point[0], head.xy),
+        y: scaled(point[1], head.xy),
         z: coordinate_at(point[2], head.z),
         m: coordinate_at(point[head.m_axis()], head.m),
     }
+}
+
+/// A coordinate in units.
+#[inline(always)]
+fn scaled(coordinate: i64, precision: i8) -> i128
+    requires { IsPrecision precision }
+    ensures { result ≡ units_of coordinate precision }
+{
+    units(i128::from(coordinate), precision)
 }
 
 /// A coordinate of an axis in units, where it has a precision.
@@ -61,7 +153,7 @@ fn coordinate_at(coordinate: i64, precision: Option<u8>) -> Option<i128>
     ensures { result ≡ option_map (λ p. units_of coordinate (pos p)) precision }
 {
     match precision {
-        Some(precision) => Some(units(i128::from(coordinate), precision as i8)),
+        Some(precision) => Some(scaled(coordinate, precision as i8)),
         None => None,
     }
 }

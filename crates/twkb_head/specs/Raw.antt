@@ -1,5 +1,5 @@
 -- Headers whose boxes are raw numbers.
-use Rattle.std.specs.Prelude.{◌≡◌, ℕ, ℤ, pos, ◌+ℤ◌, Bool, true, false, List, [], ◌∷◌, Option, Some, None, Ok, option_map}
+use Rattle.std.specs.Prelude.{◌≡◌, ℕ, ◌^◌, ℤ, pos, neg_ℤ, ◌+ℤ◌, ◌≤ℤ◌, Bool, true, false, List, [], ◌∷◌, Option, Some, None, Ok, option_map}
 use Rattle.twkb_num.specs.Cursor.{Reading}
 use Rattle.twkb_head.specs.declared.boxes.Bounds.{Bounds}
 use Rattle.twkb_head.specs.declared.raw.RawRange.{RawRange}
@@ -20,6 +20,18 @@ ends_of range = (range.minimum, range.minimum +ℤ range.extent)
 -- the ranges of a box, in the order of the axes
 abbrev pub ranges_in : RawBox → List (ℤ × ℤ)
 ranges_in box = ends_of box.x ∷ ends_of box.y ∷ ends_of box.third ∷ ends_of box.fourth ∷ []
+
+-- a range of numbers that are at most 2 ^ 61 from zero: so its greatest has 64 bits too, and there are numbers beyond
+pub record IsNear (range : RawRange) : Type 0 where
+  pub low : neg_ℤ (pos (2 ^ 61)) ≤ℤ range.minimum
+  pub high : range.minimum ≤ℤ pos (2 ^ 61)
+  pub least : neg_ℤ (pos (2 ^ 61)) ≤ℤ range.extent
+  pub greatest : range.extent ≤ℤ pos (2 ^ 61)
+
+-- the same of the ranges in X and in Y
+pub record AreNear (box : RawBox) : Type 0 where
+  pub x : IsNear box.x
+  pub y : IsNear box.y
 
 -- a box of raw numbers in units, by the precisions of its header
 abbrev pub raw_bounds : ℤ → Option ℕ → Option ℕ → RawBox → Bounds

@@ -31,6 +31,7 @@
 #![tactic(auto)]
 
 mod bits;
+mod boxed;
 mod boxes;
 mod fields;
 mod header;
@@ -43,6 +44,7 @@ mod refusal;
 #[cfg(test)]
 mod tests;
 
+pub use boxed::read_boxed_head;
 pub use boxes::{Bounds, Span, Vertex};
 pub use fields::{take_number, take_signed};
 pub use header::{BoxField, Head, SizeField};

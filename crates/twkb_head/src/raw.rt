@@ -265,7 +265,7 @@ fn take_raw_range(cursor: &mut Cursor) -> Option<RawRange>
 /// The same of numbers that may be long or near the end of the bytes.
 #[inline(always)]
 #[tactic(auto, unfolding(crate::specs::HeadReader::range_from))]
-fn take_long_range(cursor: &mut Cursor) -> Option<RawRange>
+pub fn take_long_range(cursor: &mut Cursor) -> Option<RawRange>
     ensures { IfSome result (λ range. range_from cursor.old ≡ (Ok (range.minimum, range.minimum +ℤ range.extent), cursor.new)) }
 {
     let Ok(minimum) = take_signed(cursor) else {

@@ -290,6 +290,21 @@ impl<'a> Cursor<'a> {
         self.place += pair.len;
         Some((pair.first, pair.second))
     }
+
+    /// The same, where eight bytes are left before `stop`, so that no byte from there on is looked at.
+    #[inline(always)]
+    pub fn svarint_pair_before(&mut self, stop: usize) -> Option<(i64, i64)>
+        ensures some { IfSome result (λ pair. SpellsTwoSigned (passed self.old self.new) pair.0 pair.1) }
+        ensures short { IfSome result (λ pair. IsShort pair.0 × IsShort pair.1) }
+        ensures moved { OnSome result (IsMoved self.old self.new) }
+        ensures within { OnSome result (self.old.place + 8 ≤ stop) }
+        ensures none { IfNone result (self.new ≡ self.old) }
+    {
+        if stop.saturating_sub(self.place) < 8 {
+            return None;
+        }
+        self.svarint_pair()
+    }
 }
 
 #[cfg(test)]

@@ -177,3 +177,38 @@ fn bare_numbers_of_every_two_lengths(rt: HostRuntime) -> Result<(), Fail> {
     }
     Ok(())
 }
+
+// A line of so many points with a size that is so much too great, and some bytes behind it.
+fn sized_line(
+    alloc: Global,
+    points: u64,
+    too_great: i64,
+    behind: usize,
+) -> Result<Vec<u8>, AllocError> {
+    let mut body = Vec::new(alloc);
+    put_steps(&mut body, points)?;
+    let mut out = Vec::new(alloc);
+    out.extend_from_slice(&[0x02, 0x02])?;
+    let size = (body.len() as u64).wrapping_add_signed(too_great);
+    put_unsigned(&mut out, size)?;
+    out.extend_from_slice(&body)?;
+    for _ in 0..behind {
+        out.push(0x00)?;
+    }
+    Ok(out)
+}
+
+#[test]
+fn bodies_without_a_box_that_have_a_size(rt: HostRuntime) -> Result<(), Fail> {
+    for points in [0, 1, 2, 62, 63, 64, 200] {
+        for too_great in [-1, 0, 1] {
+            for behind in [0, 1, 8] {
+                let line = sized_line(rt.alloc(), points, too_great, behind)?;
+                agrees(&rt, rt.alloc(), &line, false);
+            }
+        }
+        let line = sized_line(rt.alloc(), points, 0, 8)?;
+        is_sure_of(&rt, rt.alloc(), &line, points as usize);
+    }
+    Ok(())
+}

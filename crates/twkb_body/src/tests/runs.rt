@@ -8,7 +8,7 @@ use std::alloc::{AllocError, Global};
 use twkb_num::zigzag;
 
 // Mostly of one byte to three, else of one to ten.
-fn difference(dice: &mut Dice) -> i64 {
+pub fn difference(dice: &mut Dice) -> i64 {
     let lengths = if dice.once_in(8) { 10 } else { 3 };
     let length = dice.below(lengths) as usize;
     let greatest = GREATEST.get(length).copied().unwrap_or(0);
@@ -21,7 +21,7 @@ fn difference(dice: &mut Dice) -> i64 {
 }
 
 // Now and then with some groups of zero behind it.
-fn spell(out: &mut Vec<u8>, dice: &mut Dice, number: i64) -> Result<(), AllocError> {
+pub fn spell(out: &mut Vec<u8>, dice: &mut Dice, number: i64) -> Result<(), AllocError> {
     let length = if dice.once_in(10) { dice.below(6) } else { 1 };
     let mut left = zigzag(number);
     for k in 1..10 {
@@ -36,7 +36,7 @@ fn spell(out: &mut Vec<u8>, dice: &mut Dice, number: i64) -> Result<(), AllocErr
 }
 
 // A type byte, and what stands before the points' number: the number of rings or lines.
-fn kind(dice: &mut Dice) -> (u8, &'static [u8]) {
+pub fn kind(dice: &mut Dice) -> (u8, &'static [u8]) {
     match dice.below(4) {
         0 => (0x02, &[]),
         1 => (0x03, &[0x01]),
@@ -46,7 +46,7 @@ fn kind(dice: &mut Dice) -> (u8, &'static [u8]) {
 }
 
 // The numbers of some points, and the least and the greatest sum of each axis.
-fn numbers(
+pub fn numbers(
     out: &mut Vec<u8>,
     dice: &mut Dice,
     axes: usize,

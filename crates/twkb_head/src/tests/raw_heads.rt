@@ -43,6 +43,63 @@ fn raw_heads_have_raw_boxes(rt: HostRuntime) {
 }
 
 #[test]
+fn boxed_heads_have_a_size_and_a_box_of_x_and_y(rt: HostRuntime) {
+    // The box of a line, with and without eight bytes behind each of its pairs that the size has.
+    for size in [9, 5] {
+        let bytes = [
+            0x12, 0x03, size, 0x02, 0x08, 0x02, 0x07, 0x02, 0x02, 0x02, 0x08, 0x08, 0x00,
+        ];
+        let expected = RawHead {
+            head: Head {
+                xy: -1,
+                size: Some(SizeField {
+                    value: u64::from(size),
+                    offset: 2,
+                    after: 3,
+                }),
+                stop: 7,
+                ..plain(Kind::LineString)
+            },
+            bounds: Some(RawBox {
+                x: range(1, 4),
+                y: range(1, -4),
+                third: range(0, 0),
+                fourth: range(0, 0),
+            }),
+            box_place: 3,
+        };
+        let mut cursor = Cursor::new(&bytes);
+        assert_eq!(rt; read_boxed_head(&mut cursor), Some(expected));
+        assert_eq!(rt; cursor.read_count(), 7);
+    }
+}
+
+#[test]
+fn boxed_heads_are_no_others(rt: HostRuntime) {
+    // No size, no box, an extended dimensions byte, empty, and a number of 2^62.
+    let table = [
+        [
+            0x12, 0x01, 0x02, 0x08, 0x02, 0x07, 0x02, 0x02, 0x02, 0x08, 0x08, 0x00, 0x00, 0x00,
+        ],
+        [
+            0x12, 0x02, 0x05, 0x02, 0x02, 0x02, 0x08, 0x08, 0x00, 0x00, 0x00, 0x00, 0x00, 0x00,
+        ],
+        [
+            0x12, 0x0B, 0x00, 0x09, 0x02, 0x08, 0x02, 0x07, 0x02, 0x02, 0x02, 0x08, 0x08, 0x00,
+        ],
+        [
+            0x12, 0x13, 0x04, 0x02, 0x08, 0x02, 0x07, 0x00, 0x00, 0x00, 0x00, 0x00, 0x00, 0x00,
+        ],
+        [
+            0x12, 0x03, 0x0B, 0x80, 0x80, 0x80, 0x80, 0x80, 0x80, 0x80, 0x80, 0x80, 0x01, 0x00,
+        ],
+    ];
+    for bytes in table {
+        assert_eq!(rt; read_boxed_head(&mut Cursor::new(&bytes)), None);
+    }
+}
+
+#[test]
 fn raw_boxes_in_the_order_of_the_axes(rt: HostRuntime) {
     // Z at precision 2 and M at precision 3, each of them alone, and neither.
     let none = range(0, 0);

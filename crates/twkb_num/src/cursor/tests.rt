@@ -293,3 +293,23 @@ fn pair_like_two_reads(rt: &impl Abort, bytes: &[u8], is_read: bool) {
     assert_eq!(rt; pairs.place(), reads.place());
     assert_eq!(rt; pairs.read_count(), reads.read_count());
 }
+
+// A pair is read where eight bytes are left before the stop, and among all bytes.
+#[test]
+fn no_pair_passes_the_stop(rt: HostRuntime) {
+    let bytes = [2, 4, 0x80, 0x01, 0x80, 0x01, 0, 0, 0, 0];
+    // By the place: what is read there, and where it ends.
+    let table = [(0, (1, 2), 2), (1, (2, 64), 4), (2, (64, 64), 6)];
+    for (start, pair, end) in table {
+        for stop in 0..12 {
+            let mut cursor = Cursor::new(&bytes);
+            cursor.go_to(start);
+            let is_read = stop >= 8usize.saturating_add(start);
+            let answer = cursor.svarint_pair_before(stop);
+            assert_eq!(rt; answer, if is_read { Some(pair) } else { None });
+            let passed = if is_read { end } else { start };
+            assert_eq!(rt; cursor.place(), passed);
+            assert_eq!(rt; cursor.read_count(), passed.saturating_sub(start) as u64);
+        }
+    }
+}

@@ -5,14 +5,15 @@ use Rattle.twkb_body.specs.Boxed.{held_with}
 use Rattle.twkb_body.specs.Inside.{of_head}
 use Rattle.twkb_body.specs.Numbers.{listed, axes_by}
 use Rattle.twkb_body.specs.Walk.{IsRun}
-use Rattle.twkb_body.proofs.FurtherRuns.{further_begins, further_goes_on}
+use Rattle.twkb_body.proofs.FurtherRuns.{IsFurtherRun, further_begins, further_goes_on}
 use Rattle.twkb_body.proofs.boxed.Boxed.take_further_run.Goals as goal
 use Rattle.twkb_body.proofs.boxed.Boxed.take_further_run.Goals.{then-loop-is_inside-test+else-taken-most, else-loop-is_inside-test, then-loop-is_inside-test+then-taken-most+in_default}
 
 pub loop-is_inside-init : goal.loop-is_inside-init
 loop-is_inside-init c = record {
-  run = further_begins (of_head c.args._head.now) c.args.trail.now c.args.self.now c.args.cursor.now c.self.inside.bounds c.args.has_fourth c.distances-apart.result c.self.inside.inside
-      (c.of-last.ensures ∙ ap listed c.distances-apart.ensures.placed) c.distances-apart.ensures.close (sym c.self.view_is);
+  run = subst (λ (r : Reading). IsFurtherRun (of_head c.args._head.now) c.args.trail.now c.args.self.now c.args.cursor.now c.self.inside.bounds c.args.has_fourth c.distances-apart.result c.self.inside.inside r 0) (sym c.ahead-ahead.ensures)
+      (further_begins (of_head c.args._head.now) c.args.trail.now c.args.self.now c.args.cursor.now c.self.inside.bounds c.args.has_fourth c.distances-apart.result c.self.inside.inside
+      (c.of-last.ensures ∙ ap listed c.distances-apart.ensures.placed) c.distances-apart.ensures.close (sym c.self.view_is));
   few = omega arith;
 }
 
@@ -27,14 +28,14 @@ loop-is_inside-preserved c =
 
 pub returns-clause-run : goal.returns-clause-run
 returns-clause-run c =
-    let stop : c.loop-is_inside.cursor ≡ c.loop-is_inside-test.cursor = elim c.loop-is_inside-test.branch [
-      | then-loop-is_inside-test+else-taken-most w ↦ sym w.cursor-is
-      | else-loop-is_inside-test w ↦ sym w.cursor-is
-      | then-loop-is_inside-test+then-taken-most+in_default w ↦ sym w.in_default.ensures.none ∙ sym w.cursor-is
+    let stop : c.loop-is_inside.ahead ≡ c.loop-is_inside-test.ahead = elim c.loop-is_inside-test.branch [
+      | then-loop-is_inside-test+else-taken-most w ↦ sym w.ahead-is
+      | else-loop-is_inside-test w ↦ sym w.ahead-is
+      | then-loop-is_inside-test+then-taken-most+in_default w ↦ sym w.in_default.ensures.none ∙ sym w.ahead-is
     ] in
     let step = held_with (of_head c.args._head.now) in
     let axes = axes_by c.args.has_fourth in
     let after : Trail = record { last = c.placed-trail.result; points = c.args.trail.now.points + c.loop-is_inside.taken } in
     subst (λ (q : Reading). IsRun step axes c.args.trail.now after c.args.self.now (record { box = c.self.inside.bounds; inside = c.loop-is_inside.is_inside }) c.args.cursor.now q c.loop-is_inside.taken) stop
-    (subst (λ (t : Trail). IsRun step axes c.args.trail.now t c.args.self.now (record { box = c.self.inside.bounds; inside = c.loop-is_inside.is_inside }) c.args.cursor.now c.loop-is_inside.cursor c.loop-is_inside.taken)
+    (subst (λ (t : Trail). IsRun step axes c.args.trail.now t c.args.self.now (record { box = c.self.inside.bounds; inside = c.loop-is_inside.is_inside }) c.args.cursor.now c.loop-is_inside.ahead c.loop-is_inside.taken)
     (λ j. record { last = sym c.placed-trail.ensures j; points = c.args.trail.now.points + c.loop-is_inside.taken }) c.loop-is_inside.invariant.run.run)

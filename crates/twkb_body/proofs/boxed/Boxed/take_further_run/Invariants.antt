@@ -5,7 +5,7 @@ use Rattle.twkb_body.proofs.boxed.Boxed.take_further_run.Given as goal
 
 abbrev pub invariant-loop-is_inside : goal.invariant-loop-is_inside
 invariant-loop-is_inside l = record {
-  run : IsFurtherRun (of_head l._head) l.fn.trail l.fn.self l.fn.cursor l.bounds l.has_fourth l.apart l.is_inside l.cursor l.taken;
+  run : IsFurtherRun (of_head l._head) l.fn.trail l.fn.self l.fn.cursor l.bounds l.has_fourth l.apart l.is_inside l.ahead l.taken;
   few : l.taken ≤ l.most;
 }
 

@@ -1,0 +1,32 @@
+use Rattle.std.proofs.Common.{◌≡◌, ℕ, pos, ◌∷◌, Option, None, Some, refl, ap, ap₂, ◌∙◌, arith, option_map}
+use Rattle.std.proofs.lemmas.Int.{ints}
+use mir.Val.{to_z, of_z}
+use mir.Syntax.{w8}
+use Rattle.std.specs.Int.{w64, w128}
+use Rattle.twkb_num.specs.Units.{units_of}
+use Rattle.twkb_head.specs.Head.{m_axis}
+use Rattle.twkb_head.specs.Header.{axes_with}
+use Rattle.twkb_body.specs.Geometry.{coordinate}
+use Rattle.twkb_body.proofs.vertices.flat_vertex.Goals as goal
+
+-- where there are two axes, neither Z nor M is there
+no_further : (z m : Option ℕ) → axes_with z m ≡ 2 → (None ≡ z) × (None ≡ m)
+no_further None None e = (refl, refl)
+no_further None (Some q) e = absurd (omega (arith, e))
+no_further (Some p) None e = absurd (omega (arith, e))
+no_further (Some p) (Some q) e = absurd (omega (arith, e))
+
+pub returns : goal.returns
+returns c = λ others.
+    let head = c.args.head.now in
+    let further = no_further head.z head.m c.requires.flat in
+    let xy : to_z w8 (of_z w8 head.xy) ≡ head.xy = omega (arith, ints) in
+    let at_x : to_z w64 (of_z w64 c.args.x) ≡ c.args.x = omega (arith, ints) in
+    let at_y : to_z w64 (of_z w64 c.args.y) ≡ c.args.y = omega (arith, ints) in
+    let fits_x : to_z w128 (of_z w128 c.scaled.result) ≡ c.scaled.result = omega (arith, ints) in
+    let fits_y : to_z w128 (of_z w128 c.scaled-2.result) ≡ c.scaled-2.result = omega (arith, ints) in
+    let x = fits_x ∙ c.scaled.ensures ∙ ap₂ units_of at_x xy in
+    let y = fits_y ∙ c.scaled-2.ensures ∙ ap₂ units_of at_y xy in
+    let z = ap (option_map (λ p. units_of (coordinate (c.args.x ∷ c.args.y ∷ others) 2) (pos p))) further.0 in
+    let m = ap (option_map (λ p. units_of (coordinate (c.args.x ∷ c.args.y ∷ others) (m_axis head.z)) (pos p))) further.1 in
+    (λ j. record { x = x j; y = y j; z = z j; m = m j })
