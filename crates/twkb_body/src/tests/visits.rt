@@ -51,7 +51,7 @@ fn geometry(alloc: Global, dice: &mut Dice) -> Result<Vec<u8>, AllocError> {
     body.push((count % 128) as u8)?;
     numbers(&mut body, dice, if has_z { 3 } else { 2 }, count)?;
     let mut out = Vec::new(alloc);
-    out.push(first.wrapping_add((dice.below(16) as u8) << 4))?;
+    out.push(first.wrapping_add(((dice.below(16) % 16) as u8) << 4))?;
     let flags = if has_z { 0x08 } else { 0x00 };
     out.push(if has_size { flags | 0x02 } else { flags })?;
     if has_z {
