@@ -30,8 +30,8 @@ const TWO_COLLECTIONS: [u8; 36] = [
     0x01, 0x00, 0x02, 0x04,
 ];
 
-// The whole blob: its points stand at depth 64, and their collections at 63.
-fn deepest(alloc: Global) -> Result<Vec<u8>, AllocError> {
+/// The whole blob: its points stand at depth 64, and their collections at 63.
+pub fn deepest(alloc: Global) -> Result<Vec<u8>, AllocError> {
     nested(alloc, 61, &TWO_COLLECTIONS)
 }
 

@@ -1,4 +1,5 @@
 //! Worked files: layers that are certified, and layers that are refused.
+use super::is_certified;
 use super::worked::{
     BOXED_LINE, BOXED_POINT, EMPTY, EMPTY_BOXED_POINT, MANY_IDS_ANNOUNCED, SEVENTEEN_IDS,
     TWO_BLOBS, Z_IN_THE_BOX_ALONE,
@@ -20,15 +21,8 @@ fn layers_are_certified(rt: HostRuntime) {
         (&SEVENTEEN_IDS, 1, 17),
     ];
     for (bytes, blobs, vertices) in table {
-        match certify(rt.alloc(), Cursor::new(bytes)) {
-            Ok(layer) => {
-                assert_eq!(rt; layer.blobs(), blobs);
-                assert_eq!(rt; layer.vertices(), vertices);
-                assert_eq!(rt; layer.len(), bytes.len());
-                assert_eq!(rt; layer.read_count(), bytes.len() as u64);
-            }
-            Err(refusal) => panic!(rt; "{refusal}, of {bytes:?}"),
-        }
+        let answer = certify(rt.alloc(), Cursor::new(bytes));
+        is_certified(&rt, answer, bytes, blobs, vertices);
     }
 }
 
@@ -80,19 +74,19 @@ const POINT_CUT_BEHIND_A_LINE: [u8; 10] = [
     0x02, 0x00, 0x02, 0x02, 0x02, 0x08, 0x08, 0x01, 0x00, 0x02,
 ];
 
-const LONG_COORDINATE: [u8; 12] = [
+pub const LONG_COORDINATE: [u8; 12] = [
     0x01, 0x00, 0x80, 0x80, 0x80, 0x80, 0x80, 0x80, 0x80, 0x80, 0x80, 0x02,
 ];
 
-const SUM_PAST_64_BITS: [u8; 16] = [
+pub const SUM_PAST_64_BITS: [u8; 16] = [
     0x02, 0x00, 0x02, 0xFE, 0xFF, 0xFF, 0xFF, 0xFF, 0xFF, 0xFF, 0xFF, 0xFF, 0x01, 0x00, 0x02, 0x00,
 ];
 
-const BOX_OF_A_MEMBER: [u8; 11] = [
+pub const BOX_OF_A_MEMBER: [u8; 11] = [
     0x07, 0x00, 0x01, 0x01, 0x01, 0x14, 0x00, 0x14, 0x00, 0x02, 0x04,
 ];
 
-const EQUAL_IDS_BEFORE_A_SIZE: [u8; 12] = [
+pub const EQUAL_IDS_BEFORE_A_SIZE: [u8; 12] = [
     0x07, 0x04, 0x02, 0x02, 0x02, 0x01, 0x02, 0x03, 0x02, 0x04, 0x01, 0x10,
 ];
 

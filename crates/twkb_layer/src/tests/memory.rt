@@ -2,7 +2,7 @@
 use super::lists::LINE_AND_POINT;
 use super::worked::{EMPTY, FALLING_IDS, MANY_IDS_ANNOUNCED, TWO_BLOBS, flat};
 use super::{certified, window};
-use crate::{Certified, Cursor, Directory, Refusal, certify_in};
+use crate::{Certified, Cursor, Directory, Refusal, certify_in, certify_tight_in};
 use refusing::Refusing;
 use std::alloc::Allocator;
 use std::process::Abort;
@@ -46,17 +46,49 @@ const SIXTEEN_OF_MANY: [u8; 20] = [
     0x18, 0x1A, 0x1C, 0x1E,
 ];
 
+// As many points as a count can announce, without ids: none of them there, and two.
+const MANY_POINTS: [u8; 12] = [
+    0x04, 0x00, 0xFF, 0xFF, 0xFF, 0xFF, 0xFF, 0xFF, 0xFF, 0xFF, 0xFF, 0x01,
+];
+
+const TWO_OF_MANY_POINTS: [u8; 16] = [
+    0x04, 0x00, 0xFF, 0xFF, 0xFF, 0xFF, 0xFF, 0xFF, 0xFF, 0xFF, 0xFF, 0x01, 0x02, 0x02, 0x02, 0x02,
+];
+
+// The same of a linestring, of the second ring of a polygon, and of the members of a collection, of which one is there.
+const MANY_POINTS_OF_A_LINE: [u8; 12] = [
+    0x02, 0x00, 0xFF, 0xFF, 0xFF, 0xFF, 0xFF, 0xFF, 0xFF, 0xFF, 0xFF, 0x01,
+];
+
+const MANY_POINTS_OF_A_RING: [u8; 14] = [
+    0x03, 0x00, 0x02, 0x00, 0xFF, 0xFF, 0xFF, 0xFF, 0xFF, 0xFF, 0xFF, 0xFF, 0xFF, 0x01,
+];
+
+const MANY_MEMBERS: [u8; 14] = [
+    0x07, 0x00, 0xFF, 0xFF, 0xFF, 0xFF, 0xFF, 0xFF, 0xFF, 0xFF, 0xFF, 0x01, 0x01, 0x10,
+];
+
 #[test]
 fn counts_take_no_memory(rt: HostRuntime) {
-    let layers: [&[u8]; 2] = [&MANY_IDS_ANNOUNCED, &SIXTEEN_OF_MANY];
+    let layers: [&[u8]; 7] = [
+        &MANY_IDS_ANNOUNCED,
+        &SIXTEEN_OF_MANY,
+        &MANY_POINTS,
+        &TWO_OF_MANY_POINTS,
+        &MANY_POINTS_OF_A_LINE,
+        &MANY_POINTS_OF_A_RING,
+        &MANY_MEMBERS,
+    ];
     for bytes in layers {
         let memory = Refusing::new(rt.alloc(), 0);
-        let refusal = certify_in(&memory, Cursor::new(bytes)).err();
         let cut_at_the_end = Refusal::No {
             blob: 0,
             offset: bytes.len(),
             kind: 1,
         };
+        let refusal = certify_in(&memory, Cursor::new(bytes)).err();
+        assert_eq!(rt; refusal, Some(cut_at_the_end));
+        let refusal = certify_tight_in(&memory, Cursor::new(bytes)).err();
         assert_eq!(rt; refusal, Some(cut_at_the_end));
         assert!(rt; !memory.has_refused());
     }

@@ -2,7 +2,7 @@
 ghost use Rattle.twkb_num.specs.Units.{IsPrecision};
 
 use super::{certified, window};
-use crate::raw::RawRange;
+use crate::raw::RawEnds;
 use crate::{Bounds, Directory, Span};
 use std::alloc::Global;
 use std::process::Abort;
@@ -11,7 +11,7 @@ use std::process::Abort;
 fn ends(lo: i128, hi: i128, precision: i8) -> (i64, i64)
     requires { IsPrecision precision }
 {
-    let raw = RawRange::of(&Span { lo, hi }, precision);
+    let raw = RawEnds::of(&Span { lo, hi }, precision);
     (raw.least, raw.greatest)
 }
 

@@ -1,4 +1,5 @@
 //! Tight checking: worked files, each refused allocation, and random layers against a plain reader.
+use super::is_certified;
 use super::worked::{
     BOXED_LINE, EMPTY, EMPTY_BOXED_POINT, SEVENTEEN_IDS, TWO_BLOBS, Z_IN_THE_BOX_ALONE,
 };
@@ -21,15 +22,8 @@ fn layers_without_a_loose_box(rt: HostRuntime) {
         (&SEVENTEEN_IDS, 1, 17),
     ];
     for (bytes, blobs, vertices) in table {
-        match certify_tight(rt.alloc(), Cursor::new(bytes)) {
-            Ok(layer) => {
-                assert_eq!(rt; layer.blobs(), blobs);
-                assert_eq!(rt; layer.vertices(), vertices);
-                assert_eq!(rt; layer.len(), bytes.len());
-                assert_eq!(rt; layer.read_count(), bytes.len() as u64);
-            }
-            Err(refusal) => panic!(rt; "{refusal}, of {bytes:?}"),
-        }
+        let answer = certify_tight(rt.alloc(), Cursor::new(bytes));
+        is_certified(&rt, answer, bytes, blobs, vertices);
     }
 }
 
@@ -136,8 +130,8 @@ fn each_allocation_is_refused(rt: HostRuntime) {
     }
 }
 
-// What the plain reader refuses of a layer, blob by blob.
-fn plain_refusal(alloc: Global, bytes: &[u8], is_tight: bool) -> Option<Refusal> {
+/// What the plain reader refuses of a layer, blob by blob.
+pub fn plain_refusal(alloc: Global, bytes: &[u8], is_tight: bool) -> Option<Refusal> {
     let mut left = bytes;
     let mut start = 0usize;
     for blob in 0..bytes.len() {
