@@ -9,7 +9,7 @@ MANUALS = share/man/man1
 BASH = share/bash-completion/completions
 ZSH = share/zsh/site-functions
 
-.PHONY: help kit build install uninstall demo test bench picture refusals twins stack clean
+.PHONY: help kit build install uninstall demo test bench picture trusted refusals twins stack clean
 
 help:
 	@echo 'make build      prove and build the program: $(PROGRAM) (some minutes the first time)'
@@ -19,6 +19,7 @@ help:
 	@echo 'make test       build, test the program from end to end, and run the merge gate'
 	@echo 'make bench      build, and compare with plain Rust on 40 MB (needs rustc; valgrind counts instructions)'
 	@echo 'make picture    build, and draw how much of a layer scans read: docs/hops.svg'
+	@echo 'make trusted    print how many lines of definitions have to be believed, crate by crate'
 	@echo 'make refusals   build, and refuse each call of the program for memory in turn (needs cc)'
 	@echo 'make twins      check the twins of the wrong bodies, which mean what the source means'
 	@echo 'make stack      build, and measure how much stack the deepest collections take (gdb tells more)'
@@ -60,6 +61,8 @@ demo: build
 test: build
 	python3 tests/run.py $(PROGRAM)
 	python3 tests/looks_ahead.py
+	python3 tests/trusted.py --strict
+	python3 tests/trusted_cases.py
 	python3 tests/install.py
 	python3 tests/scripts.py $(PROGRAM)
 	rt ci
@@ -71,6 +74,9 @@ bench: build
 
 picture: build
 	python3 bench/hops.py $(PROGRAM)
+
+trusted:
+	@python3 tests/trusted.py
 
 # Each call of the whole program for memory in turn. It needs a C compiler, so the gate leaves it out.
 refusals: build

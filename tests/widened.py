@@ -12,22 +12,12 @@ import sys
 import tempfile
 
 import plain
-from harness import run, written
+from harness import TOP, run, written
+
+sys.path.append(os.path.join(TOP, "bench"))
+from layers import signed, varint
 
 UNITS_A_DEGREE = 10**7
-
-
-def varint(number):
-    groups = bytearray()
-    while number > 127:
-        groups.append(number & 127 | 128)
-        number >>= 7
-    groups.append(number)
-    return bytes(groups)
-
-
-def signed(number):
-    return varint(2 * number if number >= 0 else -2 * number - 1)
 
 
 def box_bytes(head, units):

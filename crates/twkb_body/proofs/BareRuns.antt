@@ -5,23 +5,22 @@ use Rattle.std.proofs.lemmas.Int.{ints}
 use Rattle.std.proofs.lemmas.List.{append-nil}
 use Rattle.std.proofs.lemmas.List.Elements.{All-nil, All-cons, All-head, All-tail}
 use Rattle.twkb_num.specs.Cursor.{Reading, passed, IsMoved, IsSound}
-use Rattle.twkb_num.specs.Varint.{Spells, SpellsAll, zigzag_value}
-use Rattle.twkb_num.specs.Ends.{SpellsMany}
+use Rattle.twkb_num.specs.Varint.{Spells, SpellsAll, zigzag_value, SpellsMany}
 use Rattle.twkb_num.proofs.CursorLemmas.{IsMoved-here, IsMoved-after, IsSound-moved}
-use Rattle.twkb_num.proofs.PairLaws.{moved-two}
+use Rattle.twkb_num.proofs.PairLaws.{IsMoved-two}
 use Rattle.twkb_head.specs.declared.kinds.Kind.{Kind}
 use Rattle.twkb_head.specs.Header.{is_multi}
-use Rattle.twkb_head.specs.Reader.{Answer, Reader, ◌>>=◌, viewed, number_at, many_at, coordinate_at}
+use Rattle.twkb_head.specs.Devices.Reader.{Answer, Reader, ◌>>=◌, viewed, number_at, many_at, coordinate_at}
 use Rattle.twkb_head.proofs.Readings.{ok_not_err}
 use Rattle.twkb_head.proofs.Steps.{read_signed, coordinate_ok, fits_true}
 use Rattle.twkb_body.specs.declared.trail.Trail.{Trail}
-use Rattle.twkb_body.specs.Bare.{unchanged, IsInSteps, IsShortTrail, Leads}
+use Rattle.twkb_body.specs.Devices.Bare.{unchanged, IsInSteps, IsShortTrail, Leads}
 use Rattle.twkb_body.specs.Geometry.{PointValue, Ring, PolygonValue, points_of}
-use Rattle.twkb_body.specs.BodyPlan.{ListHead, first_of, behind, add, sums, ring_sums, zeros}
-use Rattle.twkb_body.specs.BodyReader.{point_at, ring_at, part_at, count_at}
-use Rattle.twkb_body.specs.IdLists.{IsListFound}
-use Rattle.twkb_body.specs.Sure.{AddsParts}
-use Rattle.twkb_body.specs.Walk.{HaveAxes, IsWalked}
+use Rattle.twkb_body.specs.Devices.Body.{ListHead, first_of, behind, add, sums, ring_sums, zeros}
+use Rattle.twkb_body.specs.Devices.BodyReader.{point_at, ring_at, part_at, count_at}
+use Rattle.twkb_body.specs.Devices.IdLists.{IsListFound}
+use Rattle.twkb_body.specs.Devices.Sure.{AddsParts}
+use Rattle.twkb_body.specs.Devices.Walk.{HaveAxes, IsWalked}
 use Rattle.twkb_body.proofs.Coordinates.{coordinate_ahead}
 use Rattle.twkb_body.proofs.FlatRuns.{has_64_bits}
 use Rattle.twkb_body.proofs.Runs.{values_of}
@@ -65,7 +64,7 @@ near_add k (c ∷ s) (n ∷ p) all few le =
 peel : (r new : Reading) (n : ℕ) (ns : List ℕ) → SpellsAll (passed r new) (n ∷ ns) → IsMoved r new
     → (mid : Reading) × IsMoved r mid × IsMoved mid new × Spells (passed r mid) n × SpellsAll (passed mid new) ns
 peel r new n ns (front, rest, whole, first, all) moved =
-    let way = moved-two r new front rest moved whole in (
+    let way = IsMoved-two r new front rest moved whole in (
       way.0,
       way.1,
       way.2,

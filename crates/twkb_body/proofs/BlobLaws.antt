@@ -7,14 +7,15 @@ use Rattle.twkb_head.specs.declared.refusal.Why.{Why}
 use Rattle.twkb_head.specs.declared.refusal.Why.TheVariants.{Cut, Varint, Kind as BadKind, Depth, Range}
 use Rattle.twkb_num.specs.Varint.{IsCut, IsLong}
 use Rattle.twkb_head.specs.BegunHeader.{Field, type_field, byte_field, number_field, coordinate_field, IsField, deepest}
-use Rattle.twkb_head.specs.Plan.{Request, type_byte, byte, number, coordinate, field_of, judge, judge_kind, kind_of_code, cut_byte, cut_field, Fault, fault}
+use Rattle.twkb_head.specs.Devices.Plan.{Request, type_byte, byte, number, coordinate, field_of, judge, judge_kind, kind_of_code, cut_byte, cut_field}
+use Rattle.twkb_head.proofs.Spelling.{Fault, fault}
 use Rattle.twkb_head.proofs.FieldCuts.{ok_is, err_is, byte_fails, number_fails, cut_off, too_long}
 use Rattle.twkb_head.proofs.Heads.{no_kind, code_kind, kind_code}
 use Rattle.twkb_head.proofs.Plans.{IsViableIn, IsRefused, no_field, no_value, run_takes, run_again, run_stops, run_fails, run_goes_on, run_uncut, run_refused, run_judged}
 use Rattle.twkb_body.specs.Geometry.{Geometry}
 use Rattle.twkb_body.specs.Encoding.{Blob}
 use Rattle.twkb_body.specs.Begun.{IsBegun, IsViable}
-use Rattle.twkb_body.specs.BodyPlan.{geometry_plan, read_at, read_blob}
+use Rattle.twkb_body.proofs.GeometryPlan.{geometry_plan, read_at, read_blob}
 use Rattle.twkb_body.specs.Malformation.{BeginsWithNoBlob, IsWrong}
 use Rattle.twkb_body.proofs.Geometries.{blob_spelled, spelled_blob, geometry_stops, stops_geometry}
 

@@ -4,13 +4,15 @@ use Rattle.twkb_num.specs.Varint.{Spells, sum_of_groups}
 use Rattle.twkb_head.specs.Parts.{Then, Times, Announced}
 use Rattle.twkb_head.specs.Header.{IsSigned, Header, axes_of, is_multi}
 use Rattle.twkb_head.specs.BegunHeader.{is_collection, Field, number_field, IsFewer}
-use Rattle.twkb_head.specs.Plan.{number, Plan, done, Spelled, Stops, bind, many, measure, optional, number_plan, signeds_plan}
+use Rattle.twkb_head.specs.Devices.Plan.{number, Plan, done, bind, many, measure, optional, number_plan, signeds_plan}
+use Rattle.twkb_head.proofs.Spelling.{Spelled, Stops}
 use Rattle.twkb_head.proofs.Combinators.{bind_spelled, spelled_bind, bind_stops, stops_first, stops_then, done_spelled, spelled_done, done_stops, measure_spelled, spelled_measure, measure_stops, stops_measure, optional_spelled, spelled_optional, optional_stops, stops_optional, many_spelled, spelled_many}
 use Rattle.twkb_head.proofs.Leaves.{leaf_stops, number_spelled, spelled_number, signeds_spelled, spelled_signeds, signeds_stops, stops_signeds}
 use Rattle.twkb_body.specs.Geometry.{Lengths, PointValue, PolygonValue, points_of, member_count, none, Members as MemberTrees}
 use Rattle.twkb_body.specs.Encoding.{IsPart, IsList, IsNumbers, IsShape, IsNothing, IsBody, SumsFit, Accumulates, SameForm}
 use Rattle.twkb_body.specs.Begun.{IsBegunList, count_due, id_due, member_due, IsBegunPart, IsBegunNumbers}
-use Rattle.twkb_body.specs.BodyPlan.{ListHead, zeros, ring_sums, part_plan, absolute, Body, ids_plan, list_plan, parts_body, members_body, part_body, no_body, after_list, shape_plan, after_count, body_plan}
+use Rattle.twkb_body.specs.Devices.Body.{ListHead, zeros, ring_sums, absolute, Body, parts_body, members_body, part_body, no_body}
+use Rattle.twkb_body.proofs.GeometryPlan.{part_plan, ids_plan, list_plan, after_list, shape_plan, after_count, body_plan}
 use Rattle.twkb_body.proofs.PartPlans.{Members, members_stop, stop_members, part_of}
 use Rattle.twkb_body.proofs.Sums.{FitPoints, FitRings, FitPolygons, polygons_fit, fit_polygons, sums_fit, fit_sums, absolute_is, is_absolute}
 

@@ -10,18 +10,22 @@ use Rattle.twkb_head.specs.declared.refusal.Why.{Why}
 use Rattle.twkb_head.specs.BegunHeader.{coordinate_field, IsField}
 use Rattle.twkb_head.specs.Header.{Header, axes_with, axes_of}
 use Rattle.twkb_head.specs.Head.{m_axis}
-use Rattle.twkb_head.specs.Plan.{coordinate as coordinate_request, cut_field, judge, done}
-use Rattle.twkb_head.specs.Reader.{Answer, read_judged, read_field, read, coordinate_at, Fails}
+use Rattle.twkb_head.specs.Devices.Plan.{coordinate as coordinate_request, cut_field, judge, done}
+use Rattle.twkb_head.specs.Devices.Reader.{Answer, read_judged, read_field, read, coordinate_at, Fails}
 use Rattle.twkb_head.proofs.BoxNumbers.{z_among, m_among}
 use Rattle.twkb_head.proofs.FieldCuts.{field_takes}
 use Rattle.twkb_head.proofs.Readings.{ok_not_err}
 use Rattle.twkb_head.proofs.Loops.{IsLoop, loop_begins, loop_goes_on, loop_fails, loop_ends}
 use Rattle.twkb_body.specs.declared.trail.Trail.{Trail}
 use Rattle.twkb_body.specs.Geometry.{PointValue, coordinate, vertex_of}
-use Rattle.twkb_body.specs.BodyPlan.{first_of, behind, add, place}
-use Rattle.twkb_body.specs.BodyReader.{point_at}
-use Rattle.twkb_body.specs.Ranges.{raw_of}
-use Rattle.twkb_body.specs.Walk.{HaveAxes, placed_from, lasts_from, IsWalked}
+use Rattle.twkb_body.specs.Devices.Body.{first_of, behind, add, place, map_from}
+use Rattle.twkb_body.specs.Devices.BodyReader.{point_at}
+use Rattle.twkb_body.specs.Devices.Ranges.{raw_of}
+use Rattle.twkb_body.specs.Devices.Walk.{HaveAxes, lasts_from, IsWalked}
+
+-- points of numbers, at their sums from s on
+abbrev pub placed_from : PointValue → List PointValue → List PointValue
+placed_from s numbers = map_from add place s numbers
 
 -- a coordinate that is read takes a byte at least
 pub coordinate_ahead : (before z : ℤ) (r new : Reading) → coordinate_at before r ≡ (Ok z, new) → r.place < new.place
@@ -137,14 +141,14 @@ module _ (axes : ℕ) (start : Trail) (from : Reading) where
   )
 
 -- ---- a point has the axes of its header, in all four as in its own
-add_none : (ns : PointValue) → add [] ns ≡ ns
-add_none [] = refl
-add_none (n ∷ ns) = refl
+add-nil : (ns : PointValue) → add [] ns ≡ ns
+add-nil [] = refl
+add-nil (n ∷ ns) = refl
 
 coordinates_same : (s ns : PointValue) (k : ℕ) → k < length ns → coordinate (add s ns) k ≡ coordinate (place s ns) k
 coordinates_same s [] k lt = absurd (omega (arith, lt))
 coordinates_same [] (n ∷ ns) zero lt = omega (arith, ints)
-coordinates_same [] (n ∷ ns) (suc k) lt = ap (λ (p : PointValue). coordinate p k) (sym (add_none ns)) ∙ coordinates_same [] ns k (omega (arith, lt))
+coordinates_same [] (n ∷ ns) (suc k) lt = ap (λ (p : PointValue). coordinate p k) (sym (add-nil ns)) ∙ coordinates_same [] ns k (omega (arith, lt))
 coordinates_same (c ∷ s) (n ∷ ns) zero lt = refl
 coordinates_same (c ∷ s) (n ∷ ns) (suc k) lt = coordinates_same s ns k (omega (arith, lt))
 

@@ -1,11 +1,11 @@
 -- Blobs that are read, and where reading fails.
 use Rattle.std.proofs.Common.{◌≡◌, ℕ, List, [], ◌∷◌, None, Ok, Err, pos, false, refl, sym, subst, ◌∙◌, arith, ◌-◌}
 use Rattle.twkb_head.specs.BegunHeader.{deepest, type_field, byte_field, coordinate_field, type_due}
-use Rattle.twkb_head.specs.Plan.{fault}
+use Rattle.twkb_head.proofs.Spelling.{fault}
 use Rattle.twkb_body.specs.Geometry.{Geometry, geometry, none, more}
 use Rattle.twkb_body.specs.Encoding.{Blob}
 use Rattle.twkb_body.specs.Begun.{IsBegun, header_begun}
-use Rattle.twkb_body.specs.BodyPlan.{read_blob, geometry_plan}
+use Rattle.twkb_body.proofs.GeometryPlan.{read_blob, geometry_plan}
 use Rattle.twkb_body.proofs.BlobLaws.{read_takes, read_fails}
 use Rattle.std.proofs.lemmas.List.{append-nil}
 use Rattle.twkb_head.specs.declared.kinds.Kind.TheVariants.{Point, LineString, GeometryCollection}

@@ -5,12 +5,12 @@ use mir.Val.{SFits}
 use Rattle.std.specs.Int.{w64}
 use Rattle.twkb_num.specs.Cursor.{Reading, passed, IsMoved}
 use Rattle.twkb_num.specs.Varint.{SpellsTwoSigned}
-use Rattle.twkb_head.specs.Reader.{Answer, ◌>>=◌, viewed, many_at, coordinate_at}
+use Rattle.twkb_head.specs.Devices.Reader.{Answer, ◌>>=◌, viewed, many_at, coordinate_at}
 use Rattle.twkb_body.specs.declared.trail.Trail.{Trail}
 use Rattle.twkb_body.specs.Geometry.{PointValue}
-use Rattle.twkb_body.specs.BodyPlan.{first_of, behind}
-use Rattle.twkb_body.specs.BodyReader.{point_at}
-use Rattle.twkb_body.specs.Walk.{IsWalked, IsRun}
+use Rattle.twkb_body.specs.Devices.Body.{first_of, behind}
+use Rattle.twkb_body.specs.Devices.BodyReader.{point_at}
+use Rattle.twkb_body.specs.Devices.Walk.{IsWalked, IsRun}
 use Rattle.twkb_body.proofs.Coordinates.{coordinate_ahead}
 use Rattle.twkb_body.proofs.PairReads.{pair_read}
 use Rattle.twkb_body.proofs.Runs.{run_none, run_goes_on}

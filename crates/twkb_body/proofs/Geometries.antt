@@ -5,14 +5,16 @@ use Rattle.twkb_head.specs.declared.kinds.Kind.TheVariants.{Point, LineString, P
 use Rattle.twkb_head.specs.Parts.{Then, Sequence}
 use Rattle.twkb_head.specs.Header.{Header, IsHeader}
 use Rattle.twkb_head.specs.BegunHeader.{IsAllowedUnder, is_collection, Field}
-use Rattle.twkb_head.specs.Plan.{Plan, done, Spelled, Stops, bind, many, measure}
-use Rattle.twkb_head.specs.HeadPlan.{HeadValue, head_plan}
+use Rattle.twkb_head.specs.Devices.Plan.{Plan, done, bind, many, measure}
+use Rattle.twkb_head.proofs.Spelling.{Spelled, Stops}
+use Rattle.twkb_head.specs.Devices.HeadPlan.{HeadValue, head_plan}
 use Rattle.twkb_head.proofs.Combinators.{bind_spelled, spelled_bind, bind_stops, stops_first, stops_then, done_spelled, spelled_done, done_stops, measure_spelled, measure_stops, stops_measure, FitAll, many_spelled, spelled_many, many_stops, stops_many}
 use Rattle.twkb_head.proofs.Heads.{IsAllowedWith, allowed_at, allowed_with, head_spelled, spelled_head, head_stops, stops_head}
 use Rattle.twkb_body.specs.Geometry.{Geometry, Members, geometry, none, more, member_count}
 use Rattle.twkb_body.specs.Encoding.{BlobUnder, BlobsUnder}
 use Rattle.twkb_body.specs.Begun.{IsBegunUnder, header_begun, shape_begun, members_begun, member_begun, IsBegunList, count_due, id_due, member_due}
-use Rattle.twkb_body.specs.BodyPlan.{ListHead, Body, body_plan, geometry_from, after_head, parts_plan, geometry_with, members_of, members_plan, geometry_plan, list_plan, after_count, members_body}
+use Rattle.twkb_body.specs.Devices.Body.{ListHead, Body, geometry_from, members_of, members_body}
+use Rattle.twkb_body.proofs.GeometryPlan.{body_plan, after_head, parts_plan, geometry_with, members_plan, geometry_plan, list_plan, after_count}
 use Rattle.twkb_body.proofs.Bodies.{measured, body_spelled, spelled_body, shape_stops, stop_shape, list_spelled, spelled_list, list_stops, count_stops, ids_stop}
 
 no_level : (k : Kind) → is_collection k ≡ true → IsAllowedWith zero k → ⊥

@@ -7,19 +7,20 @@ use Rattle.twkb_head.specs.declared.refusal.Malformed.{Malformed}
 use Rattle.twkb_head.specs.Header.{Header, is_multi}
 use Rattle.twkb_head.specs.BegunHeader.{is_collection}
 use Rattle.twkb_head.specs.Head.{bounds_of, head_of, IsHeadAt}
-use Rattle.twkb_head.specs.HeadPlan.{HeadValue, head_plan}
-use Rattle.twkb_head.specs.Reader.{Answer, Reader, ◌>>=◌, viewed, read, Fails}
+use Rattle.twkb_head.specs.Devices.HeadPlan.{HeadValue, head_plan}
+use Rattle.twkb_head.specs.Devices.Reader.{Answer, Reader, ◌>>=◌, viewed, read, Fails}
 use Rattle.twkb_body.specs.declared.found.Found.{Found}
 use Rattle.twkb_body.specs.declared.inside.Inside.{Inside}
 use Rattle.twkb_body.specs.declared.seen.Seen.{Seen}
 use Rattle.twkb_body.specs.Geometry.{Geometry, Members, Lengths, points_of, vertex_of, vertices}
 use Rattle.twkb_body.specs.Extent.{Reach, reach_of, both}
-use Rattle.twkb_body.specs.BodyPlan.{Body, no_body, geometry_from}
-use Rattle.twkb_body.specs.BodyReader.{spanned, shape_at, body_at, parts_at, geometry_by, geometry_at, members_under}
-use Rattle.twkb_body.specs.Pass.{IsRefusedFor, MemberSums, Sums, first, nothing, over, false_at, is_within, is_tight, size_refused, box_refused, ids_refused}
-use Rattle.twkb_body.specs.Found.{named, size_judged, box_judged, IsFound}
-use Rattle.twkb_body.specs.Seen.{HasSeen}
-use Rattle.twkb_body.specs.Inside.{of_head, IsInside}
+use Rattle.twkb_body.specs.Devices.Body.{Body, no_body, geometry_from}
+use Rattle.twkb_body.specs.Devices.BodyReader.{spanned, shape_at, body_at, parts_at, geometry_by, geometry_at, members_under}
+use Rattle.twkb_body.specs.Devices.Pass.{IsRefusedFor, MemberSums, Sums, first, false_at, is_within, is_tight, ids_refused}
+use Rattle.twkb_body.proofs.TreeSums.{nothing, over, size_refused, box_refused}
+use Rattle.twkb_body.specs.Devices.Found.{named, size_judged, box_judged, IsFound}
+use Rattle.twkb_body.specs.Devices.Seen.{HasSeen}
+use Rattle.twkb_body.specs.Devices.Inside.{of_head, IsInside}
 use Rattle.twkb_body.proofs.Passes.{over_sums, none_sums}
 use Rattle.twkb_body.proofs.Reaches.{both-none}
 

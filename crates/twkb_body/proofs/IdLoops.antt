@@ -9,13 +9,13 @@ use Rattle.twkb_num.specs.Cursor.{Reading, rest, IsSound}
 use Rattle.twkb_head.specs.declared.refusal.Malformed.{Malformed}
 use Rattle.twkb_head.specs.Parts.{Then, Sequence, Times}
 use Rattle.twkb_head.specs.Header.{IsSigned}
-use Rattle.twkb_head.specs.Plan.{signeds_plan}
-use Rattle.twkb_head.specs.Reader.{signed_at, signeds_at, Fails}
+use Rattle.twkb_head.specs.Devices.Plan.{signeds_plan}
+use Rattle.twkb_head.specs.Devices.Reader.{signed_at, signeds_at, Fails}
 use Rattle.twkb_head.proofs.Plans.{run_takes}
 use Rattle.twkb_head.proofs.Leaves.{signeds_spelled}
 use Rattle.twkb_head.proofs.Readings.{read_ok}
 use Rattle.twkb_head.proofs.Loops.{IsLoop, loop_begins, loop_goes_on, loop_fails, loop_ends}
-use Rattle.twkb_body.specs.IdLists.{HasManyIds}
+use Rattle.twkb_body.specs.Devices.IdLists.{HasManyIds}
 use Rattle.twkb_body.proofs.BodyRuns.{signeds_runs}
 use Rattle.twkb_body.proofs.Repeats.{many_more}
 

@@ -5,13 +5,13 @@ use mir.Val.{to_z, of_z, SFits, Fits}
 use Rattle.std.specs.Int.{w64}
 use Rattle.twkb_num.specs.Cursor.{Reading, passed, IsMoved}
 use Rattle.twkb_num.specs.Varint.{SpellsSigned, SpellsTwoSigned, IsShort}
-use Rattle.twkb_head.specs.Reader.{Answer, ◌>>=◌, viewed, many_at, coordinate_at}
+use Rattle.twkb_head.specs.Devices.Reader.{Answer, ◌>>=◌, viewed, many_at, coordinate_at}
 use Rattle.twkb_head.proofs.Steps.{read_signed, coordinate_ok, fits_true}
-use Rattle.twkb_body.specs.BodyPlan.{first_of, behind}
-use Rattle.twkb_body.specs.BodyReader.{point_at}
-use Rattle.twkb_body.specs.Boxed.{IsNear, IsClose}
+use Rattle.twkb_body.specs.Devices.Body.{first_of, behind}
+use Rattle.twkb_body.specs.Devices.BodyReader.{point_at}
+use Rattle.twkb_body.specs.Devices.Boxed.{IsNear, IsClose}
 use Rattle.twkb_body.specs.Geometry.{PointValue}
-use Rattle.twkb_body.specs.Numbers.{IsIn64, AreDifferences}
+use Rattle.twkb_body.specs.Devices.Numbers.{IsIn64, AreDifferences}
 use Rattle.twkb_body.proofs.Coordinates.{coordinate_ahead}
 use Rattle.twkb_body.proofs.FlatRuns.{has_64_bits, two_coordinates}
 use Rattle.twkb_body.proofs.PairReads.{pair_read}

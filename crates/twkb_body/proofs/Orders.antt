@@ -4,7 +4,7 @@ use Rattle.twkb_head.specs.Header.{Header, is_multi}
 use Rattle.twkb_head.specs.BegunHeader.{is_collection}
 use Rattle.twkb_body.specs.Geometry.{Geometry, Members, geometry, none, more, Lengths, lengths_of, PolygonValue, member_count}
 use Rattle.twkb_body.specs.Encoding.{IsNumbers, IsBody, IsHeaderThenBody, BlobUnder, BlobsUnder}
-use Rattle.twkb_body.specs.Pass.{member_total, HasOrder, HaveOrder}
+use Rattle.twkb_body.proofs.TreeSums.{member_total, HasOrder, HaveOrder}
 
 -- the header, with its size and its box, and the body behind it
 starts_order : (h : Header) (l : Lengths) (bytes body : List ℕ) → IsHeaderThenBody h l bytes body → (l.before + l.size ≤ l.header) × (l.whole ≡ l.header + length body)

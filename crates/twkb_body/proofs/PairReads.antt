@@ -4,8 +4,8 @@ use mir.Val.{SFits}
 use Rattle.std.specs.Int.{w64}
 use Rattle.twkb_num.specs.Cursor.{Reading, passed, IsMoved}
 use Rattle.twkb_num.specs.Varint.{SpellsSigned, SpellsTwoSigned}
-use Rattle.twkb_num.proofs.PairLaws.{moved-two}
-use Rattle.twkb_head.specs.Reader.{coordinate_at}
+use Rattle.twkb_num.proofs.PairLaws.{IsMoved-two}
+use Rattle.twkb_head.specs.Devices.Reader.{coordinate_at}
 use Rattle.twkb_head.proofs.Steps.{read_signed, coordinate_ok, fits_true}
 
 -- two numbers that one move passes are read as two coordinates, where their sums fit
@@ -13,7 +13,7 @@ pub pair_read : (x y x_more y_more : ℤ) (old new : Reading) → SpellsTwoSigne
     → (middle : Reading) × (coordinate_at x old ≡ (Ok x_more, middle)) × (coordinate_at y middle ≡ (Ok y_more, new))
 pair_read x y x_more y_more old new spells moved x_fits y_fits =
     let two = spells.2 in
-    let way = moved-two old new two.front two.behind moved two.whole in
+    let way = IsMoved-two old new two.front two.behind moved two.whole in
     let middle : Reading = way.0 in
     let first : SpellsSigned (passed old middle) x_more = (spells.0, rw way.3 two.first, spells.3) in
     let second : SpellsSigned (passed middle new) y_more = (spells.1, rw way.4 two.second, spells.4) in (

@@ -7,14 +7,16 @@ use Rattle.twkb_num.specs.Varint.{Spells, sum_of_groups, zigzag_value}
 use Rattle.twkb_head.specs.Parts.{Then, Sequence, Counted}
 use Rattle.twkb_head.specs.Header.{IsSigned}
 use Rattle.twkb_head.specs.BegunHeader.{is_collection, Field, coordinate_field}
-use Rattle.twkb_head.specs.Plan.{number, coordinate, Plan, done, Spelled, Stops, bind, many, number_plan, coordinate_plan}
+use Rattle.twkb_head.specs.Devices.Plan.{number, coordinate, Plan, done, bind, many, number_plan, coordinate_plan}
+use Rattle.twkb_head.proofs.Spelling.{Spelled, Stops}
 use Rattle.twkb_head.proofs.Combinators.{bind_spelled, spelled_bind, bind_stops, stops_first, stops_then, done_spelled, spelled_done, done_stops, FitAll, after_all, many_spelled, spelled_many, many_stops, stops_many}
 use Rattle.twkb_head.proofs.Leaves.{leaf_stops, number_spelled, spelled_number, coordinate_spelled, spelled_coordinate}
 use Rattle.twkb_body.specs.Geometry.{PointValue, Ring, PolygonValue}
 use Rattle.twkb_body.specs.Encoding.{IsPoint, IsRing, IsPolygon, IsPart}
 use Rattle.twkb_body.specs.Begun.{IsBegunPoint, IsBegunList, count_due, id_due, member_due, IsBegunRing, IsBegunPolygon, IsBegunPart}
-use Rattle.twkb_body.specs.BodyPlan.{first_of, behind, add, sums, ring_sums, point_plan, ring_plan, polygon_plan, part_plan}
-use Rattle.twkb_body.proofs.Sums.{FitNumber, FitPoint, FitPoints, FitRings, fit_append, append_fit, rings_fit, fit_rings, polygons_fit, fit_polygons, after_points, after_rings, after_polygons}
+use Rattle.twkb_body.specs.Devices.Body.{first_of, behind, add, sums, ring_sums}
+use Rattle.twkb_body.proofs.GeometryPlan.{point_plan, ring_plan, polygon_plan, part_plan}
+use Rattle.twkb_body.proofs.Sums.{FitNumber, FitPoint, FitPoints, FitRings, FitPoints-append, append-FitPoints, rings_fit, fit_rings, polygons_fit, fit_polygons, after_points, after_rings, after_polygons}
 
 -- fewer than n members are whole, and one is begun; the points are those of both
 pub record BegunMembers {A : Type 0} (n : ℕ) (Q : A → List ℕ → Type 0) (points_in : A → List PointValue) (B : List PointValue → List ℕ → Field → Type 0)
@@ -49,13 +51,13 @@ module _ {A : Type 0} (after : PointValue → A → PointValue) (plan : PointVal
       let last = b.begun in (
         flat_map points_in b.xs ++ last.0,
         record { xs = b.xs; last = last.0; wholes = b.wholes; rest = b.rest; fewer = b.fewer; whole = b.whole; begun = last.1; all = refl; parts = b.parts },
-        fit_append s (flat_map points_in b.xs) last.0 (m.fit s b.xs b.fit) (subst (λ (z : PointValue). FitPoints z last.0) (m.after_is s b.xs) last.2),
+        FitPoints-append s (flat_map points_in b.xs) last.0 (m.fit s b.xs b.fit) (subst (λ (z : PointValue). FitPoints z last.0) (m.after_is s b.xs) last.2),
       )
 
   pub stop_members : (n : ℕ) (s : PointValue) (p : List ℕ) (due : Field) (points : List PointValue) → BegunMembers n Q points_in B points p due → FitPoints s points
       → Stops (many n after plan s) p due
   stop_members n s p due points b fit =
-      let f = append_fit s (flat_map points_in b.xs) b.last (subst (FitPoints s) b.all fit) in
+      let f = append-FitPoints s (flat_map points_in b.xs) b.last (subst (FitPoints s) b.all fit) in
       stops_many after plan Q Fit m.back n s b.xs b.wholes b.rest p due b.fewer b.whole (m.fit_back s b.xs f.0)
       (m.stops_back (after_all after s b.xs) b.rest due b.last b.begun (subst (λ (z : PointValue). FitPoints z b.last) (sym (m.after_is s b.xs)) f.1)) b.parts
 

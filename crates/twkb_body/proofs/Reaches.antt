@@ -12,53 +12,53 @@ use Rattle.twkb_head.specs.Holds.{IsWithinBoth, Holds}
 use Rattle.twkb_body.specs.Extent.{span_of, joined, Reach, reach_of, both, IsCovered, IsReachWithin}
 use Rattle.std.specs.List.{cons_option}
 
-min_assoc : (a b c : ℤ) → int_min (int_min a b) c ≡ int_min a (int_min b c)
-min_assoc a b c = omega (arith, ints, clamps)
+int_min-assoc : (a b c : ℤ) → int_min (int_min a b) c ≡ int_min a (int_min b c)
+int_min-assoc a b c = omega (arith, ints, clamps)
 
-max_assoc : (a b c : ℤ) → int_max (int_max a b) c ≡ int_max a (int_max b c)
-max_assoc a b c = omega (arith, ints, clamps)
+int_max-assoc : (a b c : ℤ) → int_max (int_max a b) c ≡ int_max a (int_max b c)
+int_max-assoc a b c = omega (arith, ints, clamps)
 
 fold_min : (a b : ℤ) (cs : List ℤ) → fold int_min (int_min a b) cs ≡ int_min a (fold int_min b cs)
 fold_min a b [] = refl
-fold_min a b (c ∷ cs) = rw (min_assoc a b c) (fold_min a (int_min b c) cs)
+fold_min a b (c ∷ cs) = rw (int_min-assoc a b c) (fold_min a (int_min b c) cs)
 
 fold_max : (a b : ℤ) (cs : List ℤ) → fold int_max (int_max a b) cs ≡ int_max a (fold int_max b cs)
 fold_max a b [] = refl
-fold_max a b (c ∷ cs) = rw (max_assoc a b c) (fold_max a (int_max b c) cs)
+fold_max a b (c ∷ cs) = rw (int_max-assoc a b c) (fold_max a (int_max b c) cs)
 
-pub span_append : (xs ys : List ℤ) → span_of (xs ++ ys) ≡ joined (span_of xs) (span_of ys)
-span_append [] ys = refl
-span_append (x ∷ xs) [] = ap span_of (append-nil (x ∷ xs))
-span_append (x ∷ xs) (y ∷ ys) =
+pub span_of-append : (xs ys : List ℤ) → span_of (xs ++ ys) ≡ joined (span_of xs) (span_of ys)
+span_of-append [] ys = refl
+span_of-append (x ∷ xs) [] = ap span_of (append-nil (x ∷ xs))
+span_of-append (x ∷ xs) (y ∷ ys) =
     let least : fold int_min x (xs ++ y ∷ ys) ≡ int_min (fold int_min x xs) (fold int_min y ys) =
     fold-append int_min x xs (y ∷ ys) ∙ fold_min (fold int_min x xs) y ys in
     let greatest : fold int_max x (xs ++ y ∷ ys) ≡ int_max (fold int_max x xs) (fold int_max y ys) =
     fold-append int_max x xs (y ∷ ys) ∙ fold_max (fold int_max x xs) y ys in
     cc
 
-pub joined_assoc : (a b c : Option Span) → joined (joined a b) c ≡ joined a (joined b c)
-joined_assoc None b c = refl
-joined_assoc (Some a) None c = refl
-joined_assoc (Some a) (Some b) None = refl
-joined_assoc (Some a) (Some b) (Some c) =
-    let least = min_assoc a.lo b.lo c.lo in
-    let greatest = max_assoc a.hi b.hi c.hi in
+pub joined-assoc : (a b c : Option Span) → joined (joined a b) c ≡ joined a (joined b c)
+joined-assoc None b c = refl
+joined-assoc (Some a) None c = refl
+joined-assoc (Some a) (Some b) None = refl
+joined-assoc (Some a) (Some b) (Some c) =
+    let least = int_min-assoc a.lo b.lo c.lo in
+    let greatest = int_max-assoc a.hi b.hi c.hi in
     cc
 
-pub reach_append : (vs ws : List Vertex) → reach_of (vs ++ ws) ≡ both (reach_of vs) (reach_of ws)
-reach_append vs ws =
+pub reach_of-append : (vs ws : List Vertex) → reach_of (vs ++ ws) ≡ both (reach_of vs) (reach_of ws)
+reach_of-append vs ws =
     let x : span_of (map (λ v. v.x) (vs ++ ws)) ≡ joined (span_of (map (λ v. v.x) vs)) (span_of (map (λ v. v.x) ws)) =
-    ap span_of (map-append (λ (v : Vertex). v.x) vs ws) ∙ span_append _ _ in
+    ap span_of (map-append (λ (v : Vertex). v.x) vs ws) ∙ span_of-append _ _ in
     let y : span_of (map (λ v. v.y) (vs ++ ws)) ≡ joined (span_of (map (λ v. v.y) vs)) (span_of (map (λ v. v.y) ws)) =
-    ap span_of (map-append (λ (v : Vertex). v.y) vs ws) ∙ span_append _ _ in
+    ap span_of (map-append (λ (v : Vertex). v.y) vs ws) ∙ span_of-append _ _ in
     let z : span_of (filter_map (λ v. v.z) (vs ++ ws)) ≡ joined (span_of (filter_map (λ v. v.z) vs)) (span_of (filter_map (λ v. v.z) ws)) =
-    ap span_of (filter_map-append (λ (v : Vertex). v.z) vs ws) ∙ span_append _ _ in
+    ap span_of (filter_map-append (λ (v : Vertex). v.z) vs ws) ∙ span_of-append _ _ in
     let m : span_of (filter_map (λ v. v.m) (vs ++ ws)) ≡ joined (span_of (filter_map (λ v. v.m) vs)) (span_of (filter_map (λ v. v.m) ws)) =
-    ap span_of (filter_map-append (λ (v : Vertex). v.m) vs ws) ∙ span_append _ _ in
+    ap span_of (filter_map-append (λ (v : Vertex). v.m) vs ws) ∙ span_of-append _ _ in
     rw (x, y, z, m)
 
-pub both_assoc : (a b c : Reach) → both (both a b) c ≡ both a (both b c)
-both_assoc a b c = rw (joined_assoc a.x b.x c.x, joined_assoc a.y b.y c.y, joined_assoc a.z b.z c.z, joined_assoc a.m b.m c.m)
+pub both-assoc : (a b c : Reach) → both (both a b) c ≡ both a (both b c)
+both-assoc a b c = rw (joined-assoc a.x b.x c.x, joined-assoc a.y b.y c.y, joined-assoc a.z b.z c.z, joined-assoc a.m b.m c.m)
 
 joined-none : (a : Option Span) → joined a None ≡ a
 joined-none None = refl
@@ -96,7 +96,7 @@ covered_from (Some s) [] h = tt
 covered_from (Some s) (c ∷ cs) h =
     let P = λ (e : ℤ). IsWithinBoth (Some s) (Some e) in
     let one = All-head P c cs h in
-    subst (IsCovered (Some s)) (sym (span_append (c ∷ []) cs))
+    subst (IsCovered (Some s)) (sym (span_of-append (c ∷ []) cs))
     (joined_covered (Some s) (span_of (c ∷ [])) (span_of cs) one (covered_from (Some s) cs (All-tail P c cs h)))
 
 from_covered : (span : Option Span) (cs : List ℤ) → IsCovered span (span_of cs) → All (λ c. IsWithinBoth span (Some c)) cs
@@ -104,7 +104,7 @@ from_covered None cs h = λ k d lt. tt
 from_covered (Some s) [] h = All-nil _
 from_covered (Some s) (c ∷ cs) h =
     let P = λ (e : ℤ). IsWithinBoth (Some s) (Some e) in
-    let parts = covered_joined (Some s) (span_of (c ∷ [])) (span_of cs) (subst (IsCovered (Some s)) (span_append (c ∷ []) cs) h) in
+    let parts = covered_joined (Some s) (span_of (c ∷ [])) (span_of cs) (subst (IsCovered (Some s)) (span_of-append (c ∷ []) cs) h) in
     All-cons P c cs parts.0 (from_covered (Some s) cs parts.1)
 
 module _ (span : Option Span) (get : Vertex → ℤ) where
@@ -112,7 +112,7 @@ module _ (span : Option Span) (get : Vertex → ℤ) where
   each_covered [] h = covered_from span [] (All-nil _)
   each_covered (v ∷ vs) h =
       let P = λ (w : Vertex). IsWithinBoth span (Some (get w)) in
-      subst (IsCovered span) (sym (span_append (get v ∷ []) (map get vs)))
+      subst (IsCovered span) (sym (span_of-append (get v ∷ []) (map get vs)))
       (joined_covered span (span_of (get v ∷ [])) (span_of (map get vs))
       (covered_from span (get v ∷ []) (All-cons (λ c. IsWithinBoth span (Some c)) (get v) [] (All-head P v vs h) (All-nil _)))
       (each_covered vs (All-tail P v vs h)))
@@ -121,14 +121,14 @@ module _ (span : Option Span) (get : Vertex → ℤ) where
   covered_each [] h = All-nil _
   covered_each (v ∷ vs) h =
       let P = λ (w : Vertex). IsWithinBoth span (Some (get w)) in
-      let parts = covered_joined span (span_of (get v ∷ [])) (span_of (map get vs)) (subst (IsCovered span) (span_append (get v ∷ []) (map get vs)) h) in
+      let parts = covered_joined span (span_of (get v ∷ [])) (span_of (map get vs)) (subst (IsCovered span) (span_of-append (get v ∷ []) (map get vs)) h) in
       All-cons P v vs (All-head (λ c. IsWithinBoth span (Some c)) (get v) [] (from_covered span (get v ∷ []) parts.0)) (covered_each vs parts.1)
 
 module _ (span : Option Span) (get : Vertex → Option ℤ) where
   step_covered : (c : Option ℤ) (cs : List ℤ) → IsWithinBoth span c → IsCovered span (span_of cs) → IsCovered span (span_of (cons_option c cs))
   step_covered None cs h k = k
   step_covered (Some c) cs h k =
-      subst (IsCovered span) (sym (span_append (c ∷ []) cs))
+      subst (IsCovered span) (sym (span_of-append (c ∷ []) cs))
       (joined_covered span (span_of (c ∷ [])) (span_of cs) (covered_from span (c ∷ []) (All-cons (λ e. IsWithinBoth span (Some e)) c [] h (All-nil _))) k)
 
   covered_step : (c : Option ℤ) (cs : List ℤ) → IsCovered span (span_of (cons_option c cs)) → IsWithinBoth span c × IsCovered span (span_of cs)
@@ -138,7 +138,7 @@ module _ (span : Option Span) (get : Vertex → Option ℤ) where
       any_missing None = tt
       any_missing (Some s) = tt
   covered_step (Some c) cs k =
-      let parts = covered_joined span (span_of (c ∷ [])) (span_of cs) (subst (IsCovered span) (span_append (c ∷ []) cs) k) in
+      let parts = covered_joined span (span_of (c ∷ [])) (span_of cs) (subst (IsCovered span) (span_of-append (c ∷ []) cs) k) in
       (All-head (λ e. IsWithinBoth span (Some e)) c [] (from_covered span (c ∷ []) parts.0), parts.1)
 
   none_covered : IsCovered span None

@@ -3,14 +3,14 @@ use Rattle.std.proofs.Common.{◌≡◌, ℕ, zero, suc, ◌+◌, ◌≤◌, Lis
 use Rattle.std.proofs.lemmas.List.{append-nil}
 use Rattle.std.proofs.lemmas.Grind.{flat_map-append}
 use Rattle.twkb_num.specs.Cursor.{Reading}
-use Rattle.twkb_head.specs.Reader.{Answer, Reader, ◌>>=◌, viewed, many_at}
+use Rattle.twkb_head.specs.Devices.Reader.{Answer, Reader, ◌>>=◌, viewed, many_at}
 use Rattle.twkb_head.proofs.Loops.{IsLoop, loop_begins, loop_goes_on, loop_ends}
 use Rattle.twkb_head.proofs.Readings.{ok_not_err}
 use Rattle.twkb_body.specs.declared.trail.Trail.{Trail}
 use Rattle.twkb_body.specs.Geometry.{PointValue}
-use Rattle.twkb_body.specs.BodyPlan.{add, sums}
-use Rattle.twkb_body.specs.BodyReader.{point_at}
-use Rattle.twkb_body.specs.Walk.{IsWalked, IsRun}
+use Rattle.twkb_body.specs.Devices.Body.{add, sums}
+use Rattle.twkb_body.specs.Devices.BodyReader.{point_at}
+use Rattle.twkb_body.specs.Devices.Walk.{IsWalked, IsRun}
 use Rattle.twkb_body.proofs.PartPlans.{flat_single}
 use Rattle.twkb_body.proofs.Walks.{IsRingLoop, one_point, walked_none, walked_then}
 

@@ -11,8 +11,8 @@ use Rattle.twkb_head.specs.Header.{Header}
 use Rattle.twkb_head.specs.Head.{m_axis}
 use Rattle.twkb_body.specs.Geometry.{PointValue, coordinate, vertex_of}
 use Rattle.twkb_body.specs.Extent.{Reach, reach_of, span_of, both}
-use Rattle.twkb_body.specs.Ranges.{scaled, scaled_if, raw_of, widened, reach_in_units}
-use Rattle.twkb_body.proofs.Reaches.{reach_append, both_assoc, both-none}
+use Rattle.twkb_body.specs.Devices.Ranges.{scaled, scaled_if, raw_of, widened, reach_in_units}
+use Rattle.twkb_body.proofs.Reaches.{reach_of-append, both-assoc, both-none}
 
 times_suc : (a : ℤ) (k : ℕ) → a *ℤ pos (suc k) ≡ a *ℤ pos k +ℤ a
 times_suc a k = *ℤ_comm a (pos (suc k)) ∙ suc_ℤ-*ℤ (pos k) a ∙ ap (λ (z : ℤ). z +ℤ a) (*ℤ_comm (pos k) a)
@@ -101,5 +101,5 @@ module _ (h : Header) where
   pub widened_all : (reach : Reach) (points : List PointValue) → fold (widened h) reach points ≡ both reach (reach_of (map (raw_of h) points))
   widened_all reach [] = sym (both-none reach)
   widened_all reach (point ∷ points) =
-      widened_all (widened h reach point) points ∙ both_assoc reach (reach_of (raw_of h point ∷ [])) (reach_of (map (raw_of h) points))
-      ∙ ap (both reach) (sym (reach_append (raw_of h point ∷ []) (map (raw_of h) points)))
+      widened_all (widened h reach point) points ∙ both-assoc reach (reach_of (raw_of h point ∷ [])) (reach_of (map (raw_of h) points))
+      ∙ ap (both reach) (sym (reach_of-append (raw_of h point ∷ []) (map (raw_of h) points)))

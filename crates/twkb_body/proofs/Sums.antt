@@ -1,12 +1,13 @@
 -- Sums of numbers: carried from point to point, and from the start.
-use Rattle.std.proofs.Common.{◌≡◌, ℕ, zero, suc, true, List, [], ◌∷◌, ◌++◌, length, map, take, flat_map, slice_get, ℤ, pos, negsuc, ◌+ℤ◌, FitsSigned, Option, Some, unwrap_or, refl, sym, ap, ap₂, subst, ◌∙◌, append_assoc, arith, w64}
+use Rattle.std.proofs.Common.{◌≡◌, ℕ, zero, suc, true, List, [], ◌∷◌, ◌++◌, length, map, take, flat_map, slice_get, ℤ, pos, negsuc, ◌+ℤ◌, FitsSigned, Option, Some, unwrap_or, refl, sym, ap, ap₂, subst, ◌∙◌, arith, w64}
 use Rattle.std.proofs.lemmas.Bool.{ltb-true, lt-ltb}
 use Rattle.std.proofs.lemmas.Int.{ints}
-use Rattle.twkb_head.specs.Plan.{fits}
+use Rattle.std.proofs.lemmas.Grind.{flat_map-append}
+use Rattle.twkb_head.specs.Devices.Plan.{fits}
 use Rattle.twkb_head.proofs.Combinators.{FitAll, after_all}
 use Rattle.twkb_body.specs.Geometry.{PointValue, Ring, PolygonValue, points_of, coordinate}
 use Rattle.twkb_body.specs.Encoding.{total, SumsFit, Accumulates, SameForm}
-use Rattle.twkb_body.specs.BodyPlan.{zeros, first_of, behind, add, sums, ring_sums, place, map_from, absolute}
+use Rattle.twkb_body.specs.Devices.Body.{zeros, first_of, behind, add, sums, ring_sums, place, map_from, absolute}
 
 -- the numbers of a point, of points, of rings and of polygons have sums in range
 abbrev pub FitNumber : PointValue → ℤ → Type 0
@@ -28,13 +29,13 @@ pub sums-append : (s : PointValue) (a b : List PointValue) → sums s (a ++ b) �
 sums-append s [] b = refl
 sums-append s (p ∷ a) b = sums-append (add s p) a b
 
-pub fit_append : (s : PointValue) (a b : List PointValue) → FitPoints s a → FitPoints (sums s a) b → FitPoints s (a ++ b)
-fit_append s [] b f g = g
-fit_append s (p ∷ a) b f g = (f.0, fit_append (add s p) a b f.1 g)
+pub FitPoints-append : (s : PointValue) (a b : List PointValue) → FitPoints s a → FitPoints (sums s a) b → FitPoints s (a ++ b)
+FitPoints-append s [] b f g = g
+FitPoints-append s (p ∷ a) b f g = (f.0, FitPoints-append (add s p) a b f.1 g)
 
-pub append_fit : (s : PointValue) (a b : List PointValue) → FitPoints s (a ++ b) → FitPoints s a × FitPoints (sums s a) b
-append_fit s [] b f = (tt, f)
-append_fit s (p ∷ a) b f = let more = append_fit (add s p) a b f.1 in ((f.0, more.0), more.1)
+pub append-FitPoints : (s : PointValue) (a b : List PointValue) → FitPoints s (a ++ b) → FitPoints s a × FitPoints (sums s a) b
+append-FitPoints s [] b f = (tt, f)
+append-FitPoints s (p ∷ a) b f = let more = append-FitPoints (add s p) a b f.1 in ((f.0, more.0), more.1)
 
 pub rings_sums_flat : (s : PointValue) (rings : List Ring) → ring_sums s rings ≡ sums s (flat_map (λ ring. ring) rings)
 rings_sums_flat s [] = refl
@@ -42,21 +43,21 @@ rings_sums_flat s (r ∷ rings) = rings_sums_flat (sums s r) rings ∙ sym (sums
 
 pub rings_fit : (s : PointValue) (rings : List Ring) → FitRings s rings → FitPoints s (flat_map (λ ring. ring) rings)
 rings_fit s [] f = tt
-rings_fit s (r ∷ rings) f = fit_append s r (flat_map (λ ring. ring) rings) f.0 (rings_fit (sums s r) rings f.1)
+rings_fit s (r ∷ rings) f = FitPoints-append s r (flat_map (λ ring. ring) rings) f.0 (rings_fit (sums s r) rings f.1)
 
 pub fit_rings : (s : PointValue) (rings : List Ring) → FitPoints s (flat_map (λ ring. ring) rings) → FitRings s rings
 fit_rings s [] f = tt
-fit_rings s (r ∷ rings) f = let t = append_fit s r (flat_map (λ ring. ring) rings) f in (t.0, fit_rings (sums s r) rings t.1)
+fit_rings s (r ∷ rings) f = let t = append-FitPoints s r (flat_map (λ ring. ring) rings) f in (t.0, fit_rings (sums s r) rings t.1)
 
 pub polygons_fit : (s : PointValue) (ps : List PolygonValue) → FitPolygons s ps → FitPoints s (points_of ps)
 polygons_fit s [] f = tt
-polygons_fit s (p ∷ ps) f = fit_append s (flat_map (λ ring. ring) p) (points_of ps) (rings_fit s p f.0)
+polygons_fit s (p ∷ ps) f = FitPoints-append s (flat_map (λ ring. ring) p) (points_of ps) (rings_fit s p f.0)
     (subst (λ (z : PointValue). FitPoints z (points_of ps)) (rings_sums_flat s p) (polygons_fit (ring_sums s p) ps f.1))
 
 pub fit_polygons : (s : PointValue) (ps : List PolygonValue) → FitPoints s (points_of ps) → FitPolygons s ps
 fit_polygons s [] f = tt
 fit_polygons s (p ∷ ps) f =
-    let t = append_fit s (flat_map (λ ring. ring) p) (points_of ps) f in
+    let t = append-FitPoints s (flat_map (λ ring. ring) p) (points_of ps) f in
     (fit_rings s p t.0, fit_polygons (ring_sums s p) ps (subst (λ (z : PointValue). FitPoints z (points_of ps)) (sym (rings_sums_flat s p)) t.1))
 
 -- after all
@@ -199,13 +200,9 @@ flat_map_from {A} {B} {S} after f after' same s (xs ∷ xss) =
     ∙ ap (λ (z : S). map_from after f z (flat_map (λ x. x) xss)) (sym (same s xs)))
     ∙ sym (map_from-append after f s xs (flat_map (λ x. x) xss))
 
-flat_append : {A : Type 0} (a b : List (List A)) → flat_map (λ x. x) (a ++ b) ≡ flat_map (λ x. x) a ++ flat_map (λ x. x) b
-flat_append [] b = refl
-flat_append {A} (x ∷ a) b = ap (λ (ys : List A). x ++ ys) (flat_append a b) ∙ sym (append_assoc x (flat_map (λ x. x) a) (flat_map (λ x. x) b))
-
 points_flat : (ps : List PolygonValue) → points_of ps ≡ flat_map (λ ring. ring) (flat_map (λ polygon. polygon) ps)
 points_flat [] = refl
-points_flat (p ∷ ps) = ap (λ (ys : List PointValue). flat_map (λ ring. ring) p ++ ys) (points_flat ps) ∙ sym (flat_append p (flat_map (λ polygon. polygon) ps))
+points_flat (p ∷ ps) = ap (λ (ys : List PointValue). flat_map (λ ring. ring) p ++ ys) (points_flat ps) ∙ sym (flat_map-append (λ ring. ring) p (flat_map (λ polygon. polygon) ps))
 
 all_rings : (s : PointValue) (rings : List Ring) → after_all sums s rings ≡ ring_sums s rings
 all_rings s [] = refl

@@ -21,33 +21,33 @@ use Rattle.twkb_num.specs.Varint.{Spells, zigzag_value}
 use Rattle.twkb_head.specs.declared.kinds.Kind.{Kind}
 use Rattle.twkb_head.specs.declared.kinds.Kind.TheVariants.{Point}
 use Rattle.twkb_head.specs.Header.{Header, axes_of, axes_with, is_multi}
-use Rattle.twkb_head.specs.Plan.{fits}
+use Rattle.twkb_head.specs.Devices.Plan.{fits}
 use Rattle.twkb_head.proofs.Steps.{read_signed, coordinate_ok}
 use Rattle.twkb_head.specs.Holds.{IsWithin, IsWithinBoth, Holds}
-use Rattle.twkb_head.specs.Reader.{Answer, ◌>>=◌, viewed, many_at, coordinate_at}
+use Rattle.twkb_head.specs.Devices.Reader.{Answer, ◌>>=◌, viewed, many_at, coordinate_at}
 use Rattle.twkb_head.proofs.HeadBack.{head_value}
 use Rattle.twkb_body.specs.declared.frame.Frame.{Frame}
 use Rattle.twkb_body.specs.declared.inside.Inside.{Inside}
-use Rattle.twkb_body.specs.Boxed.{is_in_range, is_in_axis, is_in_box, Held, held_then, held_with}
-use Rattle.twkb_body.specs.BodyPlan.{Body, ListHead, absolute, zeros, sums, ring_sums, parts_body, members_body, members_of}
-use Rattle.twkb_body.specs.BodyReader.{point_at, part_at, list_at, count_at, body_at, members_under}
+use Rattle.twkb_body.specs.Devices.Boxed.{is_in_range, is_in_axis, is_in_box, Held, held_then, held_with}
+use Rattle.twkb_body.specs.Devices.Body.{Body, ListHead, absolute, zeros, sums, ring_sums, parts_body, members_body, members_of}
+use Rattle.twkb_body.specs.Devices.BodyReader.{point_at, part_at, list_at, count_at, body_at, members_under}
 use Rattle.twkb_body.specs.Extent.{Reach, reach_of, both}
-use Rattle.twkb_body.specs.Found.{box_judged, size_judged}
+use Rattle.twkb_body.specs.Devices.Found.{box_judged, size_judged}
 use Rattle.twkb_body.specs.Geometry.{PointValue, none, points_of, vertex_of, coordinate, vertices as vertices_of, member_vertices}
-use Rattle.twkb_body.specs.IdLists.{IsListFound}
-use Rattle.twkb_body.specs.Inside.{of_head, IsInside}
-use Rattle.twkb_body.specs.Pass.{first, false_at, is_within}
-use Rattle.twkb_body.specs.Ranges.{widened}
-use Rattle.twkb_body.specs.Sure.{LiesIn, LiesInAll, framed, faultless, unseen, AddsParts, AddsHeld, frame_bounds, IsHeldBy, IsFrameUnder, body_vertices, IsSureBody, IsSure}
-use Rattle.twkb_body.specs.Walk.{HaveAxes, lasts_from}
+use Rattle.twkb_body.specs.Devices.IdLists.{IsListFound}
+use Rattle.twkb_body.specs.Devices.Inside.{of_head, IsInside}
+use Rattle.twkb_body.specs.Devices.Pass.{first, false_at, is_within}
+use Rattle.twkb_body.specs.Devices.Ranges.{widened}
+use Rattle.twkb_body.specs.Devices.Sure.{LiesIn, LiesInAll, framed, faultless, unseen, AddsParts, AddsHeld, frame_bounds, IsHeldBy, IsFrameUnder, body_vertices, IsSureBody, IsSure}
+use Rattle.twkb_body.specs.Devices.Walk.{HaveAxes, lasts_from}
 use Rattle.twkb_body.proofs.BoxedRuns.{reaches_decides, both_true}
 use Rattle.twkb_body.proofs.Coordinates.{coordinate_ahead, vertices_same}
 use Rattle.twkb_body.proofs.FlatRuns.{two_coordinates}
 use Rattle.twkb_body.proofs.GeometrySteps.{body_gives, shape_body, body_of_head, geometry_found}
-use Rattle.twkb_body.proofs.MemberSteps.{members-push, IsMemberLoop, members_begin, members_go_on, members_end, collection_body, collection_gives, members_inside}
+use Rattle.twkb_body.proofs.MemberSteps.{members_of-push, IsMemberLoop, members_begin, members_go_on, members_end, collection_body, collection_gives, members_inside}
 use Rattle.twkb_body.proofs.Passes.{vertices_pushed}
 use Rattle.twkb_body.proofs.Judging.{box_decides}
-use Rattle.twkb_body.proofs.Reaches.{reach_append}
+use Rattle.twkb_body.proofs.Reaches.{reach_of-append}
 use Rattle.twkb_body.proofs.Scales.{times_le}
 use Rattle.twkb_body.proofs.ShapeSteps.{shape_of_parts}
 use Rattle.twkb_body.proofs.Sums.{points_absolute}
@@ -234,7 +234,7 @@ module _ (levels count : ℕ) (from : Reading) (frame : Option Frame) where
   sure_goes_on i before vertices next r new lt sure sum l = record {
     loop = members_go_on false levels count from false i (faultless before) (faultless vertices) (faultless next) unseen unseen r new sure.whole lt sure.read
         (sure.found, record { asked = refl; extent = λ e. absurd (cc (e)) }) sum refl l.loop;
-    held = subst (IsHeldBy frame) (sym (ap member_vertices (members-push l.loop.front sure.whole) ∙ vertices_pushed (members_of l.loop.front) sure.whole))
+    held = subst (IsHeldBy frame) (sym (ap member_vertices (members_of-push l.loop.front sure.whole) ∙ vertices_pushed (members_of l.loop.front) sure.whole))
         (held_with_more frame (member_vertices (members_of l.loop.front)) (vertices_of sure.whole) l.held sure.held);
   }
 
@@ -272,7 +272,7 @@ box_true h frame (Some field) body below e (f, is, bounds) held =
     let own = map (vertex_of h) (points_of body.polygons) in
     let all : All (Holds (frame_bounds f)) (body_vertices h body) = subst (λ (o : Option Frame). IsHeldBy o (body_vertices h body)) is held in
     let within : is_within (both (reach_of own) below) field.bounds ≡ true =
-    (λ j. is_within (both (reach_of own) (e j)) (bounds j)) ∙ ap (λ (r : Reach). is_within r (frame_bounds f)) (sym (reach_append own (member_vertices body.members))) ∙ (box_decides (frame_bounds f) (body_vertices h body)).1 all in
+    (λ j. is_within (both (reach_of own) (e j)) (bounds j)) ∙ ap (λ (r : Reach). is_within r (frame_bounds f)) (sym (reach_of-append own (member_vertices body.members))) ∙ (box_decides (frame_bounds f) (body_vertices h body)).1 all in
     sym (ap (λ (b : Bool). first (false_at b field.offset 7) None) within)
 
 pub geometry_sure : (head plain : Head) (depth : ℕ) (above frame : Option Frame) (r mid new : Reading) (vertices : ℕ) → 1 ≤ depth → depth ≤ deepest → IsSound r → IsHeadAt head depth r.place (passed r mid) → IsMoved r mid

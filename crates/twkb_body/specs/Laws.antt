@@ -10,7 +10,7 @@ use Rattle.twkb_body.specs.Encoding.{BlobUnder, Blob}
 use Rattle.twkb_body.specs.Claims.{IsCertified, offset_of, claims}
 use Rattle.twkb_body.specs.Tight.{HasTightBoxes, IsTrueTightClaim, tight_offset_of, tight_claims}
 use Rattle.twkb_body.specs.Begun.{IsBegun, IsViable}
-use Rattle.twkb_body.specs.Audited.{EndsInIds}
+use Rattle.twkb_body.specs.Audited.{EndsInIds, HasLongList}
 use Rattle.twkb_body.specs.Visit.{walk}
 use Rattle.twkb_body.specs.Counting.{counts_on}
 
@@ -30,6 +30,10 @@ GoesOn = (p rest : List ℕ) (due : Field) → IsBegun 1 p due → IsViable (p +
 -- what ends right after the seventeenth id of a list is begun
 abbrev pub LongListsAreBegun : Type 0
 LongListsAreBegun = (p : List ℕ) → EndsInIds 17 1 p → (due : Field) × IsBegun 1 p due
+
+-- bytes that begin a geometry up to the seventeenth id of a list are at least so many
+abbrev pub LongListsAreLong : ℕ → Type 0
+LongListsAreLong least = (bytes : List ℕ) → HasLongList 1 bytes → least ≤ length bytes
 
 -- of given bytes at most one front is a blob, of one tree
 abbrev pub OneBlob : Type 0

@@ -2,13 +2,15 @@
 //! while numbers are short and points are few.
 ghost use Rattle.std.specs.Prelude.{◌≡◌, ◌≤◌, ◌^◌, IfSome, flat_map, ℕ, List};
 ghost use Rattle.twkb_num.specs.Cursor.{IsSound};
-ghost use Rattle.twkb_head.specs.Reader.{many_at};
-ghost use Rattle.twkb_body.specs.Bare.{Leads};
-ghost use Rattle.twkb_body.specs.BodyPlan.{add, ring_sums};
-ghost use Rattle.twkb_body.specs.BodyReader.{point_at, ring_at, polygon_at, part_at};
+ghost use Rattle.twkb_head.specs.Devices.Reader.{many_at};
+ghost use Rattle.twkb_body.specs.Devices.Bare.{Leads};
+ghost use Rattle.twkb_body.specs.Devices.Body.{add, ring_sums};
+ghost use Rattle.twkb_body.specs.Devices.BodyReader.{point_at, ring_at, polygon_at, part_at};
 ghost use Rattle.twkb_body.specs.Geometry.{PointValue, points_of};
 
-use twkb_head::{Kind, take_number};
+use crate::within::place_is_within;
+use crate::fields::take_number;
+use twkb_head::Kind;
 use twkb_num::Cursor;
 
 /// So many numbers of seven bytes, each at most 2^48 from zero, don't sum up to 2^63.
@@ -85,8 +87,7 @@ fn pass_points(cursor: &mut Cursor, axes: usize, count: u64, before: u64) -> Opt
     requires before { before ≤ 2 ^ 14 }
     ensures { IfSome result (λ after. Leads axes (λ s. many_at count add (point_at axes) s) (λ points. points) cursor.old cursor.new before after) }
 {
-    // The proof knows from here that the place is within the bytes.
-    let _start = cursor.place();
+    place_is_within(cursor);
     if MOST - before < count {
         return None;
     }

@@ -1,14 +1,15 @@
 //! Points under one header that are asked for nothing but whether a box of raw numbers holds them all.
 ghost use Rattle.std.specs.Prelude.{◌≡◌, ◌&&◌, ◌≤◌, ◌≤ℤ◌, ◌-ℤ◌, ◌^◌, pos, neg_ℤ, true, IfSome, ◌↔◌, IsTrue};
 ghost use Rattle.twkb_head.specs.Header.{axes_with};
-ghost use Rattle.twkb_body.specs.Boxed.{reaches, reaches_if, reach_further, reach_all, is_in_range, is_in_axis, is_in_flat, is_in_further, is_in_box, held_with, IsNear, IsClose, IsMet, IsNearRange, IsNearBox, AreNear};
-ghost use Rattle.twkb_body.specs.Inside.{of_head};
-ghost use Rattle.twkb_body.specs.Numbers.{listed, Each, axes_by, placed_at};
-ghost use Rattle.twkb_body.specs.Walk.{IsRun};
+ghost use Rattle.twkb_body.specs.Devices.Boxed.{reaches, reaches_if, reach_further, reach_all, is_in_range, is_in_axis, is_in_flat, is_in_further, is_in_box, held_with, IsNear, IsClose, IsMet, IsNearRange, IsNearBox, AreNear};
+ghost use Rattle.twkb_body.specs.Devices.Inside.{of_head};
+ghost use Rattle.twkb_body.specs.Devices.Numbers.{listed, Each, axes_by, placed_at};
+ghost use Rattle.twkb_body.specs.Devices.Walk.{IsRun};
 
 use crate::numbers::{Numbers, take_differences};
 use crate::points::Points;
 use crate::trail::Trail;
+use crate::within::place_is_within;
 use std::marker::Model;
 use twkb_head::{Head, RawBox, RawRange};
 use twkb_num::Cursor;
@@ -24,7 +25,7 @@ pub struct Boxed {
 }
 
 impl Model for Boxed {
-    ghost use Rattle.twkb_body.specs.Boxed.{Held, IsNearBox};
+    ghost use Rattle.twkb_body.specs.Devices.Boxed.{Held, IsNearBox};
 
     ghost Value = { Held };
 
@@ -81,7 +82,7 @@ impl Boxed {
             inside = reach_both(&self.bounds, across, up);
             done += 1;
         }
-        // The proof knows from here that the place is within the bytes.
+        // The proof knows from here that the place fits its type, and so does the number of points.
         let _stop = cursor.place();
         trail.last[0] = x.minimum + across;
         trail.last[1] = y.minimum + up;
@@ -123,8 +124,7 @@ impl Boxed {
             is_inside = reach_all(&bounds, has_fourth, &apart);
             taken += 1;
         }
-        // The proof knows from here that the place is within the bytes.
-        let _stop = ahead.place();
+        place_is_within(&ahead);
         *cursor = ahead;
         trail.last = placed(&bounds, &apart);
         trail.points += taken as usize;
@@ -309,7 +309,7 @@ fn reach_all(bounds: &RawBox, has_fourth: bool, distances: &Numbers) -> bool
 }
 
 impl Points for Boxed {
-    ghost use Rattle.twkb_body.specs.Boxed.{Held, held_with};
+    ghost use Rattle.twkb_body.specs.Devices.Boxed.{Held, held_with};
 
     ghost State = { Held };
 

@@ -1,9 +1,10 @@
 //! What one pass carries of what it has read, and the judging of claims.
 ghost use Rattle.std.specs.Prelude.{◌≡◌, ◌+◌, ◌^◌, ◌<◌, ◌≤◌, IfSome, None};
 ghost use Rattle.twkb_num.specs.Units.{IsPrecision};
-ghost use Rattle.twkb_body.specs.Inside.{of_head};
-ghost use Rattle.twkb_body.specs.Pass.{first, false_at, is_tight};
-ghost use Rattle.twkb_body.specs.Found.{named, number_of, size_judged, box_judged};
+ghost use Rattle.twkb_body.specs.Devices.Inside.{of_head};
+ghost use Rattle.twkb_body.specs.Devices.Pass.{first, false_at, is_tight};
+ghost use Rattle.twkb_body.specs.Devices.Found.{named, size_judged, box_judged};
+ghost use Rattle.twkb_body.specs.Audited.{number_of};
 
 use crate::answers::Claim;
 use crate::extent::Extent;

@@ -1,6 +1,6 @@
 //! The box that the vertices of a geometry have to lie in: its own, or that of a geometry above.
 ghost use Rattle.std.specs.Prelude.{◌≡◌, ◌≤ℤ◌, ◌+ℤ◌, IfSome, IsTrue, option_map};
-ghost use Rattle.twkb_body.specs.Sure.{framed, IsFrameUnder, LiesIn, LiesInAll};
+ghost use Rattle.twkb_body.specs.Devices.Sure.{framed, IsFrameUnder, LiesIn, LiesInAll};
 
 use twkb_head::{Head, RawBox, RawRange};
 

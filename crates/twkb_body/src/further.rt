@@ -19,7 +19,7 @@ pub struct BoxedFour {
 }
 
 impl Points for BoxedThree {
-    ghost use Rattle.twkb_body.specs.Boxed.{Held, held_with};
+    ghost use Rattle.twkb_body.specs.Devices.Boxed.{Held, held_with};
 
     ghost State = { Held };
 
@@ -51,7 +51,7 @@ impl Points for BoxedThree {
 }
 
 impl Points for BoxedFour {
-    ghost use Rattle.twkb_body.specs.Boxed.{Held, held_with};
+    ghost use Rattle.twkb_body.specs.Devices.Boxed.{Held, held_with};
 
     ghost State = { Held };
 

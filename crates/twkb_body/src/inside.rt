@@ -1,7 +1,7 @@
 //! What is inside a geometry, and the geometry over it.
 ghost use Rattle.std.specs.Prelude.{◌≡◌, ◌≤◌, IfSome};
-ghost use Rattle.twkb_body.specs.Pass.{first};
-ghost use Rattle.twkb_body.specs.Found.{named, size_judged};
+ghost use Rattle.twkb_body.specs.Devices.Pass.{first};
+ghost use Rattle.twkb_body.specs.Devices.Found.{named, size_judged};
 
 use crate::found::{FalseClaim, Found, judge_size};
 use twkb_head::SizeField;

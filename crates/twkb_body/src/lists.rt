@@ -1,18 +1,20 @@
 //! The count of a list, and its ids: judged by an audit, passed by a skim.
 ghost use Rattle.std.specs.Prelude.{◌≡◌, ◌↔◌, ◌≢◌, ◌+◌, ◌≤◌, ◌<ℤ◌, ℕ, ℤ, List as ListOf, IsTrue, AllPairs, OnSome, Ok};
 ghost use Rattle.twkb_num.specs.Cursor.{rest};
-ghost use Rattle.twkb_head.specs.Reader.{signeds_at, Reads};
-ghost use Rattle.twkb_body.specs.Stops.{ReadsOrStops};
-ghost use Rattle.twkb_body.specs.BodyReader.{list_at};
-ghost use Rattle.twkb_body.specs.IdLists.{HasManyIds, HasManyIdsAfterCount, IsListFound};
+ghost use Rattle.twkb_head.specs.Devices.Reader.{signeds_at, Reads};
+ghost use Rattle.twkb_body.specs.Devices.Stops.{ReadsOrStops};
+ghost use Rattle.twkb_body.specs.Devices.BodyReader.{list_at};
+ghost use Rattle.twkb_body.specs.Devices.IdLists.{HasManyIds, HasManyIdsAfterCount, IsListFound};
 
 use crate::answers::Claim;
+use crate::fields::{take_number, take_signed};
 use crate::found::{FalseClaim, claimed};
 use crate::ids::are_distinct;
 use crate::stopped::Stopped;
+use crate::within::place_is_within;
 use smallvec::SmallVec;
 use std::alloc::Allocator;
-use twkb_head::{Malformed, take_number, take_signed};
+use twkb_head::Malformed;
 use twkb_num::Cursor;
 
 /// A count, and, where ids are announced, the ids, if they are not distinct.
@@ -23,7 +25,7 @@ pub struct List {
 }
 
 /// The count of a list and its ids, where they are announced.
-#[tactic(auto, unfolding(crate::specs::BodyReader::list_at))]
+#[tactic(auto, unfolding(crate::specs::Devices::BodyReader::list_at))]
 #[inline(always)]
 pub fn take_list<A: Allocator>(
     alloc: &A,
@@ -32,8 +34,7 @@ pub fn take_list<A: Allocator>(
 ) -> Result<List, Stopped>
     ensures { ReadsOrStops (list_at has_ids cursor.old) (λ head list. IsListFound cursor.old cursor.new head list) (HasManyIdsAfterCount has_ids (rest cursor.old)) cursor.old result cursor.new }
 {
-    // The proof knows from here that the place is within the bytes.
-    let _start = cursor.place();
+    place_is_within(cursor);
     let count = take_number(cursor)?;
     if has_ids {
         let offset = cursor.place();
@@ -51,8 +52,7 @@ pub fn take_list<A: Allocator>(
 fn take_ids<A: Allocator>(alloc: &A, cursor: &mut Cursor, count: u64) -> Result<bool, Stopped>
     ensures { ReadsOrStops (signeds_at count cursor.old) (λ ids distinct. IsTrue distinct ↔ AllPairs (λ a b. a ≢ b) ids) (HasManyIds count (rest cursor.old)) cursor.old result cursor.new }
 {
-    // The proof knows from here that the place is within the bytes.
-    let _start = cursor.place();
+    place_is_within(cursor);
     let mut ids: SmallVec<i64, 16, &A> = SmallVec::new(alloc);
     for _ in 0..count {
         let id = take_signed(cursor)?;
@@ -63,7 +63,7 @@ fn take_ids<A: Allocator>(alloc: &A, cursor: &mut Cursor, count: u64) -> Result<
 
 /// The count of a list, and past its ids, where they are announced.
 #[inline(always)]
-#[tactic(auto, unfolding(crate::specs::BodyReader::list_at))]
+#[tactic(auto, unfolding(crate::specs::Devices::BodyReader::list_at))]
 pub fn pass_list(cursor: &mut Cursor, has_ids: bool) -> Result<u64, Malformed>
     ensures { Reads (list_at has_ids cursor.old) (λ list count. count ≡ (list.0).0) result cursor.new }
 {

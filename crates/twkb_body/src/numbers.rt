@@ -2,7 +2,7 @@
 //! box.
 ghost use Rattle.std.specs.Prelude.{◌≡◌, ◌≤◌, ◌≤ℤ◌, ◌<ℤ◌, ◌^◌, pos, neg_ℤ, false, true, ◌↔◌, IfSome, IfNone, IsTrue};
 ghost use Rattle.twkb_num.specs.Varint.{IsShort};
-ghost use Rattle.twkb_body.specs.Numbers.{listed, Each, IsIn64, plus, AreDifferences};
+ghost use Rattle.twkb_body.specs.Devices.Numbers.{listed, Each, IsIn64, plus, AreDifferences};
 
 use twkb_num::Cursor;
 

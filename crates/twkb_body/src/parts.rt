@@ -3,16 +3,17 @@
 ghost use Rattle.std.specs.Prelude.{◌≡◌, ◌≤◌, IfSome, flat_map};
 ghost use Rattle.twkb_num.specs.Units.{IsPrecision};
 ghost use Rattle.twkb_head.specs.Header.{axes_with};
-ghost use Rattle.twkb_head.specs.Reader.{many_at, Reads};
-ghost use Rattle.twkb_body.specs.BodyPlan.{ring_sums};
-ghost use Rattle.twkb_body.specs.BodyReader.{ring_at, polygon_at, part_at};
+ghost use Rattle.twkb_head.specs.Devices.Reader.{many_at, Reads};
+ghost use Rattle.twkb_body.specs.Devices.Body.{ring_sums};
+ghost use Rattle.twkb_body.specs.Devices.BodyReader.{ring_at, polygon_at, part_at};
 ghost use Rattle.twkb_body.specs.Geometry.{points_of};
-ghost use Rattle.twkb_body.specs.Inside.{of_head};
-ghost use Rattle.twkb_body.specs.Walk.{IsWalked};
+ghost use Rattle.twkb_body.specs.Devices.Inside.{of_head};
+ghost use Rattle.twkb_body.specs.Devices.Walk.{IsWalked};
 
+use crate::fields::take_number;
 use crate::points::Points;
 use crate::trail::{Trail, take_point};
-use twkb_head::{Head, Kind, Malformed, take_number};
+use twkb_head::{Head, Kind, Malformed};
 use twkb_num::Cursor;
 
 /// So many parts.

@@ -3,8 +3,8 @@ ghost use Rattle.std.specs.Prelude.{◌≡◌, ◌≤◌, IfSome};
 ghost use Rattle.twkb_num.specs.Units.{IsPrecision};
 ghost use Rattle.twkb_head.specs.Header.{Header, axes_with};
 ghost use Rattle.twkb_body.specs.Geometry.{PointValue};
-ghost use Rattle.twkb_body.specs.Inside.{of_head};
-ghost use Rattle.twkb_body.specs.Walk.{IsRun};
+ghost use Rattle.twkb_body.specs.Devices.Inside.{of_head};
+ghost use Rattle.twkb_body.specs.Devices.Walk.{IsRun};
 
 use crate::trail::Trail;
 use twkb_head::Head;

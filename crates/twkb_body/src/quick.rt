@@ -7,8 +7,8 @@ ghost use Rattle.std.specs.Prelude.{◌≡◌, ◌-◌, ◌+◌, ◌≤◌, None
 ghost use Rattle.twkb_num.specs.Units.{IsPrecision};
 ghost use Rattle.twkb_head.specs.BegunHeader.{deepest, is_collection, IsAllowedAt};
 ghost use Rattle.twkb_head.specs.Header.{axes_with};
-ghost use Rattle.twkb_body.specs.Found.{size_judged};
-ghost use Rattle.twkb_body.specs.Sure.{framed, IsSureBody, IsSure};
+ghost use Rattle.twkb_body.specs.Devices.Found.{size_judged};
+ghost use Rattle.twkb_body.specs.Devices.Sure.{framed, IsSureBody, IsSure};
 
 mod parts;
 
@@ -16,6 +16,7 @@ use self::parts::{take_boxed, take_parts_of, take_sure_list, take_unboxed};
 use crate::boxed::Boxed;
 use crate::found::judge_size;
 use crate::frame::Frame;
+use crate::within::place_is_within;
 use twkb_head::{Head, read_flat_head, read_raw_head, read_sized_point_head};
 use twkb_num::Cursor;
 
@@ -51,8 +52,7 @@ fn take_sized_point(cursor: &mut Cursor) -> Option<usize>
     ensures some { IfSome result (IsSure (deepest - 1) None cursor.old cursor.new) }
     ensures none { IfNone result (cursor.new ≡ cursor.old) }
 {
-    // The proof knows from here that the place is within the bytes.
-    let _start = cursor.place();
+    place_is_within(cursor);
     let mut ahead = cursor.ahead();
     let size = read_sized_point_head(&mut ahead)?;
     let after = ahead.place();
@@ -73,13 +73,11 @@ fn take_sure(cursor: &mut Cursor, depth: u8, above: &Option<Frame>) -> Option<us
     requires deepest { depth ≤ deepest }
     ensures { IfSome result (IsSure (deepest - depth) above.now cursor.old cursor.new) }
 {
-    // The proof knows from here that the place is within the bytes.
-    let _start = cursor.place();
+    place_is_within(cursor);
     let Some(flat) = read_flat_head(cursor, depth) else {
         return take_further(cursor, depth, above);
     };
-    // The proof knows from here that the place is within the bytes.
-    let _body = cursor.place();
+    place_is_within(cursor);
     let own = Frame::of(&flat.head, flat.bounds);
     let frame = Frame::under(above, &flat.head, own)?;
     let vertices = take_flat_body(cursor, depth, &flat.head, &frame)?;
@@ -99,11 +97,9 @@ fn take_further(cursor: &mut Cursor, depth: u8, above: &Option<Frame>) -> Option
     requires deepest { depth ≤ deepest }
     ensures { IfSome result (IsSure (deepest - depth) above.now cursor.old cursor.new) }
 {
-    // The proof knows from here that the place is within the bytes.
-    let _start = cursor.place();
+    place_is_within(cursor);
     let raw = read_raw_head(cursor, depth)?;
-    // The proof knows from here that the place is within the bytes.
-    let _body = cursor.place();
+    place_is_within(cursor);
     let own = Frame::of(&raw.head, raw.bounds);
     let frame = Frame::under(above, &raw.head, own)?;
     let vertices = take_further_body(cursor, depth, &raw.head, &frame)?;
@@ -194,8 +190,7 @@ fn take_sure_members(
     let mut vertices = 0;
     for _ in 0..count {
         let member = take_sure(cursor, depth + 1, &below)?;
-        // The proof knows from here that the place is within the bytes.
-        let _stop = cursor.place();
+        place_is_within(cursor);
         vertices += member;
     }
     Some(vertices)

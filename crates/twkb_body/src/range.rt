@@ -7,7 +7,7 @@ ghost use Rattle.std.specs.List.{cons_option};
 ghost use Rattle.twkb_num.specs.Units.{IsPrecision};
 ghost use Rattle.twkb_body.specs.Extent.{joined, span_of, reach_of};
 ghost use Rattle.twkb_body.specs.Geometry.{coordinate};
-ghost use Rattle.twkb_body.specs.Ranges.{scaled, scaled_if, reach_in_units};
+ghost use Rattle.twkb_body.specs.Devices.Ranges.{scaled, scaled_if, reach_in_units};
 
 use crate::extent::Extent;
 use crate::points::Points;
@@ -29,7 +29,7 @@ impl Model for Range {
 
     ghost Value = { Option Span };
 
-    ghost use Rattle.twkb_body.specs.Ranges.{range_view, IsRange};
+    ghost use Rattle.twkb_body.specs.Devices.Ranges.{range_view, IsRange};
 
     ghost view = { range_view };
 
@@ -147,7 +147,7 @@ impl Ranges {
 
 impl Points for Ranges {
     ghost use Rattle.twkb_body.specs.Extent.{Reach};
-    ghost use Rattle.twkb_body.specs.Ranges.{widened};
+    ghost use Rattle.twkb_body.specs.Devices.Ranges.{widened};
 
     ghost State = { Reach };
 

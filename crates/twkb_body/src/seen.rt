@@ -1,7 +1,7 @@
 //! The vertices that boxes have to hold, handed up to the geometries that have one.
 ghost use Rattle.std.specs.Prelude.{◌≡◌, ◌||◌, [], false};
 ghost use Rattle.twkb_body.specs.Extent.{reach_of};
-ghost use Rattle.twkb_body.specs.Seen.{HasSeen};
+ghost use Rattle.twkb_body.specs.Devices.Seen.{HasSeen};
 
 use crate::extent::Extent;
 

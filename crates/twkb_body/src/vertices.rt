@@ -3,12 +3,13 @@ ghost use Rattle.std.specs.Prelude.{◌≡◌, ◌≤◌, ◌≤ℤ◌, ◌^◌,
 ghost use Rattle.twkb_num.specs.Units.{IsPrecision, units_of};
 ghost use Rattle.twkb_head.specs.Header.{axes_with};
 ghost use Rattle.twkb_body.specs.Geometry.{PointValue, vertex_of};
-ghost use Rattle.twkb_body.specs.Inside.{of_head};
-ghost use Rattle.twkb_body.specs.Walk.{IsRun, shown};
+ghost use Rattle.twkb_body.specs.Devices.Inside.{of_head};
+ghost use Rattle.twkb_body.specs.Devices.Walk.{IsRun, shown};
 
 use crate::points::Points;
 use crate::trail::Trail;
 use crate::visit::Visit;
+use crate::within::place_is_within;
 use twkb_head::{Head, Vertex};
 use twkb_num::{Cursor, units};
 
@@ -18,7 +19,7 @@ const FAR: i64 = 1 << 62;
 const LONGEST: u64 = 1 << 34;
 
 impl<V: Visit> Points for V {
-    ghost use Rattle.twkb_body.specs.Walk.{shown};
+    ghost use Rattle.twkb_body.specs.Devices.Walk.{shown};
 
     ghost State = { V.State };
 
@@ -89,8 +90,7 @@ fn show_flat_run<V: Visit>(
         visitor.point(&flat_vertex(x, y, head));
         done += 1;
     }
-    // The proof knows from here that the place is within the bytes.
-    let _stop = cursor.place();
+    place_is_within(cursor);
     trail.last[0] = x;
     trail.last[1] = y;
     trail.points += done as usize;

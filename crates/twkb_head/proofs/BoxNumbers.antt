@@ -7,7 +7,8 @@ use Rattle.twkb_head.specs.declared.header.Head.{Head}
 use Rattle.twkb_head.specs.Parts.{Sequence, Announced}
 use Rattle.twkb_head.specs.Header.{Header, IsSigned, IsBox, box_numbers, axes_of, has_bit}
 use Rattle.twkb_head.specs.Head.{IsHeadAt, span_at, range_of, m_axis, bounds_of}
-use Rattle.twkb_head.specs.Spelled.{Has64Bits, IsSpelled, IsSpelledIfAny, AreSpelled}
+use Rattle.twkb_head.specs.Spelled.{Has64Bits, IsSpelled}
+use Rattle.twkb_head.specs.Devices.Spelled.{IsSpelledIfAny, AreSpelled}
 
 zigzag_fits : (n : ℕ) → n < 2 ^ 64 → Has64Bits (zigzag_value n)
 zigzag_fits n h = (grind (arith, ints, h), grind (arith, ints, h))

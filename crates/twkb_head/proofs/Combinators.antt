@@ -3,7 +3,8 @@ use Rattle.std.proofs.Common.{◌≡◌, ℕ, zero, suc, ◌+◌, ◌<◌, Bool,
 use Rattle.std.proofs.lemmas.List.{append-nil}
 use Rattle.twkb_head.specs.Parts.{Then, Sequence, Announced}
 use Rattle.twkb_head.specs.BegunHeader.{Field}
-use Rattle.twkb_head.specs.Plan.{Plan, done, ask, Spelled, Stops, bind, many, measure, optional}
+use Rattle.twkb_head.specs.Devices.Plan.{Plan, done, ask, bind, many, measure, optional}
+use Rattle.twkb_head.proofs.Spelling.{Spelled, Stops}
 
 -- one plan and then another
 pub bind_spelled : {A B : Type 0} (p : Plan A) (k : A → Plan B) (y : B) (bytes : List ℕ) → Spelled (bind p k) y bytes

@@ -6,9 +6,10 @@ use Rattle.twkb_head.specs.Header.{Header, IsHeader}
 use Rattle.twkb_head.specs.BegunHeader.{Field, type_field, byte_field, number_field, coordinate_field, IsBegunHeader, IsAllowedUnder, deepest}
 use Rattle.twkb_head.specs.Head.{IsHeadAt}
 use Rattle.twkb_head.specs.Refusal.{IsWrongField, IsRefusedHead}
-use Rattle.twkb_head.specs.Plan.{Fault, fault, cut_byte, judge_kind, kind_of_code, run}
-use Rattle.twkb_head.specs.HeadPlan.{HeadValue, head_plan}
-use Rattle.twkb_head.specs.Reader.{Answer, read, Fails}
+use Rattle.twkb_head.proofs.Spelling.{Fault, fault, run}
+use Rattle.twkb_head.specs.Devices.Plan.{cut_byte, judge_kind, kind_of_code}
+use Rattle.twkb_head.specs.Devices.HeadPlan.{HeadValue, head_plan}
+use Rattle.twkb_head.specs.Devices.Reader.{Answer, read, Fails}
 use Rattle.twkb_num.proofs.CursorLemmas.{rest-passed}
 use Rattle.twkb_head.specs.declared.kinds.Kind.{Kind as KindOf}
 use Rattle.twkb_head.specs.declared.kinds.Kind.TheVariants.{Point, LineString, Polygon, MultiPoint, MultiLineString, MultiPolygon, GeometryCollection}

@@ -2,17 +2,18 @@
 use Rattle.std.proofs.Common.{◌≡◌, ℕ, Option, Some, None, option_map, is_some, IfSome, Bool, true, false, ◌&&◌, ◌||◌, ℤ, ◌+ℤ◌, Ok, refl, sym, ap, ◌∙◌}
 use Rattle.twkb_num.specs.Cursor.{Reading, passed, IsMoved}
 use Rattle.twkb_num.specs.Varint.{SpellsSigned, SpellsTwoSigned}
-use Rattle.twkb_num.proofs.PairLaws.{moved-two}
+use Rattle.twkb_num.proofs.PairLaws.{IsMoved-two}
 use Rattle.twkb_head.specs.Header.{has_bit, z_in, m_in}
-use Rattle.twkb_head.specs.Reader.{Reader, viewed, byte_at, number_at, optional_at}
-use Rattle.twkb_head.specs.HeadReader.{head_with, kind_from_type, range_from, bounds_from, head_at}
+use Rattle.twkb_head.specs.Devices.Reader.{Reader, viewed, byte_at, number_at, optional_at}
+use Rattle.twkb_head.specs.Devices.HeadReader.{head_with, kind_from_type, range_from, bounds_from, head_at}
 use Rattle.twkb_head.specs.declared.kinds.Kind.{Kind}
 use Rattle.twkb_head.specs.declared.boxes.Bounds.{Bounds}
 use Rattle.twkb_head.specs.declared.header.BoxField.{BoxField}
 use Rattle.twkb_head.specs.declared.header.Head.{Head}
 use Rattle.twkb_head.specs.declared.raw.RawBox.{RawBox}
 use Rattle.twkb_head.specs.declared.raw.RawHead.{RawHead}
-use Rattle.twkb_head.specs.Raw.{ends_of, raw_bounds, whole_head, IsRangeIf, AreFieldsOf}
+use Rattle.twkb_head.specs.Raw.{ends_of, raw_bounds, whole_head}
+use Rattle.twkb_head.specs.Devices.Raw.{IsRangeIf, AreFieldsOf}
 use Rattle.twkb_head.proofs.Steps.{read_signed}
 
 pub head_is : (levels : ℕ) (r a b c d e : Reading) (kind : Kind) (xy : ℤ) (metadata : ℕ) (extended size : Option ℕ) (bounds : Option Bounds)
@@ -44,7 +45,7 @@ pub pair_range : (minimum extent : ℤ) (old new : Reading) → SpellsTwoSigned 
 unfolding range_from
 pair_range minimum extent old new spells moved =
     let two = spells.2 in
-    let way = moved-two old new two.front two.behind moved two.whole in
+    let way = IsMoved-two old new two.front two.behind moved two.whole in
     let first : SpellsSigned (passed old way.0) minimum = (spells.0, rw way.3 two.first, spells.3) in
     let second : SpellsSigned (passed way.0 new) extent = (spells.1, rw way.4 two.second, spells.4) in
     rw (read_signed old way.0 minimum first way.1, read_signed way.0 new extent second way.2) refl

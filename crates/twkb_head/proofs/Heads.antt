@@ -8,8 +8,9 @@ use Rattle.twkb_num.specs.Varint.{Spells, sum_of_groups}
 use Rattle.twkb_head.specs.Parts.{Then, Sequence, Announced}
 use Rattle.twkb_head.specs.Header.{Header, IsSigned, IsHeader, IsByte, IsBox, box_numbers, axes_of, axes_with, z_in, m_in, code_of, has_bit, has_ids}
 use Rattle.twkb_head.specs.BegunHeader.{Field, IsAllowedUnder, IsStart, IsBegunHeader, type_due, metadata_due, extended_due, size_due, box_due}
-use Rattle.twkb_head.specs.Plan.{type_byte, byte, number, judge, judge_kind, kind_of_code, Plan, done, Spelled, Stops, measure, optional, type_plan, byte_plan, number_plan, signeds_plan}
-use Rattle.twkb_head.specs.HeadPlan.{ranges_of, box_plan, HeadValue, kind_from, head_from, head_plan, after_type, after_metadata, after_extended, after_size}
+use Rattle.twkb_head.specs.Devices.Plan.{type_byte, byte, number, judge, judge_kind, kind_of_code, Plan, done, measure, optional, type_plan, byte_plan, number_plan, signeds_plan}
+use Rattle.twkb_head.proofs.Spelling.{Spelled, Stops}
+use Rattle.twkb_head.specs.Devices.HeadPlan.{ranges_of, box_plan, HeadValue, kind_from, head_from, head_plan, after_type, after_metadata, after_extended, after_size}
 use Rattle.twkb_head.proofs.Combinators.{bind_spelled, spelled_bind, bind_stops, stops_first, stops_then, done_spelled, spelled_done, done_stops, measure_spelled, spelled_measure, measure_stops, stops_measure, optional_spelled, spelled_optional, optional_stops, stops_optional}
 use Rattle.twkb_head.proofs.Leaves.{leaf_spelled, spelled_leaf, leaf_stops, byte_spelled, spelled_byte, number_spelled, spelled_number, signeds_spelled, spelled_signeds, signeds_stops, stops_signeds}
 

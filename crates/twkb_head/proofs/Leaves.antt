@@ -6,7 +6,8 @@ use Rattle.twkb_num.specs.Varint.{Spells, sum_of_groups, zigzag_value}
 use Rattle.twkb_head.specs.Parts.{Sequence, Times}
 use Rattle.twkb_head.specs.Header.{IsByte, IsSigned}
 use Rattle.twkb_head.specs.BegunHeader.{Field, number_field, IsFewer}
-use Rattle.twkb_head.specs.Plan.{Request, byte, number, coordinate, field_of, fits, judge, done, ask, IsGood, Spelled, Stops, byte_plan, number_plan, signed_plan, signeds_plan, coordinate_plan}
+use Rattle.twkb_head.specs.Devices.Plan.{Request, byte, number, coordinate, field_of, fits, judge, done, ask, byte_plan, number_plan, signed_plan, signeds_plan, coordinate_plan}
+use Rattle.twkb_head.proofs.Spelling.{IsGood, Spelled, Stops}
 use Rattle.twkb_head.proofs.Combinators.{FitAll, many_spelled, spelled_many, many_stops, stops_many}
 
 pub leaf_spelled : {A : Type 0} (r : Request) (g : List ℕ → A) (y : A) (bytes : List ℕ) → Spelled (ask r (λ field. done (g field))) y bytes → IsGood r bytes × (y ≡ g bytes)

@@ -1,3 +1,5 @@
+-- What is proved of headers: fields and their cuts, plans, readers, and what the definitions say.
+pub mod Spelling
 pub mod FieldCuts
 pub mod Plans
 pub mod Combinators

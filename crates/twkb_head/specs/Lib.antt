@@ -1,16 +1,14 @@
-pub mod Parts
-pub mod Header
-pub mod BegunHeader
-pub mod Head
-pub mod Refusal
-pub mod Holds
-pub mod Laws
-pub mod Plan
-pub mod HeadPlan
-pub mod Reader
-pub mod HeadReader
-pub mod Raw
+-- In reading order.
 pub use Rattle.twkb_num.specs.Cursor
 pub use Rattle.twkb_num.specs.Varint
 pub use Rattle.twkb_num.specs.Units
+pub mod Parts
+pub mod Header
+pub mod Holds
+pub mod Head
+pub mod BegunHeader
+pub mod Refusal
+pub mod Raw
 pub mod Spelled
+pub mod Laws
+pub mod Devices

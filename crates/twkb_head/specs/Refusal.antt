@@ -1,6 +1,8 @@
 -- Why no header stands at a place: the first field that can't follow, and how many bytes showed it.
 use Rattle.std.specs.Prelude.{◌≡◌, ℕ, ◌+◌, ◌-◌, ◌%◌, ◌≤◌, List, [], ◌∷◌, ◌++◌, length, drop, ◌⊎◌}
 use Rattle.twkb_num.specs.Cursor.{Reading}
+use Rattle.twkb_num.specs.declared.varint.NumFault.{NumFault}
+use Rattle.twkb_num.specs.declared.varint.NumFault.TheVariants.{Cut as TooShort, Long}
 use Rattle.twkb_num.specs.Varint.{IsCut, IsLong}
 use Rattle.twkb_head.specs.declared.kinds.Kind.TheVariants.{GeometryCollection}
 use Rattle.twkb_head.specs.declared.refusal.Why.{Why}
@@ -44,3 +46,8 @@ looked_at_field Range f = 0
 -- how many bytes are looked at from the place of a reading until it is refused
 abbrev pub looked_at_until : Malformed → Reading → ℕ
 looked_at_until m r = m.offset - r.place + looked_at_field m.why (drop m.offset r.bytes)
+
+-- why a number is malformed
+abbrev pub why_of : NumFault → Why
+why_of TooShort = Cut
+why_of Long = Varint

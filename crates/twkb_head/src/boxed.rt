@@ -3,10 +3,11 @@ ghost use Rattle.std.specs.Prelude.{◌≡◌, ◌-◌, ◌^◌, ◌+ℤ◌, ◌
 ghost use Rattle.twkb_num.specs.Cursor.{passed, IsMoved};
 ghost use Rattle.twkb_num.specs.Units.{IsPrecision};
 ghost use Rattle.twkb_head.specs.BegunHeader.{deepest};
-ghost use Rattle.twkb_head.specs.Raw.{raw_bounds, whole_head, AreFieldsOf, AreNear, IsNear};
+ghost use Rattle.twkb_head.specs.Raw.{raw_bounds, whole_head, AreNear, IsNear};
+ghost use Rattle.twkb_head.specs.Devices.Raw.{AreFieldsOf};
 ghost use Rattle.twkb_head.specs.Head.{IsHeadAt};
 ghost use Rattle.twkb_head.specs.Header.{has_bit};
-ghost use Rattle.twkb_head.specs.HeadReader.{range_from, bounds_from, head_at};
+ghost use Rattle.twkb_head.specs.Devices.HeadReader.{range_from, bounds_from, head_at};
 
 use crate::bits::{BOX, EMPTY, EXTENDED, SIZE, has_bit, ids_of};
 use crate::fields::{take_byte, take_number, take_type};

@@ -1,12 +1,13 @@
-//! The fields of a header, each read by itself; its two readers of numbers read those of a body too.
+//! The fields of a header, each read by itself.
 //!
 //! Each reader answers as the reader of the same name in `specs/` does (`byte_at`, `number_at`, ..): with the value, past
 //! the field, or with the field's place and what is wrong there.
 ghost use Rattle.std.specs.Prelude.{◌≡◌, ◌≤◌, ◌-◌, IfOk};
 ghost use Rattle.twkb_num.specs.Units.{IsPrecision};
 ghost use Rattle.twkb_head.specs.BegunHeader.{deepest};
-ghost use Rattle.twkb_head.specs.Reader.{byte_at, number_at, signed_at, why_of};
-ghost use Rattle.twkb_head.specs.HeadReader.{kind_from_type};
+ghost use Rattle.twkb_head.specs.Devices.Reader.{byte_at, number_at, signed_at};
+ghost use Rattle.twkb_head.specs.Devices.HeadReader.{kind_from_type};
+ghost use Rattle.twkb_head.specs.Refusal.{why_of};
 
 use crate::bits::precision_of;
 use crate::kinds::{Kind, kind_at};
@@ -66,14 +67,14 @@ pub fn take_signed(cursor: &mut Cursor) -> Result<i64, Malformed>
     ensures { signed_at cursor.old ≡ (result, cursor.new) }
 {
     match cursor.svarint() {
-        Ok(number) => Ok(number),
+        Ok(signed) => Ok(signed),
         Err(fault) => Err(malformed(cursor, fault)),
     }
 }
 
 /// A fault of the number at the place.
 #[cold]
-fn malformed(cursor: &Cursor, fault: NumFault) -> Malformed
+pub fn malformed(cursor: &Cursor, fault: NumFault) -> Malformed
     ensures offset { result.offset ≡ cursor.now.place }
     ensures why { result.why ≡ why_of fault }
 {

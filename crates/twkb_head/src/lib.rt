@@ -14,8 +14,7 @@
 //! [`read_flat_head`] one that has no extended dimensions byte, and [`read_sized_point_head`] that of a point with a size and
 //! nothing else. They are for a look ahead: where another header stands, or none, they answer `None`.
 //!
-//! [`take_number`] and [`take_signed`] read a single number in the same way. A header's numbers are read by them, and so
-//! are those of the body behind it.
+//! [`malformed`] makes a refusal of a fault of a number, for the numbers of the body behind a header too.
 //!
 //! A header has at most 93 bytes: three single ones, a size of ten, and a box of eight numbers of ten bytes each.
 //!
@@ -25,9 +24,8 @@
 //!
 //! What the bytes of a header are is said in `specs/Header.antt` (`IsHeader`), what a header that is begun may go on with
 //! in `specs/BegunHeader.antt`, and what the answers of `read_head` mean in `specs/Head.antt` and `specs/Refusal.antt`.
-//! [`laws`] has what holds of these definitions alone. The other files of `specs/` are devices of proofs: reading as a
-//! plan of fields (`Plan`, `HeadPlan`) and as the code does it, one field after another (`Reader`, `HeadReader`). Of these
-//! the contracts of the two readers of numbers name `number_at` and `signed_at` (`specs/Reader.antt`).
+//! [`laws`] has what holds of these definitions alone. `specs/Devices/` has devices of proofs, which nothing public names: reading as a
+//! plan of fields (`Plan`, `HeadPlan`) and as the code does it, one field after another (`Reader`, `HeadReader`).
 #![tactic(auto)]
 
 mod bits;
@@ -46,7 +44,7 @@ mod tests;
 
 pub use boxed::read_boxed_head;
 pub use boxes::{Bounds, Span, Vertex};
-pub use fields::{take_number, take_signed};
+pub use fields::malformed;
 pub use header::{BoxField, Head, SizeField};
 pub use kinds::{DEEPEST, Kind};
 pub use raw::{RawBox, RawHead, RawRange, read_flat_head, read_raw_head, read_sized_point_head};

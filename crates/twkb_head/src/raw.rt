@@ -3,11 +3,12 @@ ghost use Rattle.std.specs.Prelude.{◌≡◌, ◌-◌, ◌≤◌, ◌+ℤ◌, �
 ghost use Rattle.twkb_num.specs.Cursor.{Reading, passed, IsMoved};
 ghost use Rattle.twkb_num.specs.Units.{IsPrecision};
 ghost use Rattle.twkb_head.specs.BegunHeader.{deepest};
-ghost use Rattle.twkb_head.specs.Raw.{raw_bounds, whole_head, AreFieldsOf, IsRangeIf, IsSizedPoint};
+ghost use Rattle.twkb_head.specs.Raw.{raw_bounds, whole_head, IsSizedPoint};
+ghost use Rattle.twkb_head.specs.Devices.Raw.{AreFieldsOf, IsRangeIf};
 ghost use Rattle.twkb_head.specs.Head.{IsHeadAt};
 ghost use Rattle.twkb_head.specs.Header.{has_bit, z_in, m_in};
-ghost use Rattle.twkb_head.specs.HeadReader.{range_from, bounds_from, head_at};
-ghost use Rattle.twkb_head.specs.Reader.{byte_at, optional_at};
+ghost use Rattle.twkb_head.specs.Devices.HeadReader.{range_from, bounds_from, head_at};
+ghost use Rattle.twkb_head.specs.Devices.Reader.{byte_at, optional_at};
 
 use crate::bits::{BOX, EMPTY, EXTENDED, SIZE, has_bit, ids_of, m_of, z_of};
 use crate::fields::{take_byte, take_signed, take_type};
@@ -264,7 +265,7 @@ fn take_raw_range(cursor: &mut Cursor) -> Option<RawRange>
 
 /// The same of numbers that may be long or near the end of the bytes.
 #[inline(always)]
-#[tactic(auto, unfolding(crate::specs::HeadReader::range_from))]
+#[tactic(auto, unfolding(crate::specs::Devices::HeadReader::range_from))]
 pub fn take_long_range(cursor: &mut Cursor) -> Option<RawRange>
     ensures { IfSome result (λ range. range_from cursor.old ≡ (Ok (range.minimum, range.minimum +ℤ range.extent), cursor.new)) }
 {

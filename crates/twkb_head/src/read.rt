@@ -6,8 +6,8 @@ ghost use Rattle.twkb_head.specs.BegunHeader.{deepest};
 ghost use Rattle.twkb_head.specs.declared.refusal.Why.TheVariants.{Range};
 ghost use Rattle.twkb_head.specs.Head.{StartsWithHeader, IsHeadAt};
 ghost use Rattle.twkb_head.specs.Refusal.{IsRefusedHead, looked_at_until};
-ghost use Rattle.twkb_head.specs.Reader.{byte_at, number_at, optional_at};
-ghost use Rattle.twkb_head.specs.HeadReader.{head_at};
+ghost use Rattle.twkb_head.specs.Devices.Reader.{byte_at, number_at, optional_at};
+ghost use Rattle.twkb_head.specs.Devices.HeadReader.{head_at};
 
 use crate::bits::{BOX, EMPTY, EXTENDED, SIZE, has_bit, ids_of, m_of, z_of};
 use crate::boxes::Bounds;
@@ -54,7 +54,7 @@ pub fn read_head(cursor: &mut Cursor, depth: u8) -> Result<Head, Malformed>
 
 /// The fields of the header at the place, in order. A refusal leaves the cursor at the field that is wrong.
 #[inline(always)]
-#[tactic(auto, unfolding(crate::specs::HeadReader::head_at))]
+#[tactic(auto, unfolding(crate::specs::Devices::HeadReader::head_at))]
 fn take_head(cursor: &mut Cursor, depth: u8) -> Result<Head, Malformed>
     requires { depth ≤ deepest }
     ensures read { head_at (deepest - depth) cursor.old ≡ (result, cursor.new) }

@@ -11,10 +11,11 @@ use Rattle.twkb_body.specs.declared.answers.AuditFault.TheVariants.{Malformed as
 use Rattle.twkb_body.specs.Geometry.{Geometry, vertices}
 use Rattle.twkb_body.specs.Claims.{IsCertified}
 use Rattle.twkb_body.specs.Tight.{HasTightBoxes}
-use Rattle.twkb_body.specs.TightlyAudited.{IsAuditedBy, IsRefusedBy}
-use Rattle.twkb_layer.specs.Layer.{IsCertifiedLayer, IsCounted, vertex_count}
-use Rattle.twkb_layer.specs.Refusal.{refusal_of}
-use Rattle.twkb_layer.specs.Tight.{IsTightlyCounted, IsCountedBy, IsRefusedForBy}
+use Rattle.twkb_body.specs.Devices.TightlyAudited.{IsAuditedBy, IsRefusedBy}
+use Rattle.twkb_layer.specs.Layer.{IsCertifiedLayer, vertex_count}
+use Rattle.twkb_layer.specs.Devices.Layer.{IsCounted}
+use Rattle.twkb_layer.specs.Devices.Refusal.{refusal_of}
+use Rattle.twkb_layer.specs.Devices.Tight.{IsTightlyCounted, IsCountedBy, IsRefusedForBy}
 use Rattle.twkb_layer.proofs.Layers.{blob_some, layer_grows, layer_once, layer_short}
 use Rattle.twkb_layer.proofs.VertexCounts.{layer_few}
 

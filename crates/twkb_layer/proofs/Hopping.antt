@@ -12,16 +12,17 @@ use Rattle.twkb_head.specs.declared.header.Head.{Head}
 use Rattle.twkb_head.specs.declared.header.SizeField.{SizeField}
 use Rattle.twkb_head.specs.declared.header.BoxField.{BoxField}
 use Rattle.twkb_body.specs.Geometry.{Geometry, vertices, member_count}
-use Rattle.twkb_body.specs.Skimmed.{Config, hop_of, skimmed}
+use Rattle.twkb_body.specs.Devices.Skimmed.{Config, hop_of, skimmed}
 use Rattle.twkb_body.specs.Standing.{StandsAt}
 use Rattle.twkb_body.proofs.HeadStands.{hop_fits, hop_within, enter_hops}
 use Rattle.twkb_body.proofs.Remaining.{none_left}
 use Rattle.twkb_layer.specs.Directory.{is_missed}
 use Rattle.twkb_layer.specs.Hits.{cost}
 use Rattle.twkb_layer.specs.Layer.{size_of}
-use Rattle.twkb_layer.specs.Seeking.{Seeking, seeks, seeks_past, seeks_soundly}
-use Rattle.twkb_layer.specs.Raw.{IsRawWindow}
-use Rattle.twkb_layer.specs.Slots.{AreInner}
+use Rattle.twkb_layer.specs.Seeking.{Seeking, seeks, seeks_past}
+use Rattle.twkb_layer.specs.Devices.Seeking.{seeks_soundly}
+use Rattle.twkb_layer.specs.Devices.Raw.{IsRawWindow}
+use Rattle.twkb_layer.specs.Devices.Slots.{AreInner}
 use Rattle.twkb_layer.specs.Window.{is_inside, lie_apart}
 use Rattle.twkb_layer.specs.declared.raw.RawWindow.{RawWindow}
 use Rattle.twkb_layer.proofs.Raws.{misses_raw}

@@ -16,9 +16,10 @@ use Rattle.twkb_body.proofs.HeadStands.{has_head}
 use Rattle.twkb_body.proofs.Orders.{blob_order}
 use Rattle.twkb_body.proofs.VertexCounts.{blob_few}
 use Rattle.twkb_body.proofs.WalkLengths.{walk_all, walk_most, counts_all}
-use Rattle.twkb_layer.specs.Collecting.{SaysOf, HasPassed}
-use Rattle.twkb_layer.specs.Layer.{IsCertifiedLayer, IsCounted, AddsAtMost, header_size, size_of, told_from, blob_by_blob}
-use Rattle.twkb_layer.specs.Passing.{Nothing, nothing, stays, each}
+use Rattle.twkb_layer.specs.Devices.Collecting.{SaysOf, HasPassed}
+use Rattle.twkb_layer.specs.Layer.{IsCertifiedLayer, AddsAtMost, size_of, told_from, blob_by_blob}
+use Rattle.twkb_layer.specs.Devices.Layer.{IsCounted, header_size}
+use Rattle.twkb_layer.specs.Devices.Passing.{Nothing, nothing, stays, each}
 use Rattle.twkb_layer.specs.Rows.{row_of}
 use Rattle.twkb_layer.specs.declared.row.Row.{Row}
 use Rattle.twkb_layer.proofs.Layers.{layer_once, layer_short}
@@ -136,8 +137,8 @@ module _ {S : Type 0} (told : ℕ → ℕ → Geometry → S) where
     pub read_few : read ≤ 2 * place
     pub within : place ≤ length bytes
 
-  pub collect_start : (bytes : List ℕ) (count0 : ℕ) (trees : List Geometry) (says : List S) (spare : ℕ) → IsCertifiedLayer trees bytes → count0 < 2 ^ 64 → says ≡ [] → length trees ≤ spare → Collecting bytes count0 0 count0 0 says spare
-  collect_start bytes count0 trees says spare whole small none room = record {
+  pub collect_begins : (bytes : List ℕ) (count0 : ℕ) (trees : List Geometry) (says : List S) (spare : ℕ) → IsCertifiedLayer trees bytes → count0 < 2 ^ 64 → says ≡ [] → length trees ≤ spare → Collecting bytes count0 0 count0 0 says spare
+  collect_begins bytes count0 trees says spare whole small none room = record {
     trees = trees;
     whole = whole;
     rest = trees;
@@ -152,9 +153,9 @@ module _ {S : Type 0} (told : ℕ → ℕ → Geometry → S) where
   }
 
   -- one blob more
-  pub collect_step : (bytes : List ℕ) (count0 : ℕ) (now : Reading) (blob : ℕ) (says : List S) (spare : ℕ) (s : Collecting bytes count0 now.place now.count blob says spare) (n : Next s.rest bytes now.place)
+  pub collect_goes_on : (bytes : List ℕ) (count0 : ℕ) (now : Reading) (blob : ℕ) (says : List S) (spare : ℕ) (s : Collecting bytes count0 now.place now.count blob says spare) (n : Next s.rest bytes now.place)
       (new : Reading) → HasPassed n.tree now new → (more : List S) (left : ℕ) → more ≡ says ++ told blob now.place n.tree ∷ [] → spare ≤ left + 1 → Collecting bytes count0 new.place new.count (blob + 1) more left
-  collect_step bytes count0 now blob says spare s n new past more left m r =
+  collect_goes_on bytes count0 now blob says spare s n new past more left m r =
       let place = now.place in
       let behind = told_from told (blob + 1) (place + size_of n.tree) n.after in record {
         trees = s.trees;
@@ -178,9 +179,9 @@ module _ {S : Type 0} (told : ℕ → ℕ → Geometry → S) where
       let few = layer_short s.trees bytes s.whole.layer in
       (omega (arith, s.spare_is, ap length n.is), omega (arith, s.blob_is, ap length n.is, few))
 
-  pub collect_end : (bytes : List ℕ) (count0 place count blob : ℕ) (says : List S) (spare : ℕ) → Collecting bytes count0 place count blob says spare → length bytes ≤ place
+  pub collect_ends : (bytes : List ℕ) (count0 place count blob : ℕ) (says : List S) (spare : ℕ) → Collecting bytes count0 place count blob says spare → length bytes ≤ place
       → (trees : List Geometry) → IsCertifiedLayer trees bytes → says ≡ blob_by_blob told trees
-  collect_end bytes count0 place count blob says spare s le trees h =
+  collect_ends bytes count0 place count blob says spare s le trees h =
       let none = none_left s.rest bytes place s.left le in
       sym (s.told_are ∙ (ap (λ ts. says ++ told_from told blob place ts) none ∙ append-nil says)) ∙ ap (blob_by_blob told) (layer_once s.trees trees bytes s.whole.layer h.layer)
 

@@ -1,10 +1,9 @@
 -- A scan with the slots of a directory, on its way from slot to slot.
 use Rattle.std.proofs.Common.{◌≡◌, ℕ, ℤ, ◌+◌, ◌-◌, ◌^◌, ◌<◌, ◌≤◌, Bool, true, false, cond, List, [], ◌∷◌, ◌++◌, length, take, drop, get_or, Option, Some, None, option_map, refl, ap, subst, sym, ◌∙◌, arith, sum_by, slice_set, length-drop, append_assoc}
-use Rattle.std.specs.List.{list_any}
+use Rattle.std.specs.List.{list_any, AllByRecursion}
 use Rattle.std.proofs.lemmas.List.{append-nil, drop_more, drop_all, length-take}
 use Rattle.std.proofs.lemmas.List.Elements.{recursion_from_All}
 use Rattle.std.proofs.lemmas.List.Sums.{sum_by-cons}
-use Rattle.std.specs.List.{AllByRecursion}
 use Rattle.twkb_num.specs.Cursor.{added}
 use Rattle.twkb_head.specs.declared.boxes.Vertex.{Vertex}
 use Rattle.twkb_head.specs.declared.boxes.Bounds.{Bounds}
@@ -14,15 +13,15 @@ use Rattle.twkb_head.specs.Holds.{Holds}
 use Rattle.twkb_body.specs.Geometry.{Geometry, geometry, vertices}
 use Rattle.twkb_body.specs.Standing.{StandsAt}
 use Rattle.twkb_body.proofs.Entering.{reaches, boxed_holds}
-use Rattle.twkb_layer.specs.Directory.{Place, box_of, place_of, places, is_missed, directory_cost}
+use Rattle.twkb_layer.specs.Directory.{Entry, box_of, entry_of, entries, is_missed, directory_cost}
 use Rattle.twkb_layer.specs.Hits.{hits, cost, filled}
 use Rattle.twkb_layer.specs.Layer.{IsCertifiedLayer, size_of, told_from}
-use Rattle.twkb_layer.specs.Slots.{Said, unboxed, place_with, places_from, places_of}
-use Rattle.twkb_layer.specs.Seeking.{outside}
+use Rattle.twkb_layer.specs.Devices.Slots.{Said, unboxed, entry_with, entries_from, entries_of}
+use Rattle.twkb_layer.specs.Devices.Seeking.{outside}
 use Rattle.twkb_layer.specs.Window.{is_inside, box_misses}
 use Rattle.twkb_layer.specs.declared.hits.Hit.{Hit}
 use Rattle.twkb_layer.proofs.Layers.{blob_some, layer_once, layer_short}
-use Rattle.twkb_layer.proofs.Scanning.{hits_from, Next, next_of, filled_none, hits_step, found_step, room_step, found_fits, added_twice, counted_none}
+use Rattle.twkb_layer.proofs.Scanning.{hits_from, Next, next_of, filled-nil, hits_go_on, found_goes_on, room_goes_on, found_fits, added_twice, counted_none}
 
 -- ---- a box that misses
 
@@ -55,7 +54,7 @@ pub record Looking (w : Bounds) (bytes : List ℕ) (count0 : ℕ) (room0 : List 
   pub place : ℕ
   pub seen : List Hit
   pub left : IsCertifiedLayer rest (drop place bytes)
-  pub places_are : places_from beyond slots ≡ told_from place_of blob place rest
+  pub entries_are : entries_from beyond slots ≡ told_from entry_of blob place rest
   pub hits_are : hits trees w ≡ seen ++ hits_from blob place rest w
   pub found_is : found ≡ length seen
   pub room_is : room ≡ filled seen room0
@@ -65,18 +64,18 @@ pub record Looking (w : Bounds) (bytes : List ℕ) (count0 : ℕ) (room0 : List 
   pub within : place ≤ length bytes
   pub blob_is : blob + length rest ≡ length trees
 
-pub look_start : (w : Bounds) (bytes : List ℕ) (count0 : ℕ) (room0 : List Hit) (slots : List Said) (trees : List Geometry) → IsCertifiedLayer trees bytes → places_of slots ≡ places trees → count0 < 2 ^ 64 → Looking w bytes count0 room0 (unboxed 0) slots count0 0 0 room0
-look_start w bytes count0 room0 slots trees whole are small = record {
+pub look_begins : (w : Bounds) (bytes : List ℕ) (count0 : ℕ) (room0 : List Hit) (slots : List Said) (trees : List Geometry) → IsCertifiedLayer trees bytes → entries_of slots ≡ entries trees → count0 < 2 ^ 64 → Looking w bytes count0 room0 (unboxed 0) slots count0 0 0 room0
+look_begins w bytes count0 room0 slots trees whole are small = record {
   trees = trees;
   whole = whole;
   rest = trees;
   place = 0;
   seen = [];
   left = whole;
-  places_are = are;
+  entries_are = are;
   hits_are = refl;
   found_is = refl;
-  room_is = filled_none room0;
+  room_is = filled-nil room0;
   count_is = refl;
   count_fits = omega (arith, small);
   found_small = omega arith;
@@ -94,7 +93,7 @@ look_beyond w bytes count0 room0 beyond slot slots count blob found room s is = 
   place = s.place;
   seen = s.seen;
   left = s.left;
-  places_are = ap (λ (b : Bool). cond b (places_from slot slots) (place_with beyond slot ∷ places_from beyond slots)) is ∙ s.places_are;
+  entries_are = ap (λ (b : Bool). cond b (entries_from slot slots) (entry_with beyond slot ∷ entries_from beyond slots)) is ∙ s.entries_are;
   hits_are = s.hits_are;
   found_is = s.found_is;
   room_is = s.room_is;
@@ -106,41 +105,41 @@ look_beyond w bytes count0 room0 beyond slot slots count blob found room s is = 
 }
 
 -- the blob of a slot
-pub record Here (rest : List Geometry) (bytes : List ℕ) (place : ℕ) (beyond : Said) (slots : List Said) (blob : ℕ) (e : Place) : Type 0 where
+pub record Here (rest : List Geometry) (bytes : List ℕ) (place : ℕ) (beyond : Said) (slots : List Said) (blob : ℕ) (e : Entry) : Type 0 where
   pub next : Next rest bytes place
   pub offset : e.offset ≡ place
   pub bounds : e.bounds ≡ box_of next.tree
-  pub others : places_from beyond slots ≡ told_from place_of (blob + 1) (place + size_of next.tree) next.after
+  pub others : entries_from beyond slots ≡ told_from entry_of (blob + 1) (place + size_of next.tree) next.after
 
-some_left : (rest : List Geometry) (bytes : List ℕ) (blob place : ℕ) (p : Place) (ps : List Place) → p ∷ ps ≡ told_from place_of blob place rest → IsCertifiedLayer rest (drop place bytes) → place < length bytes
+some_left : (rest : List Geometry) (bytes : List ℕ) (blob place : ℕ) (p : Entry) (ps : List Entry) → p ∷ ps ≡ told_from entry_of blob place rest → IsCertifiedLayer rest (drop place bytes) → place < length bytes
 some_left [] bytes blob place p ps e left = absurd (cc (e))
 some_left (tree ∷ trees) bytes blob place p ps e left = omega (arith, length-drop place bytes, blob_some tree (take (size_of tree) (drop place bytes)) left.layer.0, length-take (size_of tree) (drop place bytes))
 
-first_of_places : (rest : List Geometry) (bytes : List ℕ) (place : ℕ) (beyond : Said) (slots : List Said) (blob : ℕ) (e : Place) → e ∷ places_from beyond slots ≡ told_from place_of blob place rest → Next rest bytes place → Here rest bytes place beyond slots blob e
-first_of_places rest bytes place beyond slots blob e is n =
-    let both : e ∷ places_from beyond slots ≡ (record { offset = place; bounds = box_of n.tree } ∷ told_from place_of (blob + 1) (place + size_of n.tree) n.after) = is ∙ ap (told_from place_of blob place) n.is in
+first_of_entries : (rest : List Geometry) (bytes : List ℕ) (place : ℕ) (beyond : Said) (slots : List Said) (blob : ℕ) (e : Entry) → e ∷ entries_from beyond slots ≡ told_from entry_of blob place rest → Next rest bytes place → Here rest bytes place beyond slots blob e
+first_of_entries rest bytes place beyond slots blob e is n =
+    let both : e ∷ entries_from beyond slots ≡ (record { offset = place; bounds = box_of n.tree } ∷ told_from entry_of (blob + 1) (place + size_of n.tree) n.after) = is ∙ ap (told_from entry_of blob place) n.is in
     let first : e ≡ record { offset = place; bounds = box_of n.tree } = cc (both) in
-    record { next = n; offset = ap (λ (p : Place). p.offset) first; bounds = ap (λ (p : Place). p.bounds) first; others = cc (both) }
+    record { next = n; offset = ap (λ (p : Entry). p.offset) first; bounds = ap (λ (p : Entry). p.bounds) first; others = cc (both) }
 
-pub here_of : (w : Bounds) (bytes : List ℕ) (count0 : ℕ) (room0 : List Hit) (beyond slot : Said) (slots : List Said) (count blob found : ℕ) (room : List Hit) (s : Looking w bytes count0 room0 beyond (slot ∷ slots) count blob found room) (e : Place) → e ≡ place_with beyond slot → false ≡ slot.beyond
+pub here_of : (w : Bounds) (bytes : List ℕ) (count0 : ℕ) (room0 : List Hit) (beyond slot : Said) (slots : List Said) (count blob found : ℕ) (room : List Hit) (s : Looking w bytes count0 room0 beyond (slot ∷ slots) count blob found room) (e : Entry) → e ≡ entry_with beyond slot → false ≡ slot.beyond
     → Here s.rest bytes s.place beyond slots blob e
 here_of w bytes count0 room0 beyond slot slots count blob found room s e is own =
-    let left : e ∷ places_from beyond slots ≡ told_from place_of blob s.place s.rest = ap (λ (p : Place). p ∷ places_from beyond slots) is ∙ (ap (λ (b : Bool). cond b (places_from slot slots) (place_with beyond slot ∷ places_from beyond slots)) own ∙ s.places_are) in
-    first_of_places s.rest bytes s.place beyond slots blob e left (next_of s.rest bytes s.place s.left (some_left s.rest bytes blob s.place _ _ left s.left))
+    let left : e ∷ entries_from beyond slots ≡ told_from entry_of blob s.place s.rest = ap (λ (p : Entry). p ∷ entries_from beyond slots) is ∙ (ap (λ (b : Bool). cond b (entries_from slot slots) (entry_with beyond slot ∷ entries_from beyond slots)) own ∙ s.entries_are) in
+    first_of_entries s.rest bytes s.place beyond slots blob e left (next_of s.rest bytes s.place s.left (some_left s.rest bytes blob s.place _ _ left s.left))
 
 -- it stands there
-pub here_stands : (rest : List Geometry) (bytes now : List ℕ) (place : ℕ) (beyond : Said) (slots : List Said) (blob : ℕ) (e : Place) (h : Here rest bytes place beyond slots blob e) → now ≡ bytes → StandsAt h.next.tree 1 now e.offset
+pub here_stands : (rest : List Geometry) (bytes now : List ℕ) (place : ℕ) (beyond : Said) (slots : List Said) (blob : ℕ) (e : Entry) (h : Here rest bytes place beyond slots blob e) → now ≡ bytes → StandsAt h.next.tree 1 now e.offset
 here_stands rest bytes now place beyond slots blob e h same = rw (same, h.offset) h.next.stands
 
 -- and its number fits
-pub here_fits : (w : Bounds) (bytes : List ℕ) (count0 : ℕ) (room0 : List Hit) (beyond slot : Said) (slots : List Said) (count blob found : ℕ) (room : List Hit) (s : Looking w bytes count0 room0 beyond (slot ∷ slots) count blob found room) (e : Place) → Here s.rest bytes s.place beyond slots blob e
+pub here_fits : (w : Bounds) (bytes : List ℕ) (count0 : ℕ) (room0 : List Hit) (beyond slot : Said) (slots : List Said) (count blob found : ℕ) (room : List Hit) (s : Looking w bytes count0 room0 beyond (slot ∷ slots) count blob found room) (e : Entry) → Here s.rest bytes s.place beyond slots blob e
     → blob < length bytes
 here_fits w bytes count0 room0 beyond slot slots count blob found room s e h = omega (arith, s.blob_is, ap length h.next.is, layer_short s.trees bytes s.whole.layer)
 
-pub look_step : (w : Bounds) (bytes : List ℕ) (count0 : ℕ) (room0 : List Hit) (beyond slot : Said) (slots : List Said) (count blob found : ℕ) (room : List Hit) (s : Looking w bytes count0 room0 beyond (slot ∷ slots) count blob found room) (e : Place) (n : Here s.rest bytes s.place beyond slots blob e)
+pub look_goes_on : (w : Bounds) (bytes : List ℕ) (count0 : ℕ) (room0 : List Hit) (beyond slot : Said) (slots : List Said) (count blob found : ℕ) (room : List Hit) (s : Looking w bytes count0 room0 beyond (slot ∷ slots) count blob found room) (e : Entry) (n : Here s.rest bytes s.place beyond slots blob e)
     (reported : Hit) → reported ≡ record { blob = blob; offset = e.offset } → (new : ℕ) → new ≡ added count (directory_cost w n.next.tree) → (b : Bool) → b ≡ list_any (is_inside w) (vertices n.next.tree)
     → Looking w bytes count0 room0 beyond slots new (blob + 1) (cond b (found + 1) found) (cond b (slice_set room found reported) room)
-look_step w bytes count0 room0 beyond slot slots count blob found room s e h reported is_hit new adds b is =
+look_goes_on w bytes count0 room0 beyond slot slots count blob found room s e h reported is_hit new adds b is =
     let n = h.next in
     let place = s.place in
     let hit : Hit = record { blob = blob; offset = place } in
@@ -152,10 +151,10 @@ look_step w bytes count0 room0 beyond slot slots count blob found room s e h rep
       place = place + size_of n.tree;
       seen = s.seen ++ cond b (hit ∷ []) [];
       left = n.goes_on;
-      places_are = h.others;
-      hits_are = s.hits_are ∙ (ap (λ ts. s.seen ++ hits_from blob place ts w) n.is ∙ (ap (λ hs. s.seen ++ hs) (hits_step w blob place n.tree n.after b is) ∙ sym (append_assoc s.seen (cond b (hit ∷ []) []) (hits_from (blob + 1) (place + size_of n.tree) n.after w))));
-      found_is = found_step s.seen found hit b s.found_is;
-      room_is = ap (λ (h : Hit). cond b (slice_set room found h) room) named ∙ room_step s.seen room0 room found hit b s.found_is s.room_is;
+      entries_are = h.others;
+      hits_are = s.hits_are ∙ (ap (λ ts. s.seen ++ hits_from blob place ts w) n.is ∙ (ap (λ hs. s.seen ++ hs) (hits_go_on w blob place n.tree n.after b is) ∙ sym (append_assoc s.seen (cond b (hit ∷ []) []) (hits_from (blob + 1) (place + size_of n.tree) n.after w))));
+      found_is = found_goes_on s.seen found hit b s.found_is;
+      room_is = ap (λ (h : Hit). cond b (slice_set room found h) room) named ∙ room_goes_on s.seen room0 room found hit b s.found_is s.room_is;
       count_is = ap (λ (c : ℕ). added c (sum_by (directory_cost w) n.after)) adds ∙ (added_twice count (directory_cost w n.tree) (sum_by (directory_cost w) n.after) ∙ (ap (added count) (sym (sum_by-cons (directory_cost w) n.tree n.after)) ∙ (ap (λ ts. added count (sum_by (directory_cost w) ts)) (sym n.is) ∙ s.count_is)));
       count_fits = omega (arith, adds);
       found_small = found_fits b found blob s.found_small;
@@ -175,14 +174,14 @@ pub record Found (w : Bounds) (count0 : ℕ) (room0 : List Hit) (count found : �
   pub room_is : room ≡ filled (hits trees w) room0
   pub count_is : count ≡ added count0 (sum_by (directory_cost w) trees)
 
-no_places : (blob place : ℕ) (rest : List Geometry) → [] ≡ told_from place_of blob place rest → rest ≡ []
-no_places blob place [] e = refl
-no_places blob place (t ∷ ts) e = absurd (cc (e))
+no_entries : (blob place : ℕ) (rest : List Geometry) → [] ≡ told_from entry_of blob place rest → rest ≡ []
+no_entries blob place [] e = refl
+no_entries blob place (t ∷ ts) e = absurd (cc (e))
 
-pub look_end : (w : Bounds) (bytes : List ℕ) (count0 : ℕ) (room0 : List Hit) (beyond : Said) (slots : List Said) (at count blob found : ℕ) (room : List Hit) → Looking w bytes count0 room0 beyond (drop at slots) count blob found room → length slots ≤ at
+pub look_ends : (w : Bounds) (bytes : List ℕ) (count0 : ℕ) (room0 : List Hit) (beyond : Said) (slots : List Said) (at count blob found : ℕ) (room : List Hit) → Looking w bytes count0 room0 beyond (drop at slots) count blob found room → length slots ≤ at
     → (trees : List Geometry) → IsCertifiedLayer trees bytes → Found w count0 room0 count found room trees
-look_end w bytes count0 room0 beyond slots at count blob found room s le trees h =
-    let none = no_places blob s.place s.rest (sym (ap (places_from beyond) (drop_all at slots le)) ∙ s.places_are) in
+look_ends w bytes count0 room0 beyond slots at count blob found room s le trees h =
+    let none = no_entries blob s.place s.rest (sym (ap (entries_from beyond) (drop_all at slots le)) ∙ s.entries_are) in
     let same : s.trees ≡ trees = layer_once s.trees trees bytes s.whole.layer h.layer in
     let all : hits s.trees w ≡ s.seen = s.hits_are ∙ (ap (λ ts. s.seen ++ hits_from blob s.place ts w) none ∙ append-nil s.seen) in
     let counts : count ≡ added count0 (sum_by (directory_cost w) s.trees) = counted_none count s.count_fits ∙ (ap (λ ts. added count (sum_by (directory_cost w) ts)) (sym none) ∙ s.count_is) in

@@ -10,11 +10,11 @@ use Rattle.twkb_num.specs.Units.{units_of}
 use Rattle.twkb_head.specs.declared.boxes.Span.{Span}
 use Rattle.twkb_head.specs.declared.boxes.Bounds.{Bounds}
 use Rattle.twkb_head.specs.Head.{span_at}
-use Rattle.twkb_layer.specs.declared.raw.RawRange.{RawRange}
+use Rattle.twkb_layer.specs.declared.raw.RawEnds.{RawEnds}
 use Rattle.twkb_layer.specs.declared.raw.RawWindow.{RawWindow}
 use Rattle.twkb_layer.specs.declared.slots.Slot.TheInside.{Inside}
-use Rattle.twkb_layer.specs.Raw.{IsInner, IsRawRange, IsRawWindow, precision_of}
-use Rattle.twkb_layer.specs.Slots.{Said, AreInner, HasInnerEnds, IsJudged, range_in, slot_says}
+use Rattle.twkb_layer.specs.Devices.Raw.{IsInner, IsRawEnds, IsRawWindow, precision_of}
+use Rattle.twkb_layer.specs.Devices.Slots.{Said, AreInner, HasInnerEnds, IsJudged, range_in, slot_says}
 use Rattle.twkb_layer.specs.Window.{lie_apart}
 
 is_less : (a b : ℤ) → a <ℤ b → int_lt a b ≡ true
@@ -129,7 +129,7 @@ less_fits hi (negsuc k) fits some rest = absurd (omega (arith, ints, some))
 -- ---- a box against a window
 
 -- A range lies apart in units exactly where its ends do in raw integers.
-pub apart : (p : ℤ) (range : Span) (raw : RawRange) → IsRawRange p range raw → (ends : ℤ × ℤ) → AreInner ends → (int_lt ends.1 raw.least || int_lt raw.greatest ends.0) ≡ lie_apart (span_at p ends) range
+pub apart : (p : ℤ) (range : Span) (raw : RawEnds) → IsRawEnds p range raw → (ends : ℤ × ℤ) → AreInner ends → (int_lt ends.1 raw.least || int_lt raw.greatest ends.0) ≡ lie_apart (span_at p ends) range
 apart p range raw is ends inner = sym (λ j. is.below ends.1 inner.second j || is.above ends.0 inner.first j)
 
 -- the same of a box in X and Y
@@ -151,9 +151,9 @@ judged window l slot is inner near raw at = record {
 -- ---- the windows at all precisions
 
 -- a range whose ends compare at the unit of a precision
-pub raw_range : (p : ℤ) (range : Span) (unit : ℤ) (raw : RawRange) → unit ≡ units_of (pos 1) p
-    → ((c : ℤ) → IsInner c → int_lt (c *ℤ unit) range.lo ≡ int_lt c raw.least) → ((c : ℤ) → IsInner c → int_lt range.hi (c *ℤ unit) ≡ int_lt raw.greatest c) → IsRawRange p range raw
-raw_range p range unit raw is below above =
+pub raw_ends : (p : ℤ) (range : Span) (unit : ℤ) (raw : RawEnds) → unit ≡ units_of (pos 1) p
+    → ((c : ℤ) → IsInner c → int_lt (c *ℤ unit) range.lo ≡ int_lt c raw.least) → ((c : ℤ) → IsInner c → int_lt range.hi (c *ℤ unit) ≡ int_lt raw.greatest c) → IsRawEnds p range raw
+raw_ends p range unit raw is below above =
     let one : pos (10 ^ unsigned_abs (pos 7 -ℤ p)) ≡ unit = ap pos (omega arith) ∙ sym is in
     record {
       below = λ c inner. ap (λ (u : ℤ). int_lt (c *ℤ u) range.lo) one ∙ below c inner;

@@ -10,10 +10,6 @@ use Rattle.twkb_body.specs.Claims.{IsCertified}
 abbrev pub size_of : Geometry → ℕ
 size_of tree = (lengths_of tree).whole
 
--- how many of them its header takes
-abbrev pub header_size : Geometry → ℕ
-header_size tree = (lengths_of tree).header
-
 -- The bytes are these blobs, one after another, where the deepest geometry may stand at the limit. Each is cut off by its own
 -- length, so that no cut has to be named: `Laws` says that it is the same to cut anywhere.
 abbrev pub IsLayerUnder : ℕ → List Geometry → List ℕ → Type 0
@@ -56,10 +52,3 @@ pub record AddsAtMost (most old new : ℕ) : Type 0 where
 pub record Layer : Type 0 where
   pub bytes : List ℕ
   pub count : ℕ
-
--- what a certified layer's fields say of its bytes
-pub record IsCounted (bytes : List ℕ) (blobs vertices : ℕ) : Type 0 where
-  pub trees : List Geometry
-  pub layer : IsCertifiedLayer trees bytes
-  pub blobs_are : blobs ≡ length trees
-  pub vertices_are : vertices ≡ vertex_count trees

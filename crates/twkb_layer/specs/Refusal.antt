@@ -2,14 +2,11 @@
 use Rattle.std.specs.Prelude.{◌≡◌, ℕ, ◌<◌, ◌≤◌, List, take, drop, length, ◌⊎◌}
 use Rattle.twkb_head.specs.declared.refusal.Why.{Why}
 use Rattle.twkb_head.specs.declared.refusal.Why.TheVariants.{Cut, Varint, Kind, Depth, Range}
-use Rattle.twkb_body.specs.declared.answers.AuditFault.{AuditFault}
-use Rattle.twkb_body.specs.declared.answers.AuditFault.TheVariants.{Malformed as BadField, FalseClaim, Memory as NoMemory}
 use Rattle.twkb_layer.specs.declared.refusal.Refusal.{Refusal}
 use Rattle.twkb_layer.specs.declared.refusal.Refusal.TheVariants.{No, Memory}
 use Rattle.twkb_body.specs.Geometry.{Geometry}
 use Rattle.twkb_body.specs.Malformation.{IsMalformed}
 use Rattle.twkb_body.specs.Audited.{IsFalseClaim, HasLongList}
-use Rattle.twkb_body.specs.Found.{number_of}
 use Rattle.twkb_layer.specs.Layer.{IsCertifiedLayer}
 
 -- the number of a malformation among the refusals
@@ -54,9 +51,3 @@ IsRefusedFor Memory bytes = WantsMemory bytes
 abbrev pub NamesKind : Refusal → Type 0
 NamesKind (No blob offset kind) = (1 ≤ kind) × (kind ≤ 8)
 NamesKind Memory = Unit {0}
-
--- the answer of an audit of the blob of this number, as one of the layer
-abbrev pub refusal_of : ℕ → AuditFault → Refusal
-refusal_of blob (BadField m) = No blob m.offset (number_of_why m.why)
-refusal_of blob (FalseClaim offset claim) = No blob offset (number_of claim)
-refusal_of blob NoMemory = Memory

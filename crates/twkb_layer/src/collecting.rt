@@ -2,11 +2,12 @@
 ghost use Rattle.std.specs.Prelude.{◌≡◌, ◌+◌, ◌*◌, ◌<◌, ◌≤◌, ◌++◌, ◌∷◌, [], ℕ, List, length, IfSome};
 ghost use Rattle.twkb_num.specs.Cursor.{added};
 ghost use Rattle.twkb_num.specs.Units.{IsPrecision};
-ghost use Rattle.twkb_head.specs.Spelled.{AreSpelled};
+ghost use Rattle.twkb_head.specs.Devices.Spelled.{AreSpelled};
 ghost use Rattle.twkb_body.specs.Geometry.{Geometry};
 ghost use Rattle.twkb_body.specs.Standing.{StandsAt};
-ghost use Rattle.twkb_layer.specs.Layer.{IsCertifiedLayer, header_size, blob_by_blob, AddsAtMost};
-ghost use Rattle.twkb_layer.specs.Collecting.{SaysOf, HasPassed};
+ghost use Rattle.twkb_layer.specs.Layer.{IsCertifiedLayer, blob_by_blob, AddsAtMost};
+ghost use Rattle.twkb_layer.specs.Devices.Layer.{header_size};
+ghost use Rattle.twkb_layer.specs.Devices.Collecting.{SaysOf, HasPassed};
 
 use twkb_head::{Head, read_head};
 use twkb_num::Cursor;

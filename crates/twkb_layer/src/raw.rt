@@ -1,7 +1,7 @@
 //! Windows in raw integers: the numbers as headers and bodies have them, which mean units by a precision.
 ghost use Rattle.std.specs.Prelude.{◌≡◌, ◌<◌, ◌<ℤ◌, ◌*ℤ◌, ◌||◌, ℤ, pos, int_lt, slice_get, IfSome};
 ghost use Rattle.twkb_num.specs.Units.{IsPrecision, units_of};
-ghost use Rattle.twkb_layer.specs.Raw.{IsInner, IsRawRange, IsRawWindow, precision_of};
+ghost use Rattle.twkb_layer.specs.Devices.Raw.{IsInner, IsRawEnds, IsRawWindow, precision_of};
 
 use crate::window::Window;
 use std::marker::Model;
@@ -10,19 +10,19 @@ use twkb_num::units;
 
 /// The ends of a range in raw integers at some precision, as far as 64 bits go.
 #[derive(Clone, Copy)]
-pub struct RawRange {
+pub struct RawEnds {
     pub least: i64,
     pub greatest: i64,
 }
 
-impl RawRange {
+impl RawEnds {
     /// The ends of a range in units: its lower one rounded up, and its upper one rounded down.
-    pub fn of(range: &Span, precision: i8) -> RawRange
+    pub fn of(range: &Span, precision: i8) -> RawEnds
         requires { IsPrecision precision }
-        ensures { IsRawRange precision range.now result }
+        ensures { IsRawEnds precision range.now result }
     {
         let unit = units(1, precision);
-        RawRange {
+        RawEnds {
             least: least_from(range.lo, unit),
             greatest: greatest_to(range.hi, unit),
         }
@@ -40,8 +40,8 @@ impl RawRange {
 /// A window in X and Y in raw integers at some precision.
 #[derive(Clone, Copy)]
 pub struct RawWindow {
-    pub x: RawRange,
-    pub y: RawRange,
+    pub x: RawEnds,
+    pub y: RawEnds,
 }
 
 impl RawWindow {
@@ -65,7 +65,7 @@ pub struct RawWindows<'w> {
 
 impl<'w> Model for RawWindows<'w> {
     ghost use Rattle.twkb_head.specs.declared.boxes.Bounds.{Bounds};
-    ghost use Rattle.twkb_layer.specs.Raw.{AreRawWindows};
+    ghost use Rattle.twkb_layer.specs.Devices.Raw.{AreRawWindows};
 
     ghost Value = { Bounds };
 
@@ -79,7 +79,7 @@ impl<'w> RawWindows<'w> {
     pub fn new(window: &'w Window) -> RawWindows<'w>
         ensures { result ≡ window.now }
     {
-        let nowhere = RawRange {
+        let nowhere = RawEnds {
             least: 0,
             greatest: 0,
         };

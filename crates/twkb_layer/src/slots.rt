@@ -1,9 +1,10 @@
 //! The slots of a directory.
 ghost use Rattle.std.specs.Prelude.{◌≡◌, ◌+◌, ◌*◌, ◌/◌, ◌%◌, ◌^◌, ◌<◌, ◌≤◌, ◌+ℤ◌, ◌==◌, nat_le, nat_lt, if◌then◌else◌, ◌||◌, ◌&&◌, ◌++◌, ◌∷◌, [], true, false, Some, None, IfSome, is_some, option_map, option_and_then, vec_len, vec_capacity};
 ghost use Rattle.twkb_num.specs.Units.{IsPrecision};
-ghost use Rattle.twkb_head.specs.Spelled.{AreSpelled, IsSpelled, IsSpelledIfAny};
-ghost use Rattle.twkb_layer.specs.Raw.{precision_of};
-ghost use Rattle.twkb_layer.specs.Slots.{range_at, range_in, unboxed, AreInner, IsJudged, places_of};
+ghost use Rattle.twkb_head.specs.Devices.Spelled.{AreSpelled, IsSpelledIfAny};
+ghost use Rattle.twkb_head.specs.Spelled.{IsSpelled};
+ghost use Rattle.twkb_layer.specs.Devices.Raw.{precision_of};
+ghost use Rattle.twkb_layer.specs.Devices.Slots.{range_at, range_in, unboxed, AreInner, IsJudged, entries_of};
 ghost use Rattle.twkb_layer.specs.Window.{lie_apart_if_both};
 
 use crate::collecting::{Keeper, header_at};
@@ -36,7 +37,7 @@ pub struct Slot {
 }
 
 impl Model for Slot {
-    ghost use Rattle.twkb_layer.specs.Slots.{Said, slot_says, HasInnerEnds};
+    ghost use Rattle.twkb_layer.specs.Devices.Slots.{Said, slot_says, HasInnerEnds};
 
     ghost Value = { Said };
 
@@ -176,7 +177,7 @@ pub struct Kept {
 impl Model for Kept {
     ghost use Rattle.std.specs.Prelude.{◌<◌, Option};
     ghost use Rattle.twkb_head.specs.declared.boxes.Span.{Span};
-    ghost use Rattle.twkb_layer.specs.Slots.{range_in};
+    ghost use Rattle.twkb_layer.specs.Devices.Slots.{range_in};
 
     ghost Value = { Option Span };
 
@@ -214,14 +215,14 @@ impl Kept {
 
 impl<A: Allocator> Keeper for Vec<Slot, A> {
     ghost use Rattle.std.specs.Prelude.{◌-◌, ◌/◌, vec_len, vec_capacity};
-    ghost use Rattle.twkb_layer.specs.Directory.{Place, place_of};
-    ghost use Rattle.twkb_layer.specs.Slots.{places_of};
+    ghost use Rattle.twkb_layer.specs.Directory.{Entry, entry_of};
+    ghost use Rattle.twkb_layer.specs.Devices.Slots.{entries_of};
 
-    ghost Says = { Place };
+    ghost Says = { Entry };
 
-    ghost says = { λ slots. places_of slots.items };
+    ghost says = { λ slots. entries_of slots.items };
 
-    ghost of = { place_of };
+    ghost of = { entry_of };
 
     ghost spare = { λ slots. (vec_capacity slots - vec_len slots) / 2 };
 
@@ -241,7 +242,7 @@ fn push<A: Allocator>(slots: &mut Vec<Slot, A>, offset: usize, head: &Head)
     requires m_high { IfSome head.now.m (λ p. p ≤ 7) }
     requires spelled { IfSome head.now.bounds (λ field. AreSpelled head.now.xy head.now.z head.now.m field.bounds) }
     requires spare { vec_len slots.old + 1 < vec_capacity slots.old }
-    ensures says { places_of slots.new.items ≡ places_of slots.old.items ++ record { offset = offset; bounds = option_map (λ field. field.bounds) head.now.bounds } ∷ [] }
+    ensures says { entries_of slots.new.items ≡ entries_of slots.old.items ++ record { offset = offset; bounds = option_map (λ field. field.bounds) head.now.bounds } ∷ [] }
     ensures capacity { vec_capacity slots.new ≡ vec_capacity slots.old }
     ensures len { vec_len slots.new ≤ vec_len slots.old + 2 }
 {

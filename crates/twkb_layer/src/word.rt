@@ -1,6 +1,6 @@
 //! What a slot of a directory keeps besides ranges, in one word of 64 bits.
 ghost use Rattle.std.specs.Prelude.{◌≡◌, ◌<◌, ◌^◌};
-ghost use Rattle.twkb_layer.specs.Word.{Packed};
+ghost use Rattle.twkb_layer.specs.Devices.Word.{Packed};
 
 use std::marker::Model;
 
@@ -19,7 +19,7 @@ pub const BEYOND: u64 = 3;
 pub struct Word(u64);
 
 impl Model for Word {
-    ghost use Rattle.twkb_layer.specs.Word.{Packed, unpacked};
+    ghost use Rattle.twkb_layer.specs.Devices.Word.{Packed, unpacked};
 
     ghost Value = { Packed };
 

@@ -8,7 +8,7 @@ use Rattle.std.proofs.lemmas.Bool.{cases_lt}
 use Rattle.std.proofs.lemmas.List.{get_or-take}
 use Rattle.twkb_num.specs.Varint.{sum_of_groups, Spells}
 use Rattle.twkb_num.proofs.VarintLemmas.{sum_of_groups-fits, Spells-take}
-use Rattle.twkb_num.specs.Ends.{IsFirstEnd, ended, four_bytes, eight_bytes}
+use Rattle.twkb_num.specs.Devices.Ends.{IsFirstEnd, ended, four_bytes, eight_bytes}
 
 -- the lowest 1 of a number
 lowest_at : (n m k : ℕ) → n < 2 ^ 64 → n ≡ m * 2 ^ (k + 1) + 2 ^ k → trailing_zeros w64 n ≡ k

@@ -7,8 +7,8 @@ use Rattle.std.proofs.lemmas.Bool.{cases_lt}
 use Rattle.std.proofs.lemmas.Grind.{common_steps}
 use Rattle.std.proofs.lemmas.List.Elements.{All-nil, All-cons, All-append}
 use Rattle.std.proofs.lemmas.List.{take_more, append-nil, append_assoc, take-take}
-use Rattle.twkb_num.specs.Varint.{Spells, SpellsAll, sum_of_groups}
-use Rattle.twkb_num.specs.Ends.{ended, ends_to, IsEnd, SpellsMany, IsFrontOf}
+use Rattle.twkb_num.specs.Varint.{Spells, SpellsAll, sum_of_groups, SpellsMany}
+use Rattle.twkb_num.specs.Devices.Ends.{ended, ends_to, IsEnd, IsFrontOf}
 use Rattle.twkb_num.proofs.VarintLemmas.{sum_of_groups-lt}
 use Rattle.twkb_num.proofs.NthEnds.{ended_once}
 
@@ -89,10 +89,10 @@ passed_on bytes many begun b more p = record {
 }
 
 -- numbers, and one behind them
-spells_all_push : (bytes back : List ℕ) (ns : List ℕ) (n : ℕ) → SpellsAll bytes ns → Spells back n → SpellsAll (bytes ++ back) (ns ++ n ∷ [])
-spells_all_push bytes back [] n all last = (back, [], ap (λ (bs : List ℕ). bs ++ back) all ∙ sym (append-nil back), last, refl)
-spells_all_push bytes back (m ∷ ns) n (front, behind, whole, first, all) last =
-    (front, behind ++ back, ap (λ (bs : List ℕ). bs ++ back) whole ∙ append_assoc front behind back, first, spells_all_push behind back ns n all last)
+SpellsAll-push : (bytes back : List ℕ) (ns : List ℕ) (n : ℕ) → SpellsAll bytes ns → Spells back n → SpellsAll (bytes ++ back) (ns ++ n ∷ [])
+SpellsAll-push bytes back [] n all last = (back, [], ap (λ (bs : List ℕ). bs ++ back) all ∙ sym (append-nil back), last, refl)
+SpellsAll-push bytes back (m ∷ ns) n (front, behind, whole, first, all) last =
+    (front, behind ++ back, ap (λ (bs : List ℕ). bs ++ back) whole ∙ append_assoc front behind back, first, SpellsAll-push behind back ns n all last)
 
 -- six bytes at most that go on, and an end
 small_spelled : (last : List ℕ) (b : ℕ) → length last ≤ 6 → ((k : ℕ) → k < length last → 128 ≤ slice_index last k) → b < 128
@@ -127,7 +127,7 @@ passed_end bytes many begun b end few p =
         numbers = p.spells.numbers ++ n ∷ [];
         count = length-append p.spells.numbers (n ∷ []) ∙ ap (λ (k : ℕ). k + 1) p.spells.count;
         small = All-append (λ n. n < 2 ^ 49) p.spells.numbers (n ∷ []) p.spells.small (All-cons (λ n. n < 2 ^ 49) n [] small (All-nil (λ n. n < 2 ^ 49)));
-        spelled = spells_all_push p.front (p.last ++ b ∷ []) p.spells.numbers n p.spells.spelled spells;
+        spelled = SpellsAll-push p.front (p.last ++ b ∷ []) p.spells.numbers n p.spells.spelled spells;
       };
       goes_on = λ k h. absurd (omega (arith, h));
       long = refl;

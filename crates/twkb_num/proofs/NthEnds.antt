@@ -2,7 +2,7 @@
 use Rattle.std.proofs.Common.{◌≡◌, ℕ, zero, suc, ◌+◌, ◌-◌, ◌*◌, ◌/◌, ◌<◌, ◌≤◌, List, ap, ◌∙◌, arith}
 use Rattle.std.specs.Int.{w64, trailing_zeros}
 use Rattle.std.specs.Int.Bits.{bit_and}
-use Rattle.twkb_num.specs.Ends.{ended, ends_to, eight_bytes, IsEnd}
+use Rattle.twkb_num.specs.Devices.Ends.{ended, ends_to, eight_bytes, IsEnd}
 use Rattle.twkb_num.proofs.EndLemmas.{tops_eight, lowest_0}
 
 -- a byte ends one varint at most
@@ -15,8 +15,8 @@ ends_to_few bytes zero = omega arith
 ends_to_few bytes (suc k) = omega (arith, ends_to_few bytes k, ended_once bytes k)
 
 -- one byte more
-pub ends_to_more : (bytes : List ℕ) (k : ℕ) → ends_to bytes (k + 1) ≡ ends_to bytes k + ended bytes k
-ends_to_more bytes k = let e : k + 1 ≡ suc k = omega arith in ap (ends_to bytes) e
+pub ends_to-suc : (bytes : List ℕ) (k : ℕ) → ends_to bytes (k + 1) ≡ ends_to bytes k + ended bytes k
+ends_to-suc bytes k = let e : k + 1 ≡ suc k = omega arith in ap (ends_to bytes) e
 
 module _ (bytes : List ℕ) (n : ℕ) (some : 1 ≤ n) (there : n ≤ ends_to bytes 8) where
   -- at least 128 where so many ends are reached, and less before
@@ -50,10 +50,10 @@ module _ (bytes : List ℕ) (n : ℕ) (some : 1 ≤ n) (there : n ≤ ends_to by
       rw many record {
         some = omega arith;
         few = omega (arith, in_word);
-        ends = let same : i + 1 - 1 ≡ i = omega arith in rw same (omega (arith, here, fewer, ended_once bytes i, ends_to_more bytes i));
-        count = omega (arith, here, fewer, ended_once bytes i, ends_to_more bytes i);
+        ends = let same : i + 1 - 1 ≡ i = omega arith in rw same (omega (arith, here, fewer, ended_once bytes i, ends_to-suc bytes i));
+        count = omega (arith, here, fewer, ended_once bytes i, ends_to-suc bytes i);
       }
     where
       below : (i : ℕ) → ((k : ℕ) → k < i → lead k / 128 ≡ 0) → ends_to bytes i < n
       below zero before = omega (arith, some)
-      below (suc i) before = omega (arith, before i (omega arith), ends_to_more bytes i)
+      below (suc i) before = omega (arith, before i (omega arith), ends_to-suc bytes i)

@@ -10,8 +10,8 @@ use Rattle.twkb_num.specs.Varint.{zigzag_value, IsShort}
 use Rattle.twkb_num.proofs.CursorLemmas.{passed-append}
 
 -- between two moves that pass together two parts there is a reading that is behind the first part
-pub moved-two : (a c : Reading) (front behind : List ℕ) → IsMoved a c → passed a c ≡ front ++ behind → (b : Reading) × IsMoved a b × IsMoved b c × (passed a b ≡ front) × (passed b c ≡ behind)
-moved-two a c front behind m e =
+pub IsMoved-two : (a c : Reading) (front behind : List ℕ) → IsMoved a c → passed a c ≡ front ++ behind → (b : Reading) × IsMoved a b × IsMoved b c × (passed a b ≡ front) × (passed b c ≡ behind)
+IsMoved-two a c front behind m e =
     let n : ℕ = length front in
     let b : Reading = record { bytes = a.bytes; place = a.place + n; count = added a.count n } in
     let whole : length (passed a c) ≡ c.place - a.place = grind (arith, common_steps, m.within) in

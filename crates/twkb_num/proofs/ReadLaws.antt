@@ -19,6 +19,6 @@ Ok-no_fault old new value spells moved fault =
     (λ e. absurd (cc), λ h. absurd (Spells-no_fault fault (passed old new) (rest new) value spells (rw (rest-passed old new moved) at h)))
 
 -- where the answer is a spelled number or the fault that stands there, a spelling at the front of the rest is what was read
-pub result-complete : (old new : Reading) (result : Result ℕ NumFault) → IfOk result (λ n. Spells (passed old new) n) → OnOk result (IsMoved old new) → ((fault : NumFault) → (result ≡ Err fault) ↔ Faults fault (rest old)) → (n : ℕ) (front behind : List ℕ) → rest old ≡ front ++ behind → Spells front n → (result ≡ Ok n) × (passed old new ≡ front)
-result-complete old new (Ok value) ok moved fault n front behind e s = Ok-complete old new value ok moved n front behind e s
-result-complete old new (Err f) ok moved fault n front behind e s = absurd (Spells-no_fault f front behind n s (rw e at ((fault f).0 refl)))
+pub result_complete : (old new : Reading) (result : Result ℕ NumFault) → IfOk result (λ n. Spells (passed old new) n) → OnOk result (IsMoved old new) → ((fault : NumFault) → (result ≡ Err fault) ↔ Faults fault (rest old)) → (n : ℕ) (front behind : List ℕ) → rest old ≡ front ++ behind → Spells front n → (result ≡ Ok n) × (passed old new ≡ front)
+result_complete old new (Ok value) ok moved fault n front behind e s = Ok-complete old new value ok moved n front behind e s
+result_complete old new (Err f) ok moved fault n front behind e s = absurd (Spells-no_fault f front behind n s (rw e at ((fault f).0 refl)))

@@ -1,5 +1,5 @@
-pub mod Cursor
-pub mod Ends
-pub mod Units
+-- In reading order.
 pub mod Varint
-pub mod Word
+pub mod Cursor
+pub mod Units
+pub mod Devices

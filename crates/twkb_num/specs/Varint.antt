@@ -1,5 +1,5 @@
 -- Varints: which bytes spell which number, what a number means by zigzag, and the two faults.
-use Rattle.std.specs.Prelude.{◌≡◌, ℕ, ◌+◌, ◌-◌, ◌*◌, ◌/◌, ◌%◌, ◌^◌, ◌<◌, ◌≤◌, ◌==◌, if◌then◌else◌, ℤ, pos, neg_ℤ, ◌≤ℤ◌, ◌<ℤ◌, List, [], ◌∷◌, ◌++◌, length, take, slice_index}
+use Rattle.std.specs.Prelude.{◌≡◌, ℕ, ◌+◌, ◌-◌, ◌*◌, ◌/◌, ◌%◌, ◌^◌, ◌<◌, ◌≤◌, ◌==◌, if◌then◌else◌, ℤ, pos, neg_ℤ, ◌≤ℤ◌, ◌<ℤ◌, List, [], ◌∷◌, ◌++◌, length, slice_index, All}
 use Rattle.twkb_num.specs.declared.varint.NumFault.{NumFault}
 use Rattle.twkb_num.specs.declared.varint.NumFault.TheVariants.{Cut, Long}
 
@@ -16,13 +16,6 @@ pub record Spells (bytes : List ℕ) (n : ℕ) : Type 0 where
   pub ends : slice_index bytes (length bytes - 1) < 128
   pub value : n ≡ sum_of_groups 0 bytes
   pub fits : n < 2 ^ 64
-
--- the first so many bytes, nine at most, are all at least 128, and this is the sum of their groups
-pub record IsBegunBy (many : ℕ) (bytes : List ℕ) (sum : ℕ) : Type 0 where
-  pub within : many ≤ length bytes
-  pub few : many ≤ 9
-  pub goes_on : (k : ℕ) → k < many → 128 ≤ slice_index bytes k
-  pub value : sum ≡ sum_of_groups 0 (take many bytes)
 
 -- fewer than ten bytes (perhaps none), all at least 128: the end cuts a varint short
 pub record IsCut (bytes : List ℕ) : Type 0 where
@@ -73,3 +66,10 @@ SpellsAll bytes (n ∷ ns) = (front behind : List ℕ) × (bytes ≡ front ++ be
 -- a signed number that four bytes can spell
 abbrev pub IsShort : ℤ → Type 0
 IsShort z = (neg_ℤ (pos (2 ^ 27)) ≤ℤ z) × (z <ℤ pos (2 ^ 27))
+
+-- The bytes spell so many numbers, one behind another, each below 2^49.
+pub record SpellsMany (bytes : List ℕ) (many : ℕ) : Type 0 where
+  pub numbers : List ℕ
+  pub count : length numbers ≡ many
+  pub small : All (λ n. n < 2 ^ 49) numbers
+  pub spelled : SpellsAll bytes numbers

@@ -1,9 +1,10 @@
 //! A cursor over bytes, which counts what it reads.
 ghost use Rattle.std.specs.Prelude.{◌≡◌, ◌+◌, ◌≤◌, ◌↔◌, ℕ, ℤ, List, [], ◌∷◌, ◌++◌, length, take, IsNone, IfOk, IfErr, IfSome, IfNone, OnOk, OnSome};
 ghost use Rattle.twkb_num.specs.Cursor.{rest, passed, counted, IsMoved, IsSound};
-ghost use Rattle.twkb_num.specs.Ends.{IsFirstEnd, SpellsMany};
+ghost use Rattle.twkb_num.specs.Devices.Ends.{IsFirstEnd};
+ghost use Rattle.twkb_num.specs.Varint.{SpellsMany, Spells, SpellsSigned, SpellsTwoSigned, IsShort, Faults, IsCut, looked_at};
 ghost use Rattle.twkb_num.specs.declared.varint.NumFault.TheVariants.{Cut};
-ghost use Rattle.twkb_num.specs.Varint.{Spells, SpellsSigned, SpellsTwoSigned, IsShort, Faults, IsCut, IsBegunBy, looked_at};
+ghost use Rattle.twkb_num.specs.Devices.Varint.{IsBegunBy};
 
 use crate::ends::{first_end, length_of};
 use crate::signed::unzigzag;

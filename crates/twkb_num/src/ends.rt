@@ -1,6 +1,6 @@
 //! Where varints end, found in words of eight bytes.
 ghost use Rattle.std.specs.Prelude.{◌≡◌, ◌↔◌, ◌+◌, ◌*◌, ◌-◌, ◌≤◌, ◌<◌, ◌^◌, ℕ, slice_index, IsTrue, IfSome, IfNone};
-ghost use Rattle.twkb_num.specs.Ends.{IsFirstEnd, ended, ends_to, eight_bytes, IsEnd, IsFrontOf};
+ghost use Rattle.twkb_num.specs.Devices.Ends.{IsFirstEnd, ended, ends_to, eight_bytes, IsEnd, IsFrontOf};
 
 /// The top bit of each byte of a word, which is set where a varint goes on.
 const TOPS: u64 = 0x8080_8080_8080_8080;

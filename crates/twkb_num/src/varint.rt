@@ -1,6 +1,7 @@
 //! Unsigned varints of any length.
 ghost use Rattle.std.specs.Prelude.{◌≡◌, ◌+◌, ◌<◌, ◌≤◌, ◌↔◌, length, take, IfOk};
-ghost use Rattle.twkb_num.specs.Varint.{Spells, Faults, IsBegunBy};
+ghost use Rattle.twkb_num.specs.Varint.{Spells, Faults};
+ghost use Rattle.twkb_num.specs.Devices.Varint.{IsBegunBy};
 
 /// Why no number stands at a place.
 #[derive(Clone, Copy, Debug, PartialEq, Eq)]

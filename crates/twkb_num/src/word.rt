@@ -1,7 +1,7 @@
 //! Two varints from the next eight bytes, read as one word.
 ghost use Rattle.std.specs.Prelude.{◌≡◌, ◌<◌, ◌≤◌, ◌^◌, take, IfSome};
 ghost use Rattle.twkb_num.specs.Varint.{IsShort, SpellsTwo, SpellsTwoSigned, zigzag_value};
-ghost use Rattle.twkb_num.specs.Word.{IsFront};
+ghost use Rattle.twkb_num.specs.Devices.Word.{IsFront};
 
 use crate::signed::unzigzag;
 

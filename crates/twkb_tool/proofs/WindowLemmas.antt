@@ -10,7 +10,8 @@ use Rattle.twkb_head.specs.declared.boxes.Bounds.{Bounds}
 use Rattle.twkb_layer.specs.WindowText.{IsWindowText, in_order}
 use Rattle.twkb_layer.specs.declared.window.BadWindow.{BadWindow}
 use Rattle.twkb_layer.specs.declared.window.BadWindow.TheVariants.{Form, Order}
-use Rattle.twkb_tool.specs.Words.{AreNoWindows, AreWindows, IsBadText, IsFirstBad, IsNoWindowMore, IsWindow}
+use Rattle.twkb_tool.specs.Devices.Words.{AreNoWindows, IsNoWindowMore}
+use Rattle.twkb_tool.specs.Words.{AreWindows, IsBadText, IsFirstBad, IsWindow}
 use Rattle.twkb_tool.specs.declared.words.Usage.{Usage}
 use Rattle.twkb_tool.specs.declared.words.Usage.TheVariants.{Words, TooMany, Window as NoWindow, Memory}
 

@@ -1,7 +1,9 @@
-pub mod Memory
+-- In reading order.
+pub mod Streams
 pub mod Output
 pub mod Ran
-pub mod Status
-pub mod Streams
 pub mod Words
+pub mod Status
+pub mod Memory
 pub mod Laws
+pub mod Devices

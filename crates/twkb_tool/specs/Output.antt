@@ -12,8 +12,6 @@ use Rattle.twkb_layer.specs.Refusal.{IsRefusal}
 use Rattle.twkb_layer.specs.Rows.{rows}
 use Rattle.twkb_layer.specs.Tight.{IsTightLayer, IsTightRefusal}
 use Rattle.twkb_layer.specs.declared.hits.Hit.{Hit}
-use Rattle.twkb_layer.specs.declared.refusal.Refusal.{Refusal}
-use Rattle.twkb_layer.specs.declared.refusal.Refusal.TheVariants.{No as Refused, Memory}
 use Rattle.twkb_layer.specs.declared.row.Row.{Row}
 use Rattle.twkb_tool.specs.declared.judge.Verdict.{Verdict}
 use Rattle.twkb_tool.specs.declared.judge.Verdict.TheVariants.{Yes, No}
@@ -111,11 +109,6 @@ IsRefusalFor Check bytes blob offset kind = IsRefusal bytes blob offset kind
 IsRefusalFor CheckTight bytes blob offset kind = IsTightRefusal bytes blob offset kind
 IsRefusalFor ListBlobs bytes blob offset kind = IsRefusal bytes blob offset kind
 IsRefusalFor (Scan windows) bytes blob offset kind = IsRefusal bytes blob offset kind
-
--- the same of a refusal; one for want of memory says nothing of the bytes
-abbrev pub IsRefusedAs : Request → Refusal → List ℕ → Type 0
-IsRefusedAs request (Refused blob offset kind) bytes = IsRefusalFor request bytes blob offset kind
-IsRefusedAs request Memory bytes = Unit {0}
 
 -- the bytes are such a layer, and this is its text
 pub record IsLayerText (request : Request) (bytes text : List ℕ) : Type 0 where

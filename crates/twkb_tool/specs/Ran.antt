@@ -16,13 +16,6 @@ pub record GivesAll (limit : ℕ) (s t : SourceState) (given : List ℕ) : Type 
   pub fine : t.failed ≡ false
   pub within : length given ≤ limit
 
--- no piece came, and why
-abbrev pub StopsPiece : RunFault → SourceState → SourceState → Type 0
-StopsPiece Read s t = t ≡ record s { failed = true }
-StopsPiece Memory s t = t ≡ s
-StopsPiece TooLarge s t = ⊥
-StopsPiece (Write done) s t = ⊥
-
 -- reading stopped, and why: the last call failed, or one byte more than the limit came, or a growth was refused
 abbrev pub StopsReading : ℕ → RunFault → SourceState → SourceState → Type 0
 StopsReading limit Read s t = (given : List ℕ) × Gives s t given × (length given ≤ limit) × IsTrue t.failed
@@ -44,13 +37,6 @@ pub record PutsSome (text : List ℕ) (done : ℕ) (k m : SinkState) : Type 0 wh
   pub takes : Takes k m (take done text)
   pub failed : IsTrue m.failed
   pub flush : m.flushing ≡ true → done ≡ length text
-
--- writing stopped, and why
-abbrev pub StopsWriting : List ℕ → RunFault → SinkState → SinkState → Type 0
-StopsWriting text (Write done) k m = PutsSome text done k m
-StopsWriting text Read k m = ⊥
-StopsWriting text TooLarge k m = ⊥
-StopsWriting text Memory k m = ⊥
 
 -- ---- the whole run
 

@@ -70,13 +70,6 @@ abbrev pub IsBadText : Text → BadWindow → Type 0
 IsBadText text Form = (window : Bounds) → IsWindowText text window → ⊥
 IsBadText text Order = (window : Bounds) × IsWindowText text window × (in_order window ≡ false)
 
--- why the text of this number makes no window more: it is none, or it is one and memory ran out
-abbrev pub IsNoWindowMore : ℕ → Text → Usage → Type 0
-IsNoWindowMore number text (NoWindow n why) = (n ≡ number) × IsBadText text why
-IsNoWindowMore number text Memory = (window : Bounds) × IsWindow text window
-IsNoWindowMore number text TooMany = ⊥
-IsNoWindowMore number text (Words error) = ⊥
-
 -- the texts are these windows, one by one
 abbrev pub AreWindows : List Text → List Bounds → Type 0
 AreWindows [] [] = Unit {0}
@@ -93,13 +86,6 @@ pub record IsFirstBad (texts : List Text) (number : ℕ) (why : BadWindow) : Typ
   pub number_is : number ≡ length before + 1
   pub before_are : AreWindows before windows
   pub bad_is : IsBadText bad why
-
--- why texts are no windows, or memory ran out
-abbrev pub AreNoWindows : List Text → Usage → Type 0
-AreNoWindows texts (NoWindow number why) = IsFirstBad texts number why
-AreNoWindows texts Memory = Unit {0}
-AreNoWindows texts TooMany = ⊥
-AreNoWindows texts (Words error) = ⊥
 
 -- the most windows of a scan
 abbrev pub most_windows : ℕ

@@ -2,7 +2,8 @@
 ghost use Rattle.std.specs.Prelude.{◌≡◌, ◌≤◌, List, length, IfOk, IfErr, IsOkUnless};
 ghost use Rattle.twkb_body.specs.Geometry.{Geometry};
 ghost use Rattle.twkb_layer.specs.Tight.{NamesTightKind};
-ghost use Rattle.twkb_tool.specs.Output.{IsOutput, IsAccepted, IsRefusedAs};
+ghost use Rattle.twkb_tool.specs.Output.{IsOutput, IsAccepted};
+ghost use Rattle.twkb_tool.specs.Devices.Output.{IsRefusedAs};
 ghost use Rattle.twkb_tool.specs.Words.{HoldsWindows};
 
 use crate::request::Request;

@@ -1,7 +1,8 @@
 //! A whole run, from the bytes that come in to the text that goes out.
 ghost use Rattle.std.specs.Prelude.{◌≡◌, ℕ, ◌+◌, ◌<◌, ◌≤◌, List, [], ◌++◌, length, take, false, IfOk, IfErr, OnOk, IsTrue, vec_len};
 ghost use Rattle.twkb_tool.specs.Output.{IsOutput};
-ghost use Rattle.twkb_tool.specs.Ran.{GivesAll, StopsPiece, StopsReading, PutsAll, StopsWriting, Ran};
+ghost use Rattle.twkb_tool.specs.Ran.{GivesAll, StopsReading, PutsAll, Ran};
+ghost use Rattle.twkb_tool.specs.Devices.Ran.{StopsPiece, StopsWriting};
 ghost use Rattle.twkb_tool.specs.Streams.{Gives};
 ghost use Rattle.twkb_tool.specs.Words.{HoldsWindows};
 

@@ -2,22 +2,24 @@
 ghost use Rattle.std.specs.Prelude.{◌≡◌, ◌≤◌, None, IfSome, Ok};
 ghost use Rattle.twkb_num.specs.Units.{IsPrecision};
 ghost use Rattle.twkb_head.specs.Header.{axes_with, is_multi};
-ghost use Rattle.twkb_body.specs.Bare.{unchanged};
-ghost use Rattle.twkb_body.specs.BodyPlan.{ListHead};
-ghost use Rattle.twkb_body.specs.BodyReader.{count_at, list_at};
-ghost use Rattle.twkb_body.specs.IdLists.{IsListFound};
-ghost use Rattle.twkb_body.specs.Inside.{of_head};
-ghost use Rattle.twkb_body.specs.Sure.{AddsParts, AddsHeld};
+ghost use Rattle.twkb_body.specs.Devices.Bare.{unchanged};
+ghost use Rattle.twkb_body.specs.Devices.Body.{ListHead};
+ghost use Rattle.twkb_body.specs.Devices.BodyReader.{count_at, list_at};
+ghost use Rattle.twkb_body.specs.Devices.IdLists.{IsListFound};
+ghost use Rattle.twkb_body.specs.Devices.Inside.{of_head};
+ghost use Rattle.twkb_body.specs.Devices.Sure.{AddsParts, AddsHeld};
 
 use crate::bare::pass_parts;
 use crate::boxed::Boxed;
+use crate::fields::take_number;
 use crate::further::{BoxedFour, BoxedThree};
 use crate::lists::take_rising;
 use crate::parts::take_parts;
 use crate::points::Points;
 use crate::trail::Trail;
 use crate::unboxed::Unboxed;
-use twkb_head::{Head, Kind, RawBox, take_number};
+use crate::within::place_is_within;
+use twkb_head::{Head, Kind, RawBox};
 use twkb_num::Cursor;
 
 /// A body of so many axes that no box asks for, by the ends of its numbers, or with its sums.
@@ -185,8 +187,7 @@ pub fn take_sure_list(cursor: &mut Cursor, has_ids: bool) -> Option<u64>
     let Ok(count) = take_number(cursor) else {
         return None;
     };
-    // The proof knows from here that the place is within the bytes.
-    let _place = cursor.place();
+    place_is_within(cursor);
     if has_ids {
         take_rising(cursor, count)?;
     }

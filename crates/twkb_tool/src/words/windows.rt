@@ -1,7 +1,8 @@
 //! The windows among the words.
 ghost use Rattle.std.specs.Prelude.{◌≡◌, [], ◌∷◌, ◌++◌, map, length, vec_len, IfOk, IfErr, OnOk};
 ghost use Rattle.twkb_head.specs.declared.boxes.Bounds.{Bounds};
-ghost use Rattle.twkb_tool.specs.Words.{AreWindows, AreNoWindows, IsBadText, IsNoWindowMore, IsWindow};
+ghost use Rattle.twkb_tool.specs.Words.{AreWindows, IsBadText, IsWindow};
+ghost use Rattle.twkb_tool.specs.Devices.Words.{AreNoWindows, IsNoWindowMore};
 
 use crate::words::Usage;
 use std::alloc::Global;

@@ -1,3 +1,4 @@
+-- The windows that were read, and the words still to come, fit the memory that was taken for all.
 use Rattle.std.proofs.Common.{◌+◌, ◌-◌, ◌≤◌, length, vec_len, vec_capacity}
 use Rattle.twkb_bench.proofs.request.windows_of.Given as goal
 

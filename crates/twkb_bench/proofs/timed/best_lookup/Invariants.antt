@@ -1,3 +1,4 @@
+-- However often it is scanned, the layer keeps its bytes.
 use Rattle.std.proofs.Common.{◌≡◌}
 use Rattle.twkb_bench.proofs.timed.best_lookup.Given as goal
 

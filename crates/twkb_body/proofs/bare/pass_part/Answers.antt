@@ -1,3 +1,4 @@
+-- A point, a line or a polygon leads on from the points before, by the ends of its numbers.
 use Rattle.std.proofs.Common.{inl, inr}
 use Rattle.twkb_body.proofs.BareRuns.{point_leads, line_leads, nothing_leads, if_some}
 use Rattle.twkb_body.proofs.bare.pass_part.Goals as goal

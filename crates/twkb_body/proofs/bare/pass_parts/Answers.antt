@@ -1,6 +1,7 @@
+-- Part after part leads on, while the points are few enough that no sum leaves 64 bits.
 use Rattle.std.proofs.Common.{arith}
-use Rattle.twkb_body.specs.BodyPlan.{ring_sums}
-use Rattle.twkb_body.specs.BodyReader.{part_at}
+use Rattle.twkb_body.specs.Devices.Body.{ring_sums}
+use Rattle.twkb_body.specs.Devices.BodyReader.{part_at}
 use Rattle.twkb_body.proofs.BareRuns.{lead_goes_on, lead_ends, lead_few}
 use Rattle.twkb_body.proofs.Sums.{rings_sums_flat}
 use Rattle.twkb_body.proofs.Walks.{part_points}

@@ -1,5 +1,6 @@
-use Rattle.twkb_body.specs.BodyPlan.{ring_sums}
-use Rattle.twkb_body.specs.BodyReader.{part_at}
+-- The parts passed so far have the points counted, and lead from the start to the cursor's place.
+use Rattle.twkb_body.specs.Devices.Body.{ring_sums}
+use Rattle.twkb_body.specs.Devices.BodyReader.{part_at}
 use Rattle.twkb_body.proofs.BareRuns.{IsLeadLoop}
 use Rattle.twkb_body.proofs.Sums.{rings_sums_flat}
 use Rattle.twkb_body.proofs.Walks.{part_points}

@@ -1,6 +1,7 @@
+-- Ring after ring leads on, while the points are few enough that no sum leaves 64 bits.
 use Rattle.std.proofs.Common.{arith}
-use Rattle.twkb_body.specs.BodyPlan.{sums}
-use Rattle.twkb_body.specs.BodyReader.{ring_at}
+use Rattle.twkb_body.specs.Devices.Body.{sums}
+use Rattle.twkb_body.specs.Devices.BodyReader.{ring_at}
 use Rattle.twkb_body.proofs.BareRuns.{lead_goes_on, lead_counted, lead_few}
 use Rattle.twkb_body.proofs.Walks.{ring_points, rings_are_sums}
 use Rattle.twkb_body.proofs.bare.pass_polygon.Goals as goal

@@ -1,5 +1,6 @@
-use Rattle.twkb_body.specs.BodyPlan.{sums}
-use Rattle.twkb_body.specs.BodyReader.{ring_at}
+-- The rings passed so far have the points counted beyond those before, and lead from behind their count to the place.
+use Rattle.twkb_body.specs.Devices.Body.{sums}
+use Rattle.twkb_body.specs.Devices.BodyReader.{ring_at}
 use Rattle.twkb_body.proofs.BareRuns.{IsLeadLoop}
 use Rattle.twkb_body.proofs.Walks.{ring_points, rings_are_sums}
 use Rattle.twkb_body.proofs.bare.pass_polygon.Given as goal

@@ -1,3 +1,4 @@
+-- Behind its count a ring's points lead on.
 use Rattle.twkb_body.proofs.BareRuns.{ring_leads, if_some}
 use Rattle.twkb_body.proofs.bare.pass_ring.Goals as goal
 

@@ -1,8 +1,9 @@
+-- Each test that was passed says of one number that it is near zero.
 use Rattle.std.proofs.Common.{◌≡◌, refl, subst, arith}
 use Rattle.std.proofs.lemmas.Int.{ints}
 use mir.Val.{to_z, of_z}
 use Rattle.std.specs.Int.{w64}
-use Rattle.twkb_body.specs.Boxed.{IsNear}
+use Rattle.twkb_body.specs.Devices.Boxed.{IsNear}
 use Rattle.twkb_body.proofs.boxed.are_near.Goals as goal
 
 pub returns : goal.returns

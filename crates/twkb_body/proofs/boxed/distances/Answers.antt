@@ -1,3 +1,4 @@
+-- Of numbers near zero the differences of 64 bits are those of whole numbers.
 use Rattle.std.proofs.Common.{◌≡◌, arith}
 use Rattle.std.proofs.lemmas.Int.{ints}
 use mir.Val.{to_z, of_z}

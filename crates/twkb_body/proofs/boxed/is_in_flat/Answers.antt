@@ -1,9 +1,10 @@
+-- The two tests are those of the definition, at the coordinates of the list.
 use Rattle.std.proofs.Common.{◌≡◌, ◌&&◌, pos, Bool, slice_index_or, ap, sym, ◌∙◌, arith}
 use Rattle.std.proofs.lemmas.Int.{ints}
 use Rattle.std.proofs.lemmas.Option.{unwrap_or-slice_get}
 use mir.Val.{to_z, of_z}
 use Rattle.std.specs.Int.{w64}
-use Rattle.twkb_body.specs.Boxed.{is_in_range}
+use Rattle.twkb_body.specs.Devices.Boxed.{is_in_range}
 use Rattle.twkb_body.specs.Geometry.{coordinate}
 use Rattle.twkb_body.proofs.boxed.is_in_flat.Goals as goal
 

@@ -1,10 +1,11 @@
+-- A minimum near zero and a distance that was met give a sum of 64 bits.
 use Rattle.std.proofs.Common.{◌≡◌, [], ◌∷◌, ℤ, ◌+ℤ◌, arith}
 use Rattle.std.proofs.lemmas.Int.{ints}
 use mir.Val.{to_z, of_z}
 use Rattle.std.specs.Int.{w64}
 use Rattle.twkb_head.specs.declared.raw.RawRange.{RawRange}
-use Rattle.twkb_body.specs.Boxed.{IsMet, IsNearRange}
-use Rattle.twkb_body.specs.Numbers.{IsIn64}
+use Rattle.twkb_body.specs.Devices.Boxed.{IsMet, IsNearRange}
+use Rattle.twkb_body.specs.Devices.Numbers.{IsIn64}
 use Rattle.twkb_body.proofs.NumberSteps.{sum_in_bits}
 use Rattle.twkb_body.proofs.boxed.placed.Goals as goal
 

@@ -1,7 +1,8 @@
+-- What the judge names first is what the definition names first: an end outside, then a loose one.
 use Rattle.std.proofs.Common.{◌≡◌, ◌∙◌, ap, ap₂, Bool, Option, Some, None, refl}
 use Rattle.std.specs.Option.{option_or}
-use Rattle.twkb_body.specs.Pass.{Refused, false_at, first}
-use Rattle.twkb_body.specs.Found.{named}
+use Rattle.twkb_body.specs.Devices.Pass.{Refused, false_at, first}
+use Rattle.twkb_body.specs.Devices.Found.{named}
 use Rattle.twkb_body.specs.declared.found.FalseClaim.{FalseClaim}
 use Rattle.twkb_body.proofs.Judging.{same_as_test, within_decides}
 use Rattle.twkb_body.proofs.found.judge_box.Goals as goal

@@ -1,3 +1,4 @@
+-- The pass over a geometry and that over members, each by the other: header, body, then the judging of claims.
 use Rattle.std.proofs.Common.{rules, ◌≡◌, suc, ◌+◌, ◌-◌, Bool, true, false, ◌||◌, None, refl, sym, ap, subst, ◌∙◌, arith}
 use Rattle.std.proofs.lemmas.Result.{err_from_is_err_and}
 use Rattle.twkb_num.specs.Cursor.{Reading, rest}
@@ -5,13 +6,13 @@ use Rattle.twkb_head.specs.declared.header.Head.{Head}
 use Rattle.twkb_head.specs.BegunHeader.{is_collection, deepest}
 use Rattle.twkb_head.proofs.HeadBack.{head_value, head_fails}
 use Rattle.twkb_head.specs.Header.{is_multi}
-use Rattle.twkb_body.specs.BodyPlan.{no_body, members_body, members_of}
-use Rattle.twkb_body.specs.BodyReader.{list_at, shape_at, collection_at, geometry_at, members_under}
-use Rattle.twkb_body.specs.IdLists.{HasManyIdsAfterCount}
-use Rattle.twkb_body.specs.Found.{box_judged}
-use Rattle.twkb_body.specs.Inside.{of_head}
+use Rattle.twkb_body.specs.Devices.Body.{no_body, members_body, members_of}
+use Rattle.twkb_body.specs.Devices.BodyReader.{list_at, shape_at, collection_at, geometry_at, members_under}
+use Rattle.twkb_body.specs.Devices.IdLists.{HasManyIdsAfterCount}
+use Rattle.twkb_body.specs.Devices.Found.{box_judged}
+use Rattle.twkb_body.specs.Devices.Inside.{of_head}
 use Rattle.twkb_body.specs.Audited.{HasLongList}
-use Rattle.twkb_body.specs.Stops.{WantsInside, own_ids, member_ids}
+use Rattle.twkb_body.specs.Devices.Stops.{WantsInside, own_ids, member_ids}
 use Rattle.twkb_body.proofs.HeadFacts.{head_size}
 use Rattle.twkb_body.proofs.GeometrySteps.{header_fails, body_gives, body_fails, empty_body, shape_body, shape_of_head, nothing_inside, geometry_found}
 use Rattle.twkb_body.proofs.MemberSteps.{collection_below, collection_body, members_begin, members_go_on, members_fail, members_end, no_list, no_member, collection_gives, members_inside, member_bytes, long_list_own, long_list_inside}
@@ -21,14 +22,14 @@ use Rattle.twkb_body.proofs.geometry.+take_geometry.Goals as goal
 pub take_geometry-returns-in_err-head : goal.take_geometry-returns-in_err-head
 take_geometry-returns-in_err-head g t c =
     let p = err_from_is_err_and c.from_residual.result c.from_residual.ensures.1 in
-    let e = head_fails c.args.depth c.requires.shallowest c.requires.deepest _ _ c.in_err-head.field-0.0 c.place-start.ensures.sound
+    let e = head_fails c.args.depth c.requires.shallowest c.requires.deepest _ _ c.in_err-head.field-0.0 c.place_is_within.ensures
     (ap (λ (r : Reading). r.bytes) c.in_err-head.ensures.still) c.in_err-head.ensures.refused in
     rw (p.1, p.2) (header_fails (deepest - c.args.depth) c.args.cursor.now c.in_err-head.field-0.0 _ e)
 
 pub take_geometry-returns-then-head : goal.take_geometry-returns-then-head
 take_geometry-returns-then-head g t c =
     let ok = c.in_ok-head.ensures in
-    let headed = head_value c.args.depth c.requires.shallowest c.requires.deepest _ _ c.in_ok-head.head c.place-start.ensures.sound ok.ok ok.moved in
+    let headed = head_value c.args.depth c.requires.shallowest c.requires.deepest _ _ c.in_ok-head.head c.place_is_within.ensures ok.ok ok.moved in
     let empty : ok.ok.header.empty ≡ true = sym (ap (λ (h : Head). h.empty) ok.ok.fields) ∙ c.if-head.true in (
       _,
       body_gives (deepest - c.args.depth) c.args.cursor.now _ _ headed no_body _ (empty_body ok.ok.header (members_under (deepest - c.args.depth)) c.read_head.new.cursor empty),
@@ -41,7 +42,7 @@ pub take_geometry-returns-in_err-inside : goal.take_geometry-returns-in_err-insi
 take_geometry-returns-in_err-inside g t c =
     let p = err_from_is_err_and c.from_residual-in_err-inside.result c.from_residual-in_err-inside.ensures.1 in
     let ok = c.in_ok-head.ensures in
-    let headed = head_value c.args.depth c.requires.shallowest c.requires.deepest _ _ c.in_ok-head.head c.place-start.ensures.sound ok.ok ok.moved in
+    let headed = head_value c.args.depth c.requires.shallowest c.requires.deepest _ _ c.in_ok-head.head c.place_is_within.ensures ok.ok ok.moved in
     let full : ok.ok.header.empty ≡ false = sym (ap (λ (h : Head). h.empty) ok.ok.fields) ∙ c.if-head.false in
     let single : is_collection ok.ok.header.kind ≡ false = sym (ap (λ (h : Head). is_collection h.kind) ok.ok.fields) ∙ sym c.is_collection.ensures ∙ c.if-not-is_collection.true in
     let body = shape_body ok.ok.header (members_under (deepest - c.args.depth)) c.read_head.new.cursor full single ∙ sym (shape_of_head c.in_ok-head.head ok.ok.header _ _ _ _ ok.ok.fields c.read_head.new.cursor) in
@@ -60,7 +61,7 @@ take_geometry-judged-requires-then-not-is_collection g t c =
 pub take_geometry-returns-then-not-is_collection : goal.take_geometry-returns-then-not-is_collection
 take_geometry-returns-then-not-is_collection g t c =
     let ok = c.in_ok-head.ensures in
-    let headed = head_value c.args.depth c.requires.shallowest c.requires.deepest _ _ c.in_ok-head.head c.place-start.ensures.sound ok.ok ok.moved in
+    let headed = head_value c.args.depth c.requires.shallowest c.requires.deepest _ _ c.in_ok-head.head c.place_is_within.ensures ok.ok ok.moved in
     let full : ok.ok.header.empty ≡ false = sym (ap (λ (h : Head). h.empty) ok.ok.fields) ∙ c.if-head.false in
     let single : is_collection ok.ok.header.kind ≡ false = sym (ap (λ (h : Head). is_collection h.kind) ok.ok.fields) ∙ sym c.is_collection.ensures ∙ c.if-not-is_collection.true in
     let body = shape_body ok.ok.header (members_under (deepest - c.args.depth)) c.read_head.new.cursor full single ∙ sym (shape_of_head c.in_ok-head.head ok.ok.header _ _ _ _ ok.ok.fields c.read_head.new.cursor) in
@@ -82,7 +83,7 @@ pub take_geometry-returns-in_err-inside-2 : goal.take_geometry-returns-in_err-in
 take_geometry-returns-in_err-inside-2 g t c =
     let p = err_from_is_err_and c.from_residual-in_err-inside-2.result c.from_residual-in_err-inside-2.ensures.1 in
     let ok = c.in_ok-head.ensures in
-    let headed = head_value c.args.depth c.requires.shallowest c.requires.deepest _ _ c.in_ok-head.head c.place-start.ensures.sound ok.ok ok.moved in
+    let headed = head_value c.args.depth c.requires.shallowest c.requires.deepest _ _ c.in_ok-head.head c.place_is_within.ensures ok.ok ok.moved in
     let full : ok.ok.header.empty ≡ false = sym (ap (λ (h : Head). h.empty) ok.ok.fields) ∙ c.if-head.false in
     let many : is_collection ok.ok.header.kind ≡ true = sym (ap (λ (h : Head). is_collection h.kind) ok.ok.fields) ∙ sym c.is_collection.ensures ∙ c.if-not-is_collection.false in
     let below = collection_below ok.ok.header.kind c.args.depth ok.ok.allowed many in
@@ -94,7 +95,7 @@ take_geometry-returns-in_err-inside-2 g t c =
     (λ m f. body_fails (deepest - c.args.depth) c.args.cursor.now _ _ headed m _ (record { left = f.left; is = body ∙ f.is; bytes = f.bytes }))
     (λ bytes wants. (
       bytes ∙ ok.moved.bytes,
-      long_list_inside c.args.depth (deepest - (c.args.depth + 1)) _ _ ok.ok.header (omega (arith, below)) c.requires.shallowest c.place-body.ensures.sound ok.moved ok.ok.is ok.ok.allowed full many
+      long_list_inside c.args.depth (deepest - (c.args.depth + 1)) _ _ ok.ok.header (omega (arith, below)) c.requires.shallowest c.place_is_within-2.ensures ok.moved ok.ok.is ok.ok.allowed full many
           (subst (λ (b : Bool). WantsInside c.args.depth (deepest - (c.args.depth + 1)) b c.read_head.new.cursor) ids wants),
     ))
     c.in_err-inside-2.ensures)
@@ -108,7 +109,7 @@ take_geometry-judged-requires-2 g t c =
 pub take_geometry-returns : goal.take_geometry-returns
 take_geometry-returns g t c =
     let ok = c.in_ok-head.ensures in
-    let headed = head_value c.args.depth c.requires.shallowest c.requires.deepest _ _ c.in_ok-head.head c.place-start.ensures.sound ok.ok ok.moved in
+    let headed = head_value c.args.depth c.requires.shallowest c.requires.deepest _ _ c.in_ok-head.head c.place_is_within.ensures ok.ok ok.moved in
     let full : ok.ok.header.empty ≡ false = sym (ap (λ (h : Head). h.empty) ok.ok.fields) ∙ c.if-head.false in
     let many : is_collection ok.ok.header.kind ≡ true = sym (ap (λ (h : Head). is_collection h.kind) ok.ok.fields) ∙ sym c.is_collection.ensures ∙ c.if-not-is_collection.false in
     let below = collection_below ok.ok.header.kind c.args.depth ok.ok.allowed many in
@@ -145,7 +146,7 @@ take_members-returns-in_err-member g t c =
     (λ m f. no_member inner c.args.head.now.ids _ c.take_list.new.cursor list.0 list.1 c.in_ok-list.list.count list.2.count m _
     (members_fail _ inner c.in_ok-list.list.count c.take_list.new.cursor c.for_members-below.result.asked c.loop.counter c.loop.found c.loop.below c.loop.cursor _ m c.loop-test.true f l))
     (λ bytes wants. (
-      bytes ∙ member_bytes inner c.args.head.now.ids _ c.take_list.new.cursor c.loop.cursor list.0 c.loop.counter l.front c.place-start.ensures.sound list.1 l.so_far,
+      bytes ∙ member_bytes inner c.args.head.now.ids _ c.take_list.new.cursor c.loop.cursor list.0 c.loop.counter l.front c.place_is_within.ensures list.1 l.so_far,
       member_ids list.0 c.take_list.new.cursor c.loop.cursor c.loop.counter l.front list.1 (omega (arith, c.loop-test.true, list.2.count)) l.so_far wants,
     ))
     c.in_err-member.ensures)

@@ -1,3 +1,4 @@
+-- No two neighbors before the index are equal.
 use Rattle.std.proofs.Common.{◌≢◌, ℕ, ◌+◌, ◌<◌, slice_index_or, ℤ}
 use Rattle.twkb_body.proofs.ids.neighbors_differ.Given as goal
 

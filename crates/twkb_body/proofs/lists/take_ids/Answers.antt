@@ -1,3 +1,4 @@
+-- One id more is kept; a malformed one or a refusal of memory ends the reading.
 use Rattle.std.proofs.Common.{◌≡◌, ◌≤◌, length, arith}
 use Rattle.std.proofs.lemmas.Result.{err_from_is_err_and}
 use Rattle.std.proofs.lemmas.Int.{ints}
@@ -15,7 +16,7 @@ pub returns-in_err-push : goal.returns-in_err-push
 returns-in_err-push g c =
     let p = err_from_is_err_and c.from_residual-in_err-push.result c.from_residual-in_err-push.ensures.1 in
     let full : 16 ≤ length c.loop.ids.items = grind (arith, c.in_err-push.ensures.succeeds, c.loop.invariant.room) in
-    rw (p.1, p.2) (ids_many c.args.count _ c.loop.counter c.loop.ids _ _ c.in_ok-id.id c.place-start.ensures.sound c.loop-test.true c.in_ok-id.ensures full c.loop.invariant)
+    rw (p.1, p.2) (ids_many c.args.count _ c.loop.counter c.loop.ids _ _ c.in_ok-id.id c.place_is_within.ensures c.loop-test.true c.in_ok-id.ensures full c.loop.invariant)
 
 pub loop-preserved : goal.loop-preserved
 loop-preserved g c =

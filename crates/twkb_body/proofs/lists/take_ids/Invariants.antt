@@ -1,3 +1,4 @@
+-- The ids kept are those read, in order, from the start to the cursor's place.
 use Rattle.twkb_body.proofs.IdLoops.{IsIdLoop}
 use Rattle.twkb_body.proofs.lists.take_ids.Given as goal
 

@@ -1,3 +1,4 @@
+-- Each id is greater than the one before, so all differ.
 use Rattle.std.proofs.Common.{◌≡◌, refl, arith}
 use Rattle.std.proofs.lemmas.Int.{ints}
 use Rattle.std.specs.Int.{w64}

@@ -1,3 +1,4 @@
+-- The ids so far rise, and the last of them is kept.
 use Rattle.twkb_body.proofs.IdLoops.{IsRisingLoop}
 use Rattle.twkb_body.proofs.lists.take_rising.Given as goal
 

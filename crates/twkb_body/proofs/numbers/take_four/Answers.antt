@@ -1,10 +1,11 @@
+-- Two pairs are four coordinates.
 use Rattle.std.proofs.Common.{◌≡◌, true, subst, arith}
 use Rattle.std.proofs.lemmas.Int.{ints}
 use mir.Val.{to_z, of_z}
 use Rattle.std.specs.Int.{w64}
 use Rattle.twkb_num.specs.Cursor.{Reading}
 use Rattle.twkb_body.specs.declared.numbers.Numbers.{Numbers}
-use Rattle.twkb_body.specs.Numbers.{AreDifferences}
+use Rattle.twkb_body.specs.Devices.Numbers.{AreDifferences}
 use Rattle.twkb_body.proofs.NumberSteps.{four_read}
 use Rattle.twkb_body.proofs.numbers.take_four.Goals as goal
 

@@ -1,3 +1,4 @@
+-- A pair and a number are three coordinates.
 use Rattle.std.proofs.Common.{◌≡◌, false, pos, refl, subst, arith}
 use Rattle.std.proofs.lemmas.Int.{ints}
 use mir.Val.{to_z, of_z}
@@ -5,7 +6,7 @@ use Rattle.std.specs.Int.{w64}
 use Rattle.twkb_num.specs.Cursor.{Reading}
 use Rattle.twkb_num.specs.Varint.{IsShort}
 use Rattle.twkb_body.specs.declared.numbers.Numbers.{Numbers}
-use Rattle.twkb_body.specs.Numbers.{AreDifferences}
+use Rattle.twkb_body.specs.Devices.Numbers.{AreDifferences}
 use Rattle.twkb_body.proofs.NumberSteps.{three_read}
 use Rattle.twkb_body.proofs.numbers.take_three.Goals as goal
 

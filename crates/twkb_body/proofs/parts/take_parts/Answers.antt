@@ -1,8 +1,9 @@
+-- One part more is walked; a malformed one ends the walk.
 use Rattle.std.proofs.Common.{arith}
 use Rattle.std.proofs.lemmas.Result.{err_from_is_err_and}
-use Rattle.twkb_body.specs.BodyPlan.{ring_sums}
-use Rattle.twkb_body.specs.BodyReader.{part_at}
-use Rattle.twkb_body.specs.Inside.{of_head}
+use Rattle.twkb_body.specs.Devices.Body.{ring_sums}
+use Rattle.twkb_body.specs.Devices.BodyReader.{part_at}
+use Rattle.twkb_body.specs.Devices.Inside.{of_head}
 use Rattle.twkb_body.proofs.Sums.{rings_sums_flat}
 use Rattle.twkb_body.proofs.Walks.{walk_goes_on, walk_fails, walk_ends, part_points}
 use Rattle.twkb_body.proofs.parts.take_parts.Goals as goal

@@ -1,8 +1,9 @@
+-- One ring more is walked; a malformed one ends the walk.
 use Rattle.std.proofs.Common.{arith}
 use Rattle.std.proofs.lemmas.Result.{err_from_is_err_and}
-use Rattle.twkb_body.specs.BodyPlan.{sums}
-use Rattle.twkb_body.specs.BodyReader.{ring_at}
-use Rattle.twkb_body.specs.Inside.{of_head}
+use Rattle.twkb_body.specs.Devices.Body.{sums}
+use Rattle.twkb_body.specs.Devices.BodyReader.{ring_at}
+use Rattle.twkb_body.specs.Devices.Inside.{of_head}
 use Rattle.twkb_body.proofs.Walks.{number_ahead, walk_goes_on, counted_fails, counted_ends, ring_points, rings_are_sums}
 use Rattle.twkb_body.proofs.parts.take_polygon.Goals as goal
 

@@ -1,4 +1,5 @@
-use Rattle.twkb_body.specs.Inside.{of_head}
+-- The rings so far were walked, from the first trail to this one.
+use Rattle.twkb_body.specs.Devices.Inside.{of_head}
 use Rattle.twkb_body.proofs.Walks.{IsPolygonLoop}
 use Rattle.twkb_body.proofs.parts.take_polygon.Given as goal
 

@@ -1,9 +1,10 @@
+-- A run of points and one point more join; a malformed point ends the walk.
 use Rattle.std.proofs.Common.{arith, subst}
 use Rattle.std.proofs.lemmas.Result.{err_from_is_err_and}
-use Rattle.twkb_body.specs.BodyPlan.{add}
-use Rattle.twkb_body.specs.BodyReader.{point_at}
-use Rattle.twkb_body.specs.Inside.{of_head}
-use Rattle.twkb_body.specs.Walk.{IsWalked}
+use Rattle.twkb_body.specs.Devices.Body.{add}
+use Rattle.twkb_body.specs.Devices.BodyReader.{point_at}
+use Rattle.twkb_body.specs.Devices.Inside.{of_head}
+use Rattle.twkb_body.specs.Devices.Walk.{IsWalked}
 use Rattle.twkb_body.proofs.PartPlans.{flat_single}
 use Rattle.twkb_body.proofs.Runs.{ring_goes_far}
 use Rattle.twkb_body.proofs.Walks.{number_ahead, walk_goes_on, counted_fails, counted_ends, one_point, add_is_sums}

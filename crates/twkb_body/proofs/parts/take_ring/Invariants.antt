@@ -1,5 +1,6 @@
+-- The points so far were walked, from the first trail to this one, and are no more than the ring has.
 use Rattle.std.proofs.Common.{◌-◌, ◌≤◌}
-use Rattle.twkb_body.specs.Inside.{of_head}
+use Rattle.twkb_body.specs.Devices.Inside.{of_head}
 use Rattle.twkb_body.proofs.Walks.{IsRingLoop}
 use Rattle.twkb_body.proofs.parts.take_ring.Given as goal
 

@@ -1,7 +1,8 @@
+-- The quick pass over a geometry and that over members, each by the other.
 use Rattle.std.proofs.Common.{◌≡◌, ◌+◌, ◌-◌, suc, refl, sym, ap, ◌∙◌, arith}
 use Rattle.twkb_head.specs.BegunHeader.{deepest}
 use Rattle.twkb_head.specs.Raw.{whole_head}
-use Rattle.twkb_body.specs.Found.{size_judged}
+use Rattle.twkb_body.specs.Devices.Found.{size_judged}
 use Rattle.twkb_body.proofs.SureSteps.{own_box, geometry_sure, sure_begins, sure_goes_on, members_sure}
 use Rattle.twkb_body.proofs.quick.+take_sure.Goals as goal
 
@@ -9,7 +10,7 @@ pub take_sure-returns : goal.take_sure-returns
 take_sure-returns t c =
     let flat = c.in-Some.flat in
     let under = rw c.of-own.ensures at c.in_ok-frame.ensures in
-    geometry_sure (whole_head flat) flat.head c.args.depth c.args.above.now c.in_ok-frame.frame c.args.cursor.now c.read_flat_head.new.cursor _ _ c.requires.shallowest c.requires.deepest c.place-start.ensures.sound
+    geometry_sure (whole_head flat) flat.head c.args.depth c.args.above.now c.in_ok-frame.frame c.args.cursor.now c.read_flat_head.new.cursor _ _ c.requires.shallowest c.requires.deepest c.place_is_within.ensures
     c.in-Some.ensures.ok c.in-Some.ensures.moved refl (own_box flat c.args.above.now c.in_ok-frame.frame under) under.above_holds c.in_ok-vertices.ensures
     (sym (ap (size_judged flat.head.size) (sym c.place-stop.ensures.value) ∙ c.if-not-is_size_true.ensures refl))
 
@@ -17,7 +18,7 @@ pub take_further-returns : goal.take_further-returns
 take_further-returns t c =
     let raw = c.in_ok-raw.raw in
     let under = rw c.of-own.ensures at c.in_ok-frame.ensures in
-    geometry_sure (whole_head raw) raw.head c.args.depth c.args.above.now c.in_ok-frame.frame c.args.cursor.now c.read_raw_head.new.cursor _ _ c.requires.shallowest c.requires.deepest c.place-start.ensures.sound
+    geometry_sure (whole_head raw) raw.head c.args.depth c.args.above.now c.in_ok-frame.frame c.args.cursor.now c.read_raw_head.new.cursor _ _ c.requires.shallowest c.requires.deepest c.place_is_within.ensures
     c.in_ok-raw.ensures.ok c.in_ok-raw.ensures.moved refl (own_box raw c.args.above.now c.in_ok-frame.frame under) under.above_holds c.in_ok-vertices.ensures
     (sym (ap (size_judged raw.head.size) (sym c.place-stop.ensures.value) ∙ c.if-not-is_size_true.ensures refl))
 

@@ -1,3 +1,4 @@
+-- The members so far are sure and have the vertices counted; each step comes nearer to the deepest level.
 use Rattle.std.proofs.Common.{◌+◌, ◌-◌, ◌*◌}
 use Rattle.twkb_head.specs.BegunHeader.{deepest}
 use Rattle.twkb_body.proofs.SureSteps.{IsSureLoop}

@@ -1,3 +1,4 @@
+-- A body that the frame holds is sure, and so is one that no box asks for.
 use Rattle.std.proofs.Common.{◌-◌, ap₂, sym}
 use Rattle.twkb_head.specs.BegunHeader.{deepest}
 use Rattle.twkb_head.specs.Header.{axes_with}

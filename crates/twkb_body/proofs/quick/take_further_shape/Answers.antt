@@ -1,3 +1,4 @@
+-- The same of a body of more axes.
 use Rattle.std.proofs.Common.{◌-◌, sym}
 use Rattle.twkb_head.specs.BegunHeader.{deepest}
 use Rattle.twkb_body.proofs.SureSteps.{body_held, body_unboxed}

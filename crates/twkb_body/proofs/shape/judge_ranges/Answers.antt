@@ -1,8 +1,9 @@
+-- Ranges in units are the reach of the points, and are judged as it is.
 use Rattle.std.proofs.Common.{◌∙◌, ap, FitsSigned, rules}
 use Rattle.std.proofs.lemmas.Int.{to_z-of_z}
 use Rattle.std.specs.Int.{w8}
-use Rattle.twkb_body.specs.Found.{box_judged}
-use Rattle.twkb_body.specs.Inside.{of_head}
+use Rattle.twkb_body.specs.Devices.Found.{box_judged}
+use Rattle.twkb_body.specs.Devices.Inside.{of_head}
 use Rattle.twkb_body.proofs.shape.judge_ranges.Goals as goal
 
 pub returns-clause-boxed : goal.returns-clause-boxed

@@ -1,10 +1,11 @@
+-- A count, its ids and the parts are a body; a malformed field or want of memory stops it.
 use Rattle.std.proofs.Common.{refl}
 use Rattle.std.proofs.lemmas.Result.{err_from_is_err_and}
 use Rattle.twkb_num.specs.Cursor.{rest}
 use Rattle.twkb_head.specs.Header.{is_multi}
-use Rattle.twkb_body.specs.BodyReader.{count_at, shape_at}
-use Rattle.twkb_body.specs.IdLists.{HasManyIdsAfterCount}
-use Rattle.twkb_body.specs.Inside.{of_head}
+use Rattle.twkb_body.specs.Devices.BodyReader.{count_at, shape_at}
+use Rattle.twkb_body.specs.Devices.IdLists.{HasManyIdsAfterCount}
+use Rattle.twkb_body.specs.Devices.Inside.{of_head}
 use Rattle.twkb_body.proofs.ShapeSteps.{no_count, no_parts, shape_of_parts}
 use Rattle.twkb_body.proofs.Stopping.{stops_outside}
 use Rattle.twkb_body.proofs.shape.take_shape.Goals as goal

@@ -1,3 +1,4 @@
+-- A sum that leaves 64 bits is refused at the number's first byte; else it is the coordinate.
 use Rattle.std.proofs.Common.{◌≡◌, refl, ap, ◌∙◌, arith, length}
 use Rattle.std.proofs.lemmas.Result.{err_from_is_err_and}
 use Rattle.std.proofs.lemmas.Int.{ints}

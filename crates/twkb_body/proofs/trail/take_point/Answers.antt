@@ -1,9 +1,10 @@
+-- One coordinate more is read; a malformed one ends the point.
 use Rattle.std.proofs.Common.{◌≡◌, pos, slice_index_or, refl, arith}
 use Rattle.std.proofs.lemmas.Result.{err_from_is_err_and}
 use Rattle.std.proofs.lemmas.Int.{ints}
 use mir.Val.{to_z, of_z}
 use Rattle.std.specs.Int.{w64}
-use Rattle.twkb_body.specs.Inside.{of_head}
+use Rattle.twkb_body.specs.Devices.Inside.{of_head}
 use Rattle.twkb_body.proofs.Coordinates.{axes_few, point_goes_on, point_fails, point_ends}
 use Rattle.twkb_body.proofs.trail.take_point.Goals as goal
 

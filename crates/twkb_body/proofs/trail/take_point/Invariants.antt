@@ -1,3 +1,4 @@
+-- The coordinates before this axis were read, and the others are as before.
 use Rattle.twkb_body.proofs.Coordinates.{IsPointLoop}
 use Rattle.twkb_body.proofs.trail.take_point.Given as goal
 

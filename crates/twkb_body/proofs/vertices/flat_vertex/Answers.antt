@@ -1,3 +1,4 @@
+-- A point of X and Y alone is scaled to the vertex of the definition.
 use Rattle.std.proofs.Common.{◌≡◌, ℕ, pos, ◌∷◌, Option, None, Some, refl, ap, ap₂, ◌∙◌, arith, option_map}
 use Rattle.std.proofs.lemmas.Int.{ints}
 use mir.Val.{to_z, of_z}

@@ -1,9 +1,10 @@
+-- The run goes on by one point, whose differences are short.
 use Rattle.std.proofs.Common.{◌≡◌, ◌+◌, ◌<◌, ◌^◌, pos, ◌+ℤ◌, length, drop, slice_index_or, refl, ap, ◌∙◌, arith}
 use Rattle.std.proofs.lemmas.Int.{ints}
 use mir.Val.{to_z, of_z}
 use Rattle.std.specs.Int.{w64}
-use Rattle.twkb_body.specs.Inside.{of_head}
-use Rattle.twkb_body.specs.Walk.{shown}
+use Rattle.twkb_body.specs.Devices.Inside.{of_head}
+use Rattle.twkb_body.specs.Devices.Walk.{shown}
 use Rattle.twkb_body.proofs.ShortRuns.{short_begins, short_goes_on}
 use Rattle.twkb_body.proofs.vertices.show_flat_run.Goals as goal
 

@@ -1,6 +1,7 @@
+-- So many points were shown; their differences are short, so the sums in locals have 64 bits.
 use Rattle.std.proofs.Common.{◌≡◌}
-use Rattle.twkb_body.specs.Inside.{of_head}
-use Rattle.twkb_body.specs.Walk.{shown}
+use Rattle.twkb_body.specs.Devices.Inside.{of_head}
+use Rattle.twkb_body.specs.Devices.Walk.{shown}
 use Rattle.twkb_body.proofs.ShortRuns.{IsShortRun}
 use Rattle.twkb_body.proofs.vertices.show_flat_run.Given as goal
 

@@ -1,3 +1,4 @@
+-- The fields that were read are a header.
 use Rattle.std.proofs.Common.{Ok, arith}
 use Rattle.twkb_head.proofs.HeadLaws.{head_ok, head_moved}
 use Rattle.twkb_head.proofs.boxed.read_boxed_head.Goals as goal

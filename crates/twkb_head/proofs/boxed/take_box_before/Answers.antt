@@ -1,3 +1,4 @@
+-- Two ranges are a box in X and Y.
 use Rattle.std.proofs.Common.{None, refl}
 use Rattle.twkb_head.proofs.HeadSteps.{box_read}
 use Rattle.twkb_head.proofs.boxed.take_box_before.Goals as goal

@@ -1,10 +1,11 @@
+-- No extended dimensions byte, then a size, then a box.
 use Rattle.std.proofs.Common.{◌≡◌, Some, None, refl, sym, arith}
 use Rattle.std.proofs.lemmas.Int.{ints}
 use mir.Val.{to_z, of_z}
 use Rattle.std.specs.Int.{w8}
-use Rattle.twkb_head.specs.HeadReader.{bounds_from}
+use Rattle.twkb_head.specs.Devices.HeadReader.{bounds_from}
 use Rattle.twkb_head.specs.Raw.{raw_bounds}
-use Rattle.twkb_head.specs.Reader.{byte_at, number_at}
+use Rattle.twkb_head.specs.Devices.Reader.{byte_at, number_at}
 use Rattle.twkb_head.proofs.HeadSteps.{is_read, not_read, box_seen}
 use Rattle.twkb_head.proofs.boxed.take_boxed_fields.Goals as goal
 

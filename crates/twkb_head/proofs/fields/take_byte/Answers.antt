@@ -1,3 +1,4 @@
+-- The byte that was read, or the end, is what the reader answers.
 use Rattle.std.proofs.Common.{refl}
 use Rattle.twkb_head.proofs.Steps.{read_byte, read_no_byte}
 use Rattle.twkb_head.proofs.fields.take_byte.Goals as goal

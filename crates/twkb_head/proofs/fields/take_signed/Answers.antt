@@ -1,3 +1,4 @@
+-- The number that was read, or its fault, is what the reader answers.
 use Rattle.std.proofs.Common.{refl, rules}
 use Rattle.std.proofs.lemmas.Int.{to_z-of_z}
 use mir.Val.{SFits}
@@ -7,7 +8,7 @@ use Rattle.twkb_head.proofs.fields.take_signed.Goals as goal
 
 pub returns-in-Ok : goal.returns-in-Ok
 returns-in-Ok c =
-    let fits : SFits w64 c.in-Ok.number = search rules in
+    let fits : SFits w64 c.in-Ok.signed = search rules in
     simp to_z-of_z (read_signed _ _ _ c.in-Ok.ensures.ok c.in-Ok.ensures.moved)
 
 pub returns-in-Err : goal.returns-in-Err

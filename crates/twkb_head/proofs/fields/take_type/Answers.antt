@@ -1,3 +1,4 @@
+-- A byte that is refused for its kind or its depth is left unread.
 use Rattle.std.proofs.Common.{◌-◌, refl, ap, rules, arith, length}
 use Rattle.std.proofs.lemmas.Result.{err_from_is_err_and}
 use Rattle.std.proofs.lemmas.Int.{to_z-of_z}

@@ -1,6 +1,7 @@
+-- The fields that were read are a header.
 use Rattle.std.proofs.Common.{◌-◌, Ok, sym, ap, ◌∙◌}
 use Rattle.twkb_head.specs.BegunHeader.{deepest}
-use Rattle.twkb_head.specs.HeadReader.{head_at}
+use Rattle.twkb_head.specs.Devices.HeadReader.{head_at}
 use Rattle.twkb_head.proofs.HeadLaws.{head_ok, head_moved}
 use Rattle.twkb_head.proofs.raw.read_flat_head.Goals as goal
 

@@ -1,3 +1,4 @@
+-- The fields that were read are a header.
 use Rattle.std.proofs.Common.{Ok}
 use Rattle.twkb_head.proofs.HeadLaws.{head_ok, head_moved}
 use Rattle.twkb_head.proofs.raw.read_raw_head.Goals as goal

@@ -1,3 +1,4 @@
+-- Three bytes that are told by their values are the header of a point with a size.
 use Rattle.std.proofs.Common.{◌≡◌, [], ◌∷◌, slice_index, ℕ, sym, subst, ◌∙◌}
 use Rattle.twkb_num.specs.Cursor.{passed, rest}
 use Rattle.twkb_head.specs.Raw.{IsSizedPoint}

@@ -1,10 +1,11 @@
+-- A type byte, a metadata byte and the fields behind them make a header.
 use Rattle.std.proofs.Common.{◌≡◌, ◌-◌, Some, sym, arith}
 use Rattle.std.proofs.lemmas.Int.{ints}
 use mir.Val.{to_z, of_z}
 use Rattle.std.specs.Int.{w8}
 use Rattle.twkb_head.specs.BegunHeader.{deepest}
 use Rattle.twkb_head.specs.Header.{has_bit}
-use Rattle.twkb_head.specs.Reader.{byte_at}
+use Rattle.twkb_head.specs.Devices.Reader.{byte_at}
 use Rattle.twkb_head.proofs.HeadSteps.{not_read, fields_make_head}
 use Rattle.twkb_head.proofs.raw.take_flat_head.Goals as goal
 

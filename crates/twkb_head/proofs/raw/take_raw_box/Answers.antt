@@ -1,6 +1,7 @@
+-- Two ranges, and perhaps two more, are a box.
 use Rattle.std.proofs.Common.{Bool, Some, sym, ap, ◌∙◌}
-use Rattle.twkb_head.specs.HeadReader.{bounds_from}
-use Rattle.twkb_head.specs.Reader.{viewed, optional_at}
+use Rattle.twkb_head.specs.Devices.HeadReader.{bounds_from}
+use Rattle.twkb_head.specs.Devices.Reader.{viewed, optional_at}
 use Rattle.twkb_head.proofs.HeadSteps.{box_read}
 use Rattle.twkb_head.proofs.raw.take_raw_box.Goals as goal
 

@@ -1,3 +1,4 @@
+-- Perhaps an extended dimensions byte, a size and a box, by the bits that announce them.
 use Rattle.std.proofs.Common.{◌≡◌, is_some, sym, ap, ◌∙◌, arith}
 use Rattle.std.proofs.lemmas.Int.{ints}
 use mir.Val.{to_z, of_z}

@@ -1,3 +1,4 @@
+-- A type byte, a metadata byte and the fields behind them make a header.
 use Rattle.std.proofs.Common.{◌≡◌, ◌-◌, arith}
 use Rattle.std.proofs.lemmas.Int.{ints}
 use mir.Val.{to_z, of_z}

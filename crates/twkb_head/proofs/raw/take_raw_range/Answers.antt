@@ -1,3 +1,4 @@
+-- A pair of signed varints is a range.
 use Rattle.std.proofs.Common.{◌≡◌, ℤ, ◌+ℤ◌, Ok, ap₂, sym, ◌∙◌, arith}
 use Rattle.std.proofs.lemmas.Int.{ints}
 use mir.Val.{to_z, of_z}

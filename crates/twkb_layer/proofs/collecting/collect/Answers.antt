@@ -1,6 +1,7 @@
+-- One blob more is kept, and read at most twice.
 use Rattle.std.proofs.Common.{◌<◌, ◌≤◌, ap, arith, length, ◌∙◌}
 use Rattle.twkb_layer.proofs.Scanning.{next_of, stands_along}
-use Rattle.twkb_layer.proofs.Keeping.{collect_step, collect_end, collect_fits}
+use Rattle.twkb_layer.proofs.Keeping.{collect_goes_on, collect_ends, collect_fits}
 use Rattle.twkb_layer.proofs.collecting.collect.Goals as goal
 
 pub keep-requires-clause-stands : goal.keep-requires-clause-stands
@@ -34,14 +35,14 @@ loop-keeper-preserved g c =
     record {
       bytes = past.bytes ∙ inv.bytes;
       small = inv.small;
-      going = collect_step g.K.Keeper.of _ _ c.loop-keeper.cursor _ _ _ inv.going n _ past _ _ (c.keep.ensures.says n.tree stands) c.keep.ensures.spare;
+      going = collect_goes_on g.K.Keeper.of _ _ c.loop-keeper.cursor _ _ _ inv.going n _ past _ _ (c.keep.ensures.says n.tree stands) c.keep.ensures.spare;
     }
 
 pub returns-clause-kept : goal.returns-clause-kept
 returns-clause-kept g c = λ trees h.
     let inv = c.loop-keeper.invariant in
     let done : length c.args.cursor.now.bytes ≤ c.loop-keeper.cursor.place = omega (arith, ap length inv.bytes) in
-    collect_end g.K.Keeper.of _ _ _ _ _ _ _ inv.going done trees h
+    collect_ends g.K.Keeper.of _ _ _ _ _ _ _ inv.going done trees h
 
 pub overflow_add-blob : goal.overflow_add-blob
 overflow_add-blob g c =

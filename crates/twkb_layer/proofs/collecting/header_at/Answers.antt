@@ -1,3 +1,4 @@
+-- A blob stands at the place, so a header is read there.
 use Rattle.twkb_head.proofs.BoxNumbers.{head_spelled}
 use Rattle.twkb_body.proofs.HeadStands.{header_starts}
 use Rattle.twkb_layer.proofs.Keeping.{says_of, back_at}

@@ -1,3 +1,4 @@
+-- A true size leads to the blob's end, and a true box that misses has no vertex inside.
 use Rattle.std.proofs.Common.{refl, arith}
 use Rattle.twkb_layer.proofs.Hopping.{hop_stops, hop_past, hop_none, hop_room}
 use Rattle.twkb_layer.proofs.hops.hop_over.Goals as goal

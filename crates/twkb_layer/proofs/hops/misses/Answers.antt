@@ -1,9 +1,10 @@
+-- The comparison of raw integers gives the answer of units.
 use Rattle.std.proofs.Common.{◌≡◌, ℤ, ◌+ℤ◌, IfSome, sym, subst, ◌∙◌, arith}
 use Rattle.std.proofs.lemmas.Int.{ints}
 use mir.Val.{to_z, of_z}
 use Rattle.std.specs.Int.{w64}
 use Rattle.twkb_head.specs.Raw.{AreNear}
-use Rattle.twkb_layer.specs.Raw.{IsRawWindow}
+use Rattle.twkb_layer.specs.Devices.Raw.{IsRawWindow}
 use Rattle.twkb_layer.proofs.Hopping.{missed_raw}
 use Rattle.twkb_layer.proofs.hops.misses.Goals as goal
 

@@ -1,3 +1,4 @@
+-- A quotient rounded down, or an end of 64 bits, is the greatest.
 use Rattle.std.proofs.Common.{◌≡◌, true, false, ℤ, pos, ◌-ℤ◌, to_z, of_z, ap, sym, ◌∙◌, rules}
 use Rattle.std.proofs.lemmas.Int.{to_z-of_z, quot_is, rem_is, quot_fits}
 use Rattle.std.specs.Int.{w64, w128}

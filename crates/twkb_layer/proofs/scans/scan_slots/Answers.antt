@@ -1,3 +1,4 @@
+-- One slot more is remembered, or its blob looked at.
 use Rattle.std.proofs.Common.{refl, sym, ap, ◌∙◌, arith, sum_by, true, false}
 use Rattle.std.specs.List.{list_any}
 use Rattle.twkb_num.specs.Cursor.{added}
@@ -6,7 +7,7 @@ use Rattle.twkb_body.specs.Geometry.{vertices}
 use Rattle.twkb_layer.specs.Directory.{directory_cost}
 use Rattle.twkb_layer.specs.Window.{is_inside}
 use Rattle.twkb_layer.proofs.Costs.{directory_costs_few}
-use Rattle.twkb_layer.proofs.Looking.{look_start, look_beyond, slot_next, here_of, here_stands, here_fits, look_step, look_end}
+use Rattle.twkb_layer.proofs.Looking.{look_begins, look_beyond, slot_next, here_of, here_stands, here_fits, look_goes_on, look_ends}
 use Rattle.twkb_layer.proofs.scans.scan_slots.Goals as goal
 use Rattle.twkb_layer.proofs.scans.scan_slots.Goals.{then-is_beyond, else-is_beyond, then-look_at, else-look_at}
 
@@ -14,7 +15,7 @@ pub loop-slot-init : goal.loop-slot-init
 loop-slot-init c = record {
   bytes = refl;
   small = c.place-start.ensures.sound.length_fits;
-  going = rw c.unboxed-nothing.ensures (look_start _ _ _ _ _ c.requires.0 c.requires.1 c.requires.2 (let s = c.place-start.ensures.sound in omega arith));
+  going = rw c.unboxed-nothing.ensures (look_begins _ _ _ _ _ c.requires.0 c.requires.1 c.requires.2 (let s = c.place-start.ensures.sound in omega arith));
 }
 
 pub look_at-requires : goal.look_at-requires
@@ -57,24 +58,24 @@ loop-slot-preserved c =
             bytes = rw w.cursor-is (w.look_at.ensures.bytes ∙ inv.bytes);
             small = inv.small;
             going = rw (w.cursor-is, w.room-is, w.beyond-is, w.blob-is, w.found-is) (elim w.if-look_at.branch [
-              | then-look_at v ↦ rw (v.found-is, v.report.ensures.found, v.room-is, v.report.ensures.room) (look_step _ _ _ _ _ _ _ _ _ _ _ s _ h _ v.hit.ensures _ count true (sym v.if-look_at.true ∙ found))
-              | else-look_at v ↦ rw (v.found-is, v.room-is) (look_step _ _ _ _ _ _ _ _ _ _ _ s _ h _ refl _ count false (sym v.if-look_at.false ∙ found))
+              | then-look_at v ↦ rw (v.found-is, v.report.ensures.found, v.room-is, v.report.ensures.room) (look_goes_on _ _ _ _ _ _ _ _ _ _ _ s _ h _ v.hit.ensures _ count true (sym v.if-look_at.true ∙ found))
+              | else-look_at v ↦ rw (v.found-is, v.room-is) (look_goes_on _ _ _ _ _ _ _ _ _ _ _ s _ h _ refl _ count false (sym v.if-look_at.false ∙ found))
             ]);
           }
     ]
 
 pub returns-clause-answer : goal.returns-clause-answer
-returns-clause-answer c = λ trees h. (look_end _ _ _ _ _ _ _ _ _ _ _ c.loop-slot.invariant.going c.loop-slot-test.false trees h).answer
+returns-clause-answer c = λ trees h. (look_ends _ _ _ _ _ _ _ _ _ _ _ c.loop-slot.invariant.going c.loop-slot-test.false trees h).answer
 
 pub returns-clause-room : goal.returns-clause-room
-returns-clause-room c = λ trees h. (look_end _ _ _ _ _ _ _ _ _ _ _ c.loop-slot.invariant.going c.loop-slot-test.false trees h).room_is
+returns-clause-room c = λ trees h. (look_ends _ _ _ _ _ _ _ _ _ _ _ c.loop-slot.invariant.going c.loop-slot-test.false trees h).room_is
 
 pub returns-clause-count : goal.returns-clause-count
-returns-clause-count c = λ trees h. (look_end _ _ _ _ _ _ _ _ _ _ _ c.loop-slot.invariant.going c.loop-slot-test.false trees h).count_is
+returns-clause-count c = λ trees h. (look_ends _ _ _ _ _ _ _ _ _ _ _ c.loop-slot.invariant.going c.loop-slot-test.false trees h).count_is
 
 pub returns-clause-grows : goal.returns-clause-grows
 returns-clause-grows c =
-    let all = look_end _ _ _ _ _ _ _ _ _ _ _ c.loop-slot.invariant.going c.loop-slot-test.false c.requires.0 c.requires.1 in
+    let all = look_ends _ _ _ _ _ _ _ _ _ _ _ c.loop-slot.invariant.going c.loop-slot-test.false c.requires.0 c.requires.1 in
     let first = c.place-start.ensures.sound in
     omega (arith, all.count_is, first.count_fits)
 
@@ -82,5 +83,5 @@ pub returns-clause-few : goal.returns-clause-few
 returns-clause-few c = record {
   read = sum_by (directory_cost c.args.window.now) c.requires.0;
   few = directory_costs_few c.args.window.now c.requires.0 _ c.requires.1.layer;
-  is = (look_end _ _ _ _ _ _ _ _ _ _ _ c.loop-slot.invariant.going c.loop-slot-test.false c.requires.0 c.requires.1).count_is;
+  is = (look_ends _ _ _ _ _ _ _ _ _ _ _ c.loop-slot.invariant.going c.loop-slot-test.false c.requires.0 c.requires.1).count_is;
 }

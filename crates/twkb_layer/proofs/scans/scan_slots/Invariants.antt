@@ -1,3 +1,4 @@
+-- The hits and the cost so far are those of the blobs of the slots before; the others are of the blobs still to come.
 use Rattle.std.proofs.Common.{◌≡◌, ◌<◌, ◌^◌, length, drop}
 use Rattle.twkb_layer.proofs.Looking.{Looking}
 use Rattle.twkb_layer.proofs.scans.scan_slots.Given as goal

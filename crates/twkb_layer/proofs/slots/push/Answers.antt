@@ -1,7 +1,8 @@
+-- One slot or two were pushed, and say the blob's entry.
 use Rattle.std.proofs.Common.{List, Some, None, refl, sym, ap, ◌∙◌, arith}
 use Rattle.std.specs.Option.{option_and_then}
-use Rattle.twkb_layer.specs.Slots.{Said}
-use Rattle.twkb_layer.proofs.Placing.{places_flat, places_deep, nothing_beyond, own_slot, slot_before, deep_unboxed, deep_boxed, flat_unboxed, flat_boxed}
+use Rattle.twkb_layer.specs.Devices.Slots.{Said}
+use Rattle.twkb_layer.proofs.Placing.{entries_flat, entries_deep, nothing_beyond, own_slot, slot_before, deep_unboxed, deep_boxed, flat_unboxed, flat_boxed}
 use Rattle.twkb_layer.proofs.slots.push.Goals as goal
 use Rattle.twkb_layer.proofs.slots.push.Goals.{then-deep, else-deep, in-None, in-Some}
 
@@ -34,25 +35,25 @@ returns-clause-says g c =
       | then-deep w ↦ rw (w.slots-is, w.push_reserved.ensures.items, w.beyond.ensures) (elim c.match-head.branch [
         | in-None v ↦
             let place = deep_unboxed offset deep z m w.if-deep.true in
-            rw (v.slot-is, v.unboxed-slot.ensures, v.in-None.is) (places_deep kept (slot_before offset z m) (own_slot offset deep None None) _ refl refl place)
+            rw (v.slot-is, v.unboxed-slot.ensures, v.in-None.is) (entries_deep kept (slot_before offset z m) (own_slot offset deep None None) _ refl refl place)
         | in-Some v ↦
             let box = v.in-Some.field.bounds in
             let z_is = c.further-z.ensures.z ∙ ap (option_and_then (λ field. field.bounds.z)) v.in-Some.is in
             let m_is = c.further-z.ensures.m ∙ ap (option_and_then (λ field. field.bounds.m)) v.in-Some.is in
             let place = deep_boxed offset deep z m box w.if-deep.true z_is m_is in
-            rw (v.slot-is, v.boxed-slot.ensures, v.in-Some.is) (places_deep kept (slot_before offset z m) (own_slot offset deep (Some box.x) (Some box.y)) _ refl refl place)
+            rw (v.slot-is, v.boxed-slot.ensures, v.in-Some.is) (entries_deep kept (slot_before offset z m) (own_slot offset deep (Some box.x) (Some box.y)) _ refl refl place)
       ])
       | else-deep w ↦
           let nothing = nothing_beyond z m offset (sym c.passes_a_slot-deep.ensures ∙ w.if-deep.false) in
           rw w.slots-is (elim c.match-head.branch [
             | in-None v ↦
                 let place = flat_unboxed offset deep z m w.if-deep.false nothing.2 in
-                rw (v.slot-is, v.unboxed-slot.ensures, v.in-None.is) (places_flat kept (own_slot offset deep None None) _ refl w.if-deep.false place)
+                rw (v.slot-is, v.unboxed-slot.ensures, v.in-None.is) (entries_flat kept (own_slot offset deep None None) _ refl w.if-deep.false place)
             | in-Some v ↦
                 let box = v.in-Some.field.bounds in
                 let z_is = sym nothing.0 ∙ (c.further-z.ensures.z ∙ ap (option_and_then (λ field. field.bounds.z)) v.in-Some.is) in
                 let m_is = sym nothing.1 ∙ (c.further-z.ensures.m ∙ ap (option_and_then (λ field. field.bounds.m)) v.in-Some.is) in
                 let place = flat_boxed offset deep z m box w.if-deep.false nothing.2 z_is m_is in
-                rw (v.slot-is, v.boxed-slot.ensures, v.in-Some.is) (places_flat kept (own_slot offset deep (Some box.x) (Some box.y)) _ refl w.if-deep.false place)
+                rw (v.slot-is, v.boxed-slot.ensures, v.in-Some.is) (entries_flat kept (own_slot offset deep (Some box.x) (Some box.y)) _ refl w.if-deep.false place)
           ])
     ])

@@ -1,10 +1,11 @@
+-- In each form the range is that of the definition.
 use Rattle.std.proofs.Common.{◌≡◌, inl, inr, ℕ, pos, ◌-ℤ◌, FitsSigned, to_z, of_z, Some, None, Bool, true, nat_lt, if◌then◌else◌, ap, sym, ◌∙◌, arith, rules}
 use Rattle.std.specs.Int.{w8, w64, w128}
 use Rattle.std.proofs.lemmas.Int.{ints, to_z-of_z}
 use Rattle.std.proofs.lemmas.Bool.Decides.{nat_tests}
 use Rattle.twkb_num.specs.Units.{units_of}
-use Rattle.twkb_layer.specs.Raw.{precision_of}
-use Rattle.twkb_layer.specs.Slots.{range_at, range_in}
+use Rattle.twkb_layer.specs.Devices.Raw.{precision_of}
+use Rattle.twkb_layer.specs.Devices.Slots.{range_at, range_in}
 use Rattle.twkb_layer.proofs.slots.range_of.Goals as goal
 
 pub returns-then-form-eq-NEAR : goal.returns-then-form-eq-NEAR

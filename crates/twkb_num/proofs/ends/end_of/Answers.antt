@@ -1,3 +1,4 @@
+-- The n-th end of a word is found by its tops.
 use Rattle.twkb_num.proofs.NthEnds.{nth_end}
 use Rattle.twkb_num.proofs.ends.end_of.Goals as goal
 

@@ -1,3 +1,4 @@
+-- The lowest top that is set ends the first varint.
 use Rattle.std.proofs.Common.{rules}
 use Rattle.twkb_num.proofs.EndLemmas.{end_found, no_end}
 use Rattle.twkb_num.proofs.ends.first_end.Goals as goal

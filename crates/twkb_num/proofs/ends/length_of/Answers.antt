@@ -1,3 +1,4 @@
+-- A word with so many ends takes the loop on, and the last one is within a word.
 use Rattle.std.proofs.Common.{◌≡◌, ◌-◌, length, take, drop, ap, ◌∙◌, arith, refl}
 use Rattle.twkb_num.proofs.ManySpelled.{rest_is, ends_here, ends_go_on}
 use Rattle.twkb_num.proofs.ends.length_of.Goals as goal

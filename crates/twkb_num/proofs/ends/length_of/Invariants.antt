@@ -1,3 +1,4 @@
+-- The bytes before hold all ends but those left, and what a varint has in them is known.
 use Rattle.twkb_num.proofs.ManySpelled.{IsEndsLoop}
 use Rattle.twkb_num.proofs.ends.length_of.Given as goal
 

@@ -1,3 +1,4 @@
+-- Where units are a multiple of a step, the division gives the coordinate back.
 use Rattle.std.proofs.Common.{◌≡◌, ℕ, zero, suc, ◌<◌, ◌≤◌, ◌/◌, ◌^◌, true, false, pos, negsuc, ℤ, unsigned_abs, to_z, of_z, ◌-ℤ◌, ◌*ℤ◌, FitsSigned, ap, sym, subst, ◌∙◌, arith, rules}
 use Rattle.std.proofs.lemmas.Int.{ints, to_z-of_z, unsigned_abs-mul}
 use Rattle.std.proofs.Math.Nat.{mul-div_cancel}

@@ -1,3 +1,4 @@
+-- A coordinate of 65 bits and a power of ten to the fifteenth stay in 128 bits.
 use Rattle.std.proofs.Common.{◌≡◌, ℕ, ◌≤◌, ◌^◌, pos, ℤ, unsigned_abs, to_z, of_z, ◌-ℤ◌, ◌*ℤ◌, FitsSigned, refl, ap, subst, ◌∙◌, arith, rules}
 use Rattle.std.proofs.lemmas.Int.{ints, to_z-of_z, fits_signed_mul}
 use Rattle.std.specs.Int.{w8, w64, w128}

@@ -1,3 +1,4 @@
+-- The table has the powers of ten.
 use Rattle.std.proofs.Common.{◌≡◌, ℕ, ◌<◌, ◌≤◌, ◌^◌, pos, ℤ, List, [], ◌∷◌, slice_index_or, unsigned_abs, to_z, of_z, ◌-ℤ◌, FitsSigned, ap, ◌∙◌, arith, rules}
 use Rattle.std.proofs.lemmas.Int.{ints, to_z-of_z}
 use Rattle.std.proofs.Math.Nat.{pow-le-pow_right}

@@ -1,3 +1,4 @@
+-- The groups below the first end are the number.
 use Rattle.std.proofs.Common.{refl}
 use Rattle.twkb_num.proofs.FrontLemmas.{front_spells}
 use Rattle.twkb_num.proofs.word.front_of.Goals as goal

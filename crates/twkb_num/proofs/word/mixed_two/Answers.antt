@@ -1,3 +1,4 @@
+-- Two fronts of a word, one behind the other, are two numbers.
 use Rattle.std.proofs.Common.{rules}
 use Rattle.twkb_num.proofs.FrontLemmas.{two_fronts}
 use Rattle.twkb_num.proofs.word.mixed_two.Goals as goal

@@ -1,7 +1,7 @@
+-- The text has the lines of the hits so far.
 use Rattle.std.proofs.Common.{◌≡◌, ◌++◌, take, flat_map}
 use Rattle.twkb_tool.specs.Output.{hit_line}
 use Rattle.twkb_tool.proofs.text.push_hits.Given as goal
 
--- the lines so far
 abbrev pub invariant-loop-hit : goal.invariant-loop-hit
 invariant-loop-hit g l = l.out.items ≡ l.initial.out.items ++ flat_map hit_line (take l.hit-index l.hits)

@@ -1,7 +1,7 @@
+-- The text has the lines of the rows so far.
 use Rattle.std.proofs.Common.{◌≡◌, ◌++◌, take, flat_map}
 use Rattle.twkb_tool.specs.Output.{row_line}
 use Rattle.twkb_tool.proofs.text.push_rows.Given as goal
 
--- the lines so far
 abbrev pub invariant-loop-row : goal.invariant-loop-row
 invariant-loop-row g l = l.out.items ≡ l.initial.out.items ++ flat_map row_line (take l.row-index l.rows)

@@ -1,3 +1,4 @@
+-- The text has the lines of the windows so far, and no scan has read more than all bytes.
 use Rattle.std.proofs.Common.{◌≡◌, ◌+◌, ◌*◌, ◌≤◌, ◌++◌, List, length, take, flat_map}
 use Rattle.twkb_body.specs.Geometry.{Geometry}
 use Rattle.twkb_layer.specs.Directory.{directory_cost}
@@ -6,7 +7,6 @@ use Rattle.twkb_tool.specs.Output.{window_text}
 use Rattle.twkb_tool.specs.declared.run.TheConstants.{MAX_FILE}
 use Rattle.twkb_tool.proofs.text.push_windows.Given as goal
 
--- the windows so far have their lines, and no scan has read more than all bytes
 abbrev pub invariant-loop-window : goal.invariant-loop-window
 invariant-loop-window g l = record {
   bytes : l.layer.bytes ≡ l.initial.layer.bytes;

@@ -1,3 +1,4 @@
+-- Each step of the reader's recursion comes nearer to the deepest level, and within a level nearer to the list.
 use Rattle.std.proofs.Common.{◌+◌, ◌*◌, ◌-◌}
 use Rattle.twkb_head.specs.BegunHeader.{deepest}
 use Rattle.plain.proofs.reader.Reader.+reading.Given as goal

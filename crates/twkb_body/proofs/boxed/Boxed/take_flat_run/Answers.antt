@@ -1,10 +1,11 @@
+-- Distances in locals are those of the points: numbers near zero lose nothing in 64 bits.
 use Rattle.std.proofs.Common.{◌≡◌, ◌+◌, pos, ◌+ℤ◌, ◌-ℤ◌, length, set, slice_index_or, refl, sym, ap, ◌∙◌, subst, arith}
 use Rattle.std.proofs.lemmas.Int.{ints}
 use mir.Val.{to_z, of_z}
 use Rattle.std.specs.Int.{w64}
 use Rattle.twkb_num.specs.Cursor.{Reading}
-use Rattle.twkb_body.specs.Boxed.{held_with, IsNear}
-use Rattle.twkb_body.specs.Inside.{of_head}
+use Rattle.twkb_body.specs.Devices.Boxed.{held_with, IsNear}
+use Rattle.twkb_body.specs.Devices.Inside.{of_head}
 use Rattle.twkb_body.proofs.BoxedRuns.{boxed_begins, boxed_goes_on}
 use Rattle.twkb_body.proofs.FlatRuns.{IsFlatRun, flat_ends}
 use Rattle.twkb_body.proofs.NumberSteps.{difference_fits, points_fit}

@@ -1,5 +1,6 @@
+-- The points so far are a run that the box holds; the locals are the last one's distances from the minima.
 use Rattle.std.proofs.Common.{◌-◌, ◌≤◌}
-use Rattle.twkb_body.specs.Inside.{of_head}
+use Rattle.twkb_body.specs.Devices.Inside.{of_head}
 use Rattle.twkb_body.proofs.BoxedRuns.{IsBoxedRun}
 use Rattle.twkb_body.proofs.boxed.Boxed.take_flat_run.Given as goal
 

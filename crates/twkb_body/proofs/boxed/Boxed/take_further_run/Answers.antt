@@ -1,10 +1,11 @@
+-- The same of three axes or four, with the distances in one value.
 use Rattle.std.proofs.Common.{◌≡◌, ◌+◌, refl, sym, ap, ◌∙◌, subst, arith}
 use Rattle.twkb_num.specs.Cursor.{Reading}
 use Rattle.twkb_body.specs.declared.trail.Trail.{Trail}
-use Rattle.twkb_body.specs.Boxed.{held_with}
-use Rattle.twkb_body.specs.Inside.{of_head}
-use Rattle.twkb_body.specs.Numbers.{listed, axes_by}
-use Rattle.twkb_body.specs.Walk.{IsRun}
+use Rattle.twkb_body.specs.Devices.Boxed.{held_with}
+use Rattle.twkb_body.specs.Devices.Inside.{of_head}
+use Rattle.twkb_body.specs.Devices.Numbers.{listed, axes_by}
+use Rattle.twkb_body.specs.Devices.Walk.{IsRun}
 use Rattle.twkb_body.proofs.FurtherRuns.{IsFurtherRun, further_begins, further_goes_on}
 use Rattle.twkb_body.proofs.boxed.Boxed.take_further_run.Goals as goal
 use Rattle.twkb_body.proofs.boxed.Boxed.take_further_run.Goals.{then-loop-is_inside-test+else-taken-most, else-loop-is_inside-test, then-loop-is_inside-test+then-taken-most+in_default}

@@ -1,6 +1,7 @@
+-- A frame of its own that lies in that above, or that above, holds no more points than that above.
 use Rattle.std.proofs.Common.{◌≡◌, refl, arith}
 use Rattle.std.proofs.lemmas.Int.{ints}
-use Rattle.twkb_body.specs.Sure.{framed}
+use Rattle.twkb_body.specs.Devices.Sure.{framed}
 use Rattle.twkb_body.proofs.SureSteps.{option_same, frame_inside, frame_above, frame_alone}
 use Rattle.twkb_body.proofs.frame.Frame.under.Goals as goal
 

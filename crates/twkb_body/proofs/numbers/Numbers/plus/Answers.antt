@@ -1,3 +1,4 @@
+-- Sums of numbers that were met lose nothing in 64 bits.
 use Rattle.std.proofs.Common.{◌≡◌, arith}
 use Rattle.std.proofs.lemmas.Int.{ints}
 use mir.Val.{to_z, of_z}

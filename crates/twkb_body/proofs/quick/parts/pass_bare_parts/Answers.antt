@@ -1,3 +1,4 @@
+-- Parts that were passed by their ends lead on as parts that are read.
 use Rattle.twkb_body.proofs.BareRuns.{bare_parts}
 use Rattle.twkb_body.proofs.quick.parts.pass_bare_parts.Goals as goal
 

@@ -1,3 +1,4 @@
+-- Of four axes the parts that were taken are those of the definition.
 use Rattle.std.proofs.Common.{sym}
 use Rattle.twkb_body.proofs.quick.parts.take_boxed_four.Goals as goal
 

@@ -1,3 +1,4 @@
+-- Of three axes the parts that were taken are those of the definition.
 use Rattle.std.proofs.Common.{sym}
 use Rattle.twkb_body.proofs.quick.parts.take_boxed_three.Goals as goal
 

@@ -1,3 +1,4 @@
+-- A kind with no list of parts has one.
 use Rattle.std.proofs.Common.{sym}
 use Rattle.twkb_body.proofs.ShapeSteps.{one_alone}
 use Rattle.twkb_body.proofs.quick.parts.take_sure_count.Goals as goal

@@ -1,3 +1,4 @@
+-- Ids that rise are ids that are read, and differ.
 use Rattle.std.proofs.Common.{true, None, refl}
 use Rattle.twkb_body.proofs.ListSteps.{list_without, list_with}
 use Rattle.twkb_body.proofs.quick.parts.take_sure_list.Goals as goal

@@ -1,3 +1,4 @@
+-- A point widens the range of each axis that it has.
 use Rattle.std.proofs.Common.{◌≡◌, ℕ, ℤ, pos, [], ◌∷◌, ap, sym, ◌∙◌, arith, slice_index_or, option_map}
 use Rattle.std.specs.List.{cons_option}
 use Rattle.std.proofs.lemmas.Int.{ints}
@@ -6,8 +7,8 @@ use mir.Val.{to_z, of_z}
 use Rattle.std.specs.Int.{w64}
 use Rattle.twkb_body.specs.Extent.{Reach, joined, span_of}
 use Rattle.twkb_body.specs.Geometry.{coordinate}
-use Rattle.twkb_body.specs.Inside.{of_head}
-use Rattle.twkb_body.specs.Ranges.{widened}
+use Rattle.twkb_body.specs.Devices.Inside.{of_head}
+use Rattle.twkb_body.specs.Devices.Ranges.{widened}
 use Rattle.twkb_body.proofs.range.RangesPoints.add.Goals as goal
 
 pub returns : goal.returns

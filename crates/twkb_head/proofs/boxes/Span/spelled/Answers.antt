@@ -1,3 +1,4 @@
+-- A maximum of 65 bits scaled to units has 128.
 use Rattle.std.proofs.Common.{◌≡◌, ◌+ℤ◌, ap₂, ◌∙◌, arith, rules}
 use Rattle.std.proofs.lemmas.Int.{ints, to_z-of_z}
 use mir.Val.{SFits, to_z, of_z}

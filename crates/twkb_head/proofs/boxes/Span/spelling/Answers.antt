@@ -1,3 +1,4 @@
+-- A spelled range has one minimum and one width of 64 bits, which are found by division.
 use Rattle.std.proofs.Common.{◌≡◌, ◌+ℤ◌, ◌-ℤ◌, ℤ, ap, sym, ◌∙◌, arith, rules}
 use Rattle.std.proofs.lemmas.Int.{ints, to_z-of_z}
 use mir.Val.{SFits, to_z, of_z}

@@ -1,3 +1,4 @@
+-- A layer has no more blobs than bytes.
 use Rattle.twkb_layer.proofs.Counting.{counted_is}
 use Rattle.twkb_layer.proofs.certified.Certified.blobs.Goals as goal
 

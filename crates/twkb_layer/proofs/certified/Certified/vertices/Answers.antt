@@ -1,3 +1,4 @@
+-- The vertices of all trees are as many as were counted.
 use Rattle.twkb_layer.proofs.Counting.{counted_is}
 use Rattle.twkb_layer.proofs.certified.Certified.vertices.Goals as goal
 

@@ -1,8 +1,9 @@
+-- One precision more has its window.
 use Rattle.std.proofs.Common.{◌≡◌, pos, ◌-ℤ◌, to_z, of_z, refl, ◌∙◌, subst, arith}
 use Rattle.std.specs.Int.{w8}
 use Rattle.std.proofs.lemmas.Int.{ints}
 use Rattle.std.proofs.Math.ListN.{length-set}
-use Rattle.twkb_layer.specs.Raw.{IsRawWindow}
+use Rattle.twkb_layer.specs.Devices.Raw.{IsRawWindow}
 use Rattle.twkb_layer.proofs.Raws.{raw_more}
 use Rattle.twkb_layer.proofs.raw.RawWindows.new.Goals as goal
 

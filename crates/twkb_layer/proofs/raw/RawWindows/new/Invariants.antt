@@ -1,3 +1,4 @@
+-- Below this code each precision has its window in raw integers.
 use Rattle.std.proofs.Common.{◌≡◌, length}
 use Rattle.twkb_layer.proofs.Raws.{AreRawBelow}
 use Rattle.twkb_layer.proofs.raw.RawWindows.new.Given as goal

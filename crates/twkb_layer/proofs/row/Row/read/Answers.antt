@@ -1,3 +1,4 @@
+-- The header says the fields of the row, and the skim behind it the vertices.
 use Rattle.std.proofs.Common.{◌∙◌, arith}
 use Rattle.std.proofs.lemmas.Int.{to_z-of_z}
 use Rattle.twkb_layer.proofs.Keeping.{stands_still, passed_then, counting_few, row_says}

@@ -1,10 +1,11 @@
+-- The slot says the offset and the box that it is made of.
 use Rattle.std.proofs.Common.{◌≡◌, pos, ◌+ℤ◌, false, Some, to_z, of_z, unsigned_abs, ap, sym, ◌∙◌, arith}
 use Rattle.std.specs.Int.{w8}
 use Rattle.std.proofs.lemmas.Int.{ints}
 use Rattle.twkb_head.specs.Head.{span_at}
-use Rattle.twkb_layer.specs.Raw.{precision_of}
-use Rattle.twkb_layer.specs.Slots.{slot_says}
-use Rattle.twkb_layer.specs.Word.{Packed}
+use Rattle.twkb_layer.specs.Devices.Raw.{precision_of}
+use Rattle.twkb_layer.specs.Devices.Slots.{slot_says}
+use Rattle.twkb_layer.specs.Devices.Word.{Packed}
 use Rattle.twkb_layer.proofs.slots.Slot.boxed.Goals as goal
 
 pub returns-in-Some-Some : goal.returns-in-Some-Some

@@ -1,6 +1,7 @@
+-- Raw ends that are near are compared with the window at their precision.
 use Rattle.std.proofs.Common.{ℕ, subst, sym, ◌∙◌}
-use Rattle.twkb_layer.specs.Raw.{IsRawWindow, precision_of}
-use Rattle.twkb_layer.specs.Slots.{IsJudged}
+use Rattle.twkb_layer.specs.Devices.Raw.{IsRawWindow, precision_of}
+use Rattle.twkb_layer.specs.Devices.Slots.{IsJudged}
 use Rattle.twkb_layer.proofs.Raws.{judged}
 use Rattle.twkb_layer.proofs.slots.Slot.misses_by_ends.Goals as goal
 

@@ -1,3 +1,4 @@
+-- A visitor that skips each box passes the blob.
 use Rattle.twkb_layer.proofs.Keeping.{stands_still, passed_then, passing_few}
 use Rattle.twkb_layer.proofs.slots.VecSlotKeeper.keep.Goals as goal
 

@@ -1,3 +1,4 @@
+-- The directory stays the layer's from scan to scan.
 use Rattle.twkb_layer.specs.Directory.{IsDirectoryOf}
 use Rattle.twkb_layer.proofs.tests.depths.scans_by_a_directory.Given as goal
 

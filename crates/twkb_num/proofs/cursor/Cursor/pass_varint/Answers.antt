@@ -1,3 +1,4 @@
+-- An end within eight bytes is the end of a varint.
 use Rattle.std.proofs.Common.{◌≡◌, ◌+◌, ◌-◌, take, arith}
 use Rattle.std.proofs.lemmas.Grind.{common_steps}
 use Rattle.twkb_num.specs.Cursor.{Reading, rest, added, passed}

@@ -1,3 +1,4 @@
+-- The length is that of a varint at the place.
 use Rattle.std.proofs.Common.{◌≡◌, ◌∙◌, drop, take, length, slice_range, ap, arith}
 use Rattle.std.proofs.lemmas.Grind.{common_steps}
 use Rattle.twkb_num.proofs.EndLemmas.{end_in_chunk}

@@ -1,3 +1,4 @@
+-- The two numbers of a word are two reads in turn.
 use Rattle.std.proofs.Common.{◌≡◌, ◌+◌, take, slice_range, sym, ◌∙◌, arith}
 use Rattle.std.proofs.lemmas.Int.{ints}
 use mir.Val.{to_z, of_z}

@@ -1,8 +1,9 @@
+-- One byte, two bytes or more: in each case what stands there is spelled, or the fault.
 use Rattle.std.proofs.Common.{◌+◌, ◌-◌, ◌*◌, arith}
 use Rattle.std.proofs.lemmas.Grind.{common_steps}
 use Rattle.twkb_num.specs.Cursor.{Reading, added, passed, IsMoved}
 use Rattle.twkb_num.specs.Varint.{Spells}
-use Rattle.twkb_num.proofs.ReadLaws.{Ok-complete, Ok-no_fault, result-complete}
+use Rattle.twkb_num.proofs.ReadLaws.{Ok-complete, Ok-no_fault, result_complete}
 use Rattle.twkb_num.proofs.cursor.Cursor.uvarint.Goals as goal
 
 pub returns-then-first-lt128 : goal.returns-then-first-lt128
@@ -24,4 +25,4 @@ returns-then-second-lt128 c =
 pub returns-clause-complete : goal.returns-clause-complete
 returns-clause-complete c =
     let reads = c.long_uvarint.ensures in
-    result-complete c.args.self.now c.long_uvarint.new.self c.long_uvarint.result reads.ok reads.moved reads.fault
+    result_complete c.args.self.now c.long_uvarint.new.self c.long_uvarint.result reads.ok reads.moved reads.fault

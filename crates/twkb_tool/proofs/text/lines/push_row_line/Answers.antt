@@ -1,3 +1,4 @@
+-- The pieces that were pushed are the line of the definition.
 use Rattle.std.proofs.Common.{◌≡◌, List, ℕ, OnOk, subst, arith}
 use Rattle.std.proofs.lemmas.Int.{ints}
 use mir.Syntax.{w8}

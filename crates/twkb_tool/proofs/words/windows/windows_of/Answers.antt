@@ -1,3 +1,4 @@
+-- One text more is a window; the first that is none is named.
 use Rattle.std.proofs.Common.{ap, arith, length, length-append, rules, [], ◌∷◌}
 use Rattle.twkb_tool.proofs.WindowLemmas.{no_windows, windows_more}
 use Rattle.twkb_tool.proofs.words.windows.windows_of.Goals as goal

@@ -1,3 +1,4 @@
+-- The texts so far are the windows that were pushed.
 use Rattle.std.proofs.Common.{◌≡◌, map, take, vec_len}
 use Rattle.twkb_tool.specs.Words.{AreWindows}
 use Rattle.twkb_tool.proofs.words.windows.windows_of.Given as goal

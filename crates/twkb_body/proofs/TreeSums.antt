@@ -1,0 +1,70 @@
+-- What a pass sums up of a tree: the vertices, their reach, and the first claim that is false.
+use Rattle.std.specs.Prelude.{ℕ, ◌+◌, ◌-◌, ◌≤◌, ⊤, ◌==◌, Bool, cond, List, [], length, map, ℤ, Option, Some, None}
+use Rattle.twkb_head.specs.Header.{Header}
+use Rattle.twkb_head.specs.Head.{bounds_of}
+use Rattle.twkb_body.specs.Geometry.{Geometry, Members, geometry, none, more, Lengths, lengths_of, vertex_of, points_of}
+use Rattle.twkb_body.specs.Extent.{Reach, reach_of, both}
+use Rattle.twkb_body.specs.Devices.Pass.{Refused, Summary, false_at, first, ids_refused, is_tight, is_within}
+
+-- nothing was read
+abbrev pub nothing : Summary
+nothing = record { count = 0; reach = reach_of []; refused = None }
+
+-- one summary after another
+abbrev pub after : Summary → Summary → Summary
+after a b = record { count = a.count + b.count; reach = both a.reach b.reach; refused = first a.refused b.refused }
+
+-- ---- the pass: what is false of the geometry itself stands before what is false below it
+
+-- the size, if it is false
+abbrev pub size_refused : ℕ → Lengths → Option ℕ → Refused
+size_refused start l None = None
+size_refused start l (Some n) = false_at (n == l.whole - (l.before + l.size)) (start + l.before) 6
+
+-- the box, if it is false, or in tight checking not tight
+abbrev pub box_refused : Bool → ℕ → Header → Reach → Option (List (ℤ × ℤ)) → Refused
+box_refused tight at h reach None = None
+box_refused tight at h reach (Some ranges) =
+    first (false_at (is_within reach (bounds_of h.xy h.z h.m ranges)) at 7)
+    (cond tight (false_at (is_tight h.xy h.z h.m (bounds_of h.xy h.z h.m ranges) reach) at 9) None)
+
+-- the geometry whose own points have these ranges, over what its members sum to
+abbrev pub over : Bool → Header → Lengths → Option (List ℤ) → ℕ → ℕ → Reach → Summary → Summary
+over tight h l ids start count own below =
+    let reach = both own below.reach in
+    record {
+      count = count + below.count;
+      reach = reach;
+      refused = first (size_refused start l h.size)
+          (first (box_refused tight (start + l.before + l.size) h reach h.box) (first (ids_refused (start + l.header + l.count) ids) below.refused));
+    }
+
+unfoldable mutual
+  pub summary_of : Bool → Geometry → ℕ → Summary
+  summary_of tight (geometry h l ids polygons members) start =
+      over tight h l ids start (length (points_of polygons)) (reach_of (map (vertex_of h) (points_of polygons)))
+      (member_summary tight members (start + l.header + l.list))
+
+  pub member_summary : Bool → Members → ℕ → Summary
+  member_summary tight none start = nothing
+  member_summary tight (more g gs) start = after (summary_of tight g start) (member_summary tight gs (start + (lengths_of g).whole))
+
+-- how many bytes members take
+abbrev pub member_total : Members → ℕ
+member_total none = 0
+member_total (more g gs) = (lengths_of g).whole + member_total gs
+
+-- one member more at the end
+abbrev pub pushed : Members → Geometry → Members
+pushed none g = more g none
+pushed (more f gs) g = more f (pushed gs g)
+
+unfoldable mutual
+  -- size and box stand in the header, ids behind the count, and the members behind the ids, within the whole
+  pub HasOrder : Geometry → Type 0
+  HasOrder (geometry h l ids polygons members) =
+      (l.before + l.size ≤ l.header) × (l.count ≤ l.list) × (l.header + l.list + member_total members ≤ l.whole) × HaveOrder members
+
+  pub HaveOrder : Members → Type 0
+  HaveOrder none = ⊤
+  HaveOrder (more g gs) = HasOrder g × HaveOrder gs

@@ -1,0 +1,20 @@
+-- Devices of proofs: contracts of private functions name them, and nothing public does.
+pub mod Body
+pub mod BodyReader
+pub mod Pass
+pub mod Ranges
+pub mod Walk
+pub mod Boxed
+pub mod Numbers
+pub mod Found
+pub mod Seen
+pub mod Inside
+pub mod IdLists
+pub mod Stops
+pub mod Bare
+pub mod Sure
+pub mod TightlyAudited
+pub mod Standing
+pub mod Skimmed
+pub mod Pending
+pub mod Counting

@@ -1,0 +1,26 @@
+-- Devices of proofs: nothing public names them.
+-- Lists: their counts and their ids.
+use Rattle.std.specs.Prelude.{◌≡◌, ℕ, ◌+◌, ◌≤◌, Bool, true, List, ◌++◌, ℤ}
+use Rattle.twkb_num.specs.Cursor.{Reading}
+use Rattle.twkb_num.specs.Varint.{Spells}
+use Rattle.twkb_head.specs.Parts.{Times}
+use Rattle.twkb_head.specs.Header.{IsSigned}
+use Rattle.twkb_body.specs.declared.lists.List.{List as ListFound}
+use Rattle.twkb_body.specs.Devices.Body.{ListHead}
+use Rattle.twkb_body.specs.Devices.Pass.{ids_refused}
+use Rattle.twkb_body.specs.Devices.Found.{named}
+
+-- of the ids, which are so many, seventeen stand at the front of the bytes
+abbrev pub HasManyIds : ℕ → List ℕ → Type 0
+HasManyIds count bytes = (17 ≤ count) × ((ids : List ℤ) × (front : List ℕ) × (behind : List ℕ) × (bytes ≡ front ++ behind) × Times 17 IsSigned ids front)
+
+-- ids are announced, and behind the count at the front of the bytes stand seventeen
+abbrev pub HasManyIdsAfterCount : Bool → List ℕ → Type 0
+HasManyIdsAfterCount has_ids bytes =
+    (has_ids ≡ true) × ((n : ℕ) × (count : List ℕ) × (behind : List ℕ) × (bytes ≡ count ++ behind) × Spells count n × HasManyIds n behind)
+
+-- what was found of the count and the ids between two readings
+pub record IsListFound (old new : Reading) (head : ListHead) (list : ListFound) : Type 0 where
+  pub count : list.count ≡ (head.0).0
+  pub lengths : new.place ≡ old.place + ((head.0).1 + (head.1).1)
+  pub refused : named list.ids ≡ ids_refused (old.place + (head.0).1) (head.1).0

@@ -1,0 +1,30 @@
+-- Devices of proofs: nothing public names them.
+-- What was found in the body of a geometry.
+use Rattle.std.specs.Prelude.{◌≡◌, ℕ, ◌+◌, ◌≤◌, Bool, length, map, Option, None}
+use Rattle.twkb_head.specs.declared.header.Head.{Head}
+use Rattle.twkb_head.specs.declared.header.BoxField.{BoxField}
+use Rattle.twkb_head.specs.Header.{Header}
+use Rattle.twkb_body.specs.declared.inside.Inside.{Inside}
+use Rattle.twkb_body.specs.declared.seen.Seen.{Seen}
+use Rattle.twkb_body.specs.Geometry.{vertex_of, points_of}
+use Rattle.twkb_body.specs.Extent.{reach_of, both}
+use Rattle.twkb_body.specs.Devices.Body.{Body}
+use Rattle.twkb_body.specs.Devices.Pass.{Summary, MemberSums, ids_refused}
+use Rattle.twkb_body.specs.Devices.Found.{named, box_judged}
+use Rattle.twkb_body.specs.Devices.Seen.{HasSeen}
+
+-- the header of a head, but for its size and its box, on which no body hangs
+abbrev pub of_head : Head → Header
+of_head head = record { kind = head.kind; xy = head.xy; z = head.z; m = head.m; size = None; box = None; ids = head.ids; empty = head.empty }
+
+-- What was found is that of the body's own points and of its members, between two places, and what is said of a box and
+-- shown to the boxes above is of all of these; the body has no more vertices than bytes.
+pub record IsInside (tight : Bool) (h : Header) (bounds : Option BoxField) (body : Body) (start stop : ℕ) (above after : Seen) (inside : Inside) : Type 0 where
+  pub below : Summary
+  pub members : MemberSums tight body.members (start + body.list) below
+  pub vertices : inside.found.vertices ≡ length (points_of body.polygons) + below.count
+  pub boxed : named inside.boxed ≡ box_judged tight h bounds (both (reach_of (map (vertex_of h) (points_of body.polygons))) below.reach)
+  pub seen : HasSeen above after (both (reach_of (map (vertex_of h) (points_of body.polygons))) below.reach)
+  pub refused : named inside.found.refused ≡ below.refused
+  pub ids : named inside.ids ≡ ids_refused (start + body.count) body.ids
+  pub few : inside.found.vertices + start ≤ stop

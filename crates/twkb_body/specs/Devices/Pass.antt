@@ -1,0 +1,106 @@
+-- Devices of proofs: nothing public names them.
+-- What one pass carries of a geometry, in place of its tree.
+use Rattle.std.specs.Prelude.{◌≡◌, ℕ, ◌-◌, Bool, true, false, ◌&&◌, not, List, [], ◌∷◌, length, ℤ, pos, ◌-ℤ◌, int_le, int_lt, Option, Some, None, All}
+use Rattle.std.specs.Ordering.{int_eq}
+use Rattle.std.specs.Option.{option_or}
+use Rattle.twkb_head.specs.declared.boxes.Bounds.{Bounds}
+use Rattle.twkb_head.specs.declared.boxes.Span.{Span}
+use Rattle.twkb_num.specs.Units.{units_of}
+use Rattle.twkb_body.specs.Geometry.{Geometry, Members, vertices, member_vertices}
+use Rattle.twkb_body.specs.Extent.{Reach, reach_of}
+use Rattle.twkb_body.specs.Claims.{Claim, IsTrueClaim, IsFirstFalse, offset_of, kind_of, claims, member_claims}
+use Rattle.twkb_body.specs.Tight.{TightClaim, IsTrueTightClaim, tight_offset_of, tight_kind_of, tight_claims, member_tight_claims}
+
+-- offset and kind of a false claim
+abbrev pub Refused : Type 0
+Refused = Option (ℕ × ℕ)
+
+-- how many vertices, their ranges, and the first false claim
+pub record Summary : Type 0 where
+  pub count : ℕ
+  pub reach : Reach
+  pub refused : Refused
+
+-- the first of two
+abbrev pub first : Refused → Refused → Refused
+first = option_or
+
+-- None where all claims are true, otherwise offset and kind of the first that is false
+abbrev pub NamesFirstFalse : {C : Type 0} → (C → Type 0) → (C → ℕ × ℕ) → List C → Refused → Type 0
+NamesFirstFalse IsTrue names list None = All IsTrue list
+NamesFirstFalse {C} IsTrue names list (Some at) = (claim : C) × IsFirstFalse IsTrue list claim × (at ≡ names claim)
+
+-- the same of the claims of an audit, or of one in tight checking
+abbrev pub Names : List Claim → Refused → Type 0
+Names = NamesFirstFalse IsTrueClaim (λ c. (offset_of c, kind_of c))
+
+abbrev pub NamesTight : List TightClaim → Refused → Type 0
+NamesTight = NamesFirstFalse IsTrueTightClaim (λ c. (tight_offset_of c, tight_kind_of c))
+
+-- what a geometry is refused for
+abbrev pub IsRefusedFor : Bool → Geometry → ℕ → Refused → Type 0
+IsRefusedFor false g start refused = Names (claims g start) refused
+IsRefusedFor true g start refused = NamesTight (tight_claims g start) refused
+
+abbrev pub AreRefusedFor : Bool → Members → ℕ → Refused → Type 0
+AreRefusedFor false gs start refused = Names (member_claims gs start) refused
+AreRefusedFor true gs start refused = NamesTight (member_tight_claims gs start) refused
+
+-- the summary is of these vertices and claims
+pub record Sums (tight : Bool) (g : Geometry) (start : ℕ) (s : Summary) : Type 0 where
+  pub count : s.count ≡ length (vertices g)
+  pub reach : s.reach ≡ reach_of (vertices g)
+  pub refused : IsRefusedFor tight g start s.refused
+
+-- the same of members
+pub record MemberSums (tight : Bool) (gs : Members) (start : ℕ) (s : Summary) : Type 0 where
+  pub count : s.count ≡ length (member_vertices gs)
+  pub reach : s.reach ≡ reach_of (member_vertices gs)
+  pub refused : AreRefusedFor tight gs start s.refused
+
+-- ---- tests
+abbrev pub covers : Option Span → Option Span → Bool
+covers None range = true
+covers (Some span) None = true
+covers (Some span) (Some range) = int_le span.lo range.lo && int_le range.hi span.hi
+
+-- whether a box holds the reach
+abbrev pub is_within : Reach → Bounds → Bool
+is_within reach box = covers (Some box.x) reach.x && (covers (Some box.y) reach.y && (covers box.z reach.z && covers box.m reach.m))
+
+-- whether neither end is a step away
+abbrev pub hugs : Span → ℤ → Option Span → Bool
+hugs span step None = true
+hugs span step (Some range) = int_lt (range.lo -ℤ span.lo) step && int_lt (span.hi -ℤ range.hi) step
+
+-- the same, where the box has the axis
+abbrev pub hugs_if_both : Option Span → Option ℕ → Option Span → Bool
+hugs_if_both None p range = true
+hugs_if_both (Some span) None range = true
+hugs_if_both (Some span) (Some p) range = hugs span (units_of (pos 1) (pos p)) range
+
+-- whether a box is tight
+abbrev pub is_tight : ℤ → Option ℕ → Option ℕ → Bounds → Reach → Bool
+is_tight xy z m box reach =
+    hugs box.x (units_of (pos 1) xy) reach.x
+    && (hugs box.y (units_of (pos 1) xy) reach.y && (hugs_if_both box.z z reach.z && hugs_if_both box.m m reach.m))
+
+-- whether an id differs from those of a list
+abbrev pub differs : ℤ → List ℤ → Bool
+differs a [] = true
+differs a (b ∷ bs) = not (int_eq a b) && differs a bs
+
+-- whether the ids of a list differ
+abbrev pub are_distinct : List ℤ → Bool
+are_distinct [] = true
+are_distinct (a ∷ bs) = differs a bs && are_distinct bs
+
+-- what is false where a test says no
+abbrev pub false_at : Bool → ℕ → ℕ → Refused
+false_at true at kind = None
+false_at false at kind = Some (at, kind)
+
+-- the ids, if two are equal
+abbrev pub ids_refused : ℕ → Option (List ℤ) → Refused
+ids_refused at None = None
+ids_refused at (Some ids) = false_at (are_distinct ids) at 8

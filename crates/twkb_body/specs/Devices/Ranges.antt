@@ -1,0 +1,46 @@
+-- Devices of proofs: nothing public names them.
+-- The ranges of raw coordinates under one header, scaled once at its end.
+use Rattle.std.specs.Prelude.{◌-◌, ◌^◌, ◌≡◌, ℕ, cond, ℤ, pos, neg_ℤ, ◌<ℤ◌, int_lt, [], ◌∷◌, Option, Some, None, option_map}
+use Rattle.twkb_num.specs.Units.{units_of}
+use Rattle.twkb_head.specs.declared.boxes.Span.{Span}
+use Rattle.twkb_head.specs.declared.boxes.Vertex.{Vertex}
+use Rattle.twkb_head.specs.Header.{Header}
+use Rattle.twkb_head.specs.Head.{m_axis}
+use Rattle.twkb_body.specs.declared.range.Range.TheInside.{Inside}
+use Rattle.twkb_body.specs.Geometry.{PointValue, coordinate}
+use Rattle.twkb_body.specs.Extent.{Reach, reach_of, both}
+
+-- a range in code, as two numbers: the least is above the greatest where there is none
+abbrev pub range_view : Inside → Option Span
+range_view r = cond (int_lt r.greatest r.least) None (Some (record { lo = r.least; hi = r.greatest }))
+
+-- where there is no number, any is less than the least, and greater than the greatest
+abbrev pub IsRange : Inside → Type 0
+IsRange r = r.greatest <ℤ r.least → (r.least ≡ pos (2 ^ 63 - 1)) × (r.greatest ≡ neg_ℤ (pos (2 ^ 63)))
+
+-- a range in units, at a precision
+abbrev pub scaled : ℤ → Option Span → Option Span
+scaled p None = None
+scaled p (Some range) = Some (record { lo = units_of range.lo p; hi = units_of range.hi p })
+
+-- the same where the axis has a precision
+abbrev pub scaled_if : Option ℕ → Option Span → Option Span
+scaled_if None range = None
+scaled_if (Some p) range = scaled (pos p) range
+
+-- a point of raw coordinates, of which it has those of the axes of its header
+abbrev pub raw_of : Header → PointValue → Vertex
+raw_of h point = record {
+  x = coordinate point 0;
+  y = coordinate point 1;
+  z = option_map (λ p. coordinate point 2) h.z;
+  m = option_map (λ p. coordinate point (m_axis h.z)) h.m;
+}
+
+-- a reach of raw coordinates, with a point more
+abbrev pub widened : Header → Reach → PointValue → Reach
+widened h reach point = both reach (reach_of (raw_of h point ∷ []))
+
+-- a reach of raw coordinates in units, by the precisions of a header
+abbrev pub reach_in_units : ℤ → Option ℕ → Option ℕ → Reach → Reach
+reach_in_units xy z m raw = record { x = scaled xy raw.x; y = scaled xy raw.y; z = scaled_if z raw.z; m = scaled_if m raw.m }

@@ -1,0 +1,50 @@
+-- Devices of proofs: nothing public names them.
+-- What is true once geometries were skimmed.
+use Rattle.std.specs.Prelude.{◌≡◌, ℕ, suc, ◌+◌, ◌<◌, ◌≤◌, cond, Bool, length, fold, Option, Some, None}
+use Rattle.twkb_num.specs.Cursor.{Reading, added}
+use Rattle.twkb_head.specs.BegunHeader.{deepest}
+use Rattle.twkb_head.specs.declared.boxes.Vertex.{Vertex}
+use Rattle.twkb_head.specs.declared.boxes.Bounds.{Bounds}
+use Rattle.twkb_head.specs.declared.header.SizeField.{SizeField}
+use Rattle.twkb_head.specs.declared.header.BoxField.{BoxField}
+use Rattle.twkb_body.specs.Geometry.{Geometry, Members, none, more, lengths_of, member_count, vertices}
+use Rattle.twkb_body.specs.Devices.Standing.{StandAt}
+use Rattle.twkb_body.specs.Visit.{walk}
+
+-- a cursor and the state of a visitor
+pub record Config (S : Type 0) : Type 0 where
+  pub reading : Reading
+  pub state : S
+
+-- behind a geometry: the place is its end, the bytes of the walk were counted, and each vertex was visited
+abbrev pub skimmed : {S : Type 0} → (S → Vertex → S) → (S → Bounds → Bool) → Geometry → Config S → Config S
+skimmed {S} step skips g c = record {
+  reading = record {
+    bytes = c.reading.bytes;
+    place = c.reading.place + (lengths_of g).whole;
+    count = added c.reading.count (walk g S step skips c.state);
+  };
+  state = fold step c.state (vertices g);
+}
+
+-- behind members
+abbrev pub members_skimmed : {S : Type 0} → (S → Vertex → S) → (S → Bounds → Bool) → Members → Config S → Config S
+members_skimmed step skips none c = c
+members_skimmed step skips (more g gs) c = members_skimmed step skips gs (skimmed step skips g c)
+
+-- the end that the size names, if there is one, and a box that the test skips
+abbrev pub hop_of : (Bounds → Bool) → Option SizeField → Option BoxField → Option ℕ
+hop_of skips None box = None
+hop_of skips (Some size) None = None
+hop_of skips (Some size) (Some box) = cond (skips box.bounds) (Some (size.after + size.value)) None
+
+-- One step was made into a geometry: what is left of it are the members below.
+pub record Entered {S : Type 0} (step : S → Vertex → S) (skips : S → Bounds → Bool) (g : Geometry) (depth : ℕ) (old new : Config S) (members : ℕ) : Type 0 where
+  pub below : Members
+  pub count : members ≡ member_count below
+  pub deep : 0 < members → suc depth ≤ deepest
+  pub stand : StandAt below (suc depth) new.reading.bytes new.reading.place
+  pub left : members_skimmed step skips below new ≡ skimmed step skips g old
+  pub bytes : new.reading.bytes ≡ old.reading.bytes
+  pub ahead : old.reading.place < new.reading.place
+  pub within : new.reading.place ≤ length new.reading.bytes

@@ -1,0 +1,29 @@
+-- Devices of proofs: nothing public names them.
+-- How a read in code that may want memory is the reader's.
+use Rattle.std.specs.Prelude.{◌≡◌, ℕ, ◌+◌, ◌<◌, Bool, ℤ, pos, List, Result, Ok, Err}
+use Rattle.twkb_num.specs.Cursor.{Reading, rest}
+use Rattle.twkb_head.specs.Devices.Reader.{Answer, Fails, many_at}
+use Rattle.twkb_body.specs.Geometry.{Geometry}
+use Rattle.twkb_body.specs.Audited.{HasLongList}
+use Rattle.twkb_body.specs.Devices.Body.{ListHead}
+use Rattle.twkb_body.specs.Devices.BodyReader.{list_at, geometry_at}
+use Rattle.twkb_body.specs.Devices.IdLists.{HasManyIdsAfterCount}
+use Rattle.twkb_body.specs.declared.stopped.Stopped.{Stopped}
+use Rattle.twkb_body.specs.declared.stopped.Stopped.TheVariants.{Malformed as BadField, Memory}
+
+-- why the code stopped: the reader fails so, or memory was wanted for some cause
+abbrev pub HasStopped : {A : Type 0} → Answer A → Type 0 → Reading → Stopped → Reading → Type 0
+HasStopped answer Wants old (BadField m) new = Fails answer m new
+HasStopped answer Wants old Memory new = (new.bytes ≡ old.bytes) × Wants
+
+-- on Ok the reader gives some value, and the code's is made of it
+abbrev pub ReadsOrStops : {A B : Type 0} → Answer A → (A → B → Type 0) → Type 0 → Reading → Result B Stopped → Reading → Type 0
+ReadsOrStops {A} answer Gives Wants old (Ok y) new = (x : A) × (answer ≡ (Ok x, new)) × Gives x y
+ReadsOrStops answer Gives Wants old (Err e) new = HasStopped answer Wants old e new
+
+-- Memory was wanted in the body of a collection, which has so many levels below it: for the ids of its own list, or for
+-- those of a member behind the ones that were read.
+pub data WantsInside (depth levels : ℕ) (ids : Bool) (r : Reading) : Type 0 where
+  own_ids : HasManyIdsAfterCount ids (rest r) → WantsInside depth levels ids r
+  member_ids : (list : ListHead) (mid new : Reading) (i : ℕ) (gs : List Geometry) → list_at ids r ≡ (Ok list, mid) → i < (list.0).0
+      → many_at i (λ (s : ℤ) (g : Geometry). s) (λ s. geometry_at levels) (pos 0) mid ≡ (Ok gs, new) → HasLongList (depth + 1) (rest new) → WantsInside depth levels ids r

@@ -1,0 +1,40 @@
+-- Devices of proofs: nothing public names them.
+-- What reading numbers does to the differences under one header, and to what their points are added to.
+use Rattle.std.specs.Prelude.{◌≡◌, ℕ, ◌+◌, ◌≤◌, List, [], ◌∷◌, length, fold, Ok}
+use Rattle.twkb_num.specs.Cursor.{Reading}
+use Rattle.twkb_head.specs.declared.boxes.Vertex.{Vertex}
+use Rattle.twkb_head.specs.Header.{Header}
+use Rattle.twkb_head.specs.Devices.Reader.{many_at}
+use Rattle.twkb_body.specs.declared.trail.Trail.{Trail}
+use Rattle.twkb_body.specs.Geometry.{PointValue, vertex_of}
+use Rattle.twkb_body.specs.Devices.Body.{add, sums, place, map_from}
+use Rattle.twkb_body.specs.Devices.BodyReader.{point_at}
+
+-- each point has so many numbers
+abbrev pub HaveAxes : ℕ → List PointValue → Type 0
+HaveAxes axes [] = Unit {0}
+HaveAxes axes (point ∷ points) = (length point ≡ axes) × HaveAxes axes points
+
+-- the same with all four axes: the sums that each point leaves
+abbrev pub lasts_from : PointValue → List PointValue → List PointValue
+lasts_from s numbers = map_from add add s numbers
+
+-- the state after a point is shown as a vertex, by the precisions of a header
+abbrev pub shown : {S : Type 0} → (S → Vertex → S) → Header → S → PointValue → S
+shown step h s point = step s (vertex_of h point)
+
+-- From one trail to another these numbers were read, between two places, of which each point takes a byte at least; and
+-- the points were added, one after another.
+pub record IsWalked {S : Type 0} (step : S → PointValue → S) (axes : ℕ) (old new : Trail) (state state' : S) (start stop : ℕ) (numbers : List PointValue) : Type 0 where
+  pub last : new.last ≡ sums old.last numbers
+  pub points : new.points ≡ old.points + length numbers
+  pub added : state' ≡ fold step state (lasts_from old.last numbers)
+  pub have : HaveAxes axes numbers
+  pub ahead : length numbers + start ≤ stop
+
+-- So many points were read, one behind another, and added.
+pub record IsRun {S : Type 0} (step : S → PointValue → S) (axes : ℕ) (old new : Trail) (state state' : S) (from to : Reading) (count : ℕ) : Type 0 where
+  pub numbers : List PointValue
+  pub many : length numbers ≡ count
+  pub read : many_at count add (point_at axes) old.last from ≡ (Ok numbers, to)
+  pub walked : IsWalked step axes old new state state' from.place to.place numbers

@@ -1,0 +1,7 @@
+-- Devices of proofs: contracts of private functions name them, and nothing public does.
+pub mod Plan
+pub mod HeadPlan
+pub mod Reader
+pub mod HeadReader
+pub mod Raw
+pub mod Spelled

@@ -1,0 +1,58 @@
+-- Devices of proofs: nothing public names them.
+-- Headers read from a cursor as the code does it, one field after another.
+use Rattle.std.specs.Prelude.{ℕ, ◌/◌, ℤ, pos, ◌+ℤ◌, Option, option_map, Some, None, Ok}
+use Rattle.twkb_num.specs.Varint.{zigzag_value}
+use Rattle.twkb_head.specs.declared.kinds.Kind.{Kind}
+use Rattle.twkb_head.specs.declared.boxes.Span.{Span}
+use Rattle.twkb_head.specs.declared.boxes.Bounds.{Bounds}
+use Rattle.twkb_head.specs.declared.header.Head.{Head}
+use Rattle.twkb_head.specs.Header.{has_bit, has_ids, z_in, m_in}
+use Rattle.twkb_head.specs.Head.{span_at}
+use Rattle.twkb_head.specs.Devices.HeadPlan.{kind_from}
+use Rattle.twkb_head.specs.Devices.Reader.{Reader, ◌>>=◌, viewed, type_at, byte_at, number_at, signed_at, optional_at}
+
+-- the kind and the precision of X and Y in a type byte with so many levels below it
+abbrev pub kind_from_type : ℕ → Reader (Kind × ℤ)
+kind_from_type levels r = viewed (λ t. (kind_from t, zigzag_value (t / 16))) (type_at levels r)
+
+-- the range of one axis
+unfoldable pub range_from : Reader (ℤ × ℤ)
+range_from r = signed_at r >>= λ low a. viewed (λ extent. (low, low +ℤ extent)) (signed_at a)
+
+-- the range of an axis, where it has a precision, in units
+abbrev pub axis_from : Option ℕ → Reader (Option Span)
+axis_from None r = (Ok None, r)
+axis_from (Some p) r = viewed (λ range. Some (span_at (pos p) range)) (range_from r)
+
+-- a box in units, by the precisions of its header
+unfoldable pub bounds_from : ℤ → Option ℕ → Option ℕ → Reader Bounds
+bounds_from xy z m r =
+    viewed (span_at xy) (range_from r) >>= λ x a.
+    (viewed (span_at xy) (range_from a) >>= λ y b.
+    (axis_from z b >>= λ z c.
+    viewed (λ m. record { x = x; y = y; z = z; m = m }) (axis_from m c)))
+
+-- the code's form of a header, from the fields that were read
+abbrev pub head_with : Kind → ℤ → ℕ → Option ℕ → Option ℕ → Option Bounds → ℕ → ℕ → ℕ → ℕ → Head
+head_with kind xy metadata extended size bounds start size_place box_place stop = record {
+  kind = kind;
+  xy = xy;
+  z = z_in extended;
+  m = m_in extended;
+  size = option_map (λ n. record { value = n; offset = size_place; after = box_place }) size;
+  bounds = option_map (λ bounds. record { bounds = bounds; offset = box_place }) bounds;
+  ids = has_ids kind metadata;
+  empty = has_bit metadata 16;
+  start = start;
+  stop = stop;
+}
+
+-- a header, with so many levels below it
+unfoldable pub head_at : ℕ → Reader Head
+head_at levels r =
+    kind_from_type levels r >>= λ type a.
+    (byte_at a >>= λ metadata b.
+    (optional_at (has_bit metadata 8) byte_at b >>= λ extended c.
+    (optional_at (has_bit metadata 2) number_at c >>= λ size d.
+    (optional_at (has_bit metadata 1) (bounds_from type.1 (z_in extended) (m_in extended)) d >>= λ bounds e.
+    (Ok (head_with type.0 type.1 metadata extended size bounds r.place c.place d.place e.place), e)))))

@@ -1,0 +1,96 @@
+-- Devices of proofs: nothing public names them.
+-- Reading from a cursor as code does it, one field after another, up to the first that is wrong.
+use Rattle.std.specs.Prelude.{◌≡◌, ℕ, zero, suc, ◌+◌, Bool, true, false, List, [], ◌∷◌, length, ℤ, pos, Option, Some, None, Result, Ok, Err}
+use Rattle.twkb_num.specs.Cursor.{Reading, rest, added, counted}
+use Rattle.twkb_head.specs.declared.refusal.Why.{Why}
+use Rattle.twkb_head.specs.declared.refusal.Why.TheVariants.{Varint}
+use Rattle.twkb_head.specs.declared.refusal.Malformed.{Malformed}
+use Rattle.twkb_head.specs.Devices.Plan.{Request, field_of, cut_field, judge, Plan, done, ask, type_plan, byte_plan, number_plan, signed_plan, coordinate_plan}
+
+-- what a read answers, and the reading that it leaves
+abbrev pub Answer : Type 0 → Type 0
+Answer A = Result A Malformed × Reading
+
+-- what reads from a place on
+abbrev pub Reader : Type 0 → Type 0
+Reader A = Reading → Answer A
+
+-- one read and then another, up to the first that fails
+infixl 10 ◌>>=◌
+abbrev pub ◌>>=◌ : {A B : Type 0} → Answer A → (A → Reader B) → Answer B
+(Ok x, r) >>= k = k x r
+(Err m, r) >>= k = (Err m, r)
+
+-- the same answer, seen by f
+abbrev pub viewed : {A B : Type 0} → (A → B) → Answer A → Answer B
+viewed f (Ok x, r) = (Ok (f x), r)
+viewed f (Err m, r) = (Err m, r)
+
+-- the reading n bytes further
+abbrev pub past : ℕ → Reading → Reading
+past n r = record { bytes = r.bytes; place = r.place + n; count = added r.count n }
+
+-- an answer that the field at the place is wrong, which n bytes showed
+abbrev pub refused_at : {A : Type 0} → Why → ℕ → Reader A
+refused_at why n r = (Err (record { offset = r.place; why = why }), counted r n)
+
+-- how many bytes are looked at where no field can be cut off
+abbrev pub looked_in : Why → List ℕ → ℕ
+looked_in Varint bytes = 10
+looked_in _ bytes = length bytes
+
+-- goes on behind a field of n bytes that was judged
+abbrev pub read_judged : {A : Type 0} → Option Why → ℕ → Reader A → Reader A
+read_judged None n k r = k (past n r)
+read_judged (Some w) n k r = refused_at w n r
+
+-- goes on with a field that was cut off at the place, or that could not be
+abbrev pub read_field : {A : Type 0} → Request → Result (List ℕ × List ℕ) Why → (List ℕ → Reader A) → Reader A
+read_field q (Ok x) k r = read_judged (judge q x.0) (length x.0) (k x.0) r
+read_field q (Err w) k r = refused_at w (looked_in w (rest r)) r
+
+-- reads by a plan
+abbrev pub read : {A : Type 0} → Plan A → Reader A
+read (done x) r = (Ok x, r)
+read (ask q next) r = read_field q (cut_field (field_of q) (rest r)) (λ front. read (next front)) r
+
+-- the reads of one field
+unfoldable pub type_at : ℕ → Reader ℕ
+type_at levels = read (type_plan levels)
+
+unfoldable pub byte_at : Reader ℕ
+byte_at = read byte_plan
+
+unfoldable pub number_at : Reader ℕ
+number_at = read number_plan
+
+unfoldable pub signed_at : Reader ℤ
+signed_at = read signed_plan
+
+unfoldable pub coordinate_at : ℤ → Reader ℤ
+coordinate_at before = read (coordinate_plan before)
+
+-- a read that is made where it is announced
+abbrev pub optional_at : {A : Type 0} → Bool → Reader A → Reader (Option A)
+optional_at false f r = (Ok None, r)
+optional_at true f r = viewed Some (f r)
+
+-- n reads, one after another, each in the state that those before it leave
+abbrev pub many_at : {A S : Type 0} → ℕ → (S → A → S) → (S → Reader A) → S → Reader (List A)
+many_at zero after f s r = (Ok [], r)
+many_at (suc n) after f s r = f s r >>= λ x r. viewed (λ xs. x ∷ xs) (many_at n after f (after s x) r)
+
+-- n signed numbers
+abbrev pub signeds_at : ℕ → Reader (List ℤ)
+signeds_at n = many_at n (λ s z. s) (λ s. signed_at) (pos 0)
+
+-- the reading fails so; the code may have moved the cursor since, within the same bytes
+pub record Fails {A : Type 0} (answer : Answer A) (m : Malformed) (new : Reading) : Type 0 where
+  pub left : Reading
+  pub is : answer ≡ (Err m, left)
+  pub bytes : new.bytes ≡ left.bytes
+
+-- how a read in code is the reader's: on Ok the reader gives some value, and the code's is made of it
+abbrev pub Reads : {A B : Type 0} → Answer A → (A → B → Type 0) → Result B Malformed → Reading → Type 0
+Reads {A} answer Gives (Ok y) new = (x : A) × (answer ≡ (Ok x, new)) × Gives x y
+Reads answer Gives (Err m) new = Fails answer m new

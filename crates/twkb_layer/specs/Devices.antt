@@ -1,0 +1,11 @@
+-- Devices of proofs: contracts of private functions name them, and nothing public does.
+pub mod Layer
+pub mod Refusal
+pub mod Tight
+pub mod Passing
+pub mod Seeking
+pub mod Raw
+pub mod Word
+pub mod Slots
+pub mod Collecting
+pub mod TextReader

@@ -1,0 +1,33 @@
+-- Devices of proofs: nothing public names them.
+-- One body of code certifies in both ways: what it says, by the flag.
+use Rattle.std.specs.Prelude.{◌≡◌, ℕ, Bool, true, false, List, length}
+use Rattle.twkb_body.specs.Geometry.{Geometry}
+use Rattle.twkb_layer.specs.Layer.{IsCertifiedLayer, vertex_count}
+use Rattle.twkb_layer.specs.Devices.Layer.{IsCounted}
+use Rattle.twkb_layer.specs.Refusal.{IsRefusedFor, NamesKind}
+use Rattle.twkb_layer.specs.declared.refusal.Refusal.{Refusal}
+use Rattle.twkb_layer.specs.Tight.{IsTightLayer, IsTightlyRefusedFor, NamesTightKind}
+
+-- what a layer has that was certified so
+pub record IsTightlyCounted (bytes : List ℕ) (blobs vertices : ℕ) : Type 0 where
+  pub trees : List Geometry
+  pub layer : IsTightLayer trees bytes
+  pub blobs_are : blobs ≡ length trees
+  pub vertices_are : vertices ≡ vertex_count trees
+
+-- ---- by the flag
+abbrev pub IsLayerBy : Bool → List Geometry → List ℕ → Type 0
+IsLayerBy false trees bytes = IsCertifiedLayer trees bytes
+IsLayerBy true trees bytes = IsTightLayer trees bytes
+
+abbrev pub IsCountedBy : Bool → List ℕ → ℕ → ℕ → Type 0
+IsCountedBy false bytes blobs vertices = IsCounted bytes blobs vertices
+IsCountedBy true bytes blobs vertices = IsTightlyCounted bytes blobs vertices
+
+abbrev pub IsRefusedForBy : Bool → Refusal → List ℕ → Type 0
+IsRefusedForBy false refusal bytes = IsRefusedFor refusal bytes
+IsRefusedForBy true refusal bytes = IsTightlyRefusedFor refusal bytes
+
+abbrev pub NamesKindBy : Bool → Refusal → Type 0
+NamesKindBy false refusal = NamesKind refusal
+NamesKindBy true refusal = NamesTightKind refusal

@@ -1,0 +1,41 @@
+-- Devices of proofs: nothing public names them.
+-- Where the varints at the front of bytes end.
+use Rattle.std.specs.Prelude.{◌≡◌, ◌+◌, ◌-◌, ◌*◌, ◌/◌, ◌<◌, ◌≤◌, ℕ, zero, suc, List, length, take, slice_index}
+use Rattle.twkb_num.specs.Varint.{SpellsMany}
+
+-- the bytes go on up to one below 128, which is the last of the first so many
+pub record IsFirstEnd (bytes : List ℕ) (many : ℕ) : Type 0 where
+  pub some : 1 ≤ many
+  pub few : many ≤ 8
+  pub within : many ≤ length bytes
+  pub goes_on : (k : ℕ) → k + 1 < many → 128 ≤ slice_index bytes k
+  pub ends : slice_index bytes (many - 1) < 128
+
+-- 1 for a byte below 128, which ends a varint, else 0
+abbrev pub ended : List ℕ → ℕ → ℕ
+ended bytes k = (255 - slice_index bytes k) / 128
+
+-- how many of the first so many bytes end a varint
+abbrev pub ends_to : List ℕ → ℕ → ℕ
+ends_to bytes zero = 0
+ends_to bytes (suc k) = ends_to bytes k + ended bytes k
+
+-- four numbers as one, each in a byte, from the i-th on, which is lowest
+abbrev pub four_bytes : (ℕ → ℕ) → ℕ → ℕ
+four_bytes f i = (f (i + 3) * 256 + f (i + 2)) * 65536 + (f (i + 1) * 256 + f i)
+
+-- the same of the first eight
+abbrev pub eight_bytes : (ℕ → ℕ) → ℕ
+eight_bytes f = four_bytes f 4 * 4294967296 + four_bytes f 0
+
+-- so many bytes end with the n-th end
+pub record IsEnd (bytes : List ℕ) (n many : ℕ) : Type 0 where
+  pub some : 1 ≤ many
+  pub few : many ≤ 8
+  pub ends : ended bytes (many - 1) ≡ 1
+  pub count : ends_to bytes many ≡ n
+
+-- so many bytes from the front spell so many numbers
+pub record IsFrontOf (bytes : List ℕ) (many size : ℕ) : Type 0 where
+  pub within : size ≤ length bytes
+  pub spells : SpellsMany (take size bytes) many

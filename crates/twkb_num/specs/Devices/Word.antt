@@ -1,0 +1,12 @@
+-- Devices of proofs: nothing public names them.
+-- Varints at the front of a word.
+use Rattle.std.specs.Prelude.{◌≡◌, ℕ, ◌*◌, ◌/◌, ◌≤◌, take}
+use Rattle.std.specs.Int.{w32, to_le_bytes}
+use Rattle.twkb_num.specs.Varint.{Spells}
+
+-- the lowest bits of a word of four bytes, which are whole bytes, spell the value
+pub record IsFront (low bits value : ℕ) : Type 0 where
+  pub some : 8 ≤ bits
+  pub few : bits ≤ 32
+  pub whole : bits ≡ 8 * (bits / 8)
+  pub spells : Spells (take (bits / 8) (to_le_bytes w32 low)) value

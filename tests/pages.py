@@ -1,0 +1,95 @@
+#!/usr/bin/env python3
+"""The parts of docs/DEFINITIONS.md that are written by a script: how many lines have to be believed, and the table of all
+definitions that public contracts reach.
+
+pages.py [--write]: says whether the page is as the definitions are; or writes it."""
+import os
+import re
+import sys
+
+from definitions import TOP, files, uncommented
+from trusted import QUESTIONS, Reach, answers
+
+PAGE = os.path.join("docs", "DEFINITIONS.md")
+MARKS = "<!-- {} by tests/pages.py -->", "<!-- end of {} -->"
+
+
+def says(lines):
+    """What the comment at the head of these lines says."""
+    found = []
+    for line in lines:
+        match = re.match(r"\s*--(?: (?!----)(.*)|$)", line)
+        if match:
+            found.append(match.group(1) or "")
+        elif found or not re.match(r"\s*(?:unfoldable )?mutual$", line):
+            break
+    return " ".join(found).strip().replace("|", "\\|")
+
+
+def modules(top, crate):
+    """The paths of the files of definitions, in the order of `specs/Lib.antt`, which is that of reading."""
+    folder = os.path.join(top, "crates", crate, "specs")
+    library = uncommented(open(os.path.join(folder, "Lib.antt"), encoding="utf-8").read())
+    return [os.path.join(folder, f"{name}.antt") for name in re.findall(r"^pub mod (\w+)", library, re.MULTILINE)]
+
+
+def table(reach):
+    """The table: for each file what it is of, and each definition in it once."""
+    found = answers(reach)
+    rows = ["| Definition | Lines | For | Says |", "|---|---|---|---|"]
+    for crate in reach.crates:
+        for path in modules(reach.top, crate):
+            own = [one for one in reach.definitions.values() if one.path == path]
+            if not own:
+                continue
+            head = says(open(path, encoding="utf-8").read().splitlines())
+            rows.append(f"| **{crate}** `specs/{os.path.basename(path)}` | | | **{head}** |")
+            for one in own:
+                letters = "".join(letter for letter in found if one.key in found[letter])
+                rows.append(f"| `{one.name}` | {one.count} | {letters} | {says(one.lines)} |")
+    return "\n".join(rows)
+
+
+def numbers(reach):
+    """How many lines each question takes, and all public contracts and all devices."""
+    found = answers(reach)
+    rows = [f"- **{letter}**: {name} takes {reach.lines(found[letter])} lines." for letter, name, *_ in QUESTIONS]
+    public = reach.lines(reach.public())
+    devices = reach.lines(key for key, one in reach.definitions.items() if one.is_device)
+    rows.append(f"- All public contracts together take {public} lines.")
+    rows.append(f"- The devices are {devices} lines more, which nobody has to read.")
+    return "\n".join(rows)
+
+
+def written(text, reach):
+    """The page with its parts written anew."""
+    for name, make in (("numbers", numbers), ("table", table)):
+        start, end = (mark.format(name) for mark in MARKS)
+        before, _, rest = text.partition(start)
+        _, _, behind = rest.partition(end)
+        text = f"{before}{start}\n{make(reach)}\n{end}{behind}"
+    return text
+
+
+def stale(reach):
+    """A line where the page isn't as it would be written."""
+    text = open(os.path.join(reach.top, PAGE), encoding="utf-8").read()
+    missing = [mark.format(name) for name in ("numbers", "table") for mark in MARKS if mark.format(name) not in text]
+    if missing:
+        return [f"{PAGE} lacks {', '.join(missing)}"]
+    return [] if written(text, reach) == text else [f"{PAGE} isn't as the definitions are: python3 tests/pages.py --write"]
+
+
+def main():
+    reach = Reach()
+    if "--write" in sys.argv:
+        path = os.path.join(TOP, PAGE)
+        text = written(open(path, encoding="utf-8").read(), reach)
+        open(path, "w", encoding="utf-8").write(text)
+    wrong = stale(reach)
+    print("\n".join(wrong) or f"{PAGE} is as the definitions are")
+    return 1 if wrong else 0
+
+
+if __name__ == "__main__":
+    sys.exit(main())

@@ -1,0 +1,155 @@
+#!/usr/bin/env python3
+"""What has to be believed: the definitions that public contracts reach, and how many lines they have.
+
+trusted.py [--strict]: computes them from the public items of each crate, prints their lines crate by crate and for what a
+reader may want to believe, and fails where a definition stands in the wrong place: where a public contract reaches a
+device, where no public contract reaches what stands in `specs/` beside the devices, or where no contract at all names a
+device, which then belongs to `proofs/`. Strictly it fails too where docs/DEFINITIONS.md isn't as pages.py writes it."""
+import os
+import sys
+
+from contracts import cited, read_public
+from definitions import CRATES, DEVICES, TOP, files, named, read_all
+
+HEAD = "-- Devices of proofs: nothing public names them."
+# What a reader may want to believe: a letter, its name, a public item and which of its clauses, or all and the types of its
+# signature; and the most lines that it may take.
+YES = ("certified", "complete")
+QUESTIONS = (
+    ("Y", "the yes of certify", "twkb_layer", "certify", YES, 354),
+    ("C", "certify", "twkb_layer", "certify", None, 570),
+    ("S", "scan", "twkb_layer", "Certified::scan", None, 700),
+    ("R", "run", "twkb_tool", "run", None, 885),
+)
+
+
+class Reach:
+    """What is reached of what, over the public items and the definitions of all crates."""
+
+    def __init__(self, top=TOP, crates=CRATES):
+        self.top, self.crates = top, crates
+        self.items = read_public(top, crates)
+        self.definitions, self.by_name = read_all(top, crates)
+        self.types = {}
+        for item in self.items:
+            if item.kind in ("model", "trait"):
+                self.types.setdefault(item.name, []).append(item)
+
+    def keys(self, names):
+        """The definitions of these full names, where they are ours."""
+        return {self.by_name[name].key for name in names if name in self.by_name}
+
+    def named(self, item, labels=None):
+        """The definitions that the clauses with these labels name, or all clauses. Proofs of laws aren't read."""
+        keys = self.keys({item.near[name] for name in named(item.texts(labels), item.near)})
+        return {key for key in keys if self.definitions[key].kind != "law"}
+
+    def of_type(self, name, crate):
+        """The models of a type of this name, or the traits: in the crate, or else in any."""
+        there = self.types.get(name, [])
+        return [item for item in there if item.crate == crate] or there
+
+    def all_from(self, keys):
+        """All that is reached from these definitions, and from the models of the types that they name."""
+        found, waiting = set(), list(keys)
+        while waiting:
+            key = waiting.pop()
+            if key in found:
+                continue
+            found.add(key)
+            waiting += self.definitions[key].uses
+            for name in self.definitions[key].types:
+                for item in self.of_type(name.rsplit(".", 1)[1], name.split(".")[1]):
+                    waiting += self.named(item)
+        return found
+
+    def of_item(self, item, labels=None):
+        """All that a reader of an item needs: what its clauses name, and the models and traits of its signature."""
+        keys = self.named(item, labels)
+        for word in item.signature if labels is None else ():
+            for other in self.of_type(word, item.crate):
+                keys |= self.named(other)
+        return self.all_from(keys)
+
+    def item(self, crate, name):
+        """The public item of this name."""
+        return next(item for item in self.items if (item.crate, item.name) == (crate, name))
+
+    def public(self):
+        """All that public items reach."""
+        return set().union(*(self.of_item(item) for item in self.items))
+
+    def in_contracts(self):
+        """All that contracts reach, the private ones among them."""
+        crates = sorted(os.listdir(os.path.join(self.top, "crates")))
+        return self.all_from(self.keys(set().union(*(cited(self.top, crate) for crate in crates))))
+
+    def lines(self, keys):
+        """How many lines these definitions have."""
+        return sum(self.definitions[key].count for key in keys)
+
+
+def misplaced(reach):
+    """What stands where it shouldn't: a line for each."""
+    public, contracts = reach.public(), reach.in_contracts()
+    for item in reach.items:
+        for key in sorted(key for key in reach.of_item(item) if reach.definitions[key].is_device):
+            yield f"{item.crate}: {item.name} is public and reaches the device {key}"
+    for key, definition in reach.definitions.items():
+        if not definition.is_device and key not in public:
+            yield f"{key} stands in specs/, and no public contract reaches it"
+        elif definition.is_device and key not in contracts:
+            yield f"{key} is a device that no contract reaches: it belongs to proofs/"
+
+
+def headless(reach):
+    """The files of devices that don't say so at their head."""
+    for crate in reach.crates:
+        for path in files(reach.top, crate, os.path.join("specs", DEVICES)):
+            if open(path, encoding="utf-8").readline().strip() != HEAD:
+                yield f"{os.path.relpath(path, reach.top)} doesn't begin with {HEAD!r}"
+
+
+def answers(reach, questions=QUESTIONS):
+    """What each question reaches."""
+    return {letter: reach.of_item(reach.item(crate, name), labels) for letter, _, crate, name, labels, _ in questions}
+
+
+def too_long(reach, questions=QUESTIONS):
+    """The questions whose answers take more lines than they may."""
+    found = answers(reach, questions)
+    for letter, name, _, _, _, most in questions:
+        lines = reach.lines(found[letter])
+        if lines > most:
+            yield f"{name} takes {lines} lines of definitions, more than {most}"
+
+
+def counts(reach):
+    """The lines crate by crate, public ones and devices, and for each question."""
+    public, found = reach.public(), answers(reach)
+    rows = [("crate", "public", "devices")]
+    for crate in reach.crates:
+        own = [key for key, one in reach.definitions.items() if one.crate == crate]
+        devices = [key for key in own if reach.definitions[key].is_device]
+        rows.append((crate, reach.lines(set(own) & public), reach.lines(devices)))
+    rows.append(("all", sum(row[1] for row in rows[1:]), sum(row[2] for row in rows[1:])))
+    rows += [(name, reach.lines(found[letter]), "") for letter, name, *_ in QUESTIONS]
+    return rows
+
+
+def main():
+    reach = Reach()
+    for name, lines, devices in counts(reach):
+        print(f"{name:<20}{lines:>8}{devices:>10}".rstrip())
+    wrong = [*misplaced(reach), *headless(reach), *too_long(reach)]
+    if "--strict" in sys.argv:
+        import pages
+
+        wrong += pages.stale(reach)
+    for line in wrong:
+        print(line, file=sys.stderr)
+    return 1 if wrong else 0
+
+
+if __name__ == "__main__":
+    sys.exit(main())
