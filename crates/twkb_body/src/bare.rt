@@ -8,8 +8,8 @@ ghost use Rattle.twkb_body.specs.Devices.Body.{add, ring_sums};
 ghost use Rattle.twkb_body.specs.Devices.BodyReader.{point_at, ring_at, polygon_at, part_at};
 ghost use Rattle.twkb_body.specs.Geometry.{PointValue, points_of};
 
-use crate::within::place_is_within;
 use crate::fields::take_number;
+use crate::within::place_is_within;
 use twkb_head::Kind;
 use twkb_num::Cursor;
 
