@@ -18,8 +18,9 @@ use std::marker::Model;
 /// are passed: [`Cursor::word`], and [`Cursor::ahead`], whose cursor may also be dropped. `None` of a call by words promises no
 /// more than that nothing was read.
 /// A contract sees it as a `Reading`. Each call takes constant time and space: a varint has at most ten bytes.
-/// Numbers may be read or passed by words of eight bytes ([`Cursor::svarint_pair`], [`Cursor::pass_varint`], [`Cursor::pass_varints`]). Then up to
-/// seven bytes behind them are touched too, as a cache line is, and the count is of the bytes that the numbers take.
+/// Numbers may be read or passed by words of eight bytes ([`Cursor::svarint_pair`], [`Cursor::pass_varint`],
+/// [`Cursor::pass_varints`]). Then up to seven bytes behind them are touched too, as a cache line is, and the count is of
+/// the bytes that the numbers take.
 #[derive(Drop)]
 pub struct Cursor<'a> {
     bytes: &'a [u8],
