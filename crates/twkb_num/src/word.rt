@@ -1,5 +1,5 @@
 //! Two varints from the next eight bytes, read as one word.
-ghost use Rattle.std.specs.Prelude.{◌≡◌, ◌<◌, ◌≤◌, ◌^◌, take, IfSome};
+ghost use Rattle.std.specs.Prelude.{◌≡◌, ◌-◌, ◌<◌, ◌≤◌, ◌^◌, take, drop, IfSome};
 ghost use Rattle.twkb_num.specs.Varint.{IsShort, SpellsTwo, SpellsTwoSigned, zigzag_value};
 ghost use Rattle.twkb_num.specs.Devices.Word.{IsFront};
 
@@ -123,4 +123,14 @@ fn front_of(low: u32) -> Option<Front>
         + cut / 65536 % 128 * 16384
         + cut / 16777216 % 128 * 2097152;
     Some(Front { value, bits })
+}
+
+/// The last so many of eight bytes, but not all, moved to the front.
+#[inline(always)]
+pub fn last_of(bytes: &[u8; 8], many: u32) -> [u8; 8]
+    requires some { 1 ≤ many }
+    requires few { many < 8 }
+    ensures { take many result ≡ drop (8 - many) bytes.now }
+{
+    (u64::from_le_bytes(*bytes) >> (64 - 8 * many)).to_le_bytes()
 }
