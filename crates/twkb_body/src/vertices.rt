@@ -58,7 +58,7 @@ fn is_close(sum: i64) -> bool
 }
 
 /// Shows some of the points at the place, and at most so many: those up to the first whose differences take more than four
-/// bytes each, or whose word might pass the end of the geometry.
+/// bytes each, or might end behind the geometry.
 // Both sums are in locals. While differences are short none leaves 64 bits, so none is tested.
 #[inline(always)]
 fn show_flat_run<V: Visit>(
@@ -82,7 +82,7 @@ fn show_flat_run<V: Visit>(
     let mut done = 0;
     for _ in 0..most.min(LONGEST) {
         let stop = end_of(head, cursor.place(), most - done);
-        let Some((x_more, y_more)) = cursor.svarint_pair_before(stop) else {
+        let Some((x_more, y_more)) = cursor.svarint_pair_to(stop) else {
             break;
         };
         x += x_more;
