@@ -2,7 +2,8 @@
 """Where the code looks ahead: at bytes that a cursor counts only if they are passed. Only what the quick pass of an audit
 is made of may do so, since what a scan says of the bytes that it reads would else say less than it seems to. A hop may look
 at a header with a cursor of its own, since whoever reads the blob, if it isn't hopped over, counts that header; it reads the
-box by words that end with the geometry."""
+box by words that end with the geometry. So it is with the first eight bytes of a blob, by which a scan knows a point with a
+size. What they have of the blobs behind it is read by the same scan: what it hops over has a header of seven bytes at least."""
 import os
 import re
 import sys
@@ -14,6 +15,7 @@ ALLOWED = {
         "crates/twkb_head/src/raw.rt",
         "crates/twkb_head/src/boxed.rt",
         "crates/twkb_layer/src/hops.rt",
+        "crates/twkb_layer/src/points.rt",
         *(f"crates/twkb_body/src/{name}.rt" for name in ("boxed", "numbers", "quick", "quick/parts")),
     },
     ".word()": {"crates/twkb_head/src/raw.rt"},
@@ -28,6 +30,7 @@ ALLOWED = {
     # What they answer `None` for they have looked at, and not counted.
     "read_flat_head(": {"crates/twkb_head/src/raw.rt", "crates/twkb_body/src/quick.rt"},
     "read_boxed_head(": {"crates/twkb_head/src/boxed.rt", "crates/twkb_layer/src/hops.rt"},
+    "read_point_head(": {"crates/twkb_head/src/raw.rt", "crates/twkb_layer/src/points.rt"},
     "read_sized_point_head(": {"crates/twkb_head/src/raw.rt", "crates/twkb_body/src/quick.rt"},
 }
 

@@ -70,9 +70,10 @@ module _ (t m n place : ℕ) (kind : t % 16 ≡ 1) (metadata : m % 32 ≡ 2) (fe
   abbrev head : Head
   head = head_of header place (place + 2 + 0) (place + 2 + 0 + 1) (place + 3)
 
-  pub sized_point_stands : (after : ℕ) → after ≡ place + 3 → (head : Head) × IsHeadAt head 1 place (t ∷ m ∷ n ∷ []) × IsSizedPoint head n after
+  pub sized_point_stands : (after : ℕ) → after ≡ place + 3 → (head : Head) × IsHeadAt head 1 place (t ∷ m ∷ n ∷ []) × IsSizedPoint head n after × (head.xy ≡ zigzag_value (t / 16))
   sized_point_stands after at = (
     head,
     record { header = header; is = is_header; allowed = (omega arith, omega arith); fields = refl },
     record { kind = refl; z = refl; m = refl; no_box = refl; full = refl; offset = place + 2 + 0; size_is = ap (λ (k : ℕ). Some (record { value = n; offset = place + 2 + 0; after = k })) (omega (arith, at)) },
+    refl,
   )

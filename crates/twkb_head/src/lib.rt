@@ -11,8 +11,8 @@
 //!   is back at its place, and only the count has moved.
 //!
 //! [`read_raw_head`] reads a header of a geometry that isn't empty, with its box in raw numbers ([`RawHead`]),
-//! [`read_flat_head`] one that has no extended dimensions byte, and [`read_sized_point_head`] that of a point with a size and
-//! nothing else. They are for a look ahead: where another header stands, or none, they answer `None`.
+//! [`read_flat_head`] one that has no extended dimensions byte, and [`read_sized_point_head`] and [`read_point_head`] that of a
+//! point with a size and nothing else. They are for a look ahead: where another header stands, or none, they answer `None`.
 //!
 //! [`malformed`] makes a refusal of a fault of a number, for the numbers of the body behind a header too.
 //!
@@ -47,7 +47,10 @@ pub use boxes::{Bounds, Span, Vertex};
 pub use fields::malformed;
 pub use header::{BoxField, Head, SizeField};
 pub use kinds::{DEEPEST, Kind};
-pub use raw::{RawBox, RawHead, RawRange, read_flat_head, read_raw_head, read_sized_point_head};
+pub use raw::{
+    RawBox, RawHead, RawRange, read_flat_head, read_point_head, read_raw_head,
+    read_sized_point_head,
+};
 pub use read::read_head;
 pub use refusal::{Malformed, Why};
 pub use twkb_num::Cursor;

@@ -10,7 +10,7 @@ ghost use Rattle.twkb_head.specs.Header.{has_bit, z_in, m_in};
 ghost use Rattle.twkb_head.specs.Devices.HeadReader.{range_from, bounds_from, head_at};
 ghost use Rattle.twkb_head.specs.Devices.Reader.{byte_at, optional_at};
 
-use crate::bits::{BOX, EMPTY, EXTENDED, SIZE, has_bit, ids_of, m_of, z_of};
+use crate::bits::{BOX, EMPTY, EXTENDED, SIZE, has_bit, ids_of, m_of, precision_of, z_of};
 use crate::fields::{take_byte, take_signed, take_type};
 use crate::header::Head;
 use crate::kinds::Kind;
@@ -96,12 +96,24 @@ pub fn read_sized_point_head(cursor: &mut Cursor) -> Option<u64>
     ensures moved { OnSome result (IsMoved cursor.old cursor.new) }
     ensures none { IfNone result (cursor.new ≡ cursor.old) }
 {
+    let (_, size) = read_point_head(cursor)?;
+    Some(size)
+}
+
+/// The precision of X and Y and the size in such a header.
+#[inline(always)]
+pub fn read_point_head(cursor: &mut Cursor) -> Option<(i8, u64)>
+    ensures ok { IfSome result (λ fields. (head : Head) × IsHeadAt head 1 cursor.old.place (passed cursor.old cursor.new) × IsSizedPoint head fields.1 cursor.new.place × (head.xy ≡ fields.0)) }
+    ensures moved { OnSome result (IsMoved cursor.old cursor.new) }
+    ensures none { IfNone result (cursor.new ≡ cursor.old) }
+    ensures xy { IfSome result (λ fields. IsPrecision fields.0) }
+{
     let word = cursor.word()?;
     if word[0] % 16 != 1 || word[1] % 32 != SIZE || word[2] >= 128 {
         return None;
     }
     cursor.pass(3);
-    Some(u64::from(word[2]))
+    Some((precision_of(word[0]), u64::from(word[2])))
 }
 
 /// The fields of a header, in order.

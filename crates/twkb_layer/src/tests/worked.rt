@@ -33,6 +33,15 @@ pub const TWO_MEMBERS: [u8; 11] = [
     0x07, 0x00, 0x02, 0x01, 0x00, 0x02, 0x02, 0x01, 0x00, 0x02, 0x02,
 ];
 
+/// Two points with a size and nothing else, at (1 2) and at (3 -4) and at a precision of 1.
+pub const SIZED_POINTS: [u8; 10] = [0x21, 0x02, 0x02, 0x14, 0x28, 0x21, 0x02, 0x02, 0x3C, 0x4F];
+
+/// The same, and behind them one at (-700000 400000) and one whose X takes five bytes, at (30000000 1).
+pub const LONGER_SIZED_POINTS: [u8; 29] = [
+    0x21, 0x02, 0x02, 0x14, 0x28, 0x21, 0x02, 0x02, 0x3C, 0x4F, 0x01, 0x02, 0x06, 0xBF, 0xB9, 0x55,
+    0x80, 0xEA, 0x30, 0x01, 0x02, 0x07, 0x80, 0x8E, 0xCE, 0x9C, 0x00, 0x82, 0x00,
+];
+
 pub const EMPTY_POINT: [u8; 2] = [0x01, 0x10];
 
 /// An empty point whose box is at (10 10).
@@ -99,11 +108,13 @@ fn scan_of(bytes: &'static [u8], window: Bounds, hit: Option<Hit>, reads: (u64, 
 }
 
 /// Windows over X and Y.
-pub fn flat_cases() -> [Case; 17] {
+pub fn flat_cases() -> [Case; 23] {
     let far = flat((6, 9), (0, 9));
     let corner = flat((5, 9), (5, 9));
     let at_ten = flat((10, 10), (10, 10));
     let at_two = flat((2, 2), (2, 2));
+    let left_above = flat((-700_000, -700_000), (400_000, 400_000));
+    let right = flat((30_000_000, 30_000_000), (1, 1));
     let first = hit(0, 0);
     [
         scan_of(&EMPTY, flat((0, 1), (0, 1)), None, (0, 0)),
@@ -124,11 +135,18 @@ pub fn flat_cases() -> [Case; 17] {
         scan_of(&PUBLISHED_LINE, flat((5, 1), (1, 5)), None, (7, 7)),
         scan_of(&BOXED_LINE, flat((1, 5), (9, 0)), None, (7, 0)),
         scan_of(&BOXED_LINE, flat((4, 2), (1, 5)), None, (12, 12)),
+        // Before the first point there is no word that ends with it. The last one's X takes five bytes.
+        scan_of(&SIZED_POINTS, flat((1, 1), (2, 2)), first, (10, 10)),
+        scan_of(&SIZED_POINTS, flat((3, 3), (-4, -4)), hit(1, 5), (10, 10)),
+        scan_of(&SIZED_POINTS, flat((2, 2), (-9, 9)), None, (10, 10)),
+        scan_of(&SIZED_POINTS, flat((0, 9), (-3, 1)), None, (10, 10)),
+        scan_of(&LONGER_SIZED_POINTS, left_above, hit(2, 10), (29, 29)),
+        scan_of(&LONGER_SIZED_POINTS, right, hit(3, 19), (29, 29)),
     ]
 }
 
 /// Windows that bound Z or M too.
-pub fn cases_of_more_axes() -> [Case; 12] {
+pub fn cases_of_more_axes() -> [Case; 13] {
     let at_the_point = flat((1, 1), (2, 2));
     let z = |lo: i128, hi: i128| with_z(at_the_point, (lo, hi));
     let on_the_line = flat((1, 5), (1, 5));
@@ -153,6 +171,7 @@ pub fn cases_of_more_axes() -> [Case; 12] {
             (7, 7),
         ),
         scan_of(&POINT_WITH_Z, z(2, 0), None, (7, 7)),
+        scan_of(&SIZED_POINTS, z(0, 0), None, (10, 10)),
         scan_of(&PUBLISHED_LINE, with_z(on_the_line, (0, 0)), None, (7, 7)),
         scan_of(&POINT_WITH_M, with_m(at_the_point, (1, 1)), first, (7, 7)),
         scan_of(&POINT_WITH_M, with_m(at_the_point, (2, 0)), None, (7, 7)),
