@@ -16,10 +16,10 @@ HEAD = "-- Devices of proofs: nothing public names them."
 # signature; and the most lines that it may take.
 YES = ("certified", "complete")
 QUESTIONS = (
-    ("Y", "the yes of certify", "twkb_layer", "certify", YES, 354),
-    ("C", "certify", "twkb_layer", "certify", None, 570),
-    ("S", "scan", "twkb_layer", "Certified::scan", None, 700),
-    ("R", "run", "twkb_tool", "run", None, 885),
+    ("Y", "the yes of certify", "twkb_layer", "certify", YES, 327),
+    ("C", "certify", "twkb_layer", "certify", None, 547),
+    ("S", "scan", "twkb_layer", "Certified::scan", None, 407),
+    ("R", "run", "twkb_tool", "run", None, 862),
 )
 
 

@@ -1,20 +1,20 @@
 -- Bodies: the plans that read them, and what the definitions say.
 use Rattle.std.proofs.Common.{◌≡◌, ℕ, ◌+◌, Bool, true, false, List, [], ◌∷◌, ◌++◌, length, flat_map, ℤ, Option, ◌⊎◌, inl, inr, refl, sym, ap, ap₂, subst, ◌∙◌, append_assoc, arith}
-use Rattle.twkb_num.specs.Varint.{Spells, sum_of_groups}
+use Rattle.twkb_num.specs.Varint.{Spells, sum_of_groups, IsSigned}
 use Rattle.twkb_head.specs.Parts.{Then, Times, Announced}
-use Rattle.twkb_head.specs.Header.{IsSigned, Header, axes_of, is_multi}
+use Rattle.twkb_head.specs.Header.{Header, axes_of, is_multi}
 use Rattle.twkb_head.specs.BegunHeader.{is_collection, Field, number_field, IsFewer}
 use Rattle.twkb_head.specs.Devices.Plan.{number, Plan, done, bind, many, measure, optional, number_plan, signeds_plan}
 use Rattle.twkb_head.proofs.Spelling.{Spelled, Stops}
 use Rattle.twkb_head.proofs.Combinators.{bind_spelled, spelled_bind, bind_stops, stops_first, stops_then, done_spelled, spelled_done, done_stops, measure_spelled, spelled_measure, measure_stops, stops_measure, optional_spelled, spelled_optional, optional_stops, stops_optional, many_spelled, spelled_many}
 use Rattle.twkb_head.proofs.Leaves.{leaf_stops, number_spelled, spelled_number, signeds_spelled, spelled_signeds, signeds_stops, stops_signeds}
 use Rattle.twkb_body.specs.Geometry.{Lengths, PointValue, PolygonValue, points_of, member_count, none, Members as MemberTrees}
-use Rattle.twkb_body.specs.Encoding.{IsPart, IsList, IsNumbers, IsShape, IsNothing, IsBody, SumsFit, Accumulates, SameForm}
-use Rattle.twkb_body.specs.Begun.{IsBegunList, count_due, id_due, member_due, IsBegunPart, IsBegunNumbers}
+use Rattle.twkb_body.specs.Encoding.{IsPart, IsList, IsNumbers, IsShape, IsNoList, IsBody, SameForm}
+use Rattle.twkb_body.specs.Begun.{IsBegunList, count_due, id_due, member_due, IsBegunPart, IsBegunNumbers, SumsFit}
 use Rattle.twkb_body.specs.Devices.Body.{ListHead, zeros, ring_sums, absolute, Body, parts_body, members_body, part_body, no_body}
 use Rattle.twkb_body.proofs.GeometryPlan.{part_plan, ids_plan, list_plan, after_list, shape_plan, after_count, body_plan}
 use Rattle.twkb_body.proofs.PartPlans.{Members, members_stop, stop_members, part_of}
-use Rattle.twkb_body.proofs.Sums.{FitPoints, FitRings, FitPolygons, polygons_fit, fit_polygons, sums_fit, fit_sums, absolute_is, is_absolute}
+use Rattle.twkb_body.proofs.Sums.{FitPoints, FitRings, FitPolygons, AreSums, polygons_fit, fit_polygons, sums_fit, fit_sums, absolute_is, is_absolute, sums_accumulate, accumulated_fit}
 
 -- a count and ids
 pub record IsListHead (ids : Bool) (x : ListHead) (bytes : List ℕ) : Type 0 where
@@ -98,6 +98,14 @@ record IsNumbersBody (multi : Bool) (h : Header) (l : Lengths) (b : Body) (bytes
   polygons : b.polygons ≡ absolute numbers
   members : b.members ≡ none
 
+no_list : (l : Lengths) (b without : Body) → l.count ≡ b.count → l.list ≡ b.list → b ≡ without
+    → IsNoList (record l { count = without.count; list = without.list }) without.ids → IsNoList l b.ids
+no_list l b without cl ll e absent = (
+  ap (λ (b : Body). b.ids) e ∙ absent.0,
+  cl ∙ ap (λ (b : Body). b.count) e ∙ absent.1,
+  ll ∙ ap (λ (b : Body). b.list) e ∙ absent.2,
+)
+
 numbers_spelled : (multi : Bool) (h : Header) (l : Lengths) (b : Body) (bytes : List ℕ) → is_collection h.kind ≡ false → l.count ≡ b.count → l.list ≡ b.list
     → Spelled (shape_plan multi h) b bytes → IsNumbersBody multi h l b bytes
 numbers_spelled false h l b bytes single cl ll sp =
@@ -105,13 +113,7 @@ numbers_spelled false h l b bytes single cl ll sp =
     let u = (Parts_of h single).spelled zeros t.0 bytes t.2 in
     record {
       numbers = t.0 ∷ [];
-      spelled = record {
-        part = t.0;
-        alone = refl;
-        part_field = u.0;
-        ids_absent = ap (λ (b : Body). b.ids) t.1;
-        no_list = (cl ∙ ap (λ (b : Body). b.count) t.1, ll ∙ ap (λ (b : Body). b.list) t.1);
-      };
+      spelled = (t.0, refl, u.0, no_list l b (part_body t.0) cl ll t.1 (refl, refl, refl));
       fit = (u.1, tt);
       polygons = ap (λ (b : Body). b.polygons) t.1;
       members = ap (λ (b : Body). b.members) t.1;
@@ -148,10 +150,11 @@ body_path a b i p m c l = λ j. record { ids = i j; polygons = p j; members = m 
 spelled_numbers : (multi : Bool) (h : Header) (l : Lengths) (b : Body) (bytes : List ℕ) → is_collection h.kind ≡ false → l.count ≡ b.count → l.list ≡ b.list
     → IsNumbersBody multi h l b bytes → Spelled (shape_plan multi h) b bytes
 spelled_numbers false h l b bytes single cl ll n =
-    let s = n.spelled in
-    let is : b ≡ part_body s.part = body_path b (part_body s.part) s.ids_absent (n.polygons ∙ ap absolute s.alone) n.members (sym cl ∙ s.no_list.0) (sym ll ∙ s.no_list.1) in
-    spelled_done (part_plan h.kind (axes_of h) zeros) part_body s.part b bytes is
-    ((Parts_of h single).back zeros s.part bytes s.part_field (subst (FitPolygons zeros) s.alone n.fit).0)
+    let (part, alone, part_field, absent) = n.spelled in
+    let is : b ≡ part_body part =
+    body_path b (part_body part) absent.0 (n.polygons ∙ ap absolute alone) n.members (sym cl ∙ absent.1) (sym ll ∙ absent.2) in
+    spelled_done (part_plan h.kind (axes_of h) zeros) part_body part b bytes is
+    ((Parts_of h single).back zeros part bytes part_field (subst (FitPolygons zeros) alone n.fit).0)
 spelled_numbers true h l b bytes single cl ll n =
     let s = n.spelled in
     let x : ListHead = ((length n.numbers, length s.count), (b.ids, length s.id_list)) in
@@ -169,14 +172,16 @@ pub shape_spelled : (h : Header) (l : Lengths) (b : Body) (bytes : List ℕ) →
     → Spelled (shape_plan (is_multi h.kind) h) b bytes → (b.members ≡ none) × IsShape h l b.ids b.polygons bytes
 shape_spelled h l b bytes single cl ll sp =
     let n = numbers_spelled (is_multi h.kind) h l b bytes single cl ll sp in
-    let a = absolute_is n.numbers in (
+    let a = absolute_is n.numbers in
+    let same = subst (λ (p : List PolygonValue). SameForm p n.numbers) (sym n.polygons) a.0 in
+    let sums = subst (λ (p : List PolygonValue). AreSums (points_of p) (points_of n.numbers)) (sym n.polygons) a.1 in
+    let fit = sums_fit (points_of n.numbers) (polygons_fit zeros n.numbers n.fit) in (
       n.members,
       record {
         numbers = n.numbers;
         spelled = n.spelled;
-        same_form = subst (λ (p : List PolygonValue). SameForm p n.numbers) (sym n.polygons) a.0;
-        accumulated = subst (λ (p : List PolygonValue). Accumulates (points_of p) (points_of n.numbers)) (sym n.polygons) a.1;
-        in_range = sums_fit (points_of n.numbers) (polygons_fit zeros n.numbers n.fit);
+        same_form = same;
+        accumulated = sums_accumulate (points_of b.polygons) (points_of n.numbers) same.points sums fit;
       },
     )
 
@@ -186,8 +191,9 @@ spelled_shape h l b bytes single cl ll no_members s =
     spelled_numbers (is_multi h.kind) h l b bytes single cl ll (record {
       numbers = s.numbers;
       spelled = s.spelled;
-      fit = fit_polygons zeros s.numbers (fit_sums (points_of s.numbers) s.in_range);
-      polygons = is_absolute b.polygons s.numbers s.same_form s.accumulated;
+      fit = fit_polygons zeros s.numbers
+          (fit_sums (points_of s.numbers) (accumulated_fit (points_of b.polygons) (points_of s.numbers) s.same_form.points s.accumulated));
+      polygons = is_absolute b.polygons s.numbers s.same_form (λ i axis point c e h. (s.accumulated i axis point c e h).0);
       members = no_members;
     })
 
@@ -239,23 +245,22 @@ stop_shape h p due points single b fit = stop_numbers (is_multi h.kind) h p due 
 
 -- bodies, over what is to be known of the members of a collection
 pub nothing_spelled : (l : Lengths) (b : Body) (bytes : List ℕ) → l.count ≡ b.count → l.list ≡ b.list → Spelled (done no_body) b bytes
-    → IsNothing l b.ids b.polygons (member_count b.members) bytes
-nothing_spelled l b bytes cl ll (e, nil) = record {
-  no_bytes = nil;
-  no_ids = ap (λ (b : Body). b.ids) e;
-  no_polygons = ap (λ (b : Body). b.polygons) e;
-  no_members = ap (λ (b : Body). member_count b.members) e;
-  no_list = (cl ∙ ap (λ (b : Body). b.count) e, ll ∙ ap (λ (b : Body). b.list) e);
-}
+    → (bytes ≡ []) × (b.polygons ≡ []) × (member_count b.members ≡ 0) × IsNoList l b.ids
+nothing_spelled l b bytes cl ll (e, nil) = (
+  nil,
+  ap (λ (b : Body). b.polygons) e,
+  ap (λ (b : Body). member_count b.members) e,
+  no_list l b no_body cl ll e (refl, refl, refl),
+)
 
 no_members : (gs : MemberTrees) → member_count gs ≡ 0 → gs ≡ none
 no_members none e = refl
 no_members (MemberTrees.more g gs) e = absurd (omega (arith, e))
 
-pub spelled_nothing : (l : Lengths) (b : Body) (bytes : List ℕ) → l.count ≡ b.count → l.list ≡ b.list → IsNothing l b.ids b.polygons (member_count b.members) bytes
-    → Spelled (done no_body) b bytes
-spelled_nothing l b bytes cl ll n =
-    (body_path b no_body n.no_ids n.no_polygons (no_members b.members n.no_members) (sym cl ∙ n.no_list.0) (sym ll ∙ n.no_list.1), n.no_bytes)
+pub spelled_nothing : (l : Lengths) (b : Body) (bytes : List ℕ) → l.count ≡ b.count → l.list ≡ b.list
+    → (bytes ≡ []) × (b.polygons ≡ []) × (member_count b.members ≡ 0) × IsNoList l b.ids → Spelled (done no_body) b bytes
+spelled_nothing l b bytes cl ll (nil, no_polygons, count, absent) =
+    (body_path b no_body absent.0 no_polygons (no_members b.members count) (sym cl ∙ absent.1) (sym ll ∙ absent.2), nil)
 
 module _ (members : ℕ → Plan MemberTrees) (Each : MemberTrees → List ℕ → Type 0) where
   collection_spelled : ((n : ℕ) (gs : MemberTrees) (b : List ℕ) → Spelled (members n) gs b → (member_count gs ≡ n) × Each gs b)

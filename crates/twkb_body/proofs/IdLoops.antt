@@ -6,9 +6,9 @@ use Rattle.std.proofs.lemmas.List.Elements.{All-nil, All-cons, All-head, All-tai
 use Rattle.std.proofs.lemmas.List.Kept.{AllPairs-cons}
 use Rattle.smallvec.specs.SmallVec.{SmallVec}
 use Rattle.twkb_num.specs.Cursor.{Reading, rest, IsSound}
+use Rattle.twkb_num.specs.Varint.{IsSigned}
 use Rattle.twkb_head.specs.declared.refusal.Malformed.{Malformed}
 use Rattle.twkb_head.specs.Parts.{Then, Sequence, Times}
-use Rattle.twkb_head.specs.Header.{IsSigned}
 use Rattle.twkb_head.specs.Devices.Plan.{signeds_plan}
 use Rattle.twkb_head.specs.Devices.Reader.{signed_at, signeds_at, Fails}
 use Rattle.twkb_head.proofs.Plans.{run_takes}

@@ -1,7 +1,8 @@
 -- How many bytes stand up to an id of a list: two of a header at least, one of a count, and one of each id.
 use Rattle.std.proofs.Common.{ℕ, suc, ◌+◌, ◌≤◌, List, [], ◌∷◌, ◌++◌, length, ℤ, ap, arith, length-append}
+use Rattle.twkb_num.specs.Varint.{IsSigned}
 use Rattle.twkb_head.specs.Parts.{Sequence}
-use Rattle.twkb_head.specs.Header.{Header, IsHeader, IsSigned}
+use Rattle.twkb_head.specs.Header.{Header, IsHeader}
 use Rattle.twkb_body.specs.Audited.{EndsInIds, own_ids, member_ids, HasLongList}
 
 ids_length : (ids : List ℤ) (bytes : List ℕ) → Sequence IsSigned ids bytes → length ids ≤ length bytes

@@ -1,36 +1,28 @@
 -- What ends right after an id of a list is a geometry begun.
-use Rattle.std.proofs.Common.{◌≡◌, ℕ, zero, suc, ◌<◌, ◌≤◌, Bool, true, false, cond, List, [], ◌∷◌, ◌++◌, ℤ, Some, ◌⊎◌, inl, inr, refl, sym, ap, subst, ◌∙◌, arith}
-use Rattle.std.specs.Prelude.{nat_lt}
+use Rattle.std.proofs.Common.{◌≡◌, ℕ, zero, suc, ◌<◌, ◌≤◌, Bool, true, false, List, [], ◌∷◌, ◌++◌, ℤ, Some, ◌⊎◌, inl, inr, refl, sym, ap, subst, ◌∙◌, arith}
+use Rattle.std.specs.Prelude.{not, ◌&&◌}
 use Rattle.std.proofs.lemmas.Bool.{cases_eq}
 use Rattle.std.proofs.lemmas.List.{append-nil}
-use Rattle.twkb_num.specs.Varint.{Spells}
+use Rattle.twkb_num.specs.Varint.{Spells, IsSigned}
 use Rattle.twkb_head.specs.declared.kinds.Kind.{Kind}
 use Rattle.twkb_head.specs.declared.kinds.Kind.TheVariants.{Point, LineString, Polygon, MultiPoint, MultiLineString, MultiPolygon, GeometryCollection}
 use Rattle.twkb_head.specs.Parts.{Times, Announced}
-use Rattle.twkb_head.specs.Header.{Header, IsHeader, IsSigned, axes_of, code_of, has_bit, is_multi}
+use Rattle.twkb_head.specs.Header.{Header, IsHeader, axes_of, has_bit, is_multi}
 use Rattle.twkb_head.specs.BegunHeader.{is_collection, IsAllowedAt, Field, type_field, number_field, coordinate_field, type_due}
 use Rattle.twkb_body.specs.Geometry.{PointValue, none}
-use Rattle.twkb_body.specs.Encoding.{SumsFit, BlobsUnder}
-use Rattle.twkb_body.specs.Begun.{count_due, id_due, member_due, IsBegunPart, IsBegunNumbers, IsBegun, header_begun, shape_begun, members_begun, member_begun}
+use Rattle.twkb_body.specs.Encoding.{BlobsUnder}
+use Rattle.twkb_body.specs.Begun.{count_due, id_due, member_due, IsBegunPart, IsBegunNumbers, IsBegun, header_begun, shape_begun, members_begun, member_begun, SumsFit}
 use Rattle.twkb_body.specs.Audited.{EndsInIds, own_ids, member_ids}
 
 -- ids are announced only where a body begins with a count
-announced_kind : (kind : Kind) (there : Bool) → cond (nat_lt (code_of kind) 4) false there ≡ true → is_multi kind ≡ true
-announced_kind Point there e = absurd (cc (e))
-announced_kind LineString there e = absurd (cc (e))
-announced_kind Polygon there e = absurd (cc (e))
-announced_kind MultiPoint there e = refl
-announced_kind MultiLineString there e = refl
-announced_kind MultiPolygon there e = refl
-announced_kind GeometryCollection there e = refl
-
-announced : (kind : Kind) (empty there : Bool) → cond empty false (cond (nat_lt (code_of kind) 4) false there) ≡ true → (empty ≡ false) × (is_multi kind ≡ true)
-announced kind true there e = absurd (cc (e))
-announced kind false there e = (refl, announced_kind kind there e)
+announced : (empty multi there : Bool) → (not empty && (multi && there)) ≡ true → (empty ≡ false) × (multi ≡ true)
+announced true multi there e = absurd (cc (e))
+announced false false there e = absurd (cc (e))
+announced false true there e = (refl, refl)
 
 header_announces : (h : Header) (head : List ℕ) → IsHeader h head → h.ids ≡ true → (h.empty ≡ false) × (is_multi h.kind ≡ true)
 header_announces h head is e =
-    let t = announced h.kind (has_bit is.metadata 16) (has_bit is.metadata 4) (sym is.ids ∙ e) in
+    let t = announced (has_bit is.metadata 16) (is_multi h.kind) (has_bit is.metadata 4) (sym is.ids ∙ e) in
     (is.empty ∙ t.0, t.1)
 
 no_sums : SumsFit []

@@ -4,7 +4,7 @@ use Rattle.std.proofs.lemmas.Int.{ints}
 use mir.Val.{to_z, of_z, SFits, Fits}
 use Rattle.std.specs.Int.{w64}
 use Rattle.twkb_num.specs.Cursor.{Reading, passed, IsMoved}
-use Rattle.twkb_num.specs.Varint.{SpellsSigned, SpellsTwoSigned, IsShort}
+use Rattle.twkb_num.specs.Varint.{IsSigned, SpellsTwoSigned, IsShort}
 use Rattle.twkb_head.specs.Devices.Reader.{Answer, ◌>>=◌, viewed, many_at, coordinate_at}
 use Rattle.twkb_head.proofs.Steps.{read_signed, coordinate_ok, fits_true}
 use Rattle.twkb_body.specs.Devices.Body.{first_of, behind}
@@ -83,7 +83,7 @@ four_read x y third fourth old middle new first first_short first_moved second s
     from_zero : (z : ℤ) → IsShort z → IsIn64 (pos 0 +ℤ z)
     from_zero z short = (omega (arith, ints, short.0), omega (arith, ints, short.1))
 
-pub three_read : (x y third : ℤ) (old middle new : Reading) → SpellsTwoSigned (passed old middle) x y → IsShort x × IsShort y → IsMoved old middle → SpellsSigned (passed middle new) third → IsShort third → IsMoved middle new
+pub three_read : (x y third : ℤ) (old middle new : Reading) → SpellsTwoSigned (passed old middle) x y → IsShort x × IsShort y → IsMoved old middle → IsSigned third (passed middle new) → IsShort third → IsMoved middle new
     → AreDifferences false (record { x = x; y = y; third = third; fourth = pos 0 }) old new
 three_read x y third old middle new first first_short first_moved second second_short second_moved = record {
   read = λ last fit.

@@ -18,7 +18,8 @@ starts_order h l bytes body s =
 
 numbers_order : (multi : Bool) (h : Header) (l : Lengths) (ids : Option (List ℤ)) (parts : List PolygonValue) (bytes : List ℕ) → IsNumbers multi h l ids parts bytes
     → (l.count ≤ l.list) × (l.list ≤ length bytes)
-numbers_order false h l ids parts bytes s = (omega (arith, s.no_list.0, s.no_list.1), omega (arith, s.no_list.1))
+numbers_order false h l ids parts bytes (part, alone, is, absent) =
+    (omega (arith, absent.1, absent.2), omega (arith, absent.2))
 numbers_order true h l ids parts bytes s =
     let all : length bytes ≡ length s.count + (length s.id_list + length s.members) =
     ap length s.fields ∙ omega (arith, length-append s.count (s.id_list ++ s.members), length-append s.id_list s.members) in
@@ -31,8 +32,9 @@ module _ (limit : ℕ) where
       → IsBody empty collection h l ids polygons (member_count gs) (λ rest. BlobsUnder limit gs rest depth) bytes
       → (l.count ≤ l.list) × (l.list + member_total gs ≤ length bytes) × HaveOrder gs
   unfolding HasOrder
-  body_order true collection h l ids polygons none depth bytes each s = (omega (arith, s.no_list.0, s.no_list.1), omega (arith, s.no_list.1), tt)
-  body_order true collection h l ids polygons (more g gs) depth bytes each s = absurd (omega (arith, s.no_members))
+  body_order true collection h l ids polygons none depth bytes each s =
+      (omega (arith, s.3.1, s.3.2), omega (arith, s.3.2), tt)
+  body_order true collection h l ids polygons (more g gs) depth bytes each s = absurd (omega (arith, s.2))
   body_order false true h l ids polygons gs depth bytes each s =
       let i = s.1 in
       let m = each i.members i.each in

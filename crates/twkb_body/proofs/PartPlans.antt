@@ -3,9 +3,8 @@ use Rattle.std.proofs.Common.{◌≡◌, ℕ, ◌<◌, false, List, [], ◌∷�
 use Rattle.std.proofs.lemmas.List.{append-nil}
 use Rattle.twkb_head.specs.declared.kinds.Kind.{Kind}
 use Rattle.twkb_head.specs.declared.kinds.Kind.TheVariants.{Point, LineString, Polygon, MultiPoint, MultiLineString, MultiPolygon, GeometryCollection}
-use Rattle.twkb_num.specs.Varint.{Spells, sum_of_groups, zigzag_value}
+use Rattle.twkb_num.specs.Varint.{Spells, sum_of_groups, zigzag_value, IsSigned}
 use Rattle.twkb_head.specs.Parts.{Then, Sequence, Counted}
-use Rattle.twkb_head.specs.Header.{IsSigned}
 use Rattle.twkb_head.specs.BegunHeader.{is_collection, Field, coordinate_field}
 use Rattle.twkb_head.specs.Devices.Plan.{number, coordinate, Plan, done, bind, many, number_plan, coordinate_plan}
 use Rattle.twkb_head.proofs.Spelling.{Spelled, Stops}

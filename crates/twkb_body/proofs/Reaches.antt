@@ -6,9 +6,10 @@ use Rattle.std.proofs.lemmas.List.Elements.{All-nil, All-cons, All-head, All-tai
 use Rattle.std.proofs.lemmas.Int.{ints, clamps}
 use Rattle.std.specs.Int.{int_min, int_max}
 use Rattle.twkb_head.specs.declared.boxes.Vertex.{Vertex}
+use Rattle.twkb_head.specs.Devices.Holds.{IsWithinBoth}
 use Rattle.twkb_head.specs.declared.boxes.Bounds.{Bounds}
 use Rattle.twkb_head.specs.declared.boxes.Span.{Span}
-use Rattle.twkb_head.specs.Holds.{IsWithinBoth, Holds}
+use Rattle.twkb_head.specs.Holds.{Holds}
 use Rattle.twkb_body.specs.Extent.{span_of, joined, Reach, reach_of, both, IsCovered, IsReachWithin}
 use Rattle.std.specs.List.{cons_option}
 

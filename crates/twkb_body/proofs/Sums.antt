@@ -6,7 +6,8 @@ use Rattle.std.proofs.lemmas.Grind.{flat_map-append}
 use Rattle.twkb_head.specs.Devices.Plan.{fits}
 use Rattle.twkb_head.proofs.Combinators.{FitAll, after_all}
 use Rattle.twkb_body.specs.Geometry.{PointValue, Ring, PolygonValue, points_of, coordinate}
-use Rattle.twkb_body.specs.Encoding.{total, SumsFit, Accumulates, SameForm}
+use Rattle.twkb_body.specs.Begun.{SumsFit}
+use Rattle.twkb_body.specs.Encoding.{total, Accumulates, SameForm}
 use Rattle.twkb_body.specs.Devices.Body.{zeros, first_of, behind, add, sums, ring_sums, place, map_from, absolute}
 
 -- the numbers of a point, of points, of rings and of polygons have sums in range
@@ -284,8 +285,13 @@ flat_same {A} (x ∷ a) (y ∷ b) l e =
     let t = append_same x y (flat_map (λ x. x) a) (flat_map (λ x. x) b) h.0 e in
     ap₂ (λ (z : List A) (zs : List (List A)). z ∷ zs) t.0 (flat_same a b h.1 t.1)
 
+-- the coordinates of points are the sums of numbers
+abbrev pub AreSums : List PointValue → List PointValue → Type 0
+AreSums points numbers = (i axis : ℕ) (point : PointValue) (c : ℤ) → slice_get points i ≡ Some point
+    → slice_get point axis ≡ Some c → c ≡ total axis (take (suc i) numbers)
+
 -- the polygons at their sums are the ones of the definition
-pub absolute_is : (ps : List PolygonValue) → SameForm (absolute ps) ps × Accumulates (points_of (absolute ps)) (points_of ps)
+pub absolute_is : (ps : List PolygonValue) → SameForm (absolute ps) ps × AreSums (points_of (absolute ps)) (points_of ps)
 unfolding AccumulatesFrom
 absolute_is ps = (
   form_absolute ps,
@@ -294,7 +300,7 @@ absolute_is ps = (
       ∙ from_zeros axis (total axis (take (suc i) (points_of ps))),
 )
 
-pub is_absolute : (a ps : List PolygonValue) → SameForm a ps → Accumulates (points_of a) (points_of ps) → a ≡ absolute ps
+pub is_absolute : (a ps : List PolygonValue) → SameForm a ps → AreSums (points_of a) (points_of ps) → a ≡ absolute ps
 unfolding AccumulatesFrom
 is_absolute a ps same acc =
     let form = form_absolute ps in
@@ -305,3 +311,40 @@ is_absolute a ps same acc =
     flat_same (flat_map (λ p. p) a) (flat_map (λ p. p) (absolute ps)) (same.rings ∙ sym form.rings)
     (sym (points_flat a) ∙ flat ∙ points_flat (absolute ps)) in
     flat_same a (absolute ps) (same.polygons ∙ sym form.polygons) rings
+
+-- ---- sums that lie in 64 bits
+
+-- of two points of one length both have a number on an axis, or none
+same_axis : (p q : PointValue) (axis : ℕ) (c : ℤ) → length p ≡ length q → slice_get p axis ≡ Some c
+    → (d : ℤ) × (slice_get q axis ≡ Some d)
+same_axis [] q axis c l e = absurd (cc (e))
+same_axis (a ∷ p) [] axis c l e = absurd (omega (arith, l))
+same_axis (a ∷ p) (b ∷ q) zero c l e = (b, refl)
+same_axis (a ∷ p) (b ∷ q) (suc axis) c l e = same_axis p q axis c (omega (arith, l)) e
+
+-- the same of lists of points
+same_place : (ps qs : List PointValue) (i axis : ℕ) (point : PointValue) (c : ℤ) → map length ps ≡ map length qs
+    → slice_get ps i ≡ Some point → slice_get point axis ≡ Some c
+    → (other : PointValue) × (d : ℤ) × (slice_get qs i ≡ Some other) × (slice_get other axis ≡ Some d)
+same_place [] qs i axis point c l e h = absurd (cc (e))
+same_place (p ∷ ps) [] i axis point c l e h = absurd (cc (l))
+same_place (p ∷ ps) (q ∷ qs) zero axis point c l e h =
+    let lengths = cons_same (length p) (length q) (map length ps) (map length qs) l in
+    let there = same_axis p q axis c lengths.0 (ap (λ (x : PointValue). slice_get x axis) (some_same p point e) ∙ h) in
+    (q, there.0, refl, there.1)
+same_place (p ∷ ps) (q ∷ qs) (suc i) axis point c l e h =
+    same_place ps qs i axis point c (cons_same (length p) (length q) (map length ps) (map length qs) l).1 e h
+
+pub sums_accumulate : (points numbers : List PointValue) → map length points ≡ map length numbers → AreSums points numbers
+    → SumsFit numbers → Accumulates points numbers
+sums_accumulate points numbers same sums fit i axis point c e h =
+    let there = same_place points numbers i axis point c same e h in
+    let is = sums i axis point c e h in
+    (is, subst (λ (z : ℤ). FitsSigned w64 z) (sym is) (fit i axis there.0 there.1 there.2 there.3))
+
+pub accumulated_fit : (points numbers : List PointValue) → map length points ≡ map length numbers
+    → Accumulates points numbers → SumsFit numbers
+accumulated_fit points numbers same sums i axis point z e h =
+    let there = same_place numbers points i axis point z (sym same) e h in
+    let is = sums i axis there.0 there.1 there.2 there.3 in
+    subst (λ (z : ℤ). FitsSigned w64 z) is.0 is.1

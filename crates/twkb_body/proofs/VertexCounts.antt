@@ -54,8 +54,9 @@ axes_some h = omega arith
 
 numbers_few : (multi : Bool) (h : Header) (l : Lengths) (ids : Option (List ℤ)) (parts : List PolygonValue) (bytes : List ℕ) → IsNumbers multi h l ids parts bytes
     → length (points_of parts) ≤ length bytes
-numbers_few false h l ids parts bytes s =
-    rw s.alone (omega (arith, length-append (flat_map (λ (ring : Ring). ring) s.part) [], part_few (axes_of h) (axes_some h) h.kind s.part bytes s.part_field))
+numbers_few false h l ids parts bytes (part, alone, is, absent) =
+    let few = part_few (axes_of h) (axes_some h) h.kind part bytes is in
+    rw alone (omega (arith, length-append (flat_map (λ (ring : Ring). ring) part) [], few))
 numbers_few true h l ids parts bytes s =
     omega (
       arith,
@@ -75,8 +76,8 @@ body_few : (empty collection : Bool) (h : Header) (l : Lengths) (ids : Option (L
     → IsBody empty collection h l ids polygons (member_count gs) (λ rest. BlobsUnder deepest gs rest depth) bytes
     → length (points_of polygons) + length (member_vertices gs) ≤ length bytes
 unfolding vertices
-body_few true collection h l ids polygons none depth bytes each s = rw s.no_polygons (omega arith)
-body_few true collection h l ids polygons (more g gs) depth bytes each s = absurd (omega (arith, s.no_members))
+body_few true collection h l ids polygons none depth bytes each s = rw s.1 (omega arith)
+body_few true collection h l ids polygons (more g gs) depth bytes each s = absurd (omega (arith, s.2))
 body_few false true h l ids polygons gs depth bytes each s =
     let i = s.1 in
     rw s.0 (omega (arith, each i.members i.each, ap length i.fields, length-append i.count (i.id_list ++ i.members), length-append i.id_list i.members))

@@ -1,13 +1,19 @@
 -- Blobs that are begun and not finished: which kind of field can follow a prefix.
-use Rattle.std.specs.Prelude.{◌≡◌, ℕ, suc, ◌<◌, Bool, true, false, List, [], ◌∷◌, ◌++◌, length, flat_map, ℤ, Option, ◌⊎◌}
-use Rattle.twkb_num.specs.Varint.{Spells}
+use Rattle.std.specs.Prelude.{◌≡◌, ℕ, suc, ◌<◌, Bool, true, false, List, [], ◌∷◌, ◌++◌, length, flat_map, slice_get, take, ℤ, Option, Some, FitsSigned, ◌⊎◌}
+use Rattle.std.specs.Int.{w64}
+use Rattle.twkb_num.specs.Varint.{Spells, IsSigned}
 use Rattle.twkb_head.specs.Parts.{Sequence, Times, Announced}
-use Rattle.twkb_head.specs.Header.{Header, IsHeader, IsSigned, axes_of, is_multi}
+use Rattle.twkb_head.specs.Header.{Header, IsHeader, axes_of, is_multi}
 use Rattle.twkb_head.specs.BegunHeader.{is_collection, IsAllowedUnder, deepest, Field, number_field, coordinate_field, IsFewer, IsBegunHeader}
 use Rattle.twkb_body.specs.Geometry.{Geometry, Members, PointValue, member_count}
-use Rattle.twkb_body.specs.Encoding.{Blob, BlobsUnder, IsPoint, IsRing, IsPart, SumsFit}
+use Rattle.twkb_body.specs.Encoding.{Blob, BlobsUnder, IsPoint, IsRing, IsPart, total}
 use Rattle.twkb_head.specs.declared.kinds.Kind.{Kind}
 use Rattle.twkb_head.specs.declared.kinds.Kind.TheVariants.{Point, LineString, Polygon, MultiPoint, MultiLineString, MultiPolygon, GeometryCollection}
+
+-- Every number, with those of its axis before it, has a sum that lies in 64 bits.
+abbrev pub SumsFit : List PointValue → Type 0
+SumsFit numbers = (i axis : ℕ) (point : PointValue) (z : ℤ) → slice_get numbers i ≡ Some point
+    → slice_get point axis ≡ Some z → FitsSigned w64 (total axis (take (suc i) numbers))
 
 -- fewer numbers than axes
 abbrev pub IsBegunPoint : ℕ → List PointValue → List ℕ → Field → Type 0

@@ -1,9 +1,9 @@
 -- The bytes of a geometry: the grammar of blobs.
 use Rattle.std.specs.Prelude.{◌≡◌, ℕ, suc, ◌+◌, Bool, true, false, List, [], ◌∷◌, ◌++◌, length, map, flat_map, slice_get, take, ℤ, pos, ◌+ℤ◌, Option, Some, None, FitsSigned}
 use Rattle.std.specs.Int.{w64}
-use Rattle.twkb_num.specs.Varint.{Spells}
+use Rattle.twkb_num.specs.Varint.{Spells, IsSigned}
 use Rattle.twkb_head.specs.Parts.{Then, Sequence, Times, Counted, Announced}
-use Rattle.twkb_head.specs.Header.{Header, IsHeader, IsSigned, axes_of, is_multi}
+use Rattle.twkb_head.specs.Header.{Header, IsHeader, axes_of, is_multi}
 use Rattle.twkb_head.specs.BegunHeader.{is_collection, IsAllowedUnder, deepest}
 use Rattle.twkb_body.specs.Geometry.{Geometry, Members, geometry, none, more, Lengths, PointValue, Ring, PolygonValue, points_of, member_count, coordinate}
 use Rattle.twkb_head.specs.declared.kinds.Kind.{Kind}
@@ -32,7 +32,8 @@ IsPart MultiPolygon axes part bytes = IsPolygon axes part bytes
 IsPart GeometryCollection axes part bytes = ⊥
 
 -- a count of members, their ids and the members
-pub record IsList (h : Header) (l : Lengths) (ids : Option (List ℤ)) (n : ℕ) (Each : List ℕ → Type 0) (bytes : List ℕ) : Type 0 where
+pub record IsList (h : Header) (l : Lengths) (ids : Option (List ℤ)) (n : ℕ) (Each : List ℕ → Type 0) (bytes : List ℕ)
+    : Type 0 where
   pub count : List ℕ
   pub id_list : List ℕ
   pub members : List ℕ
@@ -43,17 +44,14 @@ pub record IsList (h : Header) (l : Lengths) (ids : Option (List ℤ)) (n : ℕ)
   pub count_length : l.count ≡ length count
   pub list_length : l.list ≡ length count + length id_list
 
--- no member count: one part alone
-pub record IsSingle (h : Header) (l : Lengths) (ids : Option (List ℤ)) (parts : List PolygonValue) (bytes : List ℕ) : Type 0 where
-  pub part : PolygonValue
-  pub alone : parts ≡ part ∷ []
-  pub part_field : IsPart h.kind (axes_of h) part bytes
-  pub ids_absent : ids ≡ None
-  pub no_list : (l.count ≡ 0) × (l.list ≡ 0)
+-- neither a count of members nor ids
+abbrev pub IsNoList : Lengths → Option (List ℤ) → Type 0
+IsNoList l ids = (ids ≡ None) × (l.count ≡ 0) × (l.list ≡ 0)
 
--- the numbers in the bytes of a body that is no collection's
+-- the numbers in the bytes of a body that is no collection's: one part alone, or a list of parts
 abbrev pub IsNumbers : Bool → Header → Lengths → Option (List ℤ) → List PolygonValue → List ℕ → Type 0
-IsNumbers false h l ids parts bytes = IsSingle h l ids parts bytes
+IsNumbers false h l ids parts bytes =
+    (part : PolygonValue) × (parts ≡ part ∷ []) × IsPart h.kind (axes_of h) part bytes × IsNoList l ids
 IsNumbers true h l ids parts bytes = IsList h l ids (length parts) (Sequence (IsPart h.kind (axes_of h)) parts) bytes
 
 -- the sum of the numbers of one axis
@@ -61,15 +59,10 @@ abbrev pub total : ℕ → List PointValue → ℤ
 total axis [] = pos 0
 total axis (point ∷ points) = coordinate point axis +ℤ total axis points
 
--- Every number, with those of its axis before it, has a sum that lies in 64 bits.
-abbrev pub SumsFit : List PointValue → Type 0
-SumsFit numbers = (i axis : ℕ) (point : PointValue) (z : ℤ) → slice_get numbers i ≡ Some point → slice_get point axis ≡ Some z
-    → FitsSigned w64 (total axis (take (suc i) numbers))
-
--- In each axis the coordinate of a point is the sum of the numbers up to its own.
+-- In each axis the coordinate of a point is the sum of the numbers up to its own, and lies in 64 bits.
 abbrev pub Accumulates : List PointValue → List PointValue → Type 0
-Accumulates points numbers = (i axis : ℕ) (point : PointValue) (c : ℤ) → slice_get points i ≡ Some point → slice_get point axis ≡ Some c
-    → c ≡ total axis (take (suc i) numbers)
+Accumulates points numbers = (i axis : ℕ) (point : PointValue) (c : ℤ) → slice_get points i ≡ Some point
+    → slice_get point axis ≡ Some c → (c ≡ total axis (take (suc i) numbers)) × FitsSigned w64 c
 
 -- as many rings in each polygon, points in each ring and numbers in each point
 pub record SameForm (a b : List PolygonValue) : Type 0 where
@@ -78,24 +71,17 @@ pub record SameForm (a b : List PolygonValue) : Type 0 where
   pub points : map length (points_of a) ≡ map length (points_of b)
 
 -- the body of a kind that is no collection: numbers, which run on over all its parts
-pub record IsShape (h : Header) (l : Lengths) (ids : Option (List ℤ)) (polygons : List PolygonValue) (bytes : List ℕ) : Type 0 where
+pub record IsShape (h : Header) (l : Lengths) (ids : Option (List ℤ)) (polygons : List PolygonValue) (bytes : List ℕ)
+    : Type 0 where
   pub numbers : List PolygonValue
   pub same_form : SameForm polygons numbers
   pub spelled : IsNumbers (is_multi h.kind) h l ids numbers bytes
   pub accumulated : Accumulates (points_of polygons) (points_of numbers)
-  pub in_range : SumsFit (points_of numbers)
 
--- an empty geometry has no body
-pub record IsNothing (l : Lengths) (ids : Option (List ℤ)) (polygons : List PolygonValue) (n : ℕ) (bytes : List ℕ) : Type 0 where
-  pub no_bytes : bytes ≡ []
-  pub no_ids : ids ≡ None
-  pub no_polygons : polygons ≡ []
-  pub no_members : n ≡ 0
-  pub no_list : (l.count ≡ 0) × (l.list ≡ 0)
-
--- the body: nothing, the members of a collection, which stand as Each says, or a shape
-abbrev pub IsBody : Bool → Bool → Header → Lengths → Option (List ℤ) → List PolygonValue → ℕ → (List ℕ → Type 0) → List ℕ → Type 0
-IsBody true collection h l ids polygons n Each bytes = IsNothing l ids polygons n bytes
+-- the body: nothing where the geometry is empty, the members of a collection, which stand as Each says, or a shape
+abbrev pub IsBody : Bool → Bool → Header → Lengths → Option (List ℤ) → List PolygonValue → ℕ → (List ℕ → Type 0)
+    → List ℕ → Type 0
+IsBody true collection h l ids polygons n Each bytes = (bytes ≡ []) × (polygons ≡ []) × (n ≡ 0) × IsNoList l ids
 IsBody false true h l ids polygons n Each bytes = (polygons ≡ []) × IsList h l ids n Each bytes
 IsBody false false h l ids polygons n Each bytes = (n ≡ 0) × IsShape h l ids polygons bytes
 
@@ -110,16 +96,18 @@ pub record IsHeaderThenBody (h : Header) (l : Lengths) (bytes body : List ℕ) :
   pub whole_length : l.whole ≡ length bytes
 
 unfoldable mutual
-  -- The bytes are the geometry's, which stands at the depth, where the deepest may stand at the limit; its size number is free.
+  -- The bytes are the geometry's, which stands at the depth, where the deepest may stand at the limit. Its size is free.
   pub BlobUnder : ℕ → Geometry → List ℕ → ℕ → Type 0
   BlobUnder limit (geometry h l ids polygons members) bytes depth =
       (body : List ℕ) × IsHeaderThenBody h l bytes body × IsAllowedUnder limit h.kind depth
-      × IsBody h.empty (is_collection h.kind) h l ids polygons (member_count members) (λ rest. BlobsUnder limit members rest (suc depth)) body
+      × IsBody h.empty (is_collection h.kind) h l ids polygons (member_count members)
+      (λ rest. BlobsUnder limit members rest (suc depth)) body
 
   -- one geometry after another
   pub BlobsUnder : ℕ → Members → List ℕ → ℕ → Type 0
   BlobsUnder limit none bytes depth = bytes ≡ []
-  BlobsUnder limit (more g gs) bytes depth = Then (λ front. BlobUnder limit g front depth) (λ rest. BlobsUnder limit gs rest depth) bytes
+  BlobsUnder limit (more g gs) bytes depth =
+      Then (λ front. BlobUnder limit g front depth) (λ rest. BlobsUnder limit gs rest depth) bytes
 
 -- the same under the limit of this project
 abbrev pub Blob : Geometry → List ℕ → ℕ → Type 0

@@ -1,19 +1,20 @@
 -- The numbers of a box have 64 bits, so each of its ranges is spelled by such.
 use Rattle.std.proofs.Common.{◌≡◌, ℕ, zero, suc, ◌+◌, ◌<◌, ◌^◌, Bool, true, false, cond, List, [], ◌∷◌, length, ℤ, pos, ◌+ℤ◌, ◌-ℤ◌, Option, Some, None, is_some, option_map, IfSome, refl, sym, subst, arith}
 use Rattle.std.proofs.lemmas.Int.{ints}
-use Rattle.twkb_num.specs.Varint.{SpellsSigned, zigzag_value}
+use Rattle.twkb_num.specs.Varint.{IsSigned, zigzag_value}
 use Rattle.twkb_head.specs.declared.header.BoxField.{BoxField}
 use Rattle.twkb_head.specs.declared.header.Head.{Head}
-use Rattle.twkb_head.specs.Parts.{Sequence, Announced}
-use Rattle.twkb_head.specs.Header.{Header, IsSigned, IsBox, box_numbers, axes_of, has_bit}
+use Rattle.twkb_head.specs.Parts.{Sequence, Times, Announced}
+use Rattle.twkb_head.specs.Header.{Header, IsRange, axes_of, has_bit}
 use Rattle.twkb_head.specs.Head.{IsHeadAt, span_at, range_of, m_axis, bounds_of}
 use Rattle.twkb_head.specs.Spelled.{Has64Bits, IsSpelled}
+use Rattle.twkb_head.proofs.BoxFields.{box_numbers, ranges_numbers}
 use Rattle.twkb_head.specs.Devices.Spelled.{IsSpelledIfAny, AreSpelled}
 
 zigzag_fits : (n : ℕ) → n < 2 ^ 64 → Has64Bits (zigzag_value n)
 zigzag_fits n h = (grind (arith, ints, h), grind (arith, ints, h))
 
-signed_fits : (z : ℤ) (bytes : List ℕ) → SpellsSigned bytes z → Has64Bits z
+signed_fits : (z : ℤ) (bytes : List ℕ) → IsSigned z bytes → Has64Bits z
 signed_fits z bytes (n, spells, is) = subst Has64Bits is (zigzag_fits n spells.fits)
 
 -- minimum and extent of each axis
@@ -42,9 +43,9 @@ m_among z None e = absurd (cc (e))
 m_among z (Some p) e = omega arith
 
 -- each range of a box
-pub box_ranges_spelled : (h : Header) (ranges : List (ℤ × ℤ)) (bytes : List ℕ) → IsBox (axes_of h) ranges bytes → AreSpelled h.xy h.z h.m (bounds_of h.xy h.z h.m ranges)
+pub box_ranges_spelled : (h : Header) (ranges : List (ℤ × ℤ)) (bytes : List ℕ) → Times (axes_of h) IsRange ranges bytes → AreSpelled h.xy h.z h.m (bounds_of h.xy h.z h.m ranges)
 box_ranges_spelled h ranges bytes (all, numbers) =
-    let fit : (axis : ℕ) → axis < axes_of h → Has64Bits (range_of ranges axis).0 × Has64Bits ((range_of ranges axis).1 -ℤ (range_of ranges axis).0) = λ axis lt. numbers_fit ranges bytes axis numbers (omega (arith, all, lt)) in
+    let fit : (axis : ℕ) → axis < axes_of h → Has64Bits (range_of ranges axis).0 × Has64Bits ((range_of ranges axis).1 -ℤ (range_of ranges axis).0) = λ axis lt. numbers_fit ranges bytes axis (ranges_numbers ranges bytes numbers) (omega (arith, all, lt)) in
     record {
       x = range_spelled h.xy (range_of ranges 0) (fit 0 (omega arith));
       y = range_spelled h.xy (range_of ranges 1) (fit 1 (omega arith));
@@ -52,12 +53,12 @@ box_ranges_spelled h ranges bytes (all, numbers) =
       m_is = further_spelled h.m (range_of ranges (m_axis h.z)) (λ e. fit (m_axis h.z) (m_among h.z h.m e));
     }
 
-announced_spelled : (h : Header) (place : ℕ) (there : Bool) (box : Option (List (ℤ × ℤ))) (bytes : List ℕ) → Announced there (IsBox (axes_of h)) box bytes
+announced_spelled : (h : Header) (place : ℕ) (there : Bool) (box : Option (List (ℤ × ℤ))) (bytes : List ℕ) → Announced there (Times (axes_of h) IsRange) box bytes
     → IfSome (option_map (λ (ranges : List (ℤ × ℤ)). let field : BoxField = record { bounds = bounds_of h.xy h.z h.m ranges; offset = place } in field) box) (λ (field : BoxField). AreSpelled h.xy h.z h.m field.bounds)
 announced_spelled h place false None bytes a = tt
 announced_spelled h place false (Some ranges) bytes (none, nothing) = absurd (cc (none))
 announced_spelled h place true None bytes (ranges, some, is) = absurd (cc (some))
-announced_spelled h place true (Some others) bytes (ranges, some, is) = box_ranges_spelled h others bytes (subst (λ (x : List (ℤ × ℤ)). IsBox (axes_of h) x bytes) (sym (cc (some))) is)
+announced_spelled h place true (Some others) bytes (ranges, some, is) = box_ranges_spelled h others bytes (subst (λ (x : List (ℤ × ℤ)). Times (axes_of h) IsRange x bytes) (sym (cc (some))) is)
 
 -- and so the box of a header that was read
 pub head_spelled : (head : Head) (depth start : ℕ) (bytes : List ℕ) → IsHeadAt head depth start bytes → IfSome head.bounds (λ (field : BoxField). AreSpelled head.xy head.z head.m field.bounds)

@@ -1,7 +1,7 @@
 -- The steps of a header.
 use Rattle.std.proofs.Common.{◌≡◌, ℕ, Option, Some, None, option_map, is_some, IfSome, Bool, true, false, ◌&&◌, ◌||◌, ℤ, ◌+ℤ◌, Ok, refl, sym, ap, ◌∙◌}
 use Rattle.twkb_num.specs.Cursor.{Reading, passed, IsMoved}
-use Rattle.twkb_num.specs.Varint.{SpellsSigned, SpellsTwoSigned}
+use Rattle.twkb_num.specs.Varint.{IsSigned, SpellsTwoSigned}
 use Rattle.twkb_num.proofs.PairLaws.{IsMoved-two}
 use Rattle.twkb_head.specs.Header.{has_bit, z_in, m_in}
 use Rattle.twkb_head.specs.Devices.Reader.{Reader, viewed, byte_at, number_at, optional_at}
@@ -46,8 +46,8 @@ unfolding range_from
 pair_range minimum extent old new spells moved =
     let two = spells.2 in
     let way = IsMoved-two old new two.front two.behind moved two.whole in
-    let first : SpellsSigned (passed old way.0) minimum = (spells.0, rw way.3 two.first, spells.3) in
-    let second : SpellsSigned (passed way.0 new) extent = (spells.1, rw way.4 two.second, spells.4) in
+    let first : IsSigned minimum (passed old way.0) = (spells.0, rw way.3 two.first, spells.3) in
+    let second : IsSigned extent (passed way.0 new) = (spells.1, rw way.4 two.second, spells.4) in
     rw (read_signed old way.0 minimum first way.1, read_signed way.0 new extent second way.2) refl
 
 -- a range of an axis for each that is there is a box

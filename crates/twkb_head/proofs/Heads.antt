@@ -4,13 +4,14 @@ use Rattle.std.proofs.lemmas.List.{append-nil}
 use Rattle.std.proofs.lemmas.Int.{ints}
 use Rattle.twkb_head.specs.declared.kinds.Kind.{Kind}
 use Rattle.twkb_head.specs.declared.kinds.Kind.TheVariants.{Point, LineString, Polygon, MultiPoint, MultiLineString, MultiPolygon, GeometryCollection}
-use Rattle.twkb_num.specs.Varint.{Spells, sum_of_groups}
-use Rattle.twkb_head.specs.Parts.{Then, Sequence, Announced}
-use Rattle.twkb_head.specs.Header.{Header, IsSigned, IsHeader, IsByte, IsBox, box_numbers, axes_of, axes_with, z_in, m_in, code_of, has_bit, has_ids}
+use Rattle.twkb_num.specs.Varint.{Spells, sum_of_groups, IsSigned}
+use Rattle.twkb_head.specs.Parts.{Then, Sequence, Times, Announced}
+use Rattle.twkb_head.specs.Header.{Header, IsHeader, IsByte, IsRange, axes_of, axes_with, z_in, m_in, code_of, has_bit, has_ids}
 use Rattle.twkb_head.specs.BegunHeader.{Field, IsAllowedUnder, IsStart, IsBegunHeader, type_due, metadata_due, extended_due, size_due, box_due}
 use Rattle.twkb_head.specs.Devices.Plan.{type_byte, byte, number, judge, judge_kind, kind_of_code, Plan, done, measure, optional, type_plan, byte_plan, number_plan, signeds_plan}
 use Rattle.twkb_head.proofs.Spelling.{Spelled, Stops}
 use Rattle.twkb_head.specs.Devices.HeadPlan.{ranges_of, box_plan, HeadValue, kind_from, head_from, head_plan, after_type, after_metadata, after_extended, after_size}
+use Rattle.twkb_head.proofs.BoxFields.{box_numbers, ranges_numbers, numbers_ranges}
 use Rattle.twkb_head.proofs.Combinators.{bind_spelled, spelled_bind, bind_stops, stops_first, stops_then, done_spelled, spelled_done, done_stops, measure_spelled, spelled_measure, measure_stops, stops_measure, optional_spelled, spelled_optional, optional_stops, stops_optional}
 use Rattle.twkb_head.proofs.Leaves.{leaf_spelled, spelled_leaf, leaf_stops, byte_spelled, spelled_byte, number_spelled, spelled_number, signeds_spelled, spelled_signeds, signeds_stops, stops_signeds}
 
@@ -106,18 +107,19 @@ box_forth (r ∷ rs) =
     let high : r.0 +ℤ (r.1 -ℤ r.0) ≡ r.1 = omega (arith, ints) in
     (omega (arith, more.0), ap₂ (λ (x : ℤ) (y : List (ℤ × ℤ)). (r.0, x) ∷ y) high more.1)
 
-box_spelled : (axes : ℕ) (rs : List (ℤ × ℤ)) (bytes : List ℕ) → Spelled (box_plan axes) rs bytes → IsBox axes rs bytes
+box_spelled : (axes : ℕ) (rs : List (ℤ × ℤ)) (bytes : List ℕ) → Spelled (box_plan axes) rs bytes → Times axes IsRange rs bytes
 box_spelled axes rs bytes s =
     let t = done_spelled (signeds_plan (2 * axes)) ranges_of rs bytes s in
     let times = signeds_spelled (2 * axes) t.0 bytes t.2 in
     let back = box_back axes t.0 times.0 in
-    subst (λ (rs : List (ℤ × ℤ)). IsBox axes rs bytes) (sym t.1) (back.0, subst (λ (zs : List ℤ). Sequence IsSigned zs bytes) (sym back.1) times.1)
+    let numbers = subst (λ (zs : List ℤ). Sequence IsSigned zs bytes) (sym back.1) times.1 in
+    subst (λ (rs : List (ℤ × ℤ)). Times axes IsRange rs bytes) (sym t.1) (back.0, numbers_ranges (ranges_of t.0) bytes numbers)
 
-spelled_box : (axes : ℕ) (rs : List (ℤ × ℤ)) (bytes : List ℕ) → IsBox axes rs bytes → Spelled (box_plan axes) rs bytes
+spelled_box : (axes : ℕ) (rs : List (ℤ × ℤ)) (bytes : List ℕ) → Times axes IsRange rs bytes → Spelled (box_plan axes) rs bytes
 spelled_box axes rs bytes h =
     let forth = box_forth rs in
     spelled_done (signeds_plan (2 * axes)) ranges_of (box_numbers rs) rs bytes (sym forth.1)
-    (spelled_signeds (2 * axes) (box_numbers rs) bytes (forth.0 ∙ ap (λ (k : ℕ). 2 * k) h.0, h.1))
+    (spelled_signeds (2 * axes) (box_numbers rs) bytes (forth.0 ∙ ap (λ (k : ℕ). 2 * k) h.0, ranges_numbers rs bytes h.1))
 
 -- headers
 abbrev IsNumber : ℕ → List ℕ → Type 0
@@ -156,7 +158,7 @@ head_spelled levels x bytes s = go (bind_spelled (type_plan levels) after_type x
             z = refl;
             m = refl;
             size = optional_spelled IsNumber number_plan number_spelled (has_bit m 2) size.0 size_bytes ms.0;
-            box = optional_spelled (IsBox (axes_with (z_in ext.0) (m_in ext.0))) (box_plan (axes_with (z_in ext.0) (m_in ext.0)))
+            box = optional_spelled (Times (axes_with (z_in ext.0) (m_in ext.0)) IsRange) (box_plan (axes_with (z_in ext.0) (m_in ext.0)))
                 (box_spelled (axes_with (z_in ext.0) (m_in ext.0))) (has_bit m 1) box r4 sb;
             ids = refl;
             empty = refl;
@@ -207,8 +209,8 @@ spelled_head levels x bytes ok =
     (header_path x.header (head_from t m ext size x.header.box).header (sym kinds) h.precision h.z h.m refl refl (h.ids ∙ ap (λ (k : Kind). has_ids k m) (sym kinds)) h.empty)
     ok.before ok.size in
     let s₅ : Spelled (after_size t m ext size) x h.box_bytes = spelled_done (optional (has_bit m 1) (box_plan (axes_with (z_in ext.0) (m_in ext.0)))) (head_from t m ext size) x.header.box x h.box_bytes is
-    (spelled_optional (IsBox (axes_with (z_in ext.0) (m_in ext.0))) (box_plan (axes_with (z_in ext.0) (m_in ext.0))) (spelled_box (axes_with (z_in ext.0) (m_in ext.0)))
-    (has_bit m 1) x.header.box h.box_bytes (subst (λ (n : ℕ). Announced (has_bit m 1) (IsBox n) x.header.box h.box_bytes) axes h.box)) in
+    (spelled_optional (Times (axes_with (z_in ext.0) (m_in ext.0)) IsRange) (box_plan (axes_with (z_in ext.0) (m_in ext.0))) (spelled_box (axes_with (z_in ext.0) (m_in ext.0)))
+    (has_bit m 1) x.header.box h.box_bytes (subst (λ (n : ℕ). Announced (has_bit m 1) (Times n IsRange) x.header.box h.box_bytes) axes h.box)) in
     let s₄ : Spelled (after_extended t m ext) x (h.size_bytes ++ h.box_bytes) = spelled_bind (measure 0 (optional (has_bit m 2) number_plan)) (after_size t m ext) size x (h.size_bytes ++ h.box_bytes)
     (h.size_bytes, h.box_bytes, refl, measured (optional (has_bit m 2) number_plan) x.header.size h.size_bytes (spelled_optional IsNumber number_plan spelled_number (has_bit m 2) x.header.size h.size_bytes h.size), s₅) in
     let s₃ : Spelled (after_metadata t m) x (h.extended_bytes ++ (h.size_bytes ++ h.box_bytes)) = spelled_bind (measure 0 (optional (has_bit m 8) byte_plan)) (after_extended t m) ext x (h.extended_bytes ++ (h.size_bytes ++ h.box_bytes))

@@ -2,9 +2,9 @@
 use Rattle.std.proofs.Common.{◌≡◌, ℕ, Bool, true, false, cond, List, [], ◌∷◌, ◌++◌, slice_index, ℤ, pos, ◌+ℤ◌, Some, None, inl, inr, refl, sym, ap, subst, ◌∙◌}
 use Rattle.std.proofs.lemmas.List.{append-nil}
 use Rattle.twkb_head.specs.declared.refusal.Why.TheVariants.{Range}
-use Rattle.twkb_num.specs.Varint.{Spells, sum_of_groups, zigzag_value}
+use Rattle.twkb_num.specs.Varint.{Spells, sum_of_groups, zigzag_value, IsSigned}
 use Rattle.twkb_head.specs.Parts.{Sequence, Times}
-use Rattle.twkb_head.specs.Header.{IsByte, IsSigned}
+use Rattle.twkb_head.specs.Header.{IsByte}
 use Rattle.twkb_head.specs.BegunHeader.{Field, number_field, IsFewer}
 use Rattle.twkb_head.specs.Devices.Plan.{Request, byte, number, coordinate, field_of, fits, judge, done, ask, byte_plan, number_plan, signed_plan, signeds_plan, coordinate_plan}
 use Rattle.twkb_head.proofs.Spelling.{IsGood, Spelled, Stops}

@@ -4,6 +4,7 @@ pub mod FieldCuts
 pub mod Plans
 pub mod Combinators
 pub mod Leaves
+pub mod BoxFields
 pub mod Heads
 pub mod Readings
 pub mod Steps

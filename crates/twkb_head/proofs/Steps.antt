@@ -6,7 +6,7 @@ use Rattle.std.specs.Int.{w64}
 use Rattle.std.proofs.lemmas.Grind.{common_steps}
 use Rattle.std.proofs.lemmas.List.{append_cancel_right}
 use Rattle.twkb_num.specs.Cursor.{Reading, rest, passed, added, counted, IsMoved, IsSound}
-use Rattle.twkb_num.specs.Varint.{Spells, Faults, sum_of_groups, looked_at, zigzag_value, SpellsSigned}
+use Rattle.twkb_num.specs.Varint.{Spells, Faults, sum_of_groups, looked_at, zigzag_value, IsSigned}
 use Rattle.twkb_head.specs.Devices.Plan.{Request, field_of, Plan, done, ask, byte, number, cut_field, cut_byte, cut_varint, kind_of_code, judge_kind, type_byte, coordinate, fits, byte_plan, signed_plan}
 use Rattle.twkb_head.proofs.Spelling.{IsGood}
 use Rattle.twkb_head.specs.Devices.Reader.{Answer, past, looked_in, read_field, read, type_at, byte_at, number_at, signed_at, coordinate_at}
@@ -44,7 +44,7 @@ pub read_number : (a b : Reading) (n : ℕ) → Spells (passed a b) n → IsMove
 unfolding number_at
 read_number a b n s m = read_good number (λ (field : List ℕ). done (sum_of_groups 0 field)) a b m ((n, s), refl) ∙ ap (λ (n : ℕ). (Ok n, b)) (sym s.value)
 
-pub read_signed : (a b : Reading) (z : ℤ) → SpellsSigned (passed a b) z → IsMoved a b → signed_at a ≡ (Ok z, b)
+pub read_signed : (a b : Reading) (z : ℤ) → IsSigned z (passed a b) → IsMoved a b → signed_at a ≡ (Ok z, b)
 unfolding signed_at
 read_signed a b z s m = read_good number (λ (field : List ℕ). done (zigzag_value (sum_of_groups 0 field))) a b m ((s.0, s.1), refl) ∙ ap (λ (z : ℤ). (Ok z, b)) (ap zigzag_value (sym s.1.value) ∙ s.2)
 

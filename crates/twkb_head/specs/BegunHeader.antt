@@ -1,8 +1,8 @@
 -- Headers that are begun and not finished: which kind of field can follow a prefix.
 use Rattle.std.specs.Prelude.{◌≡◌, ℕ, ◌+◌, ◌*◌, ◌%◌, ◌<◌, ◌≤◌, Bool, true, false, if◌then◌else◌, List, [], ◌∷◌, ◌++◌, length, ℤ, Option}
-use Rattle.twkb_num.specs.Varint.{Spells}
+use Rattle.twkb_num.specs.Varint.{Spells, IsSigned}
 use Rattle.twkb_head.specs.Parts.{Sequence, Announced}
-use Rattle.twkb_head.specs.Header.{IsByte, IsSigned, axes_with, z_in, m_in, code_of, has_bit}
+use Rattle.twkb_head.specs.Header.{IsByte, axes_with, z_in, m_in, code_of, has_bit}
 use Rattle.twkb_head.specs.declared.kinds.Kind.{Kind}
 use Rattle.twkb_head.specs.declared.kinds.Kind.TheVariants.{GeometryCollection}
 
@@ -11,8 +11,8 @@ abbrev pub is_collection : Kind → Bool
 is_collection GeometryCollection = true
 is_collection _ = false
 
--- A kind may stand at a depth, where nothing may stand deeper than the limit: a blob has depth 1, a member of a collection
--- one more than the collection, so a collection has to leave a depth for its members.
+-- A kind may stand at a depth, where nothing may stand deeper than the limit: a blob has depth 1, a member of a
+-- collection one more than the collection, so a collection has to leave a depth for its members.
 abbrev pub IsAllowedUnder : ℕ → Kind → ℕ → Type 0
 IsAllowedUnder limit kind depth = (1 ≤ depth) × (depth + (if is_collection kind then 1 else 0) ≤ limit)
 

@@ -3,5 +3,6 @@ pub mod Plan
 pub mod HeadPlan
 pub mod Reader
 pub mod HeadReader
+pub mod Holds
 pub mod Raw
 pub mod Spelled

@@ -1,10 +1,11 @@
 -- The header of a geometry, as a value, and the bytes that are it (TWKB specification, "Type & Precision" to
 -- "Bounding Box").
-use Rattle.std.specs.Prelude.{◌≡◌, ℕ, ◌+◌, ◌/◌, ◌%◌, ◌==◌, if◌then◌else◌, Bool, true, false, is_some, List, [], ◌∷◌, ◌++◌, length, ℤ, ◌-ℤ◌, Option, Some, None, nat_lt}
-use Rattle.twkb_num.specs.Varint.{Spells, SpellsSigned, zigzag_value}
+use Rattle.std.specs.Prelude.{◌≡◌, ℕ, ◌+◌, ◌/◌, ◌%◌, ◌==◌, ◌&&◌, if◌then◌else◌, Bool, not, is_some, List, [], ◌∷◌, ◌++◌, ℤ, ◌-ℤ◌, Option, Some, None, nat_lt}
+use Rattle.std.specs.Option.{option_and_then}
+use Rattle.twkb_num.specs.Varint.{Spells, IsSigned, zigzag_value}
 use Rattle.twkb_head.specs.declared.kinds.Kind.{Kind}
 use Rattle.twkb_head.specs.declared.kinds.Kind.TheVariants.{Point, LineString, Polygon, MultiPoint, MultiLineString, MultiPolygon, GeometryCollection}
-use Rattle.twkb_head.specs.Parts.{Sequence, Announced}
+use Rattle.twkb_head.specs.Parts.{Then, Times, Announced}
 
 -- What a header says: the kind, the precisions of X and Y, of Z and of M, the size number, the box with a minimum and a
 -- maximum for each axis in the order X, Y, Z, M, whether ids stand in the body, and whether there is no body.
@@ -28,15 +29,9 @@ code_of MultiLineString = 5
 code_of MultiPolygon = 6
 code_of GeometryCollection = 7
 
--- the kinds that have a count of members
+-- the kinds that have a list of members: all behind the polygon
 abbrev pub is_multi : Kind → Bool
-is_multi Point = false
-is_multi LineString = false
-is_multi Polygon = false
-is_multi MultiPoint = true
-is_multi MultiLineString = true
-is_multi MultiPolygon = true
-is_multi GeometryCollection = true
+is_multi kind = nat_lt 3 (code_of kind)
 
 -- how many coordinates a point has, by the precisions of Z and M: X, Y, and each of Z and M that is there
 abbrev pub axes_with : Option ℕ → Option ℕ → ℕ
@@ -56,30 +51,19 @@ IsByte b bytes = bytes ≡ b ∷ []
 
 -- the precision of Z that the extended dimensions byte states, where there is one and it has a Z
 abbrev pub z_in : Option ℕ → Option ℕ
-z_in None = None
-z_in (Some e) = if has_bit e 1 then Some (e / 4 % 8) else None
+z_in extended = option_and_then (λ e. if has_bit e 1 then Some (e / 4 % 8) else None) extended
 
 -- the precision of M that the extended dimensions byte states, where there is one and it has an M
 abbrev pub m_in : Option ℕ → Option ℕ
-m_in None = None
-m_in (Some e) = if has_bit e 2 then Some (e / 32) else None
+m_in extended = option_and_then (λ e. if has_bit e 2 then Some (e / 32) else None) extended
 
--- the bytes spell the signed number z
-abbrev pub IsSigned : ℤ → List ℕ → Type 0
-IsSigned z bytes = SpellsSigned bytes z
+-- the range of a box in an axis: the minimum, and behind it the maximum less the minimum
+abbrev pub IsRange : ℤ × ℤ → List ℕ → Type 0
+IsRange range = Then (IsSigned range.0) (IsSigned (range.1 -ℤ range.0))
 
--- the numbers of a box: for each axis the minimum, and the maximum less the minimum
-abbrev pub box_numbers : List (ℤ × ℤ) → List ℤ
-box_numbers [] = []
-box_numbers (range ∷ ranges) = range.0 ∷ (range.1 -ℤ range.0) ∷ box_numbers ranges
-
--- the bytes are a box with these ranges, one for each axis
-abbrev pub IsBox : ℕ → List (ℤ × ℤ) → List ℕ → Type 0
-IsBox axes ranges bytes = (length ranges ≡ axes) × Sequence IsSigned (box_numbers ranges) bytes
-
--- whether ids stand in the body: the metadata byte announces them, the geometry isn't empty, and it has a list of members
+-- whether ids stand in the body: the geometry isn't empty, it has a list of members, and the metadata byte announces ids
 abbrev pub has_ids : Kind → ℕ → Bool
-has_ids kind metadata = if has_bit metadata 16 then false else if nat_lt (code_of kind) 4 then false else has_bit metadata 4
+has_ids kind metadata = not (has_bit metadata 16) && (is_multi kind && has_bit metadata 4)
 
 -- The bytes are the fields of the header, in order. The bits of the metadata byte are 1 for a box, 2 for a size, 4 for
 -- ids, 8 for extended dimensions and 16 for an empty geometry; bits that mean nothing are free.
@@ -97,6 +81,6 @@ pub record IsHeader (h : Header) (bytes : List ℕ) : Type 0 where
   pub z : h.z ≡ z_in extended
   pub m : h.m ≡ m_in extended
   pub size : Announced (has_bit metadata 2) (λ n field. Spells field n) h.size size_bytes
-  pub box : Announced (has_bit metadata 1) (IsBox (axes_of h)) h.box box_bytes
+  pub box : Announced (has_bit metadata 1) (Times (axes_of h) IsRange) h.box box_bytes
   pub ids : h.ids ≡ has_ids h.kind metadata
   pub empty : h.empty ≡ has_bit metadata 16

@@ -1,5 +1,5 @@
 -- Vertices within a box.
-use Rattle.std.specs.Prelude.{◌≤ℤ◌, ℤ, Option, Some}
+use Rattle.std.specs.Prelude.{◌≤ℤ◌, ℤ, IfSome}
 use Rattle.twkb_head.specs.declared.boxes.Span.{Span}
 use Rattle.twkb_head.specs.declared.boxes.Vertex.{Vertex}
 use Rattle.twkb_head.specs.declared.boxes.Bounds.{Bounds}
@@ -8,14 +8,9 @@ use Rattle.twkb_head.specs.declared.boxes.Bounds.{Bounds}
 abbrev pub IsWithin : Span → ℤ → Type 0
 IsWithin span value = (span.lo ≤ℤ value) × (value ≤ℤ span.hi)
 
--- the same in an axis that a box and a vertex may have; one that only one of them has is not compared
-abbrev pub IsWithinBoth : Option Span → Option ℤ → Type 0
-IsWithinBoth (Some span) (Some value) = IsWithin span value
-IsWithinBoth _ _ = Unit {0}
-
--- a box holds a vertex: in each axis that both have it is within the range
+-- a box holds a vertex: in each axis that both have it is within the range; one that only one of them has isn't compared
 pub record Holds (box : Bounds) (v : Vertex) : Type 0 where
   pub x : IsWithin box.x v.x
   pub y : IsWithin box.y v.y
-  pub z : IsWithinBoth box.z v.z
-  pub m : IsWithinBoth box.m v.m
+  pub z : IfSome box.z (λ span. IfSome v.z (IsWithin span))
+  pub m : IfSome box.m (λ span. IfSome v.m (IsWithin span))

@@ -4,7 +4,8 @@
 ghost use Rattle.std.specs.Prelude.{◌≡◌, ◌↔◌, ◌+ℤ◌, IsTrue};
 ghost use Rattle.twkb_num.specs.Units.{IsPrecision};
 ghost use Rattle.twkb_head.specs.Head.{span_at};
-ghost use Rattle.twkb_head.specs.Holds.{IsWithin, IsWithinBoth, Holds};
+ghost use Rattle.twkb_head.specs.Devices.Holds.{IsWithinBoth};
+ghost use Rattle.twkb_head.specs.Holds.{IsWithin, Holds};
 ghost use Rattle.twkb_head.specs.Spelled.{IsSpelled};
 
 use twkb_num::{coordinate_of, units};

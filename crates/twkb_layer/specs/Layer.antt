@@ -10,11 +10,12 @@ use Rattle.twkb_body.specs.Claims.{IsCertified}
 abbrev pub size_of : Geometry → ℕ
 size_of tree = (lengths_of tree).whole
 
--- The bytes are these blobs, one after another, where the deepest geometry may stand at the limit. Each is cut off by its own
--- length, so that no cut has to be named: `Laws` says that it is the same to cut anywhere.
+-- The bytes are these blobs, one after another, where the deepest geometry may stand at the limit. Each is cut off by its
+-- own length, so that no cut has to be named: `Laws` says that it is the same to cut anywhere.
 abbrev pub IsLayerUnder : ℕ → List Geometry → List ℕ → Type 0
 IsLayerUnder limit [] bytes = bytes ≡ []
-IsLayerUnder limit (tree ∷ trees) bytes = BlobUnder limit tree (take (size_of tree) bytes) 1 × IsLayerUnder limit trees (drop (size_of tree) bytes)
+IsLayerUnder limit (tree ∷ trees) bytes =
+    BlobUnder limit tree (take (size_of tree) bytes) 1 × IsLayerUnder limit trees (drop (size_of tree) bytes)
 
 -- the same under the limit of this project
 abbrev pub IsLayer : List Geometry → List ℕ → Type 0
@@ -48,7 +49,7 @@ pub record AddsAtMost (most old new : ℕ) : Type 0 where
   pub few : read ≤ most
   pub is : new ≡ added old read
 
--- A certified layer as callers see it: its bytes, and how many were read of them. Its trees are those that its bytes have.
+-- A certified layer as callers see it: its bytes, and how many were read of them. Its trees are those of its bytes.
 pub record Layer : Type 0 where
   pub bytes : List ℕ
   pub count : ℕ

@@ -43,8 +43,8 @@ abbrev pub zigzag_value : ℕ → ℤ
 zigzag_value n = if n % 2 == 0 then pos (n / 2) else neg_ℤ (pos ((n + 1) / 2))
 
 -- the bytes spell a number that means z by zigzag
-abbrev pub SpellsSigned : List ℕ → ℤ → Type 0
-SpellsSigned bytes z = (n : ℕ) × Spells bytes n × (zigzag_value n ≡ z)
+abbrev pub IsSigned : ℤ → List ℕ → Type 0
+IsSigned z bytes = (n : ℕ) × Spells bytes n × (zigzag_value n ≡ z)
 
 -- the bytes are a spelling of n, and behind it one of m
 pub record SpellsTwo (bytes : List ℕ) (n m : ℕ) : Type 0 where

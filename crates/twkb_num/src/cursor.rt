@@ -2,7 +2,7 @@
 ghost use Rattle.std.specs.Prelude.{◌≡◌, ◌+◌, ◌-◌, ◌<◌, ◌≤◌, ◌↔◌, ℕ, ℤ, List, [], ◌∷◌, ◌++◌, length, take, IsNone, IfOk, IfErr, IfSome, IfNone, OnOk, OnSome};
 ghost use Rattle.twkb_num.specs.Cursor.{rest, passed, counted, IsMoved, IsSound};
 ghost use Rattle.twkb_num.specs.Devices.Ends.{IsFirstEnd};
-ghost use Rattle.twkb_num.specs.Varint.{SpellsMany, Spells, SpellsSigned, SpellsTwoSigned, IsShort, Faults, IsCut, looked_at};
+ghost use Rattle.twkb_num.specs.Varint.{SpellsMany, Spells, IsSigned, SpellsTwoSigned, IsShort, Faults, IsCut, looked_at};
 ghost use Rattle.twkb_num.specs.declared.varint.NumFault.TheVariants.{Cut};
 ghost use Rattle.twkb_num.specs.Devices.Varint.{IsBegunBy};
 
@@ -233,10 +233,10 @@ impl<'a> Cursor<'a> {
     /// After a fault the place is unmoved, and the bytes looked at are counted.
     #[inline(always)]
     pub fn svarint(&mut self) -> Result<i64, NumFault>
-        ensures ok { IfOk result (λ z. SpellsSigned (passed self.old self.new) z) }
+        ensures ok { IfOk result (λ z. IsSigned z (passed self.old self.new)) }
         ensures moved { OnOk result (IsMoved self.old self.new) }
         ensures complete { (z : ℤ) (front behind : List ℕ) → rest self.old ≡ front ++ behind
-            → SpellsSigned front z → (result ≡ Ok z) × (passed self.old self.new ≡ front) }
+            → IsSigned z front → (result ≡ Ok z) × (passed self.old self.new ≡ front) }
         ensures fault { (fault : NumFault) → (result ≡ Err fault) ↔ Faults fault (rest self.old) }
         ensures still { IfErr result (λ fault.
             self.new ≡ counted self.old (looked_at fault (rest self.old))) }

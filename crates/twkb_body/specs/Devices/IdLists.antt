@@ -2,9 +2,8 @@
 -- Lists: their counts and their ids.
 use Rattle.std.specs.Prelude.{◌≡◌, ℕ, ◌+◌, ◌≤◌, Bool, true, List, ◌++◌, ℤ}
 use Rattle.twkb_num.specs.Cursor.{Reading}
-use Rattle.twkb_num.specs.Varint.{Spells}
+use Rattle.twkb_num.specs.Varint.{Spells, IsSigned}
 use Rattle.twkb_head.specs.Parts.{Times}
-use Rattle.twkb_head.specs.Header.{IsSigned}
 use Rattle.twkb_body.specs.declared.lists.List.{List as ListFound}
 use Rattle.twkb_body.specs.Devices.Body.{ListHead}
 use Rattle.twkb_body.specs.Devices.Pass.{ids_refused}

@@ -2,12 +2,13 @@
 -- The proof of the law of the visitor that seeks.
 use Rattle.std.specs.Prelude.{Bool, true, refl, ◌≡◌, ℤ, ◌&&◌, ◌||◌, false, Option, Some, None}
 use Rattle.twkb_head.specs.declared.boxes.Vertex.{Vertex}
+use Rattle.twkb_head.specs.Devices.Holds.{IsWithinBoth}
 use Rattle.twkb_head.specs.declared.boxes.Bounds.{Bounds}
 use Rattle.twkb_body.specs.Visit.{SkipsSoundly}
 use Rattle.std.proofs.Common.{arith, ap, ◌⊎◌, inl, inr}
 use Rattle.std.proofs.lemmas.Int.{ints}
 use Rattle.twkb_head.specs.declared.boxes.Span.{Span}
-use Rattle.twkb_head.specs.Holds.{Holds, IsWithin, IsWithinBoth}
+use Rattle.twkb_head.specs.Holds.{Holds, IsWithin}
 use Rattle.twkb_layer.specs.Window.{in_span, in_bound, is_inside, lie_apart, lie_apart_if_both, box_misses}
 use Rattle.twkb_layer.specs.Seeking.{seeks, seeks_past}
 
