@@ -17,9 +17,9 @@ HEAD = "-- Devices of proofs: nothing public names them."
 YES = ("certified", "complete")
 QUESTIONS = (
     ("Y", "the yes of certify", "twkb_layer", "certify", YES, 327),
-    ("C", "certify", "twkb_layer", "certify", None, 547),
+    ("C", "certify", "twkb_layer", "certify", None, 555),
     ("S", "scan", "twkb_layer", "Certified::scan", None, 407),
-    ("R", "run", "twkb_tool", "run", None, 862),
+    ("R", "run", "twkb_tool", "run", None, 803),
 )
 
 

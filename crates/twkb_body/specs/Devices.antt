@@ -13,7 +13,7 @@ pub mod IdLists
 pub mod Stops
 pub mod Bare
 pub mod Sure
-pub mod TightlyAudited
+pub mod Tight
 pub mod Standing
 pub mod Skimmed
 pub mod Pending

@@ -8,7 +8,7 @@ use Rattle.twkb_body.specs.Extent.{reach_of, both, IsReachWithin}
 use Rattle.twkb_body.specs.Geometry.{Geometry}
 use Rattle.twkb_body.specs.Encoding.{BlobUnder, Blob}
 use Rattle.twkb_body.specs.Claims.{IsCertified, offset_of, claims}
-use Rattle.twkb_body.specs.Tight.{HasTightBoxes, IsTrueTightClaim, tight_offset_of, tight_claims}
+use Rattle.twkb_body.specs.Tight.{HasTightBoxes, IsTightlyTrue}
 use Rattle.twkb_body.specs.Begun.{IsBegun, IsViable}
 use Rattle.twkb_body.specs.Audited.{EndsInIds, HasLongList}
 use Rattle.twkb_body.specs.Visit.{walk}
@@ -47,13 +47,10 @@ StaysBlob = (low high : ℕ) (g : Geometry) (bytes : List ℕ) (depth : ℕ) →
 abbrev pub RisingClaims : Type 0
 RisingClaims = (g : Geometry) (bytes : List ℕ) (start : ℕ) → Blob g bytes 1 → AllPairs (λ c d. offset_of c ≤ offset_of d) (claims g start)
 
--- so do those of tight checking
-abbrev pub RisingTightClaims : Type 0
-RisingTightClaims = (g : Geometry) (bytes : List ℕ) (start : ℕ) → Blob g bytes 1 → AllPairs (λ c d. tight_offset_of c ≤ tight_offset_of d) (tight_claims g start)
-
--- the claims of tight checking are true exactly of a certified geometry that has no loose box
+-- tight checking takes all claims for true exactly of a certified geometry that has no loose box
 abbrev pub TightClaimsAreBoth : Type 0
-TightClaimsAreBoth = (g : Geometry) (start : ℕ) → All IsTrueTightClaim (tight_claims g start) ↔ (IsCertified g × HasTightBoxes g)
+TightClaimsAreBoth = (g : Geometry) (start : ℕ) → All IsTightlyTrue (claims g start)
+    ↔ (IsCertified g × HasTightBoxes g)
 
 -- the reach of two lists of vertices is that of both
 abbrev pub ExtentsJoin : Type 0

@@ -1,7 +1,7 @@
 -- The loop of audits: what it has counted, and where it stops.
-use Rattle.std.proofs.Common.{◌≡◌, ℕ, ◌+◌, ◌-◌, ◌^◌, ◌<◌, ◌≤◌, Bool, true, false, List, [], ◌∷◌, ◌++◌, length, take, drop, refl, sym, ap, subst, ◌∙◌, arith, length-append, inl, inr}
+use Rattle.std.proofs.Common.{◌≡◌, ℕ, ◌+◌, ◌-◌, ◌^◌, ◌<◌, ◌≤◌, Bool, true, false, List, [], ◌∷◌, ◌++◌, length, take, drop, All, refl, sym, ap, subst, ◌∙◌, arith, length-append, inl, inr}
 use Rattle.std.proofs.lemmas.List.{length-take, take_all}
-use Rattle.std.proofs.lemmas.List.Elements.{All-nil, All-push}
+use Rattle.std.proofs.lemmas.List.Elements.{All-nil, All-cons, All-head, All-tail, All-push}
 use Rattle.std.proofs.lemmas.List.Sums.{sum_by-append, sum_by-cons}
 use Rattle.std.proofs.Math.Seq.{take-add}
 use Rattle.twkb_num.specs.Cursor.{Reading, rest, passed, IsMoved}
@@ -11,11 +11,14 @@ use Rattle.twkb_body.specs.declared.answers.AuditFault.TheVariants.{Malformed as
 use Rattle.twkb_body.specs.Geometry.{Geometry, vertices}
 use Rattle.twkb_body.specs.Claims.{IsCertified}
 use Rattle.twkb_body.specs.Tight.{HasTightBoxes}
-use Rattle.twkb_body.specs.Devices.TightlyAudited.{IsAuditedBy, IsRefusedBy}
-use Rattle.twkb_layer.specs.Layer.{IsCertifiedLayer, vertex_count}
+use Rattle.twkb_body.specs.Audited.{IsAudited, IsRefusedBlob}
+use Rattle.twkb_body.specs.Devices.Tight.{IsTrueBy, IsCertifiedBy}
+use Rattle.twkb_body.proofs.Tightness.{tight_both, both_tight}
+use Rattle.twkb_layer.specs.Layer.{IsLayer, IsCertifiedLayer, vertex_count}
+use Rattle.twkb_layer.specs.Refusal.{Begins, IsRefusedFor}
 use Rattle.twkb_layer.specs.Devices.Layer.{IsCounted}
 use Rattle.twkb_layer.specs.Devices.Refusal.{refusal_of}
-use Rattle.twkb_layer.specs.Devices.Tight.{IsTightlyCounted, IsCountedBy, IsRefusedForBy}
+use Rattle.twkb_layer.specs.Devices.Tight.{IsTightlyCounted, IsLayerBy, IsCountedBy}
 use Rattle.twkb_layer.proofs.Layers.{blob_some, layer_grows, layer_once, layer_short}
 use Rattle.twkb_layer.proofs.VertexCounts.{layer_few}
 
@@ -46,12 +49,12 @@ tight_is_counted bytes blobs count c = record { trees = c.trees; layer = c.layer
 
 -- a blob more was counted
 pub counted_more : (tight : Bool) (bytes : List ℕ) (a b : Reading) (blobs count : ℕ) (audit : Audit) → a.bytes ≡ bytes → IsCountedBy tight (take a.place bytes) blobs count
-    → IsMoved a b → IsAuditedBy tight audit a.place (passed a b) → IsCountedBy tight (take b.place bytes) (blobs + 1) (count + audit.vertices)
+    → IsMoved a b → IsAudited (IsTrueBy tight) audit a.place (passed a b) → IsCountedBy tight (take b.place bytes) (blobs + 1) (count + audit.vertices)
 counted_more false bytes a b blobs count audit same c m h = rw (front_passed bytes a b same m) (record {
   trees = c.trees ++ h.blob ∷ [];
   layer = record {
     layer = layer_grows c.trees (take a.place bytes) h.blob (passed a b) c.layer.layer h.is;
-    certified = All-push IsCertified c.trees h.blob c.layer.certified h.certified;
+    certified = All-push IsCertified c.trees h.blob c.layer.certified h.all_true;
   };
   blobs_are = omega (arith, c.blobs_are, length-append c.trees (h.blob ∷ []));
   vertices_are = omega (arith, c.vertices_are, h.vertices_are, sum_by-append (λ (tree : Geometry). length (vertices tree)) c.trees (h.blob ∷ []), sum_by-cons (λ (tree : Geometry). length (vertices tree)) h.blob []);
@@ -61,9 +64,9 @@ counted_more true bytes a b blobs count audit same c m h = rw (front_passed byte
   layer = record {
     layer = record {
       layer = layer_grows c.trees (take a.place bytes) h.blob (passed a b) c.layer.layer.layer h.is;
-      certified = All-push IsCertified c.trees h.blob c.layer.layer.certified h.certified;
+      certified = All-push IsCertified c.trees h.blob c.layer.layer.certified (tight_both h.blob 0 h.all_true).0;
     };
-    tight = All-push HasTightBoxes c.trees h.blob c.layer.tight h.tight;
+    tight = All-push HasTightBoxes c.trees h.blob c.layer.tight (tight_both h.blob 0 h.all_true).1;
   };
   blobs_are = omega (arith, c.blobs_are, length-append c.trees (h.blob ∷ []));
   vertices_are = omega (arith, c.vertices_are, h.vertices_are, sum_by-append (λ (tree : Geometry). length (vertices tree)) c.trees (h.blob ∷ []), sum_by-cons (λ (tree : Geometry). length (vertices tree)) h.blob []);
@@ -84,57 +87,48 @@ counted_fits false bytes place blobs count c fits = plain_fits bytes place blobs
 counted_fits true bytes place blobs count c fits = plain_fits bytes place blobs count (tight_is_counted (take place bytes) blobs count c) fits
 
 -- an audit moves ahead
-pub audit_ahead : (tight : Bool) (a b : Reading) (audit : Audit) → IsMoved a b → IsAuditedBy tight audit a.place (passed a b) → a.place < b.place
-audit_ahead false a b audit m h = omega (arith, blob_some h.blob (passed a b) h.is, length-take (b.place - a.place) (drop a.place a.bytes))
-audit_ahead true a b audit m h = omega (arith, blob_some h.blob (passed a b) h.is, length-take (b.place - a.place) (drop a.place a.bytes))
+pub audit_ahead : (tight : Bool) (a b : Reading) (audit : Audit) → IsMoved a b → IsAudited (IsTrueBy tight) audit a.place (passed a b) → a.place < b.place
+audit_ahead tight a b audit m h = omega (arith, blob_some h.blob (passed a b) h.is, length-take (b.place - a.place) (drop a.place a.bytes))
 
 -- at the end all is counted
 pub counted_all : (tight : Bool) (bytes : List ℕ) (place blobs count : ℕ) → IsCountedBy tight (take place bytes) blobs count → length bytes ≤ place → IsCountedBy tight bytes blobs count
 counted_all tight bytes place blobs count c h = subst (λ (l : List ℕ). IsCountedBy tight l blobs count) (take_all place bytes h) c
 
+-- the blobs that were counted begin the bytes
+tight_trees : (trees : List Geometry) → All IsCertified trees → All HasTightBoxes trees → All (IsCertifiedBy true) trees
+tight_trees [] certified tight = All-nil (IsCertifiedBy true)
+tight_trees (g ∷ gs) certified tight =
+    All-cons (IsCertifiedBy true) g gs
+    (both_tight g 0 (All-head IsCertified g gs certified, All-head HasTightBoxes g gs tight))
+    (tight_trees gs (All-tail IsCertified g gs certified) (All-tail HasTightBoxes g gs tight))
+
+pub accepted_trees : (tight : Bool) (trees : List Geometry) (bytes : List ℕ) → IsLayerBy tight trees bytes
+    → IsLayer trees bytes × All (IsCertifiedBy tight) trees
+accepted_trees false trees bytes layer = (layer.layer, layer.certified)
+accepted_trees true trees bytes layer = (layer.layer.layer, tight_trees trees layer.layer.certified layer.tight)
+
+counted_begins : (tight : Bool) (bytes : List ℕ) (start blobs count : ℕ) → IsCountedBy tight (take start bytes) blobs count
+    → start < length bytes → (before : List Geometry) × Begins (IsTrueBy tight) before start bytes × (blobs ≡ length before)
+counted_begins false bytes start blobs count c more =
+    let trees = accepted_trees false c.trees (take start bytes) c.layer in
+    (c.trees, record { more = more; layer = trees.0; all_true = trees.1 }, c.blobs_are)
+counted_begins true bytes start blobs count c more =
+    let trees = accepted_trees true c.trees (take start bytes) c.layer in
+    (c.trees, record { more = more; layer = trees.0; all_true = trees.1 }, c.blobs_are)
+
 -- the blob at the place is refused
-pub audit_refused : (tight : Bool) (bytes : List ℕ) (a : Reading) (blobs count : ℕ) (fault : AuditFault) → a.bytes ≡ bytes → IsCountedBy tight (take a.place bytes) blobs count
-    → a.place < length bytes → IsRefusedBy tight fault a.place (rest a) → IsRefusedForBy tight (refusal_of blobs fault) bytes
-audit_refused false bytes a blobs count (BadField m) same c more h = record {
-  before = c.trees;
-  start = a.place;
-  begins = record { more = more; layer = c.layer };
-  number = c.blobs_are;
-  reason = inr (m.why, refl, rw same at h);
-}
-audit_refused false bytes a blobs count (FalseClaim offset claim) same c more h = record {
-  before = c.trees;
-  start = a.place;
-  begins = record { more = more; layer = c.layer };
-  number = c.blobs_are;
-  reason = inl (rw same at h);
-}
-audit_refused false bytes a blobs count NoMemory same c more h = record {
-  before = c.trees;
-  start = a.place;
-  begins = record { more = more; layer = c.layer };
-  list = rw same at h;
-}
-audit_refused true bytes a blobs count (BadField m) same c more h = record {
-  before = c.trees;
-  start = a.place;
-  begins = record { more = more; layer = c.layer };
-  number = c.blobs_are;
-  reason = inr (m.why, refl, rw same at h);
-}
-audit_refused true bytes a blobs count (FalseClaim offset claim) same c more h = record {
-  before = c.trees;
-  start = a.place;
-  begins = record { more = more; layer = c.layer };
-  number = c.blobs_are;
-  reason = inl (rw same at h);
-}
-audit_refused true bytes a blobs count NoMemory same c more h = record {
-  before = c.trees;
-  start = a.place;
-  begins = record { more = more; layer = c.layer };
-  list = rw same at h;
-}
+pub audit_refused : (tight : Bool) (bytes : List ℕ) (a : Reading) (blobs count : ℕ) (fault : AuditFault) → a.bytes ≡ bytes
+    → IsCountedBy tight (take a.place bytes) blobs count → a.place < length bytes
+    → IsRefusedBlob (IsTrueBy tight) fault a.place (rest a) → IsRefusedFor (IsTrueBy tight) (refusal_of blobs fault) bytes
+audit_refused tight bytes a blobs count (BadField m) same c more h =
+    let before = counted_begins tight bytes a.place blobs count c more in
+    record { before = before.0; start = a.place; begins = before.1; number = before.2; reason = inr (m.why, refl, rw same at h) }
+audit_refused tight bytes a blobs count (FalseClaim offset claim) same c more h =
+    let before = counted_begins tight bytes a.place blobs count c more in
+    record { before = before.0; start = a.place; begins = before.1; number = before.2; reason = inl (rw same at h) }
+audit_refused tight bytes a blobs count NoMemory same c more h =
+    let before = counted_begins tight bytes a.place blobs count c more in
+    record { before = before.0; start = a.place; begins = before.1; list = rw same at h }
 
 -- the numbers of a layer's trees
 pub counted_is : (bytes : List ℕ) (blobs count : ℕ) → IsCounted bytes blobs count → (trees : List Geometry) → IsCertifiedLayer trees bytes

@@ -1,10 +1,11 @@
 -- There is one output.
-use Rattle.std.proofs.Common.{◌≡◌, ◌∙◌, ℕ, List, Some, refl, sym, ap}
+use Rattle.std.proofs.Common.{◌≡◌, ◌∙◌, ℕ, true, false, List, Some, refl, sym, ap}
 use Rattle.twkb_layer.proofs.Layers.{layer_once}
 use Rattle.twkb_body.specs.Geometry.{Geometry}
 use Rattle.twkb_layer.specs.Layer.{IsCertifiedLayer}
-use Rattle.twkb_layer.proofs.Refusals.{refusal_once, tight_refusal_once}
-use Rattle.twkb_tool.specs.Output.{IsAccepted, IsOutput, IsLayerText, IsNoLine, IsRefusalFor, word_of}
+use Rattle.twkb_layer.proofs.Refusals.{refusal_once}
+use Rattle.twkb_layer.specs.Refusal.{IsRefusal}
+use Rattle.twkb_tool.specs.Output.{IsAccepted, IsOutput, IsLayerText, IsNoLine, IsTrueFor, word_of}
 use Rattle.twkb_tool.specs.declared.judge.Verdict.{Verdict}
 use Rattle.twkb_tool.specs.declared.judge.Verdict.TheVariants.{Yes, No}
 use Rattle.twkb_tool.specs.declared.request.Request.{Request}
@@ -27,11 +28,13 @@ one_word : (kind cause : ℕ) (word other : List ℕ) → kind ≡ cause → wor
 one_word kind cause word other same a b = let e : Some word ≡ Some other = sym a ∙ (ap word_of same ∙ b) in cc (e)
 
 -- bytes are refused in one way
-refused_once : (request : Request) (bytes : List ℕ) (blob offset kind blob' offset' kind' : ℕ) → IsRefusalFor request bytes blob offset kind → IsRefusalFor request bytes blob' offset' kind' → (blob ≡ blob') × (offset ≡ offset') × (kind ≡ kind')
-refused_once Check = refusal_once
-refused_once CheckTight = tight_refusal_once
-refused_once ListBlobs = refusal_once
-refused_once (Scan windows) = refusal_once
+refused_once : (request : Request) (bytes : List ℕ) (blob offset kind blob' offset' kind' : ℕ)
+    → IsRefusal (IsTrueFor request) bytes blob offset kind → IsRefusal (IsTrueFor request) bytes blob' offset' kind'
+    → (blob ≡ blob') × (offset ≡ offset') × (kind ≡ kind')
+refused_once Check = refusal_once false
+refused_once CheckTight = refusal_once true
+refused_once ListBlobs = refusal_once false
+refused_once (Scan windows) = refusal_once false
 
 -- what is refused has one line
 one_no_line : (request : Request) (bytes text other : List ℕ) → IsNoLine request bytes text → IsNoLine request bytes other → text ≡ other

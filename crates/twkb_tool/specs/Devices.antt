@@ -1,4 +1,3 @@
 -- Devices of proofs: contracts of private functions name them, and nothing public does.
-pub mod Output
 pub mod Ran
 pub mod Words

@@ -5,12 +5,14 @@ use Rattle.twkb_head.specs.declared.boxes.Bounds.{Bounds}
 use Rattle.twkb_head.specs.declared.kinds.Kind.{Kind}
 use Rattle.twkb_head.specs.declared.kinds.Kind.TheVariants.{Point, LineString, Polygon, MultiPoint, MultiLineString, MultiPolygon, GeometryCollection}
 use Rattle.twkb_body.specs.Geometry.{Geometry}
+use Rattle.twkb_body.specs.Claims.{Claim, IsTrueClaim}
+use Rattle.twkb_body.specs.Tight.{IsTightlyTrue}
 use Rattle.twkb_layer.specs.Directory.{directory_cost}
 use Rattle.twkb_layer.specs.Hits.{hits, cost}
 use Rattle.twkb_layer.specs.Layer.{IsCertifiedLayer, vertex_count}
 use Rattle.twkb_layer.specs.Refusal.{IsRefusal}
 use Rattle.twkb_layer.specs.Rows.{rows}
-use Rattle.twkb_layer.specs.Tight.{IsTightLayer, IsTightRefusal}
+use Rattle.twkb_layer.specs.Tight.{IsTightLayer}
 use Rattle.twkb_layer.specs.declared.hits.Hit.{Hit}
 use Rattle.twkb_layer.specs.declared.row.Row.{Row}
 use Rattle.twkb_tool.specs.declared.judge.Verdict.{Verdict}
@@ -98,17 +100,13 @@ layer_text (Scan windows) trees len = scan_text windows.items trees len
 
 -- the layers that are accepted for a request: the certified ones, and in tight checking those without a loose box
 abbrev pub IsAccepted : Request → List Geometry → List ℕ → Type 0
-IsAccepted Check trees bytes = IsCertifiedLayer trees bytes
 IsAccepted CheckTight trees bytes = IsTightLayer trees bytes
-IsAccepted ListBlobs trees bytes = IsCertifiedLayer trees bytes
-IsAccepted (Scan windows) trees bytes = IsCertifiedLayer trees bytes
+IsAccepted _ trees bytes = IsCertifiedLayer trees bytes
 
--- and the blob, the offset and the kind for which bytes are refused
-abbrev pub IsRefusalFor : Request → List ℕ → ℕ → ℕ → ℕ → Type 0
-IsRefusalFor Check bytes blob offset kind = IsRefusal bytes blob offset kind
-IsRefusalFor CheckTight bytes blob offset kind = IsTightRefusal bytes blob offset kind
-IsRefusalFor ListBlobs bytes blob offset kind = IsRefusal bytes blob offset kind
-IsRefusalFor (Scan windows) bytes blob offset kind = IsRefusal bytes blob offset kind
+-- what the check for a request takes for true of a layer's claims
+abbrev pub IsTrueFor : Request → Claim → Type 0
+IsTrueFor CheckTight = IsTightlyTrue
+IsTrueFor _ = IsTrueClaim
 
 -- the bytes are such a layer, and this is its text
 pub record IsLayerText (request : Request) (bytes text : List ℕ) : Type 0 where
@@ -123,7 +121,7 @@ pub record IsNoLine (request : Request) (bytes text : List ℕ) : Type 0 where
   pub kind : ℕ
   pub word : List ℕ
   pub none : (trees : List Geometry) → IsAccepted request trees bytes → ⊥
-  pub refused : IsRefusalFor request bytes blob offset kind
+  pub refused : IsRefusal (IsTrueFor request) bytes blob offset kind
   pub named : word_of kind ≡ Some word
   pub text_is : text ≡ no_line blob offset word
 

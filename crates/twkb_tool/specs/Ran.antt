@@ -46,6 +46,4 @@ Ran request limit s t k m (Ok verdict) = (given : List ℕ) × (text : List ℕ)
     × GivesAll limit s t given × IsOutput request given text verdict × PutsAll text k m
 Ran request limit s t k m (Err (Write done)) = (given : List ℕ) × (text : List ℕ) × (verdict : Verdict)
     × GivesAll limit s t given × IsOutput request given text verdict × PutsSome text done k m
-Ran request limit s t k m (Err Read) = StopsReading limit Read s t × (m ≡ k)
-Ran request limit s t k m (Err TooLarge) = StopsReading limit TooLarge s t × (m ≡ k)
-Ran request limit s t k m (Err Memory) = StopsReading limit Memory s t × (m ≡ k)
+Ran request limit s t k m (Err fault) = StopsReading limit fault s t × (m ≡ k)

@@ -94,9 +94,7 @@ most_windows = 64
 -- a scan has a window, and not too many
 abbrev pub HoldsWindows : Request → Type 0
 HoldsWindows (Scan windows) = (1 ≤ length windows.items) × (length windows.items ≤ most_windows)
-HoldsWindows Check = Unit {0}
-HoldsWindows CheckTight = Unit {0}
-HoldsWindows ListBlobs = Unit {0}
+HoldsWindows _ = Unit {0}
 
 -- ---- what the matches of a subcommand come to
 

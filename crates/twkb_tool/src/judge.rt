@@ -1,9 +1,8 @@
 //! The judgement of a file.
 ghost use Rattle.std.specs.Prelude.{◌≡◌, ◌≤◌, List, length, IfOk, IfErr, IsOkUnless};
 ghost use Rattle.twkb_body.specs.Geometry.{Geometry};
-ghost use Rattle.twkb_layer.specs.Tight.{NamesTightKind};
-ghost use Rattle.twkb_tool.specs.Output.{IsOutput, IsAccepted};
-ghost use Rattle.twkb_tool.specs.Devices.Output.{IsRefusedAs};
+ghost use Rattle.twkb_layer.specs.Refusal.{IsRefusedFor, NamesKind};
+ghost use Rattle.twkb_tool.specs.Output.{IsOutput, IsAccepted, IsTrueFor};
 ghost use Rattle.twkb_tool.specs.Words.{HoldsWindows};
 
 use crate::request::Request;
@@ -52,8 +51,8 @@ fn certified<'b, A: Allocator>(
     ensures accepted { IfOk result (λ layer. (trees : List Geometry) × IsAccepted request.now trees bytes.entry.now) }
     ensures bytes { IfOk result (λ layer. layer.bytes ≡ bytes.entry.now) }
     ensures read { IfOk result (λ layer. layer.count ≤ length bytes.entry.now) }
-    ensures refused { IfErr result (λ refusal. IsRefusedAs request.now refusal bytes.entry.now) }
-    ensures kinds { IfErr result NamesTightKind }
+    ensures refused { IfErr result (λ refusal. IsRefusedFor (IsTrueFor request.now) refusal bytes.entry.now) }
+    ensures kinds { IfErr result (NamesKind 9) }
     ensures complete { (trees : List Geometry) → IsAccepted request.now trees bytes.entry.now → IsOkUnless result Refusal.Memory }
 {
     let cursor = Cursor::new(bytes);

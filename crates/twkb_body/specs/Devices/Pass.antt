@@ -1,6 +1,6 @@
 -- Devices of proofs: nothing public names them.
 -- What one pass carries of a geometry, in place of its tree.
-use Rattle.std.specs.Prelude.{◌≡◌, ℕ, ◌-◌, Bool, true, false, ◌&&◌, not, List, [], ◌∷◌, length, ℤ, pos, ◌-ℤ◌, int_le, int_lt, Option, Some, None, All}
+use Rattle.std.specs.Prelude.{◌≡◌, ℕ, Bool, true, false, ◌&&◌, not, List, [], ◌∷◌, length, ℤ, pos, ◌-ℤ◌, int_le, int_lt, Option, Some, None, All}
 use Rattle.std.specs.Ordering.{int_eq}
 use Rattle.std.specs.Option.{option_or}
 use Rattle.twkb_head.specs.declared.boxes.Bounds.{Bounds}
@@ -8,8 +8,9 @@ use Rattle.twkb_head.specs.declared.boxes.Span.{Span}
 use Rattle.twkb_num.specs.Units.{units_of}
 use Rattle.twkb_body.specs.Geometry.{Geometry, Members, vertices, member_vertices}
 use Rattle.twkb_body.specs.Extent.{Reach, reach_of}
-use Rattle.twkb_body.specs.Claims.{Claim, IsTrueClaim, IsFirstFalse, offset_of, kind_of, claims, member_claims}
-use Rattle.twkb_body.specs.Tight.{TightClaim, IsTrueTightClaim, tight_offset_of, tight_kind_of, tight_claims, member_tight_claims}
+use Rattle.twkb_body.specs.Claims.{Claim, IsFirstFalse, offset_of, claims, member_claims}
+use Rattle.twkb_body.specs.Audited.{IsRefusedAs}
+use Rattle.twkb_body.specs.Devices.Tight.{IsTrueBy}
 
 -- offset and kind of a false claim
 abbrev pub Refused : Type 0
@@ -25,26 +26,18 @@ pub record Summary : Type 0 where
 abbrev pub first : Refused → Refused → Refused
 first = option_or
 
--- None where all claims are true, otherwise offset and kind of the first that is false
-abbrev pub NamesFirstFalse : {C : Type 0} → (C → Type 0) → (C → ℕ × ℕ) → List C → Refused → Type 0
-NamesFirstFalse IsTrue names list None = All IsTrue list
-NamesFirstFalse {C} IsTrue names list (Some at) = (claim : C) × IsFirstFalse IsTrue list claim × (at ≡ names claim)
-
--- the same of the claims of an audit, or of one in tight checking
-abbrev pub Names : List Claim → Refused → Type 0
-Names = NamesFirstFalse IsTrueClaim (λ c. (offset_of c, kind_of c))
-
-abbrev pub NamesTight : List TightClaim → Refused → Type 0
-NamesTight = NamesFirstFalse IsTrueTightClaim (λ c. (tight_offset_of c, tight_kind_of c))
+-- None where all claims are taken for true, otherwise offset and kind of the first that isn't
+abbrev pub NamesFirstFalse : (Claim → Type 0) → List Claim → Refused → Type 0
+NamesFirstFalse IsTrue list None = All IsTrue list
+NamesFirstFalse IsTrue list (Some at) =
+    (claim : Claim) × IsFirstFalse IsTrue list claim × (at.0 ≡ offset_of claim) × IsRefusedAs at.1 claim
 
 -- what a geometry is refused for
 abbrev pub IsRefusedFor : Bool → Geometry → ℕ → Refused → Type 0
-IsRefusedFor false g start refused = Names (claims g start) refused
-IsRefusedFor true g start refused = NamesTight (tight_claims g start) refused
+IsRefusedFor tight g start refused = NamesFirstFalse (IsTrueBy tight) (claims g start) refused
 
 abbrev pub AreRefusedFor : Bool → Members → ℕ → Refused → Type 0
-AreRefusedFor false gs start refused = Names (member_claims gs start) refused
-AreRefusedFor true gs start refused = NamesTight (member_tight_claims gs start) refused
+AreRefusedFor tight gs start refused = NamesFirstFalse (IsTrueBy tight) (member_claims gs start) refused
 
 -- the summary is of these vertices and claims
 pub record Sums (tight : Bool) (g : Geometry) (start : ℕ) (s : Summary) : Type 0 where

@@ -7,7 +7,7 @@ use Rattle.twkb_head.specs.Header.{Header}
 use Rattle.twkb_head.specs.Devices.Reader.{many_at}
 use Rattle.twkb_body.specs.declared.trail.Trail.{Trail}
 use Rattle.twkb_body.specs.Geometry.{PointValue, vertex_of}
-use Rattle.twkb_body.specs.Devices.Body.{add, sums, place, map_from}
+use Rattle.twkb_body.specs.Devices.Body.{add, sums, map_from}
 use Rattle.twkb_body.specs.Devices.BodyReader.{point_at}
 
 -- each point has so many numbers

@@ -4,9 +4,9 @@ use Rattle.std.specs.Prelude.{◌≡◌, ℕ, Bool, true, false, List, length}
 use Rattle.twkb_body.specs.Geometry.{Geometry}
 use Rattle.twkb_layer.specs.Layer.{IsCertifiedLayer, vertex_count}
 use Rattle.twkb_layer.specs.Devices.Layer.{IsCounted}
-use Rattle.twkb_layer.specs.Refusal.{IsRefusedFor, NamesKind}
+use Rattle.twkb_layer.specs.Refusal.{NamesKind}
 use Rattle.twkb_layer.specs.declared.refusal.Refusal.{Refusal}
-use Rattle.twkb_layer.specs.Tight.{IsTightLayer, IsTightlyRefusedFor, NamesTightKind}
+use Rattle.twkb_layer.specs.Tight.{IsTightLayer}
 
 -- what a layer has that was certified so
 pub record IsTightlyCounted (bytes : List ℕ) (blobs vertices : ℕ) : Type 0 where
@@ -24,10 +24,6 @@ abbrev pub IsCountedBy : Bool → List ℕ → ℕ → ℕ → Type 0
 IsCountedBy false bytes blobs vertices = IsCounted bytes blobs vertices
 IsCountedBy true bytes blobs vertices = IsTightlyCounted bytes blobs vertices
 
-abbrev pub IsRefusedForBy : Bool → Refusal → List ℕ → Type 0
-IsRefusedForBy false refusal bytes = IsRefusedFor refusal bytes
-IsRefusedForBy true refusal bytes = IsTightlyRefusedFor refusal bytes
-
 abbrev pub NamesKindBy : Bool → Refusal → Type 0
-NamesKindBy false refusal = NamesKind refusal
-NamesKindBy true refusal = NamesTightKind refusal
+NamesKindBy false refusal = NamesKind 8 refusal
+NamesKindBy true refusal = NamesKind 9 refusal

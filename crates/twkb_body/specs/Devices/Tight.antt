@@ -1,0 +1,22 @@
+-- Devices of proofs: nothing public names them.
+-- Tight checking in an axis that may be missing, and what a claim has to be, by the flag.
+use Rattle.std.specs.Prelude.{pos, ℕ, Bool, true, false, Option, IfSome, All}
+use Rattle.twkb_num.specs.Units.{units_of}
+use Rattle.twkb_head.specs.declared.boxes.Span.{Span}
+use Rattle.twkb_body.specs.Claims.{Claim, IsTrueClaim, claims}
+use Rattle.twkb_body.specs.Geometry.{Geometry}
+use Rattle.twkb_body.specs.Tight.{IsTightSpan, IsTightlyTrue}
+
+-- the range of a box is tight, where the box and its header have the axis
+abbrev pub IsTightIfBoth : Option Span → Option ℕ → Option Span → Type 0
+IsTightIfBoth span precision reached =
+    IfSome span (λ s. IfSome precision (λ p. IsTightSpan s (units_of (pos 1) (pos p)) reached))
+
+-- what an audit takes for true, or one in tight checking
+abbrev pub IsTrueBy : Bool → Claim → Type 0
+IsTrueBy false = IsTrueClaim
+IsTrueBy true = IsTightlyTrue
+
+-- it takes all claims of a geometry for true
+abbrev pub IsCertifiedBy : Bool → Geometry → Type 0
+IsCertifiedBy tight g = All (IsTrueBy tight) (claims g 0)
