@@ -18,8 +18,8 @@ YES = ("certified", "complete")
 QUESTIONS = (
     ("Y", "the yes of certify", "twkb_layer", "certify", YES, 327),
     ("C", "certify", "twkb_layer", "certify", None, 555),
-    ("S", "scan", "twkb_layer", "Certified::scan", None, 407),
-    ("R", "run", "twkb_tool", "run", None, 803),
+    ("S", "scan", "twkb_layer", "Certified::scan", None, 366),
+    ("R", "run", "twkb_tool", "run", None, 783),
 )
 
 

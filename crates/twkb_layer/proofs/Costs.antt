@@ -8,15 +8,19 @@ use Rattle.twkb_body.specs.Encoding.{Blob}
 use Rattle.twkb_body.specs.Geometry.{Geometry}
 use Rattle.twkb_body.proofs.Orders.{blob_order}
 use Rattle.twkb_body.proofs.WalkLengths.{walk_most}
-use Rattle.twkb_layer.specs.Directory.{box_of, is_missed, directory_cost}
+use Rattle.twkb_layer.specs.Directory.{box_of, directory_cost}
+use Rattle.twkb_layer.specs.Window.{is_missed}
+use Rattle.twkb_layer.specs.Devices.Seeking.{Seeking, seeks, seeks_past}
 use Rattle.twkb_layer.specs.Hits.{cost}
 use Rattle.twkb_layer.specs.Layer.{IsLayer, size_of}
-use Rattle.twkb_layer.specs.Seeking.{Seeking, seeks, seeks_past}
 use Rattle.twkb_layer.proofs.Layers.{size_of-blob}
+use Rattle.twkb_layer.proofs.Seeks.{cost_walk}
 
 -- no more of a blob than it has
 cost_few : (w : Bounds) (g : Geometry) (bytes : List ℕ) → Blob g bytes 1 → cost w g ≤ size_of g
-cost_few w g bytes b = walk_most Seeking seeks seeks_past g (record { window = w; met = false }) (blob_order deepest g bytes 1 b).1
+cost_few w g bytes b =
+    let seeking : Seeking = record { window = w; met = false } in
+    rw (cost_walk seeking g) (walk_most Seeking seeks seeks_past g seeking (blob_order deepest g bytes 1 b).1)
 
 -- and with a directory no more than without
 fewer : (missed : Bool) (n : ℕ) → cond missed 0 n ≤ n

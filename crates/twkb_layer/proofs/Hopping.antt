@@ -16,17 +16,16 @@ use Rattle.twkb_body.specs.Devices.Skimmed.{Config, hop_of, skimmed}
 use Rattle.twkb_body.specs.Standing.{StandsAt}
 use Rattle.twkb_body.proofs.HeadStands.{hop_fits, hop_within, enter_hops}
 use Rattle.twkb_body.proofs.Remaining.{none_left}
-use Rattle.twkb_layer.specs.Directory.{is_missed}
 use Rattle.twkb_layer.specs.Hits.{cost}
 use Rattle.twkb_layer.specs.Layer.{size_of}
-use Rattle.twkb_layer.specs.Seeking.{Seeking, seeks, seeks_past}
-use Rattle.twkb_layer.specs.Devices.Seeking.{seeks_soundly}
+use Rattle.twkb_layer.specs.Devices.Seeking.{seeks_soundly, Seeking, seeks, seeks_past}
 use Rattle.twkb_layer.specs.Devices.Raw.{IsRawWindow}
 use Rattle.twkb_layer.specs.Devices.Slots.{AreInner}
-use Rattle.twkb_layer.specs.Window.{is_inside, lie_apart}
+use Rattle.twkb_layer.specs.Window.{is_inside, lie_apart, is_missed}
 use Rattle.twkb_layer.specs.declared.raw.RawWindow.{RawWindow}
 use Rattle.twkb_layer.proofs.Raws.{misses_raw}
 use Rattle.twkb_layer.proofs.Scanning.{met_after}
+use Rattle.twkb_layer.proofs.Seeks.{cost_walk}
 
 -- the state of a scan that has met nothing
 abbrev pub seeking : Bounds → Seeking
@@ -53,7 +52,7 @@ module _ (w : Bounds) (g : Geometry) (r a : Reading) (head : Head) (size : SizeF
       none_left seeks seeks_past e.below _ zero ∙ e.left
 
   pub hop_past : (new : Reading) → new ≡ record a { place = size.after + size.value } → new ≡ record { bytes = r.bytes; place = r.place + size_of g; count = added r.count (cost w g) }
-  hop_past new is = ap (λ (d : Config Seeking). d.reading) (hopped new is)
+  hop_past new is = rw (cost_walk (seeking w) g) (ap (λ (d : Config Seeking). d.reading) (hopped new is))
 
   pub hop_none : (new : Reading) → new ≡ record a { place = size.after + size.value } → list_any (is_inside w) (vertices g) ≡ false
   hop_none new is = sym (met_after (seeking w) (vertices g)) ∙ sym (ap (λ (d : Config Seeking). d.state.met) (hopped new is))

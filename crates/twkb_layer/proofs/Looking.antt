@@ -13,12 +13,12 @@ use Rattle.twkb_head.specs.Holds.{Holds}
 use Rattle.twkb_body.specs.Geometry.{Geometry, geometry, vertices}
 use Rattle.twkb_body.specs.Standing.{StandsAt}
 use Rattle.twkb_body.proofs.Entering.{reaches, boxed_holds}
-use Rattle.twkb_layer.specs.Directory.{Entry, box_of, entry_of, entries, is_missed, directory_cost}
+use Rattle.twkb_layer.specs.Directory.{Entry, box_of, entry_of, entries, directory_cost}
 use Rattle.twkb_layer.specs.Hits.{hits, cost, filled}
 use Rattle.twkb_layer.specs.Layer.{IsCertifiedLayer, size_of, told_from}
 use Rattle.twkb_layer.specs.Devices.Slots.{Said, unboxed, entry_with, entries_from, entries_of}
 use Rattle.twkb_layer.specs.Devices.Seeking.{outside}
-use Rattle.twkb_layer.specs.Window.{is_inside, box_misses}
+use Rattle.twkb_layer.specs.Window.{is_inside, box_misses, is_missed}
 use Rattle.twkb_layer.specs.declared.hits.Hit.{Hit}
 use Rattle.twkb_layer.proofs.Layers.{blob_some, layer_once, layer_short}
 use Rattle.twkb_layer.proofs.Scanning.{hits_from, Next, next_of, filled-nil, hits_go_on, found_goes_on, room_goes_on, found_fits, added_twice, counted_none}

@@ -26,10 +26,11 @@ use Rattle.twkb_body.proofs.PointShapes.{point_body, point_shape}
 use Rattle.twkb_body.proofs.Remaining.{none_left}
 use Rattle.twkb_layer.specs.Hits.{cost}
 use Rattle.twkb_layer.specs.Layer.{size_of}
-use Rattle.twkb_layer.specs.Seeking.{Seeking, seeks, seeks_past}
+use Rattle.twkb_layer.specs.Devices.Seeking.{Seeking, seeks, seeks_past}
 use Rattle.twkb_layer.specs.Devices.Raw.{IsInner, IsRawWindow}
 use Rattle.twkb_layer.specs.Window.{is_inside, in_span, in_bound, lie_apart}
 use Rattle.twkb_layer.specs.declared.raw.RawWindow.{RawWindow}
+use Rattle.twkb_layer.proofs.Seeks.{cost_walk}
 use Rattle.twkb_layer.proofs.Hopping.{seeking}
 use Rattle.twkb_layer.proofs.Raws.{misses_raw}
 use Rattle.twkb_layer.proofs.Scanning.{met_after}
@@ -101,7 +102,7 @@ module _ (w : Bounds) (g : Geometry) (r a new : Reading) (head : Head) (size aft
       none_left seeks seeks_past e.below _ zero ∙ e.left
 
   pub point_past : new ≡ record { bytes = r.bytes; place = r.place + size_of g; count = added r.count (cost w g) }
-  point_past = ap (λ (d : Config Seeking). d.reading) looked
+  point_past = rw (cost_walk (seeking w) g) (ap (λ (d : Config Seeking). d.reading) looked)
 
   pub point_found : is_inside w (flat_vertex head.xy x y) ≡ list_any (is_inside w) (vertices g)
   point_found = ap (λ (d : Config Seeking). d.state.met) looked ∙ met_after (seeking w) (vertices g)

@@ -6,10 +6,9 @@ ghost use Rattle.twkb_num.specs.Units.{IsPrecision};
 ghost use Rattle.twkb_head.specs.Raw.{whole_head, AreNear};
 ghost use Rattle.twkb_body.specs.Geometry.{Geometry, vertices};
 ghost use Rattle.twkb_body.specs.Standing.{StandsAt};
-ghost use Rattle.twkb_layer.specs.Directory.{is_missed};
 ghost use Rattle.twkb_layer.specs.Hits.{cost};
 ghost use Rattle.twkb_layer.specs.Layer.{size_of};
-ghost use Rattle.twkb_layer.specs.Window.{is_inside};
+ghost use Rattle.twkb_layer.specs.Window.{is_inside, is_missed};
 
 use crate::raw::RawWindows;
 use twkb_head::{RawHead, read_boxed_head};

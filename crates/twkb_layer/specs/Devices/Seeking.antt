@@ -1,5 +1,5 @@
 -- Devices of proofs: nothing public names them.
--- The proof of the law of the visitor that seeks.
+-- The visitor that seeks a vertex inside a window, and the proof of its law.
 use Rattle.std.specs.Prelude.{Bool, true, refl, ◌≡◌, ℤ, ◌&&◌, ◌||◌, false, Option, Some, None}
 use Rattle.twkb_head.specs.declared.boxes.Vertex.{Vertex}
 use Rattle.twkb_head.specs.Devices.Holds.{IsWithinBoth}
@@ -10,7 +10,21 @@ use Rattle.std.proofs.lemmas.Int.{ints}
 use Rattle.twkb_head.specs.declared.boxes.Span.{Span}
 use Rattle.twkb_head.specs.Holds.{Holds, IsWithin}
 use Rattle.twkb_layer.specs.Window.{in_span, in_bound, is_inside, lie_apart, lie_apart_if_both, box_misses}
-use Rattle.twkb_layer.specs.Seeking.{seeks, seeks_past}
+
+-- a window, and whether a vertex inside was met
+pub record Seeking : Type 0 where
+  pub window : Bounds
+  pub met : Bool
+
+-- a vertex is met where it is inside
+abbrev pub seeks : Seeking → Vertex → Seeking
+seeks s v = record { window = s.window; met = s.met || is_inside s.window v }
+
+-- a box is skipped where it misses the window
+abbrev pub seeks_past : Seeking → Bounds → Bool
+seeks_past s box = box_misses s.window box
+
+-- ---- the law
 
 -- one of two holds
 either : (a b : Bool) → (a || b) ≡ true → (a ≡ true) ⊎ (b ≡ true)

@@ -1,0 +1,48 @@
+-- What a scan reads of a geometry is the walk of the visitor that seeks, whatever it has met so far.
+use Rattle.std.proofs.Common.{◌≡◌, ℕ, ◌+◌, Bool, true, false, cond, not, ◌&&◌, ℤ, List, [], ◌∷◌, fold, Option, Some, None, is_some, option_map, refl, sym, ap, ap₂, ◌∙◌}
+use Rattle.twkb_head.specs.declared.boxes.Vertex.{Vertex}
+use Rattle.twkb_head.specs.declared.boxes.Bounds.{Bounds}
+use Rattle.twkb_head.specs.Head.{bounds_of}
+use Rattle.twkb_head.specs.BegunHeader.{is_collection}
+use Rattle.twkb_body.specs.Geometry.{Geometry, Members, geometry, none, more, vertices}
+use Rattle.twkb_body.specs.Visit.{walk, member_walk, skips_both}
+use Rattle.twkb_layer.specs.Hits.{cost, member_cost}
+use Rattle.twkb_layer.specs.Window.{box_misses, is_missed}
+use Rattle.twkb_layer.specs.Devices.Seeking.{Seeking, seeks, seeks_past}
+
+window_kept : (s : Seeking) (vs : List Vertex) → (fold seeks s vs).window ≡ s.window
+window_kept s [] = refl
+window_kept s (v ∷ vs) = window_kept (seeks s v) vs
+
+-- where a geometry is skipped
+skipped : (w : Bounds) (xy : ℤ) (z m size : Option ℕ) (box : Option (List (ℤ × ℤ)))
+    → (is_some size && is_missed w (option_map (λ ranges. bounds_of xy z m ranges) box))
+    ≡ skips_both (λ ranges. box_misses w (bounds_of xy z m ranges)) size box
+skipped w xy z m None box = refl
+skipped w xy z m (Some size) None = refl
+skipped w xy z m (Some size) (Some ranges) = refl
+
+-- what is read of one that isn't
+read_of : (collection empty : Bool) (all some : ℕ) → cond (collection && not empty) some all ≡ cond empty all (cond collection some all)
+read_of true true all some = refl
+read_of true false all some = refl
+read_of false true all some = refl
+read_of false false all some = refl
+
+mutual
+  unfolding cost walk
+
+  pub cost_walk : (s : Seeking) (g : Geometry) → cost s.window g ≡ walk g Seeking seeks seeks_past s
+  cost_walk s (geometry h l ids polygons members) =
+      let below : member_cost s.window members ≡ member_walk members Seeking seeks seeks_past s = member_cost_walk s members in
+      ap₂ (λ (skips : Bool) (rest : ℕ). cond skips l.header rest) (skipped s.window h.xy h.z h.m h.size h.box)
+      (ap (λ (n : ℕ). cond (is_collection h.kind && not h.empty) (l.header + l.list + n) l.whole) below
+      ∙ read_of (is_collection h.kind) h.empty l.whole (l.header + l.list + member_walk members Seeking seeks seeks_past s))
+
+  member_cost_walk : (s : Seeking) (gs : Members) → member_cost s.window gs ≡ member_walk gs Seeking seeks seeks_past s
+  member_cost_walk s none = refl
+  member_cost_walk s (more g gs) =
+      let next = fold seeks s (vertices g) in
+      let others : member_cost s.window gs ≡ member_walk gs Seeking seeks seeks_past next =
+      ap (λ (w : Bounds). member_cost w gs) (sym (window_kept s (vertices g))) ∙ member_cost_walk next gs in
+      ap₂ (λ (a b : ℕ). a + b) (cost_walk s g) others
