@@ -17,19 +17,21 @@ SumsFit numbers = (i axis : ℕ) (point : PointValue) (z : ℤ) → slice_get nu
 
 -- fewer numbers than axes
 abbrev pub IsBegunPoint : ℕ → List PointValue → List ℕ → Field → Type 0
-IsBegunPoint axes points p due = (numbers : List ℤ) × (points ≡ numbers ∷ []) × IsFewer axes numbers p × (due ≡ coordinate_field)
+IsBegunPoint axes points p due =
+    (numbers : List ℤ) × (points ≡ numbers ∷ []) × IsFewer axes numbers p × (due ≡ coordinate_field)
 
 -- A count is due; or ids are; or fewer members than the count are whole, and one is begun.
 -- The points are those whose numbers stand in p, the last perhaps in part.
 pub data IsBegunList {A : Type 0} (ids : Bool) (Whole : A → List ℕ → Type 0) (points_in : A → List PointValue)
-    (Begun : List PointValue → List ℕ → Field → Type 0) (points : List PointValue) (p : List ℕ) (due : Field) : Type 0 where
+    (Begun : List PointValue → List ℕ → Field → Type 0) (points : List PointValue) (p : List ℕ) (due : Field)
+    : Type 0 where
   count_due : points ≡ [] → p ≡ [] → due ≡ number_field → IsBegunList ids Whole points_in Begun points p due
   id_due : (n : ℕ) (count id_list : List ℕ) (list : List ℤ) → ids ≡ true → Spells count n → IsFewer n list id_list
       → points ≡ [] → p ≡ count ++ id_list → due ≡ number_field → IsBegunList ids Whole points_in Begun points p due
-  member_due : (n : ℕ) (count id_list wholes rest : List ℕ) (list : Option (List ℤ)) (xs : List A) (last : List PointValue)
-      → Spells count n → Announced ids (Times n IsSigned) list id_list → length xs < n → Sequence Whole xs wholes → Begun last rest due
-      → points ≡ flat_map points_in xs ++ last → p ≡ count ++ (id_list ++ (wholes ++ rest))
-      → IsBegunList ids Whole points_in Begun points p due
+  member_due : (n : ℕ) (count id_list wholes rest : List ℕ) (list : Option (List ℤ)) (xs : List A)
+      (last : List PointValue) → Spells count n → Announced ids (Times n IsSigned) list id_list → length xs < n
+      → Sequence Whole xs wholes → Begun last rest due → points ≡ flat_map points_in xs ++ last
+      → p ≡ count ++ (id_list ++ (wholes ++ rest)) → IsBegunList ids Whole points_in Begun points p due
 
 -- a ring begun
 abbrev pub IsBegunRing : ℕ → List PointValue → List ℕ → Field → Type 0
@@ -52,23 +54,28 @@ IsBegunPart GeometryCollection axes = λ points p due. ⊥
 -- the body of a kind that is no collection begun: a part alone, or a list of parts
 abbrev pub IsBegunNumbers : Bool → Header → List PointValue → List ℕ → Field → Type 0
 IsBegunNumbers false h = IsBegunPart h.kind (axes_of h)
-IsBegunNumbers true h = IsBegunList h.ids (IsPart h.kind (axes_of h)) (λ part. flat_map (λ ring. ring) part) (IsBegunPart h.kind (axes_of h))
+IsBegunNumbers true h =
+    IsBegunList h.ids (IsPart h.kind (axes_of h)) (flat_map (λ ring. ring)) (IsBegunPart h.kind (axes_of h))
 
--- A geometry begun at a depth, where the deepest may stand at the limit, and what kind of field is due after it: its header
--- is begun; or its numbers; or its list of members, up to the ids; or one of its members.
+-- A geometry begun at a depth, where the deepest may stand at the limit, and what kind of field is due after it: its
+-- header is begun; or its numbers; or its list of members, up to the ids; or one of its members.
 pub data IsBegunUnder (limit : ℕ) : ℕ → List ℕ → Field → Type 0 where
-  header_begun : (depth : ℕ) (p : List ℕ) (due : Field) → IsBegunHeader limit depth p due → IsBegunUnder limit depth p due
+  header_begun : (depth : ℕ) (p : List ℕ) (due : Field) → IsBegunHeader limit depth p due
+      → IsBegunUnder limit depth p due
   shape_begun : (depth : ℕ) (p : List ℕ) (due : Field) (h : Header) (head rest : List ℕ) (points : List PointValue)
       → IsHeader h head → IsAllowedUnder limit h.kind depth → h.empty ≡ false → is_collection h.kind ≡ false
-      → IsBegunNumbers (is_multi h.kind) h points rest due → SumsFit points → p ≡ head ++ rest → IsBegunUnder limit depth p due
+      → IsBegunNumbers (is_multi h.kind) h points rest due → SumsFit points → p ≡ head ++ rest
+      → IsBegunUnder limit depth p due
   members_begun : (depth : ℕ) (p : List ℕ) (due : Field) (h : Header) (head rest : List ℕ)
       → IsHeader h head → IsAllowedUnder limit h.kind depth → h.empty ≡ false → is_collection h.kind ≡ true
-      → IsBegunList {A = ℕ} h.ids (λ n bytes. ⊥) (λ n. []) (λ points bytes field. ⊥) [] rest due → p ≡ head ++ rest → IsBegunUnder limit depth p due
+      → IsBegunList {A = ℕ} h.ids (λ n bytes. ⊥) (λ n. []) (λ points bytes field. ⊥) [] rest due
+      → p ≡ head ++ rest → IsBegunUnder limit depth p due
   member_begun : (depth : ℕ) (p : List ℕ) (due : Field) (h : Header) (n : ℕ) (head count id_list wholes rest : List ℕ)
       (ids : Option (List ℤ)) (gs : Members)
       → IsHeader h head → IsAllowedUnder limit h.kind depth → h.empty ≡ false → is_collection h.kind ≡ true
-      → Spells count n → Announced h.ids (Times n IsSigned) ids id_list → member_count gs < n → BlobsUnder limit gs wholes (suc depth)
-      → IsBegunUnder limit (suc depth) rest due → p ≡ head ++ (count ++ (id_list ++ (wholes ++ rest))) → IsBegunUnder limit depth p due
+      → Spells count n → Announced h.ids (Times n IsSigned) ids id_list → member_count gs < n
+      → BlobsUnder limit gs wholes (suc depth) → IsBegunUnder limit (suc depth) rest due
+      → p ≡ head ++ (count ++ (id_list ++ (wholes ++ rest))) → IsBegunUnder limit depth p due
 
 -- the same under the limit of this project
 abbrev pub IsBegun : ℕ → List ℕ → Field → Type 0

@@ -96,7 +96,7 @@ pub record IsHeaderThenBody (h : Header) (l : Lengths) (bytes body : List ℕ) :
   pub whole_length : l.whole ≡ length bytes
 
 unfoldable mutual
-  -- The bytes are the geometry's, which stands at the depth, where the deepest may stand at the limit. Its size is free.
+  -- The bytes are the geometry's, which stands at the depth, where the deepest may stand at the limit; its size is free
   pub BlobUnder : ℕ → Geometry → List ℕ → ℕ → Type 0
   BlobUnder limit (geometry h l ids polygons members) bytes depth =
       (body : List ℕ) × IsHeaderThenBody h l bytes body × IsAllowedUnder limit h.kind depth

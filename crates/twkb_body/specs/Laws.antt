@@ -41,11 +41,13 @@ OneBlob = (g h : Geometry) (a b x y : List ℕ) → Blob g a 1 → Blob h b 1 �
 
 -- where the deepest may stand deeper, a blob stays one
 abbrev pub StaysBlob : Type 0
-StaysBlob = (low high : ℕ) (g : Geometry) (bytes : List ℕ) (depth : ℕ) → low ≤ high → BlobUnder low g bytes depth → BlobUnder high g bytes depth
+StaysBlob = (low high : ℕ) (g : Geometry) (bytes : List ℕ) (depth : ℕ) → low ≤ high
+    → BlobUnder low g bytes depth → BlobUnder high g bytes depth
 
 -- the claims of a blob stand by rising offset
 abbrev pub RisingClaims : Type 0
-RisingClaims = (g : Geometry) (bytes : List ℕ) (start : ℕ) → Blob g bytes 1 → AllPairs (λ c d. offset_of c ≤ offset_of d) (claims g start)
+RisingClaims = (g : Geometry) (bytes : List ℕ) (start : ℕ) → Blob g bytes 1
+    → AllPairs (λ c d. offset_of c ≤ offset_of d) (claims g start)
 
 -- tight checking takes all claims for true exactly of a certified geometry that has no loose box
 abbrev pub TightClaimsAreBoth : Type 0
@@ -62,11 +64,13 @@ ExtentsStandForAll = (vs : List Vertex) (box : Bounds) → IsReachWithin (reach_
 
 -- a walk reads no more than the blob has
 abbrev pub WalksWithin : {S : Type 0} → (S → Vertex → S) → (S → Bounds → Bool) → Type 0
-WalksWithin {S} step skips = (g : Geometry) (bytes : List ℕ) (s : S) → Blob g bytes 1 → walk g S step skips s ≤ length bytes
+WalksWithin {S} step skips =
+    (g : Geometry) (bytes : List ℕ) (s : S) → Blob g bytes 1 → walk g S step skips s ≤ length bytes
 
 -- where it skips no box, a walk reads all of the blob
 abbrev pub WalksThrough : {S : Type 0} → (S → Vertex → S) → (S → Bounds → Bool) → Type 0
-WalksThrough {S} step skips = ((s : S) (box : Bounds) → skips s box ≡ false) → (g : Geometry) (bytes : List ℕ) (s : S) → Blob g bytes 1 → walk g S step skips s ≡ length bytes
+WalksThrough {S} step skips = ((s : S) (box : Bounds) → skips s box ≡ false)
+    → (g : Geometry) (bytes : List ℕ) (s : S) → Blob g bytes 1 → walk g S step skips s ≡ length bytes
 
 -- a summary counts the vertices, up to the greatest number of 64 bits
 abbrev pub CountsAll : Type 0

@@ -24,7 +24,8 @@ IsWrong Varint number_field p f = IsLong f
 IsWrong Varint coordinate_field p f = IsLong f
 IsWrong Kind type_field p f = StartsWith f (λ b. (b % 16 ≡ 0) ⊎ (8 ≤ b % 16))
 IsWrong Depth type_field p f = StartsWith f (λ b. (b % 16 ≡ 7) × (IsViable (p ++ b ∷ []) → ⊥))
-IsWrong Range coordinate_field p f = (front : List ℕ) × (behind : List ℕ) × (n : ℕ) × (f ≡ front ++ behind) × Spells front n × (IsViable (p ++ front) → ⊥)
+IsWrong Range coordinate_field p f =
+    (front behind : List ℕ) × (n : ℕ) × (f ≡ front ++ behind) × Spells front n × (IsViable (p ++ front) → ⊥)
 IsWrong _ _ p f = ⊥
 
 -- a kind of field is due after p, and the one that stands at f is wrong

@@ -24,7 +24,7 @@ deepest = 64
 abbrev pub IsAllowedAt : Kind → ℕ → Type 0
 IsAllowedAt = IsAllowedUnder deepest
 
--- the kinds of fields: a type byte, a metadata or extended dimensions byte, a varint that is no coordinate, a coordinate
+-- the kinds of fields: a type byte, a metadata or extended dimensions byte, a coordinate, and any other number
 pub data Field : Type 0 where
   type_field : Field
   byte_field : Field
@@ -52,12 +52,14 @@ IsFewer n numbers bytes = (length numbers < n) × Sequence IsSigned numbers byte
 pub data IsBegunHeader (limit depth : ℕ) (p : List ℕ) (due : Field) : Type 0 where
   type_due : p ≡ [] → due ≡ type_field → IsBegunHeader limit depth p due
   metadata_due : (t : ℕ) → IsStart limit depth t → p ≡ t ∷ [] → due ≡ byte_field → IsBegunHeader limit depth p due
-  extended_due : (t metadata : ℕ) → IsStart limit depth t → has_bit metadata 8 ≡ true → p ≡ t ∷ metadata ∷ [] → due ≡ byte_field
-      → IsBegunHeader limit depth p due
+  extended_due : (t metadata : ℕ) → IsStart limit depth t → has_bit metadata 8 ≡ true → p ≡ t ∷ metadata ∷ []
+      → due ≡ byte_field → IsBegunHeader limit depth p due
   size_due : (t metadata : ℕ) (extended : Option ℕ) (extended_bytes : List ℕ) → IsStart limit depth t
       → Announced (has_bit metadata 8) IsByte extended extended_bytes → has_bit metadata 2 ≡ true
       → p ≡ t ∷ metadata ∷ extended_bytes → due ≡ number_field → IsBegunHeader limit depth p due
-  box_due : (t metadata : ℕ) (extended size : Option ℕ) (extended_bytes size_bytes box : List ℕ) (numbers : List ℤ) → IsStart limit depth t
-      → Announced (has_bit metadata 8) IsByte extended extended_bytes → Announced (has_bit metadata 2) (λ n field. Spells field n) size size_bytes
-      → has_bit metadata 1 ≡ true → IsFewer (2 * axes_with (z_in extended) (m_in extended)) numbers box
-      → p ≡ t ∷ metadata ∷ (extended_bytes ++ (size_bytes ++ box)) → due ≡ number_field → IsBegunHeader limit depth p due
+  box_due : (t metadata : ℕ) (extended size : Option ℕ) (extended_bytes size_bytes box : List ℕ) (numbers : List ℤ)
+      → IsStart limit depth t → Announced (has_bit metadata 8) IsByte extended extended_bytes
+      → Announced (has_bit metadata 2) (λ n field. Spells field n) size size_bytes → has_bit metadata 1 ≡ true
+      → IsFewer (2 * axes_with (z_in extended) (m_in extended)) numbers box
+      → p ≡ t ∷ metadata ∷ (extended_bytes ++ (size_bytes ++ box)) → due ≡ number_field
+      → IsBegunHeader limit depth p due

@@ -28,7 +28,7 @@ bounds_of xy z m ranges = record {
   m = option_map (λ p. span_at (pos p) (range_of ranges (m_axis z))) m;
 }
 
--- the code's form of a header that stands at start, with its size at size_place, its box at box_place and its end at stop
+-- the code's form of a header that stands at start, with its size at size_place, its box at box_place, its end at stop
 abbrev pub head_of : Header → ℕ → ℕ → ℕ → ℕ → Head
 head_of h start size_place box_place stop = record {
   kind = h.kind;
@@ -48,7 +48,8 @@ pub record IsHeadAt (head : Head) (depth start : ℕ) (bytes : List ℕ) : Type 
   pub header : Header
   pub is : IsHeader header bytes
   pub allowed : IsAllowedAt header.kind depth
-  pub fields : head ≡ head_of header start (start + 2 + length is.extended_bytes) (start + 2 + length is.extended_bytes + length is.size_bytes) (start + length bytes)
+  pub fields : head ≡ head_of header start (start + 2 + length is.extended_bytes)
+      (start + 2 + length is.extended_bytes + length is.size_bytes) (start + length bytes)
 
 -- a header that may stand at the depth stands at the front of the bytes
 pub record StartsWithHeader (depth : ℕ) (bytes : List ℕ) : Type 0 where

@@ -61,7 +61,7 @@ m_in extended = option_and_then (λ e. if has_bit e 2 then Some (e / 32) else No
 abbrev pub IsRange : ℤ × ℤ → List ℕ → Type 0
 IsRange range = Then (IsSigned range.0) (IsSigned (range.1 -ℤ range.0))
 
--- whether ids stand in the body: the geometry isn't empty, it has a list of members, and the metadata byte announces ids
+-- whether ids stand in the body: the geometry isn't empty, it has a list of members, and the metadata byte says so
 abbrev pub has_ids : Kind → ℕ → Bool
 has_ids kind metadata = not (has_bit metadata 16) && (is_multi kind && has_bit metadata 4)
 

@@ -8,7 +8,7 @@ use Rattle.twkb_head.specs.declared.boxes.Bounds.{Bounds}
 abbrev pub IsWithin : Span → ℤ → Type 0
 IsWithin span value = (span.lo ≤ℤ value) × (value ≤ℤ span.hi)
 
--- a box holds a vertex: in each axis that both have it is within the range; one that only one of them has isn't compared
+-- a box holds a vertex: in each axis that both have it is within the range; no other axis is compared
 pub record Holds (box : Bounds) (v : Vertex) : Type 0 where
   pub x : IsWithin box.x v.x
   pub y : IsWithin box.y v.y

@@ -5,6 +5,7 @@ use Rattle.twkb_head.specs.declared.raw.RawRange.{RawRange}
 use Rattle.twkb_head.specs.declared.raw.RawBox.{RawBox}
 use Rattle.twkb_head.specs.declared.raw.RawHead.{RawHead}
 use Rattle.twkb_head.specs.declared.header.Head.{Head}
+use Rattle.twkb_head.specs.declared.header.BoxField.{BoxField}
 use Rattle.twkb_head.specs.declared.kinds.Kind.TheVariants.{Point}
 use Rattle.twkb_head.specs.Head.{bounds_of}
 
@@ -32,9 +33,13 @@ pub record AreNear (box : RawBox) : Type 0 where
 abbrev pub raw_bounds : ℤ → Option ℕ → Option ℕ → RawBox → Bounds
 raw_bounds xy z m box = bounds_of xy z m (ranges_in box)
 
+-- its field with this box
+abbrev pub box_field : RawHead → RawBox → BoxField
+box_field raw box = record { bounds = raw_bounds raw.head.xy raw.head.z raw.head.m box; offset = raw.box_place }
+
 -- what the header says, with its box
 abbrev pub whole_head : RawHead → Head
-whole_head raw = record raw.head { bounds = option_map (λ box. record { bounds = raw_bounds raw.head.xy raw.head.z raw.head.m box; offset = raw.box_place }) raw.bounds }
+whole_head raw = record raw.head { bounds = option_map (box_field raw) raw.bounds }
 
 -- a header says: a point with this size, which counts from a place, and nothing else
 pub record IsSizedPoint (head : Head) (size after : ℕ) : Type 0 where

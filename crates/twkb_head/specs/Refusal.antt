@@ -14,7 +14,7 @@ use Rattle.twkb_head.specs.BegunHeader.{Field, type_field, byte_field, number_fi
 abbrev pub StartsWith : List ℕ → (ℕ → Type 0) → Type 0
 StartsWith f P = (b : ℕ) × (behind : List ℕ) × (f ≡ b ∷ behind) × P b
 
--- a field of this kind is due where the bytes f stand, and they are wrong in this way: the end cuts the field short, the
+-- a field of this kind is due where the bytes f stand, and they are wrong in this way: the end cuts the field short, a
 -- number passes 64 bits, the type byte names no type, or a collection stands too deep
 abbrev pub IsWrongField : ℕ → ℕ → Why → Field → List ℕ → Type 0
 IsWrongField limit depth Cut type_field f = f ≡ []
@@ -22,10 +22,11 @@ IsWrongField limit depth Cut byte_field f = f ≡ []
 IsWrongField limit depth Cut number_field f = IsCut f
 IsWrongField limit depth Varint number_field f = IsLong f
 IsWrongField limit depth Kind type_field f = StartsWith f (λ b. (b % 16 ≡ 0) ⊎ (8 ≤ b % 16))
-IsWrongField limit depth Depth type_field f = StartsWith f (λ b. (b % 16 ≡ 7) × (IsAllowedUnder limit GeometryCollection depth → ⊥))
+IsWrongField limit depth Depth type_field f =
+    StartsWith f (λ b. (b % 16 ≡ 7) × (IsAllowedUnder limit GeometryCollection depth → ⊥))
 IsWrongField _ _ _ _ f = ⊥
 
--- the bytes, the first of which is at start, begin a header, a field is due after that, and the one at the offset is wrong
+-- the bytes, the first of which is at start, begin a header, and the field that is due next, at the offset, is wrong
 pub record IsRefusedHead (m : Malformed) (depth start : ℕ) (bytes : List ℕ) : Type 0 where
   pub p : List ℕ
   pub f : List ℕ

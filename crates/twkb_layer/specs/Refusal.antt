@@ -29,14 +29,15 @@ abbrev pub IsBadField : ℕ → ℕ → ℕ → List ℕ → Type 0
 IsBadField start offset kind bytes =
     (why : Why) × (kind ≡ number_of_why why) × IsMalformed (record { offset = offset; why = why }) start bytes
 
--- The check refuses the layer at this blob, at an offset in the file and for this kind: behind blobs that it accepts, which
--- end before the file does, stands a blob, with its first false claim there, or none, with its first wrong field.
+-- The check refuses the layer at this blob, at an offset in the file and for this kind: behind blobs that it accepts,
+-- which end before the file does, stands a blob, with its first false claim there, or none, with its first wrong field.
 pub record IsRefusal (IsTrue : Claim → Type 0) (bytes : List ℕ) (blob offset kind : ℕ) : Type 0 where
   pub before : List Geometry
   pub start : ℕ
   pub begins : Begins IsTrue before start bytes
   pub number : blob ≡ length before
-  pub reason : IsFalseClaim IsTrue start offset kind (drop start bytes) ⊎ IsBadField start offset kind (drop start bytes)
+  pub reason : IsFalseClaim IsTrue start offset kind (drop start bytes)
+      ⊎ IsBadField start offset kind (drop start bytes)
 
 -- behind blobs that it accepts a blob is begun up to the seventeenth id of a list
 pub record WantsMemory (IsTrue : Claim → Type 0) (bytes : List ℕ) : Type 0 where

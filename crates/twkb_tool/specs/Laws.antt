@@ -6,5 +6,6 @@ use Rattle.twkb_tool.specs.declared.request.Request.{Request}
 
 -- of a request and given bytes there is one text at most, and one verdict
 abbrev pub OneOutput : Type 0
-OneOutput = (request : Request) (bytes text other : List ℕ) (verdict decision : Verdict) → IsOutput request bytes text verdict → IsOutput request bytes other decision
+OneOutput = (request : Request) (bytes text other : List ℕ) (verdict decision : Verdict)
+    → IsOutput request bytes text verdict → IsOutput request bytes other decision
     → (text ≡ other) × (verdict ≡ decision)

@@ -54,7 +54,8 @@ yes_no is = if is then codes "yes" else codes "no"
 
 -- the line for a refused file
 unfoldable pub no_line : ℕ → ℕ → List ℕ → List ℕ
-no_line blob offset word = codes "no blob=" ++ decimal blob ++ codes " offset=" ++ decimal offset ++ codes " kind=" ++ word ++ codes "\n"
+no_line blob offset word =
+    codes "no blob=" ++ decimal blob ++ codes " offset=" ++ decimal offset ++ codes " kind=" ++ word ++ codes "\n"
 
 -- the line for a certified layer that is only checked
 unfoldable pub ok_line : ℕ → ℕ → List ℕ
@@ -62,8 +63,9 @@ ok_line blobs vertices = codes "ok blobs=" ++ decimal blobs ++ codes " vertices=
 
 -- the line of a blob in a list
 unfoldable pub row_line : Row → List ℕ
-row_line row = codes "blob=" ++ decimal row.blob ++ codes " offset=" ++ decimal row.offset ++ codes " bytes=" ++ decimal row.bytes
-    ++ codes " type=" ++ name_of row.kind ++ codes " precision=" ++ signed_decimal row.precision ++ codes " vertices=" ++ decimal row.vertices
+row_line row = codes "blob=" ++ decimal row.blob ++ codes " offset=" ++ decimal row.offset
+    ++ codes " bytes=" ++ decimal row.bytes ++ codes " type=" ++ name_of row.kind
+    ++ codes " precision=" ++ signed_decimal row.precision ++ codes " vertices=" ++ decimal row.vertices
     ++ codes " size=" ++ yes_no row.has_size ++ codes " box=" ++ yes_no row.has_box ++ codes "\n"
 
 -- the line of a blob that has a vertex inside the window
@@ -72,13 +74,15 @@ hit_line hit = codes "hit blob=" ++ decimal hit.blob ++ codes " offset=" ++ deci
 
 -- the line behind the hits of a window: how many there are, and how many bytes were read, of how many
 unfoldable pub end_line : ℕ → ℕ → ℕ → List ℕ
-end_line found read len = codes "hits=" ++ decimal found ++ codes " read=" ++ decimal read ++ codes " of=" ++ decimal len ++ codes "\n"
+end_line found read len =
+    codes "hits=" ++ decimal found ++ codes " read=" ++ decimal read ++ codes " of=" ++ decimal len ++ codes "\n"
 
 -- ---- the text for a certified layer of so many bytes
 
 -- the lines of a window, where this is how many bytes are read of each blob
 abbrev pub window_text : (Bounds → Geometry → ℕ) → List Geometry → ℕ → Bounds → List ℕ
-window_text reads trees len w = flat_map hit_line (hits trees w) ++ end_line (length (hits trees w)) (sum_by (reads w) trees) len
+window_text reads trees len w =
+    flat_map hit_line (hits trees w) ++ end_line (length (hits trees w)) (sum_by (reads w) trees) len
 
 -- one window is looked for blob after blob, more of them with a directory
 abbrev pub reading : List Bounds → Bounds → Geometry → ℕ

@@ -1,16 +1,15 @@
 -- What a source gave and a sink took.
 use Rattle.std.specs.Prelude.{◌≡◌, ℕ, ◌+◌, ◌-◌, ◌^◌, min, Bool, List, ◌++◌, length, IsTrue}
 
--- a source: whether it tells its bytes, those still to come, how many it gave, and whether its
--- last call failed
+-- a source: whether it tells its bytes, those still to come, how many it gave, and whether its last call failed
 pub record SourceState : Type 0 where
   pub tells : Bool
   pub rest : List ℕ
   pub moved : ℕ
   pub failed : Bool
 
--- a sink: whether it tells its bytes, those that were put, how many it took, whether its last call
--- failed, and whether its last call was a flush
+-- a sink: whether it tells its bytes, those that were put, how many it took, whether its last call failed, and whether
+-- its last call was a flush
 pub record SinkState : Type 0 where
   pub tells : Bool
   pub bytes : List ℕ

@@ -51,7 +51,9 @@ bare_app = on_top (λ s. record s { subcommand_required = true }) (new_app (code
 
 -- the whole command: `twkb_tool` with each of these behind it
 unfoldable pub tool_app : App
-tool_app = with_subcommand (with_subcommand (with_subcommand bare_app check_app.top) (file_app (codes "list")).top) scan_app.top
+tool_app =
+    let listing = with_subcommand (with_subcommand bare_app check_app.top) (file_app (codes "list")).top in
+    with_subcommand listing scan_app.top
 
 -- the word is no flag to clap: it doesn't begin with a minus
 abbrev pub is_value : Text → Bool
@@ -119,7 +121,7 @@ abbrev pub LacksWord : Text → List Row → Type 0
 LacksWord name rows = ((name ≢ codes "check") × (name ≢ codes "list") × (name ≢ codes "scan"))
     ⊎ ((name ≡ codes "scan") × ((windows_in rows ≡ None) ⊎ (windows_in rows ≡ Some [])))
 
--- it asks for nothing, and why: a word is missing, or there are too many windows, or one of them is none, or memory ran out
+-- it asks for nothing, and why: a word is missing, there are too many windows, one of them is none, or memory ran out
 abbrev pub IsRefused : Text → List Row → Usage → Type 0
 IsRefused name rows (Words (Some error)) = ⊥
 IsRefused name rows (Words None) = LacksWord name rows
