@@ -17,9 +17,9 @@ HEAD = "-- Devices of proofs: nothing public names them."
 YES = ("certified", "complete")
 QUESTIONS = (
     ("Y", "the yes of certify", "twkb_layer", "certify", YES, 327),
-    ("C", "certify", "twkb_layer", "certify", None, 555),
-    ("S", "scan", "twkb_layer", "Certified::scan", None, 366),
-    ("R", "run", "twkb_tool", "run", None, 783),
+    ("C", "certify", "twkb_layer", "certify", None, 568),
+    ("S", "scan", "twkb_layer", "Certified::scan", None, 371),
+    ("R", "run", "twkb_tool", "run", None, 800),
 )
 
 

@@ -10,8 +10,8 @@ use Rattle.twkb_body.specs.Claims.{IsCertified}
 abbrev pub size_of : Geometry → ℕ
 size_of tree = (lengths_of tree).whole
 
--- The bytes are these blobs, one after another, where the deepest geometry may stand at the limit. Each is cut off by its
--- own length, so that no cut has to be named: `Laws` says that it is the same to cut anywhere.
+-- The bytes are these blobs, one after another, where the deepest geometry may stand at the limit. Each is cut off by
+-- its own length, so that no cut has to be named: `Laws` says that it is the same to cut anywhere.
 abbrev pub IsLayerUnder : ℕ → List Geometry → List ℕ → Type 0
 IsLayerUnder limit [] bytes = bytes ≡ []
 IsLayerUnder limit (tree ∷ trees) bytes =
@@ -30,6 +30,10 @@ pub record IsCertifiedLayerUnder (limit : ℕ) (trees : List Geometry) (bytes : 
 abbrev pub IsCertifiedLayer : List Geometry → List ℕ → Type 0
 IsCertifiedLayer = IsCertifiedLayerUnder deepest
 
+-- what holds of the trees of a certified layer with these bytes
+abbrev pub OfLayer : List ℕ → (List Geometry → Type 0) → Type 0
+OfLayer bytes P = (trees : List Geometry) → IsCertifiedLayer trees bytes → P trees
+
 -- how many vertices its blobs have
 abbrev pub vertex_count : List Geometry → ℕ
 vertex_count trees = sum_by (λ tree. length (vertices tree)) trees
@@ -37,7 +41,8 @@ vertex_count trees = sum_by (λ tree. length (vertices tree)) trees
 -- in file order, what is said of each blob by its number, its offset and its tree, from this number and offset on
 abbrev pub told_from : {A : Type 0} → (ℕ → ℕ → Geometry → A) → ℕ → ℕ → List Geometry → List A
 told_from says blob offset [] = []
-told_from says blob offset (tree ∷ trees) = says blob offset tree ∷ told_from says (blob + 1) (offset + size_of tree) trees
+told_from says blob offset (tree ∷ trees) =
+    says blob offset tree ∷ told_from says (blob + 1) (offset + size_of tree) trees
 
 -- the same of all blobs of a layer
 abbrev pub blob_by_blob : {A : Type 0} → (ℕ → ℕ → Geometry → A) → List Geometry → List A

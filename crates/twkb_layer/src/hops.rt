@@ -7,6 +7,7 @@ ghost use Rattle.twkb_head.specs.Raw.{whole_head, AreNear};
 ghost use Rattle.twkb_body.specs.Geometry.{Geometry, vertices};
 ghost use Rattle.twkb_body.specs.Standing.{StandsAt};
 ghost use Rattle.twkb_layer.specs.Hits.{cost};
+ghost use Rattle.twkb_layer.specs.Devices.Layer.{OfBlob};
 ghost use Rattle.twkb_layer.specs.Layer.{size_of};
 ghost use Rattle.twkb_layer.specs.Window.{is_inside, is_missed};
 
@@ -20,12 +21,13 @@ use twkb_num::Cursor;
 pub fn hop_over(cursor: &mut Cursor, windows: &RawWindows) -> bool
     requires { (g : Geometry) × StandsAt g 1 cursor.old.bytes cursor.old.place }
     ensures stays { result ≡ false → cursor.new ≡ cursor.old }
-    ensures outside { (g : Geometry) → StandsAt g 1 cursor.old.bytes cursor.old.place → result ≡ true → list_any (is_inside windows.now) (vertices g) ≡ false }
-    ensures past { (g : Geometry) → StandsAt g 1 cursor.old.bytes cursor.old.place → result ≡ true → cursor.new ≡ record {
+    ensures outside { OfBlob cursor.old.bytes cursor.old.place (λ g.
+        result ≡ true → list_any (is_inside windows.now) (vertices g) ≡ false) }
+    ensures past { OfBlob cursor.old.bytes cursor.old.place (λ g. result ≡ true → cursor.new ≡ record {
       bytes = cursor.old.bytes;
       place = cursor.old.place + size_of g;
       count = added cursor.old.count (cost windows.now g);
-    } }
+    }) }
 {
     // The proof knows from here that the numbers fit their types.
     let _start = cursor.place();
@@ -49,7 +51,8 @@ pub fn hop_over(cursor: &mut Cursor, windows: &RawWindows) -> bool
 fn misses(boxed: &RawHead, windows: &RawWindows) -> bool
     requires xy { IsPrecision boxed.now.head.xy }
     requires near { IfSome boxed.now.bounds AreNear }
-    ensures { result ≡ true → is_missed windows.now (option_map (λ field. field.bounds) (whole_head boxed.now).bounds) ≡ true }
+    ensures { result ≡ true
+        → is_missed windows.now (option_map (λ field. field.bounds) (whole_head boxed.now).bounds) ≡ true }
 {
     let Some(bounds) = boxed.bounds else {
         return false;

@@ -1,6 +1,6 @@
 //! Windows in raw integers: the numbers as headers and bodies have them, which mean units by a precision.
-ghost use Rattle.std.specs.Prelude.{◌≡◌, ◌<◌, ◌<ℤ◌, ◌*ℤ◌, ◌||◌, ℤ, pos, int_lt, slice_get, IfSome};
-ghost use Rattle.twkb_num.specs.Units.{IsPrecision, units_of};
+ghost use Rattle.std.specs.Prelude.{◌≡◌, ◌<◌, ◌<ℤ◌, ◌*ℤ◌, ◌||◌, ℤ, pos, int_lt};
+ghost use Rattle.twkb_num.specs.Units.{IsPrecision};
 ghost use Rattle.twkb_layer.specs.Devices.Raw.{IsInner, IsRawEnds, IsRawWindow, precision_of};
 
 use crate::window::Window;
@@ -49,7 +49,8 @@ impl RawWindow {
     /// doesn't tell.
     #[inline(always)]
     pub fn misses(&self, x: (i64, i64), y: (i64, i64)) -> bool
-        ensures { result ≡ ((int_lt x.1 self.now.x.least || int_lt self.now.x.greatest x.0) || (int_lt y.1 self.now.y.least || int_lt self.now.y.greatest y.0)) }
+        ensures { result ≡ ((int_lt x.1 self.now.x.least || int_lt self.now.x.greatest x.0)
+            || (int_lt y.1 self.now.y.least || int_lt self.now.y.greatest y.0)) }
     {
         self.x.misses(x) || self.y.misses(y)
     }

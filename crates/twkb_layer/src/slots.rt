@@ -1,10 +1,9 @@
 //! The slots of a directory.
-ghost use Rattle.std.specs.Prelude.{◌≡◌, ◌+◌, ◌*◌, ◌/◌, ◌%◌, ◌^◌, ◌<◌, ◌≤◌, ◌+ℤ◌, ◌==◌, nat_le, nat_lt, if◌then◌else◌, ◌||◌, ◌&&◌, ◌++◌, ◌∷◌, [], true, false, Some, None, IfSome, is_some, option_map, option_and_then, vec_len, vec_capacity};
+ghost use Rattle.std.specs.Prelude.{◌≡◌, ◌+◌, ◌*◌, ◌/◌, ◌%◌, ◌^◌, ◌<◌, ◌≤◌, ◌+ℤ◌, ◌==◌, nat_le, ◌||◌, ◌&&◌, ◌++◌, ◌∷◌, [], true, false, Some, None, IfSome, is_some, option_map, option_and_then, vec_len, vec_capacity};
 ghost use Rattle.twkb_num.specs.Units.{IsPrecision};
 ghost use Rattle.twkb_head.specs.Devices.Spelled.{AreSpelled, IsSpelledIfAny};
 ghost use Rattle.twkb_head.specs.Spelled.{IsSpelled};
-ghost use Rattle.twkb_layer.specs.Devices.Raw.{precision_of};
-ghost use Rattle.twkb_layer.specs.Devices.Slots.{range_at, range_in, unboxed, AreInner, IsJudged, entries_of};
+ghost use Rattle.twkb_layer.specs.Devices.Slots.{range_in, unboxed, AreInner, IsJudged, entries_of};
 ghost use Rattle.twkb_layer.specs.Window.{lie_apart_if_both};
 
 use crate::collecting::{Keeper, header_at};
@@ -50,7 +49,13 @@ impl Slot {
     /// Of a blob without a box.
     pub fn unboxed(offset: usize, deep: bool) -> Slot
         requires { offset < 2 ^ 57 }
-        ensures { result ≡ record { beyond = false; deep = deep; offset = offset; first = None; second = None } }
+        ensures { result ≡ record {
+          beyond = false;
+          deep = deep;
+          offset = offset;
+          first = None;
+          second = None;
+        } }
     {
         Slot {
             word: Word::new(0, UNBOXED, deep, offset as u64),
@@ -65,7 +70,13 @@ impl Slot {
         requires precision { IsPrecision precision }
         requires x_spelled { IsSpelled precision bounds.now.x }
         requires y_spelled { IsSpelled precision bounds.now.y }
-        ensures { result ≡ record { beyond = false; deep = deep; offset = offset; first = Some bounds.now.x; second = Some bounds.now.y } }
+        ensures { result ≡ record {
+          beyond = false;
+          deep = deep;
+          offset = offset;
+          first = Some bounds.now.x;
+          second = Some bounds.now.y;
+        } }
     {
         let code = (precision + 8) as u64;
         let x = bounds.x.spelling(precision);
@@ -86,7 +97,13 @@ impl Slot {
 
     /// What a box has in Z and M, and how far the offset passes a slot's reach.
     pub fn beyond(offset: usize, z: Kept, m: Kept) -> Slot
-        ensures { result ≡ record { beyond = true; deep = false; offset = offset / 2 ^ 57 * 2 ^ 57; first = z; second = m } }
+        ensures { result ≡ record {
+          beyond = true;
+          deep = false;
+          offset = offset / 2 ^ 57 * 2 ^ 57;
+          first = z;
+          second = m;
+        } }
     {
         let passed = (offset / REACH) as u64;
         Slot {
@@ -160,7 +177,8 @@ impl Slot {
 
     /// Whether what it says of Z and M misses the window.
     pub fn misses_in_z_or_m(&self, window: &Window) -> bool
-        ensures { result ≡ (lie_apart_if_both self.now.first window.now.z || lie_apart_if_both self.now.second window.now.m) }
+        ensures { result ≡ (lie_apart_if_both self.now.first window.now.z
+            || lie_apart_if_both self.now.second window.now.m) }
     {
         window.misses_in_z_or_m(self.first(), self.second())
     }
@@ -242,7 +260,8 @@ fn push<A: Allocator>(slots: &mut Vec<Slot, A>, offset: usize, head: &Head)
     requires m_high { IfSome head.now.m (λ p. p ≤ 7) }
     requires spelled { IfSome head.now.bounds (λ field. AreSpelled head.now.xy head.now.z head.now.m field.bounds) }
     requires spare { vec_len slots.old + 1 < vec_capacity slots.old }
-    ensures says { entries_of slots.new.items ≡ entries_of slots.old.items ++ record { offset = offset; bounds = option_map (λ field. field.bounds) head.now.bounds } ∷ [] }
+    ensures says { entries_of slots.new.items ≡ entries_of slots.old.items
+        ++ record { offset = offset; bounds = option_map (λ field. field.bounds) head.now.bounds } ∷ [] }
     ensures capacity { vec_capacity slots.new ≡ vec_capacity slots.old }
     ensures len { vec_len slots.new ≤ vec_len slots.old + 2 }
 {

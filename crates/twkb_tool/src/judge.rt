@@ -53,7 +53,8 @@ fn certified<'b, A: Allocator>(
     ensures read { IfOk result (λ layer. layer.count ≤ length bytes.entry.now) }
     ensures refused { IfErr result (λ refusal. IsRefusedFor (IsTrueFor request.now) refusal bytes.entry.now) }
     ensures kinds { IfErr result (NamesKind 9) }
-    ensures complete { (trees : List Geometry) → IsAccepted request.now trees bytes.entry.now → IsOkUnless result Refusal.Memory }
+    ensures complete { (trees : List Geometry) → IsAccepted request.now trees bytes.entry.now
+        → IsOkUnless result Refusal.Memory }
 {
     let cursor = Cursor::new(bytes);
     match request {

@@ -1,6 +1,5 @@
 //! A whole run, from the bytes that come in to the text that goes out.
 ghost use Rattle.std.specs.Prelude.{◌≡◌, ℕ, ◌+◌, ◌<◌, ◌≤◌, List, [], ◌++◌, length, take, false, IfOk, IfErr, OnOk, IsTrue, vec_len};
-ghost use Rattle.twkb_tool.specs.Output.{IsOutput};
 ghost use Rattle.twkb_tool.specs.Ran.{GivesAll, StopsReading, PutsAll, Ran};
 ghost use Rattle.twkb_tool.specs.Devices.Ran.{StopsPiece, StopsWriting};
 ghost use Rattle.twkb_tool.specs.Streams.{Gives};
@@ -47,7 +46,8 @@ pub fn run<S: Source, K: Sink>(
     requires windows { HoldsWindows request.now }
     requires source { (S.state source.old).failed ≡ false }
     requires sink { (K.state sink.old).failed ≡ false }
-    ensures { Ran request.now limit (S.state source.old) (S.state source.new) (K.state sink.old) (K.state sink.new) result }
+    ensures { Ran request.now limit (S.state source.old) (S.state source.new)
+        (K.state sink.old) (K.state sink.new) result }
 {
     run_in(&alloc, source, sink, request, limit)
 }
@@ -64,7 +64,8 @@ pub fn run_in<A: Allocator, S: Source, K: Sink>(
     requires windows { HoldsWindows request.now }
     requires source { (S.state source.old).failed ≡ false }
     requires sink { (K.state sink.old).failed ≡ false }
-    ensures { Ran request.now limit (S.state source.old) (S.state source.new) (K.state sink.old) (K.state sink.new) result }
+    ensures { Ran request.now limit (S.state source.old) (S.state source.new)
+        (K.state sink.old) (K.state sink.new) result }
 {
     let bytes = read_all(alloc, source, limit)?;
     let (text, verdict) = match answer(alloc, request, bytes.as_slice()) {

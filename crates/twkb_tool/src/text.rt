@@ -3,7 +3,7 @@ ghost use Rattle.std.specs.Prelude.{◌≡◌, ◌+◌, ◌-◌, ◌*◌, ◌^�
 ghost use Rattle.twkb_body.specs.Geometry.{Geometry};
 ghost use Rattle.twkb_layer.specs.Directory.{IsDirectoryOf, directory_cost};
 ghost use Rattle.twkb_layer.specs.Hits.{cost};
-ghost use Rattle.twkb_layer.specs.Layer.{IsCertifiedLayer, AddsAtMost};
+ghost use Rattle.twkb_layer.specs.Layer.{IsCertifiedLayer, AddsAtMost, OfLayer};
 ghost use Rattle.twkb_layer.specs.Rows.{rows};
 ghost use Rattle.twkb_tool.specs.Output.{row_line, hit_line, end_line, window_text, scan_text, layer_text};
 ghost use Rattle.twkb_tool.specs.Words.{HoldsWindows};
@@ -27,7 +27,8 @@ pub fn push_layer_text<'a, A: Allocator>(
     requires windows { HoldsWindows request.now }
     requires small { length layer.old.bytes ≤ MAX_FILE }
     requires read { layer.old.count ≤ MAX_FILE }
-    ensures { (trees : List Geometry) → IsCertifiedLayer trees layer.old.bytes → OnOk result (out.new.items ≡ out.old.items ++ layer_text request.now trees (length layer.old.bytes)) }
+    ensures { OfLayer layer.old.bytes (λ trees.
+        OnOk result (out.new.items ≡ out.old.items ++ layer_text request.now trees (length layer.old.bytes))) }
 {
     match request {
         Request::Check | Request::CheckTight => {
@@ -46,7 +47,8 @@ fn push_list<'a, A: Allocator>(
     out: &mut Vec<u8, &'a A>,
     layer: &mut Certified,
 ) -> Result<(), AllocError>
-    ensures { (trees : List Geometry) → IsCertifiedLayer trees layer.old.bytes → OnOk result (out.new.items ≡ out.old.items ++ flat_map row_line (rows trees)) }
+    ensures { OfLayer layer.old.bytes (λ trees.
+        OnOk result (out.new.items ≡ out.old.items ++ flat_map row_line (rows trees))) }
 {
     let rows = layer.list_in(alloc)?;
     push_rows(out, rows.as_slice())
@@ -73,7 +75,8 @@ fn push_scan<'a, A: Allocator>(
     requires few { length windows.now ≤ 64 }
     requires small { length layer.old.bytes ≤ MAX_FILE }
     requires read { layer.old.count ≤ MAX_FILE }
-    ensures { (trees : List Geometry) → IsCertifiedLayer trees layer.old.bytes → OnOk result (out.new.items ≡ out.old.items ++ scan_text windows.now trees (length layer.old.bytes)) }
+    ensures { OfLayer layer.old.bytes (λ trees.
+        OnOk result (out.new.items ≡ out.old.items ++ scan_text windows.now trees (length layer.old.bytes))) }
 {
     let mut room = room_for(alloc, layer.blobs())?;
     if let [window] = windows {
@@ -99,9 +102,11 @@ fn push_window<A: Allocator>(
     window: &Window,
     room: &mut [Hit],
 ) -> Result<(), AllocError>
-    requires room { (trees : List Geometry) × IsCertifiedLayer trees layer.old.bytes × (length trees ≤ length room.old) }
+    requires room { (trees : List Geometry) × IsCertifiedLayer trees layer.old.bytes
+        × (length trees ≤ length room.old) }
     requires read { layer.old.count + length layer.old.bytes < 2 ^ 64 - 1 }
-    ensures { (trees : List Geometry) → IsCertifiedLayer trees layer.old.bytes → OnOk result (out.new.items ≡ out.old.items ++ window_text cost trees (length layer.old.bytes) window.now) }
+    ensures { OfLayer layer.old.bytes (λ trees.
+        OnOk result (out.new.items ≡ out.old.items ++ window_text cost trees (length layer.old.bytes) window.now)) }
 {
     let before = layer.read_count();
     let found = layer.scan(window, room);
@@ -118,11 +123,14 @@ fn push_windows<A: Allocator, D: Allocator>(
     room: &mut [Hit],
 ) -> Result<(), AllocError>
     requires directory { IsDirectoryOf directory.now layer.old.bytes }
-    requires room { (trees : List Geometry) × IsCertifiedLayer trees layer.old.bytes × (length trees ≤ length room.old) }
+    requires room { (trees : List Geometry) × IsCertifiedLayer trees layer.old.bytes
+        × (length trees ≤ length room.old) }
     requires few { length windows.now ≤ 64 }
     requires small { length layer.old.bytes ≤ MAX_FILE }
     requires read { layer.old.count ≤ 3 * MAX_FILE }
-    ensures { (trees : List Geometry) → IsCertifiedLayer trees layer.old.bytes → OnOk result (out.new.items ≡ out.old.items ++ flat_map (window_text directory_cost trees (length layer.old.bytes)) windows.now) }
+    ensures { OfLayer layer.old.bytes (λ trees.
+        OnOk result (out.new.items ≡ out.old.items
+        ++ flat_map (window_text directory_cost trees (length layer.old.bytes)) windows.now)) }
 {
     for window in windows {
         push_window_at(out, layer, directory, window, room)?;
@@ -139,9 +147,12 @@ fn push_window_at<A: Allocator, D: Allocator>(
     room: &mut [Hit],
 ) -> Result<(), AllocError>
     requires directory { IsDirectoryOf directory.now layer.old.bytes }
-    requires room { (trees : List Geometry) × IsCertifiedLayer trees layer.old.bytes × (length trees ≤ length room.old) }
+    requires room { (trees : List Geometry) × IsCertifiedLayer trees layer.old.bytes
+        × (length trees ≤ length room.old) }
     requires read { layer.old.count + length layer.old.bytes < 2 ^ 64 - 1 }
-    ensures text { (trees : List Geometry) → IsCertifiedLayer trees layer.old.bytes → OnOk result (out.new.items ≡ out.old.items ++ window_text directory_cost trees (length layer.old.bytes) window.now) }
+    ensures text { OfLayer layer.old.bytes (λ trees.
+        OnOk result (out.new.items ≡ out.old.items
+        ++ window_text directory_cost trees (length layer.old.bytes) window.now)) }
     ensures bytes { layer.new.bytes ≡ layer.old.bytes }
     ensures few { AddsAtMost (length layer.old.bytes) layer.old.count layer.new.count }
 {
@@ -161,7 +172,8 @@ fn push_found<A: Allocator>(
     len: usize,
 ) -> Result<(), AllocError>
     requires { found ≤ length room.now }
-    ensures { OnOk result (out.new.items ≡ out.old.items ++ (flat_map hit_line (take found room.now) ++ end_line found read len)) }
+    ensures { OnOk result (out.new.items ≡ out.old.items
+        ++ (flat_map hit_line (take found room.now) ++ end_line found read len)) }
 {
     push_hits(out, &room[..found])?;
     push_end_line(out, found, read, len)

@@ -3,8 +3,8 @@
 //! `clap` judges the words by the command (`command`), and what it found (`found`) is read into a [`Line`], whose windows
 //! are texts of their own (`windows`). What each of these answers is an equation or a relation of `specs/Words.antt`.
 ghost use Rattle.std.specs.List.{list_all};
-ghost use Rattle.std.specs.Prelude.{◌≡◌, ◌≢◌, List, [], ◌∷◌, map, codes, true, option_map, IfOk, IfErr, OnOk, IsErrAnd};
-ghost use Rattle.clap.specs.Words.{Text, app_of, fault_of, found_of, rows_of, subcommand_of, subcommand_rows_of};
+ghost use Rattle.std.specs.Prelude.{◌≡◌, ◌≢◌, List, [], ◌∷◌, map, codes, true, IfOk, IfErr, OnOk, IsErrAnd};
+ghost use Rattle.clap.specs.Words.{Text, fault_of, found_of, rows_of, subcommand_of, subcommand_rows_of};
 ghost use Rattle.twkb_tool.specs.Words.{tool_app, AsksFor, HoldsWindows, IsLineOf, IsRefused, IsScanOf, Reads, IsRefusalOrMemory, Answers, is_value};
 
 mod command;
@@ -42,13 +42,23 @@ pub enum Usage {
 
 /// The line that the words make; the first of them is the program's name.
 pub fn request_of<S: AsStr>(alloc: Global, words: &[S]) -> Result<Line, Usage>
-    ensures refused { fault_of tool_app (map S.text words.now) ≢ [] → IsErrAnd result (IsRefusalOrMemory (fault_of tool_app (map S.text words.now))) }
-    ensures parsed { fault_of tool_app (map S.text words.now) ≡ [] → Answers (subcommand_of tool_app (map S.text words.now)) result }
-    ensures check { (program file : Text) → map S.text words.now ≡ program ∷ codes "check" ∷ file ∷ [] → is_value file ≡ true → IsLineOf file Request.Check result }
-    ensures tight { (program file : Text) → map S.text words.now ≡ program ∷ codes "check" ∷ codes "--tight" ∷ file ∷ [] → is_value file ≡ true → IsLineOf file Request.CheckTight result }
-    ensures tight_behind { (program file : Text) → map S.text words.now ≡ program ∷ codes "check" ∷ file ∷ codes "--tight" ∷ [] → is_value file ≡ true → IsLineOf file Request.CheckTight result }
-    ensures list { (program file : Text) → map S.text words.now ≡ program ∷ codes "list" ∷ file ∷ [] → is_value file ≡ true → IsLineOf file Request.List result }
-    ensures scan { (program file window : Text) (windows : List Text) → map S.text words.now ≡ program ∷ codes "scan" ∷ file ∷ window ∷ windows → is_value file ≡ true → list_all is_value (window ∷ windows) ≡ true → IsScanOf file (window ∷ windows) result }
+    ensures refused { fault_of tool_app (map S.text words.now) ≢ []
+        → IsErrAnd result (IsRefusalOrMemory (fault_of tool_app (map S.text words.now))) }
+    ensures parsed { fault_of tool_app (map S.text words.now) ≡ []
+        → Answers (subcommand_of tool_app (map S.text words.now)) result }
+    ensures check { (program file : Text) → map S.text words.now ≡ program ∷ codes "check" ∷ file ∷ []
+        → is_value file ≡ true → IsLineOf file Request.Check result }
+    ensures tight { (program file : Text) → map S.text words.now ≡ program ∷ codes "check" ∷ codes "--tight" ∷ file ∷ []
+        → is_value file ≡ true → IsLineOf file Request.CheckTight result }
+    ensures tight_behind { (program file : Text)
+        → map S.text words.now ≡ program ∷ codes "check" ∷ file ∷ codes "--tight" ∷ []
+        → is_value file ≡ true → IsLineOf file Request.CheckTight result }
+    ensures list { (program file : Text) → map S.text words.now ≡ program ∷ codes "list" ∷ file ∷ []
+        → is_value file ≡ true → IsLineOf file Request.List result }
+    ensures scan { (program file window : Text) (windows : List Text)
+        → map S.text words.now ≡ program ∷ codes "scan" ∷ file ∷ window ∷ windows
+        → is_value file ≡ true → list_all is_value (window ∷ windows) ≡ true
+        → IsScanOf file (window ∷ windows) result }
     ensures windows { IfOk result (λ line. HoldsWindows line.request) }
 {
     // The proof knows from here that the count of the words fits.
@@ -58,8 +68,10 @@ pub fn request_of<S: AsStr>(alloc: Global, words: &[S]) -> Result<Line, Usage>
 
 /// The line that `clap`'s matches of the words make.
 fn line_by_clap<S: AsStr>(alloc: Global, words: &[S]) -> Result<Line, Usage>
-    ensures refused { fault_of tool_app (map S.text words.now) ≢ [] → IsErrAnd result (IsRefusalOrMemory (fault_of tool_app (map S.text words.now))) }
-    ensures parsed { fault_of tool_app (map S.text words.now) ≡ [] → Answers (subcommand_of tool_app (map S.text words.now)) result }
+    ensures refused { fault_of tool_app (map S.text words.now) ≢ []
+        → IsErrAnd result (IsRefusalOrMemory (fault_of tool_app (map S.text words.now))) }
+    ensures parsed { fault_of tool_app (map S.text words.now) ≡ []
+        → Answers (subcommand_of tool_app (map S.text words.now)) result }
     ensures windows { IfOk result (λ line. HoldsWindows line.request) }
 {
     let matches = matches_of(alloc, words)?;

@@ -19,7 +19,16 @@ starts_fraction (c ∷ cs) = (c == 46) && starts_digit cs
 abbrev pub ends : List ℕ → Bool
 ends text = not (starts_digit text) && not (starts_fraction text)
 
+-- a front was passed that is the text of this value
+abbrev pub Passes : {A : Type 0} → (List ℕ → A → Type 0) → List ℕ → List ℕ → A → Type 0
+Passes IsText old new x = (front : List ℕ) × (old ≡ front ++ new) × IsText front x
+
+-- whatever text stands there is read, where no number goes on behind it
+abbrev pub ReadsEach : {A : Type 0} → (List ℕ → A → Type 0) → List ℕ → List ℕ → Option A → Type 0
+ReadsEach {A} IsText old new result = (front behind : List ℕ) (x : A) → old ≡ front ++ behind → IsText front x
+    → ends behind ≡ true → (result ≡ Some x) × (new ≡ behind)
+
 -- a name and a range are read exactly where they stand, and no number goes on behind them
 pub record ReadsSpan (name old new : List ℕ) (result : Option Span) : Type 0 where
-  pub some : IfSome result (λ span. (front : List ℕ) × (old ≡ front ++ new) × IsNamedText name front span)
-  pub exact : (front behind : List ℕ) (span : Span) → old ≡ front ++ behind → IsNamedText name front span → ends behind ≡ true → (result ≡ Some span) × (new ≡ behind)
+  pub some : IfSome result (Passes (IsNamedText name) old new)
+  pub exact : ReadsEach (IsNamedText name) old new result

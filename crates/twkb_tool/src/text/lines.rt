@@ -15,7 +15,8 @@ pub fn push_no_line<A: Allocator>(
     kind: u8,
 ) -> Result<(), AllocError>
     requires { (1 ≤ kind) × (kind ≤ 9) }
-    ensures { OnOk result ((word : List ℕ) × (word_of kind ≡ Some word) × (out.new.items ≡ out.old.items ++ no_line blob offset word)) }
+    ensures { OnOk result ((word : List ℕ) × (word_of kind ≡ Some word)
+        × (out.new.items ≡ out.old.items ++ no_line blob offset word)) }
 {
     push_number(out, "no blob=", blob)?;
     push_number(out, " offset=", offset)?;

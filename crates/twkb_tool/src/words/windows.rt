@@ -26,7 +26,8 @@ pub fn windows_of(alloc: Global, texts: &[&str]) -> Result<Vec<Window>, Usage>
 
 /// Reads the text of this number as a window, and pushes it.
 fn push_window(windows: &mut Vec<Window>, number: usize, text: &str) -> Result<(), Usage>
-    ensures ok { OnOk result ((window : Bounds) × IsWindow text.now window × (windows.new.items ≡ windows.old.items ++ window ∷ [])) }
+    ensures ok { OnOk result ((window : Bounds) × IsWindow text.now window
+        × (windows.new.items ≡ windows.old.items ++ window ∷ [])) }
     ensures err { IfErr result (IsNoWindowMore number text.now) }
 {
     match window_of(text) {

@@ -109,7 +109,11 @@ impl<A: Allocator> Sink for MemSink<A> {
         ensures err { OnErr result (self.new.state ≡ record self.old.state { failed = true; flushing = false }) }
         ensures fails { is_err result ≡ puts_fail self.old (length piece.now) }
         ensures most { IfOk result (λ n. n ≡ min (min self.old.step self.old.room) (length piece.now)) }
-        ensures next { self.new ≡ record self.old { state = self.new.state; room = self.new.room; next = number_after self.old.next } }
+        ensures next { self.new ≡ record self.old {
+          state = self.new.state;
+          room = self.new.room;
+          next = number_after self.old.next;
+        } }
         ensures room { self.new.room ≡ self.old.room - result_unwrap_or result 0 }
     {
         self.flushing = false;
