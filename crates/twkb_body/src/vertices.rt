@@ -1,5 +1,5 @@
 //! The points under one header as vertices, each shown to a visitor.
-ghost use Rattle.std.specs.Prelude.{◌≡◌, ◌≤◌, ◌≤ℤ◌, ◌^◌, ◌∷◌, IfSome, IsTrue, ◌↔◌, pos, neg_ℤ, option_map};
+ghost use Rattle.std.specs.Prelude.{◌≡◌, ◌≤◌, ◌≤ℤ◌, ◌+◌, ◌*◌, ◌^◌, ◌∷◌, IfNone, IfSome, IsTrue, ◌↔◌, pos, neg_ℤ, option_map};
 ghost use Rattle.twkb_num.specs.Units.{IsPrecision, units_of};
 ghost use Rattle.twkb_head.specs.Header.{axes_with};
 ghost use Rattle.twkb_body.specs.Geometry.{PointValue, vertex_of};
@@ -99,7 +99,10 @@ fn show_flat_run<V: Visit>(
 
 /// Where the geometry ends, by its size, or a place before, since each of the points that are left takes two bytes at least.
 #[inline(always)]
-fn end_of(head: &Head, place: usize, left: u64) -> usize {
+fn end_of(head: &Head, place: usize, left: u64) -> usize
+    ensures sized { IfSome head.now.size (λ size. result ≤ size.after + size.value) }
+    ensures bare { IfNone head.now.size (result ≤ place + left * 2) }
+{
     match head.size {
         Some(size) => size.after.saturating_add(size.value as usize),
         None => place.saturating_add((left as usize).saturating_mul(2)),
