@@ -1,10 +1,10 @@
 //! What one pass carries of what it has read, and the judging of claims.
 ghost use Rattle.std.specs.Prelude.{◌≡◌, ◌+◌, ◌^◌, ◌<◌, ◌≤◌, IfSome, None};
-ghost use Rattle.twkb_num.specs.Units.{IsPrecision};
 ghost use Rattle.twkb_body.specs.Devices.Inside.{of_head};
 ghost use Rattle.twkb_body.specs.Devices.Pass.{first, false_at, is_tight};
 ghost use Rattle.twkb_body.specs.Devices.Found.{named, size_judged, box_judged};
 ghost use Rattle.twkb_body.specs.Audited.{number_of};
+ghost use Rattle.twkb_body.specs.Devices.Walk.{HasPrecisions};
 
 use crate::answers::Claim;
 use crate::extent::Extent;
@@ -69,9 +69,7 @@ pub fn judge_size(size: Option<SizeField>, stop: usize) -> Option<FalseClaim>
 /// The box, if some vertex of this extent is outside, or in tight checking if it is loose.
 #[inline(always)]
 pub fn judge_box(head: &Head, extent: &Extent, tight: bool) -> Option<FalseClaim>
-    requires xy { IsPrecision head.now.xy }
-    requires z_high { IfSome head.now.z (λ p. p ≤ 7) }
-    requires m_high { IfSome head.now.m (λ p. p ≤ 7) }
+    requires precisions { HasPrecisions head.now }
     ensures { named result ≡ box_judged tight (of_head head.now) head.now.bounds extent.now }
 {
     match &head.bounds {
@@ -90,9 +88,7 @@ pub fn judge_box(head: &Head, extent: &Extent, tight: bool) -> Option<FalseClaim
 /// The box, if it is loose at the precisions of its header.
 #[inline(always)]
 fn judge_tight(head: &Head, field: &BoxField, extent: &Extent) -> Option<FalseClaim>
-    requires xy { IsPrecision head.now.xy }
-    requires z_high { IfSome head.now.z (λ p. p ≤ 7) }
-    requires m_high { IfSome head.now.m (λ p. p ≤ 7) }
+    requires precisions { HasPrecisions head.now }
     ensures { named result ≡ false_at (is_tight head.now.xy head.now.z head.now.m field.now.bounds extent.now) field.now.offset 9 }
 {
     let hugs = extent.tight(&field.bounds, head.xy, head.z, head.m);

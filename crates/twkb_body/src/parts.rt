@@ -1,14 +1,12 @@
 //! The parts of a body that is no collection's: points, lines and polygons. An audit and a skim read them alike, and differ
 //! in what they add the points to.
-ghost use Rattle.std.specs.Prelude.{◌≡◌, ◌≤◌, IfSome, flat_map};
-ghost use Rattle.twkb_num.specs.Units.{IsPrecision};
-ghost use Rattle.twkb_head.specs.Header.{axes_with};
+ghost use Rattle.std.specs.Prelude.{◌≡◌, flat_map};
 ghost use Rattle.twkb_head.specs.Devices.Reader.{many_at, Reads};
 ghost use Rattle.twkb_body.specs.Devices.Body.{ring_sums};
 ghost use Rattle.twkb_body.specs.Devices.BodyReader.{ring_at, polygon_at, part_at};
 ghost use Rattle.twkb_body.specs.Geometry.{points_of};
 ghost use Rattle.twkb_body.specs.Devices.Inside.{of_head};
-ghost use Rattle.twkb_body.specs.Devices.Walk.{IsWalked};
+ghost use Rattle.twkb_body.specs.Devices.Walk.{IsWalk, IsWalked};
 
 use crate::fields::take_number;
 use crate::points::Points;
@@ -26,11 +24,7 @@ pub fn take_parts<P: Points>(
     trail: &mut Trail,
     points: &mut P,
 ) -> Result<(), Malformed>
-    requires xy { IsPrecision head.now.xy }
-    requires z_high { IfSome head.now.z (λ p. p ≤ 7) }
-    requires m_high { IfSome head.now.m (λ p. p ≤ 7) }
-    requires axes { axes ≡ axes_with head.now.z head.now.m }
-    requires counted { trail.old.points ≤ cursor.old.place }
+    requires walk { IsWalk head.now axes trail.old cursor.old }
     ensures { Reads (many_at count ring_sums (part_at head.now.kind axes) trail.old.last cursor.old) (λ parts done. IsWalked (P.step (of_head head.now)) axes trail.old trail.new (P.state points.old) (P.state points.new) cursor.old.place cursor.new.place (points_of parts)) result cursor.new }
 {
     for _ in 0..count {
@@ -48,11 +42,7 @@ fn take_part<P: Points>(
     trail: &mut Trail,
     points: &mut P,
 ) -> Result<(), Malformed>
-    requires xy { IsPrecision head.now.xy }
-    requires z_high { IfSome head.now.z (λ p. p ≤ 7) }
-    requires m_high { IfSome head.now.m (λ p. p ≤ 7) }
-    requires axes { axes ≡ axes_with head.now.z head.now.m }
-    requires counted { trail.old.points ≤ cursor.old.place }
+    requires walk { IsWalk head.now axes trail.old cursor.old }
     ensures { Reads (part_at head.now.kind axes trail.old.last cursor.old) (λ part done. IsWalked (P.step (of_head head.now)) axes trail.old trail.new (P.state points.old) (P.state points.new) cursor.old.place cursor.new.place (flat_map (λ ring. ring) part)) result cursor.new }
 {
     match head.kind {
@@ -72,11 +62,7 @@ fn take_polygon<P: Points>(
     trail: &mut Trail,
     points: &mut P,
 ) -> Result<(), Malformed>
-    requires xy { IsPrecision head.now.xy }
-    requires z_high { IfSome head.now.z (λ p. p ≤ 7) }
-    requires m_high { IfSome head.now.m (λ p. p ≤ 7) }
-    requires axes { axes ≡ axes_with head.now.z head.now.m }
-    requires counted { trail.old.points ≤ cursor.old.place }
+    requires walk { IsWalk head.now axes trail.old cursor.old }
     ensures { Reads (polygon_at axes trail.old.last cursor.old) (λ polygon done. IsWalked (P.step (of_head head.now)) axes trail.old trail.new (P.state points.old) (P.state points.new) cursor.old.place cursor.new.place (flat_map (λ ring. ring) polygon)) result cursor.new }
 {
     let count = take_number(cursor)?;
@@ -95,11 +81,7 @@ fn take_ring<P: Points>(
     trail: &mut Trail,
     points: &mut P,
 ) -> Result<(), Malformed>
-    requires xy { IsPrecision head.now.xy }
-    requires z_high { IfSome head.now.z (λ p. p ≤ 7) }
-    requires m_high { IfSome head.now.m (λ p. p ≤ 7) }
-    requires axes { axes ≡ axes_with head.now.z head.now.m }
-    requires counted { trail.old.points ≤ cursor.old.place }
+    requires walk { IsWalk head.now axes trail.old cursor.old }
     ensures { Reads (ring_at axes trail.old.last cursor.old) (λ ring done. IsWalked (P.step (of_head head.now)) axes trail.old trail.new (P.state points.old) (P.state points.new) cursor.old.place cursor.new.place ring) result cursor.new }
 {
     let count = take_number(cursor)?;

@@ -1,10 +1,9 @@
 //! What is done with the points under one header.
-ghost use Rattle.std.specs.Prelude.{◌≡◌, ◌≤◌, IfSome};
-ghost use Rattle.twkb_num.specs.Units.{IsPrecision};
-ghost use Rattle.twkb_head.specs.Header.{Header, axes_with};
+ghost use Rattle.std.specs.Prelude.{◌≡◌, ◌≤◌};
+ghost use Rattle.twkb_head.specs.Header.{Header};
 ghost use Rattle.twkb_body.specs.Geometry.{PointValue};
 ghost use Rattle.twkb_body.specs.Devices.Inside.{of_head};
-ghost use Rattle.twkb_body.specs.Devices.Walk.{IsRun};
+ghost use Rattle.twkb_body.specs.Devices.Walk.{HasPrecisions, IsWalk, IsRun};
 
 use crate::trail::Trail;
 use twkb_head::Head;
@@ -22,9 +21,7 @@ pub trait Points {
 
     /// One point more: its coordinates in the order of the axes.
     fn add(&mut self, head: &Head, point: &[i64; 4])
-        requires xy { IsPrecision head.now.xy }
-        requires z_high { IfSome head.now.z (λ p. p ≤ 7) }
-        requires m_high { IfSome head.now.m (λ p. p ≤ 7) }
+        requires precisions { HasPrecisions head.now }
         ensures { state self.new ≡ step (of_head head.now) (state self.old) point.now };
 
     /// Reads points ahead, from words of eight bytes: some of those at the place, and at most so many. Answers how many
@@ -37,11 +34,7 @@ pub trait Points {
         most: u64,
         trail: &mut Trail,
     ) -> u64
-        requires xy { IsPrecision head.now.xy }
-        requires z_high { IfSome head.now.z (λ p. p ≤ 7) }
-        requires m_high { IfSome head.now.m (λ p. p ≤ 7) }
-        requires axes { axes ≡ axes_with head.now.z head.now.m }
-        requires counted { trail.old.points ≤ cursor.old.place }
+        requires walk { IsWalk head.now axes trail.old cursor.old }
         ensures few { result ≤ most }
         ensures run { IsRun (step (of_head head.now)) axes trail.old trail.new (state self.old) (state self.new) cursor.old cursor.new result };
 }

@@ -6,9 +6,9 @@
 ghost use Rattle.std.specs.Prelude.{◌≡◌, ◌-◌, ◌+◌, ◌≤◌, None, false, true, Some, IfSome, IfNone, IsTrue};
 ghost use Rattle.twkb_num.specs.Units.{IsPrecision};
 ghost use Rattle.twkb_head.specs.BegunHeader.{deepest, is_collection, IsAllowedAt};
-ghost use Rattle.twkb_head.specs.Header.{axes_with};
 ghost use Rattle.twkb_body.specs.Devices.Found.{size_judged};
 ghost use Rattle.twkb_body.specs.Devices.Sure.{framed, IsSureBody, IsSure};
+ghost use Rattle.twkb_body.specs.Devices.Walk.{HasPrecisions};
 
 mod parts;
 
@@ -155,9 +155,7 @@ fn take_further_body(
 ) -> Option<usize>
     requires shallowest { 1 ≤ depth }
     requires allowed { IsAllowedAt head.now.kind depth }
-    requires xy { IsPrecision head.now.xy }
-    requires z_high { IfSome head.now.z (λ p. p ≤ 7) }
-    requires m_high { IfSome head.now.m (λ p. p ≤ 7) }
+    requires precisions { HasPrecisions head.now }
     requires full { head.now.empty ≡ false }
     requires frame { IfSome frame.now (λ f. f ≡ framed head.now f.bounds) }
     ensures { IfSome result (IsSureBody (deepest - depth) head.now frame.now cursor.old cursor.new) }
@@ -236,9 +234,7 @@ fn take_further_shape(
     head: &Head,
     frame: &Option<Frame>,
 ) -> Option<usize>
-    requires xy { IsPrecision head.now.xy }
-    requires z_high { IfSome head.now.z (λ p. p ≤ 7) }
-    requires m_high { IfSome head.now.m (λ p. p ≤ 7) }
+    requires precisions { HasPrecisions head.now }
     requires full { head.now.empty ≡ false }
     requires kind { is_collection head.now.kind ≡ false }
     requires frame { IfSome frame.now (λ f. f ≡ framed head.now f.bounds) }

@@ -4,7 +4,7 @@ ghost use Rattle.twkb_num.specs.Units.{IsPrecision, units_of};
 ghost use Rattle.twkb_head.specs.Header.{axes_with};
 ghost use Rattle.twkb_body.specs.Geometry.{PointValue, vertex_of};
 ghost use Rattle.twkb_body.specs.Devices.Inside.{of_head};
-ghost use Rattle.twkb_body.specs.Devices.Walk.{IsRun, shown};
+ghost use Rattle.twkb_body.specs.Devices.Walk.{HasPrecisions, IsRun, shown};
 
 use crate::points::Points;
 use crate::trail::Trail;
@@ -127,9 +127,7 @@ fn flat_vertex(x: i64, y: i64, head: &Head) -> Vertex
 /// The vertex of a point, by the precisions of a header.
 #[inline(always)]
 fn vertex_at(head: &Head, point: &[i64; 4]) -> Vertex
-    requires xy { IsPrecision head.now.xy }
-    requires z_high { IfSome head.now.z (λ p. p ≤ 7) }
-    requires m_high { IfSome head.now.m (λ p. p ≤ 7) }
+    requires precisions { HasPrecisions head.now }
     ensures { result ≡ vertex_of (of_head head.now) point.now }
 {
     Vertex {

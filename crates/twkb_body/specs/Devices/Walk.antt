@@ -1,14 +1,24 @@
 -- Devices of proofs: nothing public names them.
 -- What reading numbers does to the differences under one header, and to what their points are added to.
-use Rattle.std.specs.Prelude.{◌≡◌, ℕ, ◌+◌, ◌≤◌, List, [], ◌∷◌, length, fold, Ok}
+use Rattle.std.specs.Prelude.{◌≡◌, ℕ, ◌+◌, ◌≤◌, List, [], ◌∷◌, length, fold, IfSome, Ok}
 use Rattle.twkb_num.specs.Cursor.{Reading}
+use Rattle.twkb_num.specs.Units.{IsPrecision}
 use Rattle.twkb_head.specs.declared.boxes.Vertex.{Vertex}
-use Rattle.twkb_head.specs.Header.{Header}
+use Rattle.twkb_head.specs.declared.header.Head.{Head}
+use Rattle.twkb_head.specs.Header.{Header, axes_with}
 use Rattle.twkb_head.specs.Devices.Reader.{many_at}
 use Rattle.twkb_body.specs.declared.trail.Trail.{Trail}
 use Rattle.twkb_body.specs.Geometry.{PointValue, vertex_of}
 use Rattle.twkb_body.specs.Devices.Body.{add, sums, map_from}
 use Rattle.twkb_body.specs.Devices.BodyReader.{point_at}
+
+-- the precisions of a header lie in their ranges
+abbrev pub HasPrecisions : Head → Type 0
+HasPrecisions head = IsPrecision head.xy × IfSome head.z (λ p. p ≤ 7) × IfSome head.m (λ p. p ≤ 7)
+
+-- What a pass over the points under a header carries: how many axes they have, and no more points than bytes.
+abbrev pub IsWalk : Head → ℕ → Trail → Reading → Type 0
+IsWalk head axes trail r = HasPrecisions head × (axes ≡ axes_with head.z head.m) × (trail.points ≤ r.place)
 
 -- each point has so many numbers
 abbrev pub HaveAxes : ℕ → List PointValue → Type 0

@@ -8,6 +8,7 @@ ghost use Rattle.twkb_body.specs.Devices.BodyReader.{count_at, list_at};
 ghost use Rattle.twkb_body.specs.Devices.IdLists.{IsListFound};
 ghost use Rattle.twkb_body.specs.Devices.Inside.{of_head};
 ghost use Rattle.twkb_body.specs.Devices.Sure.{AddsParts, AddsHeld};
+ghost use Rattle.twkb_body.specs.Devices.Walk.{HasPrecisions};
 
 use crate::bare::pass_parts;
 use crate::boxed::Boxed;
@@ -151,9 +152,7 @@ pub fn take_parts_of<P: Points>(
     axes: usize,
     points: &mut P,
 ) -> Option<usize>
-    requires xy { IsPrecision head.now.xy }
-    requires z_high { IfSome head.now.z (λ p. p ≤ 7) }
-    requires m_high { IfSome head.now.m (λ p. p ≤ 7) }
+    requires precisions { HasPrecisions head.now }
     requires axes { axes ≡ axes_with head.now.z head.now.m }
     ensures { IfSome result (AddsParts (P.step (of_head head.now)) head.now.kind head.now.ids axes cursor.old cursor.new (P.state points.old) (P.state points.new)) }
 {

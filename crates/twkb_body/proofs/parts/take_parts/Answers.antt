@@ -8,10 +8,10 @@ use Rattle.twkb_body.proofs.Sums.{rings_sums_flat}
 use Rattle.twkb_body.proofs.Walks.{walk_goes_on, walk_fails, walk_ends, part_points}
 use Rattle.twkb_body.proofs.parts.take_parts.Goals as goal
 
-pub take_part-requires-clause-counted : goal.take_part-requires-clause-counted
-take_part-requires-clause-counted g c =
+pub take_part-requires : goal.take_part-requires
+take_part-requires g c =
     let w = c.loop.invariant.walked in
-    omega (arith, w.points, w.ahead, c.requires.counted)
+    record { walk = (c.requires.walk.0, c.requires.walk.1, omega (arith, w.points, w.ahead, c.requires.walk.2)) }
 
 pub returns-in_err-take_part : goal.returns-in_err-take_part
 returns-in_err-take_part g c =

@@ -7,10 +7,10 @@ use Rattle.twkb_body.specs.Devices.Inside.{of_head}
 use Rattle.twkb_body.proofs.Walks.{number_ahead, walk_goes_on, counted_fails, counted_ends, ring_points, rings_are_sums}
 use Rattle.twkb_body.proofs.parts.take_polygon.Goals as goal
 
-pub take_ring-requires-clause-counted : goal.take_ring-requires-clause-counted
-take_ring-requires-clause-counted g c =
+pub take_ring-requires : goal.take_ring-requires
+take_ring-requires g c =
     let w = c.loop.invariant.walked in
-    omega (arith, w.points, w.ahead, number_ahead _ _ _ c.in_ok-count.ensures, c.requires.counted)
+    record { walk = (c.requires.walk.0, c.requires.walk.1, omega (arith, w.points, w.ahead, number_ahead _ _ _ c.in_ok-count.ensures, c.requires.walk.2)) }
 
 pub returns-in_err-take_ring : goal.returns-in_err-take_ring
 returns-in_err-take_ring g c =

@@ -10,16 +10,16 @@ use Rattle.twkb_body.proofs.Runs.{ring_goes_far}
 use Rattle.twkb_body.proofs.Walks.{number_ahead, walk_goes_on, counted_fails, counted_ends, one_point, add_is_sums}
 use Rattle.twkb_body.proofs.parts.take_ring.Goals as goal
 
-pub take_run-done-requires-clause-counted : goal.take_run-done-requires-clause-counted
-take_run-done-requires-clause-counted g c =
+pub take_run-done-requires : goal.take_run-done-requires
+take_run-done-requires g c =
     let w = c.loop-done.invariant.read.walked in
-    omega (arith, w.points, w.ahead, number_ahead _ _ _ c.in_ok-count.ensures, c.requires.counted)
+    record { walk = (c.requires.walk.0, c.requires.walk.1, omega (arith, w.points, w.ahead, number_ahead _ _ _ c.in_ok-count.ensures, c.requires.walk.2)) }
 
-pub take_point-requires-clause-counted : goal.take_point-requires-clause-counted
-take_point-requires-clause-counted g c =
+pub take_point-requires : goal.take_point-requires
+take_point-requires g c =
     let w = c.loop-done.invariant.read.walked in
     let run = c.take_run-done.ensures.run.walked in
-    omega (arith, w.points, w.ahead, run.points, run.ahead, number_ahead _ _ _ c.in_ok-count.ensures, c.requires.counted)
+    record { walk = (c.requires.walk.0, c.requires.walk.1, omega (arith, w.points, w.ahead, run.points, run.ahead, number_ahead _ _ _ c.in_ok-count.ensures, c.requires.walk.2)) }
 
 pub returns-in_err-take_point : goal.returns-in_err-take_point
 returns-in_err-take_point g c =

@@ -13,7 +13,7 @@ returns-in_err-coordinate g c =
     let p = err_from_is_err_and c.from_residual.result c.from_residual.ensures.1 in
     let before : to_z w64 (of_z w64 (slice_index_or c.loop-axis.trail.last c.loop-axis.axis (pos 0))) ≡ slice_index_or c.loop-axis.trail.last c.loop-axis.axis (pos 0) = omega (arith, ints) in
     let read = rw before at c.in_err-coordinate.ensures in
-    rw (p.1, p.2) (point_fails _ _ _ c.loop-axis.axis _ _ _ _ c.loop-axis-test.true (omega (arith, c.requires.axes, axes_few c.args.head.now.z c.args.head.now.m)) read c.loop-axis.invariant)
+    rw (p.1, p.2) (point_fails _ _ _ c.loop-axis.axis _ _ _ _ c.loop-axis-test.true (omega (arith, c.requires.walk.1, axes_few c.args.head.now.z c.args.head.now.m)) read c.loop-axis.invariant)
 
 pub loop-axis-preserved : goal.loop-axis-preserved
 loop-axis-preserved g c =
@@ -21,7 +21,7 @@ loop-axis-preserved g c =
     let after : to_z w64 (of_z w64 c.in_ok-coordinate.coordinate) ≡ c.in_ok-coordinate.coordinate = omega (arith, ints) in
     let read = rw before at c.in_ok-coordinate.ensures.1 in
     let sum = rw before at c.in_ok-coordinate.ensures.2 in
-    point_goes_on _ _ _ c.loop-axis.axis _ _ _ _ c.in_ok-coordinate.ensures.0 c.in_ok-coordinate.coordinate c.loop-axis-test.true (omega (arith, c.requires.axes, axes_few c.args.head.now.z c.args.head.now.m)) read sum (rw after refl) refl c.loop-axis.invariant
+    point_goes_on _ _ _ c.loop-axis.axis _ _ _ _ c.in_ok-coordinate.ensures.0 c.in_ok-coordinate.coordinate c.loop-axis-test.true (omega (arith, c.requires.walk.1, axes_few c.args.head.now.z c.args.head.now.m)) read sum (rw after refl) refl c.loop-axis.invariant
 
 pub returns : goal.returns
 returns g c =
