@@ -1,5 +1,5 @@
 -- What is kept of each blob, on its way from blob to blob; and what is read of one.
-use Rattle.std.proofs.Common.{◌≡◌, ℕ, ℤ, ◌+◌, ◌-◌, ◌*◌, ◌^◌, ◌<◌, ◌≤◌, Bool, List, [], ◌∷◌, ◌++◌, length, drop, fold, Option, Some, None, option_map, is_some, refl, ap, subst, sym, ◌∙◌, arith, length-append, length-drop, append_assoc}
+use Rattle.std.proofs.Common.{◌≡◌, ℕ, ℤ, ◌+◌, ◌-◌, ◌*◌, ◌^◌, ◌<◌, ◌≤◌, Bool, List, [], ◌∷◌, ◌++◌, length, drop, fold, map, slice_set, ◌⊎◌, inl, inr, Option, Some, None, option_map, is_some, refl, ap, subst, sym, ◌∙◌, arith, length-append, length-drop, append_assoc}
 use Rattle.std.proofs.lemmas.List.{append-nil}
 use Rattle.twkb_num.specs.Cursor.{Reading, added, passed, IsMoved}
 use Rattle.twkb_head.specs.declared.header.BoxField.{BoxField}
@@ -17,11 +17,13 @@ use Rattle.twkb_body.proofs.Orders.{blob_order}
 use Rattle.twkb_body.proofs.VertexCounts.{blob_few}
 use Rattle.twkb_body.proofs.WalkLengths.{walk_all, walk_most, counts_all}
 use Rattle.twkb_layer.specs.Devices.Collecting.{SaysOf, HasPassed}
-use Rattle.twkb_layer.specs.Layer.{IsCertifiedLayer, AddsAtMost, size_of, told_from, blob_by_blob}
-use Rattle.twkb_layer.specs.Devices.Layer.{IsCounted, header_size}
+use Rattle.twkb_layer.specs.Layer.{IsCertifiedLayer, IsCounted, AddsAtMost, size_of, told_from, blob_by_blob}
+use Rattle.twkb_layer.specs.Devices.Layer.{header_size}
 use Rattle.twkb_layer.specs.Devices.Passing.{Nothing, nothing, stays, each}
-use Rattle.twkb_layer.specs.Rows.{row_of}
+use Rattle.twkb_layer.specs.Hits.{filled}
+use Rattle.twkb_layer.specs.Rows.{row_of, rows}
 use Rattle.twkb_layer.specs.declared.row.Row.{Row}
+use Rattle.twkb_layer.proofs.Filling.{filled-nil, filled-push, filled-full}
 use Rattle.twkb_layer.proofs.Layers.{layer_once, layer_short}
 use Rattle.twkb_layer.proofs.Scanning.{Next, none_left}
 
@@ -194,3 +196,51 @@ adds_nothing most count small = record { read = 0; few = omega arith; is = omega
 -- where there are no bytes there are no blobs
 pub no_blobs : (bytes : List ℕ) (blobs vertices : ℕ) → IsCounted bytes blobs vertices → bytes ≡ [] → blobs ≡ 0
 no_blobs bytes blobs vertices c none = omega (arith, c.blobs_are, layer_short c.trees bytes c.layer.layer, ap length none)
+
+-- ---- room that a caller lends
+
+-- what is made of what is said
+told-map : {S T : Type 0} (f : S → T) (told : ℕ → ℕ → Geometry → S) (blob offset : ℕ) (trees : List Geometry) → map f (told_from told blob offset trees) ≡ told_from (λ b o g. f (told b o g)) blob offset trees
+told-map f told blob offset [] = refl
+told-map f told blob offset (tree ∷ trees) = ap (λ xs. f (told blob offset tree) ∷ xs) (told-map f told (blob + 1) (offset + size_of tree) trees)
+
+module _ {S : Type 0} (of : Row → S) where
+  -- what is made of a row
+  abbrev pub made : ℕ → ℕ → Geometry → S
+  made blob offset tree = of (row_of blob offset tree)
+
+  -- the room holds what was said so far, as much as fits
+  pub record Putting (bytes : List ℕ) (count0 : ℕ) (room0 : List S) (place count blob : ℕ) (room : List S) : Type 0 where
+    pub said : List S
+    pub on : Collecting made bytes count0 place count blob said (length bytes)
+    pub many : length said ≡ blob
+    pub room_is : room ≡ filled said room0
+
+  pub put_begins : (bytes : List ℕ) (count0 : ℕ) (room0 : List S) (trees : List Geometry) → IsCertifiedLayer trees bytes → count0 < 2 ^ 64 → Putting bytes count0 room0 0 count0 0 room0
+  put_begins bytes count0 room0 trees whole small = record {
+    said = [];
+    on = collect_begins made bytes count0 trees [] (length bytes) whole small refl (omega (arith, layer_short trees bytes whole.layer));
+    many = refl;
+    room_is = filled-nil room0;
+  }
+
+  -- one blob more
+  pub put_goes_on : (bytes : List ℕ) (count0 : ℕ) (room0 : List S) (now : Reading) (blob : ℕ) (room : List S) (s : Putting bytes count0 room0 now.place now.count blob room) (n : Next s.on.rest bytes now.place)
+      (new : Reading) → HasPassed n.tree now new → (x : S) → x ≡ made blob now.place n.tree → Putting bytes count0 room0 new.place new.count (blob + 1) (slice_set room blob x)
+  put_goes_on bytes count0 room0 now blob room s n new past x is =
+      let more = made blob now.place n.tree in record {
+        said = s.said ++ more ∷ [];
+        on = collect_goes_on made bytes count0 now blob s.said (length bytes) s.on n new past (s.said ++ more ∷ []) (length bytes) refl (omega arith);
+        many = length-append s.said (more ∷ []) ∙ omega (arith, s.many);
+        room_is = (λ j. slice_set (s.room_is j) (sym s.many j) (is j)) ∙ filled-push s.said room0 more;
+      }
+
+  -- at the end of the bytes, or of the room
+  pub put_ends : (bytes : List ℕ) (count0 : ℕ) (room0 : List S) (place count blob : ℕ) (room : List S) → Putting bytes count0 room0 place count blob room → (length bytes ≤ place) ⊎ (length room0 ≤ blob)
+      → (trees : List Geometry) → IsCertifiedLayer trees bytes → room ≡ filled (map of (rows trees)) room0
+  put_ends bytes count0 room0 place count blob room s (inl le) trees h =
+      s.room_is ∙ ap (λ xs. filled xs room0) (collect_ends made bytes count0 place count blob s.said (length bytes) s.on le trees h ∙ sym (told-map of row_of 0 0 trees))
+  put_ends bytes count0 room0 place count blob room s (inr full) trees h =
+      let all : blob_by_blob made trees ≡ s.said ++ told_from made blob place s.on.rest = ap (blob_by_blob made) (layer_once trees s.on.trees bytes h.layer s.on.whole.layer) ∙ s.on.told_are in
+      s.room_is ∙ (sym (filled-full s.said (told_from made blob place s.on.rest) room0 (omega (arith, full, s.many)))
+      ∙ ap (λ xs. filled xs room0) (sym (told-map of row_of 0 0 trees ∙ all)))

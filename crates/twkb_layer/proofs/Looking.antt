@@ -1,5 +1,5 @@
 -- A scan with the slots of a directory, on its way from slot to slot.
-use Rattle.std.proofs.Common.{◌≡◌, ℕ, ℤ, ◌+◌, ◌-◌, ◌^◌, ◌<◌, ◌≤◌, Bool, true, false, cond, List, [], ◌∷◌, ◌++◌, length, take, drop, get_or, Option, Some, None, option_map, refl, ap, subst, sym, ◌∙◌, arith, sum_by, slice_set, length-drop, append_assoc}
+use Rattle.std.proofs.Common.{◌≡◌, ℕ, ℤ, ◌+◌, ◌-◌, ◌^◌, ◌<◌, ◌≤◌, Bool, true, false, cond, List, [], ◌∷◌, ◌++◌, length, map, take, drop, get_or, Option, Some, None, option_map, refl, ap, subst, sym, ◌∙◌, arith, sum_by, slice_set, length-drop, append_assoc}
 use Rattle.std.specs.List.{list_any, AllByRecursion}
 use Rattle.std.proofs.lemmas.List.{append-nil, drop_more, drop_all, length-take}
 use Rattle.std.proofs.lemmas.List.Elements.{recursion_from_All}
@@ -16,12 +16,13 @@ use Rattle.twkb_body.proofs.Entering.{reaches, boxed_holds}
 use Rattle.twkb_layer.specs.Directory.{Entry, box_of, entry_of, entries, directory_cost}
 use Rattle.twkb_layer.specs.Hits.{hits, cost, filled}
 use Rattle.twkb_layer.specs.Layer.{IsCertifiedLayer, size_of, told_from}
-use Rattle.twkb_layer.specs.Devices.Slots.{Said, unboxed, entry_with, entries_from, entries_of}
+use Rattle.twkb_layer.specs.Slots.{Said, Written, slot_says, unboxed, entry_with, entries_from, entries_of}
 use Rattle.twkb_layer.specs.Devices.Seeking.{outside}
 use Rattle.twkb_layer.specs.Window.{is_inside, box_misses, is_missed}
 use Rattle.twkb_layer.specs.declared.hits.Hit.{Hit}
 use Rattle.twkb_layer.proofs.Layers.{blob_some, layer_once, layer_short}
-use Rattle.twkb_layer.proofs.Scanning.{hits_from, Next, next_of, filled-nil, hits_go_on, found_goes_on, room_goes_on, found_fits, added_twice, counted_none}
+use Rattle.twkb_layer.proofs.Filling.{filled-nil}
+use Rattle.twkb_layer.proofs.Scanning.{hits_from, Next, next_of, hits_go_on, found_goes_on, room_goes_on, found_fits, added_twice, counted_none}
 
 -- ---- a box that misses
 
@@ -163,10 +164,10 @@ look_goes_on w bytes count0 room0 beyond slot slots count blob found room s e h 
     }
 
 -- the slot of this number, and those behind it
-pub slot_next : (w : Bounds) (bytes : List ℕ) (count0 : ℕ) (room0 : List Hit) (beyond : Said) (slots : List Said) (at : ℕ) (count blob found : ℕ) (room : List Hit) → Looking w bytes count0 room0 beyond (drop at slots) count blob found room → (slot : Said) → slot ≡ get_or slots at slot → at < length slots
-    → Looking w bytes count0 room0 beyond (slot ∷ drop (at + 1) slots) count blob found room
+pub slot_next : (w : Bounds) (bytes : List ℕ) (count0 : ℕ) (room0 : List Hit) (beyond : Said) (slots : List Written) (at : ℕ) (count blob found : ℕ) (room : List Hit) → Looking w bytes count0 room0 beyond (map slot_says (drop at slots)) count blob found room
+    → (slot : Written) → slot ≡ get_or slots at slot → at < length slots → Looking w bytes count0 room0 beyond (slot_says slot ∷ map slot_says (drop (at + 1) slots)) count blob found room
 slot_next w bytes count0 room0 beyond slots at count blob found room s slot is lt =
-    subst (λ ls. Looking w bytes count0 room0 beyond ls count blob found room) (drop_more slots at slot lt ∙ ap (λ (l : Said). l ∷ drop (at + 1) slots) (sym is)) s
+    subst (λ ls. Looking w bytes count0 room0 beyond (map slot_says ls) count blob found room) (drop_more slots at slot lt ∙ ap (λ (l : Written). l ∷ drop (at + 1) slots) (sym is)) s
 
 -- what a scan with slots found
 pub record Found (w : Bounds) (count0 : ℕ) (room0 : List Hit) (count found : ℕ) (room : List Hit) (trees : List Geometry) : Type 0 where
@@ -178,10 +179,10 @@ no_entries : (blob place : ℕ) (rest : List Geometry) → [] ≡ told_from entr
 no_entries blob place [] e = refl
 no_entries blob place (t ∷ ts) e = absurd (cc (e))
 
-pub look_ends : (w : Bounds) (bytes : List ℕ) (count0 : ℕ) (room0 : List Hit) (beyond : Said) (slots : List Said) (at count blob found : ℕ) (room : List Hit) → Looking w bytes count0 room0 beyond (drop at slots) count blob found room → length slots ≤ at
+pub look_ends : (w : Bounds) (bytes : List ℕ) (count0 : ℕ) (room0 : List Hit) (beyond : Said) (slots : List Written) (at count blob found : ℕ) (room : List Hit) → Looking w bytes count0 room0 beyond (map slot_says (drop at slots)) count blob found room → length slots ≤ at
     → (trees : List Geometry) → IsCertifiedLayer trees bytes → Found w count0 room0 count found room trees
 look_ends w bytes count0 room0 beyond slots at count blob found room s le trees h =
-    let none = no_entries blob s.place s.rest (sym (ap (entries_from beyond) (drop_all at slots le)) ∙ s.entries_are) in
+    let none = no_entries blob s.place s.rest (sym (ap (λ ls. entries_from beyond (map slot_says ls)) (drop_all at slots le)) ∙ s.entries_are) in
     let same : s.trees ≡ trees = layer_once s.trees trees bytes s.whole.layer h.layer in
     let all : hits s.trees w ≡ s.seen = s.hits_are ∙ (ap (λ ts. s.seen ++ hits_from blob s.place ts w) none ∙ append-nil s.seen) in
     let counts : count ≡ added count0 (sum_by (directory_cost w) s.trees) = counted_none count s.count_fits ∙ (ap (λ ts. added count (sum_by (directory_cost w) ts)) (sym none) ∙ s.count_is) in

@@ -27,7 +27,8 @@ use Rattle.twkb_body.proofs.Remaining.{none_left}
 use Rattle.twkb_layer.specs.Hits.{cost}
 use Rattle.twkb_layer.specs.Layer.{size_of}
 use Rattle.twkb_layer.specs.Devices.Seeking.{Seeking, seeks, seeks_past}
-use Rattle.twkb_layer.specs.Devices.Raw.{IsInner, IsRawWindow}
+use Rattle.twkb_layer.specs.Devices.Raw.{IsRawWindow}
+use Rattle.twkb_layer.specs.Devices.Slots.{IsInner}
 use Rattle.twkb_layer.specs.Window.{is_inside, in_span, in_bound, lie_apart}
 use Rattle.twkb_layer.specs.declared.raw.RawWindow.{RawWindow}
 use Rattle.twkb_layer.proofs.Seeks.{cost_walk}

@@ -12,9 +12,9 @@ use Rattle.twkb_head.specs.declared.boxes.Bounds.{Bounds}
 use Rattle.twkb_head.specs.Head.{span_at}
 use Rattle.twkb_layer.specs.declared.raw.RawEnds.{RawEnds}
 use Rattle.twkb_layer.specs.declared.raw.RawWindow.{RawWindow}
-use Rattle.twkb_layer.specs.declared.slots.Slot.TheInside.{Inside}
-use Rattle.twkb_layer.specs.Devices.Raw.{IsInner, IsRawEnds, IsRawWindow, precision_of}
-use Rattle.twkb_layer.specs.Devices.Slots.{Said, AreInner, HasInnerEnds, IsJudged, range_in, slot_says}
+use Rattle.twkb_layer.specs.Devices.Raw.{IsRawEnds, IsRawWindow}
+use Rattle.twkb_layer.specs.Devices.Slots.{IsInner, AreInner, HasInnerEnds, IsJudged}
+use Rattle.twkb_layer.specs.Slots.{precision_of, Said, Written, range_in, slot_says, unpacked}
 use Rattle.twkb_layer.specs.Window.{lie_apart}
 
 is_less : (a b : ℤ) → a <ℤ b → int_lt a b ≡ true
@@ -138,14 +138,14 @@ pub misses_raw : (p : ℤ) (window : Bounds) (raw : RawWindow) → IsRawWindow p
 misses_raw p window raw is x y x_inner y_inner = (λ j. apart p window.x raw.x is.x x x_inner j || apart p window.y raw.y is.y y y_inner j)
 
 -- a slot that keeps ends, judged by them
-pub judged : (window : Bounds) (l : Inside) (slot : Said) → slot ≡ slot_says l → HasInnerEnds l → l.word.form ≡ 0 → (raw : RawWindow) → IsRawWindow (precision_of l.word.code) window raw
+pub judged : (window : Bounds) (l : Written) (slot : Said) → slot ≡ slot_says l → HasInnerEnds l → (unpacked l.word).form ≡ 0 → (raw : RawWindow) → IsRawWindow (precision_of (unpacked l.word).code) window raw
     → IsJudged window slot ((int_lt l.first.1 raw.x.least || int_lt raw.x.greatest l.first.0) || (int_lt l.second.1 raw.y.least || int_lt raw.y.greatest l.second.0))
 judged window l slot is inner near raw at = record {
-  x = span_at (precision_of l.word.code) l.first;
-  y = span_at (precision_of l.word.code) l.second;
-  first = ap (λ (s : Said). s.first) is ∙ ap (λ (form : ℕ). range_in form l.word.code l.first) near;
-  second = ap (λ (s : Said). s.second) is ∙ ap (λ (form : ℕ). range_in form (if form == 3 then l.word.rest % 16 else l.word.code) l.second) near;
-  answer = misses_raw (precision_of l.word.code) window raw at l.first l.second (inner.first near) (inner.second near);
+  x = span_at (precision_of (unpacked l.word).code) l.first;
+  y = span_at (precision_of (unpacked l.word).code) l.second;
+  first = ap (λ (s : Said). s.first) is ∙ ap (λ (form : ℕ). range_in form (unpacked l.word).code l.first) near;
+  second = ap (λ (s : Said). s.second) is ∙ ap (λ (form : ℕ). range_in form (if form == 3 then (unpacked l.word).rest % 16 else (unpacked l.word).code) l.second) near;
+  answer = misses_raw (precision_of (unpacked l.word).code) window raw at l.first l.second (inner.first near) (inner.second near);
 }
 
 -- ---- the windows at all precisions

@@ -5,7 +5,6 @@ pub mod Tight
 pub mod Passing
 pub mod Seeking
 pub mod Raw
-pub mod Word
 pub mod Slots
 pub mod Collecting
 pub mod TextReader

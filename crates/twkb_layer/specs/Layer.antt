@@ -38,6 +38,13 @@ OfLayer bytes P = (trees : List Geometry) → IsCertifiedLayer trees bytes → P
 abbrev pub vertex_count : List Geometry → ℕ
 vertex_count trees = sum_by (λ tree. length (vertices tree)) trees
 
+-- the bytes are a certified layer of so many blobs and vertices
+pub record IsCounted (bytes : List ℕ) (blobs vertices : ℕ) : Type 0 where
+  pub trees : List Geometry
+  pub layer : IsCertifiedLayer trees bytes
+  pub blobs_are : blobs ≡ length trees
+  pub vertices_are : vertices ≡ vertex_count trees
+
 -- in file order, what is said of each blob by its number, its offset and its tree, from this number and offset on
 abbrev pub told_from : {A : Type 0} → (ℕ → ℕ → Geometry → A) → ℕ → ℕ → List Geometry → List A
 told_from says blob offset [] = []

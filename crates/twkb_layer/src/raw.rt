@@ -1,7 +1,9 @@
 //! Windows in raw integers: the numbers as headers and bodies have them, which mean units by a precision.
 ghost use Rattle.std.specs.Prelude.{◌≡◌, ◌<◌, ◌<ℤ◌, ◌*ℤ◌, ◌||◌, ℤ, pos, int_lt};
 ghost use Rattle.twkb_num.specs.Units.{IsPrecision};
-ghost use Rattle.twkb_layer.specs.Devices.Raw.{IsInner, IsRawEnds, IsRawWindow, precision_of};
+ghost use Rattle.twkb_layer.specs.Devices.Raw.{IsRawEnds, IsRawWindow};
+ghost use Rattle.twkb_layer.specs.Devices.Slots.{IsInner};
+ghost use Rattle.twkb_layer.specs.Slots.{precision_of};
 
 use crate::window::Window;
 use std::marker::Model;

@@ -3,22 +3,19 @@ ghost use Rattle.std.specs.Prelude.{◌≡◌, ◌+◌, ◌*◌, ◌/◌, ◌%�
 ghost use Rattle.twkb_num.specs.Units.{IsPrecision};
 ghost use Rattle.twkb_head.specs.Devices.Spelled.{AreSpelled, IsSpelledIfAny};
 ghost use Rattle.twkb_head.specs.Spelled.{IsSpelled};
-ghost use Rattle.twkb_layer.specs.Devices.Slots.{range_in, unboxed, AreInner, IsJudged, entries_of};
+ghost use Rattle.twkb_layer.specs.Devices.Slots.{AreInner, IsJudged};
+ghost use Rattle.twkb_layer.specs.Slots.{range_in, slot_says, unboxed};
 ghost use Rattle.twkb_layer.specs.Window.{lie_apart_if_both};
 
-use crate::collecting::{Keeper, header_at};
-use crate::passer::Passer;
 use crate::raw::RawWindows;
 use crate::window::Window;
 use crate::word::{BEYOND, NEAR, UNBOXED, WIDE, Word};
-use std::alloc::Allocator;
 use std::marker::Model;
-use twkb_body::{Bounds, Span, skim};
-use twkb_head::Head;
-use twkb_num::{Cursor, units};
+use twkb_body::{Bounds, Span};
+use twkb_num::units;
 
 /// How far the offset of a slot goes. What passes that stands in a slot before it, as Z and M do.
-const REACH: usize = 1 << 57;
+pub const REACH: usize = 1 << 57;
 
 /// A slot of a directory.
 ///
@@ -26,30 +23,61 @@ const REACH: usize = 1 << 57;
 /// such numbers, and else by its minima and extents, as its header spells it. So a slot takes 40 bytes, where a `Bounds` in
 /// an `Option` alone takes 176. Z and M, which few layers have, stand in a slot of their own before that of their blob: what a
 /// scan reads of memory is what takes its time.
-#[derive(Drop)]
+#[repr(C)]
+#[derive(Clone, Copy)]
 pub struct Slot {
     word: Word,
     /// In X, or in Z.
-    first: (i64, i64),
+    first: Pair,
     /// In Y, or in M.
-    second: (i64, i64),
+    second: Pair,
+}
+
+/// Both ends of a range, or its minimum and its extent.
+#[repr(C)]
+#[derive(Clone, Copy)]
+struct Pair {
+    low: i64,
+    high: i64,
 }
 
 impl Model for Slot {
-    ghost use Rattle.twkb_layer.specs.Devices.Slots.{Said, slot_says, HasInnerEnds};
+    ghost use Rattle.twkb_layer.specs.Devices.Slots.{written, HasInnerEnds};
+    ghost use Rattle.twkb_layer.specs.Slots.{Written};
 
-    ghost Value = { Said };
+    ghost Value = { Written };
 
-    ghost view = { slot_says };
+    ghost view = { written };
 
-    ghost invariant = { HasInnerEnds };
+    ghost inverse = { λ w. record { word = record { bits = w.word }; first = record { low = w.first.0; high = w.first.1 }; second = record { low = w.second.0; high = w.second.1 } } };
+
+    ghost invariant = { λ s. HasInnerEnds (written s) };
+}
+
+impl Pair {
+    #[inline(always)]
+    fn of(numbers: (i64, i64)) -> Pair
+        ensures { (result.low, result.high) ≡ numbers }
+    {
+        Pair {
+            low: numbers.0,
+            high: numbers.1,
+        }
+    }
+
+    #[inline(always)]
+    fn numbers(self) -> (i64, i64)
+        ensures { result ≡ (self.low, self.high) }
+    {
+        (self.low, self.high)
+    }
 }
 
 impl Slot {
     /// Of a blob without a box.
-    pub fn unboxed(offset: usize, deep: bool) -> Slot
+    pub(crate) fn unboxed(offset: usize, deep: bool) -> Slot
         requires { offset < 2 ^ 57 }
-        ensures { result ≡ record {
+        ensures { slot_says result ≡ record {
           beyond = false;
           deep = deep;
           offset = offset;
@@ -59,18 +87,18 @@ impl Slot {
     {
         Slot {
             word: Word::new(0, UNBOXED, deep, offset as u64),
-            first: (0, 0),
-            second: (0, 0),
+            first: Pair::of((0, 0)),
+            second: Pair::of((0, 0)),
         }
     }
 
     /// Of a blob with a box.
-    pub fn boxed(offset: usize, deep: bool, bounds: &Bounds, precision: i8) -> Slot
+    pub(crate) fn boxed(offset: usize, deep: bool, bounds: &Bounds, precision: i8) -> Slot
         requires offset { offset < 2 ^ 57 }
         requires precision { IsPrecision precision }
         requires x_spelled { IsSpelled precision bounds.now.x }
         requires y_spelled { IsSpelled precision bounds.now.y }
-        ensures { result ≡ record {
+        ensures { slot_says result ≡ record {
           beyond = false;
           deep = deep;
           offset = offset;
@@ -84,20 +112,20 @@ impl Slot {
         match (inner_ends(x), inner_ends(y)) {
             (Some(first), Some(second)) => Slot {
                 word: Word::new(code, NEAR, deep, offset as u64),
-                first,
-                second,
+                first: Pair::of(first),
+                second: Pair::of(second),
             },
             _ => Slot {
                 word: Word::new(code, WIDE, deep, offset as u64),
-                first: x,
-                second: y,
+                first: Pair::of(x),
+                second: Pair::of(y),
             },
         }
     }
 
     /// What a box has in Z and M, and how far the offset passes a slot's reach.
-    pub fn beyond(offset: usize, z: Kept, m: Kept) -> Slot
-        ensures { result ≡ record {
+    pub(crate) fn beyond(offset: usize, z: Kept, m: Kept) -> Slot
+        ensures { slot_says result ≡ record {
           beyond = true;
           deep = false;
           offset = offset / 2 ^ 57 * 2 ^ 57;
@@ -108,33 +136,33 @@ impl Slot {
         let passed = (offset / REACH) as u64;
         Slot {
             word: Word::new(z.code, BEYOND, false, m.code + 16 * passed),
-            first: z.numbers,
-            second: m.numbers,
+            first: Pair::of(z.numbers),
+            second: Pair::of(m.numbers),
         }
     }
 
     /// Whether it says what the next slot has no place for.
     #[inline(always)]
-    pub fn is_beyond(&self) -> bool
-        ensures { result ≡ self.now.beyond }
+    pub(crate) fn is_beyond(&self) -> bool
+        ensures { result ≡ (slot_says self.now).beyond }
     {
         self.word.form() == BEYOND
     }
 
     /// Whether the slot before it says more of its blob.
     #[inline(always)]
-    pub fn is_deep(&self) -> bool
-        ensures { result ≡ self.now.deep }
+    pub(crate) fn is_deep(&self) -> bool
+        ensures { result ≡ (slot_says self.now).deep }
     {
         self.word.is_deep()
     }
 
     /// The offset that it says.
     #[inline(always)]
-    pub fn offset(&self) -> usize
-        ensures value { result ≡ self.now.offset }
+    pub(crate) fn offset(&self) -> usize
+        ensures value { result ≡ (slot_says self.now).offset }
         ensures far { result ≤ 127 * 2 ^ 57 }
-        ensures near { self.now.beyond ≡ false → result < 2 ^ 57 }
+        ensures near { (slot_says self.now).beyond ≡ false → result < 2 ^ 57 }
     {
         let rest = self.word.rest() as usize;
         if self.is_beyond() {
@@ -146,39 +174,43 @@ impl Slot {
 
     /// Whether its box misses the window in X or in Y, where it keeps the ends of one.
     #[inline(always)]
-    pub fn misses_by_ends(&self, windows: &RawWindows) -> Option<bool>
-        ensures { IfSome result (IsJudged windows.now self.now) }
+    pub(crate) fn misses_by_ends(&self, windows: &RawWindows) -> Option<bool>
+        ensures { IfSome result (IsJudged windows.now (slot_says self.now)) }
     {
         if self.word.form() == NEAR {
-            Some(windows.at(self.word.code()).misses(self.first, self.second))
+            Some(
+                windows
+                    .at(self.word.code())
+                    .misses(self.first.numbers(), self.second.numbers()),
+            )
         } else {
             None
         }
     }
 
     /// The range in X, or in Z.
-    pub fn first(&self) -> Option<Span>
-        ensures { result ≡ self.now.first }
+    pub(crate) fn first(&self) -> Option<Span>
+        ensures { result ≡ (slot_says self.now).first }
     {
-        range_of(self.word.form(), self.word.code(), self.first)
+        range_of(self.word.form(), self.word.code(), self.first.numbers())
     }
 
     /// The range in Y, or in M.
-    pub fn second(&self) -> Option<Span>
-        ensures { result ≡ self.now.second }
+    pub(crate) fn second(&self) -> Option<Span>
+        ensures { result ≡ (slot_says self.now).second }
     {
         let code = if self.is_beyond() {
             (self.word.rest() % 16) as usize
         } else {
             self.word.code()
         };
-        range_of(self.word.form(), code, self.second)
+        range_of(self.word.form(), code, self.second.numbers())
     }
 
     /// Whether what it says of Z and M misses the window.
-    pub fn misses_in_z_or_m(&self, window: &Window) -> bool
-        ensures { result ≡ (lie_apart_if_both self.now.first window.now.z
-            || lie_apart_if_both self.now.second window.now.m) }
+    pub(crate) fn misses_in_z_or_m(&self, window: &Window) -> bool
+        ensures { result ≡ (lie_apart_if_both (slot_says self.now).first window.now.z
+            || lie_apart_if_both (slot_says self.now).second window.now.m) }
     {
         window.misses_in_z_or_m(self.first(), self.second())
     }
@@ -195,7 +227,7 @@ pub struct Kept {
 impl Model for Kept {
     ghost use Rattle.std.specs.Prelude.{◌<◌, Option};
     ghost use Rattle.twkb_head.specs.declared.boxes.Span.{Span};
-    ghost use Rattle.twkb_layer.specs.Devices.Slots.{range_in};
+    ghost use Rattle.twkb_layer.specs.Slots.{range_in};
 
     ghost Value = { Option Span };
 
@@ -206,7 +238,7 @@ impl Model for Kept {
 
 impl Kept {
     /// The range of an axis, at its precision.
-    fn of(span: Option<Span>, precision: Option<u8>) -> Kept
+    pub fn of(span: Option<Span>, precision: Option<u8>) -> Kept
         requires high { IfSome precision (λ p. p ≤ 7) }
         requires spelled { IsSpelledIfAny precision span }
         ensures { result ≡ span }
@@ -224,81 +256,11 @@ impl Kept {
     }
 
     /// Whether there is a range.
-    fn is_some(&self) -> bool
+    pub fn is_some(&self) -> bool
         ensures { result ≡ is_some self.now }
     {
         self.code > 7
     }
-}
-
-impl<A: Allocator> Keeper for Vec<Slot, A> {
-    ghost use Rattle.std.specs.Prelude.{◌-◌, ◌/◌, vec_len, vec_capacity};
-    ghost use Rattle.twkb_layer.specs.Directory.{Entry, entry_of};
-    ghost use Rattle.twkb_layer.specs.Devices.Slots.{entries_of};
-
-    ghost Says = { Entry };
-
-    ghost says = { λ slots. entries_of slots.items };
-
-    ghost of = { entry_of };
-
-    ghost spare = { λ slots. (vec_capacity slots - vec_len slots) / 2 };
-
-    /// The skim hops over all that it can.
-    fn keep(&mut self, cursor: &mut Cursor, _blob: usize) {
-        let offset = cursor.place();
-        let head = header_at(cursor);
-        skim(cursor, &mut Passer);
-        push(self, offset, &head);
-    }
-}
-
-/// The slots of a blob that begins at the offset with a header that says so: two at most.
-fn push<A: Allocator>(slots: &mut Vec<Slot, A>, offset: usize, head: &Head)
-    requires xy { IsPrecision head.now.xy }
-    requires z_high { IfSome head.now.z (λ p. p ≤ 7) }
-    requires m_high { IfSome head.now.m (λ p. p ≤ 7) }
-    requires spelled { IfSome head.now.bounds (λ field. AreSpelled head.now.xy head.now.z head.now.m field.bounds) }
-    requires spare { vec_len slots.old + 1 < vec_capacity slots.old }
-    ensures says { entries_of slots.new.items ≡ entries_of slots.old.items
-        ++ record { offset = offset; bounds = option_map (λ field. field.bounds) head.now.bounds } ∷ [] }
-    ensures capacity { vec_capacity slots.new ≡ vec_capacity slots.old }
-    ensures len { vec_len slots.new ≤ vec_len slots.old + 2 }
-{
-    let (z, m) = further(head);
-    let deep = passes_a_slot(offset, &z, &m);
-    if deep {
-        slots.push_reserved(Slot::beyond(offset, z, m));
-    }
-    let slot = match &head.bounds {
-        None => Slot::unboxed(offset % REACH, deep),
-        Some(field) => Slot::boxed(offset % REACH, deep, &field.bounds, head.xy),
-    };
-    slots.push_reserved(slot);
-}
-
-/// What the box of a header has in Z and in M.
-fn further(head: &Head) -> (Kept, Kept)
-    requires z_high { IfSome head.now.z (λ p. p ≤ 7) }
-    requires m_high { IfSome head.now.m (λ p. p ≤ 7) }
-    requires spelled { IfSome head.now.bounds (λ field. AreSpelled head.now.xy head.now.z head.now.m field.bounds) }
-    ensures z { result.0 ≡ option_and_then (λ field. field.bounds.z) head.now.bounds }
-    ensures m { result.1 ≡ option_and_then (λ field. field.bounds.m) head.now.bounds }
-{
-    match &head.bounds {
-        None => (Kept::of(None, None), Kept::of(None, None)),
-        Some(field) => (
-            Kept::of(field.bounds.z, head.z),
-            Kept::of(field.bounds.m, head.m),
-        ),
-    }
-}
-
-/// Whether a blob has something that its own slot has no place for.
-fn passes_a_slot(offset: usize, z: &Kept, m: &Kept) -> bool
-    ensures { result ≡ (is_some z.now || (is_some m.now || nat_le (2 ^ 57) offset)) }
-{
-    z.is_some() || m.is_some() || offset >= REACH
 }
 
 /// The range of an axis, where a slot of this form has one.

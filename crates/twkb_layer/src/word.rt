@@ -1,8 +1,6 @@
 //! What a slot of a directory keeps besides ranges, in one word of 64 bits.
 ghost use Rattle.std.specs.Prelude.{◌≡◌, ◌<◌, ◌^◌};
-ghost use Rattle.twkb_layer.specs.Devices.Word.{Packed};
-
-use std::marker::Model;
+ghost use Rattle.twkb_layer.specs.Slots.{unpacked};
 
 /// A slot of a blob whose box is kept by its ends.
 pub const NEAR: u64 = 0;
@@ -15,15 +13,10 @@ pub const BEYOND: u64 = 3;
 
 /// From the lowest bit on: four bits of a code, two of a form, one that says whether a slot before it says more, and the
 /// rest.
-#[derive(Drop)]
-pub struct Word(u64);
-
-impl Model for Word {
-    ghost use Rattle.twkb_layer.specs.Devices.Word.{Packed, unpacked};
-
-    ghost Value = { Packed };
-
-    ghost view = { λ w. unpacked w.0 };
+#[repr(C)]
+#[derive(Clone, Copy)]
+pub struct Word {
+    bits: u64,
 }
 
 impl Word {
@@ -32,39 +25,41 @@ impl Word {
         requires code { code < 16 }
         requires form { form < 4 }
         requires rest { rest < 2 ^ 57 }
-        ensures { result ≡ record { code = code; form = form; deep = deep; rest = rest } }
+        ensures { unpacked result.bits ≡ record { code = code; form = form; deep = deep; rest = rest } }
     {
-        Word(code + 16 * form + 64 * u64::from(deep) + 128 * rest)
+        Word {
+            bits: code + 16 * form + 64 * u64::from(deep) + 128 * rest,
+        }
     }
 
     #[inline(always)]
     pub fn code(&self) -> usize
-        ensures value { result ≡ self.now.code }
+        ensures value { result ≡ (unpacked self.now.bits).code }
         ensures few { result < 16 }
     {
-        (self.0 % 16) as usize
+        (self.bits % 16) as usize
     }
 
     #[inline(always)]
     pub fn form(&self) -> u64
-        ensures { result ≡ self.now.form }
+        ensures { result ≡ (unpacked self.now.bits).form }
     {
-        self.0 / 16 % 4
+        self.bits / 16 % 4
     }
 
     /// Whether a slot before it says more.
     #[inline(always)]
     pub fn is_deep(&self) -> bool
-        ensures { result ≡ self.now.deep }
+        ensures { result ≡ (unpacked self.now.bits).deep }
     {
-        self.0 / 64 % 2 == 1
+        self.bits / 64 % 2 == 1
     }
 
     #[inline(always)]
     pub fn rest(&self) -> u64
-        ensures value { result ≡ self.now.rest }
+        ensures value { result ≡ (unpacked self.now.bits).rest }
         ensures few { result < 2 ^ 57 }
     {
-        self.0 / 128
+        self.bits / 128
     }
 }

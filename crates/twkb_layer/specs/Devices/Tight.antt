@@ -2,8 +2,7 @@
 -- One body of code certifies in both ways: what it says, by the flag.
 use Rattle.std.specs.Prelude.{◌≡◌, ℕ, Bool, true, false, List, length}
 use Rattle.twkb_body.specs.Geometry.{Geometry}
-use Rattle.twkb_layer.specs.Layer.{IsCertifiedLayer, vertex_count}
-use Rattle.twkb_layer.specs.Devices.Layer.{IsCounted}
+use Rattle.twkb_layer.specs.Layer.{IsCertifiedLayer, IsCounted, vertex_count}
 use Rattle.twkb_layer.specs.Refusal.{NamesKind}
 use Rattle.twkb_layer.specs.declared.refusal.Refusal.{Refusal}
 use Rattle.twkb_layer.specs.Tight.{IsTightLayer}

@@ -1,5 +1,6 @@
 -- The hits and the cost so far are those of the blobs of the slots before; the others are of the blobs still to come.
-use Rattle.std.proofs.Common.{◌≡◌, ◌<◌, ◌^◌, length, drop}
+use Rattle.std.proofs.Common.{◌≡◌, ◌<◌, ◌^◌, length, drop, map}
+use Rattle.twkb_layer.specs.Slots.{slot_says}
 use Rattle.twkb_layer.proofs.Looking.{Looking}
 use Rattle.twkb_layer.proofs.scans.scan_slots.Given as goal
 
@@ -7,5 +8,5 @@ abbrev pub invariant-loop-slot : goal.invariant-loop-slot
 invariant-loop-slot l = record {
   bytes : l.cursor.bytes ≡ l.fn.cursor.bytes;
   small : length l.fn.cursor.bytes < 2 ^ 64;
-  going : Looking l.window l.fn.cursor.bytes l.fn.cursor.count l.fn.room l.beyond (drop l.slot-index l.slots) l.cursor.count l.blob l.found l.room;
+  going : Looking l.window l.fn.cursor.bytes l.fn.cursor.count l.fn.room (slot_says l.beyond) (map slot_says (drop l.slot-index l.slots)) l.cursor.count l.blob l.found l.room;
 }

@@ -4,8 +4,7 @@ use Rattle.std.specs.Int.{w8, w64, w128}
 use Rattle.std.proofs.lemmas.Int.{ints, to_z-of_z}
 use Rattle.std.proofs.lemmas.Bool.Decides.{nat_tests}
 use Rattle.twkb_num.specs.Units.{units_of}
-use Rattle.twkb_layer.specs.Devices.Raw.{precision_of}
-use Rattle.twkb_layer.specs.Devices.Slots.{range_at, range_in}
+use Rattle.twkb_layer.specs.Slots.{precision_of, range_at, range_in}
 use Rattle.twkb_layer.proofs.slots.range_of.Goals as goal
 
 pub returns-then-form-eq-NEAR : goal.returns-then-form-eq-NEAR

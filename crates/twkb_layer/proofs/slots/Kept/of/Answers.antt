@@ -4,8 +4,7 @@ use Rattle.std.proofs.lemmas.Bool.Decides.{nat_tests}
 use Rattle.std.proofs.lemmas.Int.{ints}
 use Rattle.std.specs.Int.{w8}
 use Rattle.twkb_layer.proofs.slots.Kept.of.Goals as goal
-use Rattle.twkb_layer.specs.Devices.Raw.{precision_of}
-use Rattle.twkb_layer.specs.Devices.Slots.{range_at, range_in}
+use Rattle.twkb_layer.specs.Slots.{precision_of, range_at, range_in}
 
 pub returns-in-Some-Some : goal.returns-in-Some-Some
 returns-in-Some-Some c =

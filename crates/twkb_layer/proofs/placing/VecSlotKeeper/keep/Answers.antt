@@ -1,6 +1,6 @@
 -- A visitor that skips each box passes the blob.
 use Rattle.twkb_layer.proofs.Keeping.{stands_still, passed_then, passing_few}
-use Rattle.twkb_layer.proofs.slots.VecSlotKeeper.keep.Goals as goal
+use Rattle.twkb_layer.proofs.placing.VecSlotKeeper.keep.Goals as goal
 
 pub returns-clause-passed : goal.returns-clause-passed
 returns-clause-passed g c = λ tree at.

@@ -1,0 +1,91 @@
+-- The slots of a directory: boxes in raw integers, with their precisions.
+use Rattle.std.specs.Prelude.{ℕ, ◌+◌, ◌*◌, ◌/◌, ◌%◌, ◌^◌, ◌==◌, nat_lt, ℤ, pos, ◌+ℤ◌, ◌-ℤ◌, cond, if◌then◌else◌, ◌&&◌, ◌||◌, Bool, false, List, [], ◌∷◌, map, Option, Some, None}
+use Rattle.twkb_head.specs.declared.boxes.Span.{Span}
+use Rattle.twkb_head.specs.declared.boxes.Bounds.{Bounds}
+use Rattle.twkb_head.specs.Head.{span_at}
+use Rattle.twkb_layer.specs.Directory.{Entry}
+
+-- the precision of a code of four bits: -8 is 0
+abbrev pub precision_of : ℕ → ℤ
+precision_of code = pos code -ℤ pos 8
+
+-- the range of a minimum and an extent
+abbrev pub range_at : ℤ → ℤ × ℤ → Span
+range_at p numbers = span_at p (numbers.0, numbers.0 +ℤ numbers.1)
+
+-- The range that a slot of a form keeps by a code of a precision and two numbers: its ends, in form 0, or a minimum and an
+-- extent. Form 2 has none, and in form 3 a code below 8 says that there is none.
+abbrev pub range_in : ℕ → ℕ → ℤ × ℤ → Option Span
+range_in form code numbers =
+    if form == 0 then Some (span_at (precision_of code) numbers)
+    else if (form == 1) || ((form == 3) && nat_lt 7 code) then Some (range_at (precision_of code) numbers)
+    else None
+
+-- what a slot says: of X and Y of a blob, or, beyond that, of Z and M of the next slot's
+pub record Said : Type 0 where
+  pub beyond : Bool
+  -- whether the slot before says more of its blob
+  pub deep : Bool
+  -- where the blob begins, or how far the next slot's begins behind what that one says
+  pub offset : ℕ
+  pub first : Option Span
+  pub second : Option Span
+
+-- a code of four bits, a form of two, whether a slot before it says more, and the rest
+pub record Packed : Type 0 where
+  pub code : ℕ
+  pub form : ℕ
+  pub deep : Bool
+  pub rest : ℕ
+
+-- these parts from the lowest bit on
+abbrev pub unpacked : ℕ → Packed
+unpacked word = record { code = word % 16; form = (word / 16) % 4; deep = (word / 64) % 2 == 1; rest = word / 128 }
+
+-- what stands in a slot's memory: a word, and two pairs of numbers
+pub record Written : Type 0 where
+  pub word : ℕ
+  pub first : ℤ × ℤ
+  pub second : ℤ × ℤ
+
+-- what it says, by its form; seven bits of the word in form 3 say what passes an offset of 57 bits
+abbrev pub says_by : Packed → ℤ × ℤ → ℤ × ℤ → Said
+says_by word first second = record {
+  beyond = word.form == 3;
+  deep = word.deep;
+  offset = if word.form == 3 then (word.rest / 16) % 128 * 2 ^ 57 else word.rest;
+  first = range_in word.form word.code first;
+  second = range_in word.form (if word.form == 3 then word.rest % 16 else word.code) second;
+}
+
+abbrev pub slot_says : Written → Said
+slot_says slot = says_by (unpacked slot.word) slot.first slot.second
+
+-- what is said of a blob without a box
+abbrev pub unboxed : ℕ → Said
+unboxed offset = record { beyond = false; deep = false; offset = offset; first = None; second = None }
+
+-- A box has a range in X and in Y.
+abbrev pub boxed : Option Span → Option Span → Option Span → Option Span → Option Bounds
+boxed (Some x) (Some y) z m = Some (record { x = x; y = y; z = z; m = m })
+boxed _ _ _ _ = None
+
+-- the entry of a slot's blob, where this was said last beyond slots
+abbrev pub entry_with : Said → Said → Entry
+entry_with beyond slot = record {
+  offset = slot.offset + cond slot.deep beyond.offset 0;
+  bounds = boxed slot.first slot.second (cond slot.deep beyond.first None) (cond slot.deep beyond.second None);
+}
+
+-- the entries of the blobs of slots
+abbrev pub entries_from : Said → List Said → List Entry
+entries_from beyond [] = []
+entries_from beyond (slot ∷ slots) = cond slot.beyond (entries_from slot slots) (entry_with beyond slot ∷ entries_from beyond slots)
+
+-- the same from the first slot on, before which nothing was said
+abbrev pub entries_of : List Said → List Entry
+entries_of slots = entries_from (unboxed 0) slots
+
+-- the same of slots as they stand in memory
+abbrev pub entries_kept : List Written → List Entry
+entries_kept slots = entries_of (map slot_says slots)
