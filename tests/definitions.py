@@ -6,8 +6,8 @@ import os
 import re
 
 TOP = os.path.dirname(os.path.dirname(os.path.abspath(__file__)))
-# The crates whose contracts a reader of the program believes, from the bytes up.
-CRATES = ("twkb_num", "twkb_head", "twkb_body", "twkb_layer", "twkb_tool")
+# The crates whose contracts a reader of the program or of its bindings believes, from the bytes up.
+CRATES = ("twkb_num", "twkb_head", "twkb_body", "twkb_layer", "twkb_tool", "twkb_call", "twkb_c")
 # A word of the language: anything between spaces, brackets and the marks that part words.
 WORD = re.compile(r"[^\s(){}\[\],;λ]+")
 USE = re.compile(r"\s*(?:pub |ghost )*use (Rattle\.[^\s{]+?)\.?(?:\{([^}]*)\})?;?\s*$")

@@ -27,8 +27,10 @@ def says(lines):
 
 
 def modules(top, crate):
-    """The paths of the files of definitions, in the order of `specs/Lib.antt`, which is that of reading."""
+    """The paths of the files of definitions, if there are any, in the order of `specs/Lib.antt`, which is that of reading."""
     folder = os.path.join(top, "crates", crate, "specs")
+    if not os.path.isdir(folder):
+        return []
     library = uncommented(open(os.path.join(folder, "Lib.antt"), encoding="utf-8").read())
     return [os.path.join(folder, f"{name}.antt") for name in re.findall(r"^pub mod (\w+)", library, re.MULTILINE)]
 

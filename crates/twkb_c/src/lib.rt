@@ -1,0 +1,113 @@
+//! The library for C, and for what calls like C: `bindings/c/twkb.h` declares it.
+//!
+//! A call takes a slice as a pointer and a length. It keeps no pointer, has no state and frees what it takes, so it may be
+//! made from any thread while others run.
+#![tactic(auto)]
+
+ghost use Rattle.std.specs.Prelude.{◌≡◌, ◌≢◌, ◌*◌, ◌<◌, ◌≤◌, if◌then◌else◌, true, false, List, length, map, take, sum_by, ◌⊎◌};
+ghost use Rattle.twkb_num.specs.Cursor.{added};
+ghost use Rattle.twkb_head.specs.declared.boxes.Bounds.{Bounds};
+ghost use Rattle.twkb_body.specs.Claims.{IsTrueClaim};
+ghost use Rattle.twkb_body.specs.Geometry.{Geometry};
+ghost use Rattle.twkb_body.specs.Tight.{IsTightlyTrue};
+ghost use Rattle.twkb_layer.specs.Directory.{IsDirectoryOf, directory_cost};
+ghost use Rattle.twkb_layer.specs.Layer.{IsCertifiedLayer, IsCounted, OfLayer};
+ghost use Rattle.twkb_layer.specs.Hits.{hits, cost, filled};
+ghost use Rattle.twkb_layer.specs.Rows.{rows};
+ghost use Rattle.twkb_layer.specs.Slots.{entries_kept};
+ghost use Rattle.twkb_layer.specs.Tight.{IsTightLayer};
+ghost use Rattle.twkb_layer.specs.WindowText.{IsWindowText, in_order};
+ghost use Rattle.twkb_call.specs.Rows.{in_numbers};
+ghost use Rattle.twkb_call.specs.Verdict.{Says};
+ghost use Rattle.twkb_call.specs.Window.{ranges_of};
+
+use std::alloc::Global;
+use twkb_call::{Hit, Layer, Row, Scanned, Slot, Verdict, Window};
+
+/// Certifies the bytes as a layer.
+#[unsafe(no_mangle)]
+pub extern "C" fn twkb_certify(alloc: Global, bytes: &[u8]) -> Verdict
+    ensures says { Says IsTrueClaim result bytes.now }
+    ensures complete { OfLayer bytes.now (λ trees. (result.answer ≡ 0) ⊎ (result.answer ≡ 2)) }
+{
+    twkb_call::certify(&alloc, bytes)
+}
+
+/// The same, where a loose box is refused too.
+#[unsafe(no_mangle)]
+pub extern "C" fn twkb_certify_tight(alloc: Global, bytes: &[u8]) -> Verdict
+    ensures says { Says IsTightlyTrue result bytes.now }
+    ensures tight { result.answer ≡ 0 → (trees : List Geometry) × IsTightLayer trees bytes.now }
+    ensures complete { (trees : List Geometry) → IsTightLayer trees bytes.now → (result.answer ≡ 0) ⊎ (result.answer ≡ 2) }
+{
+    twkb_call::certify_tight(&alloc, bytes)
+}
+
+/// Puts a row for each blob into the room, in file order, as many as fit, and says how many blobs there are.
+#[unsafe(no_mangle)]
+pub extern "C" fn twkb_list(layer: &Layer, room: &mut [Row]) -> usize
+    requires { IsCounted layer.now.bytes.now layer.now.blobs layer.now.vertices }
+    ensures answer { OfLayer layer.now.bytes.now (λ trees. result ≡ length trees) }
+    ensures room { OfLayer layer.now.bytes.now (λ trees. room.new ≡ filled (map in_numbers (rows trees)) room.old) }
+{
+    twkb_call::list(layer, room)
+}
+
+/// Reads the text of a window. The answer is 0, or 1 where it hasn't the form of one, or 2 where a lower bound is above its
+/// upper one.
+#[unsafe(no_mangle)]
+pub extern "C" fn twkb_window_parse(text: &[u8], window: &mut Window) -> u32
+    ensures answers { result ≤ 2 }
+    ensures window { result ≡ 0 → IsWindowText text.now (ranges_of window.new) × (in_order (ranges_of window.new) ≡ true) }
+    ensures order { result ≡ 2 → (w : Bounds) × IsWindowText text.now w × (in_order w ≡ false) }
+    ensures exact { (w : Bounds) → IsWindowText text.now w → result ≡ (if in_order w then 0 else 2) }
+    ensures kept { result ≢ 0 → window.new ≡ window.old }
+{
+    twkb_call::parse_window(text, window)
+}
+
+/// Puts the blobs that have a vertex inside the window into the room, in file order, as many as fit.
+#[unsafe(no_mangle)]
+pub extern "C" fn twkb_scan(layer: &Layer, window: &Window, room: &mut [Hit]) -> Scanned
+    requires { IsCounted layer.now.bytes.now layer.now.blobs layer.now.vertices }
+    ensures hits { OfLayer layer.now.bytes.now (λ trees. result.hits ≡ length (hits trees (ranges_of window.now))) }
+    ensures room { OfLayer layer.now.bytes.now (λ trees.
+        room.new ≡ filled (hits trees (ranges_of window.now)) room.old) }
+    ensures read { OfLayer layer.now.bytes.now (λ trees.
+        result.bytes_read ≡ added 0 (sum_by (cost (ranges_of window.now)) trees)) }
+{
+    twkb_call::scan(layer, window, room)
+}
+
+/// Puts a directory of the layer into the room, and says how many slots it has. Into room for less than two slots a blob it
+/// puts none, and says how many places are wanted, which is more than the room has.
+#[unsafe(no_mangle)]
+pub extern "C" fn twkb_directory_build(layer: &Layer, room: &mut [Slot]) -> usize
+    requires { IsCounted layer.now.bytes.now layer.now.blobs layer.now.vertices }
+    ensures directory { result ≤ length room.old → IsDirectoryOf (entries_kept (take result room.new)) layer.now.bytes.now }
+    ensures fits { OfLayer layer.now.bytes.now (λ trees.
+        2 * length trees ≤ length room.old → result ≤ length room.old) }
+    ensures few { OfLayer layer.now.bytes.now (λ trees. result ≤ 2 * length trees) }
+    ensures kept { length room.old < result → room.new ≡ room.old }
+{
+    twkb_call::build_directory(layer, room)
+}
+
+/// Scans as `twkb_scan` does, and reads nothing of a blob whose box misses the window.
+#[unsafe(no_mangle)]
+pub extern "C" fn twkb_directory_scan(
+    layer: &Layer,
+    slots: &[Slot],
+    window: &Window,
+    room: &mut [Hit],
+) -> Scanned
+    requires layer { IsCounted layer.now.bytes.now layer.now.blobs layer.now.vertices }
+    requires directory { IsDirectoryOf (entries_kept slots.now) layer.now.bytes.now }
+    ensures hits { OfLayer layer.now.bytes.now (λ trees. result.hits ≡ length (hits trees (ranges_of window.now))) }
+    ensures room { OfLayer layer.now.bytes.now (λ trees.
+        room.new ≡ filled (hits trees (ranges_of window.now)) room.old) }
+    ensures read { OfLayer layer.now.bytes.now (λ trees.
+        result.bytes_read ≡ added 0 (sum_by (directory_cost (ranges_of window.now)) trees)) }
+{
+    twkb_call::scan_directory(layer, slots, window, room)
+}

@@ -1,0 +1,2 @@
+-- What is proved of what crosses.
+pub mod Windows

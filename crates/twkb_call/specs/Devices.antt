@@ -1,0 +1,2 @@
+-- Devices of proofs: contracts of private functions name them, and nothing public does.
+pub mod Verdict

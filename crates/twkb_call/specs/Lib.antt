@@ -1,0 +1,5 @@
+-- In reading order.
+pub mod Verdict
+pub mod Window
+pub mod Rows
+pub mod Devices

@@ -1,0 +1,23 @@
+-- Windows in a form that crosses to other languages.
+use Rattle.std.specs.Prelude.{ℤ, ◌+ℤ◌, ◌*ℤ◌, ◌^◌, pos, if◌then◌else◌, Some, None}
+use Rattle.twkb_head.specs.declared.boxes.Span.{Span}
+use Rattle.twkb_head.specs.declared.boxes.Bounds.{Bounds}
+use Rattle.twkb_call.specs.declared.window.Units.{Units}
+use Rattle.twkb_call.specs.declared.window.Range.{Range}
+use Rattle.twkb_call.specs.declared.window.Window.{Window}
+
+-- the number of two words
+abbrev pub value_of : Units → ℤ
+value_of u = u.high *ℤ pos (2 ^ 64) +ℤ pos u.low
+
+abbrev pub span_of : Range → Span
+span_of r = record { lo = value_of r.lo; hi = value_of r.hi }
+
+-- the window that is meant: of Z and M only where it says so
+abbrev pub ranges_of : Window → Bounds
+ranges_of w = record {
+  x = span_of w.x;
+  y = span_of w.y;
+  z = if w.has_z then Some (span_of w.z) else None;
+  m = if w.has_m then Some (span_of w.m) else None;
+}

@@ -1,0 +1,30 @@
+//! A layer that was certified before.
+ghost use Rattle.std.specs.Prelude.{◌≡◌};
+ghost use Rattle.twkb_layer.specs.Layer.{IsCounted};
+
+use twkb_layer::Certified;
+
+/// A certified layer in the caller's storage: its bytes, which it borrows, and what the verdict said of them.
+///
+/// The caller answers for it: that the verdict was for these bytes, and that nobody has written them since.
+#[repr(C)]
+#[derive(Clone, Copy)]
+pub struct Layer<'a> {
+    pub bytes: &'a [u8],
+    pub blobs: usize,
+    pub vertices: usize,
+}
+
+const SIZE: usize = std::mem::size_of::<Layer>();
+
+const _: () = prove!(SIZE == 32);
+
+impl<'a> Layer<'a> {
+    /// The layer, of which nothing is read yet.
+    pub(crate) fn certified(&self) -> Certified<'a>
+        requires { IsCounted self.now.bytes.now self.now.blobs self.now.vertices }
+        ensures { result ≡ record { bytes = self.now.bytes.now; count = 0 } }
+    {
+        Certified::again(self.bytes, self.blobs, self.vertices)
+    }
+}

@@ -1,0 +1,22 @@
+//! The library in a form that crosses to other languages: bytes as slices, what is known of a layer as numbers, and memory
+//! that the caller lends.
+//!
+//! The static libraries, such as `twkb_c`, export these functions, each over the allocator that is there.
+#![tactic(auto)]
+
+mod directory;
+mod layer;
+mod rows;
+mod scans;
+#[cfg(test)]
+mod tests;
+mod verdict;
+mod window;
+
+pub use directory::{build_directory, scan_directory};
+pub use layer::Layer;
+pub use rows::{Row, list};
+pub use scans::{Scanned, scan};
+pub use twkb_layer::{Hit, Slot};
+pub use verdict::{Verdict, certify, certify_tight};
+pub use window::{Range, Units, Window, parse_window};

@@ -1,0 +1,77 @@
+//! Lists of layers.
+ghost use Rattle.std.specs.Prelude.{◌≡◌, length, map};
+ghost use Rattle.twkb_head.specs.Header.{code_of};
+ghost use Rattle.twkb_layer.specs.Hits.{filled};
+ghost use Rattle.twkb_layer.specs.Layer.{IsCounted, OfLayer};
+ghost use Rattle.twkb_layer.specs.Rows.{rows};
+ghost use Rattle.twkb_call.specs.Rows.{in_numbers};
+
+use crate::layer::Layer;
+use twkb_layer::{FromRow, Kind};
+
+/// What a list says of a blob.
+#[repr(C)]
+#[derive(Clone, Copy, Debug, PartialEq, Eq)]
+pub struct Row {
+    /// Its number, from 0.
+    pub blob: usize,
+    /// Where it begins.
+    pub offset: usize,
+    /// How many bytes it takes.
+    pub bytes: usize,
+    /// How many vertices it has, at all depths.
+    pub vertices: usize,
+    /// Its type, from 1, a point, to 7, a collection.
+    pub kind: u8,
+    /// The precision of its X and Y, from -8 to 7.
+    pub precision: i8,
+    pub has_size: bool,
+    pub has_box: bool,
+}
+
+const SIZE: usize = std::mem::size_of::<Row>();
+
+const _: () = prove!(SIZE == 40);
+
+impl FromRow for Row {
+    ghost use Rattle.twkb_call.specs.Rows.{in_numbers};
+
+    ghost of = { in_numbers };
+
+    fn from_row(row: twkb_layer::Row) -> Row {
+        Row {
+            blob: row.blob,
+            offset: row.offset,
+            bytes: row.bytes,
+            vertices: row.vertices,
+            kind: code_of(row.kind),
+            precision: row.precision,
+            has_size: row.has_size,
+            has_box: row.has_box,
+        }
+    }
+}
+
+/// The number of a type in the format.
+fn code_of(kind: Kind) -> u8
+    ensures { result ≡ code_of kind }
+{
+    match kind {
+        Kind::Point => 1,
+        Kind::LineString => 2,
+        Kind::Polygon => 3,
+        Kind::MultiPoint => 4,
+        Kind::MultiLineString => 5,
+        Kind::MultiPolygon => 6,
+        Kind::GeometryCollection => 7,
+    }
+}
+
+/// Puts a row for each blob into the room, in file order, as many as fit, and says how many blobs there are.
+pub fn list(layer: &Layer, room: &mut [Row]) -> usize
+    requires { IsCounted layer.now.bytes.now layer.now.blobs layer.now.vertices }
+    ensures answer { OfLayer layer.now.bytes.now (λ trees. result ≡ length trees) }
+    ensures room { OfLayer layer.now.bytes.now (λ trees. room.new ≡ filled (map in_numbers (rows trees)) room.old) }
+{
+    layer.certified().list_into(room)
+}

@@ -1,0 +1,41 @@
+//! Scans of layers.
+ghost use Rattle.std.specs.Prelude.{◌≡◌, length, sum_by};
+ghost use Rattle.twkb_num.specs.Cursor.{added};
+ghost use Rattle.twkb_layer.specs.Hits.{hits, cost, filled};
+ghost use Rattle.twkb_layer.specs.Layer.{IsCounted, OfLayer};
+ghost use Rattle.twkb_call.specs.Window.{ranges_of};
+
+use crate::layer::Layer;
+use crate::window::Window;
+use twkb_layer::Hit;
+
+/// What a scan answers.
+#[repr(C)]
+#[derive(Clone, Copy, Debug, PartialEq, Eq)]
+pub struct Scanned {
+    /// How many blobs have a vertex inside the window.
+    pub hits: usize,
+    /// How many bytes it read.
+    pub bytes_read: u64,
+}
+
+const SIZES: (usize, usize) = (std::mem::size_of::<Scanned>(), std::mem::size_of::<Hit>());
+
+const _: () = prove!(SIZES.0 == 16 && SIZES.1 == 16);
+
+/// Puts the blobs that have a vertex inside the window into the room, in file order, as many as fit.
+pub fn scan(layer: &Layer, window: &Window, room: &mut [Hit]) -> Scanned
+    requires { IsCounted layer.now.bytes.now layer.now.blobs layer.now.vertices }
+    ensures hits { OfLayer layer.now.bytes.now (λ trees. result.hits ≡ length (hits trees (ranges_of window.now))) }
+    ensures room { OfLayer layer.now.bytes.now (λ trees.
+        room.new ≡ filled (hits trees (ranges_of window.now)) room.old) }
+    ensures read { OfLayer layer.now.bytes.now (λ trees.
+        result.bytes_read ≡ added 0 (sum_by (cost (ranges_of window.now)) trees)) }
+{
+    let mut certified = layer.certified();
+    let hits = certified.scan(&window.checked(), room);
+    Scanned {
+        hits,
+        bytes_read: certified.read_count(),
+    }
+}

@@ -1,0 +1,97 @@
+//! What is found of bytes.
+ghost use Rattle.std.specs.Prelude.{◌≡◌, List, ◌⊎◌};
+ghost use Rattle.twkb_body.specs.Claims.{IsTrueClaim};
+ghost use Rattle.twkb_body.specs.Geometry.{Geometry};
+ghost use Rattle.twkb_body.specs.Tight.{IsTightlyTrue};
+ghost use Rattle.twkb_layer.specs.Layer.{IsCertifiedLayer, IsCounted};
+ghost use Rattle.twkb_layer.specs.Tight.{IsTightLayer};
+ghost use Rattle.twkb_call.specs.Verdict.{yes, Says};
+ghost use Rattle.twkb_call.specs.Devices.Verdict.{verdict_on};
+
+use std::alloc::Allocator;
+use twkb_layer::{Certified, Cursor, Refusal, certify_in, certify_tight_in};
+
+/// What is found of bytes. Numbers that the answer doesn't speak of are 0.
+#[repr(C)]
+#[derive(Clone, Copy, Debug, PartialEq, Eq)]
+pub struct Verdict {
+    /// 0 certified, 1 refused, 2 out of memory.
+    pub answer: u32,
+    /// Of a refusal: why.
+    pub kind: u32,
+    /// Of a certified layer: how many blobs it has.
+    pub blobs: usize,
+    /// And how many vertices they have.
+    pub vertices: usize,
+    /// Of a refusal: the number of the blob.
+    pub blob: usize,
+    /// And the offset in the bytes.
+    pub offset: usize,
+}
+
+const SIZE: usize = std::mem::size_of::<Verdict>();
+
+// Callers in other languages lay it out by hand.
+const _: () = prove!(SIZE == 40);
+
+/// Certifies the bytes as a layer.
+pub fn certify<A: Allocator>(alloc: &A, bytes: &[u8]) -> Verdict
+    ensures says { Says IsTrueClaim result bytes.now }
+    ensures complete { (trees : List Geometry) → IsCertifiedLayer trees bytes.now → (result.answer ≡ 0) ⊎ (result.answer ≡ 2) }
+{
+    match certify_in(alloc, Cursor::new(bytes)) {
+        Ok(layer) => certified(&layer),
+        Err(refusal) => refused(&refusal),
+    }
+}
+
+/// The same, where a loose box is refused too.
+pub fn certify_tight<A: Allocator>(alloc: &A, bytes: &[u8]) -> Verdict
+    ensures says { Says IsTightlyTrue result bytes.now }
+    ensures tight { result.answer ≡ 0 → (trees : List Geometry) × IsTightLayer trees bytes.now }
+    ensures complete { (trees : List Geometry) → IsTightLayer trees bytes.now → (result.answer ≡ 0) ⊎ (result.answer ≡ 2) }
+{
+    match certify_tight_in(alloc, Cursor::new(bytes)) {
+        Ok(layer) => certified(&layer),
+        Err(refusal) => refused(&refusal),
+    }
+}
+
+/// The verdict on a certified layer.
+fn certified(layer: &Certified) -> Verdict
+    ensures yes { result ≡ yes result.blobs result.vertices }
+    ensures counted { IsCounted layer.now.bytes result.blobs result.vertices }
+{
+    Verdict {
+        answer: 0,
+        kind: 0,
+        blobs: layer.blobs(),
+        vertices: layer.vertices(),
+        blob: 0,
+        offset: 0,
+    }
+}
+
+/// The verdict on bytes that are refused.
+fn refused(refusal: &Refusal) -> Verdict
+    ensures { result ≡ verdict_on refusal.now }
+{
+    match *refusal {
+        Refusal::No { blob, offset, kind } => Verdict {
+            answer: 1,
+            kind: u32::from(kind),
+            blobs: 0,
+            vertices: 0,
+            blob,
+            offset,
+        },
+        Refusal::Memory => Verdict {
+            answer: 2,
+            kind: 0,
+            blobs: 0,
+            vertices: 0,
+            blob: 0,
+            offset: 0,
+        },
+    }
+}

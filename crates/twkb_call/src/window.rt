@@ -1,0 +1,135 @@
+//! Windows in a form that crosses to other languages.
+ghost use Rattle.std.specs.Prelude.{◌≡◌, ◌≢◌, ◌≤◌, if◌then◌else◌, true, false};
+ghost use Rattle.twkb_head.specs.declared.boxes.Bounds.{Bounds};
+ghost use Rattle.twkb_layer.specs.WindowText.{IsWindowText, in_order};
+ghost use Rattle.twkb_call.specs.Window.{value_of, span_of, ranges_of};
+
+use twkb_layer::{BadWindow, Span};
+
+/// A number of units in two words, since no number of 128 bits crosses.
+#[repr(C)]
+#[derive(Clone, Copy, Debug, PartialEq, Eq)]
+pub struct Units {
+    pub low: u64,
+    /// It weighs 2^64.
+    pub high: i64,
+}
+
+/// Both ends are in it.
+#[repr(C)]
+#[derive(Clone, Copy, Debug, PartialEq, Eq)]
+pub struct Range {
+    pub lo: Units,
+    pub hi: Units,
+}
+
+/// A window. Where it doesn't bound Z or M nothing is said by that range.
+#[repr(C)]
+#[derive(Clone, Copy, Debug, PartialEq, Eq)]
+pub struct Window {
+    pub x: Range,
+    pub y: Range,
+    pub z: Range,
+    pub m: Range,
+    pub has_z: bool,
+    pub has_m: bool,
+}
+
+const SIZE: usize = std::mem::size_of::<Window>();
+
+const _: () = prove!(SIZE == 136);
+
+const BASE: i128 = 1 << 64;
+
+impl Units {
+    fn of(value: i128) -> Units
+        ensures { value_of result ≡ value }
+    {
+        Units {
+            low: value.rem_euclid(BASE) as u64,
+            high: value.div_euclid(BASE) as i64,
+        }
+    }
+
+    fn value(&self) -> i128
+        ensures { result ≡ value_of self.now }
+    {
+        i128::from(self.high) * BASE + i128::from(self.low)
+    }
+}
+
+impl Range {
+    /// It says nothing.
+    const NONE: Range = Range {
+        lo: Units { low: 0, high: 0 },
+        hi: Units { low: 0, high: 0 },
+    };
+
+    fn of(span: &Span) -> Range
+        ensures { span_of result ≡ span.now }
+    {
+        Range {
+            lo: Units::of(span.lo),
+            hi: Units::of(span.hi),
+        }
+    }
+
+    fn span(&self) -> Span
+        ensures { result ≡ span_of self.now }
+    {
+        Span {
+            lo: self.lo.value(),
+            hi: self.hi.value(),
+        }
+    }
+}
+
+impl Window {
+    /// The window of these ranges.
+    fn of(window: &twkb_layer::Window) -> Window
+        ensures { ranges_of result ≡ window.now }
+    {
+        let ranges = window.ranges();
+        Window {
+            x: Range::of(&ranges.x),
+            y: Range::of(&ranges.y),
+            z: ranges.z.map_or(Range::NONE, |z| Range::of(&z)),
+            m: ranges.m.map_or(Range::NONE, |m| Range::of(&m)),
+            has_z: ranges.z.is_some(),
+            has_m: ranges.m.is_some(),
+        }
+    }
+
+    /// The window that it means.
+    pub(crate) fn checked(&self) -> twkb_layer::Window
+        ensures { result ≡ ranges_of self.now }
+    {
+        let mut window = twkb_layer::Window::new(self.x.span(), self.y.span());
+        if self.has_z {
+            window = window.with_z(self.z.span());
+        }
+        if self.has_m {
+            window = window.with_m(self.m.span());
+        }
+        window
+    }
+}
+
+/// Reads a window of the form `x=A..B,y=C..D[,z=E..F][,m=G..H]`, exactly. The answer is 0, or 1 where the text hasn't this form,
+/// or 2 where a lower bound is above its upper one; then the window stays as it was.
+pub fn parse_window(text: &[u8], window: &mut Window) -> u32
+    ensures answers { result ≤ 2 }
+    ensures window { result ≡ 0 → IsWindowText text.now (ranges_of window.new) × (in_order (ranges_of window.new) ≡ true) }
+    ensures order { result ≡ 2 → (w : Bounds) × IsWindowText text.now w × (in_order w ≡ false) }
+    ensures exact { (w : Bounds) → IsWindowText text.now w → result ≡ (if in_order w then 0 else 2) }
+    ensures kept { result ≢ 0 → window.new ≡ window.old }
+{
+    match twkb_layer::Window::parse_bytes(text) {
+        Ok(read) => {
+            *window = Window::of(&read);
+            0
+        }
+        Err(BadWindow::Form) => 1,
+        Err(BadWindow::Order) => 2,
+    }
+}
