@@ -1,0 +1,99 @@
+//! A directory of a layer.
+
+use crate::layer::scan_growing;
+use crate::{ffi, Hit, Layer, Scan, Scanned, Window};
+use std::collections::TryReserveError;
+use std::fmt;
+use std::mem::MaybeUninit;
+
+/// The offsets and boxes of a layer's blobs, by which scans read nothing of a blob whose box misses the window.
+///
+/// [`Layer::directory`] makes it. It keeps its layer with it, and so can't be used with another one, nor outlive the
+/// bytes:
+///
+/// ```compile_fail,E0597
+/// # use dozhemik::Layer;
+/// let directory = {
+///     let bytes = vec![1, 0, 2, 4];
+///     Layer::certify(&bytes).unwrap().directory().unwrap()
+/// };
+/// directory.scan(&"x=0..1,y=0..2".parse().unwrap()).unwrap();
+/// ```
+///
+/// It may be used by many threads at once.
+pub struct Directory<'a> {
+    layer: Layer<'a>,
+    slots: Vec<ffi::Slot>,
+}
+
+impl<'a> Directory<'a> {
+    pub(crate) fn of(layer: Layer<'a>) -> Result<Directory<'a>, TryReserveError> {
+        let mut slots = Vec::new();
+        // A blob takes a byte at least, and no slice has more than 2^63 - 1: so this doesn't overflow.
+        slots.try_reserve_exact(2 * layer.blobs())?;
+        let room: &mut [MaybeUninit<ffi::Slot>] = slots.spare_capacity_mut();
+        // Sound: the layer is certified, and the room is the vector's own; it is written and never read.
+        let count = unsafe { ffi::twkb_directory_build(&layer.lent(), room.as_mut_ptr().cast(), room.len()) };
+        assert!(count <= room.len(), "two slots for each blob are enough");
+        // Sound: the library has written as many slots as it answers, as there was room for them.
+        unsafe { slots.set_len(count) };
+        Ok(Directory { layer, slots })
+    }
+
+    /// The layer that it is a directory of.
+    pub const fn layer(&self) -> Layer<'a> {
+        self.layer
+    }
+
+    /// What [`Layer::scan`] finds, with fewer bytes read where boxes miss the window.
+    ///
+    /// ```
+    /// # use dozhemik::{Hit, Layer};
+    /// # fn main() -> Result<(), Box<dyn std::error::Error>> {
+    /// // Two points that have a box, at 1 1 and at 10 10.
+    /// let layer = Layer::certify(&[1, 1, 2, 0, 2, 0, 2, 2, 1, 1, 20, 0, 20, 0, 20, 20])?;
+    /// let directory = layer.directory()?;
+    /// let window = "x=9..12,y=9..12".parse()?;
+    /// let scan = directory.scan(&window)?;
+    /// assert_eq!(scan.hits, [Hit { blob: 1, offset: 8 }]);
+    /// assert!(scan.bytes_read < layer.scan(&window)?.bytes_read);
+    /// # Ok(())
+    /// # }
+    /// ```
+    ///
+    /// # Errors
+    ///
+    /// Those of [`Layer::scan`].
+    pub fn scan(&self, window: &Window) -> Result<Scan, TryReserveError> {
+        scan_growing(&self.layer, |room| self.scan_spare(window, room))
+    }
+
+    /// Writes what [`scan`](Directory::scan) finds into the front of the room, as [`Layer::scan_into`] does. It takes
+    /// no memory and can't fail.
+    pub fn scan_into(&self, window: &Window, room: &mut [Hit]) -> Scanned {
+        // Sound: the room is borrowed by this call alone, and hits are written as hits.
+        unsafe { self.scan_raw(window, room.as_mut_ptr(), room.len()) }
+    }
+
+    fn scan_spare(&self, window: &Window, room: &mut [MaybeUninit<Hit>]) -> Scanned {
+        // Sound: the same, and the library writes the room and never reads it.
+        unsafe { self.scan_raw(window, room.as_mut_ptr().cast(), room.len()) }
+    }
+
+    /// # Safety
+    ///
+    /// The room is good for so many hits, and nobody else uses it meanwhile.
+    unsafe fn scan_raw(&self, window: &Window, hits: *mut Hit, room: usize) -> Scanned {
+        let (layer, window, slots) = (self.layer.lent(), window.lent(), &self.slots);
+        // Sound: the layer is certified, the slots were built for it, and nobody can write either. The rest is the
+        // caller's.
+        unsafe { ffi::twkb_directory_scan(&layer, slots.as_ptr(), slots.len(), &window, hits, room) }
+    }
+}
+
+impl fmt::Debug for Directory<'_> {
+    /// Its layer, and how many slots it has.
+    fn fmt(&self, f: &mut fmt::Formatter<'_>) -> fmt::Result {
+        write!(f, "Directory {{ layer: {:?}, slots: [..; {}] }}", self.layer, self.slots.len())
+    }
+}

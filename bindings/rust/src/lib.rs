@@ -1,0 +1,72 @@
+//! Layers of TWKB geometries: certified once, then scanned and listed, by a proved library.
+//!
+//! TWKB (Tiny Well-Known Binary) is the compact integer encoding of geometries, and a layer is a run of its blobs. A
+//! blob may have a size and a box, by which a scan hops over it where a window misses it. [`Layer::certify`] reads a
+//! layer whole and tells whether each size is true, each box holds the vertices below it, and the ids of each list
+//! differ. Else it names the first claim that is false by its blob, its offset and its kind. A certified layer is then
+//! [listed](Layer::list), and [scanned](Layer::scan) for the blobs that have a vertex inside a [`Window`].
+//!
+//! What certifying, listing, scanning and the reading of a window's text answer is proved, in Rattle, and linked as
+//! `libtwkb.a`. What this crate adds is trusted: one `extern` block, and types that keep what the library asks of its
+//! callers.
+//!
+//! # Example
+//!
+//! ```
+//! use dozhemik::{CertifyError, Hit, Layer, RefusalKind, Window};
+//!
+//! # fn main() -> Result<(), Box<dyn std::error::Error>> {
+//! // A line from 1 1 to 5 5 that has a size and a box, and a point at 10 10 that has a box.
+//! let mut bytes = *b"\x02\x03\x09\x02\x08\x02\x08\x02\x02\x02\x08\x08\x01\x01\x14\x00\x14\x00\x14\x14";
+//!
+//! let layer = Layer::certify(&bytes)?;
+//! assert_eq!((layer.blobs(), layer.vertices()), (2, 3));
+//!
+//! // The line is hopped over: fifteen bytes are read of twenty.
+//! let window: Window = "x=9.5..12,y=10..10".parse()?;
+//! let scan = layer.scan(&window)?;
+//! assert_eq!(scan.hits, [Hit { blob: 1, offset: 12 }]);
+//! assert_eq!(scan.bytes_read, 15);
+//!
+//! // With its last vertex at 5 6 the line isn't in its box any more.
+//! bytes[11] = 0x0a;
+//! let error = Layer::certify(&bytes).unwrap_err();
+//! assert_eq!(error.to_string(), "refused: blob=0 offset=3 kind=box");
+//! assert!(matches!(error, CertifyError::Refused(refusal) if refusal.kind == RefusalKind::Box));
+//! # Ok(())
+//! # }
+//! ```
+//!
+//! # Numbers
+//!
+//! Coordinates are compared as numbers of *units*, of which ten million are one, and no call rounds. See [`Span`] for
+//! how a window's bounds are turned into units.
+//!
+//! # Memory and time
+//!
+//! Certifying takes time in proportion to the bytes, and takes memory only for a list of more than sixteen ids, while
+//! it reads it. A scan reads of each blob its header, and the rest of those that it can't hop over.
+//! For many windows a [`Directory`] takes 80 bytes a blob, and its scans read nothing of a blob whose box misses the
+//! window. [`Layer::scan_into`] takes no memory at all. Where memory is refused, a call answers so, and never aborts.
+//!
+//! # Building
+//!
+//! The environment variable `TWKB_LIB` names the folder of `libtwkb.a`, which `make bindings` makes in the repository.
+//! It is code for x86-64 with the instructions of x86-64-v2.
+#![warn(missing_docs, missing_debug_implementations, unreachable_pub, rust_2018_idioms)]
+#![deny(unsafe_op_in_unsafe_fn)]
+
+mod directory;
+mod ffi;
+mod layer;
+mod refusal;
+mod row;
+mod scan;
+mod window;
+
+pub use directory::Directory;
+pub use layer::Layer;
+pub use refusal::{CertifyError, Refusal, RefusalKind};
+pub use row::{Kind, Row};
+pub use scan::{Hit, Scan, Scanned};
+pub use window::{BadWindow, Span, Window};
