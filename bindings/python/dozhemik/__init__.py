@@ -1,0 +1,38 @@
+"""Certifies layers of TWKB geometries, lists them and scans them for windows, by the proved library libtwkb.so.
+
+A layer is the bytes of TWKB blobs, one after another. It is certified where each size is the number of bytes behind it,
+each box holds the vertices below it, and the ids of each list differ. Only then is it listed and scanned:
+
+    from dozhemik import Refused, certify
+
+    with open("coast.twkb", "rb") as file:
+        data = file.read()
+    try:
+        layer = certify(data)
+    except Refused as why:
+        print(why.blob, why.offset, why.kind)
+    else:
+        scan = layer.scan(x=(10, 30), y=(35, 45.5))
+        print(len(scan), "hits,", scan.bytes_read, "of", len(data), "bytes read")
+        for hit in scan:
+            print(hit.blob, hit.offset)
+
+What a call answers is proved of the library. This package is not: it passes the bytes, and makes Python's values of the
+answers. It loads the file that the environment variable TWKB_LIBRARY names, or libtwkb.so beside its modules.
+"""
+from ._layer import Directory, Hit, Layer, Refused, Row, Scan, certify
+from ._window import BadWindow, Coordinate, Range, Window
+
+__all__ = [
+    "BadWindow",
+    "Coordinate",
+    "Directory",
+    "Hit",
+    "Layer",
+    "Range",
+    "Refused",
+    "Row",
+    "Scan",
+    "Window",
+    "certify",
+]

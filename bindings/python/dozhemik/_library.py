@@ -1,0 +1,115 @@
+"""The structs and the calls of libtwkb.so, as bindings/c/twkb.h declares them, and the loading of it."""
+import ctypes
+import os
+import struct
+from ctypes import POINTER, c_bool, c_char_p, c_int8, c_int64, c_size_t, c_uint8, c_uint32, c_uint64
+
+CERTIFIED, REFUSED, NO_MEMORY = 0, 1, 2
+WINDOW, BAD_FORM, BAD_ORDER = 0, 1, 2
+
+
+class Verdict(ctypes.Structure):
+    _fields_ = [
+        ("answer", c_uint32),
+        ("kind", c_uint32),
+        ("blobs", c_size_t),
+        ("vertices", c_size_t),
+        ("blob", c_size_t),
+        ("offset", c_size_t),
+    ]
+
+
+class Layer(ctypes.Structure):
+    # A field of c_char_p keeps the bytes that it is set to.
+    _fields_ = [("bytes", c_char_p), ("len", c_size_t), ("blobs", c_size_t), ("vertices", c_size_t)]
+
+
+class Row(ctypes.Structure):
+    _fields_ = [
+        ("blob", c_size_t),
+        ("offset", c_size_t),
+        ("bytes", c_size_t),
+        ("vertices", c_size_t),
+        ("kind", c_uint8),
+        ("precision", c_int8),
+        ("has_size", c_bool),
+        ("has_box", c_bool),
+    ]
+
+
+class Units(ctypes.Structure):
+    _fields_ = [("low", c_uint64), ("high", c_int64)]
+
+
+class Span(ctypes.Structure):
+    _fields_ = [("lo", Units), ("hi", Units)]
+
+
+class Window(ctypes.Structure):
+    _fields_ = [("x", Span), ("y", Span), ("z", Span), ("m", Span), ("has_z", c_bool), ("has_m", c_bool)]
+
+
+class Hit(ctypes.Structure):
+    _fields_ = [("blob", c_size_t), ("offset", c_size_t)]
+
+
+class Scanned(ctypes.Structure):
+    _fields_ = [("hits", c_size_t), ("bytes_read", c_uint64)]
+
+
+class Slot(ctypes.Structure):
+    _fields_ = [("word", c_uint64), ("first", c_int64 * 2), ("second", c_int64 * 2)]
+
+
+# The numbers of a row and of a hit, for reading many of them at once.
+ROW, HIT = struct.Struct("@NNNNBb??4x"), struct.Struct("@NN")
+
+# The sizes of the header's structs in bytes.
+_SIZES = (
+    (Verdict, 40),
+    (Layer, 32),
+    (Row, 40),
+    (Units, 16),
+    (Span, 32),
+    (Window, 136),
+    (Hit, 16),
+    (Scanned, 16),
+    (Slot, 40),
+)
+
+_BYTES = (c_char_p, c_size_t)
+# What each call takes, and what it answers.
+_CALLS = (
+    ("twkb_certify", _BYTES, Verdict),
+    ("twkb_certify_tight", _BYTES, Verdict),
+    ("twkb_list", (POINTER(Layer), POINTER(Row), c_size_t), c_size_t),
+    ("twkb_window_parse", (*_BYTES, POINTER(Window)), c_uint32),
+    ("twkb_scan", (POINTER(Layer), POINTER(Window), POINTER(Hit), c_size_t), Scanned),
+    ("twkb_directory_build", (POINTER(Layer), POINTER(Slot), c_size_t), c_size_t),
+    (
+        "twkb_directory_scan",
+        (POINTER(Layer), POINTER(Slot), c_size_t, POINTER(Window), POINTER(Hit), c_size_t),
+        Scanned,
+    ),
+)
+
+
+def _loaded() -> ctypes.CDLL:
+    for kind, size in _SIZES:
+        if ctypes.sizeof(kind) != size:
+            raise ImportError(f"a {kind.__name__} has {ctypes.sizeof(kind)} bytes here, and {size} in libtwkb.so")
+    if (ROW.size, HIT.size) != (40, 16):
+        raise ImportError(f"a row and a hit have {ROW.size} and {HIT.size} bytes here, and 40 and 16 in libtwkb.so")
+    beside = os.path.join(os.path.dirname(os.path.abspath(__file__)), "libtwkb.so")
+    path = os.environ.get("TWKB_LIBRARY") or beside
+    try:
+        found = ctypes.CDLL(path)
+        for name, takes, answers in _CALLS:
+            call = getattr(found, name)
+            call.argtypes, call.restype = takes, answers
+    except (OSError, AttributeError) as why:
+        raise ImportError(f"{why}. bindings/build.sh builds libtwkb.so, and TWKB_LIBRARY names it") from why
+    return found
+
+
+library = _loaded()
