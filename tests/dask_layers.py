@@ -1,0 +1,220 @@
+#!/usr/bin/env python3
+"""Runs examples/dask_layers.py on local clusters, of which one loses a worker in mid-run: each layer is answered once.
+
+usage: tests/dask_layers.py [PROGRAM]   (build/twkb_tool where it is left out)
+
+The environment names the library (TWKB_LIBRARY). What is answered is compared with what the program prints of the same
+layers. Where the interpreter has no distributed, Debian's is tried, and where that has none either, it is only seen that
+the script says what brings it. Prints each difference, and last a line `N passed, M failed`; the status is 1 where any
+failed.
+"""
+import itertools
+import json
+import os
+import re
+import signal
+import subprocess
+import sys
+import tempfile
+import time
+
+from harness import TOP, count, counts, written
+
+SCRIPT = os.path.join(TOP, "examples", "dask_layers.py")
+ENVIRONMENT = os.environ | {"PYTHONPATH": os.path.join(TOP, "bindings", "python")}
+DEBIANS = "/usr/bin/python3"
+WINDOWS = ["x=10..30,y=35..45", "x=-0.5..180,y=-90..90,z=0..10"]
+WORKERS, COPIES = 3, 40
+
+
+def example(name):
+    with open(os.path.join(TOP, "examples", f"{name}.twkb"), "rb") as file:
+        return file.read()
+
+
+def contents():
+    """Layers that take some time, of which one is refused at its end, and small ones."""
+    lines = example("coast_lines_sized") * 100
+    return {
+        "lines": lines,
+        "cut": lines[:-1],
+        "z": example("coast_z") * 200,
+        "nothing": b"",
+        "text": b"01000204",
+    }
+
+
+def folder_of(folder, copies):
+    """A folder with many names of few layers, and with what is none."""
+    os.makedirs(os.path.join(folder, "deep"))
+    first = {name: written(folder, f"{name}.twkb", data) for name, data in contents().items()}
+    for name, number in itertools.product(first, range(copies)):
+        os.link(first[name], os.path.join(folder, "deep", f"{name} {number}.twkb"))
+    written(folder, "no layer.txt", b"text")
+    os.mkfifo(os.path.join(folder, "pipe.twkb"))
+
+
+def wanted(program, folder, windows):
+    """The lines of each layer as the program prints them, and the status."""
+    told, statuses = {}, {0}
+    runs = [["check"]] if not windows else [["scan", window] for window in windows]
+    for name in contents():
+        lines = []
+        for words in runs:
+            layer = os.path.join(folder, f"{name}.twkb")
+            done = subprocess.run([program, words[0], layer, *words[1:]], stdout=subprocess.PIPE, text=True)
+            lines += done.stdout.splitlines()
+            statuses.add(done.returncode)
+        # A refused layer is refused once, however many windows there are.
+        told[name] = lines[:1] if lines[0].startswith("no ") else lines
+    return told, max(statuses)
+
+
+def compare(name, folder, told, wanted_lines):
+    """Each layer stands once, with its lines together and in their order."""
+    rows = [row.split("\t") for row in told.splitlines()]
+    blocks = [(path, [row[1] for row in rows]) for path, rows in itertools.groupby(rows, key=lambda row: row[0])]
+    paths = [os.path.join(at, file) for at, _, files in os.walk(folder) for file in files if file.endswith(".twkb")]
+    paths = [path for path in paths if os.path.isfile(path)]
+    count(f"{name}: each layer once", sorted(path for path, _ in blocks), sorted(paths))
+    kinds = [(path, os.path.basename(path).split(".")[0].split()[0]) for path, _ in blocks]
+    differ = [path for (path, kind), (_, lines) in zip(kinds, blocks) if lines != wanted_lines[kind]]
+    count(f"{name}: as the program prints them", differ, [])
+
+
+def script(*words):
+    return [sys.executable, SCRIPT, *words]
+
+
+def of_its_own(program, folder):
+    """The script starts its cluster, and nothing is lost."""
+    for windows in ([], WINDOWS):
+        done = subprocess.run(script("--workers", "2", folder, *windows), env=ENVIRONMENT, capture_output=True)
+        lines, status = wanted(program, folder, windows)
+        count(f"its status: {windows}", done.returncode, status)
+        compare(f"its cluster: {windows}", folder, done.stdout.decode(), lines)
+        count("one line of progress", done.stderr.count(b"\n"), 1)
+
+
+def certified_alone(folder):
+    os.mkdir(folder)
+    written(folder, "point.twkb", bytes.fromhex("01000204"))
+    os.rename(written(folder, "name", b""), os.path.join(os.fsencode(folder), b"a\xff.twkb"))
+    done = subprocess.run(script("--workers", "1", folder), env=ENVIRONMENT, capture_output=True)
+    lines = [b"a\xff.twkb\tok blobs=0 vertices=0", b"point.twkb\tok blobs=1 vertices=1"]
+    lines = [os.fsencode(folder) + b"/" + line for line in lines]
+    count("names that are no text", sorted(done.stdout.splitlines()), lines)
+    count("the status of certified layers", done.returncode, 0)
+
+
+def words_refused(folder):
+    for words, status in (([], 2), ([folder, "x=1..0,y=0..1"], 2), ([folder + "/missing"], 3)):
+        done = subprocess.run(script("--workers", "1", *words), env=ENVIRONMENT, capture_output=True, text=True)
+        count(f"bad words: {words}", (done.returncode, done.stdout), (status, ""))
+
+
+def started(words, **options):
+    return subprocess.Popen([sys.executable, "-m", *words], env=ENVIRONMENT, **options)
+
+
+def cluster(folder, stack):
+    """A scheduler and workers, processes that nothing starts again. Answers the address, and the workers by name."""
+    file, log = os.path.join(folder, "scheduler.json"), open(os.path.join(folder, "log"), "w")
+    words = ["distributed.cli.dask_scheduler", "--host", "127.0.0.1", "--port", "0", "--no-dashboard"]
+    stack.append(started([*words, "--scheduler-file", file], stdout=log, stderr=log))
+    workers = {}
+    for name in map(str, range(WORKERS)):
+        words = ["distributed.cli.dask_worker", "--scheduler-file", file, "--no-nanny", "--no-dashboard"]
+        workers[name] = started([*words, "--nthreads", "1", "--name", name], stdout=log, stderr=log)
+        stack.append(workers[name])
+    until(lambda: os.path.exists(file) and os.path.getsize(file) > 0)
+    with open(file) as told:
+        return json.load(told)["address"], workers
+
+
+def until(there):
+    end = time.monotonic() + 60
+    while not there():
+        if time.monotonic() > end:
+            raise TimeoutError("the cluster doesn't get there")
+        time.sleep(0.01)
+
+
+def progress_until(stream, done, text=""):
+    """Reads the progress until so many layers are done. Answers what was read."""
+    while not any(int(number) >= done for number in re.findall(r"\r(\d+) of", text)):
+        piece = os.read(stream.fileno(), 4096).decode()
+        if not piece:
+            break
+        text += piece
+    return text
+
+
+def one_lost(program, folder, scratch):
+    """A worker is stopped in mid-run, and killed while tasks are its own."""
+    from distributed import Client
+
+    processes = []
+    try:
+        address, workers = cluster(scratch, processes)
+        with Client(address) as client:
+            client.wait_for_workers(WORKERS)
+            addresses = {str(info["name"]): place for place, info in client.scheduler_info()["workers"].items()}
+            out = open(os.path.join(scratch, "out"), "w+")
+            run = subprocess.Popen(
+                script("--scheduler", address, folder, *WINDOWS), env=ENVIRONMENT, stdout=out, stderr=subprocess.PIPE
+            )
+            processes.append(run)
+            told = progress_until(run.stderr, COPIES)
+            workers["1"].send_signal(signal.SIGSTOP)
+            held = client.processing()[addresses["1"]]
+            workers["1"].kill()
+            workers["1"].wait()
+            told = progress_until(run.stderr, sys.maxsize, told)
+            status = run.wait(60)
+            count("the workers that are left", len(client.scheduler_info()["workers"]), WORKERS - 1)
+        out.seek(0)
+        lines, wanted_status = wanted(program, folder, WINDOWS)
+        count("the lost worker had tasks", len(held) > 0, True)
+        print(f"lost in mid-run: a worker with {len(held)} tasks; {told.splitlines()[-1].split(chr(13))[-1]}")
+        count("its status", status, wanted_status)
+        compare("a worker lost", folder, out.read(), lines)
+        out.close()
+    finally:
+        for process in processes:
+            if process.poll() is None:
+                process.kill()
+            process.wait()
+
+
+def without_distributed():
+    done = subprocess.run([sys.executable, "-S", SCRIPT, "."], env=ENVIRONMENT, capture_output=True, text=True)
+    said = "dask_layers.py: distributed is missing: apt-get install python3-distributed\n"
+    count("without distributed", (done.returncode, done.stdout, done.stderr), (3, "", said))
+
+
+def has_distributed(python):
+    return subprocess.run([python, "-c", "import distributed"], stderr=subprocess.DEVNULL).returncode == 0
+
+
+def main():
+    program = os.path.abspath(sys.argv[1] if len(sys.argv) > 1 else os.path.join(TOP, "build", "twkb_tool"))
+    if not has_distributed(sys.executable):
+        if os.path.exists(DEBIANS) and not os.path.samefile(DEBIANS, sys.executable) and has_distributed(DEBIANS):
+            os.execv(DEBIANS, [DEBIANS, os.path.abspath(__file__), program])
+        print("distributed is missing, so no cluster was tried: apt-get install python3-distributed")
+    without_distributed()
+    if has_distributed(sys.executable):
+        with tempfile.TemporaryDirectory() as folder:
+            layers = os.path.join(folder, "layers")
+            folder_of(layers, COPIES)
+            of_its_own(program, layers)
+            certified_alone(os.path.join(folder, "certified"))
+            words_refused(layers)
+            one_lost(program, layers, folder)
+    print(f"{counts['passed']} passed, {counts['failed']} failed")
+    return int(counts["failed"] > 0)
+
+
+if __name__ == "__main__":
+    sys.exit(main())
