@@ -9,7 +9,7 @@ MANUALS = share/man/man1
 BASH = share/bash-completion/completions
 ZSH = share/zsh/site-functions
 
-.PHONY: help kit build install uninstall demo test bench picture trusted refusals twins stack clean
+.PHONY: help kit build install uninstall demo test bindings bench picture trusted refusals twins stack clean
 
 help:
 	@echo 'make build      prove and build the program: $(PROGRAM) (some minutes the first time)'
@@ -17,6 +17,7 @@ help:
 	@echo 'make uninstall  take them away'
 	@echo 'make demo       build, and check, list and scan layers that PostGIS wrote'
 	@echo 'make test       build, test the program from end to end, and run the merge gate'
+	@echo 'make bindings   build the library for C, Rust and Python, and test what calls it'
 	@echo 'make bench      build, and compare with plain Rust on 40 MB (needs rustc; valgrind counts instructions)'
 	@echo 'make picture    build, and draw how much of a layer scans read: docs/hops.svg'
 	@echo 'make trusted    print how many lines of definitions have to be believed, crate by crate'
@@ -65,7 +66,11 @@ test: build
 	python3 tests/trusted_cases.py
 	python3 tests/install.py
 	python3 tests/scripts.py $(PROGRAM)
+	python3 tests/bindings.py $(PROGRAM)
 	rt ci
+
+bindings: build
+	python3 tests/bindings.py $(PROGRAM)
 
 bench: build
 	cd crates/twkb_bench && rt run -- /dev/null 0 > /dev/null

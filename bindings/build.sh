@@ -1,13 +1,21 @@
 #!/bin/sh
-# Builds build/bindings/libtwkb.a and libtwkb.so out of the proved static library. usage: bindings/build.sh
+# Builds build/bindings/libtwkb.a and libtwkb.so out of the proved static library. usage: bindings/build.sh [--second]
+# With --second it is build/bindings/second/libtwkb.a alone, by the kit's second compiler, to compare the answers of both.
 # Wants rt of the Rattle kit, ar and gcc.
 set -eu
 top=$(cd "$(dirname "$0")/.." && pwd)
 out=$top/build/bindings
 kit=$(dirname "$(rt doc)")
+flags=
+case ${1-} in
+    --second) out=$out/second flags='--backend rattle' ;;
+    '') ;;
+    *) echo "usage: bindings/build.sh [--second]" >&2; exit 2 ;;
+esac
 mkdir -p "$out"
 
-if ! (cd "$top/crates/twkb_c" && rt lib) > "$out/twkb_c.log" 2>&1; then
+# shellcheck disable=SC2086 (the flags are words)
+if ! (cd "$top/crates/twkb_c" && rt lib $flags) > "$out/twkb_c.log" 2>&1; then
     cat "$out/twkb_c.log" >&2
     exit 1
 fi
@@ -17,6 +25,8 @@ trap 'rm -rf "$objects"' EXIT
 (cd "$objects" && ar x "$top/crates/twkb_c/out/libtwkb_c.a" && ar x "$kit/c/liblibc_c.a")
 rm -f "$out/libtwkb.a"
 ar rcs "$out/libtwkb.a" "$objects"/*.o
+echo "built $out/libtwkb.a"
+[ -z "$flags" ] || exit 0
 gcc -shared -s -o "$out/libtwkb.so" -Wl,--whole-archive "$out/libtwkb.a" -Wl,--no-whole-archive -Wl,-z,defs \
     -Wl,--version-script="$top/bindings/exports.map" -Wl,-soname,libtwkb.so.0
-echo "built $out/libtwkb.a and $out/libtwkb.so"
+echo "built $out/libtwkb.so"

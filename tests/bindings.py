@@ -1,0 +1,134 @@
+#!/usr/bin/env python3
+"""Builds the library for C, Rust and Python, and runs what calls it.
+
+usage: tests/bindings.py [PROGRAM]   (build/twkb_tool where it is left out; rt of the kit in PATH)
+
+Each language has a driver that takes the program's words and prints what the program prints, C another one over the archive
+that the kit's second compiler makes. They run the small layers of cases.tsv, and the examples with the windows of
+postgis.tsv, of which the program says what is wanted. Then come the tests of each language's own. What a language needs and
+this machine lacks is named in one line, with the command that brings it, and its tests are left out. Prints each difference,
+and last a line `N passed, M failed`; the status is 1 where any failed.
+"""
+import os
+import shutil
+import subprocess
+import sys
+import tempfile
+
+from harness import TOP, count, counts, run, table, written
+
+BINDINGS = os.path.join(TOP, "bindings")
+LIBRARY = os.path.join(TOP, "build", "bindings")
+ARCHIVE = os.path.join(LIBRARY, "libtwkb.a")
+SECOND = os.path.join(LIBRARY, "second", "libtwkb.a")
+SHARED = os.path.join(LIBRARY, "libtwkb.so")
+C = ["gcc", "-std=c11", "-Wall", "-Wextra", "-Wpedantic", "-Werror"]
+CPP = ["g++", "-x", "c++", "-std=c++11", "-Wall", "-Wextra", "-Wpedantic", "-Werror"]
+SANITIZED = ["-O1", "-g", "-fsanitize=address,undefined", "-fno-sanitize-recover"]
+EXAMPLES = ["points_sized.twkb", "coast_lines_sized.twkb", "coast_collections.twkb", "coast_z.twkb"]
+MINUTES = 10 * 60
+# What each part needs, and what brings it.
+NEEDS = {
+    "gcc": "apt-get install gcc libc6-dev",
+    "g++": "apt-get install g++",
+    "valgrind": "apt-get install valgrind",
+    "cargo": "apt-get install cargo",
+}
+
+
+def has(tool):
+    if shutil.which(tool):
+        return True
+    print(f"{tool} is missing: {NEEDS[tool]}; its tests are left out")
+    return False
+
+
+def succeeds(name, words, **options):
+    """A command that judges by its status alone."""
+    done = subprocess.run(words, stdout=subprocess.PIPE, stderr=subprocess.STDOUT, timeout=MINUTES, **options)
+    count(name, (done.returncode, b"" if done.returncode == 0 else done.stdout[-3000:]), (0, b""))
+
+
+def cases(folder):
+    """Runs of the program: a name, the words with the file of the layer among them, the status and the standard output."""
+    for number, (name, words, data, status, text) in enumerate(table("cases.tsv")):
+        path = written(folder, f"case{number}.twkb", bytes.fromhex(data))
+        yield name, words.replace("FILE", path).split(" "), int(status), text.replace("\\n", "\n").encode()
+
+
+def runs_on_examples(program):
+    """The same of the examples, with what the program gives."""
+    for layer in EXAMPLES:
+        path = os.path.join(TOP, "examples", layer)
+        windows = [row[1] for row in table("postgis.tsv") if row[0] == layer]
+        for words in (["check", path], ["check", "--tight", path], ["list", path], *(["scan", path, w] for w in windows)):
+            status, out, _ = run([program, *words])
+            yield layer, words, status, out
+
+
+def drive(language, driver, program, folder):
+    """All cases through one driver."""
+    for name, words, status, text in (*cases(folder), *runs_on_examples(program)):
+        count(f"{language}, {name}: {' '.join(words)}", run([*driver, *words])[:2], (status, text))
+
+
+def test_c(program, folder):
+    if not has("gcc"):
+        return
+    source = os.path.join(BINDINGS, "c")
+
+    def build(name, *flags, archive=ARCHIVE):
+        out = os.path.join(folder, f"{name}{len(flags)}{os.path.basename(os.path.dirname(archive))}")
+        succeeds(f"C, building {name}", [*C, *flags, f"{name}.c", archive, "-o", out], cwd=source)
+        return out
+
+    succeeds("C, layout", [*C, "-c", "layout.c", "-o", os.devnull], cwd=source)
+    if has("g++"):
+        succeeds("C++, layout", [*CPP, "-c", "layout.c", "-o", os.devnull], cwd=source)
+    drive("C", [build("cases", "-O2")], program, folder)
+    drive("C, by the second compiler", [build("cases", "-O2", archive=SECOND)], program, folder)
+    succeeds("C, memory refused", [build("refuse", "-O2", "-Wl,--wrap=malloc,--wrap=realloc,--wrap=free")])
+    edges = build("edges", "-O2", "-g", "-pthread")
+    sanitized = build("edges", *SANITIZED, "-pthread")
+    for layer in EXAMPLES:
+        path = os.path.join(TOP, "examples", layer)
+        succeeds(f"C, edges, {layer}", [edges, path])
+        succeeds(f"C, edges with sanitizers, {layer}", [sanitized, path])
+    if has("valgrind"):
+        path = os.path.join(TOP, "examples", "coast_z.twkb")
+        succeeds("C, edges under valgrind", ["valgrind", "-q", "--error-exitcode=9", "--leak-check=full", edges, path])
+
+
+def test_rust(program, folder):
+    if not has("cargo"):
+        return
+    source = os.path.join(BINDINGS, "rust")
+    target = os.path.join(folder, "cargo")
+    environment = {**os.environ, "TWKB_LIB": LIBRARY, "CARGO_TARGET_DIR": target}
+    succeeds("Rust, tests", ["cargo", "test", "--offline", "--quiet"], cwd=source, env=environment)
+    succeeds("Rust, examples", ["cargo", "build", "--release", "--examples", "--offline", "--quiet"], cwd=source, env=environment)
+    drive("Rust", [os.path.join(target, "release", "examples", "cases")], program, folder)
+
+
+def test_python(program, folder):
+    source = os.path.join(BINDINGS, "python")
+    environment = {**os.environ, "TWKB_LIBRARY": SHARED, "PYTHONDONTWRITEBYTECODE": "1"}
+    succeeds("Python, tests", [sys.executable, "-m", "unittest", "discover", "-s", "tests"], cwd=source, env=environment)
+    os.environ.update(TWKB_LIBRARY=SHARED, PYTHONDONTWRITEBYTECODE="1")
+    drive("Python", [sys.executable, os.path.join(source, "tests", "cases.py")], program, folder)
+
+
+def main(program):
+    succeeds("the library by the second compiler", [os.path.join(BINDINGS, "build.sh"), "--second"])
+    succeeds("the library", [os.path.join(BINDINGS, "build.sh")])
+    if not counts["failed"]:
+        with tempfile.TemporaryDirectory() as folder:
+            test_c(program, folder)
+            test_rust(program, folder)
+            test_python(program, folder)
+    print(f"{counts['passed']} passed, {counts['failed']} failed")
+    return int(counts["failed"] > 0)
+
+
+if __name__ == "__main__":
+    sys.exit(main(os.path.abspath(sys.argv[1] if len(sys.argv) > 1 else os.path.join(TOP, "build", "twkb_tool"))))
