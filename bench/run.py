@@ -159,6 +159,14 @@ def table_of_whole_runs(audits, wholes, reads, memories):
     print(f"our audit and the reading of fast take {together:.1f} ms together: our whole run is {ratio(wholes['ours'], together)} of it")
 
 
+def tell_of_memory(found, folder, audits):
+    """Prints what a sum of the bytes takes, which memory limits, beside the audits."""
+    layer, _ = layers.write_layer(folder, "the mix", TIMED)
+    (line,), _, _ = programs.run([found.fast, "touch", layer, "10"])
+    summed = int(field(line, "nanoseconds")) / 1e6
+    print(f"a sum of the bytes of the mix takes {summed:.1f} ms: our audit is {ratio(audits['ours'], summed)} of it")
+
+
 def table_of_scans(found, folder, runs):
     """Prints the rows of scans and directories, and gives notes on directories, and ratios of times."""
     notes, over_fast = [], {}
@@ -207,6 +215,7 @@ def main():
         checks = table_of_checks(found, folder, runs)
         notes, scans = table_of_scans(found, folder, runs)
         table_of_whole_runs(*checks["the mix"])
+        tell_of_memory(found, folder, checks["the mix"][0])
         print("\n" + "\n".join(notes))
         symbols.tell(found.tool, "twkb_tool")
         symbols.tell(found.scanner, "twkb_bench")

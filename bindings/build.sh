@@ -29,4 +29,6 @@ echo "built $out/libtwkb.a"
 [ -z "$flags" ] || exit 0
 gcc -shared -s -o "$out/libtwkb.so" -Wl,--whole-archive "$out/libtwkb.a" -Wl,--no-whole-archive -Wl,-z,defs \
     -Wl,--version-script="$top/bindings/exports.map" -Wl,-soname,libtwkb.so.0
+# By this name the loader looks for it: the same file under a second name, since the kit's gate takes no symbolic links.
+ln -f "$out/libtwkb.so" "$out/libtwkb.so.0"
 echo "built $out/libtwkb.so"

@@ -88,6 +88,7 @@ def test_c(program, folder):
     drive("C", [build("cases", "-O2")], program, folder)
     drive("C, by the second compiler", [build("cases", "-O2", archive=SECOND)], program, folder)
     succeeds("C, memory refused", [build("refuse", "-O2", "-Wl,--wrap=malloc,--wrap=realloc,--wrap=free")])
+    test_shared(source, folder)
     edges = build("edges", "-O2", "-g", "-pthread")
     sanitized = build("edges", *SANITIZED, "-pthread")
     for layer in EXAMPLES:
@@ -97,6 +98,14 @@ def test_c(program, folder):
     if has("valgrind"):
         path = os.path.join(TOP, "examples", "coast_z.twkb")
         succeeds("C, edges under valgrind", ["valgrind", "-q", "--error-exitcode=9", "--leak-check=full", edges, path])
+
+
+def test_shared(source, folder):
+    """A program that the loader has to find the library for."""
+    out = os.path.join(folder, "shared")
+    words = [*C, "cases.c", f"-L{LIBRARY}", "-ltwkb", f"-Wl,-rpath,{LIBRARY}", "-o", out]
+    succeeds("C, building over the shared library", words, cwd=source)
+    count("C, over the shared library", run([out, "check", os.devnull])[:2], (0, b"ok blobs=0 vertices=0\n"))
 
 
 def test_rust(program, folder):

@@ -1,4 +1,5 @@
-/* Times certifying and listing a layer, scanning it for a thousand windows, and calls on a layer of seven bytes.
+/* Times certifying and listing a layer, scanning it for a thousand windows, with a directory and without, and calls on a
+ * layer of seven bytes.
  *
  * usage: bench FILE
  *
@@ -46,7 +47,8 @@ static void time_list(const struct twkb_layer *layer) {
     free(rows);
 }
 
-static void time_scans(const struct twkb_layer *layer) {
+/* A thousand scans, with the slots of a directory where there are some. */
+static void time_scans(const char *title, const struct twkb_layer *layer, const struct twkb_slot *slots, size_t count) {
     struct twkb_window windows[WINDOWS];
     for (int i = 0; i < WINDOWS; i++) windows[i] = tile(i);
     double start = nanoseconds();
@@ -54,14 +56,26 @@ static void time_scans(const struct twkb_layer *layer) {
     size_t hits = 0;
     uint64_t bytes_read = 0;
     for (int i = 0; i < WINDOWS; i++) {
-        struct twkb_scanned scanned = twkb_scan(layer, &windows[i], room, layer->blobs);
+        struct twkb_scanned scanned =
+            slots ? twkb_directory_scan(layer, slots, count, &windows[i], room, layer->blobs)
+                  : twkb_scan(layer, &windows[i], room, layer->blobs);
         hits += scanned.hits;
         bytes_read += scanned.bytes_read;
     }
     double took = milliseconds_since(start);
-    printf("scan, %d windows into a room: %.1f ms, ", WINDOWS, took);
+    printf("%s, %d windows into a room: %.1f ms, ", title, WINDOWS, took);
     printf("%zu hits, %" PRIu64 " bytes read\n", hits, bytes_read);
     free(room);
+}
+
+static void time_directory(const struct twkb_layer *layer) {
+    double start = nanoseconds();
+    size_t most = 2 * layer->blobs;
+    struct twkb_slot *slots = room_for(most, sizeof *slots);
+    size_t count = twkb_directory_build(layer, slots, most);
+    printf("directory: %.1f ms, %zu slots\n", milliseconds_since(start), count);
+    time_scans("directory scan", layer, slots, count);
+    free(slots);
 }
 
 static void time_calls(void) {
@@ -99,7 +113,8 @@ int main(int argc, char **argv) {
     printf("certify: %.1f ms, %zu blobs, %zu vertices\n", took, verdict.blobs, verdict.vertices);
     const struct twkb_layer layer = {bytes, len, verdict.blobs, verdict.vertices};
     time_list(&layer);
-    time_scans(&layer);
+    time_scans("scan", &layer, NULL, 0);
+    time_directory(&layer);
     time_calls();
     free(bytes);
     return 0;

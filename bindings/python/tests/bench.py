@@ -1,5 +1,6 @@
 #!/usr/bin/env python3
-"""Times certifying and listing a layer, scanning it for a thousand windows, and calls on a layer of seven bytes.
+"""Times certifying and listing a layer, scanning it for a thousand windows, with a directory and without, and calls on a
+layer of seven bytes.
 
 usage: bench.py FILE
 
@@ -9,7 +10,7 @@ same sums.
 import os
 import sys
 import time
-from typing import Callable, Tuple, TypeVar
+from typing import Callable, Iterable, Tuple, TypeVar, Union
 
 sys.path.insert(0, os.path.join(os.path.dirname(os.path.abspath(__file__)), ".."))
 import dozhemik
@@ -33,11 +34,18 @@ def tile(number: int) -> dozhemik.Window:
     return dozhemik.Window((x, x + 9), (y, y + 7))
 
 
-def time_scans(layer: dozhemik.Layer) -> None:
+def time_scans(title: str, scanned: Union[dozhemik.Layer, dozhemik.Directory]) -> None:
     windows = [tile(number) for number in range(WINDOWS)]
-    took, scans = timed(lambda: [layer.scan(window) for window in windows])
-    hits, read = sum(map(len, scans)), sum(scan.bytes_read for scan in scans)
-    print(f"scan, {WINDOWS} windows: {took * 1e3:.1f} ms, {hits} hits, {read} bytes read")
+    took, (hits, read) = timed(lambda: sums(map(scanned.scan, windows)))
+    print(f"{title}, {WINDOWS} windows: {took * 1e3:.1f} ms, {hits} hits, {read} bytes read")
+
+
+def sums(scans: Iterable[dozhemik.Scan]) -> Tuple[int, int]:
+    """How many hits and bytes read they have together. None of them is kept."""
+    hits = read = 0
+    for scan in scans:
+        hits, read = hits + len(scan), read + scan.bytes_read
+    return hits, read
 
 
 def time_calls() -> None:
@@ -60,7 +68,10 @@ def main() -> int:
     print(f"certify: {took * 1e3:.1f} ms, {layer.blobs} blobs, {layer.vertices} vertices")
     took, rows = timed(layer.list)
     print(f"list: {took * 1e3:.1f} ms, {len(rows)} rows")
-    time_scans(layer)
+    time_scans("scan", layer)
+    took, directory = timed(layer.directory)
+    print(f"directory: {took * 1e3:.1f} ms")
+    time_scans("directory scan", directory)
     time_calls()
     return 0
 

@@ -1,11 +1,13 @@
-//! Times certifying and listing a layer, scanning it for a thousand windows, and calls on a layer of seven bytes.
+//! Times certifying and listing a layer, scanning it for a thousand windows, with a directory and without, and calls on a
+//! layer of seven bytes.
 //!
 //! usage: bench FILE
 //!
 //! The windows are tiles of the world, nine degrees wide and seven high. `bindings/c/bench.c` times the same, and
 //! prints the same sums.
 
-use dozhemik::{Hit, Layer, Window};
+use dozhemik::{Hit, Layer, Scan, Scanned, Window};
+use std::collections::TryReserveError;
 use std::error::Error;
 use std::time::Instant;
 use std::{env, fs};
@@ -28,25 +30,43 @@ fn main() -> Result<(), Box<dyn Error>> {
     println!("list: {:.1} ms, {} rows", milliseconds(start), rows.len());
 
     let windows = (0..WINDOWS).map(tile).collect::<Result<Vec<Window>, _>>()?;
-    let start = Instant::now();
     let mut room = vec![Hit::default(); layer.blobs()];
+    into_a_room("scan", &windows, |window| layer.scan_into(window, &mut room));
+    into_vectors("scan", &windows, |window| layer.scan(window))?;
+
+    let start = Instant::now();
+    let directory = layer.directory()?;
+    println!("directory: {:.1} ms", milliseconds(start));
+    into_a_room("directory scan", &windows, |window| directory.scan_into(window, &mut room));
+    into_vectors("directory scan", &windows, |window| directory.scan(window))?;
+    calls()
+}
+
+fn into_a_room(title: &str, windows: &[Window], mut scan: impl FnMut(&Window) -> Scanned) {
+    let start = Instant::now();
     let (mut hits, mut read) = (0, 0);
-    for window in &windows {
-        let scanned = layer.scan_into(window, &mut room);
+    for window in windows {
+        let scanned = scan(window);
         hits += scanned.hits;
         read += scanned.bytes_read;
     }
-    println!("scan, {WINDOWS} windows into a room: {:.1} ms, {hits} hits, {read} bytes read", milliseconds(start));
+    println!("{title}, {WINDOWS} windows into a room: {:.1} ms, {hits} hits, {read} bytes read", milliseconds(start));
+}
 
+fn into_vectors(
+    title: &str,
+    windows: &[Window],
+    scan: impl Fn(&Window) -> Result<Scan, TryReserveError>,
+) -> Result<(), TryReserveError> {
     let start = Instant::now();
     let (mut hits, mut read) = (0, 0);
-    for window in &windows {
-        let scan = layer.scan(window)?;
+    for window in windows {
+        let scan = scan(window)?;
         hits += scan.hits.len();
         read += scan.bytes_read;
     }
-    println!("scan, {WINDOWS} windows into vectors: {:.1} ms, {hits} hits, {read} bytes read", milliseconds(start));
-    calls()
+    println!("{title}, {WINDOWS} windows into vectors: {:.1} ms, {hits} hits, {read} bytes read", milliseconds(start));
+    Ok(())
 }
 
 /// What calls on a small layer take.

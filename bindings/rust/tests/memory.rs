@@ -74,6 +74,19 @@ fn a_scan_says_that_memory_is_refused() {
 }
 
 #[test]
+fn a_directory_takes_memory_once() {
+    let bytes = points(10);
+    let layer = Layer::certify(&bytes).unwrap();
+    assert!(given(0, || layer.directory()).is_err());
+    let directory = given(1, || layer.directory()).unwrap();
+    let window = "x=0..9,y=0..9".parse().unwrap();
+    assert!(given(1, || directory.scan(&window)).is_err());
+    assert_eq!(given(2, || directory.scan(&window)).unwrap().hits.len(), 10);
+    let mut room = [Hit::default(); 10];
+    assert_eq!(given(0, || directory.scan_into(&window, &mut room)).hits, 10);
+}
+
+#[test]
 fn the_rest_takes_no_memory() {
     let bytes = points(10);
     let mut room = [Hit::default(); 10];

@@ -38,7 +38,8 @@ pub extern "C" fn twkb_certify(alloc: Global, bytes: &[u8]) -> Verdict
 pub extern "C" fn twkb_certify_tight(alloc: Global, bytes: &[u8]) -> Verdict
     ensures says { Says IsTightlyTrue result bytes.now }
     ensures tight { result.answer ≡ 0 → (trees : List Geometry) × IsTightLayer trees bytes.now }
-    ensures complete { (trees : List Geometry) → IsTightLayer trees bytes.now → (result.answer ≡ 0) ⊎ (result.answer ≡ 2) }
+    ensures complete { (trees : List Geometry) → IsTightLayer trees bytes.now
+        → (result.answer ≡ 0) ⊎ (result.answer ≡ 2) }
 {
     twkb_call::certify_tight(&alloc, bytes)
 }
@@ -58,7 +59,8 @@ pub extern "C" fn twkb_list(layer: &Layer, room: &mut [Row]) -> usize
 #[unsafe(no_mangle)]
 pub extern "C" fn twkb_window_parse(text: &[u8], window: &mut Window) -> u32
     ensures answers { result ≤ 2 }
-    ensures window { result ≡ 0 → IsWindowText text.now (ranges_of window.new) × (in_order (ranges_of window.new) ≡ true) }
+    ensures window { result ≡ 0
+        → IsWindowText text.now (ranges_of window.new) × (in_order (ranges_of window.new) ≡ true) }
     ensures order { result ≡ 2 → (w : Bounds) × IsWindowText text.now w × (in_order w ≡ false) }
     ensures exact { (w : Bounds) → IsWindowText text.now w → result ≡ (if in_order w then 0 else 2) }
     ensures kept { result ≢ 0 → window.new ≡ window.old }
@@ -84,7 +86,8 @@ pub extern "C" fn twkb_scan(layer: &Layer, window: &Window, room: &mut [Hit]) ->
 #[unsafe(no_mangle)]
 pub extern "C" fn twkb_directory_build(layer: &Layer, room: &mut [Slot]) -> usize
     requires { IsCounted layer.now.bytes.now layer.now.blobs layer.now.vertices }
-    ensures directory { result ≤ length room.old → IsDirectoryOf (entries_kept (take result room.new)) layer.now.bytes.now }
+    ensures directory { result ≤ length room.old
+        → IsDirectoryOf (entries_kept (take result room.new)) layer.now.bytes.now }
     ensures fits { OfLayer layer.now.bytes.now (λ trees.
         2 * length trees ≤ length room.old → result ≤ length room.old) }
     ensures few { OfLayer layer.now.bytes.now (λ trees. result ≤ 2 * length trees) }
