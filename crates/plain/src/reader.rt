@@ -110,10 +110,10 @@ impl<'a> Reader<'a> {
 
     fn span(&mut self, precision: i8) -> Result<Span, Fault> {
         let least = self.signed()?;
-        let extent = self.signed()?;
+        let width = self.signed()?;
         Ok(Span {
             lo: scaled(least, precision),
-            hi: scaled(least.wrapping_add(extent), precision),
+            hi: scaled(least.wrapping_add(width), precision),
         })
     }
 

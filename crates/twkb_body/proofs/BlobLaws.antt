@@ -11,6 +11,7 @@ use Rattle.twkb_head.specs.Devices.Plan.{Request, type_byte, byte, number, coord
 use Rattle.twkb_head.proofs.Spelling.{Fault, fault}
 use Rattle.twkb_head.proofs.FieldCuts.{ok_is, err_is, byte_fails, number_fails, cut_off, too_long}
 use Rattle.twkb_head.proofs.Heads.{no_kind, code_kind, kind_code}
+use Rattle.twkb_head.proofs.HeadBack.{none_kind}
 use Rattle.twkb_head.proofs.Plans.{IsViableIn, IsRefused, no_field, no_value, run_takes, run_again, run_stops, run_fails, run_goes_on, run_uncut, run_refused, run_judged}
 use Rattle.twkb_body.specs.Geometry.{Geometry}
 use Rattle.twkb_body.specs.Encoding.{Blob}
@@ -137,17 +138,6 @@ read_fails bytes why due f e =
     (t.p, t.parts, geometry_stops deepest (deepest - 1) 1 from_top (omega arith) t.p due t.stops, wrong_of t.p why due f t.refused)
 
 -- and the other way round
-none_kind : (n : ℕ) → (n ≡ 0) ⊎ (8 ≤ n) → kind_of_code n ≡ None
-none_kind zero h = refl
-none_kind (suc zero) h = absurd (omega (arith, h))
-none_kind (suc (suc zero)) h = absurd (omega (arith, h))
-none_kind (suc (suc (suc zero))) h = absurd (omega (arith, h))
-none_kind (suc (suc (suc (suc zero)))) h = absurd (omega (arith, h))
-none_kind (suc (suc (suc (suc (suc zero))))) h = absurd (omega (arith, h))
-none_kind (suc (suc (suc (suc (suc (suc zero)))))) h = absurd (omega (arith, h))
-none_kind (suc (suc (suc (suc (suc (suc (suc zero))))))) h = absurd (omega (arith, h))
-none_kind (suc (suc (suc (suc (suc (suc (suc (suc n)))))))) h = refl
-
 refuses_kind : (b : ℕ) → (b % 16 ≡ 0) ⊎ (8 ≤ b % 16) → (r : Request) → type_field ≡ field_of r → judge r (b ∷ []) ≡ Some BadKind
 refuses_kind b h (type_byte levels) e = ap (judge_kind levels) (none_kind (b % 16) h)
 refuses_kind b h byte e = absurd (cc (e))

@@ -9,7 +9,6 @@ ghost use Rattle.twkb_body.specs.Devices.BodyReader.{point_at, ring_at, polygon_
 ghost use Rattle.twkb_body.specs.Geometry.{PointValue, points_of};
 
 use crate::fields::take_number;
-use crate::within::place_is_within;
 use twkb_head::Kind;
 use twkb_num::Cursor;
 
@@ -87,7 +86,7 @@ fn pass_points(cursor: &mut Cursor, axes: usize, count: u64, before: u64) -> Opt
     requires before { before ≤ 2 ^ 14 }
     ensures { IfSome result (λ after. Leads axes (λ s. many_at count add (point_at axes) s) (λ points. points) cursor.old cursor.new before after) }
 {
-    place_is_within(cursor);
+    cursor.place_is_within();
     if MOST - before < count {
         return None;
     }

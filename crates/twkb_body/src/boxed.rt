@@ -9,7 +9,6 @@ ghost use Rattle.twkb_body.specs.Devices.Walk.{IsRun};
 use crate::numbers::{Numbers, take_differences};
 use crate::points::Points;
 use crate::trail::Trail;
-use crate::within::place_is_within;
 use std::marker::Model;
 use twkb_head::{Head, RawBox, RawRange};
 use twkb_num::Cursor;
@@ -124,7 +123,7 @@ impl Boxed {
             is_inside = reach_all(&bounds, has_fourth, &apart);
             taken += 1;
         }
-        place_is_within(&ahead);
+        ahead.place_is_within();
         *cursor = ahead;
         trail.last = placed(&bounds, &apart);
         trail.points += taken as usize;

@@ -89,7 +89,8 @@ pub fn judge_box(head: &Head, extent: &Extent, tight: bool) -> Option<FalseClaim
 #[inline(always)]
 fn judge_tight(head: &Head, field: &BoxField, extent: &Extent) -> Option<FalseClaim>
     requires precisions { HasPrecisions head.now }
-    ensures { named result ≡ false_at (is_tight head.now.xy head.now.z head.now.m field.now.bounds extent.now) field.now.offset 9 }
+    ensures { named result ≡ false_at
+        (is_tight head.now.xy head.now.z head.now.m field.now.bounds extent.now) field.now.offset 9 }
 {
     let hugs = extent.tight(&field.bounds, head.xy, head.z, head.m);
     claimed(hugs, field.offset, Claim::Loose)

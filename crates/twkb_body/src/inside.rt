@@ -20,7 +20,8 @@ impl Inside {
     pub fn judged(self, size: Option<SizeField>, stop: usize) -> Found
         requires { IfSome size (λ size. size.after ≤ stop) }
         ensures vertices { result.vertices ≡ self.found.vertices }
-        ensures refused { named result.refused ≡ first (size_judged size stop) (first (named self.boxed) (first (named self.ids) (named self.found.refused))) }
+        ensures refused { named result.refused ≡ first (size_judged size stop)
+            (first (named self.boxed) (first (named self.ids) (named self.found.refused))) }
     {
         let size = judge_size(size, stop);
         Found {

@@ -2,16 +2,15 @@
 ghost use Rattle.std.specs.Prelude.{◌≡◌, ◌↔◌, ◌≢◌, ◌+◌, ◌≤◌, ◌<ℤ◌, ℕ, ℤ, List as ListOf, IsTrue, AllPairs, OnSome, Ok};
 ghost use Rattle.twkb_num.specs.Cursor.{rest};
 ghost use Rattle.twkb_head.specs.Devices.Reader.{signeds_at, Reads};
-ghost use Rattle.twkb_body.specs.Devices.Stops.{ReadsOrStops};
+ghost use Rattle.twkb_body.specs.Devices.Stops.{ReadsOrStops, ReadsList};
 ghost use Rattle.twkb_body.specs.Devices.BodyReader.{list_at};
-ghost use Rattle.twkb_body.specs.Devices.IdLists.{HasManyIds, HasManyIdsAfterCount, IsListFound};
+ghost use Rattle.twkb_body.specs.Devices.IdLists.{HasManyIds};
 
 use crate::answers::Claim;
 use crate::fields::{take_number, take_signed};
 use crate::found::{FalseClaim, claimed};
 use crate::ids::are_distinct;
 use crate::stopped::Stopped;
-use crate::within::place_is_within;
 use smallvec::SmallVec;
 use std::alloc::Allocator;
 use twkb_head::Malformed;
@@ -32,9 +31,9 @@ pub fn take_list<A: Allocator>(
     cursor: &mut Cursor,
     has_ids: bool,
 ) -> Result<List, Stopped>
-    ensures { ReadsOrStops (list_at has_ids cursor.old) (λ head list. IsListFound cursor.old cursor.new head list) (HasManyIdsAfterCount has_ids (rest cursor.old)) cursor.old result cursor.new }
+    ensures { ReadsList (list_at has_ids cursor.old) has_ids cursor.old result cursor.new }
 {
-    place_is_within(cursor);
+    cursor.place_is_within();
     let count = take_number(cursor)?;
     if has_ids {
         let offset = cursor.place();
@@ -50,9 +49,10 @@ pub fn take_list<A: Allocator>(
 
 /// The ids of a list: whether they are distinct. They are freed when they are judged.
 fn take_ids<A: Allocator>(alloc: &A, cursor: &mut Cursor, count: u64) -> Result<bool, Stopped>
-    ensures { ReadsOrStops (signeds_at count cursor.old) (λ ids distinct. IsTrue distinct ↔ AllPairs (λ a b. a ≢ b) ids) (HasManyIds count (rest cursor.old)) cursor.old result cursor.new }
+    ensures { ReadsOrStops (signeds_at count cursor.old) (λ ids distinct. IsTrue distinct ↔ AllPairs (λ a b. a ≢ b) ids)
+        (HasManyIds count (rest cursor.old)) cursor.old result cursor.new }
 {
-    place_is_within(cursor);
+    cursor.place_is_within();
     let mut ids: SmallVec<i64, 16, &A> = SmallVec::new(alloc);
     for _ in 0..count {
         let id = take_signed(cursor)?;
@@ -88,7 +88,8 @@ fn pass_ids(cursor: &mut Cursor, count: u64) -> Result<(), Malformed>
 /// Past so many ids, if each is greater than the one before: so they differ, and no memory is wanted to tell. Else `None`.
 #[inline(always)]
 pub fn take_rising(cursor: &mut Cursor, count: u64) -> Option<()>
-    ensures { OnSome result ((ids : ListOf ℤ) × (signeds_at count cursor.old ≡ (Ok ids, cursor.new)) × AllPairs (λ a b. a ≢ b) ids) }
+    ensures { OnSome result (
+        (ids : ListOf ℤ) × (signeds_at count cursor.old ≡ (Ok ids, cursor.new)) × AllPairs (λ a b. a ≢ b) ids) }
 {
     let mut last = i64::MIN;
     for _ in 0..count {

@@ -1,12 +1,12 @@
 //! The parts of a body that is no collection's: points, lines and polygons. An audit and a skim read them alike, and differ
 //! in what they add the points to.
 ghost use Rattle.std.specs.Prelude.{◌≡◌, flat_map};
-ghost use Rattle.twkb_head.specs.Devices.Reader.{many_at, Reads};
+ghost use Rattle.twkb_head.specs.Devices.Reader.{many_at};
 ghost use Rattle.twkb_body.specs.Devices.Body.{ring_sums};
 ghost use Rattle.twkb_body.specs.Devices.BodyReader.{ring_at, polygon_at, part_at};
 ghost use Rattle.twkb_body.specs.Geometry.{points_of};
 ghost use Rattle.twkb_body.specs.Devices.Inside.{of_head};
-ghost use Rattle.twkb_body.specs.Devices.Walk.{IsWalk, IsWalked};
+ghost use Rattle.twkb_body.specs.Devices.Walk.{IsWalk, ReadsPoints};
 
 use crate::fields::take_number;
 use crate::points::Points;
@@ -25,7 +25,9 @@ pub fn take_parts<P: Points>(
     points: &mut P,
 ) -> Result<(), Malformed>
     requires walk { IsWalk head.now axes trail.old cursor.old }
-    ensures { Reads (many_at count ring_sums (part_at head.now.kind axes) trail.old.last cursor.old) (λ parts done. IsWalked (P.step (of_head head.now)) axes trail.old trail.new (P.state points.old) (P.state points.new) cursor.old.place cursor.new.place (points_of parts)) result cursor.new }
+    ensures { ReadsPoints (many_at count ring_sums (part_at head.now.kind axes)) points_of
+        (P.step (of_head head.now)) axes trail.old trail.new
+        (P.state points.old) (P.state points.new) cursor.old result cursor.new }
 {
     for _ in 0..count {
         take_part(cursor, head, axes, trail, points)?;
@@ -43,7 +45,9 @@ fn take_part<P: Points>(
     points: &mut P,
 ) -> Result<(), Malformed>
     requires walk { IsWalk head.now axes trail.old cursor.old }
-    ensures { Reads (part_at head.now.kind axes trail.old.last cursor.old) (λ part done. IsWalked (P.step (of_head head.now)) axes trail.old trail.new (P.state points.old) (P.state points.new) cursor.old.place cursor.new.place (flat_map (λ ring. ring) part)) result cursor.new }
+    ensures { ReadsPoints (part_at head.now.kind axes) (λ part. flat_map (λ ring. ring) part)
+        (P.step (of_head head.now)) axes trail.old trail.new
+        (P.state points.old) (P.state points.new) cursor.old result cursor.new }
 {
     match head.kind {
         Kind::Point | Kind::MultiPoint => take_point(cursor, head, axes, trail, points),
@@ -63,7 +67,9 @@ fn take_polygon<P: Points>(
     points: &mut P,
 ) -> Result<(), Malformed>
     requires walk { IsWalk head.now axes trail.old cursor.old }
-    ensures { Reads (polygon_at axes trail.old.last cursor.old) (λ polygon done. IsWalked (P.step (of_head head.now)) axes trail.old trail.new (P.state points.old) (P.state points.new) cursor.old.place cursor.new.place (flat_map (λ ring. ring) polygon)) result cursor.new }
+    ensures { ReadsPoints (polygon_at axes) (λ polygon. flat_map (λ ring. ring) polygon)
+        (P.step (of_head head.now)) axes trail.old trail.new
+        (P.state points.old) (P.state points.new) cursor.old result cursor.new }
 {
     let count = take_number(cursor)?;
     for _ in 0..count {
@@ -82,7 +88,8 @@ fn take_ring<P: Points>(
     points: &mut P,
 ) -> Result<(), Malformed>
     requires walk { IsWalk head.now axes trail.old cursor.old }
-    ensures { Reads (ring_at axes trail.old.last cursor.old) (λ ring done. IsWalked (P.step (of_head head.now)) axes trail.old trail.new (P.state points.old) (P.state points.new) cursor.old.place cursor.new.place ring) result cursor.new }
+    ensures { ReadsPoints (ring_at axes) (λ ring. ring) (P.step (of_head head.now)) axes
+        trail.old trail.new (P.state points.old) (P.state points.new) cursor.old result cursor.new }
 {
     let count = take_number(cursor)?;
     let mut done = 0;

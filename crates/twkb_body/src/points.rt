@@ -36,5 +36,6 @@ pub trait Points {
     ) -> u64
         requires walk { IsWalk head.now axes trail.old cursor.old }
         ensures few { result ≤ most }
-        ensures run { IsRun (step (of_head head.now)) axes trail.old trail.new (state self.old) (state self.new) cursor.old cursor.new result };
+        ensures run { IsRun (step (of_head head.now)) axes trail.old trail.new (state self.old) (state self.new)
+            cursor.old cursor.new result };
 }

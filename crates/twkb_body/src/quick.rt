@@ -16,7 +16,6 @@ use self::parts::{take_boxed, take_parts_of, take_sure_list, take_unboxed};
 use crate::boxed::Boxed;
 use crate::found::judge_size;
 use crate::frame::Frame;
-use crate::within::place_is_within;
 use twkb_head::{Head, read_flat_head, read_raw_head, read_sized_point_head};
 use twkb_num::Cursor;
 
@@ -52,7 +51,7 @@ fn take_sized_point(cursor: &mut Cursor) -> Option<usize>
     ensures some { IfSome result (IsSure (deepest - 1) None cursor.old cursor.new) }
     ensures none { IfNone result (cursor.new ≡ cursor.old) }
 {
-    place_is_within(cursor);
+    cursor.place_is_within();
     let mut ahead = cursor.ahead();
     let size = read_sized_point_head(&mut ahead)?;
     let after = ahead.place();
@@ -73,11 +72,11 @@ fn take_sure(cursor: &mut Cursor, depth: u8, above: &Option<Frame>) -> Option<us
     requires deepest { depth ≤ deepest }
     ensures { IfSome result (IsSure (deepest - depth) above.now cursor.old cursor.new) }
 {
-    place_is_within(cursor);
+    cursor.place_is_within();
     let Some(flat) = read_flat_head(cursor, depth) else {
         return take_further(cursor, depth, above);
     };
-    place_is_within(cursor);
+    cursor.place_is_within();
     let own = Frame::of(&flat.head, flat.bounds);
     let frame = Frame::under(above, &flat.head, own)?;
     let vertices = take_flat_body(cursor, depth, &flat.head, &frame)?;
@@ -97,9 +96,9 @@ fn take_further(cursor: &mut Cursor, depth: u8, above: &Option<Frame>) -> Option
     requires deepest { depth ≤ deepest }
     ensures { IfSome result (IsSure (deepest - depth) above.now cursor.old cursor.new) }
 {
-    place_is_within(cursor);
+    cursor.place_is_within();
     let raw = read_raw_head(cursor, depth)?;
-    place_is_within(cursor);
+    cursor.place_is_within();
     let own = Frame::of(&raw.head, raw.bounds);
     let frame = Frame::under(above, &raw.head, own)?;
     let vertices = take_further_body(cursor, depth, &raw.head, &frame)?;
@@ -188,7 +187,7 @@ fn take_sure_members(
     let mut vertices = 0;
     for _ in 0..count {
         let member = take_sure(cursor, depth + 1, &below)?;
-        place_is_within(cursor);
+        cursor.place_is_within();
         vertices += member;
     }
     Some(vertices)

@@ -61,7 +61,8 @@ impl Range {
     #[inline(always)]
     pub fn add_if(&mut self, precision: Option<u8>, point: &[i64; 4], axis: usize)
         requires { axis ≤ 3 }
-        ensures { self.new ≡ joined self.old (span_of (cons_option (option_map (λ p. coordinate point.now axis) precision) [])) }
+        ensures { self.new ≡ joined self.old (span_of (
+            cons_option (option_map (λ p. coordinate point.now axis) precision) [])) }
     {
         if precision.is_some() {
             self.add(point[axis]);

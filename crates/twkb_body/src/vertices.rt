@@ -9,7 +9,6 @@ ghost use Rattle.twkb_body.specs.Devices.Walk.{HasPrecisions, IsRun, shown};
 use crate::points::Points;
 use crate::trail::Trail;
 use crate::visit::Visit;
-use crate::within::place_is_within;
 use twkb_head::{Head, Vertex};
 use twkb_num::{Cursor, units};
 
@@ -90,7 +89,7 @@ fn show_flat_run<V: Visit>(
         visitor.point(&flat_vertex(x, y, head));
         done += 1;
     }
-    place_is_within(cursor);
+    cursor.place_is_within();
     trail.last[0] = x;
     trail.last[1] = y;
     trail.points += done as usize;

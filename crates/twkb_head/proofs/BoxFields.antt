@@ -12,21 +12,21 @@ box_numbers (range ∷ ranges) = range.0 ∷ (range.1 -ℤ range.0) ∷ box_numb
 pub ranges_numbers : (ranges : List (ℤ × ℤ)) (bytes : List ℕ) → Sequence IsRange ranges bytes
     → Sequence IsSigned (box_numbers ranges) bytes
 ranges_numbers [] bytes nothing = nothing
-ranges_numbers (range ∷ ranges) bytes (front, rest, parts, (low, high, both, minimum, extent), more) = (
+ranges_numbers (range ∷ ranges) bytes (front, rest, parts, (low, high, both, minimum, width), more) = (
   low,
   high ++ rest,
   parts ∙ ap (λ (z : List ℕ). z ++ rest) both ∙ append_assoc low high rest,
   minimum,
-  (high, rest, refl, extent, ranges_numbers ranges rest more),
+  (high, rest, refl, width, ranges_numbers ranges rest more),
 )
 
 pub numbers_ranges : (ranges : List (ℤ × ℤ)) (bytes : List ℕ) → Sequence IsSigned (box_numbers ranges) bytes
     → Sequence IsRange ranges bytes
 numbers_ranges [] bytes nothing = nothing
-numbers_ranges (range ∷ ranges) bytes (low, behind, parts, minimum, (high, rest, both, extent, more)) = (
+numbers_ranges (range ∷ ranges) bytes (low, behind, parts, minimum, (high, rest, both, width, more)) = (
   low ++ high,
   rest,
   parts ∙ ap (λ (z : List ℕ). low ++ z) both ∙ sym (append_assoc low high rest),
-  (low, high, refl, minimum, extent),
+  (low, high, refl, minimum, width),
   numbers_ranges ranges rest more,
 )

@@ -17,17 +17,17 @@ zigzag_fits n h = (grind (arith, ints, h), grind (arith, ints, h))
 signed_fits : (z : ℤ) (bytes : List ℕ) → IsSigned z bytes → Has64Bits z
 signed_fits z bytes (n, spells, is) = subst Has64Bits is (zigzag_fits n spells.fits)
 
--- minimum and extent of each axis
+-- minimum and width of each axis
 numbers_fit : (ranges : List (ℤ × ℤ)) (bytes : List ℕ) (axis : ℕ) → Sequence IsSigned (box_numbers ranges) bytes → axis < length ranges
     → Has64Bits (range_of ranges axis).0 × Has64Bits ((range_of ranges axis).1 -ℤ (range_of ranges axis).0)
 numbers_fit [] bytes axis s lt = absurd (omega (arith, lt))
-numbers_fit (range ∷ ranges) bytes zero (front, rest, parts, low, (next, behind, others, extent, more)) lt = (signed_fits range.0 front low, signed_fits (range.1 -ℤ range.0) next extent)
-numbers_fit (range ∷ ranges) bytes (suc axis) (front, rest, parts, low, (next, behind, others, extent, more)) lt = numbers_fit ranges behind axis more (omega (arith, lt))
+numbers_fit (range ∷ ranges) bytes zero (front, rest, parts, low, (next, behind, others, width, more)) lt = (signed_fits range.0 front low, signed_fits (range.1 -ℤ range.0) next width)
+numbers_fit (range ∷ ranges) bytes (suc axis) (front, rest, parts, low, (next, behind, others, width, more)) lt = numbers_fit ranges behind axis more (omega (arith, lt))
 
 range_spelled : (p : ℤ) (range : ℤ × ℤ) → Has64Bits range.0 × Has64Bits (range.1 -ℤ range.0) → IsSpelled p (span_at p range)
 range_spelled p range fit =
     let sum : range.1 ≡ range.0 +ℤ (range.1 -ℤ range.0) = omega (arith, ints) in
-    record { minimum = range.0; extent = range.1 -ℤ range.0; minimum_fits = fit.0; extent_fits = fit.1; is = (λ j. span_at p (range.0, sum j)) }
+    record { minimum = range.0; width = range.1 -ℤ range.0; minimum_fits = fit.0; width_fits = fit.1; is = (λ j. span_at p (range.0, sum j)) }
 
 further_spelled : (o : Option ℕ) (range : ℤ × ℤ) → (is_some o ≡ true → Has64Bits range.0 × Has64Bits (range.1 -ℤ range.0)) → IsSpelledIfAny o (option_map (λ p. span_at (pos p) range) o)
 further_spelled None range fit = refl

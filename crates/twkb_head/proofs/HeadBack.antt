@@ -73,7 +73,8 @@ moves_meet r a b to_a to_b same =
     omega (arith, ap length same, rest_length a, rest_length b, to_a.within, to_b.within, ap length to_a.bytes, ap length to_b.bytes) in
     reading_path a b (to_a.bytes ∙ sym to_b.bytes) place (to_a.count ∙ ap (λ (n : ℕ). added r.count (n - r.place)) place ∙ sym to_b.count)
 
-none_kind : (n : ℕ) → (n ≡ 0) ⊎ (8 ≤ n) → kind_of_code n ≡ None
+-- a number that names no kind
+pub none_kind : (n : ℕ) → (n ≡ 0) ⊎ (8 ≤ n) → kind_of_code n ≡ None
 none_kind zero h = refl
 none_kind (suc zero) h = absurd (omega (arith, h))
 none_kind (suc (suc zero)) h = absurd (omega (arith, h))

@@ -51,19 +51,19 @@ more_ranges : (n : ℕ) (r : Reading) → viewed ranges_of (signeds_at (suc (suc
 unfolding range_from
 more_ranges n r = first (signed_at r)
   where
-    third : (low extent : ℤ) (a : Answer (List ℤ)) → viewed ranges_of (viewed (λ zs. low ∷ zs) (viewed (λ zs. extent ∷ zs) a)) ≡ viewed (λ ranges. (low, low +ℤ extent) ∷ ranges) (viewed ranges_of a)
-    third low extent (Ok zs, r) = refl
-    third low extent (Err m, r) = refl
+    third : (low width : ℤ) (a : Answer (List ℤ)) → viewed ranges_of (viewed (λ zs. low ∷ zs) (viewed (λ zs. width ∷ zs) a)) ≡ viewed (λ ranges. (low, low +ℤ width) ∷ ranges) (viewed ranges_of a)
+    third low width (Ok zs, r) = refl
+    third low width (Err m, r) = refl
 
     second : (low : ℤ) (a : Answer ℤ)
-        → viewed ranges_of (viewed (λ zs. low ∷ zs) (a >>= λ extent b. viewed (λ zs. extent ∷ zs) (signeds_at n b)))
-        ≡ (viewed (λ extent. (low, low +ℤ extent)) a >>= λ range b. viewed (λ ranges. range ∷ ranges) (viewed ranges_of (signeds_at n b)))
-    second low (Ok extent, r) = third low extent (signeds_at n r)
+        → viewed ranges_of (viewed (λ zs. low ∷ zs) (a >>= λ width b. viewed (λ zs. width ∷ zs) (signeds_at n b)))
+        ≡ (viewed (λ width. (low, low +ℤ width)) a >>= λ range b. viewed (λ ranges. range ∷ ranges) (viewed ranges_of (signeds_at n b)))
+    second low (Ok width, r) = third low width (signeds_at n r)
     second low (Err m, r) = refl
 
     first : (a : Answer ℤ)
-        → viewed ranges_of (a >>= λ low a. viewed (λ zs. low ∷ zs) (signed_at a >>= λ extent b. viewed (λ zs. extent ∷ zs) (signeds_at n b)))
-        ≡ ((a >>= λ low a. viewed (λ extent. (low, low +ℤ extent)) (signed_at a)) >>= λ range b. viewed (λ ranges. range ∷ ranges) (viewed ranges_of (signeds_at n b)))
+        → viewed ranges_of (a >>= λ low a. viewed (λ zs. low ∷ zs) (signed_at a >>= λ width b. viewed (λ zs. width ∷ zs) (signeds_at n b)))
+        ≡ ((a >>= λ low a. viewed (λ width. (low, low +ℤ width)) (signed_at a)) >>= λ range b. viewed (λ ranges. range ∷ ranges) (viewed ranges_of (signeds_at n b)))
     first (Ok low, r) = second low (signed_at r)
     first (Err m, r) = refl
 

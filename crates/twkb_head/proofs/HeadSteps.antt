@@ -1,7 +1,8 @@
 -- The steps of a header.
-use Rattle.std.proofs.Common.{◌≡◌, ℕ, Option, Some, None, option_map, is_some, IfSome, Bool, true, false, ◌&&◌, ◌||◌, ℤ, ◌+ℤ◌, Ok, refl, sym, ap, ◌∙◌}
+use Rattle.std.proofs.Common.{◌≡◌, ℕ, List, [], ◌∷◌, ◌++◌, length, Option, Some, None, option_map, is_some, IfSome, Bool, true, false, ◌&&◌, ◌||◌, ℤ, ◌+ℤ◌, Ok, refl, sym, ap, subst, ◌∙◌, arith}
+use Rattle.std.proofs.lemmas.List.{append-nil}
 use Rattle.twkb_num.specs.Cursor.{Reading, passed, IsMoved}
-use Rattle.twkb_num.specs.Varint.{IsSigned, SpellsTwoSigned}
+use Rattle.twkb_num.specs.Varint.{Spells, SpellsAll, SpellsMany, IsSigned, SpellsTwoSigned, zigzag_value}
 use Rattle.twkb_num.proofs.PairLaws.{IsMoved-two}
 use Rattle.twkb_head.specs.Header.{has_bit, z_in, m_in}
 use Rattle.twkb_head.specs.Devices.Reader.{Reader, viewed, byte_at, number_at, optional_at}
@@ -11,6 +12,7 @@ use Rattle.twkb_head.specs.declared.boxes.Bounds.{Bounds}
 use Rattle.twkb_head.specs.declared.header.BoxField.{BoxField}
 use Rattle.twkb_head.specs.declared.header.Head.{Head}
 use Rattle.twkb_head.specs.declared.raw.RawBox.{RawBox}
+use Rattle.twkb_head.specs.declared.raw.RawRange.{RawRange}
 use Rattle.twkb_head.specs.declared.raw.RawHead.{RawHead}
 use Rattle.twkb_head.specs.Raw.{ends_of, raw_bounds, whole_head}
 use Rattle.twkb_head.specs.Devices.Raw.{IsRangeIf, AreFieldsOf}
@@ -49,6 +51,31 @@ pair_range minimum extent old new spells moved =
     let first : IsSigned minimum (passed old way.0) = (spells.0, rw way.3 two.first, spells.3) in
     let second : IsSigned extent (passed way.0 new) = (spells.1, rw way.4 two.second, spells.4) in
     rw (read_signed old way.0 minimum first way.1, read_signed way.0 new extent second way.2) refl
+
+-- two numbers, one behind another, as a range
+pub two_spelled : (bytes : List ℕ) → SpellsMany bytes 2 → (range : RawRange) × SpellsTwoSigned bytes range.minimum range.extent
+two_spelled bytes s = go s.numbers s.count s.spelled
+  where
+    go : (numbers : List ℕ) → length numbers ≡ 2 → SpellsAll bytes numbers → (range : RawRange) × SpellsTwoSigned bytes range.minimum range.extent
+    go [] count all = absurd (omega (arith, count))
+    go (n ∷ []) count all = absurd (omega (arith, count))
+    go (n ∷ m ∷ []) count (front, behind, whole, first, (next, none, rest, second, empty)) = (
+      record { minimum = zigzag_value n; extent = zigzag_value m },
+      (
+        n,
+        m,
+        record {
+          front = front;
+          behind = behind;
+          whole = whole;
+          first = first;
+          second = subst (λ (bs : List ℕ). Spells bs m) (sym (rest ∙ ap (λ (bs : List ℕ). next ++ bs) empty ∙ append-nil next)) second;
+        },
+        refl,
+        refl,
+      ),
+    )
+    go (n ∷ m ∷ k ∷ ns) count all = absurd (omega (arith, count))
 
 -- a range of an axis for each that is there is a box
 pub box_read : (xy : ℤ) (z m : Option ℕ) (box : RawBox) (r a b c d : Reading) → range_from r ≡ (Ok (ends_of box.x), a) → range_from a ≡ (Ok (ends_of box.y), b) → IsRangeIf (is_some z || is_some m) box.third b c

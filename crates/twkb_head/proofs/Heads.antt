@@ -97,8 +97,8 @@ box_back (suc axes) [] e = absurd (omega (arith, e))
 box_back (suc axes) (a ∷ []) e = absurd (omega (arith, e))
 box_back (suc axes) (a ∷ b ∷ zs) e =
     let more = box_back axes zs (omega (arith, e)) in
-    let extent : (a +ℤ b) -ℤ a ≡ b = omega (arith, ints) in
-    (ap suc more.0, ap₂ (λ (x : ℤ) (y : List ℤ). a ∷ x ∷ y) extent more.1)
+    let width : (a +ℤ b) -ℤ a ≡ b = omega (arith, ints) in
+    (ap suc more.0, ap₂ (λ (x : ℤ) (y : List ℤ). a ∷ x ∷ y) width more.1)
 
 box_forth : (rs : List (ℤ × ℤ)) → (length (box_numbers rs) ≡ 2 * length rs) × (ranges_of (box_numbers rs) ≡ rs)
 box_forth [] = (refl, refl)

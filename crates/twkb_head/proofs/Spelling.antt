@@ -1,5 +1,5 @@
 -- What it is to follow a plan: what it reads, the bytes that spell a value by it, and where bytes stop within it.
-use Rattle.std.specs.Prelude.{◌≡◌, ℕ, ◌+◌, List, [], ◌++◌, Option, Some, None, Result, Ok, Err, ◌⊎◌}
+use Rattle.std.specs.Prelude.{◌≡◌, ℕ, List, [], ◌++◌, Option, Some, None, Result, Ok, Err, ◌⊎◌}
 use Rattle.twkb_head.specs.declared.refusal.Why.{Why}
 use Rattle.twkb_head.specs.BegunHeader.{Field, IsField}
 use Rattle.twkb_head.specs.Devices.Plan.{Plan, Request, ask, cut_field, done, field_of, judge}

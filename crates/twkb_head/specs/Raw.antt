@@ -4,10 +4,13 @@ use Rattle.twkb_head.specs.declared.boxes.Bounds.{Bounds}
 use Rattle.twkb_head.specs.declared.raw.RawRange.{RawRange}
 use Rattle.twkb_head.specs.declared.raw.RawBox.{RawBox}
 use Rattle.twkb_head.specs.declared.raw.RawHead.{RawHead}
+use Rattle.twkb_head.specs.declared.boxed.BegunBox.{BegunBox}
 use Rattle.twkb_head.specs.declared.header.Head.{Head}
 use Rattle.twkb_head.specs.declared.header.BoxField.{BoxField}
 use Rattle.twkb_head.specs.declared.kinds.Kind.TheVariants.{Point}
-use Rattle.twkb_head.specs.Head.{bounds_of}
+use Rattle.twkb_num.specs.Cursor.{Reading, passed, IsMoved}
+use Rattle.twkb_num.specs.Varint.{SpellsTwoSigned}
+use Rattle.twkb_head.specs.Head.{bounds_of, IsHeadAt}
 
 -- the least and the greatest number of a range
 abbrev pub ends_of : RawRange → ℤ × ℤ
@@ -23,11 +26,6 @@ pub record IsNear (range : RawRange) : Type 0 where
   pub high : range.minimum ≤ℤ pos (2 ^ 61)
   pub least : neg_ℤ (pos (2 ^ 61)) ≤ℤ range.extent
   pub greatest : range.extent ≤ℤ pos (2 ^ 61)
-
--- the same of the ranges in X and in Y
-pub record AreNear (box : RawBox) : Type 0 where
-  pub x : IsNear box.x
-  pub y : IsNear box.y
 
 -- a box of raw numbers in units, by the precisions of its header
 abbrev pub raw_bounds : ℤ → Option ℕ → Option ℕ → RawBox → Bounds
@@ -50,3 +48,18 @@ pub record IsSizedPoint (head : Head) (size after : ℕ) : Type 0 where
   pub full : head.empty ≡ false
   pub offset : ℕ
   pub size_is : head.size ≡ Some (record { value = size; offset = offset; after = after })
+
+-- the box of two ranges, in X and in Y
+abbrev pub flat_box : RawRange → RawRange → RawBox
+flat_box x y = record { x = x; y = y; third = record { minimum = pos 0; extent = pos 0 }; fourth = record { minimum = pos 0; extent = pos 0 } }
+
+-- a header says: this size, and a box in X and Y that was begun so, and has this range in Y
+pub record IsBoxed (head : Head) (begun : BegunBox) (y : RawRange) : Type 0 where
+  pub size : head.size ≡ Some begun.size
+  pub offset : ℕ
+  pub bounds : head.bounds ≡ Some (record { bounds = raw_bounds begun.xy None None (flat_box begun.x y); offset = offset })
+
+-- A header was read up to the range in X of its box. Whatever range stands behind is that in Y, and ends the header.
+abbrev pub IsBegunBox : BegunBox → Reading → Reading → Type 0
+IsBegunBox begun old new = (y : RawRange) (stop : Reading) → SpellsTwoSigned (passed new stop) y.minimum y.extent → IsMoved new stop
+    → (head : Head) × IsHeadAt head 1 old.place (passed old stop) × IsBoxed head begun y × IsMoved old stop

@@ -7,10 +7,10 @@ use Rattle.twkb_head.specs.Head.{span_at}
 abbrev pub Has64Bits : ℤ → Type 0
 Has64Bits z = (neg_ℤ (pos (2 ^ 63)) ≤ℤ z) × (z <ℤ pos (2 ^ 63))
 
--- a minimum and an extent of 64 bits spell the range, at a precision
+-- a minimum and a width of 64 bits spell the range, at a precision
 pub record IsSpelled (p : ℤ) (span : Span) : Type 0 where
   pub minimum : ℤ
-  pub extent : ℤ
+  pub width : ℤ
   pub minimum_fits : Has64Bits minimum
-  pub extent_fits : Has64Bits extent
-  pub is : span ≡ span_at p (minimum, minimum +ℤ extent)
+  pub width_fits : Has64Bits width
+  pub is : span ≡ span_at p (minimum, minimum +ℤ width)

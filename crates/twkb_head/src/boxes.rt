@@ -18,20 +18,20 @@ pub struct Span {
 }
 
 impl Span {
-    /// The range that a box spells by a minimum and an extent at a precision. The maximum is their sum as whole numbers
-    /// and may pass 64 bits; a negative extent makes a range that holds nothing (this project's choice).
+    /// The range that a box spells by a minimum and a width at a precision. The maximum is their sum as whole numbers
+    /// and may pass 64 bits; a negative width makes a range that holds nothing (this project's choice).
     #[inline(always)]
-    pub fn spelled(minimum: i64, extent: i64, precision: i8) -> Span
+    pub fn spelled(minimum: i64, width: i64, precision: i8) -> Span
         requires { IsPrecision precision }
-        ensures { result ≡ span_at precision (minimum, minimum +ℤ extent) }
+        ensures { result ≡ span_at precision (minimum, minimum +ℤ width) }
     {
         Span {
             lo: units(i128::from(minimum), precision),
-            hi: units(maximum(minimum, extent), precision),
+            hi: units(maximum(minimum, width), precision),
         }
     }
 
-    /// The minimum and the extent that spell the range at a precision; there have to be such.
+    /// The minimum and the width that spell the range at a precision; there have to be such.
     pub fn spelling(&self, precision: i8) -> (i64, i64)
         requires precision { IsPrecision precision }
         requires spelled { IsSpelled precision self.now }
@@ -45,10 +45,10 @@ impl Span {
 
 /// The sum as a whole number, which may pass 64 bits.
 #[inline(always)]
-fn maximum(minimum: i64, extent: i64) -> i128
-    ensures { result ≡ minimum +ℤ extent }
+fn maximum(minimum: i64, width: i64) -> i128
+    ensures { result ≡ minimum +ℤ width }
 {
-    i128::from(minimum) + i128::from(extent)
+    i128::from(minimum) + i128::from(width)
 }
 
 /// A vertex, in units.

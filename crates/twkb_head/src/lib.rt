@@ -42,7 +42,7 @@ mod refusal;
 #[cfg(test)]
 mod tests;
 
-pub use boxed::read_boxed_head;
+pub use boxed::{BegunBox, pass_range_before, read_begun_box, read_range_before};
 pub use boxes::{Bounds, Span, Vertex};
 pub use fields::malformed;
 pub use header::{BoxField, Head, SizeField};

@@ -61,8 +61,7 @@ pub fn read_raw_head(cursor: &mut Cursor, depth: u8) -> Option<RawHead>
     ensures full { IfSome result (λ raw. raw.head.empty ≡ false) }
     ensures no_box { IfSome result (λ raw. raw.head.bounds ≡ None) }
 {
-    // The proof knows from here that the place is within the bytes.
-    let _start = cursor.place();
+    cursor.place_is_within();
     let raw = take_raw_head(cursor, depth)?;
     Some(raw)
 }
@@ -80,8 +79,7 @@ pub fn read_flat_head(cursor: &mut Cursor, depth: u8) -> Option<RawHead>
     ensures flat { IfSome result (λ flat. (flat.head.z ≡ None) × (flat.head.m ≡ None) × (flat.head.empty ≡ false)) }
     ensures no_box { IfSome result (λ flat. flat.head.bounds ≡ None) }
 {
-    // The proof knows from here that the place is within the bytes.
-    let _start = cursor.place();
+    cursor.place_is_within();
     let mut ahead = cursor.ahead();
     let flat = take_flat_head(&mut ahead, depth)?;
     *cursor = ahead;

@@ -4,9 +4,9 @@ use Rattle.std.proofs.lemmas.Int.{ints}
 use Rattle.std.specs.List.{list_any}
 use Rattle.twkb_num.specs.Cursor.{Reading, IsMoved, IsSound, added, passed}
 use Rattle.twkb_head.specs.Head.{IsHeadAt, span_at}
-use Rattle.twkb_head.specs.Raw.{raw_bounds, ends_of, IsNear, AreNear}
+use Rattle.twkb_head.specs.Raw.{raw_bounds, flat_box, ends_of, IsNear, IsBegunBox}
 use Rattle.twkb_head.specs.declared.raw.RawRange.{RawRange}
-use Rattle.twkb_head.specs.declared.raw.RawBox.{RawBox}
+use Rattle.twkb_head.specs.declared.boxed.BegunBox.{BegunBox}
 use Rattle.twkb_head.specs.declared.boxes.Bounds.{Bounds}
 use Rattle.twkb_head.specs.declared.header.Head.{Head}
 use Rattle.twkb_head.specs.declared.header.SizeField.{SizeField}
@@ -19,11 +19,11 @@ use Rattle.twkb_body.proofs.Remaining.{none_left}
 use Rattle.twkb_layer.specs.Hits.{cost}
 use Rattle.twkb_layer.specs.Layer.{size_of}
 use Rattle.twkb_layer.specs.Devices.Seeking.{seeks_soundly, Seeking, seeks, seeks_past}
-use Rattle.twkb_layer.specs.Devices.Raw.{IsRawWindow}
+use Rattle.twkb_layer.specs.Devices.Raw.{IsRawWindow, HasMissed}
 use Rattle.twkb_layer.specs.Devices.Slots.{AreInner}
-use Rattle.twkb_layer.specs.Window.{is_inside, lie_apart, is_missed}
+use Rattle.twkb_layer.specs.Window.{is_inside, lie_apart, box_misses, is_missed}
 use Rattle.twkb_layer.specs.declared.raw.RawWindow.{RawWindow}
-use Rattle.twkb_layer.proofs.Raws.{misses_raw}
+use Rattle.twkb_layer.proofs.Raws.{apart}
 use Rattle.twkb_layer.proofs.Scanning.{met_after}
 use Rattle.twkb_layer.proofs.Seeks.{cost_walk}
 
@@ -61,10 +61,6 @@ module _ (w : Bounds) (g : Geometry) (r a : Reading) (head : Head) (size : SizeF
   pub hop_room : IsSound r → size.after + size.value < 2 ^ 64
   hop_room sound = subst (λ o. IfSome {T = SizeField} o (λ s. s.after + s.value < 2 ^ 64)) sized (hop_fits g 1 r a head sound at ha moved)
 
-or_more : (a b c : Bool) → (a || b) ≡ true → (a || (b || c)) ≡ true
-or_more true b c e = refl
-or_more false b c e = ap (λ (d : Bool). d || c) e
-
 -- the ends of a range of numbers that aren't far from zero
 pub inner : (range : RawRange) → IsNear range → AreInner (ends_of range)
 inner range near = record {
@@ -72,10 +68,29 @@ inner range near = record {
   second = record { low = omega (arith, ints, near.low, near.least); high = omega (arith, ints, near.high, near.greatest) };
 }
 
--- a box whose ends in raw numbers miss the raw window
-pub missed_raw : (w : Bounds) (xy : ℤ) (z m : Option ℕ) (place : ℕ) (bounds : Option RawBox) (box : RawBox) (raw : RawWindow) → bounds ≡ Some box → IsRawWindow xy w raw → (x y : ℤ × ℤ)
-    → AreNear box → x ≡ ends_of box.x → y ≡ ends_of box.y → ((int_lt x.1 raw.x.least || int_lt raw.x.greatest x.0) || (int_lt y.1 raw.y.least || int_lt raw.y.greatest y.0)) ≡ true
-    → is_missed w (option_map (λ (f : BoxField). f.bounds) (option_map (λ (b : RawBox). record { bounds = raw_bounds xy z m b; offset = place }) bounds)) ≡ true
-missed_raw w xy z m place bounds box raw boxed is x y near x_is y_is miss =
-    rw boxed (or_more (lie_apart (span_at xy (ends_of box.x)) w.x) (lie_apart (span_at xy (ends_of box.y)) w.y) _
-    (rw (x_is, y_is) at (sym (misses_raw xy w raw is x y (subst AreInner (sym x_is) (inner box.x near.x)) (subst AreInner (sym y_is) (inner box.y near.y))) ∙ miss)))
+first_tells : (a b : Bool) → a ≡ true → (a || b) ≡ true
+first_tells a b e = ap (λ (d : Bool). d || b) e
+
+second_tells : (a b c : Bool) → b ≡ true → (a || (b || c)) ≡ true
+second_tells true b c e = refl
+second_tells false b c e = first_tells b c e
+
+-- a box whose range in X misses that of the raw window, or whose range in Y does
+module _ (w : Bounds) (xy : ℤ) (raw : RawWindow) (is : IsRawWindow xy w raw) (x y : RawRange) where
+  pub missed_in_x : IsNear x → (int_lt (ends_of x).1 raw.x.least || int_lt raw.x.greatest (ends_of x).0) ≡ true → box_misses w (raw_bounds xy None None (flat_box x y)) ≡ true
+  missed_in_x near miss = first_tells (lie_apart (span_at xy (ends_of x)) w.x) _ (sym (apart xy w.x raw.x is.x (ends_of x) (inner x near)) ∙ miss)
+
+  pub missed_in_y : IsNear y → (int_lt (ends_of y).1 raw.y.least || int_lt raw.y.greatest (ends_of y).0) ≡ true → box_misses w (raw_bounds xy None None (flat_box x y)) ≡ true
+  missed_in_y near miss = second_tells (lie_apart (span_at xy (ends_of x)) w.x) (lie_apart (span_at xy (ends_of y)) w.y) _ (sym (apart xy w.y raw.y is.y (ends_of y) (inner y near)) ∙ miss)
+
+-- the header that is read up to a box that misses
+pub record IsMissedHead (w : Bounds) (r a : Reading) (size : SizeField) (head : Head) : Type 0 where
+  pub at : IsHeadAt head 1 r.place (passed r a)
+  pub moved : IsMoved r a
+  pub sized : head.size ≡ Some size
+  pub miss : is_missed w (option_map (λ (f : BoxField). f.bounds) head.bounds) ≡ true
+
+pub missed_head : (w : Bounds) (r b a : Reading) (begun : BegunBox) → IsBegunBox begun r b → HasMissed w begun b a → (head : Head) × IsMissedHead w r a begun.size head
+missed_head w r b a begun is h =
+    let s = is h.y a h.spelled h.moved in
+    (s.0, record { at = s.1; moved = s.3; sized = s.2.size; miss = ap (λ (o : Option BoxField). is_missed w (option_map (λ (f : BoxField). f.bounds) o)) s.2.bounds ∙ h.missed })

@@ -9,12 +9,12 @@ use Rattle.twkb_layer.specs.Directory.{Entry}
 abbrev pub precision_of : ℕ → ℤ
 precision_of code = pos code -ℤ pos 8
 
--- the range of a minimum and an extent
+-- the range of a minimum and a width
 abbrev pub range_at : ℤ → ℤ × ℤ → Span
 range_at p numbers = span_at p (numbers.0, numbers.0 +ℤ numbers.1)
 
--- The range that a slot of a form keeps by a code of a precision and two numbers: its ends, in form 0, or a minimum and an
--- extent. Form 2 has none, and in form 3 a code below 8 says that there is none.
+-- The range that a slot of a form keeps by a code of a precision and two numbers: its ends, in form 0, or a minimum and a
+-- width. Form 2 has none, and in form 3 a code below 8 says that there is none.
 abbrev pub range_in : ℕ → ℕ → ℤ × ℤ → Option Span
 range_in form code numbers =
     if form == 0 then Some (span_at (precision_of code) numbers)

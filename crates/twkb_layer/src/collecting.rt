@@ -46,8 +46,7 @@ pub fn collect<K: Keeper>(mut keeper: K, cursor: &mut Cursor) -> K
     ensures count { AddsAtMost (2 * length cursor.old.bytes) cursor.old.count cursor.new.count }
     ensures grows { cursor.old.count ≤ cursor.new.count }
 {
-    // The proof knows from here that the numbers fit their types.
-    let _start = cursor.place();
+    cursor.place_is_within();
     cursor.go_to(0);
     let mut blob = 0;
     while cursor.place() < cursor.len() {

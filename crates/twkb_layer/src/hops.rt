@@ -1,18 +1,19 @@
 //! Hops over the blobs of a certified layer whose box misses a window, judged in raw integers.
-ghost use Rattle.std.specs.Prelude.{◌≡◌, ◌+◌, false, true, option_map, IfSome};
+ghost use Rattle.std.specs.Prelude.{◌≡◌, ◌+◌, false, true};
 ghost use Rattle.std.specs.List.{list_any};
 ghost use Rattle.twkb_num.specs.Cursor.{added};
 ghost use Rattle.twkb_num.specs.Units.{IsPrecision};
-ghost use Rattle.twkb_head.specs.Raw.{whole_head, AreNear};
+ghost use Rattle.twkb_head.specs.Raw.{ends_of, IsNear};
 ghost use Rattle.twkb_body.specs.Geometry.{Geometry, vertices};
 ghost use Rattle.twkb_body.specs.Standing.{StandsAt};
 ghost use Rattle.twkb_layer.specs.Hits.{cost};
 ghost use Rattle.twkb_layer.specs.Devices.Layer.{OfBlob};
+ghost use Rattle.twkb_layer.specs.Devices.Raw.{HasMissed};
 ghost use Rattle.twkb_layer.specs.Layer.{size_of};
-ghost use Rattle.twkb_layer.specs.Window.{is_inside, is_missed};
+ghost use Rattle.twkb_layer.specs.Window.{is_inside};
 
 use crate::raw::RawWindows;
-use twkb_head::{RawHead, read_boxed_head};
+use twkb_head::{BegunBox, RawRange, pass_range_before, read_begun_box, read_range_before};
 use twkb_num::Cursor;
 
 /// Past the blob at the place, if its header has a size, a box in X and Y that misses the window, and nothing else. Else the
@@ -29,36 +30,45 @@ pub fn hop_over(cursor: &mut Cursor, windows: &RawWindows) -> bool
       count = added cursor.old.count (cost windows.now g);
     }) }
 {
-    // The proof knows from here that the numbers fit their types.
-    let _start = cursor.place();
+    cursor.place_is_within();
     let mut ahead = cursor.ahead();
-    let Some(boxed) = read_boxed_head(&mut ahead) else {
+    let Some(begun) = read_begun_box(&mut ahead) else {
         return false;
     };
-    let Some(size) = boxed.head.size else {
-        return false;
-    };
-    if !misses(&boxed, windows) {
+    if !passes_a_miss(&mut ahead, &begun, windows) {
         return false;
     }
-    ahead.go_to(size.after + size.value as usize);
+    ahead.go_to(begun.size.after + begun.size.value as usize);
     *cursor = ahead;
     true
 }
 
-/// Whether the header has a box that misses the window in X or in Y.
+/// Whether the box misses the window in X or in Y; past its range in Y, whose numbers are only asked for where X doesn't tell.
 #[inline(always)]
-fn misses(boxed: &RawHead, windows: &RawWindows) -> bool
-    requires xy { IsPrecision boxed.now.head.xy }
-    requires near { IfSome boxed.now.bounds AreNear }
-    ensures { result ≡ true
-        → is_missed windows.now (option_map (λ field. field.bounds) (whole_head boxed.now).bounds) ≡ true }
+fn passes_a_miss(ahead: &mut Cursor, begun: &BegunBox, windows: &RawWindows) -> bool
+    requires xy { IsPrecision begun.now.xy }
+    requires near { IsNear begun.now.x }
+    ensures { result ≡ true → HasMissed windows.now begun.now ahead.old ahead.new }
 {
-    let Some(bounds) = boxed.bounds else {
+    let stop = begun.size.after.saturating_add(begun.size.value as usize);
+    let raw = windows.at((begun.xy + 8) as usize);
+    if raw.x.misses(ends_of(&begun.x)) {
+        let Some(()) = pass_range_before(ahead, stop) else {
+            return false;
+        };
+        return true;
+    }
+    let Some(y) = read_range_before(ahead, stop) else {
         return false;
     };
-    let code = (boxed.head.xy + 8) as usize;
-    let x = (bounds.x.minimum, bounds.x.minimum + bounds.x.extent);
-    let y = (bounds.y.minimum, bounds.y.minimum + bounds.y.extent);
-    windows.at(code).misses(x, y)
+    raw.y.misses(ends_of(&y))
+}
+
+/// The least number of a range, and the greatest.
+#[inline(always)]
+fn ends_of(range: &RawRange) -> (i64, i64)
+    requires { IsNear range.now }
+    ensures { result ≡ ends_of range.now }
+{
+    (range.minimum, range.minimum + range.extent)
 }

@@ -6,7 +6,7 @@ ghost use Rattle.twkb_body.specs.Geometry.{Geometry};
 ghost use Rattle.twkb_body.specs.Standing.{StandsAt};
 ghost use Rattle.twkb_layer.specs.Directory.{IsDirectoryOf, entry_of};
 ghost use Rattle.twkb_layer.specs.Layer.{IsCertifiedLayer, AddsAtMost, OfLayer};
-ghost use Rattle.twkb_layer.specs.Devices.Collecting.{HasPassed};
+ghost use Rattle.twkb_layer.specs.Devices.Collecting.{HasPassed, entry_said};
 ghost use Rattle.twkb_layer.specs.Devices.Layer.{OfBlob};
 ghost use Rattle.twkb_layer.specs.Devices.Slots.{with_before};
 ghost use Rattle.twkb_layer.specs.Slots.{Written, entries_kept};
@@ -43,15 +43,15 @@ impl<A: Allocator> Keeper for Vec<Slot, A> {
 
 /// Puts the slots of a certified layer into the room, which has two places for each blob, and says how many there are.
 pub fn put_slots(room: &mut [Slot], cursor: &mut Cursor) -> usize
-    requires { (trees : List Geometry) × IsCertifiedLayer trees cursor.old.bytes × (2 * length trees ≤ length room.old) }
+    requires { (trees : List Geometry) × IsCertifiedLayer trees cursor.old.bytes
+        × (2 * length trees ≤ length room.old) }
     ensures directory { IsDirectoryOf (entries_kept (take result room.new)) cursor.old.bytes }
     ensures few { OfLayer cursor.old.bytes (λ trees. result ≤ 2 * length trees) }
     ensures bytes { cursor.new.bytes ≡ cursor.old.bytes }
     ensures count { AddsAtMost (2 * length cursor.old.bytes) cursor.old.count cursor.new.count }
     ensures grows { cursor.old.count ≤ cursor.new.count }
 {
-    // The proof knows from here that the numbers fit their types.
-    let _start = cursor.place();
+    cursor.place_is_within();
     cursor.go_to(0);
     let mut used = 0;
     while cursor.place() < cursor.len() {
@@ -64,7 +64,8 @@ pub fn put_slots(room: &mut [Slot], cursor: &mut Cursor) -> usize
 fn put(room: &mut [Slot], used: usize, cursor: &mut Cursor) -> usize
     requires spare { used + 1 < length room.old }
     requires stands { (g : Geometry) × StandsAt g 1 cursor.old.bytes cursor.old.place }
-    ensures says { OfBlob cursor.old.bytes cursor.old.place (λ g. entries_kept (take result room.new) ≡ entries_kept (take used room.old) ++ entry_of 0 cursor.old.place g ∷ []) }
+    ensures says { OfBlob cursor.old.bytes cursor.old.place (λ g.
+        entries_kept (take result room.new) ≡ entries_kept (take used room.old) ++ entry_of 0 cursor.old.place g ∷ []) }
     ensures few { result ≤ used + 2 }
     ensures room { length room.new ≡ length room.old }
     ensures passed { OfBlob cursor.old.bytes cursor.old.place (λ g. HasPassed g cursor.old cursor.new) }
@@ -89,7 +90,7 @@ fn push<A: Allocator>(slots: &mut Vec<Slot, A>, offset: usize, head: &Head)
     requires m_high { IfSome head.now.m (λ p. p ≤ 7) }
     requires spelled { IfSome head.now.bounds (λ field. AreSpelled head.now.xy head.now.z head.now.m field.bounds) }
     requires spare { vec_len slots.old + 1 < vec_capacity slots.old }
-    ensures says { entries_kept slots.new.items ≡ entries_kept slots.old.items ++ record { offset = offset; bounds = option_map (λ field. field.bounds) head.now.bounds } ∷ [] }
+    ensures says { entries_kept slots.new.items ≡ entries_kept slots.old.items ++ entry_said offset head.now ∷ [] }
     ensures capacity { vec_capacity slots.new ≡ vec_capacity slots.old }
     ensures len { vec_len slots.new ≤ vec_len slots.old + 2 }
 {
@@ -107,7 +108,9 @@ fn slots_of(offset: usize, head: &Head) -> (Option<Slot>, Slot)
     requires z_high { IfSome head.now.z (λ p. p ≤ 7) }
     requires m_high { IfSome head.now.m (λ p. p ≤ 7) }
     requires spelled { IfSome head.now.bounds (λ field. AreSpelled head.now.xy head.now.z head.now.m field.bounds) }
-    ensures { (slots : List Written) → entries_kept (slots ++ with_before result.0 result.1) ≡ entries_kept slots ++ record { offset = offset; bounds = option_map (λ field. field.bounds) head.now.bounds } ∷ [] }
+    ensures { (slots : List Written)
+        → entries_kept (slots ++ with_before result.0 result.1)
+        ≡ entries_kept slots ++ entry_said offset head.now ∷ [] }
 {
     let (z, m) = further(head);
     let deep = passes_a_slot(offset, &z, &m);

@@ -27,8 +27,7 @@ pub fn look_at_point(cursor: &mut Cursor, windows: &RawWindows) -> Option<bool>
       count = added cursor.old.count (cost windows.now g);
     }) }
 {
-    // The proof knows from here that the numbers fit their types.
-    let _start = cursor.place();
+    cursor.place_is_within();
     let mut ahead = cursor.ahead();
     let (xy, size) = read_point_head(&mut ahead)?;
     let stop = ahead.place().saturating_add(size as usize);

@@ -32,7 +32,7 @@ impl RawEnds {
 
     /// Whether the range between two numbers lies apart.
     #[inline(always)]
-    fn misses(&self, ends: (i64, i64)) -> bool
+    pub fn misses(&self, ends: (i64, i64)) -> bool
         ensures { result ≡ (int_lt ends.1 self.now.least || int_lt self.now.greatest ends.0) }
     {
         ends.1 < self.least || self.greatest < ends.0

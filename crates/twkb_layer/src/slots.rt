@@ -20,7 +20,7 @@ pub const REACH: usize = 1 << 57;
 /// A slot of a directory.
 ///
 /// A box is kept in raw integers, with its precision, so that a scan compares numbers of 64 bits: by its ends where these are
-/// such numbers, and else by its minima and extents, as its header spells it. So a slot takes 40 bytes, where a `Bounds` in
+/// such numbers, and else by its minima and widths, as its header spells it. So a slot takes 40 bytes, where a `Bounds` in
 /// an `Option` alone takes 176. Z and M, which few layers have, stand in a slot of their own before that of their blob: what a
 /// scan reads of memory is what takes its time.
 #[repr(C)]
@@ -33,7 +33,7 @@ pub struct Slot {
     second: Pair,
 }
 
-/// Both ends of a range, or its minimum and its extent.
+/// Both ends of a range, or its minimum and its width.
 #[repr(C)]
 #[derive(Clone, Copy)]
 struct Pair {
@@ -49,7 +49,11 @@ impl Model for Slot {
 
     ghost view = { written };
 
-    ghost inverse = { λ w. record { word = record { bits = w.word }; first = record { low = w.first.0; high = w.first.1 }; second = record { low = w.second.0; high = w.second.1 } } };
+    ghost inverse = { λ w. record {
+      word = record { bits = w.word };
+      first = record { low = w.first.0; high = w.first.1 };
+      second = record { low = w.second.0; high = w.second.1 };
+    } };
 
     ghost invariant = { λ s. HasInnerEnds (written s) };
 }
@@ -216,7 +220,7 @@ impl Slot {
     }
 }
 
-/// The range of an axis that a box may lack: a minimum and an extent, and the code of their precision, which is below 8 where
+/// The range of an axis that a box may lack: a minimum and a width, and the code of their precision, which is below 8 where
 /// there is none.
 #[derive(Drop)]
 pub struct Kept {
@@ -281,13 +285,13 @@ fn range_of(form: u64, code: usize, numbers: (i64, i64)) -> Option<Span>
     }
 }
 
-/// The ends of the range that a minimum and an extent spell, where both lie between the ends of 64 bits.
+/// The ends of the range that a minimum and a width spell, where both lie between the ends of 64 bits.
 fn inner_ends(numbers: (i64, i64)) -> Option<(i64, i64)>
     ensures { IfSome result (λ ends. AreInner ends × (ends ≡ (numbers.0, numbers.0 +ℤ numbers.1))) }
 {
-    let (least, extent) = numbers;
-    let greatest = least.checked_add(extent)?;
-    if i64::MIN < least && extent >= 0 && greatest < i64::MAX {
+    let (least, width) = numbers;
+    let greatest = least.checked_add(width)?;
+    if i64::MIN < least && width >= 0 && greatest < i64::MAX {
         Some((least, greatest))
     } else {
         None

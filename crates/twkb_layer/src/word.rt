@@ -4,7 +4,7 @@ ghost use Rattle.twkb_layer.specs.Slots.{unpacked};
 
 /// A slot of a blob whose box is kept by its ends.
 pub const NEAR: u64 = 0;
-/// A slot of a blob whose box is kept by least numbers and extents.
+/// A slot of a blob whose box is kept by least numbers and widths.
 pub const WIDE: u64 = 1;
 /// A slot of a blob without a box.
 pub const UNBOXED: u64 = 2;

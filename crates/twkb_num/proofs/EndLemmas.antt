@@ -1,6 +1,7 @@
 -- The first end among eight bytes, by the lowest bit of a word.
 use Rattle.std.proofs.Common.{◌≡◌, ℕ, zero, suc, ◌+◌, ◌-◌, ◌*◌, ◌/◌, ◌^◌, ◌<◌, ◌≤◌, List, length, take, slice_index, Option, Some, None, IfSome, subst, ap, ap₂, ◌∙◌, sym, refl, ◌⊎◌, inl, inr, arith}
-use Rattle.std.specs.Int.{w64, from_le_bytes, bit_at, trailing_zeros}
+use Rattle.std.specs.Int.{Width, w64, from_le_bytes, bit_at, trailing_zeros}
+use mir.Val.{bits}
 use Rattle.std.specs.Int.Bits.{bit_and}
 use Rattle.std.proofs.lemmas.Nat.{and_block, pow_pos}
 use Rattle.std.proofs.lemmas.Nat.Bits.{and_pow, bit_at_cat_low, bit_at-pow_same, bit_at-pow_other, bit_at-trailing_zeros}
@@ -11,10 +12,10 @@ use Rattle.twkb_num.proofs.VarintLemmas.{sum_of_groups-fits, Spells-take}
 use Rattle.twkb_num.specs.Devices.Ends.{IsFirstEnd, ended, four_bytes, eight_bytes}
 
 -- the lowest 1 of a number
-lowest_at : (n m k : ℕ) → n < 2 ^ 64 → n ≡ m * 2 ^ (k + 1) + 2 ^ k → trailing_zeros w64 n ≡ k
-lowest_at n m k fits e =
-    let found = bit_at-trailing_zeros w64 n (omega (arith, e, pow_pos k)) fits in
-    let t : ℕ = trailing_zeros w64 n in
+pub lowest_at : (w : Width) (n m k : ℕ) → n < 2 ^ bits w → n ≡ m * 2 ^ (k + 1) + 2 ^ k → trailing_zeros w n ≡ k
+lowest_at w n m k fits e =
+    let found = bit_at-trailing_zeros w n (omega (arith, e, pow_pos k)) fits in
+    let t : ℕ = trailing_zeros w n in
     let at : bit_at n k ≡ 1 = ap (λ x. bit_at x k) e ∙ bit_at_cat_low m (k + 1) (2 ^ k) k (omega arith) ∙ bit_at-pow_same k in
     elim (cases_lt t k) [
       | inl before ↦
@@ -96,56 +97,56 @@ module _ (f : ℕ → ℕ) (n : ℕ) (bound : (k : ℕ) → k < 8 → f k ≤ 1)
   lowest_7 some on =
       elim (zero_or_one (f 7) (bound 7 (omega arith))) [
         | inl z ↦ absurd (some (omega (arith, is, z, on 0 (omega arith), on 1 (omega arith), on 2 (omega arith), on 3 (omega arith), on 4 (omega arith), on 5 (omega arith), on 6 (omega arith))))
-        | inr o ↦ (7, omega arith, lowest_at n 0 63 fits (omega (arith, is, o, on 0 (omega arith), on 1 (omega arith), on 2 (omega arith), on 3 (omega arith), on 4 (omega arith), on 5 (omega arith), on 6 (omega arith))), on, o)
+        | inr o ↦ (7, omega arith, lowest_at w64 n 0 63 fits (omega (arith, is, o, on 0 (omega arith), on 1 (omega arith), on 2 (omega arith), on 3 (omega arith), on 4 (omega arith), on 5 (omega arith), on 6 (omega arith))), on, o)
       ]
 
   lowest_6 : ((n ≡ 0) → ⊥) → ((k : ℕ) → k < 6 → f k ≡ 0) → IsLowest
   lowest_6 some on =
       elim (zero_or_one (f 6) (bound 6 (omega arith))) [
         | inl z ↦ lowest_7 some (more f 6 on z)
-        | inr o ↦ (6, omega arith, lowest_at n (n / 2 ^ 56) 55 fits (omega (arith, is, o, on 0 (omega arith), on 1 (omega arith), on 2 (omega arith), on 3 (omega arith), on 4 (omega arith), on 5 (omega arith))), on, o)
+        | inr o ↦ (6, omega arith, lowest_at w64 n (n / 2 ^ 56) 55 fits (omega (arith, is, o, on 0 (omega arith), on 1 (omega arith), on 2 (omega arith), on 3 (omega arith), on 4 (omega arith), on 5 (omega arith))), on, o)
       ]
 
   lowest_5 : ((n ≡ 0) → ⊥) → ((k : ℕ) → k < 5 → f k ≡ 0) → IsLowest
   lowest_5 some on =
       elim (zero_or_one (f 5) (bound 5 (omega arith))) [
         | inl z ↦ lowest_6 some (more f 5 on z)
-        | inr o ↦ (5, omega arith, lowest_at n (n / 2 ^ 48) 47 fits (omega (arith, is, o, on 0 (omega arith), on 1 (omega arith), on 2 (omega arith), on 3 (omega arith), on 4 (omega arith))), on, o)
+        | inr o ↦ (5, omega arith, lowest_at w64 n (n / 2 ^ 48) 47 fits (omega (arith, is, o, on 0 (omega arith), on 1 (omega arith), on 2 (omega arith), on 3 (omega arith), on 4 (omega arith))), on, o)
       ]
 
   lowest_4 : ((n ≡ 0) → ⊥) → ((k : ℕ) → k < 4 → f k ≡ 0) → IsLowest
   lowest_4 some on =
       elim (zero_or_one (f 4) (bound 4 (omega arith))) [
         | inl z ↦ lowest_5 some (more f 4 on z)
-        | inr o ↦ (4, omega arith, lowest_at n (n / 2 ^ 40) 39 fits (omega (arith, is, o, on 0 (omega arith), on 1 (omega arith), on 2 (omega arith), on 3 (omega arith))), on, o)
+        | inr o ↦ (4, omega arith, lowest_at w64 n (n / 2 ^ 40) 39 fits (omega (arith, is, o, on 0 (omega arith), on 1 (omega arith), on 2 (omega arith), on 3 (omega arith))), on, o)
       ]
 
   lowest_3 : ((n ≡ 0) → ⊥) → ((k : ℕ) → k < 3 → f k ≡ 0) → IsLowest
   lowest_3 some on =
       elim (zero_or_one (f 3) (bound 3 (omega arith))) [
         | inl z ↦ lowest_4 some (more f 3 on z)
-        | inr o ↦ (3, omega arith, lowest_at n (n / 2 ^ 32) 31 fits (omega (arith, is, o, on 0 (omega arith), on 1 (omega arith), on 2 (omega arith))), on, o)
+        | inr o ↦ (3, omega arith, lowest_at w64 n (n / 2 ^ 32) 31 fits (omega (arith, is, o, on 0 (omega arith), on 1 (omega arith), on 2 (omega arith))), on, o)
       ]
 
   lowest_2 : ((n ≡ 0) → ⊥) → ((k : ℕ) → k < 2 → f k ≡ 0) → IsLowest
   lowest_2 some on =
       elim (zero_or_one (f 2) (bound 2 (omega arith))) [
         | inl z ↦ lowest_3 some (more f 2 on z)
-        | inr o ↦ (2, omega arith, lowest_at n (n / 2 ^ 24) 23 fits (omega (arith, is, o, on 0 (omega arith), on 1 (omega arith))), on, o)
+        | inr o ↦ (2, omega arith, lowest_at w64 n (n / 2 ^ 24) 23 fits (omega (arith, is, o, on 0 (omega arith), on 1 (omega arith))), on, o)
       ]
 
   lowest_1 : ((n ≡ 0) → ⊥) → ((k : ℕ) → k < 1 → f k ≡ 0) → IsLowest
   lowest_1 some on =
       elim (zero_or_one (f 1) (bound 1 (omega arith))) [
         | inl z ↦ lowest_2 some (more f 1 on z)
-        | inr o ↦ (1, omega arith, lowest_at n (n / 2 ^ 16) 15 fits (omega (arith, is, o, on 0 (omega arith))), on, o)
+        | inr o ↦ (1, omega arith, lowest_at w64 n (n / 2 ^ 16) 15 fits (omega (arith, is, o, on 0 (omega arith))), on, o)
       ]
 
   pub lowest_0 : ((n ≡ 0) → ⊥) → ((k : ℕ) → k < 0 → f k ≡ 0) → IsLowest
   lowest_0 some on =
       elim (zero_or_one (f 0) (bound 0 (omega arith))) [
         | inl z ↦ lowest_1 some (more f 0 on z)
-        | inr o ↦ (0, omega arith, lowest_at n (n / 2 ^ 8) 7 fits (omega (arith, is, o)), on, o)
+        | inr o ↦ (0, omega arith, lowest_at w64 n (n / 2 ^ 8) 7 fits (omega (arith, is, o)), on, o)
       ]
 
   -- where there is none, all are nothing

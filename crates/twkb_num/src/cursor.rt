@@ -9,7 +9,7 @@ ghost use Rattle.twkb_num.specs.Devices.Varint.{IsBegunBy};
 use crate::ends::{first_end, length_of};
 use crate::signed::unzigzag;
 use crate::varint::{NumFault, decode};
-use crate::word::{Pair, last_of, next_pair};
+use crate::word::{Pair, last_of, next_mixed_pair, next_pair};
 use std::marker::Model;
 
 /// A place in bytes, and a count of the bytes read, which stays at `u64::MAX` once there.
@@ -18,7 +18,7 @@ use std::marker::Model;
 /// are passed: [`Cursor::word`], and [`Cursor::ahead`], whose cursor may also be dropped. `None` of a call by words promises no
 /// more than that nothing was read.
 /// A contract sees it as a `Reading`. Each call takes constant time and space: a varint has at most ten bytes.
-/// Numbers may be read or passed by words of eight bytes ([`Cursor::svarint_pair`], [`Cursor::pass_varint`],
+/// Numbers may be read or passed by words of eight bytes (as by [`Cursor::svarint_pair`], [`Cursor::pass_varint`],
 /// [`Cursor::pass_varints`]). Then up to seven bytes behind them are touched too, as a cache line is, and the count is of
 /// the bytes that the numbers take.
 #[derive(Drop)]
@@ -72,6 +72,15 @@ impl<'a> Cursor<'a> {
         ensures sound { IsSound self.now }
     {
         self.place
+    }
+
+    /// What every cursor keeps. It does nothing: whoever calls it has a proof that knows from there on that the place is within
+    /// the bytes, and that each number fits its type.
+    #[inline(always)]
+    pub fn place_is_within(&self)
+        ensures { IsSound self.now }
+    {
+        let _place = self.place();
     }
 
     /// The number of all bytes, those before the place too.
@@ -293,7 +302,8 @@ impl<'a> Cursor<'a> {
         Some((pair.first, pair.second))
     }
 
-    /// The same, where eight bytes are left before `stop`, so that no byte from there on is looked at.
+    /// The same, where eight bytes are left before `stop`, so that no byte from there on is looked at. It is for numbers of
+    /// which few are short, as those of boxes are.
     #[inline(always)]
     pub fn svarint_pair_before(&mut self, stop: usize) -> Option<(i64, i64)>
         ensures some { IfSome result (λ pair. SpellsTwoSigned (passed self.old self.new) pair.0 pair.1) }
@@ -305,7 +315,27 @@ impl<'a> Cursor<'a> {
         if stop.saturating_sub(self.place) < 8 {
             return None;
         }
-        self.svarint_pair()
+        let two = next_mixed_pair(self.bytes[self.place..].first_chunk::<8>()?)?;
+        self.place += two.len;
+        Some((two.first, two.second))
+    }
+
+    /// Past the two varints at the place, without asking for their numbers, where eight bytes are left before `stop` and both
+    /// end among them: no byte from there on is looked at. Else `None`, and the cursor is as it was.
+    #[inline(always)]
+    pub fn pass_pair_before(&mut self, stop: usize) -> Option<()>
+        ensures some { OnSome result (SpellsMany (passed self.old self.new) 2) }
+        ensures moved { OnSome result (IsMoved self.old self.new) }
+        ensures within { OnSome result (self.old.place + 8 ≤ stop) }
+        ensures none { IfNone result (self.new ≡ self.old) }
+    {
+        let left = stop.saturating_sub(self.place);
+        if left < 8 {
+            return None;
+        }
+        let both = length_of(self.bytes[self.place..].first_chunk::<8>()?, 2)?;
+        self.place += both;
+        Some(())
     }
 
     /// The same, where both end at `stop` or before: no byte from there on is looked at. Where fewer than eight bytes are left

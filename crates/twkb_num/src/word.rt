@@ -81,6 +81,17 @@ pub fn next_pair(bytes: &[u8; 8]) -> Option<Pair>
     }
 }
 
+/// The same, without a path for short ones.
+#[inline(always)]
+pub fn next_mixed_pair(bytes: &[u8; 8]) -> Option<Pair>
+    ensures len { IfSome result (λ pair. pair.len ≤ 8) }
+    ensures some { IfSome result (λ pair. SpellsTwoSigned (take pair.len bytes.now) pair.first pair.second) }
+    ensures short { IfSome result (λ pair. IsShort pair.first × IsShort pair.second) }
+{
+    let two = mixed_two(bytes)?;
+    Some(two.signed())
+}
+
 /// A number, and the length of its spelling in bits: 8, 16, 24 or 32.
 #[derive(Clone, Copy)]
 struct Front {

@@ -2,17 +2,18 @@
 use Rattle.std.proofs.Common.{◌≡◌, ◌∙◌, ℕ, ◌+◌, ◌-◌, ◌≤◌, List, ◌++◌, length, take, drop, IsTrue, sym, arith, append_assoc, length-append, length-drop}
 use Rattle.std.proofs.lemmas.List.{take_all}
 use Rattle.std.proofs.Math.Seq.{take-add}
-use Rattle.twkb_tool.specs.Streams.{SourceState, SinkState, moved_on, Gives, Takes}
+use Rattle.twkb_num.specs.Cursor.{added}
+use Rattle.twkb_tool.specs.Streams.{SourceState, SinkState, Gives, Takes}
 
-moved_on-append : (m : ℕ) (xs ys : List ℕ) → moved_on (moved_on m (length xs)) (length ys) ≡ moved_on m (length (xs ++ ys))
-moved_on-append m xs ys = omega (arith, length-append xs ys)
+added-append : (m : ℕ) (xs ys : List ℕ) → added (added m (length xs)) (length ys) ≡ added m (length (xs ++ ys))
+added-append m xs ys = omega (arith, length-append xs ys)
 
 pub Gives-more : (s t u : SourceState) (xs ys : List ℕ) → Gives s t xs → Gives t u ys → Gives s u (xs ++ ys)
 Gives-more s t u xs ys a b = record {
   tells = b.tells ∙ a.tells;
   bytes = λ h. let told : IsTrue t.tells = rw a.tells h in
       rw (a.bytes h, b.bytes told) (sym (append_assoc xs ys u.rest));
-  count = rw (b.count, a.count) (moved_on-append s.moved xs ys);
+  count = rw (b.count, a.count) (added-append s.moved xs ys);
 }
 
 pub Takes-more : (s t u : SinkState) (xs ys : List ℕ) → Takes s t xs → Takes t u ys → Takes s u (xs ++ ys)
@@ -20,7 +21,7 @@ Takes-more s t u xs ys a b = record {
   tells = b.tells ∙ a.tells;
   bytes = λ h. let told : IsTrue t.tells = rw a.tells h in
       rw (b.bytes told, a.bytes h) (append_assoc s.bytes xs ys);
-  count = rw (b.count, a.count) (moved_on-append s.moved xs ys);
+  count = rw (b.count, a.count) (added-append s.moved xs ys);
 }
 
 -- a put of some of what is left of a text

@@ -1,5 +1,6 @@
 -- What a source gave and a sink took.
-use Rattle.std.specs.Prelude.{◌≡◌, ℕ, ◌+◌, ◌-◌, ◌^◌, min, Bool, List, ◌++◌, length, IsTrue}
+use Rattle.std.specs.Prelude.{◌≡◌, ℕ, Bool, List, ◌++◌, length, IsTrue}
+use Rattle.twkb_num.specs.Cursor.{added}
 
 -- a source: whether it tells its bytes, those still to come, how many it gave, and whether its last call failed
 pub record SourceState : Type 0 where
@@ -17,18 +18,14 @@ pub record SinkState : Type 0 where
   pub failed : Bool
   pub flushing : Bool
 
--- a number of bytes moved after n more, which stays at the greatest u64
-abbrev pub moved_on : ℕ → ℕ → ℕ
-moved_on moved n = min (moved + n) (2 ^ 64 - 1)
-
 -- the source gave these bytes and no others
 pub record Gives (old new : SourceState) (given : List ℕ) : Type 0 where
   pub tells : new.tells ≡ old.tells
   pub bytes : IsTrue old.tells → old.rest ≡ given ++ new.rest
-  pub count : new.moved ≡ moved_on old.moved (length given)
+  pub count : new.moved ≡ added old.moved (length given)
 
 -- the sink took these bytes and no others
 pub record Takes (old new : SinkState) (taken : List ℕ) : Type 0 where
   pub tells : new.tells ≡ old.tells
   pub bytes : IsTrue old.tells → new.bytes ≡ old.bytes ++ taken
-  pub count : new.moved ≡ moved_on old.moved (length taken)
+  pub count : new.moved ≡ added old.moved (length taken)

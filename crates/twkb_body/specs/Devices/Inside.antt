@@ -1,14 +1,17 @@
 -- Devices of proofs: nothing public names them.
 -- What was found in the body of a geometry.
-use Rattle.std.specs.Prelude.{◌≡◌, ℕ, ◌+◌, ◌≤◌, Bool, length, map, Option, None}
+use Rattle.std.specs.Prelude.{◌≡◌, ℕ, ◌+◌, ◌≤◌, Bool, length, map, fold, Option, None}
 use Rattle.twkb_head.specs.declared.header.Head.{Head}
 use Rattle.twkb_head.specs.declared.header.BoxField.{BoxField}
-use Rattle.twkb_head.specs.Header.{Header}
+use Rattle.twkb_head.specs.declared.boxes.Vertex.{Vertex}
+use Rattle.twkb_head.specs.Header.{Header, is_multi}
+use Rattle.twkb_head.specs.Devices.Reader.{Reader}
 use Rattle.twkb_body.specs.declared.inside.Inside.{Inside}
 use Rattle.twkb_body.specs.declared.seen.Seen.{Seen}
 use Rattle.twkb_body.specs.Geometry.{vertex_of, points_of}
 use Rattle.twkb_body.specs.Extent.{reach_of, both}
 use Rattle.twkb_body.specs.Devices.Body.{Body}
+use Rattle.twkb_body.specs.Devices.BodyReader.{shape_at}
 use Rattle.twkb_body.specs.Devices.Pass.{Summary, MemberSums, ids_refused}
 use Rattle.twkb_body.specs.Devices.Found.{named, box_judged}
 use Rattle.twkb_body.specs.Devices.Seen.{HasSeen}
@@ -16,6 +19,14 @@ use Rattle.twkb_body.specs.Devices.Seen.{HasSeen}
 -- the header of a head, but for its size and its box, on which no body hangs
 abbrev pub of_head : Head → Header
 of_head head = record { kind = head.kind; xy = head.xy; z = head.z; m = head.m; size = None; box = None; ids = head.ids; empty = head.empty }
+
+-- the body behind a header whose kind is no collection
+abbrev pub shape_behind : Head → Reader Body
+shape_behind head = shape_at (is_multi head.kind) (of_head head)
+
+-- the state after the points of a body are shown as vertices, one after another
+abbrev pub shown_all : {S : Type 0} → (S → Vertex → S) → Head → Body → S → S
+shown_all step head body state = fold step state (map (vertex_of (of_head head)) (points_of body.polygons))
 
 -- What was found is that of the body's own points and of its members, between two places, and what is said of a box and
 -- shown to the boxes above is of all of these; the body has no more vertices than bytes.

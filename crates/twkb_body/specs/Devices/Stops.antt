@@ -1,13 +1,23 @@
 -- Devices of proofs: nothing public names them.
 -- How a read in code that may want memory is the reader's.
-use Rattle.std.specs.Prelude.{◌≡◌, ℕ, ◌+◌, ◌<◌, Bool, ℤ, pos, List, Result, Ok, Err}
+use Rattle.std.specs.Prelude.{◌≡◌, ℕ, ◌+◌, ◌-◌, ◌<◌, Bool, ℤ, pos, List, Result, Ok, Err}
 use Rattle.twkb_num.specs.Cursor.{Reading, rest}
+use Rattle.twkb_head.specs.declared.header.Head.{Head}
+use Rattle.twkb_head.specs.BegunHeader.{deepest}
 use Rattle.twkb_head.specs.Devices.Reader.{Answer, Fails, many_at}
-use Rattle.twkb_body.specs.Geometry.{Geometry}
+use Rattle.twkb_body.specs.Geometry.{Geometry, vertices}
 use Rattle.twkb_body.specs.Audited.{HasLongList}
-use Rattle.twkb_body.specs.Devices.Body.{ListHead}
+use Rattle.twkb_body.specs.Extent.{reach_of}
+use Rattle.twkb_body.specs.Devices.Body.{ListHead, Body}
 use Rattle.twkb_body.specs.Devices.BodyReader.{list_at, geometry_at}
-use Rattle.twkb_body.specs.Devices.IdLists.{HasManyIdsAfterCount}
+use Rattle.twkb_body.specs.Devices.Found.{IsFound}
+use Rattle.twkb_body.specs.Devices.Seen.{HasSeen}
+use Rattle.twkb_body.specs.Devices.Inside.{of_head, IsInside}
+use Rattle.twkb_body.specs.Devices.IdLists.{HasManyIdsAfterCount, IsListFound}
+use Rattle.twkb_body.specs.declared.found.Found.{Found}
+use Rattle.twkb_body.specs.declared.inside.Inside.{Inside}
+use Rattle.twkb_body.specs.declared.lists.List.{List as ListFound}
+use Rattle.twkb_body.specs.declared.seen.Seen.{Seen}
 use Rattle.twkb_body.specs.declared.stopped.Stopped.{Stopped}
 use Rattle.twkb_body.specs.declared.stopped.Stopped.TheVariants.{Malformed as BadField, Memory}
 
@@ -20,6 +30,24 @@ HasStopped answer Wants old Memory new = (new.bytes ≡ old.bytes) × Wants
 abbrev pub ReadsOrStops : {A B : Type 0} → Answer A → (A → B → Type 0) → Type 0 → Reading → Result B Stopped → Reading → Type 0
 ReadsOrStops {A} answer Gives Wants old (Ok y) new = (x : A) × (answer ≡ (Ok x, new)) × Gives x y
 ReadsOrStops answer Gives Wants old (Err e) new = HasStopped answer Wants old e new
+
+-- the same of a list: its count, and its ids where they are announced
+abbrev pub ReadsList : Answer ListHead → Bool → Reading → Result ListFound Stopped → Reading → Type 0
+ReadsList answer has_ids old result new =
+    ReadsOrStops answer (λ head list. IsListFound old new head list) (HasManyIdsAfterCount has_ids (rest old)) old result new
+
+-- the same of a body, of which the code gives what was found inside
+abbrev pub ReadsInside : Bool → Head → Answer Body → Type 0 → Seen → Seen → Reading → Result Inside Stopped → Reading → Type 0
+ReadsInside tight head answer Wants above after old result new =
+    ReadsOrStops answer
+    (λ body inside. IsInside tight (of_head head) head.bounds body old.place new.place above after inside) Wants old result new
+
+-- the same of a whole geometry that stands at a depth
+abbrev pub ReadsGeometry : Bool → ℕ → Seen → Seen → Reading → Result Found Stopped → Reading → Type 0
+ReadsGeometry tight depth above after old result new =
+    ReadsOrStops (geometry_at (deepest - depth) old)
+    (λ g found. IsFound tight g old.place new.place found × HasSeen above after (reach_of (vertices g)))
+    (HasLongList depth (rest old)) old result new
 
 -- Memory was wanted in the body of a collection, which has so many levels below it: for the ids of its own list, or for
 -- those of a member behind the ones that were read.

@@ -1,12 +1,13 @@
 -- Devices of proofs: nothing public names them.
 -- What reading numbers does to the differences under one header, and to what their points are added to.
-use Rattle.std.specs.Prelude.{◌≡◌, ℕ, ◌+◌, ◌≤◌, List, [], ◌∷◌, length, fold, IfSome, Ok}
+use Rattle.std.specs.Prelude.{◌≡◌, ℕ, ◌+◌, ◌≤◌, List, [], ◌∷◌, length, fold, IfSome, Result, Ok}
 use Rattle.twkb_num.specs.Cursor.{Reading}
 use Rattle.twkb_num.specs.Units.{IsPrecision}
 use Rattle.twkb_head.specs.declared.boxes.Vertex.{Vertex}
 use Rattle.twkb_head.specs.declared.header.Head.{Head}
 use Rattle.twkb_head.specs.Header.{Header, axes_with}
-use Rattle.twkb_head.specs.Devices.Reader.{many_at}
+use Rattle.twkb_head.specs.declared.refusal.Malformed.{Malformed}
+use Rattle.twkb_head.specs.Devices.Reader.{Reader, Reads, many_at}
 use Rattle.twkb_body.specs.declared.trail.Trail.{Trail}
 use Rattle.twkb_body.specs.Geometry.{PointValue, vertex_of}
 use Rattle.twkb_body.specs.Devices.Body.{add, sums, map_from}
@@ -41,6 +42,13 @@ pub record IsWalked {S : Type 0} (step : S → PointValue → S) (axes : ℕ) (o
   pub added : state' ≡ fold step state (lasts_from old.last numbers)
   pub have : HaveAxes axes numbers
   pub ahead : length numbers + start ≤ stop
+
+-- From a trail on the reader gives a value, or its fault, and the points in the value were added to a state.
+abbrev pub ReadsPoints : {A B S : Type 0} → (PointValue → Reader A) → (A → List PointValue) → (S → PointValue → S) → ℕ
+    → Trail → Trail → S → S → Reading → Result B Malformed → Reading → Type 0
+ReadsPoints each points_in step axes old new state state' from result to =
+    Reads (each old.last from)
+    (λ x done. IsWalked step axes old new state state' from.place to.place (points_in x)) result to
 
 -- So many points were read, one behind another, and added.
 pub record IsRun {S : Type 0} (step : S → PointValue → S) (axes : ℕ) (old new : Trail) (state state' : S) (from to : Reading) (count : ℕ) : Type 0 where

@@ -19,7 +19,6 @@ use crate::parts::take_parts;
 use crate::points::Points;
 use crate::trail::Trail;
 use crate::unboxed::Unboxed;
-use crate::within::place_is_within;
 use twkb_head::{Head, Kind, RawBox};
 use twkb_num::Cursor;
 
@@ -186,7 +185,7 @@ pub fn take_sure_list(cursor: &mut Cursor, has_ids: bool) -> Option<u64>
     let Ok(count) = take_number(cursor) else {
         return None;
     };
-    place_is_within(cursor);
+    cursor.place_is_within();
     if has_ids {
         take_rising(cursor, count)?;
     }

@@ -2,25 +2,8 @@
 use super::skims::{Nothing, skimmed};
 use super::variants::agrees;
 use super::*;
+use random_layers::{TWO_COLLECTIONS, nested};
 use std::alloc::{AllocError, Global};
-
-// So many collections, each in the one before, which has nothing else, and then these bytes.
-fn nested(alloc: Global, collections: usize, inmost: &[u8]) -> Result<Vec<u8>, AllocError> {
-    let mut bytes = Vec::new(alloc);
-    for _ in 0..collections {
-        bytes.extend_from_slice(&[0x07, 0x00, 0x01])?;
-    }
-    bytes.extend_from_slice(inmost)?;
-    Ok(bytes)
-}
-
-// A collection of two. The first has a size and a box round its point at (10 10), which has a size and a box too; the
-// second has such a point and one at (1 2).
-const HOPS: [u8; 36] = [
-    0x07, 0x00, 0x02, 0x07, 0x03, 0x0E, 0x14, 0x00, 0x14, 0x00, 0x01, 0x01, 0x03, 0x06, 0x14, 0x00,
-    0x14, 0x00, 0x14, 0x14, 0x07, 0x00, 0x02, 0x01, 0x03, 0x06, 0x14, 0x00, 0x14, 0x00, 0x14, 0x14,
-    0x01, 0x00, 0x02, 0x04,
-];
 
 // How many collections, what stands in the inmost, how many vertices it has, and how many bytes of the whole are read
 // where every box is skipped.
@@ -32,7 +15,7 @@ const CERTIFIED_BELOW: [(usize, &[u8], usize, u64); 7] = [
     (63, &[0x01, 0x10], 0, 191),
     (62, &[0x07, 0x00, 0x00], 0, 189),
     // Of 219 bytes the ten behind the header of a member at depth 63, and the two behind that of one at depth 64, are not.
-    (61, &HOPS, 3, 207),
+    (61, &TWO_COLLECTIONS, 3, 207),
 ];
 
 #[test]
@@ -127,7 +110,10 @@ fn sizes_off_by_one(rt: HostRuntime) -> Result<(), Fail> {
 // The plain reader agrees on each byte of the two changed a little, and cut there.
 #[test]
 fn variants_below(rt: HostRuntime) -> Result<(), Fail> {
-    for bytes in [nested(rt.alloc(), 61, &HOPS)?, sized(rt.alloc())?] {
+    for bytes in [
+        nested(rt.alloc(), 61, &TWO_COLLECTIONS)?,
+        sized(rt.alloc())?,
+    ] {
         let mut changed = Vec::new(rt.alloc());
         changed.extend_from_slice(&bytes)?;
         for k in 0..bytes.len() {

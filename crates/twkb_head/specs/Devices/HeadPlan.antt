@@ -7,11 +7,11 @@ use Rattle.twkb_head.specs.declared.kinds.Kind.TheVariants.{Point}
 use Rattle.twkb_head.specs.Header.{Header, axes_with, has_bit, has_ids, z_in, m_in}
 use Rattle.twkb_head.specs.Devices.Plan.{kind_of_code, Plan, done, bind, measure, optional, type_plan, byte_plan, number_plan, signeds_plan}
 
--- ranges from their numbers: minimum and extent of each
+-- ranges from their numbers: minimum and width of each
 abbrev pub ranges_of : List ℤ → List (ℤ × ℤ)
 ranges_of [] = []
 ranges_of (low ∷ []) = []
-ranges_of (low ∷ extent ∷ zs) = (low, low +ℤ extent) ∷ ranges_of zs
+ranges_of (low ∷ width ∷ zs) = (low, low +ℤ width) ∷ ranges_of zs
 
 -- a box, by the number of axes
 abbrev pub box_plan : ℕ → Plan (List (ℤ × ℤ))

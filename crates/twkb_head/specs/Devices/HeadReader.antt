@@ -17,7 +17,7 @@ kind_from_type levels r = viewed (λ t. (kind_from t, zigzag_value (t / 16))) (t
 
 -- the range of one axis
 unfoldable pub range_from : Reader (ℤ × ℤ)
-range_from r = signed_at r >>= λ low a. viewed (λ extent. (low, low +ℤ extent)) (signed_at a)
+range_from r = signed_at r >>= λ low a. viewed (λ width. (low, low +ℤ width)) (signed_at a)
 
 -- the range of an axis, where it has a precision, in units
 abbrev pub axis_from : Option ℕ → Reader (Option Span)

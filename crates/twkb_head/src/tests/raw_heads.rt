@@ -43,39 +43,78 @@ fn raw_heads_have_raw_boxes(rt: HostRuntime) {
 }
 
 #[test]
-fn boxed_heads_have_a_size_and_a_box_of_x_and_y(rt: HostRuntime) {
+fn boxes_are_begun_up_to_y(rt: HostRuntime) {
     // The box of a line, with and without eight bytes behind each of its pairs that the size has.
     for size in [9, 5] {
         let bytes = [
             0x12, 0x03, size, 0x02, 0x08, 0x02, 0x07, 0x02, 0x02, 0x02, 0x08, 0x08, 0x00,
         ];
-        let expected = RawHead {
-            head: Head {
-                xy: -1,
-                size: Some(SizeField {
-                    value: u64::from(size),
-                    offset: 2,
-                    after: 3,
-                }),
-                stop: 7,
-                ..plain(Kind::LineString)
+        let expected = BegunBox {
+            xy: -1,
+            size: SizeField {
+                value: u64::from(size),
+                offset: 2,
+                after: 3,
             },
-            bounds: Some(RawBox {
-                x: range(1, 4),
-                y: range(1, -4),
-                third: range(0, 0),
-                fourth: range(0, 0),
-            }),
-            box_place: 3,
+            x: range(1, 4),
         };
         let mut cursor = Cursor::new(&bytes);
-        assert_eq!(rt; read_boxed_head(&mut cursor), Some(expected));
+        assert_eq!(rt; read_begun_box(&mut cursor), Some(expected));
+        assert_eq!(rt; cursor.read_count(), 5);
+        let stop = 3 + usize::from(size);
+        assert_eq!(rt; read_range_before(&mut cursor, stop), Some(range(1, -4)));
+        assert_eq!(rt; cursor.place(), 7);
         assert_eq!(rt; cursor.read_count(), 7);
     }
 }
 
+// Numbers of one byte to five, with seven bytes to eleven up to the stop.
 #[test]
-fn boxed_heads_are_no_others(rt: HostRuntime) {
+fn ranges_are_passed_as_they_are_read(rt: HostRuntime) {
+    for minimum_more in 0..5usize {
+        for extent_more in 0..5usize {
+            let mut bytes = [0x01; 16];
+            for byte in bytes.iter_mut().take(minimum_more) {
+                *byte = 0x81;
+            }
+            let extent = minimum_more.saturating_add(1);
+            for byte in bytes.iter_mut().skip(extent).take(extent_more) {
+                *byte = 0x81;
+            }
+            let many = extent.saturating_add(extent_more).saturating_add(1);
+            for stop in 7..=11 {
+                passes_a_range(&rt, &bytes, stop, many);
+            }
+        }
+    }
+}
+
+// The range at the front takes so many bytes.
+fn passes_a_range(rt: &impl Abort, bytes: &[u8], stop: usize, many: usize) {
+    let mut reads = Cursor::new(bytes);
+    let mut passes = Cursor::new(bytes);
+    assert!(rt; read_range_before(&mut reads, stop).is_some());
+    assert_eq!(rt; pass_range_before(&mut passes, stop), Some(()));
+    assert_eq!(rt; [reads.place(), passes.place()], [many, many]);
+    assert_eq!(rt;
+        [reads.read_count(), passes.read_count()],
+        [many as u64, many as u64]
+    );
+}
+
+#[test]
+fn ranges_end_with_the_bytes(rt: HostRuntime) {
+    let bytes = [0x81, 0x81, 0x01, 0x81, 0x01];
+    passes_a_range(&rt, &bytes, 5, 5);
+    for stop in 0..5 {
+        let cut = &bytes[..stop];
+        assert_eq!(rt; read_range_before(&mut Cursor::new(cut), 5), None);
+        assert_eq!(rt; pass_range_before(&mut Cursor::new(cut), 5), None);
+    }
+}
+
+#[test]
+fn no_other_boxes_are_begun(rt: HostRuntime) {
     // No size, no box, an extended dimensions byte, empty, and a number of 2^62.
     let table = [
         [
@@ -95,7 +134,7 @@ fn boxed_heads_are_no_others(rt: HostRuntime) {
         ],
     ];
     for bytes in table {
-        assert_eq!(rt; read_boxed_head(&mut Cursor::new(&bytes)), None);
+        assert_eq!(rt; read_begun_box(&mut Cursor::new(&bytes)), None);
     }
 }
 

@@ -8,27 +8,10 @@ use super::{NOWHERE, certified, window};
 use crate::{
     Bounds, Certified, Cursor, Directory, Hit, Kind, Refusal, Row, certify, certify_tight,
 };
+use random_layers::{TWO_COLLECTIONS, nested};
 use std::alloc::{AllocError, Global};
 use std::process::Abort;
 use std::test::Fail;
-
-// So many collections, each in the one before, which has nothing else, and then these bytes.
-fn nested(alloc: Global, collections: usize, inmost: &[u8]) -> Result<Vec<u8>, AllocError> {
-    let mut bytes = Vec::new(alloc);
-    for _ in 0..collections {
-        bytes.extend_from_slice(&[0x07, 0x00, 0x01])?;
-    }
-    bytes.extend_from_slice(inmost)?;
-    Ok(bytes)
-}
-
-// A collection of two. The first has a size and a box round its point at (10 10), which has a size and a box too; the
-// second has such a point and one at (1 2).
-const TWO_COLLECTIONS: [u8; 36] = [
-    0x07, 0x00, 0x02, 0x07, 0x03, 0x0E, 0x14, 0x00, 0x14, 0x00, 0x01, 0x01, 0x03, 0x06, 0x14, 0x00,
-    0x14, 0x00, 0x14, 0x14, 0x07, 0x00, 0x02, 0x01, 0x03, 0x06, 0x14, 0x00, 0x14, 0x00, 0x14, 0x14,
-    0x01, 0x00, 0x02, 0x04,
-];
 
 /// The whole blob: its points stand at depth 64, and their collections at 63.
 pub fn deepest(alloc: Global) -> Result<Vec<u8>, AllocError> {

@@ -313,3 +313,49 @@ fn no_pair_passes_the_stop(rt: HostRuntime) {
         }
     }
 }
+
+// Behind one byte a varint of so many bytes more than one, and behind it another.
+fn two_varints(first_more: usize, second_more: usize) -> [u8; 18] {
+    let mut bytes = [0x01; 18];
+    for byte in bytes.iter_mut().skip(1).take(first_more) {
+        *byte = 0x81;
+    }
+    let second = first_more.saturating_add(2);
+    for byte in bytes.iter_mut().skip(second).take(second_more) {
+        *byte = 0x81;
+    }
+    bytes
+}
+
+// Varints of one to seven bytes, with seven bytes up to the stop, eight and nine.
+#[test]
+fn pairs_are_passed_before_a_stop(rt: HostRuntime) {
+    for first_more in 0..7usize {
+        for second_more in 0..7usize {
+            let bytes = two_varints(first_more, second_more);
+            let many = first_more.saturating_add(second_more).saturating_add(2);
+            let passed = if many <= 8 { Some(many) } else { None };
+            passes_a_pair(&rt, &bytes, 8, None);
+            passes_a_pair(&rt, &bytes, 9, passed);
+            passes_a_pair(&rt, &bytes, 10, passed);
+        }
+    }
+}
+
+// The pair at place 1 takes so many bytes, or the cursor stays as it is.
+fn passes_a_pair(rt: &impl Abort, bytes: &[u8], stop: usize, passed: Option<usize>) {
+    let mut cursor = Cursor::new(bytes);
+    assert!(rt; cursor.byte().is_some());
+    assert_eq!(rt; cursor.pass_pair_before(stop).is_some(), passed.is_some());
+    let place = passed.unwrap_or(0).saturating_add(1);
+    assert_eq!(rt; cursor.place(), place);
+    assert_eq!(rt; cursor.read_count(), place as u64);
+}
+
+#[test]
+fn pairs_are_passed_where_eight_bytes_are_left(rt: HostRuntime) {
+    let bytes = [0x01; 9];
+    passes_a_pair(&rt, &bytes[..8], 20, None);
+    passes_a_pair(&rt, &bytes, 20, Some(2));
+    passes_a_pair(&rt, &bytes, 0, None);
+}

@@ -8,9 +8,9 @@ use Rattle.twkb_head.proofs.raw.read_flat_head.Goals as goal
 pub returns-clause-ok : goal.returns-clause-ok
 returns-clause-ok c =
     let read = ap (head_at (deepest - c.args.depth)) (sym c.ahead-ahead.ensures) ∙ c.in_ok-flat.ensures.read in
-    head_ok c.args.depth c.requires.shallowest c.requires.deepest _ _ c.place-start.ensures.sound (Ok _) read
+    head_ok c.args.depth c.requires.shallowest c.requires.deepest _ _ c.place_is_within.ensures (Ok _) read
 
 pub returns-clause-moved : goal.returns-clause-moved
 returns-clause-moved c =
     let read = ap (head_at (deepest - c.args.depth)) (sym c.ahead-ahead.ensures) ∙ c.in_ok-flat.ensures.read in
-    head_moved c.args.depth c.requires.shallowest c.requires.deepest _ _ c.place-start.ensures.sound (Ok _) read
+    head_moved c.args.depth c.requires.shallowest c.requires.deepest _ _ c.place_is_within.ensures (Ok _) read

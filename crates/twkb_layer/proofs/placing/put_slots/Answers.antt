@@ -7,7 +7,7 @@ use Rattle.twkb_layer.proofs.placing.put_slots.Goals as goal
 
 pub loop-room-init : goal.loop-room-init
 loop-room-init c =
-    let first = c.place-start.ensures.sound in
+    let first = c.place_is_within.ensures in
     record {
       bytes = ap (λ r. r.bytes) c.go_to.ensures;
       small = first.length_fits;
@@ -61,4 +61,4 @@ pub returns-clause-count : goal.returns-clause-count
 returns-clause-count c = collect_adds _ _ _ _ _ _ _ _ c.loop-room.invariant.going.on
 
 pub returns-clause-grows : goal.returns-clause-grows
-returns-clause-grows c = omega (arith, c.loop-room.invariant.going.on.count_is, c.place-start.ensures.sound.count_fits)
+returns-clause-grows c = omega (arith, c.loop-room.invariant.going.on.count_is, c.place_is_within.ensures.count_fits)

@@ -6,7 +6,7 @@ use Rattle.twkb_layer.proofs.row.put_rows.Goals as goal
 
 pub loop-blob-init : goal.loop-blob-init
 loop-blob-init g c =
-    let first = c.place-start.ensures.sound in
+    let first = c.place_is_within.ensures in
     record {
       bytes = ap (λ r. r.bytes) c.go_to.ensures;
       small = first.length_fits;
@@ -42,7 +42,7 @@ pub returns-else-place-len-clause-count : goal.returns-else-place-len-clause-cou
 returns-else-place-len-clause-count g c = collect_adds _ _ _ _ _ _ _ _ c.loop-blob.invariant.going.on
 
 pub returns-else-place-len-clause-grows : goal.returns-else-place-len-clause-grows
-returns-else-place-len-clause-grows g c = omega (arith, c.loop-blob.invariant.going.on.count_is, c.place-start.ensures.sound.count_fits)
+returns-else-place-len-clause-grows g c = omega (arith, c.loop-blob.invariant.going.on.count_is, c.place_is_within.ensures.count_fits)
 
 pub returns-after-loop-blob-clause-room : goal.returns-after-loop-blob-clause-room
 returns-after-loop-blob-clause-room g c = put_ends g.R.FromRow.of _ _ _ _ _ _ _ c.loop-blob.invariant.going (inr (omega (arith, c.loop-blob-test.false, c.loop-blob.auto.room)))
@@ -51,4 +51,4 @@ pub returns-after-loop-blob-clause-count : goal.returns-after-loop-blob-clause-c
 returns-after-loop-blob-clause-count g c = collect_adds _ _ _ _ _ _ _ _ c.loop-blob.invariant.going.on
 
 pub returns-after-loop-blob-clause-grows : goal.returns-after-loop-blob-clause-grows
-returns-after-loop-blob-clause-grows g c = omega (arith, c.loop-blob.invariant.going.on.count_is, c.place-start.ensures.sound.count_fits)
+returns-after-loop-blob-clause-grows g c = omega (arith, c.loop-blob.invariant.going.on.count_is, c.place_is_within.ensures.count_fits)

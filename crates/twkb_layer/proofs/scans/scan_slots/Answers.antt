@@ -14,8 +14,8 @@ use Rattle.twkb_layer.proofs.scans.scan_slots.Goals.{then-is_beyond, else-is_bey
 pub loop-slot-init : goal.loop-slot-init
 loop-slot-init c = record {
   bytes = refl;
-  small = c.place-start.ensures.sound.length_fits;
-  going = rw c.unboxed-nothing.ensures (look_begins _ _ _ _ _ c.requires.0 c.requires.1 c.requires.2 (let s = c.place-start.ensures.sound in omega arith));
+  small = c.place_is_within.ensures.length_fits;
+  going = rw c.unboxed-nothing.ensures (look_begins _ _ _ _ _ c.requires.0 c.requires.1 c.requires.2 (let s = c.place_is_within.ensures in omega arith));
 }
 
 pub look_at-requires : goal.look_at-requires
@@ -76,7 +76,7 @@ returns-clause-count c = λ trees h. (look_ends _ _ _ _ _ _ _ _ _ _ _ c.loop-slo
 pub returns-clause-grows : goal.returns-clause-grows
 returns-clause-grows c =
     let all = look_ends _ _ _ _ _ _ _ _ _ _ _ c.loop-slot.invariant.going c.loop-slot-test.false c.requires.0 c.requires.1 in
-    let first = c.place-start.ensures.sound in
+    let first = c.place_is_within.ensures in
     omega (arith, all.count_is, first.count_fits)
 
 pub returns-clause-few : goal.returns-clause-few

@@ -1,5 +1,5 @@
 -- A shift drops the first bytes.
-use Rattle.std.proofs.Common.{◌≡◌, ℕ, ◌*◌, ◌/◌, ◌^◌, ◌-◌, ap, ◌∙◌, sym, take, drop, arith, rules}
+use Rattle.std.proofs.Common.{◌≡◌, ℕ, ◌*◌, ◌/◌, ◌^◌, ◌-◌, ap, ◌∙◌, sym, take, arith, rules}
 use Rattle.std.specs.Int.{w64, to_le_bytes}
 use Rattle.twkb_num.proofs.LastLemmas.{last_bytes}
 use Rattle.twkb_num.proofs.word.last_of.Goals as goal

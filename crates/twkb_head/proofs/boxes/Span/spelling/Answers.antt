@@ -17,35 +17,35 @@ least_is c =
     let wide : SFits w128 c.args.self.now.lo = search rules in
     c.coordinate_of-least.ensures c.requires.spelled.minimum (passed c.args.self.now.lo c.requires.spelled.minimum c.args.precision wide c.ranges.precision (ap (λ (s : Span). s.lo) c.requires.spelled.is))
 
-greatest_is : (c : goal.After-coordinate_of-greatest) → c.coordinate_of-greatest.result ≡ c.requires.spelled.minimum +ℤ c.requires.spelled.extent
+greatest_is : (c : goal.After-coordinate_of-greatest) → c.coordinate_of-greatest.result ≡ c.requires.spelled.minimum +ℤ c.requires.spelled.width
 greatest_is c =
     let wide : SFits w128 c.args.self.now.hi = search rules in
-    c.coordinate_of-greatest.ensures (c.requires.spelled.minimum +ℤ c.requires.spelled.extent)
-    (passed c.args.self.now.hi (c.requires.spelled.minimum +ℤ c.requires.spelled.extent) c.args.precision wide c.ranges.precision (ap (λ (s : Span). s.hi) c.requires.spelled.is))
+    c.coordinate_of-greatest.ensures (c.requires.spelled.minimum +ℤ c.requires.spelled.width)
+    (passed c.args.self.now.hi (c.requires.spelled.minimum +ℤ c.requires.spelled.width) c.args.precision wide c.ranges.precision (ap (λ (s : Span). s.hi) c.requires.spelled.is))
 
 pub coordinate_of-greatest-requires-clause-exact : goal.coordinate_of-greatest-requires-clause-exact
 coordinate_of-greatest-requires-clause-exact c =
     let wide : SFits w128 c.args.self.now.hi = search rules in
     let s = c.requires.spelled in (
-      s.minimum +ℤ s.extent,
-      omega (arith, ints, s.minimum_fits.0, s.extent_fits.0),
-      omega (arith, ints, s.minimum_fits.1, s.extent_fits.1),
-      passed c.args.self.now.hi (s.minimum +ℤ s.extent) c.args.precision wide c.ranges.precision (ap (λ (x : Span). x.hi) s.is),
+      s.minimum +ℤ s.width,
+      omega (arith, ints, s.minimum_fits.0, s.width_fits.0),
+      omega (arith, ints, s.minimum_fits.1, s.width_fits.1),
+      passed c.args.self.now.hi (s.minimum +ℤ s.width) c.args.precision wide c.ranges.precision (ap (λ (x : Span). x.hi) s.is),
     )
 
 pub overflow_cast-result : goal.overflow_cast-result
 overflow_cast-result c = let s = c.requires.spelled in omega (arith, ints, least_is c, s.minimum_fits.0, s.minimum_fits.1)
 
 pub overflow_sub-result : goal.overflow_sub-result
-overflow_sub-result c = let s = c.requires.spelled in omega (arith, ints, least_is c, greatest_is c, s.minimum_fits.0, s.minimum_fits.1, s.extent_fits.0, s.extent_fits.1)
+overflow_sub-result c = let s = c.requires.spelled in omega (arith, ints, least_is c, greatest_is c, s.minimum_fits.0, s.minimum_fits.1, s.width_fits.0, s.width_fits.1)
 
 pub overflow_cast-result-2 : goal.overflow_cast-result-2
-overflow_cast-result-2 c = let s = c.requires.spelled in omega (arith, ints, least_is c, greatest_is c, s.minimum_fits.0, s.minimum_fits.1, s.extent_fits.0, s.extent_fits.1)
+overflow_cast-result-2 c = let s = c.requires.spelled in omega (arith, ints, least_is c, greatest_is c, s.minimum_fits.0, s.minimum_fits.1, s.width_fits.0, s.width_fits.1)
 
 pub returns : goal.returns
 returns c =
     let s = c.requires.spelled in
     let minimum : to_z w64 (of_z w64 (to_z w128 (of_z w128 c.coordinate_of-least.result))) ≡ s.minimum = omega (arith, ints, least_is c, s.minimum_fits.0, s.minimum_fits.1) in
-    let extent : to_z w64 (of_z w64 (to_z w128 (of_z w128 (to_z w128 (of_z w128 c.coordinate_of-greatest.result) -ℤ to_z w128 (of_z w128 c.coordinate_of-least.result))))) ≡ s.extent =
-    omega (arith, ints, least_is c, greatest_is c, s.minimum_fits.0, s.minimum_fits.1, s.extent_fits.0, s.extent_fits.1) in
-    s.is ∙ (λ j. span_at c.args.precision (sym minimum j, sym minimum j +ℤ sym extent j))
+    let width : to_z w64 (of_z w64 (to_z w128 (of_z w128 (to_z w128 (of_z w128 c.coordinate_of-greatest.result) -ℤ to_z w128 (of_z w128 c.coordinate_of-least.result))))) ≡ s.width =
+    omega (arith, ints, least_is c, greatest_is c, s.minimum_fits.0, s.minimum_fits.1, s.width_fits.0, s.width_fits.1) in
+    s.is ∙ (λ j. span_at c.args.precision (sym minimum j, sym minimum j +ℤ sym width j))

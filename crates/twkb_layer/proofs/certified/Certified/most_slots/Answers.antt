@@ -8,7 +8,7 @@ use Rattle.twkb_layer.proofs.certified.Certified.most_slots.Goals as goal
 pub overflow_mul-result : goal.overflow_mul-result
 overflow_mul-result c =
     let counted = c.self.invariant in
-    omega (arith, counted.blobs_are, layer_short counted.trees _ counted.layer.layer, c.len-len.ensures, c.len-len.type_inv)
+    omega (arith, counted.blobs_are, layer_short counted.trees _ counted.layer.layer, c.place_is_within.ensures.length_fits)
 
 pub returns-clause-slots : goal.returns-clause-slots
 returns-clause-slots c = λ trees layer. omega (arith, (counted_is _ _ _ c.self.invariant trees (rw (← c.self.view_is) at layer)).0)
