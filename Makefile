@@ -1,6 +1,8 @@
 # `make help` says what there is. Each target but install and uninstall needs the Rattle kit, whose command is rt.
 PROGRAM = build/twkb_tool
 SCANNER = build/twkb_bench
+MODULE = build/web/twkb_web.wasm
+PAGE = build/dozhemik.html
 # What the program stands on, each behind what it stands on itself, and the program last.
 CRATES = refusing twkb_num twkb_head plain random_layers twkb_body twkb_layer twkb_tool
 PREFIX = /usr/local
@@ -9,7 +11,7 @@ MANUALS = share/man/man1
 BASH = share/bash-completion/completions
 ZSH = share/zsh/site-functions
 
-.PHONY: help kit build install uninstall demo test bindings bench picture trusted refusals twins stack clean
+.PHONY: help kit build install uninstall demo test bindings web page bench callers picture trusted refusals twins stack clean
 
 help:
 	@echo 'make build      prove and build the program: $(PROGRAM) (some minutes the first time)'
@@ -18,7 +20,10 @@ help:
 	@echo 'make demo       build, and check, list and scan layers that PostGIS wrote'
 	@echo 'make test       build, test the program from end to end, and run the merge gate'
 	@echo 'make bindings   build the library for C, Rust and Python, and test what calls it'
+	@echo 'make web        build the module for web pages, and compare it with the library (needs wasm-opt and node)'
+	@echo 'make page       build the page that checks a layer in a browser: $(PAGE) (needs wasm-opt)'
 	@echo 'make bench      build, and compare with plain Rust on 40 MB (needs rustc; valgrind counts instructions)'
+	@echo 'make callers    build, and compare calls from C, Rust and Python with the program on 40 MB'
 	@echo 'make picture    build, and draw how much of a layer scans read: docs/hops.svg'
 	@echo 'make trusted    print how many lines of definitions have to be believed, crate by crate'
 	@echo 'make refusals   build, and refuse each call of the program for memory in turn (needs cc)'
@@ -67,15 +72,28 @@ test: build
 	python3 tests/install.py
 	python3 tests/scripts.py $(PROGRAM)
 	python3 tests/bindings.py $(PROGRAM)
+	python3 tests/web.py
+	python3 tests/page.py $(PROGRAM)
 	rt ci
 
 bindings: build
 	python3 tests/bindings.py $(PROGRAM)
 
+web: build
+	python3 tests/web.py
+
+page: kit
+	bindings/web/build.sh
+	python3 bindings/web/make_page.py $(MODULE) $(PAGE)
+
 bench: build
 	cd crates/twkb_bench && rt run -- /dev/null 0 > /dev/null
 	cp crates/twkb_bench/out/twkb_bench $(SCANNER)
 	python3 bench/run.py $(PROGRAM) $(SCANNER) $(RUNS)
+
+callers: build
+	bindings/build.sh
+	python3 bench/callers.py $(PROGRAM) $(RUNS)
 
 picture: build
 	python3 bench/hops.py $(PROGRAM)

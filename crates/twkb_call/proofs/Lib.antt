@@ -1,2 +1,3 @@
 -- What is proved of what crosses.
 pub mod Windows
+pub mod Points

@@ -1,2 +1,3 @@
 -- Devices of proofs: contracts of private functions name them, and nothing public does.
 pub mod Verdict
+pub mod Drawing

@@ -2,4 +2,5 @@
 pub mod Verdict
 pub mod Window
 pub mod Rows
+pub mod Vertices
 pub mod Devices

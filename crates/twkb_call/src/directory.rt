@@ -20,7 +20,8 @@ const _: () = prove!(SIZE == 40);
 /// have places for so many. Into less room it puts none, and says how many places are wanted, which is more than the room has.
 pub fn build_directory(layer: &Layer, room: &mut [Slot]) -> usize
     requires { IsCounted layer.now.bytes.now layer.now.blobs layer.now.vertices }
-    ensures directory { result ≤ length room.old → IsDirectoryOf (entries_kept (take result room.new)) layer.now.bytes.now }
+    ensures directory { result ≤ length room.old
+        → IsDirectoryOf (entries_kept (take result room.new)) layer.now.bytes.now }
     ensures fits { OfLayer layer.now.bytes.now (λ trees.
         2 * length trees ≤ length room.old → result ≤ length room.old) }
     ensures few { OfLayer layer.now.bytes.now (λ trees. result ≤ 2 * length trees) }

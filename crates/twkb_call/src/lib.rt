@@ -5,6 +5,7 @@
 #![tactic(auto)]
 
 mod directory;
+mod drawing;
 mod layer;
 mod rows;
 mod scans;
@@ -14,6 +15,7 @@ mod verdict;
 mod window;
 
 pub use directory::{build_directory, scan_directory};
+pub use drawing::{Point, draw};
 pub use layer::Layer;
 pub use rows::{Row, list};
 pub use scans::{Scanned, scan};

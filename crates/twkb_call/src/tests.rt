@@ -3,8 +3,8 @@ ghost use Rattle.std.specs.Prelude.{◌≡◌};
 ghost use Rattle.twkb_layer.specs.Layer.{IsCounted};
 
 use crate::{
-    Hit, Layer, Range, Row, Scanned, Units, Verdict, Window, certify, certify_tight, list,
-    parse_window, scan,
+    Hit, Layer, Point, Range, Row, Scanned, Units, Verdict, Window, certify, certify_tight, draw,
+    list, parse_window, scan,
 };
 use refusing::Refusing;
 use std::alloc::Allocator;
@@ -291,4 +291,68 @@ fn hits_that_fit(rt: HostRuntime) {
         );
         assert_eq!(rt; one, first);
     }
+}
+
+// A line from (-1 1) to (3 -2).
+const CROSSING_LINE: [u8; 7] = [0x02, 0x00, 0x02, 0x01, 0x02, 0x08, 0x05];
+
+const NO_POINT: Point = Point {
+    x: Units { low: 9, high: 9 },
+    y: Units { low: 9, high: 9 },
+};
+
+/// A point at whole coordinates that aren't negative.
+fn point(x: u8, y: u8) -> Point {
+    Point {
+        x: Units {
+            low: u64::from(x) * 10_000_000,
+            high: 0,
+        },
+        y: Units {
+            low: u64::from(y) * 10_000_000,
+            high: 0,
+        },
+    }
+}
+
+#[test]
+fn vertices_that_fit(rt: HostRuntime) {
+    let layer = layer_of(&rt, &rt.alloc(), &TWO_BLOBS);
+    let mut none: [Point; 0] = [];
+    assert_eq!(rt; draw(&layer, &mut none), 3);
+    let mut two = [NO_POINT, NO_POINT];
+    assert_eq!(rt; draw(&layer, &mut two), 3);
+    assert_eq!(rt; two, [point(1, 1), point(5, 5)]);
+    let mut four = [NO_POINT, NO_POINT, NO_POINT, NO_POINT];
+    assert_eq!(rt; draw(&layer, &mut four), 3);
+    assert_eq!(rt; four, [point(1, 1), point(5, 5), point(10, 10), NO_POINT]);
+}
+
+#[test]
+fn vertices_in_two_words(rt: HostRuntime) {
+    let layer = layer_of(&rt, &rt.alloc(), &CROSSING_LINE);
+    let mut room = [NO_POINT, NO_POINT];
+    assert_eq!(rt; draw(&layer, &mut room), 2);
+    // -10^7 and -2 * 10^7, less 2^64 in the high word.
+    let one_west = Units {
+        low: 18_446_744_073_699_551_616,
+        high: -1,
+    };
+    let two_south = Units {
+        low: 18_446_744_073_689_551_616,
+        high: -1,
+    };
+    assert_eq!(rt;
+        room,
+        [
+            Point {
+                x: one_west,
+                ..point(0, 1)
+            },
+            Point {
+                y: two_south,
+                ..point(3, 0)
+            },
+        ]
+    );
 }

@@ -37,7 +37,8 @@ const _: () = prove!(SIZE == 40);
 /// Certifies the bytes as a layer.
 pub fn certify<A: Allocator>(alloc: &A, bytes: &[u8]) -> Verdict
     ensures says { Says IsTrueClaim result bytes.now }
-    ensures complete { (trees : List Geometry) → IsCertifiedLayer trees bytes.now → (result.answer ≡ 0) ⊎ (result.answer ≡ 2) }
+    ensures complete { (trees : List Geometry) → IsCertifiedLayer trees bytes.now
+        → (result.answer ≡ 0) ⊎ (result.answer ≡ 2) }
 {
     match certify_in(alloc, Cursor::new(bytes)) {
         Ok(layer) => certified(&layer),
@@ -49,7 +50,8 @@ pub fn certify<A: Allocator>(alloc: &A, bytes: &[u8]) -> Verdict
 pub fn certify_tight<A: Allocator>(alloc: &A, bytes: &[u8]) -> Verdict
     ensures says { Says IsTightlyTrue result bytes.now }
     ensures tight { result.answer ≡ 0 → (trees : List Geometry) × IsTightLayer trees bytes.now }
-    ensures complete { (trees : List Geometry) → IsTightLayer trees bytes.now → (result.answer ≡ 0) ⊎ (result.answer ≡ 2) }
+    ensures complete { (trees : List Geometry) → IsTightLayer trees bytes.now
+        → (result.answer ≡ 0) ⊎ (result.answer ≡ 2) }
 {
     match certify_tight_in(alloc, Cursor::new(bytes)) {
         Ok(layer) => certified(&layer),

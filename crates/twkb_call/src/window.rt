@@ -2,6 +2,7 @@
 ghost use Rattle.std.specs.Prelude.{◌≡◌, ◌≢◌, ◌≤◌, if◌then◌else◌, true, false};
 ghost use Rattle.twkb_head.specs.declared.boxes.Bounds.{Bounds};
 ghost use Rattle.twkb_layer.specs.WindowText.{IsWindowText, in_order};
+ghost use Rattle.twkb_call.specs.Vertices.{words_of};
 ghost use Rattle.twkb_call.specs.Window.{value_of, span_of, ranges_of};
 
 use twkb_layer::{BadWindow, Span};
@@ -42,8 +43,9 @@ const _: () = prove!(SIZE == 136);
 const BASE: i128 = 1 << 64;
 
 impl Units {
-    fn of(value: i128) -> Units
-        ensures { value_of result ≡ value }
+    pub(crate) fn of(value: i128) -> Units
+        ensures value { value_of result ≡ value }
+        ensures words { result ≡ words_of value }
     {
         Units {
             low: value.rem_euclid(BASE) as u64,
@@ -119,7 +121,8 @@ impl Window {
 /// or 2 where a lower bound is above its upper one; then the window stays as it was.
 pub fn parse_window(text: &[u8], window: &mut Window) -> u32
     ensures answers { result ≤ 2 }
-    ensures window { result ≡ 0 → IsWindowText text.now (ranges_of window.new) × (in_order (ranges_of window.new) ≡ true) }
+    ensures window { result ≡ 0
+        → IsWindowText text.now (ranges_of window.new) × (in_order (ranges_of window.new) ≡ true) }
     ensures order { result ≡ 2 → (w : Bounds) × IsWindowText text.now w × (in_order w ≡ false) }
     ensures exact { (w : Bounds) → IsWindowText text.now w → result ≡ (if in_order w then 0 else 2) }
     ensures kept { result ≢ 0 → window.new ≡ window.old }

@@ -1,0 +1,30 @@
+-- Devices of proofs: nothing public names them.
+-- The visitor that draws into room that is lent.
+use Rattle.std.specs.Prelude.{◌≡◌, ℕ, ◌+◌, ltb, cond, Bool, true, false, List, length, slice_set}
+use Rattle.std.specs.Borrow.{GName}
+use Rattle.twkb_head.specs.declared.boxes.Vertex.{Vertex}
+use Rattle.twkb_head.specs.declared.boxes.Bounds.{Bounds}
+use Rattle.twkb_body.specs.Visit.{SkipsSoundly}
+use Rattle.twkb_call.specs.declared.drawing.Point.{Point}
+use Rattle.twkb_call.specs.declared.drawing.Pen.{Pen}
+use Rattle.twkb_call.specs.Vertices.{point_of}
+
+-- the room, by its reference and what stands in it, and how many points were drawn
+pub record Drawing : Type 0 where
+  pub lent : GName
+  pub room : List Point
+  pub drawn : ℕ
+
+abbrev pub drawing_of : Pen → Drawing
+drawing_of pen = record { lent = pen.room.ghost_name; room = pen.room.now; drawn = pen.drawn }
+
+-- a vertex goes to the next place, if there is one
+abbrev pub draws : Drawing → Vertex → Drawing
+draws s v = cond (ltb s.drawn (length s.room)) (record { lent = s.lent; room = slice_set s.room s.drawn (point_of v); drawn = s.drawn + 1 }) s
+
+-- it skips no box
+abbrev pub never : Drawing → Bounds → Bool
+never s box = false
+
+pub never_skips : SkipsSoundly draws never
+never_skips s box v e h = absurd (cc (e))

@@ -1,0 +1,104 @@
+//! The library for a web page. It has no heap and no state: all memory that a call wants is lent by the page.
+//!
+//! A call takes a slice as a pointer and a length. Bytes are copied into the module's memory first.
+#![tactic(auto)]
+
+ghost use Rattle.std.specs.Prelude.{◌≡◌, ◌≢◌, ◌≤◌, if◌then◌else◌, true, false, List, length, map, sum_by, ◌⊎◌};
+ghost use Rattle.std.specs.Borrow.{ffalse};
+ghost use Rattle.twkb_num.specs.Cursor.{added};
+ghost use Rattle.twkb_head.specs.declared.boxes.Bounds.{Bounds};
+ghost use Rattle.twkb_body.specs.Claims.{IsTrueClaim};
+ghost use Rattle.twkb_body.specs.Geometry.{Geometry};
+ghost use Rattle.twkb_body.specs.Tight.{IsTightlyTrue};
+ghost use Rattle.twkb_layer.specs.Layer.{IsCounted, OfLayer, vertex_count};
+ghost use Rattle.twkb_layer.specs.Hits.{hits, cost, filled};
+ghost use Rattle.twkb_layer.specs.Rows.{rows};
+ghost use Rattle.twkb_layer.specs.Tight.{IsTightLayer};
+ghost use Rattle.twkb_layer.specs.Vertices.{all_vertices};
+ghost use Rattle.twkb_layer.specs.WindowText.{IsWindowText, in_order};
+ghost use Rattle.twkb_call.specs.Rows.{in_numbers};
+ghost use Rattle.twkb_call.specs.Verdict.{Says};
+ghost use Rattle.twkb_call.specs.Vertices.{point_of};
+ghost use Rattle.twkb_call.specs.Window.{ranges_of};
+
+use std::alloc::{AllocError, Allocator};
+use twkb_call::{Hit, Layer, Point, Row, Scanned, Verdict, Window};
+
+/// An allocator that has no memory.
+#[derive(Clone, Copy)]
+struct Nothing;
+
+unsafe impl Allocator for Nothing {
+    ghost dealloc_token = { λ _ _ _. ffalse };
+
+    fn allocate(&self, _size: usize, _align: usize) -> Result<*mut u8, AllocError> {
+        Err(AllocError)
+    }
+
+    unsafe fn deallocate(&self, _ptr: *mut u8, _size: usize, _align: usize) {}
+}
+
+/// Certifies the bytes as a layer.
+#[unsafe(no_mangle)]
+pub extern "C" fn twkb_certify(bytes: &[u8]) -> Verdict
+    ensures says { Says IsTrueClaim result bytes.now }
+    ensures complete { OfLayer bytes.now (λ trees. (result.answer ≡ 0) ⊎ (result.answer ≡ 2)) }
+{
+    twkb_call::certify(&Nothing, bytes)
+}
+
+/// The same, where a loose box is refused too.
+#[unsafe(no_mangle)]
+pub extern "C" fn twkb_certify_tight(bytes: &[u8]) -> Verdict
+    ensures says { Says IsTightlyTrue result bytes.now }
+    ensures tight { result.answer ≡ 0 → (trees : List Geometry) × IsTightLayer trees bytes.now }
+    ensures complete { (trees : List Geometry) → IsTightLayer trees bytes.now → (result.answer ≡ 0) ⊎ (result.answer ≡ 2) }
+{
+    twkb_call::certify_tight(&Nothing, bytes)
+}
+
+/// Puts a row for each blob into the room, in file order, as many as fit, and says how many blobs there are.
+#[unsafe(no_mangle)]
+pub extern "C" fn twkb_list(layer: &Layer, room: &mut [Row]) -> usize
+    requires { IsCounted layer.now.bytes.now layer.now.blobs layer.now.vertices }
+    ensures answer { OfLayer layer.now.bytes.now (λ trees. result ≡ length trees) }
+    ensures room { OfLayer layer.now.bytes.now (λ trees. room.new ≡ filled (map in_numbers (rows trees)) room.old) }
+{
+    twkb_call::list(layer, room)
+}
+
+/// Reads the text of a window. The answer is 0, or 1 where it hasn't the form of one, or 2 where a lower bound is above its
+/// upper one.
+#[unsafe(no_mangle)]
+pub extern "C" fn twkb_window_parse(text: &[u8], window: &mut Window) -> u32
+    ensures answers { result ≤ 2 }
+    ensures window { result ≡ 0 → IsWindowText text.now (ranges_of window.new) × (in_order (ranges_of window.new) ≡ true) }
+    ensures order { result ≡ 2 → (w : Bounds) × IsWindowText text.now w × (in_order w ≡ false) }
+    ensures exact { (w : Bounds) → IsWindowText text.now w → result ≡ (if in_order w then 0 else 2) }
+    ensures kept { result ≢ 0 → window.new ≡ window.old }
+{
+    twkb_call::parse_window(text, window)
+}
+
+/// Puts the blobs that have a vertex inside the window into the room, in file order, as many as fit.
+#[unsafe(no_mangle)]
+pub extern "C" fn twkb_scan(layer: &Layer, window: &Window, room: &mut [Hit]) -> Scanned
+    requires { IsCounted layer.now.bytes.now layer.now.blobs layer.now.vertices }
+    ensures hits { OfLayer layer.now.bytes.now (λ trees. result.hits ≡ length (hits trees (ranges_of window.now))) }
+    ensures room { OfLayer layer.now.bytes.now (λ trees.
+        room.new ≡ filled (hits trees (ranges_of window.now)) room.old) }
+    ensures read { OfLayer layer.now.bytes.now (λ trees.
+        result.bytes_read ≡ added 0 (sum_by (cost (ranges_of window.now)) trees)) }
+{
+    twkb_call::scan(layer, window, room)
+}
+
+/// Puts X and Y of each vertex into the room, in reading order, as many as fit, and says how many vertices there are.
+#[unsafe(no_mangle)]
+pub extern "C" fn twkb_draw(layer: &Layer, room: &mut [Point]) -> usize
+    requires { IsCounted layer.now.bytes.now layer.now.blobs layer.now.vertices }
+    ensures answer { OfLayer layer.now.bytes.now (λ trees. result ≡ vertex_count trees) }
+    ensures room { OfLayer layer.now.bytes.now (λ trees. room.new ≡ filled (map point_of (all_vertices trees)) room.old) }
+{
+    twkb_call::draw(layer, room)
+}

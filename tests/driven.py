@@ -1,0 +1,62 @@
+"""The page that checks a layer, in a browser that the tests drive."""
+import base64
+import json
+import os
+import time
+
+from browsers import SECONDS
+from harness import HERE, TOP
+
+PICTURES = os.path.join(TOP, "build", "page")
+
+
+class Driven:
+    """The page in a browser."""
+
+    def __init__(self, browser, page, program, folder):
+        self.browser, self.program, self.folder, self.page = browser, program, folder, page
+        self.reload()
+
+    def reload(self):
+        self.browser.go("file://" + self.page)
+        with open(os.path.join(HERE, "page.js"), encoding="utf-8") as script:
+            self.browser.run(f"(async () => {{\n{script.read()}\n}})()")
+        self.wait('document.documentElement.dataset.ready === "yes"')
+
+    def name(self, what):
+        return f"{self.browser.name}, {what}"
+
+    def run(self, expression):
+        return self.browser.run(expression)
+
+    def wait(self, condition):
+        for _ in range(20 * SECONDS):
+            if self.run(condition):
+                return
+            time.sleep(0.05)
+        raise TimeoutError(f"{self.browser.name} waits for {condition}")
+
+    def drop(self, name, data):
+        self.run(f'dropped({json.dumps(name)}, "{base64.b64encode(data).decode()}")')
+        return self.run("verdict()")
+
+    def choose(self, path):
+        """Gives the file input a file, and doesn't wait for an answer."""
+        before = int(self.run("document.documentElement.dataset.run ?? 0"))
+        self.browser.choose("#file", path)
+        self.wait(f"document.documentElement.dataset.run > {before}")
+
+    def open(self, path):
+        self.choose(path)
+        self.wait("isSettled()")
+        return self.run("verdict()")
+
+    def scan(self, window):
+        return self.run(f"scanned({json.dumps(window)})")
+
+    def picture(self, what, at="document.body"):
+        """A picture of what is seen with that element on top; its path."""
+        self.run(f"({at}.scrollIntoView(), new Promise((resume) => setTimeout(() => resume(null), 150)))")
+        path = os.path.join(PICTURES, f"{self.browser.name}-{what}.png")
+        self.browser.picture(path)
+        return path

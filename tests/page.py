@@ -1,0 +1,379 @@
+#!/usr/bin/env python3
+"""Builds the page that checks a layer in a browser, and drives it in Chromium and in Firefox.
+
+usage: tests/page.py [PROGRAM] [--page PAGE] [--picture] [BROWSER..]   (build/twkb_tool where PROGRAM is left out)
+
+The small layers of cases.tsv are dropped on the page, and the examples chosen as files. What the page says has to be what the
+program prints. Then come windows that are dragged, large files, files that are no layers, both colours, and what people with
+keyboards and screen readers need. Pictures of it go to build/page. With --picture the one that README shows is written too;
+with --page that page is taken as it is. A browser that this machine lacks is named in one line, with what brings it, and its tests
+are left out. Prints each difference, and last a line `N passed, M failed`; the status is 1 where any failed.
+"""
+import argparse
+import json
+import os
+import shutil
+import subprocess
+import sys
+import tempfile
+import time
+
+from browsers import BROWSERS
+from driven import PICTURES, Driven
+from harness import TOP, count, counts, run, table, written
+from png import shrunk
+from widened import widened
+
+WEB = os.path.join(TOP, "bindings", "web")
+PAGE = os.path.join(TOP, "build", "dozhemik.html")
+LARGEST_PAGE = 150_000
+LARGEST_FILE = 268435456
+EXAMPLES = ["points_sized.twkb", "coast_lines_sized.twkb", "coast_collections.twkb", "coast_z.twkb"]
+LINES = os.path.join(TOP, "examples", "coast_lines_sized.twkb")
+# So many copies of the lines have more than 100 MB.
+COPIES = 1190
+# How many windows of postgis.tsv are asked of each example: every so-and-so-manieth.
+EVERY = 5
+
+
+def printed(program, *words):
+    return run([program, *words])[1].decode().rstrip("\n")
+
+
+def cases(page):
+    """The worked files: verdicts, lists, hits and bytes read, and for refused ones the byte that is marked."""
+    takes_ids = page.run("document.documentElement.dataset.ids") == "yes"
+    for number, (name, words, data, _, text) in enumerate(table("cases.tsv")):
+        layer = bytes.fromhex(data)
+        told = page.drop(f"case{number}.twkb", layer)
+        if not takes_ids and "17 ids" in name:
+            # The module has no room for long lists, and the page says so; without tight checking rising ids want none.
+            known = ("Not judged", None) if "equal" in name else ("ok blobs=1", "Not known")
+            count(page.name(name), (told["line"][:10], told["tight"] and told["tight"][:9]), known)
+            continue
+        wanted = text.replace("\\n", "\n").rstrip("\n")
+        command, *rest = words.split(" ")
+        refused(page, name, layer, told)
+        if command == "scan" and told["line"].startswith("ok"):
+            path = written(page.folder, "case.twkb", layer)
+            for window in rest[1:]:
+                one = printed(page.program, "scan", path, window)
+                count(page.name(f"{name}, {window}"), page.scan(window)["printed"], one)
+        elif command == "list" and told["line"].startswith("ok"):
+            count(page.name(name), page.run("listed()"), wanted.splitlines())
+        elif "kind=loose" in wanted:
+            # The page says of a layer with a false claim what `check` says of it.
+            path = written(page.folder, "case.twkb", layer)
+            count(page.name(name), told["line"], printed(page.program, "check", path))
+            count(page.name(f"{name}, tight"), told["tight"] is None or f"({wanted})" in told["tight"], True)
+        else:
+            count(page.name(name), told["line"], wanted)
+            if "--tight" in rest:
+                count(page.name(f"{name}, tight"), (told["tight"] or "Tight").startswith("Tight"), True)
+
+
+def refused(page, name, layer, told):
+    """The byte that the verdict names is marked, its field is named, and words say why."""
+    if not told["line"].startswith("no "):
+        return
+    offset = int(told["line"].split("offset=")[1].split()[0])
+    byte = layer[offset : offset + 1].hex() or "··"
+    field = told["field"] or ""
+    shown = (told["byte"], told["title"].split(",")[0], field.replace(",", ""), all(told["words"]))
+    count(page.name(f"{name}: the byte"), shown, (byte, f"byte {offset}", str(offset), True))
+
+
+def examples(page):
+    """The four layers by the file input: the verdict, the list, and windows."""
+    for layer in EXAMPLES:
+        path = os.path.join(TOP, "examples", layer)
+        told = page.open(path)
+        count(page.name(layer), told["line"], printed(page.program, "check", path))
+        count(page.name(f"{layer}, tight"), told["tight"][:6], "Tight:")
+        count(page.name(f"{layer}, list"), page.run("listed()"), printed(page.program, "list", path).splitlines())
+        windows = [row[1] for row in table("postgis.tsv") if row[0] == layer]
+        for window in [*windows[::EVERY], *windows[-2:]]:
+            told = page.scan(window)
+            count(page.name(f"{layer}, {window}"), told["printed"], printed(page.program, "scan", path, window))
+            read = sum(int(row[3].replace(",", "")) for row in told["sums"])
+            count(page.name(f"{layer}, {window}: blob by blob"), f"read={read} " in told["printed"], True)
+        page.picture(layer[:-5], '$("asked")')
+
+
+def inside(page):
+    """The examples in the page itself, and those that are spoiled."""
+    wanted = {"cut.twkb": "cut", "size.twkb": "size", "box.twkb": "box"}
+    for number in range(page.run('document.querySelectorAll("main [role=group] button").length')):
+        before = page.run("document.documentElement.dataset.run ?? 0")
+        page.run(f'document.querySelectorAll("main [role=group] button")[{number}].click()')
+        page.wait(f"document.documentElement.dataset.run != {before} && isSettled()")
+        line, text = page.run('[verdict().line, $("verdict").textContent]')
+        file = next((file for file in wanted if file in text), None)
+        count(page.name(f"example {number}"), line.split("kind=")[-1] if file else line[:3], wanted.get(file, "ok "))
+        page.picture(f"example-{number}", '$("verdict")')
+
+
+def dragged(page):
+    """A window that is dragged is the one of its text, and so is one that keys move."""
+    page.open(LINES)
+    page.scan("x=-20..20,y=-20..20")
+    page.run('void $("map").scrollIntoView({ block: "center" })')
+    for what, act in (("dragged", drag_whole), ("an edge dragged", drag_edge), ("drawn", draw), ("by keys", keys)):
+        before = page.run('$("text").value')
+        act(page)
+        page.wait("isSettled()")
+        text, hits = page.run('[$("text").value, $("printed").textContent]')
+        count(page.name(f"{what}: another window"), text != before, True)
+        count(page.name(f"{what}: {text}"), hits, printed(page.program, "scan", LINES, text))
+        page.scan("x=0..1,y=0..1")
+        count(page.name(f"{what} and typed: {text}"), page.scan(text)["printed"], hits)
+        count(page.name(f"{what} and typed: the frame"), page.run("frame().text"), text)
+    page.picture("dragged", '$("asked")')
+
+
+def corners(page):
+    """The window on the screen: left, top, right, bottom."""
+    frame = page.run("frame()")
+    left, top, right, bottom = frame["corners"]
+    return frame["x"] + left, frame["y"] + top, frame["x"] + right, frame["y"] + bottom
+
+
+def drag_whole(page):
+    left, top, right, bottom = corners(page)
+    x, y = (left + right) / 2, (top + bottom) / 2
+    page.browser.mouse([(x, y), (x + 20, y - 10), (x + 61, y - 33)])
+
+
+def drag_edge(page):
+    _, top, right, bottom = corners(page)
+    y = (top + bottom) / 2
+    page.browser.mouse([(right, y), (right + 15, y), (right + 40, y + 20)])
+
+
+def draw(page):
+    frame = page.run("frame()")
+    page.run('$("pen").click()')
+    x, y = frame["x"] + 500, frame["y"] + 100
+    page.browser.mouse([(x, y), (x + 30, y + 20), (x + 90, y + 75)])
+    page.run('$("pen").click()')
+
+
+def keys(page):
+    page.run('$("map").focus()')
+    page.browser.type("ArrowRight", 39, shift=True)
+    page.browser.type("ArrowUp", 38, shift=True)
+    page.browser.type("]", 221)
+    page.browser.type("+", 187)
+    page.browser.type("ArrowLeft", 37)
+
+
+def zoomed(page):
+    """Wheel, two fingers and keys make the map larger, a drag beside the window moves it, and 0 shows all again."""
+    page.open(LINES)
+    page.scan("x=-20..20,y=-20..20")
+    page.run('void $("map").scrollIntoView({ block: "center" })')
+    left, top, right, bottom = at_first = corners(page)
+    x, y = (left + right) / 2, (top + bottom) / 2
+
+    def after(act, *words):
+        before = page.run('$("map").dataset.frame')
+        act(*words)
+        page.wait(f'$("map").dataset.frame !== {json.dumps(before)}')
+        return corners(page)
+
+    wide = [at_first[2] - at_first[0]]
+    for what, act, words in (
+        ("wheel", page.browser.wheel, (x, y, -240)),
+        ("fingers", page.browser.fingers, ([[(x - 20, y), (x + 20, y)], [(x - 30, y), (x + 30, y)], [(x - 45, y), (x + 45, y)]],)),
+        ("keys", page.browser.type, ("+", 187)),
+    ):
+        got = after(act, *words)
+        wide.append(got[2] - got[0])
+        count(page.name(f"{what}: larger"), wide[-1] > 1.2 * wide[-2], True)
+        page.run('$("map").focus()')
+    count(page.name("0 shows all"), after(page.browser.type, "0", 48), at_first)
+    moved = after(page.browser.mouse, [(left - 60, top), (left - 40, top + 5), (left - 10, top + 20)])
+    count(page.name("a drag beside the window"), [round(a - b) for a, b in zip(moved, at_first)], [50, 20, 50, 20])
+    count(page.name("the window stays"), page.run('$("text").value'), "x=-20..20,y=-20..20")
+
+
+def no_layers(page):
+    """Files that are no layers, windows that are none, and a file that is too large."""
+    for name in ("README.md", os.path.join("docs", "hops.svg"), os.path.join("docs", "page.png")):
+        path = os.path.join(TOP, name)
+        if os.path.exists(path):
+            told = page.open(path)
+            count(page.name(name), told["line"], printed(page.program, "check", path))
+    page.picture("no-layer")
+    page.open(LINES)
+    kept = page.scan("x=0..9,y=0..9")["printed"]
+    for window in ("x=0..9", "x=0..9,y=0..9 ", "x=9..0,y=0..9", "x=0..0.12345678,y=0..1", "y=0..1,x=0..1", "x=" + "1" * 28 + "..1,y=0..1"):
+        told = page.scan(window.strip() if window.endswith(" ") else window)
+        none = window != window.strip()
+        count(page.name(f"window {window}"), (bool(told["wrong"]), told["printed"]), (not none, kept))
+    path = written(page.folder, "large.twkb", b"")
+    os.truncate(path, LARGEST_FILE + 1)
+    page.choose(path)
+    page.wait("isSettled()")
+    count(page.name("a file that is too large"), "268,435,457 bytes" in page.run('$("verdict").textContent'), True)
+
+
+def loose(page):
+    """Layers with boxes that are too large: certified, and said to be loose, with how much."""
+    with open(LINES, "rb") as file:
+        path = written(page.folder, "wider.twkb", widened(file.read(), 10**7))
+    told = page.open(path)
+    count(page.name("loose boxes"), told["line"], printed(page.program, "check", path))
+    line = printed(page.program, "check", "--tight", path)
+    count(page.name("loose boxes, tight"), f"({line})" in told["tight"], True)
+    count(page.name("the loosest boxes"), page.run('$("loosest").querySelectorAll("tbody tr").length') > 0, True)
+    page.run('$("loosest").querySelector("tbody button").click()')
+    page.picture("loose", '$("tightness")')
+    page.picture("loose-map", '$("map")')
+
+
+def sorting(page):
+    """Headings sort, up and down."""
+    page.open(LINES)
+    rows = [row.split(" ") for row in printed(page.program, "list", LINES).splitlines()]
+    sizes = [int(row[2].split("=")[1]) for row in rows]
+    for number, wanted in enumerate((sorted(sizes), sorted(sizes, reverse=True))):
+        page.run('document.querySelector("button[data-column=bytes]").click()')
+        state = ["ascending", "descending"][number]
+        page.wait(f'document.querySelector("th[data-column=bytes]").ariaSort === "{state}"')
+        first = page.run('[...$("list").tBodies[0].rows].map((row) => Number(row.cells[2].textContent.replaceAll(",", "")))')
+        count(page.name(f"sorted, {state}"), first, wanted[: len(first)])
+
+
+def closed(page):
+    """The page has the browser refuse each connection."""
+    wish = 'fetch("http://127.0.0.1:9/").catch(() => {})'
+    event = f'new Promise((resolve) => {{ addEventListener("securitypolicyviolation", (event) => resolve(event.effectiveDirective), {{ once: true }}); {wish}; }})'
+    count(page.name("no connection"), page.run(event), "connect-src")
+
+
+def large(page):
+    """A file of 100 MB: the page answers while it works, and says what the program says."""
+    with open(LINES, "rb") as file:
+        data = file.read()
+    path = os.path.join(page.folder, "copies.twkb")
+    with open(path, "wb") as file:
+        file.writelines(data for _ in range(COPIES))
+    page.choose(path)
+    # The colours are changed while the file is worked on.
+    alive = page.run('($("colours").click(), [document.documentElement.dataset.state, $("colours").ariaPressed])')
+    page.wait("isSettled()")
+    page.run('$("colours").click()')
+    count(page.name("100 MB: alive at work"), alive[0], "working")
+    count(page.name("100 MB: the colours"), alive[1], "true")
+    count(page.name("100 MB"), page.run("verdict().line"), printed(page.program, "check", path))
+    window = "x=10..30,y=35..45"
+    hits = page.scan(window)["printed"].splitlines()
+    wanted = printed(page.program, "scan", path, window).splitlines()
+    count(page.name("100 MB, the scan"), (hits[-1], hits[:2000]), (wanted[-1], wanted[:2000]))
+    page.picture("large", '$("asked")')
+    with open(path, "r+b") as file:
+        file.truncate(len(data) * COPIES - 1)
+    told = page.open(path)
+    count(page.name("100 MB, cut"), told["line"], printed(page.program, "check", path))
+    page.choose(path)
+    told = page.drop("point.twkb", bytes.fromhex("01000204"))
+    count(page.name("another file meanwhile"), told["line"], "ok blobs=1 vertices=1")
+
+
+def looks(page, colours):
+    """Contrast, names, and a narrow screen, with a certified layer and with a refused one."""
+    for what, data in (("certified", open(LINES, "rb").read()), ("refused", bytes.fromhex("020309020602080202020808"))):
+        page.drop(f"{what}.twkb", data)
+        count(page.name(f"{colours}, {what}: contrast"), page.run("faint()"), [])
+        count(page.name(f"{colours}, {what}: names"), page.run("unnamed()"), [])
+        page.picture(f"{colours}-{what}", '$("verdict")')
+        page.browser.size(500, 800)
+        count(page.name(f"{what}: narrow"), page.run("document.documentElement.scrollWidth <= innerWidth"), True)
+        page.picture(f"{colours}-{what}-narrow")
+        page.browser.size(1000, 900)
+
+
+def dark(page, light):
+    """In dark colours all is as in light ones."""
+    told = page.open(LINES)
+    got = told["line"], page.scan("x=10..30,y=35..45")["printed"], page.run("getComputedStyle(document.documentElement).backgroundColor")
+    count(page.name("dark: the same answers"), got[:2], light[:2])
+    count(page.name("dark: other colours"), got[2] != light[2], True)
+    page.picture("dark", '$("asked")')
+    page.run('$("colours").click()')
+    count(page.name("the switch"), page.run("getComputedStyle(document.documentElement).backgroundColor"), light[2])
+    page.run('$("colours").click()')
+    looks(page, "dark")
+
+
+def for_readme(page):
+    """The picture that README shows."""
+    page.browser.size(900, 1072)
+    page.open(LINES)
+    page.scan("x=100..140,y=-10..10")
+    path = page.picture("readme", '$("verdict")')
+    page.browser.size(1000, 900)
+    return path
+
+
+def drive(Browser, page, program, folder, picture):
+    browser = Browser()
+    try:
+        driven = Driven(browser, page, program, folder)
+        for part in (cases, examples, inside, dragged, zoomed, no_layers, loose, sorting, closed, large):
+            start = time.monotonic()
+            part(driven)
+            print(f"{browser.name}: {part.__name__}, {time.monotonic() - start:.0f} s", flush=True)
+        driven.reload()
+        looks(driven, "light")
+        line = driven.open(LINES)["line"]
+        light = line, driven.scan("x=10..30,y=35..45")["printed"], driven.run("getComputedStyle(document.documentElement).backgroundColor")
+        shown = for_readme(driven)
+        if picture and browser.name == BROWSERS[0].name:
+            with open(shown, "rb") as taken:
+                written(os.path.join(TOP, "docs"), "page.png", shrunk(taken.read()))
+    finally:
+        browser.close()
+    browser = Browser(dark=True)
+    try:
+        dark(Driven(browser, page, program, folder), light)
+    finally:
+        browser.close()
+
+
+def built():
+    """The page, or nothing where this machine lacks what builds it."""
+    if not shutil.which("wasm-opt"):
+        print("wasm-opt is missing: apt-get install binaryen; the tests of the page are left out")
+        return None
+    module = os.path.join(TOP, "build", "web", "twkb_web.wasm")
+    subprocess.run([os.path.join(WEB, "build.sh")], check=True)
+    subprocess.run([sys.executable, os.path.join(WEB, "make_page.py"), module, PAGE], check=True)
+    return PAGE
+
+
+def main():
+    words = argparse.ArgumentParser()
+    words.add_argument("program", nargs="?", default=os.path.join(TOP, "build", "twkb_tool"))
+    words.add_argument("browsers", nargs="*")
+    words.add_argument("--page")
+    words.add_argument("--picture", action="store_true")
+    asked = words.parse_args()
+    there = [one for one in BROWSERS if shutil.which(one.name)]
+    for lacking in set(BROWSERS) - set(there):
+        print(f"{lacking.name} is missing: {lacking.needs}; its tests are left out")
+    page = (asked.page or built()) if there else None
+    if page:
+        os.makedirs(PICTURES, exist_ok=True)
+        count("the page's length", os.path.getsize(page) <= LARGEST_PAGE, True)
+        with tempfile.TemporaryDirectory() as folder:
+            for Browser in there:
+                if not asked.browsers or Browser.name in asked.browsers:
+                    drive(Browser, os.path.abspath(page), os.path.abspath(asked.program), folder, asked.picture)
+    print(f"{counts['passed']} passed, {counts['failed']} failed")
+    return int(counts["failed"] > 0)
+
+
+if __name__ == "__main__":
+    sys.exit(main())

@@ -1,0 +1,153 @@
+#!/usr/bin/env python3
+"""Builds the module for the web, and compares it with the native library and with the plain second program.
+
+usage: tests/web.py [--all]   (rt of the kit in PATH; wasm-opt, node of Node 16 or later, and gcc)
+
+The small layers of cases.tsv and the examples go through bindings/web/cases.mjs, which takes the program's words and has to
+print its text; of the examples the vertices too, which have to be those of plain.py. Then come verdicts on fronts of an
+example, and on it with a byte changed: each has to be the native one. With --all these are more than half a million, else
+some tens of thousands. The module has no memory for more than sixteen ids, and may answer just that where a list has so
+many. Prints each difference, and last a line `N passed, M failed`; the status is 1 where any failed.
+"""
+import ctypes
+import os
+import shutil
+import subprocess
+import sys
+import tempfile
+
+import plain
+from harness import TOP, count, counts, run, table, written
+
+WEB = os.path.join(TOP, "bindings", "web")
+MODULE = os.path.join(TOP, "build", "web", "twkb_web.wasm")
+SHARED = os.path.join(TOP, "build", "bindings", "libtwkb.so")
+EXAMPLES = ["points_sized.twkb", "coast_lines_sized.twkb", "coast_collections.twkb", "coast_z.twkb"]
+KINDS = ["", "cut", "varint", "type", "depth", "range", "size", "box", "ids", "loose"]
+MINUTES = 10 * 60
+NEEDS = {"wasm-opt": "apt-get install binaryen", "node": "apt-get install nodejs"}
+
+
+class Verdict(ctypes.Structure):
+    _fields_ = [("answer", ctypes.c_uint32), ("kind", ctypes.c_uint32)] + [
+        (name, ctypes.c_size_t) for name in ("blobs", "vertices", "blob", "offset")
+    ]
+
+
+def native():
+    """What certifies bytes natively, and answers a line."""
+    certify = ctypes.CDLL(SHARED).twkb_certify
+    certify.restype, certify.argtypes = Verdict, [ctypes.c_char_p, ctypes.c_size_t]
+
+    def line(data):
+        v = certify(data, len(data))
+        return f"ok {v.blobs} {v.vertices}" if v.answer == 0 else f"no {v.blob} {v.offset} {KINDS[v.kind]}"
+
+    return line
+
+
+def driven(*words):
+    return run(["node", os.path.join(WEB, "cases.mjs"), MODULE, *words])
+
+
+def example(name):
+    with open(os.path.join(TOP, "examples", name), "rb") as file:
+        return file.read()
+
+
+def test_cases(folder):
+    """Small layers, but for scans for several windows, which go by a directory, and for words that ask for nothing."""
+    wants_memory = 0
+    for number, (name, words, data, status, text) in enumerate(table("cases.tsv")):
+        if int(status) > 1 or words.count("x=") > 1:
+            continue
+        path = written(folder, f"case{number}.twkb", bytes.fromhex(data))
+        got = driven(*words.replace("FILE", path).split(" "))
+        if got[0] == 3 and got[2] == b"cases: out of memory\n" and has_many_ids(bytes.fromhex(data)):
+            wants_memory += 1
+        else:
+            count(f"{name}: {words}", got[:2], (int(status), text.replace("\\n", "\n").encode()))
+    count("layers that want memory for ids", wants_memory > 0, True)
+
+
+def has_many_ids(data):
+    """Whether a list of more than sixteen ids is read, as far as the plain reader gets."""
+    met, read = [], plain.Geometry.read
+
+    def read_and_tell(self):
+        met.append(self)
+        read(self)
+
+    plain.Geometry.read = read_and_tell
+    try:
+        reader = plain.Reader(data)
+        while reader.place < len(data):
+            plain.Geometry(reader, 1, [])
+    except plain.Malformed:
+        pass
+    finally:
+        plain.Geometry.read = read
+    return any(len(geometry.ids) > 16 for geometry in met)
+
+
+def test_examples():
+    windows = [row[:2] for row in table("postgis.tsv")][::8]
+    for name in EXAMPLES:
+        path, data = os.path.join(TOP, "examples", name), example(name)
+        count(f"check {name}", driven("check", path)[:2], (0, plain.check(data).encode()))
+        count(f"list {name}", driven("list", path)[:2], (0, plain.rows(data).encode()))
+        once = "".join(f"{v[0]} {v[1]}\n" for blob in plain.blobs_of(data) for v in blob.vertices)
+        count(f"vertices of {name}", driven("vertices", path)[:2], (0, 2 * once.encode()))
+        tight = plain.check(data, tight=True)
+        count(f"check --tight {name}", driven("check", "--tight", path)[:2], (int(tight.startswith("no")), tight.encode()))
+        for layer, window in windows:
+            if layer == name:
+                wanted = plain.scan(data, [plain.window_of(window)])
+                count(f"scan {name} {window}", driven("scan", path, window)[:2], (0, wanted.encode()))
+
+
+def variants(data, step):
+    for end in range(len(data) + 1):
+        yield data[:end]
+    for place in range(len(data)):
+        for value in range(place % step, 256, step):
+            yield data[:place] + bytes([value]) + data[place + 1 :]
+
+
+def test_verdicts(name, length, step):
+    """Each verdict is the native one, or wants memory for ids."""
+    words = ["node", os.path.join(WEB, "verdicts.mjs"), MODULE, os.path.join(TOP, "examples", name), str(length), str(step)]
+    told = subprocess.run(words, capture_output=True, text=True, timeout=MINUTES, check=True).stdout.splitlines()
+    line, alike, memory, differ = native(), 0, 0, []
+    tried = list(variants(example(name)[:length], step))
+    for number, (got, data) in enumerate(zip(told, tried)):
+        if got == line(data):
+            alike += 1
+        elif got == "memory" and has_many_ids(data):
+            memory += 1
+        else:
+            differ.append((number, got, line(data)))
+    print(f"{name}: {len(tried)} verdicts, {memory} of them want memory for ids")
+    count(f"verdicts on {name}", (len(told), alike + memory, differ[:5]), (len(tried), len(tried), []))
+
+
+def main(words):
+    for tool, how in NEEDS.items():
+        if not shutil.which(tool):
+            print(f"{tool} is missing: {how}; the tests of the web are left out")
+            return 0
+    for build in (os.path.join(WEB, "build.sh"), os.path.join(TOP, "bindings", "build.sh")):
+        done = subprocess.run([build], stdout=subprocess.PIPE, stderr=subprocess.STDOUT, timeout=MINUTES)
+        count(build, (done.returncode, b"" if done.returncode == 0 else done.stdout[-3000:]), (0, b""))
+    if not counts["failed"]:
+        with tempfile.TemporaryDirectory() as folder:
+            test_cases(folder)
+        test_examples()
+        test_verdicts("coast_z.twkb", 2000, 1 if "--all" in words else 16)
+        test_verdicts("coast_collections.twkb", 1000, 1 if "--all" in words else 16)
+    print(f"{counts['passed']} passed, {counts['failed']} failed")
+    return int(counts["failed"] > 0)
+
+
+if __name__ == "__main__":
+    sys.exit(main(sys.argv[1:]))
