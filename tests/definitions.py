@@ -7,7 +7,7 @@ import re
 
 TOP = os.path.dirname(os.path.dirname(os.path.abspath(__file__)))
 # The crates whose contracts a reader of the program or of its bindings believes, from the bytes up.
-CRATES = ("twkb_num", "twkb_head", "twkb_body", "twkb_layer", "twkb_tool", "twkb_call", "twkb_c")
+CRATES = ("twkb_num", "twkb_head", "twkb_body", "twkb_layer", "twkb_tool", "twkb_call", "twkb_c", "twkb_web")
 # A word of the language: anything between spaces, brackets and the marks that part words.
 WORD = re.compile(r"[^\s(){}\[\],;λ]+")
 USE = re.compile(r"\s*(?:pub |ghost )*use (Rattle\.[^\s{]+?)\.?(?:\{([^}]*)\})?;?\s*$")
@@ -106,11 +106,16 @@ def pieces(lines):
     return [(first, number, end) for (first, number), end in zip(starts, ends)]
 
 
-def in_group(lines, number):
-    """Whether the line stands in a group of definitions that name each other."""
+def outermost(lines, number):
+    """The line without indent at or above this one, which is the head of its group where it stands in one."""
     while number >= 0 and (not lines[number].strip() or lines[number].startswith("  ")):
         number -= 1
-    return number >= 0 and bool(GROUP.match(lines[number]))
+    return lines[number] if number >= 0 else ""
+
+
+def in_group(lines, number):
+    """Whether the line stands in a group of definitions that name each other."""
+    return bool(GROUP.match(outermost(lines, number)))
 
 
 def read_file(path, top):
@@ -122,15 +127,15 @@ def read_file(path, top):
     for first, number, end in pieces(lines):
         kind, name = STARTS.match(lines[number].strip()).groups()
         body = [line for line in lines[first:end] if line.strip() and not line.startswith("-- ----")]
-        own = Definition(path, module, name, kind or ("law" if is_law(lines[number]) else "function"), first + 1, body)
+        own = Definition(path, module, name, kind or ("law" if is_law(lines, number) else "function"), first + 1, body)
         own.names = {name} | (set() if kind != "data" else constructors(body))
         found.append(own)
     return found, imports(text)
 
 
-def is_law(line):
-    """Whether what starts here is a law with its proof: it is neither unfolded nor a type."""
-    return not re.match(r"\s*(abbrev|unfoldable|(pub )?(record|data) )", line)
+def is_law(lines, number):
+    """Whether what starts here is a law with its proof: it is neither unfolded nor a type, nor is its group."""
+    return not re.match(r"(abbrev|unfoldable|(pub )?(record|data)) ", outermost(lines, number))
 
 
 def constructors(lines):

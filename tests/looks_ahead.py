@@ -21,7 +21,6 @@ ALLOWED = {
     ".word()": {"crates/twkb_head/src/raw.rt"},
     # Their words may end behind the geometry.
     ".svarint_pair()": {
-        "crates/twkb_num/src/cursor.rt",
         "crates/twkb_head/src/raw.rt",
         *(f"crates/twkb_body/src/{name}.rt" for name in ("boxed", "numbers")),
     },
@@ -29,7 +28,9 @@ ALLOWED = {
     ".pass_varints(": {"crates/twkb_body/src/bare.rt"},
     # What they answer `None` for they have looked at, and not counted.
     "read_flat_head(": {"crates/twkb_head/src/raw.rt", "crates/twkb_body/src/quick.rt"},
-    "read_boxed_head(": {"crates/twkb_head/src/boxed.rt", "crates/twkb_layer/src/hops.rt"},
+    "read_begun_box(": {"crates/twkb_head/src/boxed.rt", "crates/twkb_layer/src/hops.rt"},
+    "pass_range_before(": {"crates/twkb_head/src/boxed.rt", "crates/twkb_layer/src/hops.rt"},
+    "read_range_before(": {"crates/twkb_head/src/boxed.rt", "crates/twkb_layer/src/hops.rt"},
     "read_point_head(": {"crates/twkb_head/src/raw.rt", "crates/twkb_layer/src/points.rt"},
     "read_sized_point_head(": {"crates/twkb_head/src/raw.rt", "crates/twkb_body/src/quick.rt"},
 }

@@ -1,8 +1,9 @@
 #!/usr/bin/env python3
 """The parts of docs/DEFINITIONS.md that are written by a script: how many lines have to be believed, and the table of all
-definitions that public contracts reach.
+definitions that public contracts reach. And the links of all pages that lead to a contract or a definition by its name.
 
-pages.py [--write]: says whether the page is as the definitions are; or writes it."""
+pages.py [--write]: says whether the page is as the definitions are, and which links lead to a file that lacks the name; or
+writes the page."""
 import os
 import re
 import sys
@@ -11,6 +12,8 @@ from definitions import TOP, files, uncommented
 from trusted import QUESTIONS, Reach, answers
 
 PAGE = os.path.join("docs", "DEFINITIONS.md")
+# A link to a file of code or of definitions, whose text is names.
+LINK = re.compile(r"\[(`[^\]]*`)\]\(([^)]*crates/[^)]*\.(?:antt|rt))\)")
 MARKS = "<!-- {} by tests/pages.py -->", "<!-- end of {} -->"
 
 
@@ -82,14 +85,40 @@ def stale(reach):
     return [] if written(text, reach) == text else [f"{PAGE} isn't as the definitions are: python3 tests/pages.py --write"]
 
 
+def linked(top):
+    """The links with names for their text: the page, the names, and the path of the file."""
+    for page in ("README.md", *sorted(os.path.join("docs", name) for name in os.listdir(os.path.join(top, "docs")))):
+        if page.endswith(".md"):
+            text = open(os.path.join(top, page), encoding="utf-8").read()
+            for names, target in LINK.findall(text):
+                yield page, re.findall(r"`([^`]+)`", names), os.path.normpath(os.path.join(top, os.path.dirname(page), target))
+
+
+def has(path, name):
+    """Whether a file of definitions has one of this name, or a file of code an item, or is the module."""
+    text = open(path, encoding="utf-8").read() if os.path.exists(path) else ""
+    last = re.escape(name.split("::")[-1])
+    if path.endswith(".antt"):
+        return bool(re.search(rf"^\s*(?:abbrev |unfoldable )?pub (?:record |data )?{last} ", text, re.MULTILINE))
+    return bool(re.search(rf"\b(?:fn|trait|struct|enum) {last}\b", text)) or bool(re.search(rf"/{last}(?:/src/lib)?\.rt$", path))
+
+
+def astray(top=TOP):
+    """A line for each name that the file behind its link lacks."""
+    for page, names, path in linked(top):
+        for name in names:
+            if not has(path, name):
+                yield f"{page} links {name} to {os.path.relpath(path, top)}, which lacks it"
+
+
 def main():
     reach = Reach()
     if "--write" in sys.argv:
         path = os.path.join(TOP, PAGE)
         text = written(open(path, encoding="utf-8").read(), reach)
         open(path, "w", encoding="utf-8").write(text)
-    wrong = stale(reach)
-    print("\n".join(wrong) or f"{PAGE} is as the definitions are")
+    wrong = [*stale(reach), *astray()]
+    print("\n".join(wrong) or f"{PAGE} is as the definitions are, and no link goes astray")
     return 1 if wrong else 0
 
 

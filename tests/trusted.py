@@ -4,7 +4,8 @@
 trusted.py [--strict]: computes them from the public items of each crate, prints their lines crate by crate and for what a
 reader may want to believe, and fails where a definition stands in the wrong place: where a public contract reaches a
 device, where no public contract reaches what stands in `specs/` beside the devices, or where no contract at all names a
-device, which then belongs to `proofs/`. Strictly it fails too where docs/DEFINITIONS.md isn't as pages.py writes it."""
+device, which then belongs to `proofs/`. Strictly it fails too where docs/DEFINITIONS.md isn't as pages.py writes it, or a
+link of a page leads to a file that lacks the name."""
 import os
 import sys
 
@@ -18,7 +19,7 @@ YES = ("certified", "complete")
 QUESTIONS = (
     ("Y", "the yes of certify", "twkb_layer", "certify", YES, 327),
     ("C", "certify", "twkb_layer", "certify", None, 568),
-    ("S", "scan", "twkb_layer", "Certified::scan", None, 371),
+    ("S", "scan", "twkb_layer", "Certified::scan", None, 399),
     ("R", "run", "twkb_tool", "run", None, 800),
 )
 
@@ -145,7 +146,7 @@ def main():
     if "--strict" in sys.argv:
         import pages
 
-        wrong += pages.stale(reach)
+        wrong += [*pages.stale(reach), *pages.astray()]
     for line in wrong:
         print(line, file=sys.stderr)
     return 1 if wrong else 0

@@ -8,7 +8,7 @@ from trusted import HEAD, Reach, headless, misplaced, too_long
 
 ROOT = "mod code;\npub use code::{Bag, says};\n"
 CODE = """ghost use Rattle.made.specs.Plain.{{IsSaid, Shown}};
-ghost use Rattle.made.specs.Devices.Steps.{{IsStep}};
+ghost use Rattle.made.specs.Devices.Steps.{{IsStep, IsTurn}};
 
 pub struct Bag {{
     size: usize,
@@ -56,12 +56,14 @@ abbrev pub IsStep : ℕ → Type 0
 IsStep n = IsSmall n
 """
 EXTRA = "\n-- a number is large\nabbrev pub IsLarge : ℕ → Type 0\nIsLarge n = 9 ≤ n\n"
+GROUP = "\nunfoldable mutual\n  -- a number is a turn\n  pub IsTurn : ℕ → Type 0\n  IsTurn n = IsSmall n\n"
 USES = PLAIN.replace("n ≤ 9", "IsStep n").replace("ℕ}\n", "ℕ}\nuse Rattle.made.specs.Devices.Steps.{IsStep}\n")
 REACHED = "says is public and reaches the device"
 # A name, the parts that differ, and what has to be found.
 CASES = (
     ("nothing is wrong", {}, []),
     ("a public contract reaches a device", {"public": "IsStep"}, [REACHED, "Plain.IsSaid stands in specs/"]),
+    ("a public contract reaches one of a group", {"public": "IsTurn", "steps": STEPS + GROUP}, [REACHED, "Plain.IsSaid stands in"]),
     ("nothing public reaches a definition", {"plain": PLAIN + EXTRA}, ["Plain.IsLarge stands in specs/"]),
     ("no contract names a device", {"steps": STEPS + EXTRA}, ["Devices.Steps.IsLarge is a device that no contract reaches"]),
     ("a definition names a device", {"plain": USES}, [REACHED]),
