@@ -1,5 +1,5 @@
 -- Blobs that a scan hops over.
-use Rattle.std.proofs.Common.{◌≡◌, ℕ, ◌+◌, ◌^◌, ◌<◌, ◌≤◌, ℤ, int_lt, ◌||◌, Bool, true, false, length, Option, Some, None, IfSome, option_map, refl, ap, sym, subst, ◌∙◌, arith}
+use Rattle.std.proofs.Common.{◌≡◌, ◌+◌, ◌^◌, ◌<◌, ◌≤◌, ℤ, int_lt, ◌||◌, Bool, true, false, length, Option, Some, None, IfSome, option_map, refl, ap, sym, subst, ◌∙◌, arith}
 use Rattle.std.proofs.lemmas.Int.{ints}
 use Rattle.std.specs.List.{list_any}
 use Rattle.twkb_num.specs.Cursor.{Reading, IsMoved, IsSound, added, passed}

@@ -1,10 +1,10 @@
 -- Raw integers against units: quotients rounded up and down, and boxes that miss a window.
-use Rattle.std.proofs.Common.{◌≡◌, ℕ, zero, suc, negsuc, ◌+◌, ◌%◌, ◌^◌, ◌<◌, ◌-◌, ◌==◌, if◌then◌else◌, unsigned_abs, ◌⊎◌, inl, inr, true, false, ◌||◌, List, length, get_or, set, subst, ℤ, pos, ◌<ℤ◌, ◌≤ℤ◌, ◌+ℤ◌, ◌-ℤ◌, ◌*ℤ◌, neg_ℤ, int_lt, sym, ap, ◌∙◌, arith}
+use Rattle.std.proofs.Common.{◌≡◌, ℕ, zero, suc, negsuc, ◌+◌, ◌%◌, ◌^◌, ◌<◌, ◌-◌, ◌==◌, if◌then◌else◌, unsigned_abs, ◌⊎◌, inl, inr, true, false, ◌||◌, List, length, get_or, set, subst, ℤ, pos, ◌<ℤ◌, ◌≤ℤ◌, ◌+ℤ◌, ◌-ℤ◌, ◌*ℤ◌, neg_ℤ, int_lt, sym, ap, ◌∙◌, to_z, of_z, arith}
 use Rattle.std.proofs.Math.IntN.{suc_ℤ-*ℤ, *ℤ_comm, *ℤ-zero}
 use Rattle.std.proofs.lemmas.Bool.{cases_eq}
 use Rattle.std.specs.Int.{w128}
 use Rattle.std.specs.Int.RustNames.{FitsSigned, int_div, int_rem}
-use Rattle.std.proofs.lemmas.Int.{ints, by_lt_z, quot-rem, rem_below, quot_fits}
+use Rattle.std.proofs.lemmas.Int.{ints, by_lt_z, quot-rem, rem_below, quot_fits, to_z-of_z}
 use Rattle.std.proofs.lemmas.List.{get_or-set_same, get_or-set_other}
 use Rattle.twkb_num.specs.Units.{units_of}
 use Rattle.twkb_head.specs.declared.boxes.Span.{Span}
@@ -22,6 +22,19 @@ is_less a b h = grind (arith, ints, h)
 
 is_not_less : (a b : ℤ) → b ≤ℤ a → int_lt a b ≡ false
 is_not_less a b h = grind (arith, ints, h)
+
+-- the quotient that a division answers is that of its numbers
+pub quotient_is : (a d q : ℤ) → FitsSigned w128 a → FitsSigned w128 d → pos 0 <ℤ d
+    → q ≡ int_div (to_z w128 (of_z w128 a)) (to_z w128 (of_z w128 d)) → to_z w128 (of_z w128 q) ≡ int_div a d
+quotient_is a d q f g some h =
+    ap (λ (z : ℤ). to_z w128 (of_z w128 z)) (h ∙ (λ i. int_div (to_z-of_z w128 a f i) (to_z-of_z w128 d g i)))
+    ∙ to_z-of_z w128 (int_div a d) (quot_fits w128 a d f some)
+
+-- and so is what is left
+pub rest_is : (a d r : ℤ) → FitsSigned w128 a → FitsSigned w128 d → FitsSigned w128 r
+    → r ≡ int_rem (to_z w128 (of_z w128 a)) (to_z w128 (of_z w128 d)) → int_rem a d ≡ to_z w128 (of_z w128 r)
+rest_is a d r f g fits h =
+    sym (h ∙ (λ i. int_rem (to_z-of_z w128 a f i) (to_z-of_z w128 d g i))) ∙ sym (to_z-of_z w128 r fits)
 
 -- two comparisons with one answer
 pub same_answer : (a b c d : ℤ) → (a <ℤ b → c <ℤ d) → (b ≤ℤ a → d ≤ℤ c) → int_lt a b ≡ int_lt c d

@@ -1,5 +1,6 @@
 //! Windows in raw integers: the numbers as headers and bodies have them, which mean units by a precision.
 ghost use Rattle.std.specs.Prelude.{◌≡◌, ◌<◌, ◌<ℤ◌, ◌*ℤ◌, ◌||◌, ℤ, pos, int_lt};
+ghost use Rattle.std.specs.Int.RustNames.{int_div, int_rem};
 ghost use Rattle.twkb_num.specs.Units.{IsPrecision};
 ghost use Rattle.twkb_layer.specs.Devices.Raw.{IsRawEnds, IsRawWindow};
 ghost use Rattle.twkb_layer.specs.Devices.Slots.{IsInner};
@@ -78,7 +79,7 @@ impl<'w> Model for RawWindows<'w> {
 }
 
 impl<'w> RawWindows<'w> {
-    /// Of a window: sixty-four divisions, once for a scan.
+    /// Of a window: sixty-four divisions, once for a scan, of 64 bits where its ends fit.
     pub fn new(window: &'w Window) -> RawWindows<'w>
         ensures { result ≡ window.now }
     {
@@ -119,8 +120,8 @@ fn least_from(lo: i128, unit: i128) -> i64
     requires { pos 0 <ℤ unit }
     ensures { (c : ℤ) → IsInner c → int_lt (c *ℤ unit) lo ≡ int_lt c result }
 {
-    let quotient = lo / unit;
-    if lo % unit > 0 {
+    let (quotient, rest) = divided(lo, unit);
+    if rest > 0 {
         in_64_bits(quotient + 1)
     } else {
         in_64_bits(quotient)
@@ -132,11 +133,27 @@ fn greatest_to(hi: i128, unit: i128) -> i64
     requires { pos 0 <ℤ unit }
     ensures { (c : ℤ) → IsInner c → int_lt hi (c *ℤ unit) ≡ int_lt result c }
 {
-    let quotient = hi / unit;
-    if hi % unit < 0 {
+    let (quotient, rest) = divided(hi, unit);
+    if rest < 0 {
         in_64_bits(quotient - 1)
     } else {
         in_64_bits(quotient)
+    }
+}
+
+/// A quotient, rounded towards zero, and what is left. A division of 64 bits takes a fraction of the time of one of 128.
+#[inline(always)]
+fn divided(number: i128, unit: i128) -> (i128, i128)
+    requires { pos 0 <ℤ unit }
+    ensures quotient { result.0 ≡ int_div number unit }
+    ensures rest { result.1 ≡ int_rem number unit }
+{
+    match (i64::try_from(number), i64::try_from(unit)) {
+        (Ok(short), Ok(short_unit)) => (
+            i128::from(short / short_unit),
+            i128::from(short % short_unit),
+        ),
+        _ => (number / unit, number % unit),
     }
 }
 

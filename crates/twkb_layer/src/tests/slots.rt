@@ -26,6 +26,15 @@ fn windows_are_rounded_inward(rt: HostRuntime) {
     assert_eq!(rt; ends(-19, -11, 6), (-1, -2));
     assert_eq!(rt; ends(1, 1_000_000_000_000_000, -8), (1, 1));
     assert_eq!(rt; ends(-1, -1, -8), (0, -1));
+    // On each side of where a division has 64 bits.
+    let (least, greatest) = (i128::from(i64::MIN), i128::from(i64::MAX));
+    let tenth = 922_337_203_685_477_580;
+    assert_eq!(rt; ends(least, greatest, 7), (i64::MIN, i64::MAX));
+    assert_eq!(rt; ends(least, greatest, 6), (-tenth, tenth));
+    assert_eq!(rt; ends(least - 1, greatest + 1, 6), (-tenth, tenth));
+    assert_eq!(rt; ends(least - 2, greatest + 3, 6), (-tenth - 1, tenth + 1));
+    assert_eq!(rt; ends(least, greatest, -8), (-9_223, 9_223));
+    assert_eq!(rt; ends(greatest + 1, least - 1, -8), (9_224, -9_224));
     assert_eq!(rt; ends(i128::MIN, i128::MAX, 7), (i64::MIN, i64::MAX));
     assert_eq!(rt; ends(i128::MAX, i128::MIN, -8), (i64::MAX, i64::MIN));
 }
