@@ -1,32 +1,34 @@
 #!/usr/bin/env python3
-"""The parts of docs/DEFINITIONS.md that are written by a script: how many lines have to be believed, and the table of all
-definitions that public contracts reach. And the links of all pages that lead to a contract or a definition by its name.
+"""The parts of pages that are written by a script. In docs/DEFINITIONS.md: how many lines have to be believed, and the table of
+all definitions that public contracts reach. In docs/GATE.md: how many wrong bodies there are, and how large the crates are. And
+the links of all pages that lead to a contract or a definition by its name.
 
-pages.py [--write]: says whether the page is as the definitions are, and which links lead to a file that lacks the name; or
-writes the page."""
+pages.py [--write]: says which page isn't as the crates are, and which links lead to a file that lacks the name. Before that it
+writes the pages, if it is asked to."""
 import os
 import re
 import sys
 
 from definitions import TOP, files, uncommented
+from sizes import NAMES, all_sizes
 from trusted import QUESTIONS, Reach, answers
 
-PAGE = os.path.join("docs", "DEFINITIONS.md")
 # A link to a file of code or of definitions, whose text is names.
 LINK = re.compile(r"\[(`[^\]]*`)\]\(([^)]*crates/[^)]*\.(?:antt|rt))\)")
 MARKS = "<!-- {} by tests/pages.py -->", "<!-- end of {} -->"
 
 
 def says(lines):
-    """What the comment at the head of these lines says."""
+    """What the comment at the head of these lines says, up to an empty line of it. A page that it names is linked."""
     found = []
     for line in lines:
-        match = re.match(r"\s*--(?: (?!----)(.*)|$)", line)
+        match = re.match(r"\s*-- (?!----)(.*)", line)
         if match:
-            found.append(match.group(1) or "")
+            found.append(match.group(1))
         elif found or not re.match(r"\s*(?:unfoldable )?mutual$", line):
             break
-    return " ".join(found).strip().replace("|", "\\|")
+    text = " ".join(found).strip().rstrip(":").replace("|", "\\|")
+    return re.sub(r"docs/(\w+\.md)", r"[\1](\1)", text)
 
 
 def modules(top, crate):
@@ -66,9 +68,33 @@ def numbers(reach):
     return "\n".join(rows)
 
 
-def written(text, reach):
+def bodies(reach):
+    """How many wrong bodies and twins there are."""
+    wrong, twins = (sum(numbers[NAMES.index(name)] for _, numbers in all_sizes(reach.top)) for name in ("Wrong bodies", "Twins"))
+    return f"There are {wrong} wrong bodies and {twins} twins."
+
+
+def sizes(reach):
+    """The table of sizes. What a crate has nothing of is left empty."""
+    found = all_sizes(reach.top)
+    found.append(("all", tuple(map(sum, zip(*(numbers for _, numbers in found))))))
+    rows = [f"| Crate | {' | '.join(NAMES)} |", "|---" * (len(NAMES) + 1) + "|"]
+    for name, numbers in found:
+        crate = name if name == "all" else f"`{name}`"
+        rows.append(" ".join(("|", crate, *(f"| {number or ''}".rstrip() for number in numbers), "|")))
+    return "\n".join(rows)
+
+
+# Each page with the parts of it that are written, and what writes them.
+PAGES = (
+    (os.path.join("docs", "DEFINITIONS.md"), (("numbers", numbers), ("table", table))),
+    (os.path.join("docs", "GATE.md"), (("bodies", bodies), ("sizes", sizes))),
+)
+
+
+def written(text, parts, reach):
     """The page with its parts written anew."""
-    for name, make in (("numbers", numbers), ("table", table)):
+    for name, make in parts:
         start, end = (mark.format(name) for mark in MARKS)
         before, _, rest = text.partition(start)
         _, _, behind = rest.partition(end)
@@ -77,12 +103,23 @@ def written(text, reach):
 
 
 def stale(reach):
-    """A line where the page isn't as it would be written."""
-    text = open(os.path.join(reach.top, PAGE), encoding="utf-8").read()
-    missing = [mark.format(name) for name in ("numbers", "table") for mark in MARKS if mark.format(name) not in text]
-    if missing:
-        return [f"{PAGE} lacks {', '.join(missing)}"]
-    return [] if written(text, reach) == text else [f"{PAGE} isn't as the definitions are: python3 tests/pages.py --write"]
+    """A line for each page that isn't as it would be written."""
+    for page, parts in PAGES:
+        text = open(os.path.join(reach.top, page), encoding="utf-8").read()
+        missing = [mark.format(name) for name, _ in parts for mark in MARKS if mark.format(name) not in text]
+        if missing:
+            yield f"{page} lacks {', '.join(missing)}"
+        elif written(text, parts, reach) != text:
+            yield f"{page} isn't as the crates are: python3 tests/pages.py --write"
+
+
+def write(reach):
+    """Writes the parts of the pages that have places for them."""
+    for page, parts in PAGES:
+        path = os.path.join(reach.top, page)
+        text = open(path, encoding="utf-8").read()
+        if all(mark.format(name) in text for name, _ in parts for mark in MARKS):
+            open(path, "w", encoding="utf-8").write(written(text, parts, reach))
 
 
 def linked(top):
@@ -114,11 +151,9 @@ def astray(top=TOP):
 def main():
     reach = Reach()
     if "--write" in sys.argv:
-        path = os.path.join(TOP, PAGE)
-        text = written(open(path, encoding="utf-8").read(), reach)
-        open(path, "w", encoding="utf-8").write(text)
+        write(reach)
     wrong = [*stale(reach), *astray()]
-    print("\n".join(wrong) or f"{PAGE} is as the definitions are, and no link goes astray")
+    print("\n".join(wrong) or "The pages are as the crates are, and no link goes astray")
     return 1 if wrong else 0
 
 

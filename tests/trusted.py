@@ -4,8 +4,8 @@
 trusted.py [--strict]: computes them from the public items of each crate, prints their lines crate by crate and for what a
 reader may want to believe, and fails where a definition stands in the wrong place: where a public contract reaches a
 device, where no public contract reaches what stands in `specs/` beside the devices, or where no contract at all names a
-device, which then belongs to `proofs/`. Strictly it fails too where docs/DEFINITIONS.md isn't as pages.py writes it, or a
-link of a page leads to a file that lacks the name."""
+device, which then belongs to `proofs/`. Strictly it fails too where docs/DEFINITIONS.md or docs/GATE.md isn't as pages.py
+writes it, or a link of a page leads to a file that lacks the name."""
 import os
 import sys
 
