@@ -137,8 +137,8 @@ struct twkb_slot {
     int64_t second[2];
 };
 
-/* Writes a directory of the layer, and answers how many slots it has: at most two for each blob. There has to be room for
- * so many. Into less room nothing is written, and the answer is how many are wanted, which is more than the room. */
+/* Writes a directory of the layer, and answers how many slots it has: at most two for each blob. All of them are written, or
+ * none. With room for two for each blob they are. Else the answer may be how many are wanted, which is more than the room. */
 size_t twkb_directory_build(const struct twkb_layer *layer, struct twkb_slot *slots, size_t room);
 
 /* Scans as twkb_scan does, and reads nothing of a blob whose box misses the window. The slots are those that

@@ -81,8 +81,9 @@ pub extern "C" fn twkb_scan(layer: &Layer, window: &Window, room: &mut [Hit]) ->
     twkb_call::scan(layer, window, room)
 }
 
-/// Puts a directory of the layer into the room, and says how many slots it has. Into room for less than two slots a blob it
-/// puts none, and says how many places are wanted, which is more than the room has.
+/// Puts a directory of the layer into the room, and says how many slots it has: at most two for a blob. All of them go in, or
+/// none. With room for two a blob they do. Where none go in, the answer is how many are wanted, which is more than the room
+/// has.
 #[unsafe(no_mangle)]
 pub extern "C" fn twkb_directory_build(layer: &Layer, room: &mut [Slot]) -> usize
     requires { IsCounted layer.now.bytes.now layer.now.blobs layer.now.vertices }

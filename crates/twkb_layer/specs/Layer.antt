@@ -11,7 +11,7 @@ abbrev pub size_of : Geometry → ℕ
 size_of tree = (lengths_of tree).whole
 
 -- The bytes are these blobs, one after another, where the deepest geometry may stand at the limit. Each is cut off by
--- its own length, so that no cut has to be named: `Laws` says that it is the same to cut anywhere.
+-- its own length, so that no cut has to be named: `Laws` says that any cuts that give blobs are these.
 abbrev pub IsLayerUnder : ℕ → List Geometry → List ℕ → Type 0
 IsLayerUnder limit [] bytes = bytes ≡ []
 IsLayerUnder limit (tree ∷ trees) bytes =
@@ -55,7 +55,7 @@ told_from says blob offset (tree ∷ trees) =
 abbrev pub blob_by_blob : {A : Type 0} → (ℕ → ℕ → Geometry → A) → List Geometry → List A
 blob_by_blob says trees = told_from says 0 0 trees
 
--- a count grew by no more than this, but for its greatest value
+-- a count grew by no more than this, or came to the greatest number and stays there
 pub record AddsAtMost (most old new : ℕ) : Type 0 where
   pub read : ℕ
   pub few : read ≤ most

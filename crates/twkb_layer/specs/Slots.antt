@@ -5,7 +5,7 @@ use Rattle.twkb_head.specs.declared.boxes.Bounds.{Bounds}
 use Rattle.twkb_head.specs.Head.{span_at}
 use Rattle.twkb_layer.specs.Directory.{Entry}
 
--- the precision of a code of four bits: -8 is 0
+-- the precision of a code of four bits: code 0 is -8
 abbrev pub precision_of : ℕ → ℤ
 precision_of code = pos code -ℤ pos 8
 
@@ -58,6 +58,7 @@ says_by word first second = record {
   second = range_in word.form (if word.form == 3 then word.rest % 16 else word.code) second;
 }
 
+-- what a slot says, as it stands in memory
 abbrev pub slot_says : Written → Said
 slot_says slot = says_by (unpacked slot.word) slot.first slot.second
 
@@ -65,12 +66,12 @@ slot_says slot = says_by (unpacked slot.word) slot.first slot.second
 abbrev pub unboxed : ℕ → Said
 unboxed offset = record { beyond = false; deep = false; offset = offset; first = None; second = None }
 
--- A box has a range in X and in Y.
+-- the box of these ranges, or none where X or Y is missing
 abbrev pub boxed : Option Span → Option Span → Option Span → Option Span → Option Bounds
 boxed (Some x) (Some y) z m = Some (record { x = x; y = y; z = z; m = m })
 boxed _ _ _ _ = None
 
--- the entry of a slot's blob, where this was said last beyond slots
+-- the entry of a slot's blob. If the slot is deep, Z, M and the rest of the offset are from the last slot that says such.
 abbrev pub entry_with : Said → Said → Entry
 entry_with beyond slot = record {
   offset = slot.offset + cond slot.deep beyond.offset 0;

@@ -33,7 +33,7 @@ abbrev pub Faults : NumFault → List ℕ → Type 0
 Faults Cut bytes = IsCut bytes
 Faults Long bytes = IsLong bytes
 
--- how many of the bytes from the place on are looked at before a fault
+-- how many of the bytes from the place on are looked at until a fault is seen, its own among them
 abbrev pub looked_at : NumFault → List ℕ → ℕ
 looked_at Cut bytes = length bytes
 looked_at Long bytes = 10

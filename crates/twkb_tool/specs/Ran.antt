@@ -16,7 +16,7 @@ pub record GivesAll (limit : ℕ) (s t : SourceState) (given : List ℕ) : Type 
   pub fine : t.failed ≡ false
   pub within : length given ≤ limit
 
--- reading stopped, and why: the last call failed, or one byte more than the limit came, or a growth was refused
+-- reading stopped, and why: the last call failed, or one byte more than the limit came, or, for `Memory`, neither of these
 abbrev pub StopsReading : ℕ → RunFault → SourceState → SourceState → Type 0
 StopsReading limit Read s t = (given : List ℕ) × Gives s t given × (length given ≤ limit) × IsTrue t.failed
 StopsReading limit TooLarge s t = (given : List ℕ) × Gives s t given × (length given ≡ limit + 1) × (t.failed ≡ false)
@@ -40,7 +40,7 @@ pub record PutsSome (text : List ℕ) (done : ℕ) (k m : SinkState) : Type 0 wh
 
 -- ---- the whole run
 
--- the source and the sink before and after it, and its answer
+-- what a run did, by its answer: it read all and put all, or stopped reading, or stopped writing
 abbrev pub Ran : Request → ℕ → SourceState → SourceState → SinkState → SinkState → Result Verdict RunFault → Type 0
 Ran request limit s t k m (Ok verdict) = (given : List ℕ) × (text : List ℕ)
     × GivesAll limit s t given × IsOutput request given text verdict × PutsAll text k m
