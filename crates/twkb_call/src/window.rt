@@ -117,8 +117,8 @@ impl Window {
     }
 }
 
-/// Reads a window of the form `x=A..B,y=C..D[,z=E..F][,m=G..H]`, exactly. The answer is 0, or 1 where the text hasn't this form,
-/// or 2 where a lower bound is above its upper one; then the window stays as it was.
+/// Reads a window of the form `x=A..B,y=C..D[,z=E..F][,m=G..H]`, exactly. The answer is 0, or 1 where the text hasn't this
+/// form, or 2 where a lower bound is above its upper one. Where it isn't 0, the window stays as it was.
 pub fn parse_window(text: &[u8], window: &mut Window) -> u32
     ensures answers { result ≤ 2 }
     ensures window { result ≡ 0

@@ -26,11 +26,12 @@ pub struct BegunBox {
     pub x: RawRange,
 }
 
-/// The header at the place up to the range in X of its box, if it has a size, a box in X and Y and nothing else, and its geometry
-/// isn't empty. Else `None`, and the cursor is somewhere behind its place. The range in Y is taken or passed afterwards.
+/// The header at the place up to the range in X of its box, if it has a size, a box in X and Y and nothing else, and its
+/// geometry isn't empty. Else `None`, and the cursor is somewhere behind its place. The range in Y is taken or passed
+/// afterwards.
 ///
-/// A box with numbers that are farther than 2^61 from zero is as good as none. For the box it looks at no byte from the end on that
-/// the size names, but for those of the box.
+/// A box with numbers that are farther than 2^61 from zero is as good as none. For the box it looks at no byte from the end
+/// on that the size names, but for those of the box.
 #[inline(always)]
 pub fn read_begun_box(cursor: &mut Cursor) -> Option<BegunBox>
     ensures ok { IfSome result (λ begun. IsBegunBox begun cursor.old cursor.new) }
@@ -118,8 +119,8 @@ pub fn pass_range_before(cursor: &mut Cursor, stop: usize) -> Option<()>
     }
 }
 
-/// Minimum and extent of an axis at the place, from one word of eight bytes that ends at `stop` at most where they are short. Else
-/// byte by byte, and `None` where a number is farther than 2^61 from zero.
+/// Minimum and extent of an axis at the place, from one word of eight bytes that ends at `stop` at most where they are short.
+/// Else byte by byte, and `None` where a number is farther than 2^61 from zero.
 #[inline(always)]
 pub fn read_range_before(cursor: &mut Cursor, stop: usize) -> Option<RawRange>
     ensures spelled { IfSome result (λ range. SpellsTwoSigned (passed cursor.old cursor.new) range.minimum range.extent) }

@@ -24,8 +24,9 @@
 //!
 //! What the bytes of a header are is said in `specs/Header.antt` (`IsHeader`), what a header that is begun may go on with
 //! in `specs/BegunHeader.antt`, and what the answers of `read_head` mean in `specs/Head.antt` and `specs/Refusal.antt`.
-//! [`laws`] has what holds of these definitions alone. `specs/Devices/` has devices of proofs, which nothing public names: reading as a
-//! plan of fields (`Plan`, `HeadPlan`) and as the code does it, one field after another (`Reader`, `HeadReader`).
+//! [`laws`] has what holds of these definitions alone. `specs/Devices/` has devices of proofs, which nothing public names:
+//! reading as a plan of fields (`Plan`, `HeadPlan`) and as the code does it, one field after another (`Reader`,
+//! `HeadReader`).
 #![tactic(auto)]
 
 mod bits;

@@ -267,8 +267,8 @@ impl<'a> Cursor<'a> {
     }
 
     /// Past so many varints, without asking for their numbers. Their ends are counted in words of eight bytes; where fewer are
-    /// left, or half a word has no end, as with varints of five bytes, `None`, and the cursor is as it was. The first varint may
-    /// take seven bytes.
+    /// left, or half a word has no end, as with varints of five bytes, `None`, and the cursor is as it was. The first varint
+    /// may take seven bytes.
     #[inline(always)]
     pub fn pass_varints(&mut self, many: u64) -> Option<()>
         ensures some { OnSome result (SpellsMany (passed self.old self.new) many) }

@@ -6,9 +6,9 @@
 //! - [`Cursor::uvarint`] and [`Cursor::svarint`] read a number at the place, or say which of two faults stands there
 //!   ([`NumFault`]). They are the hot path: numbers of one and of two bytes take no loop.
 //! - [`Cursor::svarint_pair`] reads two signed numbers from one word of eight bytes, where both are short, and
-//!   [`Cursor::pass_varint`] passes a number by its end in such a word, [`Cursor::pass_varints`] many. Where they can't tell they
-//!   answer `None`. [`Cursor::svarint_pair_before`], [`Cursor::svarint_pair_to`] and [`Cursor::pass_pair_before`] look at no
-//!   byte from a place on.
+//!   [`Cursor::pass_varint`] passes a number by its end in such a word, [`Cursor::pass_varints`] many. Where they can't tell
+//!   they answer `None`. [`Cursor::svarint_pair_before`], [`Cursor::svarint_pair_to`] and [`Cursor::pass_pair_before`] look
+//!   at no byte from a place on.
 //! - [`Cursor::ahead`] gives a cursor to look ahead with: what it reads is counted if the caller goes on with it.
 //! - [`zigzag`] and [`unzigzag`] map signed numbers to unsigned ones and back.
 //! - [`units`] scales a coordinate of any precision to units of 10^-7, in which boxes and windows are compared.

@@ -35,8 +35,8 @@ faultless vertices = record { vertices = vertices; refused = None }
 abbrev pub unseen : Seen
 unseen = record { asked = false; extent = reach_of [] }
 
--- Of this kind, with ids or none, the parts of a body were read, and their points added to a state. It has so many points, and its ids,
--- if any, are true.
+-- Of this kind, with ids or none, the parts of a body were read, and their points added to a state. It has so many points,
+-- and its ids, if any, are true.
 pub record AddsParts {S : Type 0} (step : S → PointValue → S) (kind : Kind) (has_ids : Bool) (axes : ℕ) (old new : Reading) (state state' : S) (vertices : ℕ) : Type 0 where
   pub list : ListHead
   pub middle : Reading
