@@ -4,7 +4,6 @@ use Rattle.std.proofs.lemmas.Int.{ints}
 use Rattle.std.proofs.lemmas.List.{take-append-drop, length-take}
 use Rattle.std.proofs.lemmas.List.Elements.{All-nil, All-cons, All-head, All-tail, All-append}
 use Rattle.std.proofs.lemmas.List.Kept.{AllPairs-cons}
-use Rattle.smallvec.specs.SmallVec.{SmallVec}
 use Rattle.twkb_num.specs.Cursor.{Reading, rest, IsSound}
 use Rattle.twkb_num.specs.Varint.{IsSigned}
 use Rattle.twkb_head.specs.declared.refusal.Malformed.{Malformed}
@@ -35,45 +34,39 @@ signeds_stand n r new ids sound e =
     (t.0, t.1, signeds_spelled n ids t.0 t.2, ok.1.bytes)
 
 module _ (count : ℕ) (from : Reading) where
-  -- so many ids were read
-  pub record IsIdLoop (i : ℕ) (ids : SmallVec ℤ) (r : Reading) : Type 0 where
-    pub read : IsLoop (λ s z. s) (λ s. signed_at) count (signeds_at count from) ids.items i (pos 0) r
-    pub so_far : signeds_at i from ≡ (Ok ids.items, r)
-    pub number : length ids.items ≡ i
-    pub room : 16 ≤ ids.capacity
+  -- so many ids were read, and are held
+  pub record IsIdLoop (i : ℕ) (held : List ℤ) (r : Reading) : Type 0 where
+    pub read : IsLoop (λ s z. s) (λ s. signed_at) count (signeds_at count from) held i (pos 0) r
+    pub so_far : signeds_at i from ≡ (Ok held, r)
+    pub number : length held ≡ i
 
-  pub ids_begin : (ids : SmallVec ℤ) → ids.items ≡ [] → ids.capacity ≡ 16 → IsIdLoop 0 ids from
-  ids_begin ids none room = record {
-    read = subst (λ (xs : List ℤ). IsLoop (λ s z. s) (λ s. signed_at) count (signeds_at count from) xs 0 (pos 0) from) (sym none)
-        (loop_begins (λ s z. s) (λ s. signed_at) count (signeds_at count from) (pos 0) from refl);
-    so_far = ap (λ (xs : List ℤ). (Ok xs, from)) (sym none);
-    number = ap length none;
-    room = omega (arith, room);
-  }
+  pub ids_begin : (held : List ℤ) → held ≡ [] → IsIdLoop 0 held from
+  ids_begin held none = subst (λ (xs : List ℤ). IsIdLoop 0 xs from) (sym none) (record {
+    read = loop_begins (λ s z. s) (λ s. signed_at) count (signeds_at count from) (pos 0) from refl;
+    so_far = refl;
+    number = refl;
+  })
 
-  pub ids_go_on : (i : ℕ) (ids next : SmallVec ℤ) (r new : Reading) (id : ℤ) → i < count → signed_at r ≡ (Ok id, new) → next.items ≡ ids.items ++ id ∷ [] → ids.capacity ≤ next.capacity
-      → IsIdLoop i ids r → IsIdLoop (i + 1) next new
-  ids_go_on i ids next r new id lt e items room l = record {
-    read = subst (λ (xs : List ℤ). IsLoop (λ s z. s) (λ s. signed_at) count (signeds_at count from) xs (i + 1) (pos 0) new) (sym items)
-        (loop_goes_on (λ s z. s) (λ s. signed_at) count (signeds_at count from) ids.items i (pos 0) r new id lt e l.read);
-    so_far = many_more signed_at i from r new ids.items id l.so_far e ∙ ap (λ (xs : List ℤ). (Ok xs, new)) (sym items);
-    number = ap length items ∙ length-append ids.items (id ∷ []) ∙ ap (λ (k : ℕ). k + 1) l.number;
-    room = omega (arith, l.room, room);
-  }
+  pub ids_go_on : (i : ℕ) (held next : List ℤ) (r new : Reading) (id : ℤ) → i < count → signed_at r ≡ (Ok id, new) → next ≡ held ++ id ∷ [] → IsIdLoop i held r → IsIdLoop (i + 1) next new
+  ids_go_on i held next r new id lt e more l = subst (λ (xs : List ℤ). IsIdLoop (i + 1) xs new) (sym more) (record {
+    read = loop_goes_on (λ s z. s) (λ s. signed_at) count (signeds_at count from) held i (pos 0) r new id lt e l.read;
+    so_far = many_more signed_at i from r new held id l.so_far e;
+    number = length-append held (id ∷ []) ∙ ap (λ (k : ℕ). k + 1) l.number;
+  })
 
-  pub ids_fail : (i : ℕ) (ids : SmallVec ℤ) (r new : Reading) (m : Malformed) → i < count → signed_at r ≡ (Err m, new) → IsIdLoop i ids r → Fails (signeds_at count from) m new
-  ids_fail i ids r new m lt e l =
-      loop_fails (λ s z. s) (λ s. signed_at) count (signeds_at count from) ids.items i (pos 0) r new m lt (record { left = new; is = e; bytes = refl }) l.read
+  pub ids_fail : (i : ℕ) (held : List ℤ) (r new : Reading) (m : Malformed) → i < count → signed_at r ≡ (Err m, new) → IsIdLoop i held r → Fails (signeds_at count from) m new
+  ids_fail i held r new m lt e l =
+      loop_fails (λ s z. s) (λ s. signed_at) count (signeds_at count from) held i (pos 0) r new m lt (record { left = new; is = e; bytes = refl }) l.read
 
-  pub ids_end : (i : ℕ) (ids : SmallVec ℤ) (r : Reading) → i ≡ count → IsIdLoop i ids r → signeds_at count from ≡ (Ok ids.items, r)
-  ids_end i ids r end l = loop_ends (λ s z. s) (λ s. signed_at) count (signeds_at count from) ids.items i (pos 0) r (omega (arith, end)) l.read
+  pub ids_end : (i : ℕ) (held : List ℤ) (r : Reading) → i ≡ count → IsIdLoop i held r → signeds_at count from ≡ (Ok held, r)
+  ids_end i held r end l = loop_ends (λ s z. s) (λ s. signed_at) count (signeds_at count from) held i (pos 0) r (omega (arith, end)) l.read
 
   -- memory is wanted where there are sixteen ids, and one more
-  pub ids_many : (i : ℕ) (ids : SmallVec ℤ) (r new : Reading) (id : ℤ) → IsSound from → i < count → signed_at r ≡ (Ok id, new) → 16 ≤ length ids.items → IsIdLoop i ids r
+  pub ids_many : (i : ℕ) (held : List ℤ) (r new : Reading) (id : ℤ) → IsSound from → i < count → signed_at r ≡ (Ok id, new) → 16 ≤ length held → IsIdLoop i held r
       → (new.bytes ≡ from.bytes) × HasManyIds count (rest from)
-  ids_many i ids r new id sound lt e full l =
-      let all = ids.items ++ id ∷ [] in
-      let t = signeds_stand (i + 1) from new all sound (many_more signed_at i from r new ids.items id l.so_far e) in
+  ids_many i held r new id sound lt e full l =
+      let all = held ++ id ∷ [] in
+      let t = signeds_stand (i + 1) from new all sound (many_more signed_at i from r new held id l.so_far e) in
       let s = sequence_split IsSigned (take 17 all) (drop 17 all) t.0 (subst (λ (xs : List ℤ). Sequence IsSigned xs t.0) (sym (take-append-drop 17 all)) t.2.1) in (
         t.3,
         (
@@ -83,7 +76,7 @@ module _ (count : ℕ) (from : Reading) where
             s.0,
             s.1 ++ rest new,
             t.1 ∙ ap (λ (z : List ℕ). z ++ rest new) s.2 ∙ append_assoc s.0 s.1 (rest new),
-            (omega (arith, length-take 17 all, length-append ids.items (id ∷ []), full), s.3),
+            (omega (arith, length-take 17 all, length-append held (id ∷ []), full), s.3),
           ),
         ),
       )

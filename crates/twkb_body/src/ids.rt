@@ -13,7 +13,8 @@ pub fn are_distinct<A: Allocator>(ids: &mut SmallVec<i64, 16, A>) -> bool
     slice_distinct(ids.as_mut_slice())
 }
 
-fn slice_distinct(ids: &mut [i64]) -> bool
+/// The same of a slice.
+pub fn slice_distinct(ids: &mut [i64]) -> bool
     ensures { IsTrue result ↔ AllPairs (λ a b. a ≢ b) ids.old }
 {
     ids.sort_unstable();

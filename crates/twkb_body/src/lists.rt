@@ -9,10 +9,8 @@ ghost use Rattle.twkb_body.specs.Devices.IdLists.{HasManyIds};
 use crate::answers::Claim;
 use crate::fields::{take_number, take_signed};
 use crate::found::{FalseClaim, claimed};
-use crate::ids::are_distinct;
+use crate::rooms::IdRoom;
 use crate::stopped::Stopped;
-use smallvec::SmallVec;
-use std::alloc::Allocator;
 use twkb_head::Malformed;
 use twkb_num::Cursor;
 
@@ -26,8 +24,8 @@ pub struct List {
 /// The count of a list and its ids, where they are announced.
 #[tactic(auto, unfolding(crate::specs::Devices::BodyReader::list_at))]
 #[inline(always)]
-pub fn take_list<A: Allocator>(
-    alloc: &A,
+pub fn take_list<R: IdRoom>(
+    room: &mut R,
     cursor: &mut Cursor,
     has_ids: bool,
 ) -> Result<List, Stopped>
@@ -37,7 +35,7 @@ pub fn take_list<A: Allocator>(
     let count = take_number(cursor)?;
     if has_ids {
         let offset = cursor.place();
-        let distinct = take_ids(alloc, cursor, count)?;
+        let distinct = room.take_ids(cursor, count)?;
         Ok(List {
             count,
             ids: claimed(distinct, offset, Claim::Ids),
@@ -45,20 +43,6 @@ pub fn take_list<A: Allocator>(
     } else {
         Ok(List { count, ids: None })
     }
-}
-
-/// The ids of a list: whether they are distinct. They are freed when they are judged.
-fn take_ids<A: Allocator>(alloc: &A, cursor: &mut Cursor, count: u64) -> Result<bool, Stopped>
-    ensures { ReadsOrStops (signeds_at count cursor.old) (λ ids distinct. IsTrue distinct ↔ AllPairs (λ a b. a ≢ b) ids)
-        (HasManyIds count (rest cursor.old)) cursor.old result cursor.new }
-{
-    cursor.place_is_within();
-    let mut ids: SmallVec<i64, 16, &A> = SmallVec::new(alloc);
-    for _ in 0..count {
-        let id = take_signed(cursor)?;
-        ids.push(id)?;
-    }
-    Ok(are_distinct(&mut ids))
 }
 
 /// The count of a list, and past its ids, where they are announced.

@@ -5,20 +5,23 @@ use Rattle.std.proofs.lemmas.Int.{ints}
 use mir.Val.{to_z, of_z}
 use Rattle.std.specs.Int.{w64}
 use Rattle.twkb_body.proofs.IdLoops.{ids_go_on, ids_fail, ids_many}
-use Rattle.twkb_body.proofs.lists.take_ids.Goals as goal
+use Rattle.twkb_body.proofs.rooms.take_grown.Goals as goal
 
 pub returns-in_err-id : goal.returns-in_err-id
 returns-in_err-id g c =
     let p = err_from_is_err_and c.from_residual.result c.from_residual.ensures.1 in
-    rw (p.1, p.2) (ids_fail c.args.count _ c.loop.counter _ _ _ _ c.loop-test.true c.in_err-id.ensures c.loop.invariant)
+    rw (p.1, p.2) (ids_fail c.args.count _ c.loop.counter _ _ _ _ c.loop-test.true c.in_err-id.ensures c.loop.invariant.going)
 
 pub returns-in_err-push : goal.returns-in_err-push
 returns-in_err-push g c =
     let p = err_from_is_err_and c.from_residual-in_err-push.result c.from_residual-in_err-push.ensures.1 in
     let full : 16 ≤ length c.loop.ids.items = grind (arith, c.in_err-push.ensures.succeeds, c.loop.invariant.room) in
-    rw (p.1, p.2) (ids_many c.args.count _ c.loop.counter c.loop.ids _ _ c.in_ok-id.id c.place_is_within.ensures c.loop-test.true c.in_ok-id.ensures full c.loop.invariant)
+    rw (p.1, p.2) (ids_many c.args.count _ c.loop.counter c.loop.ids.items _ _ c.in_ok-id.id c.place_is_within.ensures c.loop-test.true c.in_ok-id.ensures full c.loop.invariant.going)
 
 pub loop-preserved : goal.loop-preserved
 loop-preserved g c =
     let same : to_z w64 (of_z w64 c.in_ok-id.id) ≡ c.in_ok-id.id = omega (arith, ints) in
-    ids_go_on c.args.count _ c.loop.counter c.loop.ids _ _ _ c.in_ok-id.id c.loop-test.true c.in_ok-id.ensures (rw same at c.in_ok-push.ensures.ok) c.in_ok-push.ensures.capacity c.loop.invariant
+    record {
+      going = ids_go_on c.args.count _ c.loop.counter c.loop.ids.items _ _ _ c.in_ok-id.id c.loop-test.true c.in_ok-id.ensures (rw same at c.in_ok-push.ensures.ok) c.loop.invariant.going;
+      room = omega (arith, c.loop.invariant.room, c.in_ok-push.ensures.capacity);
+    }

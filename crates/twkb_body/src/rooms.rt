@@ -1,0 +1,70 @@
+//! Room for the ids of a list: memory that grows, or a slice that is lent.
+ghost use Rattle.std.specs.Prelude.{◌≡◌, ◌↔◌, ◌≢◌, ◌≤◌, length, IsTrue, AllPairs};
+ghost use Rattle.twkb_num.specs.Cursor.{rest};
+ghost use Rattle.twkb_head.specs.Devices.Reader.{signeds_at};
+ghost use Rattle.twkb_body.specs.Devices.Stops.{ReadsOrStops};
+ghost use Rattle.twkb_body.specs.Devices.IdLists.{HasManyIds};
+
+use crate::fields::take_signed;
+use crate::ids::{are_distinct, slice_distinct};
+use crate::stopped::Stopped;
+use smallvec::SmallVec;
+use std::alloc::Allocator;
+use twkb_num::Cursor;
+
+/// What the ids of one list are held in while they are judged.
+pub trait IdRoom {
+    /// The ids of a list, which are so many: whether they are distinct.
+    fn take_ids(&mut self, cursor: &mut Cursor, count: u64) -> Result<bool, Stopped>
+        ensures { ReadsOrStops (signeds_at count cursor.old) (λ ids distinct. IsTrue distinct ↔ AllPairs (λ a b. a ≢ b) ids)
+            (HasManyIds count (rest cursor.old)) cursor.old result cursor.new };
+}
+
+impl<A: Allocator> IdRoom for &A {
+    fn take_ids(&mut self, cursor: &mut Cursor, count: u64) -> Result<bool, Stopped> {
+        take_grown(*self, cursor, count)
+    }
+}
+
+impl IdRoom for &mut [i64] {
+    fn take_ids(&mut self, cursor: &mut Cursor, count: u64) -> Result<bool, Stopped> {
+        if self.len() < 16 {
+            take_lent(&mut [0; 16], cursor, count)
+        } else {
+            take_lent(self, cursor, count)
+        }
+    }
+}
+
+/// The ids of a list in memory that grows as they are read. They are freed when they are judged.
+fn take_grown<A: Allocator>(alloc: &A, cursor: &mut Cursor, count: u64) -> Result<bool, Stopped>
+    ensures { ReadsOrStops (signeds_at count cursor.old) (λ ids distinct. IsTrue distinct ↔ AllPairs (λ a b. a ≢ b) ids)
+        (HasManyIds count (rest cursor.old)) cursor.old result cursor.new }
+{
+    cursor.place_is_within();
+    let mut ids: SmallVec<i64, 16, &A> = SmallVec::new(alloc);
+    for _ in 0..count {
+        let id = take_signed(cursor)?;
+        ids.push(id)?;
+    }
+    Ok(are_distinct(&mut ids))
+}
+
+/// The ids of a list in places that are lent, of which there are sixteen at least.
+fn take_lent(ids: &mut [i64], cursor: &mut Cursor, count: u64) -> Result<bool, Stopped>
+    requires { 16 ≤ length ids.old }
+    ensures { ReadsOrStops (signeds_at count cursor.old) (λ ids distinct. IsTrue distinct ↔ AllPairs (λ a b. a ≢ b) ids)
+        (HasManyIds count (rest cursor.old)) cursor.old result cursor.new }
+{
+    cursor.place_is_within();
+    let mut held = 0;
+    for _ in 0..count {
+        let id = take_signed(cursor)?;
+        if held == ids.len() {
+            return Err(Stopped::Memory);
+        }
+        ids[held] = id;
+        held += 1;
+    }
+    Ok(slice_distinct(&mut ids[..held]))
+}
