@@ -20,5 +20,5 @@ pub use layer::Layer;
 pub use rows::{Row, list};
 pub use scans::{Scanned, scan};
 pub use twkb_layer::{Hit, Slot};
-pub use verdict::{Verdict, certify, certify_tight};
+pub use verdict::{Verdict, certify, certify_lent, certify_tight, certify_tight_lent};
 pub use window::{Range, Units, Window, parse_window};

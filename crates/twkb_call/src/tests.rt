@@ -3,8 +3,8 @@ ghost use Rattle.std.specs.Prelude.{◌≡◌};
 ghost use Rattle.twkb_layer.specs.Layer.{IsCounted};
 
 use crate::{
-    Hit, Layer, Point, Range, Row, Scanned, Units, Verdict, Window, certify, certify_tight, draw,
-    list, parse_window, scan,
+    Hit, Layer, Point, Range, Row, Scanned, Units, Verdict, Window, certify, certify_lent,
+    certify_tight, certify_tight_lent, draw, list, parse_window, scan,
 };
 use refusing::Refusing;
 use std::alloc::Allocator;
@@ -103,6 +103,31 @@ fn each_allocation_is_refused(rt: HostRuntime) {
         refusals = call + 1;
     }
     assert!(rt; 0 < refusals && refusals < 100, "{refusals}");
+}
+
+#[test]
+fn verdicts_in_lent_room(rt: HostRuntime) {
+    let mut none: [i64; 0] = [];
+    assert_eq!(rt; certify_lent(&[], &mut none), yes(0, 0));
+    assert_eq!(rt; certify_lent(&TWO_BLOBS, &mut none), yes(2, 3));
+    assert_eq!(rt; certify_lent(&SIZE_OFF_BY_ONE, &mut none), no(0, 2, 6));
+    assert_eq!(rt; certify_lent(&LOOSE, &mut none), yes(1, 2));
+    assert_eq!(rt; certify_tight_lent(&TWO_BLOBS, &mut none), yes(2, 3));
+    assert_eq!(rt; certify_tight_lent(&LOOSE, &mut none), no(0, 3, 9));
+    assert_eq!(rt; certify_lent(&FALLING_IDS, &mut none), NO_MEMORY);
+    let mut sixteen = [0; 16];
+    assert_eq!(rt; certify_lent(&FALLING_IDS, &mut sixteen), NO_MEMORY);
+    assert_eq!(rt; certify_tight_lent(&FALLING_IDS, &mut sixteen), NO_MEMORY);
+    let mut seventeen = [0; 17];
+    assert_eq!(rt; certify_lent(&FALLING_IDS, &mut seventeen), yes(1, 17));
+    assert_eq!(rt;
+        certify_tight_lent(&FALLING_IDS, &mut seventeen),
+        yes(1, 17)
+    );
+    let mut equal_ids = FALLING_IDS;
+    equal_ids[19] = equal_ids[3];
+    assert_eq!(rt; certify_lent(&equal_ids, &mut seventeen), no(0, 3, 8));
+    assert_eq!(rt; certify_tight_lent(&equal_ids, &mut seventeen), no(0, 3, 8));
 }
 
 /// The bytes as a layer that was certified before.

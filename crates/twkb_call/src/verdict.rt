@@ -59,6 +59,32 @@ pub fn certify_tight<A: Allocator>(alloc: &A, bytes: &[u8]) -> Verdict
     }
 }
 
+/// Certifies them with no memory but room for the ids of a list, which it overwrites. Memory is wanted where a list has more ids
+/// than the room has places, and more than sixteen.
+pub fn certify_lent(bytes: &[u8], ids: &mut [i64]) -> Verdict
+    ensures says { Says IsTrueClaim result bytes.now }
+    ensures complete { (trees : List Geometry) → IsCertifiedLayer trees bytes.now
+        → (result.answer ≡ 0) ⊎ (result.answer ≡ 2) }
+{
+    match twkb_layer::certify_lent(ids, Cursor::new(bytes)) {
+        Ok(layer) => certified(&layer),
+        Err(refusal) => refused(&refusal),
+    }
+}
+
+/// The same, where a loose box is refused too.
+pub fn certify_tight_lent(bytes: &[u8], ids: &mut [i64]) -> Verdict
+    ensures says { Says IsTightlyTrue result bytes.now }
+    ensures tight { result.answer ≡ 0 → (trees : List Geometry) × IsTightLayer trees bytes.now }
+    ensures complete { (trees : List Geometry) → IsTightLayer trees bytes.now
+        → (result.answer ≡ 0) ⊎ (result.answer ≡ 2) }
+{
+    match twkb_layer::certify_tight_lent(ids, Cursor::new(bytes)) {
+        Ok(layer) => certified(&layer),
+        Err(refusal) => refused(&refusal),
+    }
+}
+
 /// The verdict on a certified layer.
 fn certified(layer: &Certified) -> Verdict
     ensures yes { result ≡ yes result.blobs result.vertices }

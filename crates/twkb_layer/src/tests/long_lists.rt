@@ -1,6 +1,9 @@
 //! Lists of a thousand ids: in rising order, in orders that aren't, and with two that are equal.
 use super::worked::{FALLING_IDS, SEVENTEEN_IDS};
-use crate::{Cursor, Refusal, certify, certify_in, certify_tight, certify_tight_in};
+use crate::{
+    Cursor, Refusal, certify, certify_in, certify_lent, certify_tight, certify_tight_in,
+    certify_tight_lent,
+};
 use refusing::Refusing;
 use std::alloc::{AllocError, Allocator, Global};
 use std::process::Abort;
@@ -180,6 +183,46 @@ fn each_growth_is_refused(rt: HostRuntime) -> Result<(), Fail> {
         let bytes = layer(rt.alloc(), &list, &different(RISING))?;
         assert_eq!(&rt; growths(&rt, rt.alloc(), &bytes, false, None), 0);
         assert!(&rt; growths(&rt, rt.alloc(), &bytes, true, None) > 1);
+    }
+    Ok(())
+}
+
+fn refusal_with(ids: &mut [i64], bytes: &[u8], is_tight: bool) -> Option<Refusal> {
+    let cursor = Cursor::new(bytes);
+    if is_tight {
+        certify_tight_lent(ids, cursor).err()
+    } else {
+        certify_lent(ids, cursor).err()
+    }
+}
+
+// Room for a thousand ids serves each list, and with one place less memory is wanted.
+#[test]
+fn lent_room(rt: HostRuntime) -> Result<(), Fail> {
+    let equal = Ids {
+        step: MIXED,
+        place: 999,
+        other: 0,
+    };
+    let mut room = [0; 1000];
+    for list in LISTS {
+        for is_tight in [false, true] {
+            for step in [MIXED, FALLING] {
+                let bytes = layer(rt.alloc(), &list, &different(step))?;
+                assert_eq!(&rt; refusal_with(&mut room, &bytes, is_tight), None);
+                let refusal = refusal_with(&mut room[..999], &bytes, is_tight);
+                assert_eq!(&rt; refusal, Some(Refusal::Memory));
+            }
+            let bytes = layer(rt.alloc(), &list, &equal)?;
+            assert_eq!(&rt; refusal_with(&mut room, &bytes, is_tight), EQUAL_IDS);
+            let refusal = refusal_with(&mut room[..999], &bytes, is_tight);
+            assert_eq!(&rt; refusal, Some(Refusal::Memory));
+        }
+        // Ids that rise want no room, but in tight checking.
+        let bytes = layer(rt.alloc(), &list, &different(RISING))?;
+        assert_eq!(&rt; refusal_with(&mut [], &bytes, false), None);
+        assert_eq!(&rt; refusal_with(&mut [], &bytes, true), Some(Refusal::Memory));
+        assert_eq!(&rt; refusal_with(&mut room, &bytes, true), None);
     }
     Ok(())
 }
