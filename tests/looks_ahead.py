@@ -3,7 +3,8 @@
 is made of may do so, since what a scan says of the bytes that it reads would else say less than it seems to. A hop may look
 at a header with a cursor of its own, since whoever reads the blob, if it isn't hopped over, counts that header; it reads the
 box by words that end with the geometry. So it is with the first eight bytes of a blob, by which a scan knows a point with a
-size. What they have of the blobs behind it is read by the same scan: what it hops over has a header of seven bytes at least."""
+size, or a line. What they have of the blobs behind it is read by the same scan: what it hops over has a header of seven bytes at
+least. Of a line whose box meets the window the body is looked at too, which whoever reads the blob counts."""
 import os
 import re
 import sys
@@ -15,22 +16,24 @@ ALLOWED = {
         "crates/twkb_head/src/raw.rt",
         "crates/twkb_head/src/boxed.rt",
         "crates/twkb_layer/src/hops.rt",
+        "crates/twkb_layer/src/lines.rt",
         "crates/twkb_layer/src/points.rt",
         *(f"crates/twkb_body/src/{name}.rt" for name in ("boxed", "numbers", "quick", "quick/parts")),
     },
-    ".word()": {"crates/twkb_head/src/raw.rt"},
+    ".word()": {"crates/twkb_head/src/raw.rt", "crates/twkb_layer/src/lines.rt"},
     # Their words may end behind the geometry.
     ".svarint_pair()": {
         "crates/twkb_head/src/raw.rt",
         *(f"crates/twkb_body/src/{name}.rt" for name in ("boxed", "numbers")),
     },
     ".pass_varint()": {"crates/twkb_body/src/quick.rt"},
-    ".pass_varints(": {"crates/twkb_body/src/bare.rt"},
+    # Of a line the words end before its last four points do.
+    ".pass_varints(": {"crates/twkb_body/src/bare.rt", "crates/twkb_layer/src/lines.rt"},
     # What they answer `None` for they have looked at, and not counted.
     "read_flat_head(": {"crates/twkb_head/src/raw.rt", "crates/twkb_body/src/quick.rt"},
-    "read_begun_box(": {"crates/twkb_head/src/boxed.rt", "crates/twkb_layer/src/hops.rt"},
+    "read_begun_box(": {"crates/twkb_head/src/boxed.rt", *(f"crates/twkb_layer/src/{name}.rt" for name in ("hops", "lines"))},
     "pass_range_before(": {"crates/twkb_head/src/boxed.rt", "crates/twkb_layer/src/hops.rt"},
-    "read_range_before(": {"crates/twkb_head/src/boxed.rt", "crates/twkb_layer/src/hops.rt"},
+    "read_range_before(": {"crates/twkb_head/src/boxed.rt", *(f"crates/twkb_layer/src/{name}.rt" for name in ("hops", "lines"))},
     "read_point_head(": {"crates/twkb_head/src/raw.rt", "crates/twkb_layer/src/points.rt"},
     "read_sized_point_head(": {"crates/twkb_head/src/raw.rt", "crates/twkb_body/src/quick.rt"},
 }

@@ -1,5 +1,6 @@
 -- Devices of proofs: contracts of private functions name them, and nothing public does.
 pub mod Layer
+pub mod Lines
 pub mod Refusal
 pub mod Tight
 pub mod Passing

@@ -66,7 +66,7 @@ fn passes_a_miss(ahead: &mut Cursor, begun: &BegunBox, windows: &RawWindows) -> 
 
 /// The least number of a range, and the greatest.
 #[inline(always)]
-fn ends_of(range: &RawRange) -> (i64, i64)
+pub fn ends_of(range: &RawRange) -> (i64, i64)
     requires { IsNear range.now }
     ensures { result ≡ ends_of range.now }
 {

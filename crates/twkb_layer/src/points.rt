@@ -38,7 +38,7 @@ pub fn look_at_point(cursor: &mut Cursor, windows: &RawWindows) -> Option<bool>
 
 /// Whether a point of X and Y alone is inside.
 #[inline(always)]
-fn is_point_inside(windows: &RawWindows, xy: i8, x: i64, y: i64) -> bool
+pub fn is_point_inside(windows: &RawWindows, xy: i8, x: i64, y: i64) -> bool
     requires xy { IsPrecision xy }
     requires short { IsShort x × IsShort y }
     ensures { result ≡ is_inside windows.now (record { x = units_of x xy; y = units_of y xy; z = None; m = None }) }
