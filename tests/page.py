@@ -42,15 +42,9 @@ def printed(program, *words):
 
 def cases(page):
     """The worked files: verdicts, lists, hits and bytes read, and for refused ones the byte that is marked."""
-    takes_ids = page.run("document.documentElement.dataset.ids") == "yes"
     for number, (name, words, data, _, text) in enumerate(table("cases.tsv")):
         layer = bytes.fromhex(data)
         told = page.drop(f"case{number}.twkb", layer)
-        if not takes_ids and "17 ids" in name:
-            # The module has no room for long lists, and the page says so; without tight checking rising ids want none.
-            known = ("Not judged", None) if "equal" in name else ("ok blobs=1", "Not known")
-            count(page.name(name), (told["line"][:10], told["tight"] and told["tight"][:9]), known)
-            continue
         wanted = text.replace("\\n", "\n").rstrip("\n")
         command, *rest = words.split(" ")
         refused(page, name, layer, told)

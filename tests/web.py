@@ -6,8 +6,8 @@ usage: tests/web.py [--all]   (rt of the kit in PATH; wasm-opt, node of Node 16 
 The small layers of cases.tsv and the examples go through bindings/web/cases.mjs, which takes the program's words and has to
 print its text; of the examples the vertices too, which have to be those of plain.py. Then come verdicts on fronts of an
 example, and on it with a byte changed: each has to be the native one. With --all these are more than half a million, else
-some tens of thousands. The module has no memory for more than sixteen ids, and may answer just that where a list has so
-many. Prints each difference, and last a line `N passed, M failed`; the status is 1 where any failed.
+some tens of thousands. Long lists of ids are tried in too little room for them too. Prints each difference, and last a
+line `N passed, M failed`; the status is 1 where any failed.
 """
 import ctypes
 import os
@@ -57,37 +57,39 @@ def example(name):
 
 def test_cases(folder):
     """Small layers, but for scans for several windows, which go by a directory, and for words that ask for nothing."""
-    wants_memory = 0
     for number, (name, words, data, status, text) in enumerate(table("cases.tsv")):
         if int(status) > 1 or words.count("x=") > 1:
             continue
         path = written(folder, f"case{number}.twkb", bytes.fromhex(data))
         got = driven(*words.replace("FILE", path).split(" "))
-        if got[0] == 3 and got[2] == b"cases: out of memory\n" and has_many_ids(bytes.fromhex(data)):
-            wants_memory += 1
-        else:
-            count(f"{name}: {words}", got[:2], (int(status), text.replace("\\n", "\n").encode()))
-    count("layers that want memory for ids", wants_memory > 0, True)
+        count(f"{name}: {words}", got[:2], (int(status), text.replace("\\n", "\n").encode()))
 
 
-def has_many_ids(data):
-    """Whether a list of more than sixteen ids is read, as far as the plain reader gets."""
-    met, read = [], plain.Geometry.read
+def multipoint(ids):
+    """A multipoint of points at (0 0) with these ids from 0 to 63."""
+    size = len(ids)
+    number = bytes([size]) if size < 128 else bytes([size % 128 | 128, size // 128])
+    return bytes([0x04, 0x04]) + number + bytes(2 * one for one in ids) + bytes(2 * size)
 
-    def read_and_tell(self):
-        met.append(self)
-        read(self)
 
-    plain.Geometry.read = read_and_tell
-    try:
-        reader = plain.Reader(data)
-        while reader.place < len(data):
-            plain.Geometry(reader, 1, [])
-    except plain.Malformed:
-        pass
-    finally:
-        plain.Geometry.read = read
-    return any(len(geometry.ids) > 16 for geometry in met)
+def test_room_for_ids(folder):
+    """Sixteen ids want no room. Where there are more, a list that doesn't rise wants a place for each, or memory is wanted."""
+    falling, equal = list(range(63, -1, -1)), [*range(39, -1, -1), 39]
+    tried = [
+        ("sixteen that fall", falling[:16], [0, 16], [], "ok blobs=1 vertices=16\n"),
+        ("seventeen that fall", falling[:17], [17, 18, 100], [0, 15, 16], "ok blobs=1 vertices=17\n"),
+        ("sixty-four that fall", falling, [64, 65], [16, 17, 63], "ok blobs=1 vertices=64\n"),
+        ("forty-one of which two are equal", equal, [41, 1000], [0, 40], "no blob=0 offset=3 kind=ids\n"),
+    ]
+    for name, ids, enough, short, text in tried:
+        path = written(folder, "ids.twkb", multipoint(ids))
+        for words in (["check"], ["check", "--tight"]):
+            for places in enough:
+                got = driven(*words, path, str(places))[:2]
+                count(f"{' '.join(words)}, {name}, room for {places}", got, (int(text.startswith("no")), text.encode()))
+            for places in short:
+                got = driven(*words, path, str(places))
+                count(f"{' '.join(words)}, {name}, room for {places}", got, (3, b"", b"cases: out of memory\n"))
 
 
 def test_examples():
@@ -115,20 +117,17 @@ def variants(data, step):
 
 
 def test_verdicts(name, length, step):
-    """Each verdict is the native one, or wants memory for ids."""
+    """Each verdict is the native one."""
     words = ["node", os.path.join(WEB, "verdicts.mjs"), MODULE, os.path.join(TOP, "examples", name), str(length), str(step)]
     told = subprocess.run(words, capture_output=True, text=True, timeout=MINUTES, check=True).stdout.splitlines()
-    line, alike, memory, differ = native(), 0, 0, []
+    line, differ = native(), []
     tried = list(variants(example(name)[:length], step))
     for number, (got, data) in enumerate(zip(told, tried)):
-        if got == line(data):
-            alike += 1
-        elif got == "memory" and has_many_ids(data):
-            memory += 1
-        else:
-            differ.append((number, got, line(data)))
-    print(f"{name}: {len(tried)} verdicts, {memory} of them want memory for ids")
-    count(f"verdicts on {name}", (len(told), alike + memory, differ[:5]), (len(tried), len(tried), []))
+        wanted = line(data)
+        if got != wanted:
+            differ.append((number, got, wanted))
+    print(f"{name}: {len(tried)} verdicts")
+    count(f"verdicts on {name}", (len(told), differ[:5]), (len(tried), []))
 
 
 def main(words):
@@ -142,6 +141,7 @@ def main(words):
     if not counts["failed"]:
         with tempfile.TemporaryDirectory() as folder:
             test_cases(folder)
+            test_room_for_ids(folder)
         test_examples()
         test_verdicts("coast_z.twkb", 2000, 1 if "--all" in words else 16)
         test_verdicts("coast_collections.twkb", 1000, 1 if "--all" in words else 16)

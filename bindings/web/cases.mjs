@@ -1,7 +1,7 @@
 // Takes the words of the program twkb_tool, and prints what it prints on standard output, by the module. It scans for one
-// window. Beside these, `vertices FILE` prints X and Y of each vertex in units, drawn at once and then blob by blob.
+// window. A check may have room for so many ids of a list alone. Beside these, `vertices FILE` prints X and Y of each vertex in units, drawn at once and then blob by blob.
 //
-// usage: node cases.mjs MODULE check [--tight] FILE | list FILE | scan FILE WINDOW | vertices FILE
+// usage: node cases.mjs MODULE check [--tight] FILE [IDS] | list FILE | scan FILE WINDOW | vertices FILE
 import { readFileSync } from "node:fs";
 import { load } from "./twkb.mjs";
 
@@ -44,7 +44,9 @@ function linesOfVertices(layer) {
 const words = rest.filter((word) => word !== "--tight");
 const windows = asked === "scan" ? words.splice(1) : [];
 if (windows.length > 1) fault(2, "one window");
-const verdict = library.certify(readFileSync(words[0]), rest.includes("--tight"));
+const bytes = readFileSync(words[0]);
+const places = asked === "check" && words.length > 1 ? Number(words[1]) : bytes.length;
+const verdict = library.certify(bytes, rest.includes("--tight"), places);
 if (verdict.answer === "memory") fault(3, "out of memory");
 for (const window of windows) {
   const answer = library.parse(window);

@@ -2,7 +2,7 @@
 // The layouts are written by hand beside crates/twkb_call, which proves the sizes.
 const KINDS = ["", "cut", "varint", "type", "depth", "range", "size", "box", "ids", "loose"];
 const PAGE = 65536;
-const VERDICT = 40, LAYER = 32, WINDOW = 136, HIT = 16, ROW = 40, POINT = 32;
+const VERDICT = 40, LAYER = 32, WINDOW = 136, HIT = 16, ROW = 40, POINT = 32, ID = 8;
 
 export function load(module) {
   return new Library(new WebAssembly.Instance(new WebAssembly.Module(module), {}).exports);
@@ -24,20 +24,22 @@ class Library {
     return new DataView(this.exports.memory.buffer, at, length);
   }
 
-  // Copies the bytes in, and certifies them. A layer that is certified is the one of the calls behind.
-  certify(bytes, tight = false) {
+  // Copies the bytes in, and certifies them with room for so many ids of a list, each of which takes a byte at least. A layer
+  // that is certified is the one of the calls behind.
+  certify(bytes, tight = false, ids = bytes.length) {
     this.#view(this.bytes, bytes.length);
     new Uint8Array(this.exports.memory.buffer, this.bytes, bytes.length).set(bytes);
-    return this.certifyAgain(bytes.length, tight);
+    return this.certifyAgain(bytes.length, tight, ids);
   }
 
   // Certifies the first of the bytes that were copied in.
-  certifyAgain(length, tight = false) {
+  certifyAgain(length, tight = false, ids = length) {
     const call = tight ? this.exports.twkb_certify_tight : this.exports.twkb_certify;
-    call(BigInt(this.out), BigInt(this.bytes), BigInt(length));
+    this.room = this.bytes + aligned(length);
+    this.#view(this.room, ids * ID);
+    call(BigInt(this.out), BigInt(this.bytes), BigInt(length), BigInt(this.room), BigInt(ids));
     const verdict = this.#view(this.out, VERDICT);
     const number = (at) => Number(verdict.getBigUint64(at, true));
-    this.room = this.bytes + aligned(length);
     switch (verdict.getUint32(0, true)) {
       case 0:
         return this.take(0, length, number(8), number(16));

@@ -62,10 +62,6 @@ export function showHopping(both, rows) {
 
 export function showTight({ tight, loose }, look) {
   $("loosest").hidden = !loose || !loose.loosest.length;
-  if (tight.answer === 2) {
-    $("tight").textContent = "Not known: a list of more than sixteen ids takes memory that the page can't lend.";
-    return;
-  }
   if (!loose) {
     $("tight").textContent = "Tight: no box is larger than its vertices ask for. A scan hops wherever a box can let it.";
     return;

@@ -90,8 +90,7 @@ function repaint() {
 }
 
 const TOLD = {
-  ready({ takesIds }) {
-    settle("ids", takesIds ? "yes" : "no");
+  ready() {
     settle("ready", "yes");
   },
   progress,

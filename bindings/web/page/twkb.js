@@ -9,8 +9,8 @@ const ROW = 40, HIT = 16, POINT = 32, WINDOW = 136;
 // Places of the small forms behind the base.
 const ANSWER = 0, LAYER = 64, WINDOW_AT = 128, TEXT = 384, SMALL = 4096;
 const LONGEST_TEXT = SMALL - TEXT;
-// The least room for ids, how many bytes of it an id takes, and how many a byte of a layer can ask for.
-const LEAST_IDS = 1 << 20, ID = 16, MOST_FOR_ID = 64;
+// The least room for ids, in places, and how many bytes a place takes.
+const LEAST_IDS = 1 << 17, ID = 8;
 const UNITS = 1e7;
 
 export class NoMemory extends Error {}
@@ -78,22 +78,18 @@ export class Library {
     this.words[(at >> 2) + 1] = Math.floor(number / 2 ** 32);
   }
 
-  // Whether long lists of ids may have room that the page lends: a module without it takes two words less.
-  get takesIds() {
-    return this.exports.twkb_certify.length === 5;
-  }
-
-  // The verdict on the bytes from a place on. Ids get more room until it is enough, or as much as the bytes can ask for.
+  // The verdict on the bytes from a place on. The ids of a list get more room until it is enough: an id takes a byte at least.
   certify(tight = false, from = 0, length = this.length) {
     const call = tight ? this.exports.twkb_certify_tight : this.exports.twkb_certify;
-    const at = this.base + ANSWER, most = this.takesIds ? LEAST_IDS + MOST_FOR_ID * length : LEAST_IDS;
-    for (let room = LEAST_IDS; ; room *= 4) {
-      const ids = this.lend(room);
-      call(BigInt(at), BigInt(this.start + from), BigInt(length), BigInt(ids), BigInt(room / ID));
+    const at = this.base + ANSWER;
+    for (let places = LEAST_IDS; ; places = Math.min(4 * places, length)) {
+      const ids = this.lend(places * ID);
+      call(BigInt(at), BigInt(this.start + from), BigInt(length), BigInt(ids), BigInt(places));
       const [answer, kind] = [this.words[at >> 2], this.words[(at >> 2) + 1]];
-      if (answer !== 2 || room >= most) {
+      if (answer !== 2) {
         return { answer, kind, blobs: this.u64(at + 8), vertices: this.u64(at + 16), blob: this.u64(at + 24), offset: from + this.u64(at + 32) };
       }
+      if (places >= length) throw new NoMemory();
     }
   }
 

@@ -82,7 +82,6 @@ export const STAGES = {
 // What keeps a layer from being checked.
 export const FAULTS = {
   memory: "Not checked: the browser gives no memory for this layer.",
-  ids: "Not judged: this layer has a list of more than sixteen ids, which takes memory that the page can't lend. The program judges it.",
   read: "Not checked: the browser can't read this file. Is it a folder, or was it changed meanwhile?",
   load: "Not checked: this browser can't run the module.",
 };

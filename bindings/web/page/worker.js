@@ -76,7 +76,6 @@ async function open({ file }) {
   await read(file, stays);
   await stage("certifying");
   const verdict = library.certify();
-  if (verdict.answer === 2) return tell({ tell: "failed", what: "ids" });
   tell({ tell: "verdict", verdict, length: file.size });
   if (verdict.answer === 1) return refuse(verdict);
   layer = new Layer(library, verdict);
@@ -132,7 +131,7 @@ const ANSWERS = {
   async load({ module }) {
     library = await Library.load(module);
     loaded();
-    tell({ tell: "ready", takesIds: library.takesIds });
+    tell({ tell: "ready" });
   },
   open,
   scan,

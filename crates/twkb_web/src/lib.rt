@@ -4,7 +4,6 @@
 #![tactic(auto)]
 
 ghost use Rattle.std.specs.Prelude.{◌≡◌, ◌≢◌, ◌≤◌, if◌then◌else◌, true, false, List, length, map, sum_by, ◌⊎◌};
-ghost use Rattle.std.specs.Borrow.{ffalse};
 ghost use Rattle.twkb_num.specs.Cursor.{added};
 ghost use Rattle.twkb_head.specs.declared.boxes.Bounds.{Bounds};
 ghost use Rattle.twkb_body.specs.Claims.{IsTrueClaim};
@@ -21,40 +20,26 @@ ghost use Rattle.twkb_call.specs.Verdict.{Says};
 ghost use Rattle.twkb_call.specs.Vertices.{point_of};
 ghost use Rattle.twkb_call.specs.Window.{ranges_of};
 
-use std::alloc::{AllocError, Allocator};
 use twkb_call::{Hit, Layer, Point, Row, Scanned, Verdict, Window};
 
-/// An allocator that has no memory.
-#[derive(Clone, Copy)]
-struct Nothing;
-
-unsafe impl Allocator for Nothing {
-    ghost dealloc_token = { λ _ _ _. ffalse };
-
-    fn allocate(&self, _size: usize, _align: usize) -> Result<*mut u8, AllocError> {
-        Err(AllocError)
-    }
-
-    unsafe fn deallocate(&self, _ptr: *mut u8, _size: usize, _align: usize) {}
-}
-
-/// Certifies the bytes as a layer.
+/// Certifies the bytes as a layer, with room for the ids of a list. Memory is wanted where a list has more ids than the room has
+/// places, and more than sixteen.
 #[unsafe(no_mangle)]
-pub extern "C" fn twkb_certify(bytes: &[u8]) -> Verdict
+pub extern "C" fn twkb_certify(bytes: &[u8], ids: &mut [i64]) -> Verdict
     ensures says { Says IsTrueClaim result bytes.now }
     ensures complete { OfLayer bytes.now (λ trees. (result.answer ≡ 0) ⊎ (result.answer ≡ 2)) }
 {
-    twkb_call::certify(&Nothing, bytes)
+    twkb_call::certify_lent(bytes, ids)
 }
 
 /// The same, where a loose box is refused too.
 #[unsafe(no_mangle)]
-pub extern "C" fn twkb_certify_tight(bytes: &[u8]) -> Verdict
+pub extern "C" fn twkb_certify_tight(bytes: &[u8], ids: &mut [i64]) -> Verdict
     ensures says { Says IsTightlyTrue result bytes.now }
     ensures tight { result.answer ≡ 0 → (trees : List Geometry) × IsTightLayer trees bytes.now }
     ensures complete { (trees : List Geometry) → IsTightLayer trees bytes.now → (result.answer ≡ 0) ⊎ (result.answer ≡ 2) }
 {
-    twkb_call::certify_tight(&Nothing, bytes)
+    twkb_call::certify_tight_lent(bytes, ids)
 }
 
 /// Puts a row for each blob into the room, in file order, as many as fit, and says how many blobs there are.
