@@ -196,7 +196,17 @@ fn refusal_with(ids: &mut [i64], bytes: &[u8], is_tight: bool) -> Option<Refusal
     }
 }
 
-// Room for a thousand ids serves each list, and with one place less memory is wanted.
+fn refusal_in_enough(bytes: &[u8], is_tight: bool) -> Option<Refusal> {
+    let mut room = [0; 1000];
+    refusal_with(&mut room, bytes, is_tight)
+}
+
+fn refusal_in_less(bytes: &[u8], is_tight: bool) -> Option<Refusal> {
+    let mut room = [0; 999];
+    refusal_with(&mut room, bytes, is_tight)
+}
+
+// Room for a thousand ids is enough for each list, and with one place less memory is wanted.
 #[test]
 fn lent_room(rt: HostRuntime) -> Result<(), Fail> {
     let equal = Ids {
@@ -204,25 +214,22 @@ fn lent_room(rt: HostRuntime) -> Result<(), Fail> {
         place: 999,
         other: 0,
     };
-    let mut room = [0; 1000];
     for list in LISTS {
         for is_tight in [false, true] {
             for step in [MIXED, FALLING] {
                 let bytes = layer(rt.alloc(), &list, &different(step))?;
-                assert_eq!(&rt; refusal_with(&mut room, &bytes, is_tight), None);
-                let refusal = refusal_with(&mut room[..999], &bytes, is_tight);
-                assert_eq!(&rt; refusal, Some(Refusal::Memory));
+                assert_eq!(&rt; refusal_in_enough(&bytes, is_tight), None);
+                assert_eq!(&rt; refusal_in_less(&bytes, is_tight), Some(Refusal::Memory));
             }
             let bytes = layer(rt.alloc(), &list, &equal)?;
-            assert_eq!(&rt; refusal_with(&mut room, &bytes, is_tight), EQUAL_IDS);
-            let refusal = refusal_with(&mut room[..999], &bytes, is_tight);
-            assert_eq!(&rt; refusal, Some(Refusal::Memory));
+            assert_eq!(&rt; refusal_in_enough(&bytes, is_tight), EQUAL_IDS);
+            assert_eq!(&rt; refusal_in_less(&bytes, is_tight), Some(Refusal::Memory));
         }
         // Ids that rise want no room, but in tight checking.
         let bytes = layer(rt.alloc(), &list, &different(RISING))?;
         assert_eq!(&rt; refusal_with(&mut [], &bytes, false), None);
         assert_eq!(&rt; refusal_with(&mut [], &bytes, true), Some(Refusal::Memory));
-        assert_eq!(&rt; refusal_with(&mut room, &bytes, true), None);
+        assert_eq!(&rt; refusal_in_enough(&bytes, true), None);
     }
     Ok(())
 }
