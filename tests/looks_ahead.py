@@ -36,6 +36,8 @@ ALLOWED = {
     "read_range_before(": {"crates/twkb_head/src/boxed.rt", *(f"crates/twkb_layer/src/{name}.rt" for name in ("hops", "lines"))},
     "read_point_head(": {"crates/twkb_head/src/raw.rt", "crates/twkb_layer/src/points.rt"},
     "read_sized_point_head(": {"crates/twkb_head/src/raw.rt", "crates/twkb_body/src/quick.rt"},
+    # What it answers is a cursor that has looked ahead.
+    "behind_bare_line_head(": {"crates/twkb_body/src/quick.rt"},
 }
 
 

@@ -12,11 +12,13 @@ ghost use Rattle.twkb_body.specs.Devices.Walk.{HasPrecisions};
 
 mod parts;
 
-use self::parts::{take_boxed, take_parts_of, take_sure_list, take_unboxed};
+use self::parts::{pass_bare_line, take_boxed, take_parts_of, take_sure_list, take_unboxed};
 use crate::boxed::Boxed;
 use crate::found::judge_size;
 use crate::frame::Frame;
-use twkb_head::{Head, read_flat_head, read_raw_head, read_sized_point_head};
+use twkb_head::{
+    Head, behind_bare_line_head, read_flat_head, read_raw_head, read_sized_point_head,
+};
 use twkb_num::Cursor;
 
 /// How many vertices the blob at the place has, if the quick pass is sure of it; it is passed. Else `None`: what was looked
@@ -28,11 +30,14 @@ pub fn take_at_sight(cursor: &mut Cursor) -> Option<usize>
 {
     match take_sized_point(cursor) {
         Some(vertices) => Some(vertices),
-        None => take_ahead(cursor),
+        None => match take_bare_line(cursor) {
+            Some(vertices) => Some(vertices),
+            None => take_ahead(cursor),
+        },
     }
 }
 
-/// The same, but for points with a size alone.
+/// The same, but for points with a size alone and lines with nothing.
 // It isn't inlined, so that a layer of points is read with the cursor in registers.
 #[inline(never)]
 fn take_ahead(cursor: &mut Cursor) -> Option<usize>
@@ -62,6 +67,19 @@ fn take_sized_point(cursor: &mut Cursor) -> Option<usize>
     }
     *cursor = ahead;
     Some(1)
+}
+
+/// A line of X and Y with neither a size nor a box. Its numbers are told by their ends alone.
+#[inline(always)]
+fn take_bare_line(cursor: &mut Cursor) -> Option<usize>
+    ensures some { IfSome result (IsSure (deepest - 1) None cursor.old cursor.new) }
+    ensures none { IfNone result (cursor.new ≡ cursor.old) }
+{
+    cursor.place_is_within();
+    let mut ahead = behind_bare_line_head(cursor)?;
+    let vertices = pass_bare_line(&mut ahead)?;
+    *cursor = ahead;
+    Some(vertices)
 }
 
 /// How many vertices the geometry at the place has, which stands at `depth`, if all that it claims is true and the frame

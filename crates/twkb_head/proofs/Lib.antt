@@ -15,4 +15,4 @@ pub mod HeadLaws
 pub mod HeadBack
 pub mod Limits
 pub mod BoxNumbers
-pub mod SizedPoints
+pub mod ShortHeads

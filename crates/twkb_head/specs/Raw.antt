@@ -7,7 +7,7 @@ use Rattle.twkb_head.specs.declared.raw.RawHead.{RawHead}
 use Rattle.twkb_head.specs.declared.boxed.BegunBox.{BegunBox}
 use Rattle.twkb_head.specs.declared.header.Head.{Head}
 use Rattle.twkb_head.specs.declared.header.BoxField.{BoxField}
-use Rattle.twkb_head.specs.declared.kinds.Kind.TheVariants.{Point}
+use Rattle.twkb_head.specs.declared.kinds.Kind.TheVariants.{Point, LineString}
 use Rattle.twkb_num.specs.Cursor.{Reading, passed, IsMoved}
 use Rattle.twkb_num.specs.Varint.{SpellsTwoSigned}
 use Rattle.twkb_head.specs.Head.{bounds_of, IsHeadAt}
@@ -48,6 +48,16 @@ pub record IsSizedPoint (head : Head) (size after : ℕ) : Type 0 where
   pub full : head.empty ≡ false
   pub offset : ℕ
   pub size_is : head.size ≡ Some (record { value = size; offset = offset; after = after })
+
+-- a header says: a line of X and Y, and nothing else
+pub record IsBareLine (head : Head) : Type 0 where
+  pub kind : head.kind ≡ LineString
+  pub z : head.z ≡ None
+  pub m : head.m ≡ None
+  pub no_size : head.size ≡ None
+  pub no_box : head.bounds ≡ None
+  pub no_ids : head.ids ≡ false
+  pub full : head.empty ≡ false
 
 -- the box of two ranges, in X and in Y
 abbrev pub flat_box : RawRange → RawRange → RawBox

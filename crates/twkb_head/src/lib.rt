@@ -49,8 +49,8 @@ pub use fields::malformed;
 pub use header::{BoxField, Head, SizeField};
 pub use kinds::{DEEPEST, Kind};
 pub use raw::{
-    RawBox, RawHead, RawRange, read_flat_head, read_point_head, read_raw_head,
-    read_sized_point_head,
+    RawBox, RawHead, RawRange, behind_bare_line_head, read_flat_head, read_point_head,
+    read_raw_head, read_sized_point_head,
 };
 pub use read::read_head;
 pub use refusal::{Malformed, Why};

@@ -3,7 +3,7 @@ ghost use Rattle.std.specs.Prelude.{◌≡◌, ◌-◌, ◌≤◌, ◌+ℤ◌, �
 ghost use Rattle.twkb_num.specs.Cursor.{Reading, passed, IsMoved};
 ghost use Rattle.twkb_num.specs.Units.{IsPrecision};
 ghost use Rattle.twkb_head.specs.BegunHeader.{deepest};
-ghost use Rattle.twkb_head.specs.Raw.{raw_bounds, whole_head, IsSizedPoint};
+ghost use Rattle.twkb_head.specs.Raw.{raw_bounds, whole_head, IsSizedPoint, IsBareLine};
 ghost use Rattle.twkb_head.specs.Devices.Raw.{AreFieldsOf, IsRangeIf};
 ghost use Rattle.twkb_head.specs.Head.{IsHeadAt};
 ghost use Rattle.twkb_head.specs.Header.{has_bit, z_in, m_in};
@@ -112,6 +112,21 @@ pub fn read_point_head(cursor: &mut Cursor) -> Option<(i8, u64)>
     }
     cursor.pass(3);
     Some((precision_of(word[0]), u64::from(word[2])))
+}
+
+/// A cursor behind the header at the place, if it is that of a line of X and Y with neither a size nor a box.
+#[inline(always)]
+pub fn behind_bare_line_head<'a>(cursor: &Cursor<'a>) -> Option<Cursor<'a>>
+    ensures ok { IfSome result (λ behind. (head : Head) × IsHeadAt head 1 cursor.now.place (passed cursor.now behind) × IsBareLine head) }
+    ensures moved { IfSome result (λ behind. IsMoved cursor.now behind) }
+{
+    let word = cursor.word()?;
+    if word[0] % 16 != 2 || word[1] % 32 != 0 {
+        return None;
+    }
+    let mut behind = cursor.ahead();
+    behind.pass(2);
+    Some(behind)
 }
 
 /// The fields of a header, in order.

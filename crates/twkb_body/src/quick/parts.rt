@@ -1,7 +1,8 @@
 //! The parts of a body, for the quick pass: read with their points, or passed by the ends of their numbers.
-ghost use Rattle.std.specs.Prelude.{◌≡◌, ◌≤◌, None, IfSome, Ok};
+ghost use Rattle.std.specs.Prelude.{◌≡◌, ◌≤◌, None, IfSome, Ok, false};
 ghost use Rattle.twkb_num.specs.Units.{IsPrecision};
 ghost use Rattle.twkb_head.specs.Header.{axes_with, is_multi};
+ghost use Rattle.twkb_head.specs.declared.kinds.Kind.TheVariants.{LineString};
 ghost use Rattle.twkb_body.specs.Devices.Bare.{unchanged};
 ghost use Rattle.twkb_body.specs.Devices.Body.{ListHead};
 ghost use Rattle.twkb_body.specs.Devices.BodyReader.{count_at, list_at};
@@ -38,6 +39,15 @@ pub fn take_unboxed(cursor: &mut Cursor, kind: Kind, has_ids: bool, axes: usize)
         }
         None => take_summed_parts(cursor, kind, has_ids, axes),
     }
+}
+
+/// The points of a line of X and Y that no box asks for, by the ends of their numbers.
+// It isn't inlined, so that the cursor that it is handed is the only one in memory.
+#[inline(never)]
+pub fn pass_bare_line(cursor: &mut Cursor) -> Option<usize>
+    ensures { IfSome result (AddsParts unchanged LineString false 2 cursor.old cursor.new tt tt) }
+{
+    pass_bare_parts(cursor, Kind::LineString, false, 2)
 }
 
 /// The parts of a body, by the ends of their numbers.

@@ -379,3 +379,38 @@ fn sized_points_that_end_soon(rt: HostRuntime) {
         sized_point_is(&rt, &bytes[..stop], None);
     }
 }
+
+#[test]
+fn every_head_of_a_bare_line(rt: HostRuntime) {
+    for kind in 0..=255u8 {
+        for metadata in 0..=255u8 {
+            let bytes = [9, kind, metadata, 5, 0, 1, 2, 3, 4];
+            bare_line_is(&rt, &bytes, kind & 15 == 2 && metadata & 31 == 0);
+        }
+    }
+}
+
+// The answer at place 1.
+fn bare_line_is(rt: &impl Abort, bytes: &[u8], expected: bool)
+    requires { 1 ≤ length bytes.now }
+{
+    let mut cursor = Cursor::new(bytes);
+    cursor.go_to(1);
+    let behind = match behind_bare_line_head(&cursor) {
+        Some(behind) => Some((behind.place(), behind.read_count())),
+        None => None,
+    };
+    let expected = if expected { Some((3, 2)) } else { None };
+    assert_eq!(rt; behind, expected, "of {bytes:?}");
+    assert_eq!(rt; cursor.place(), 1);
+    assert_eq!(rt; cursor.read_count(), 0);
+}
+
+#[test]
+fn bare_lines_that_end_soon(rt: HostRuntime) {
+    let bytes = [9, 0x22, 0xE0, 0x02, 0x01, 0x02, 0x03, 0x04, 0x05];
+    bare_line_is(&rt, &bytes, true);
+    for stop in 1..9 {
+        bare_line_is(&rt, &bytes[..stop], false);
+    }
+}

@@ -6,7 +6,7 @@ use Rattle.std.specs.Int.{w8}
 use Rattle.twkb_num.specs.Cursor.{passed, rest}
 use Rattle.twkb_head.specs.Raw.{IsSizedPoint}
 use Rattle.twkb_head.specs.Head.{IsHeadAt}
-use Rattle.twkb_head.proofs.SizedPoints.{three, sized_point_stands}
+use Rattle.twkb_head.proofs.ShortHeads.{three, sized_point_stands}
 use Rattle.twkb_head.proofs.raw.read_point_head.Goals as goal
 
 pub returns-clause-ok : goal.returns-clause-ok
