@@ -1,5 +1,5 @@
 -- The body of a point of X and Y alone.
-use Rattle.std.proofs.Common.{◌≡◌, [], ◌∷◌, ℤ, pos, ◌+ℤ◌, ◌≤ℤ◌, ◌<ℤ◌, None, Ok, ap, ◌∙◌, arith}
+use Rattle.std.proofs.Common.{◌≡◌, [], ◌∷◌, ℤ, pos, ◌+ℤ◌, None, Ok, ap, ◌∙◌, arith}
 use Rattle.std.proofs.lemmas.Int.{ints}
 use mir.Val.{SFits}
 use Rattle.std.specs.Int.{w64}
@@ -7,7 +7,7 @@ use Rattle.twkb_num.specs.Cursor.{Reading, passed, IsMoved}
 use Rattle.twkb_num.specs.Varint.{SpellsTwoSigned, IsShort}
 use Rattle.twkb_head.specs.declared.header.Head.{Head}
 use Rattle.twkb_head.specs.declared.kinds.Kind.TheVariants.{Point}
-use Rattle.twkb_head.specs.Header.{Header, is_multi}
+use Rattle.twkb_head.specs.Header.{is_multi}
 use Rattle.twkb_head.specs.Devices.Reader.{Answer, viewed, coordinate_at}
 use Rattle.twkb_body.specs.Geometry.{PointValue}
 use Rattle.twkb_body.specs.Devices.Body.{Body, part_body, zeros}

@@ -1,5 +1,5 @@
 -- The ids at the front are those read, in order, from the start to the cursor's place.
-use Rattle.std.proofs.Common.{◌≡◌, ◌≤◌, take, length}
+use Rattle.std.proofs.Common.{◌≤◌, take, length}
 use Rattle.twkb_body.proofs.IdLoops.{IsIdLoop}
 use Rattle.twkb_body.proofs.rooms.take_lent.Given as goal
 
