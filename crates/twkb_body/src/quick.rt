@@ -65,6 +65,7 @@ fn take_sized_point(cursor: &mut Cursor) -> Option<usize>
     if (ahead.place() - after) as u64 != size {
         return None;
     }
+    ahead.go_on_from(after + size as usize);
     *cursor = ahead;
     Some(1)
 }

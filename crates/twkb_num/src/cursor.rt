@@ -111,6 +111,16 @@ impl<'a> Cursor<'a> {
         self.place = place;
     }
 
+    /// Goes on from the place where it is, as it is known from elsewhere. So what is read next needn't wait for what was read
+    /// last.
+    #[inline(always)]
+    pub fn go_on_from(&mut self, same: usize)
+        requires { same ≡ self.old.place }
+        ensures { self.new ≡ self.old }
+    {
+        self.place = same;
+    }
+
     /// Another cursor at the same place with the same count, to look ahead with. What it reads is counted if the caller
     /// goes on with it, and else forgotten.
     #[inline(always)]
