@@ -59,7 +59,6 @@ pub fn look_at_line(cursor: &mut Cursor, windows: &RawWindows) -> bool
     if ahead.place() != stop {
         return false;
     }
-    ahead.go_on_from(stop);
     *cursor = ahead;
     true
 }

@@ -32,10 +32,6 @@ pub fn look_at_point(cursor: &mut Cursor, windows: &RawWindows) -> Option<bool>
     let (xy, size) = read_point_head(&mut ahead)?;
     let stop = ahead.place().saturating_add(size as usize);
     let (x, y) = ahead.svarint_pair_to(stop)?;
-    if ahead.place() != stop {
-        return None;
-    }
-    ahead.go_on_from(stop);
     *cursor = ahead;
     Some(is_point_inside(windows, xy, x, y))
 }

@@ -74,8 +74,7 @@ impl<'a> Cursor<'a> {
         self.place
     }
 
-    /// What every cursor keeps. It does nothing: whoever calls it has a proof that knows from there on that the place is within
-    /// the bytes, and that each number fits its type.
+    /// Does nothing: a proof knows from here on that the place is within the bytes, and that each number fits its type.
     #[inline(always)]
     pub fn place_is_within(&self)
         ensures { IsSound self.now }
@@ -111,8 +110,7 @@ impl<'a> Cursor<'a> {
         self.place = place;
     }
 
-    /// Goes on from the place where it is, as it is known from elsewhere. So what is read next needn't wait for what was read
-    /// last.
+    /// Goes on from the place where it is, as it is known from elsewhere, so that no read waits for the one before.
     #[inline(always)]
     pub fn go_on_from(&mut self, same: usize)
         requires { same ≡ self.old.place }
@@ -121,8 +119,7 @@ impl<'a> Cursor<'a> {
         self.place = same;
     }
 
-    /// Another cursor at the same place with the same count, to look ahead with. What it reads is counted if the caller
-    /// goes on with it, and else forgotten.
+    /// Another cursor with the same reading, to look ahead with. What it reads is counted only if the caller goes on with it.
     #[inline(always)]
     pub fn ahead(&self) -> Cursor<'a>
         ensures { result ≡ self.now }
@@ -170,8 +167,7 @@ impl<'a> Cursor<'a> {
 
     /// The unsigned varint at the place, which it moves past (TWKB specification, "VarInt Encode").
     ///
-    /// A spelling may be longer than it has to be. After a fault the place is unmoved,
-    /// and the bytes looked at are counted.
+    /// A spelling may be longer than it has to be. After a fault the place is unmoved, and the bytes looked at are counted.
     #[inline(always)]
     pub fn uvarint(&mut self) -> Result<u64, NumFault>
         ensures ok { IfOk result (λ n. Spells (passed self.old self.new) n) }
@@ -199,8 +195,7 @@ impl<'a> Cursor<'a> {
         self.long_uvarint(u64::from(first % 128) + 128 * u64::from(second % 128))
     }
 
-    // The unsigned varint at the place, whose first two bytes go on, with `value` as the sum of their groups. It is inlined
-    // so that the cursor stays in registers.
+    // The varint whose first two bytes go on, and sum up to `value`. It is inlined, so that the cursor stays in registers.
     #[inline(always)]
     fn long_uvarint(&mut self, value: u64) -> Result<u64, NumFault>
         requires { IsBegunBy 2 (rest self.old) value }
@@ -312,8 +307,7 @@ impl<'a> Cursor<'a> {
         Some((pair.first, pair.second))
     }
 
-    /// The same, where eight bytes are left before `stop`, so that no byte from there on is looked at. It is for numbers of
-    /// which few are short, as those of boxes are.
+    /// The same, where eight bytes are left before `stop`: no byte from there on is looked at. For numbers of which few are short.
     #[inline(always)]
     pub fn svarint_pair_before(&mut self, stop: usize) -> Option<(i64, i64)>
         ensures some { IfSome result (λ pair. SpellsTwoSigned (passed self.old self.new) pair.0 pair.1) }

@@ -1,5 +1,5 @@
 -- Such a line has its first vertex inside, and is read to the end that its size names.
-use Rattle.std.proofs.Common.{◌≡◌, ◌+◌, ◌^◌, ◌<◌, IfSome, subst, ◌∙◌, arith}
+use Rattle.std.proofs.Common.{◌≡◌, ◌+◌, ◌^◌, ◌<◌, IfSome, subst, arith}
 use Rattle.std.proofs.lemmas.Int.{ints}
 use mir.Val.{to_z, of_z}
 use Rattle.std.specs.Int.{w8}
@@ -34,4 +34,4 @@ returns-clause-past c = λ g at e.
     let room : size.after + size.value < 2 ^ 64 = subst (λ o. IfSome {T = SizeField} o (λ s. s.after + s.value < 2 ^ 64)) h.2.size (hop_fits g 1 r _ h.0 c.place_is_within.ensures at h.1 h.3) in
     let first = IsMoved-after _ _ _ h.3 (IsMoved-after _ _ _ begins.first begins.on) in
     let all = IsMoved-after _ _ _ first c.in-Some-pass_points.ensures in
-    c.go_on_from.ensures ∙ line_past w g r _ _ h.0 _ _ c.place_is_within.ensures at h.1 h.3 line begins size _ h.2.size all (omega (arith, room, c.if-place-stop.false, c.place.ensures.value, c.saturating_add-stop.ensures))
+    line_past w g r _ _ h.0 _ _ c.place_is_within.ensures at h.1 h.3 line begins size _ h.2.size all (omega (arith, room, c.if-place-stop.false, c.place.ensures.value, c.saturating_add-stop.ensures))

@@ -25,4 +25,4 @@ returns-clause-past c = λ g at.
     let ok = rw c.ahead-ahead.ensures at c.in_ok-xy.ensures.ok in
     let moved = rw c.ahead-ahead.ensures at c.in_ok-xy.ensures.moved in
     let pair = c.in_ok-x.ensures in
-    c.go_on_from.ensures ∙ point_past c.args.windows.now g c.args.cursor.now _ _ ok.0 _ _ c.in_ok-x.x c.in_ok-x.y c.place_is_within.ensures at ok.1 moved ok.2 pair.some pair.moved pair.short.0 pair.short.1
+    point_past c.args.windows.now g c.args.cursor.now _ _ ok.0 _ _ c.in_ok-x.x c.in_ok-x.y c.place_is_within.ensures at ok.1 moved ok.2 pair.some pair.moved pair.short.0 pair.short.1
