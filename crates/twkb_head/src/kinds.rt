@@ -62,19 +62,25 @@ pub fn kind_at(byte: u8, depth: u8) -> Result<Kind, Why>
     }
 }
 
+/// The kinds by their codes, from 1 on. They are looked up, since the branches of a `match` are guessed wrong where kinds
+/// change from geometry to geometry.
+const KINDS: [Kind; 7] = [
+    Kind::Point,
+    Kind::LineString,
+    Kind::Polygon,
+    Kind::MultiPoint,
+    Kind::MultiLineString,
+    Kind::MultiPolygon,
+    Kind::GeometryCollection,
+];
+
 /// The kind that the low four bits of a type byte name; 0 and 8 to 15 name none.
 #[inline(always)]
 fn kind_of(byte: u8) -> Option<Kind>
     ensures { result ≡ kind_of_code (byte % 16) }
 {
     match byte % 16 {
-        1 => Some(Kind::Point),
-        2 => Some(Kind::LineString),
-        3 => Some(Kind::Polygon),
-        4 => Some(Kind::MultiPoint),
-        5 => Some(Kind::MultiLineString),
-        6 => Some(Kind::MultiPolygon),
-        7 => Some(Kind::GeometryCollection),
+        code @ 1..=7 => Some(KINDS[usize::from(code - 1)]),
         _ => None,
     }
 }
