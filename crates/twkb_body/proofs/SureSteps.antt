@@ -320,25 +320,25 @@ within_wider p inner outer c lies (above, below) =
     let high_units = times_le (10 ^ unsigned_abs (pos 7 -ℤ p)) (inner.minimum +ℤ inner.extent) (outer.minimum +ℤ outer.extent) lies.high in
     (omega (arith, ints, low_units, above), omega (arith, ints, high_units, below))
 
-both_wider : (p : Option ℕ) (inner outer : RawRange) (c : Option ℤ) → LiesIn inner outer → IsWithinBoth (option_map (λ q. span_at (pos q) (ends_of inner)) p) c → IsWithinBoth (option_map (λ q. span_at (pos q) (ends_of outer)) p) c
+both_wider : (p : Option ℕ) (inner outer : RawRange) (c : Option ℤ) → IfSome p (λ q. LiesIn inner outer) → IsWithinBoth (option_map (λ q. span_at (pos q) (ends_of inner)) p) c → IsWithinBoth (option_map (λ q. span_at (pos q) (ends_of outer)) p) c
 both_wider None inner outer c lies h = tt
 both_wider (Some q) inner outer None lies h = tt
 both_wider (Some q) inner outer (Some c) lies h = within_wider (pos q) inner outer c lies h
 
-m_wider : (z m : Option ℕ) (inner outer : RawBox) (c : Option ℤ) → LiesInAll inner outer → IsWithinBoth (option_map (λ q. span_at (pos q) (range_of (ranges_in inner) (m_axis z))) m) c
+m_wider : (z m : Option ℕ) (inner outer : RawBox) (c : Option ℤ) → LiesInAll z m inner outer → IsWithinBoth (option_map (λ q. span_at (pos q) (range_of (ranges_in inner) (m_axis z))) m) c
     → IsWithinBoth (option_map (λ q. span_at (pos q) (range_of (ranges_in outer) (m_axis z))) m) c
-m_wider None m inner outer c lies h = both_wider m inner.third outer.third c lies.third h
-m_wider (Some p) m inner outer c lies h = both_wider m inner.fourth outer.fourth c lies.fourth h
+m_wider None m inner outer c lies h = both_wider m inner.third outer.third c lies.m_in h
+m_wider (Some p) m inner outer c lies h = both_wider m inner.fourth outer.fourth c lies.m_in h
 
 -- what a box holds that lies in another, the other holds
-pub holds_wider : (xy : ℤ) (z m : Option ℕ) (inner outer : RawBox) → LiesInAll inner outer → (vs : List Vertex) → All (Holds (raw_bounds xy z m inner)) vs → All (Holds (raw_bounds xy z m outer)) vs
+pub holds_wider : (xy : ℤ) (z m : Option ℕ) (inner outer : RawBox) → LiesInAll z m inner outer → (vs : List Vertex) → All (Holds (raw_bounds xy z m inner)) vs → All (Holds (raw_bounds xy z m outer)) vs
 holds_wider xy z m inner outer lies [] all = All-nil (Holds (raw_bounds xy z m outer))
 holds_wider xy z m inner outer lies (v ∷ vs) all =
     let one = All-head (Holds (raw_bounds xy z m inner)) v vs all in
     All-cons (Holds (raw_bounds xy z m outer)) v vs (record {
       x = within_wider xy inner.x outer.x v.x lies.x one.x;
       y = within_wider xy inner.y outer.y v.y lies.y one.y;
-      z = both_wider z inner.third outer.third v.z lies.third one.z;
+      z = both_wider z inner.third outer.third v.z lies.z_in one.z;
       m = m_wider z m inner outer v.m lies one.m;
     }) (holds_wider xy z m inner outer lies vs (All-tail (Holds (raw_bounds xy z m inner)) v vs all))
 
@@ -354,7 +354,7 @@ option_same (Some m) (Some n) e = ap Some (eqb-true m n (not_false (m == n) e))
     not_false false e = absurd (cc (e))
 
 -- a frame in that above, at the precisions of its header
-pub frame_inside : (outer inner : Frame) (head : Head) → outer ≡ framed head outer.bounds → inner ≡ framed head inner.bounds → LiesInAll inner.bounds outer.bounds → IsFrameUnder (Some outer) head (Some inner) (Some inner)
+pub frame_inside : (outer inner : Frame) (head : Head) → outer ≡ framed head outer.bounds → inner ≡ framed head inner.bounds → LiesInAll head.z head.m inner.bounds outer.bounds → IsFrameUnder (Some outer) head (Some inner) (Some inner)
 frame_inside outer inner head same own lies = record {
   precisions = own;
   own_is = refl;

@@ -62,7 +62,8 @@ impl Boxed {
         requires flat { axes_with _head.now.z _head.now.m ≡ 2 }
         requires counted { trail.old.points ≤ cursor.old.place }
         ensures few { result ≤ most }
-        ensures run { IsRun (held_with (of_head _head.now)) 2 trail.old trail.new self.old self.new cursor.old cursor.new result }
+        ensures run { IsRun (held_with (of_head _head.now)) 2 trail.old trail.new self.old self.new
+            cursor.old cursor.new result }
     {
         if !is_near(trail.last[0]) || !is_near(trail.last[1]) {
             return 0;
@@ -103,7 +104,8 @@ impl Boxed {
         requires further { axes_with _head.now.z _head.now.m ≡ axes_by has_fourth }
         requires counted { trail.old.points ≤ cursor.old.place }
         ensures few { result ≤ most }
-        ensures run { IsRun (held_with (of_head _head.now)) (axes_by has_fourth) trail.old trail.new self.old self.new cursor.old cursor.new result }
+        ensures run { IsRun (held_with (of_head _head.now)) (axes_by has_fourth) trail.old trail.new self.old self.new
+            cursor.old cursor.new result }
     {
         let bounds = self.bounds;
         let last = Numbers::of(&trail.last);
@@ -153,7 +155,7 @@ fn is_near(number: i64) -> bool
 fn is_near_range(range: &RawRange) -> bool
     ensures { IsTrue result ↔ IsNearRange range.now }
 {
-    is_near(range.minimum) && 0 <= range.extent && range.extent <= NEAR
+    is_near(range.minimum) && range.extent.cast_unsigned() <= NEAR.cast_unsigned()
 }
 
 /// Whether a distance from a minimum lies within an extent: one comparison, since a negative number is a great one

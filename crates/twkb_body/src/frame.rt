@@ -1,5 +1,5 @@
 //! The box that the vertices of a geometry have to lie in: its own, or that of a geometry above.
-ghost use Rattle.std.specs.Prelude.{◌≡◌, ◌≤ℤ◌, ◌+ℤ◌, IfSome, IsTrue, option_map};
+ghost use Rattle.std.specs.Prelude.{◌≡◌, ◌≤ℤ◌, ◌+ℤ◌, None, IfSome, IsTrue, option_map};
 ghost use Rattle.twkb_body.specs.Devices.Sure.{framed, IsFrameUnder, LiesIn, LiesInAll};
 
 use twkb_head::{Head, RawBox, RawRange};
@@ -30,7 +30,7 @@ impl Frame {
         match own {
             None => Some(*above),
             Some(inner) => {
-                if lies_in_all(&inner.bounds, &frame.bounds) {
+                if lies_in_all(head, &inner.bounds, &frame.bounds) {
                     Some(own)
                 } else {
                     None
@@ -56,15 +56,30 @@ impl Frame {
     }
 }
 
-/// Whether one box lies in another, of the same axes. Where an axis isn't there, both have zeros.
+/// Whether one box lies in another, in each axis that the header has.
 #[inline(always)]
-fn lies_in_all(inner: &RawBox, outer: &RawBox) -> bool
-    ensures { IsTrue result → LiesInAll inner.now outer.now }
+fn lies_in_all(head: &Head, inner: &RawBox, outer: &RawBox) -> bool
+    ensures { IsTrue result → LiesInAll head.now.z head.now.m inner.now outer.now }
 {
     lies_in(&inner.x, &outer.x)
         && lies_in(&inner.y, &outer.y)
-        && lies_in(&inner.third, &outer.third)
-        && lies_in(&inner.fourth, &outer.fourth)
+        && (is_flat(head) || lies_in_further(inner, outer))
+}
+
+/// Whether there are X and Y alone.
+#[inline(always)]
+fn is_flat(head: &Head) -> bool
+    ensures { IsTrue result → (head.now.z ≡ None) × (head.now.m ≡ None) }
+{
+    head.z.is_none() && head.m.is_none()
+}
+
+/// Whether a box lies in another in the axes behind X and Y. Where one isn't there, both have zeros.
+#[inline(always)]
+fn lies_in_further(inner: &RawBox, outer: &RawBox) -> bool
+    ensures { IsTrue result → LiesIn inner.now.third outer.now.third × LiesIn inner.now.fourth outer.now.fourth }
+{
+    lies_in(&inner.third, &outer.third) && lies_in(&inner.fourth, &outer.fourth)
 }
 
 /// Whether one range lies in another.

@@ -66,12 +66,17 @@ pub record LiesIn (inner outer : RawRange) : Type 0 where
   pub low : outer.minimum ≤ℤ inner.minimum
   pub high : (inner.minimum +ℤ inner.extent) ≤ℤ (outer.minimum +ℤ outer.extent)
 
--- a box lies in another
-pub record LiesInAll (inner outer : RawBox) : Type 0 where
+-- the range of M, which stands behind that of Z, if there is one
+abbrev pub m_range : Option ℕ → RawBox → RawRange
+m_range None box = box.third
+m_range (Some z) box = box.fourth
+
+-- a box lies in another, in X, in Y, and in Z and M where they have these precisions
+pub record LiesInAll (z m : Option ℕ) (inner outer : RawBox) : Type 0 where
   pub x : LiesIn inner.x outer.x
   pub y : LiesIn inner.y outer.y
-  pub third : LiesIn inner.third outer.third
-  pub fourth : LiesIn inner.fourth outer.fourth
+  pub z_in : IfSome z (λ p. LiesIn inner.third outer.third)
+  pub m_in : IfSome m (λ p. LiesIn (m_range z inner) (m_range z outer))
 
 -- a box at the precisions of a header
 abbrev pub framed : Head → RawBox → Frame
