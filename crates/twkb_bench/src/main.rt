@@ -1,10 +1,11 @@
-//! Times scans of a certified layer, for comparison with other programs.
+//! Times the audit of a layer and its scans, for comparison with other programs.
 //!
 //! `twkb_bench FILE REPEATS [WINDOW..] [build [WINDOW..]]` reads FILE whole and certifies it. It scans the layer for each
 //! window, hopping over what misses it; at the word `build` it builds a directory, with which it scans for the windows
-//! behind that. A line for each says how many blobs were found, how many bytes one scan read, and the best time of
-//! REPEATS. With 0 for REPEATS each is done once and isn't timed, so that two runs print the same. Words that ask for
-//! nothing end it with status 2, and what fails with status 1.
+//! behind that. A line for the audit says how many blobs and vertices there are, one for each scan how many blobs were
+//! found and how many bytes one scan read, and each the best time of REPEATS. With 0 for REPEATS each is done once and
+//! isn't timed, so that two runs print the same. Words that ask for nothing end it with status 2, and what fails with
+//! status 1.
 #![tactic(auto)]
 
 mod request;
@@ -15,8 +16,8 @@ use std::alloc::AllocError;
 use std::process::ExitCode;
 use std::{env, fs, io};
 use thiserror::Error;
-use timed::{time_build, time_hops, time_lookups};
-use twkb_layer::{Cursor, Refusal, certify};
+use timed::{time_audit, time_build, time_hops, time_lookups};
+use twkb_layer::Refusal;
 
 const USAGE: &str = "usage: twkb_bench FILE REPEATS [WINDOW..] [build [WINDOW..]]";
 
@@ -57,10 +58,10 @@ fn run(rt: &HostRuntime) -> Result<bool, Failure> {
     }
 }
 
-/// Certifies the file, and times what is asked for.
+/// Certifies the file, and times that and what is asked for.
 fn measure(rt: &HostRuntime, request: &Request) -> Result<(), Failure> {
     let bytes = fs::read(rt, request.path)?;
-    let mut layer = certify(rt.alloc(), Cursor::new(bytes.as_slice()))?;
+    let mut layer = time_audit(rt, bytes.as_slice(), request.repeats)?;
     time_hops(rt, &mut layer, &request.hops, request.repeats)?;
     if let Some(windows) = &request.lookups {
         let directory = time_build(rt, &mut layer, request.repeats)?;

@@ -2,11 +2,12 @@
 ghost use Rattle.std.specs.Prelude.{◌≡◌, IfOk};
 ghost use Rattle.twkb_layer.specs.Directory.{IsDirectoryOf};
 
+use crate::Failure;
 use crate::request::Sought;
 use std::alloc::Global;
 use std::time::{Duration, Instant};
 use std::{fmt, io};
-use twkb_layer::{Certified, Directory, Window};
+use twkb_layer::{Certified, Cursor, Directory, Window, certify};
 
 /// The best time of several.
 #[derive(Clone, Copy)]
@@ -33,6 +34,30 @@ impl fmt::Display for Best {
             None => Ok(()),
         }
     }
+}
+
+/// Certifies a layer, and gives it.
+pub fn time_audit<'a>(
+    rt: &HostRuntime,
+    bytes: &'a [u8],
+    repeats: u32,
+) -> Result<Certified<'a>, Failure> {
+    let best = best_audit(rt, bytes, repeats)?;
+    let layer = certify(rt.alloc(), Cursor::new(bytes))?;
+    let (blobs, vertices) = (layer.blobs(), layer.vertices());
+    println!(rt; "check blobs={blobs} vertices={vertices}{best}")?;
+    Ok(layer)
+}
+
+fn best_audit(rt: &HostRuntime, bytes: &[u8], repeats: u32) -> Result<Best, Failure> {
+    let mut best = Best(None);
+    for _ in 0..repeats {
+        let start = Instant::now(rt)?;
+        let layer = certify(rt.alloc(), Cursor::new(bytes))?;
+        best.note(start, rt)?;
+        drop(layer);
+    }
+    Ok(best)
 }
 
 /// Scans for each window by hops.
