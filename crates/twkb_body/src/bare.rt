@@ -21,7 +21,8 @@ const MOST: u64 = 1 << 14;
 pub fn pass_parts(cursor: &mut Cursor, kind: Kind, axes: usize, count: u64) -> Option<u64>
     requires some { 1 ≤ axes }
     requires few { axes ≤ 4 }
-    ensures { IfSome result (λ points. Leads axes (λ s. many_at count ring_sums (part_at kind axes) s) points_of cursor.old cursor.new 0 points) }
+    ensures { IfSome result (λ points. Leads axes (λ s. many_at count ring_sums (part_at kind axes) s) points_of
+        cursor.old cursor.new 0 points) }
 {
     let mut points = 0;
     for _ in 0..count {
@@ -36,7 +37,8 @@ fn pass_part(cursor: &mut Cursor, kind: Kind, axes: usize, before: u64) -> Optio
     requires some { 1 ≤ axes }
     requires few { axes ≤ 4 }
     requires before { before ≤ 2 ^ 14 }
-    ensures { IfSome result (λ after. Leads axes (part_at kind axes) (λ part. flat_map (λ ring. ring) part) cursor.old cursor.new before after) }
+    ensures { IfSome result (λ after. Leads axes (part_at kind axes) (λ part. flat_map (λ ring. ring) part)
+        cursor.old cursor.new before after) }
 {
     match kind {
         Kind::Point | Kind::MultiPoint => pass_points(cursor, axes, 1, before),
@@ -52,7 +54,8 @@ fn pass_polygon(cursor: &mut Cursor, axes: usize, before: u64) -> Option<u64>
     requires some { 1 ≤ axes }
     requires few { axes ≤ 4 }
     requires before { before ≤ 2 ^ 14 }
-    ensures { IfSome result (λ after. Leads axes (polygon_at axes) (λ polygon. flat_map (λ ring. ring) polygon) cursor.old cursor.new before after) }
+    ensures { IfSome result (λ after. Leads axes (polygon_at axes) (λ polygon. flat_map (λ ring. ring) polygon)
+        cursor.old cursor.new before after) }
 {
     let Ok(count) = take_number(cursor) else {
         return None;
@@ -84,7 +87,8 @@ fn pass_points(cursor: &mut Cursor, axes: usize, count: u64, before: u64) -> Opt
     requires some { 1 ≤ axes }
     requires few { axes ≤ 4 }
     requires before { before ≤ 2 ^ 14 }
-    ensures { IfSome result (λ after. Leads axes (λ s. many_at count add (point_at axes) s) (λ points. points) cursor.old cursor.new before after) }
+    ensures { IfSome result (λ after. Leads axes (λ s. many_at count add (point_at axes) s) (λ points. points)
+        cursor.old cursor.new before after) }
 {
     cursor.place_is_within();
     if MOST - before < count {

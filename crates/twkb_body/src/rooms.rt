@@ -16,7 +16,8 @@ use twkb_num::Cursor;
 pub trait IdRoom {
     /// The ids of a list, which are so many: whether they are distinct.
     fn take_ids(&mut self, cursor: &mut Cursor, count: u64) -> Result<bool, Stopped>
-        ensures { ReadsOrStops (signeds_at count cursor.old) (λ ids distinct. IsTrue distinct ↔ AllPairs (λ a b. a ≢ b) ids)
+        ensures { ReadsOrStops (signeds_at count cursor.old)
+            (λ ids distinct. IsTrue distinct ↔ AllPairs (λ a b. a ≢ b) ids)
             (HasManyIds count (rest cursor.old)) cursor.old result cursor.new };
 }
 

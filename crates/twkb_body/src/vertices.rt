@@ -71,7 +71,8 @@ fn show_flat_run<V: Visit>(
     requires flat { axes_with head.now.z head.now.m ≡ 2 }
     requires counted { trail.old.points ≤ cursor.old.place }
     ensures few { result ≤ most }
-    ensures run { IsRun (shown V.step (of_head head.now)) 2 trail.old trail.new (V.state visitor.old) (V.state visitor.new) cursor.old cursor.new result }
+    ensures run { IsRun (shown V.step (of_head head.now)) 2 trail.old trail.new
+        (V.state visitor.old) (V.state visitor.new) cursor.old cursor.new result }
 {
     let mut x = trail.last[0];
     let mut y = trail.last[1];

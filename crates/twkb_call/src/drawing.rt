@@ -78,7 +78,8 @@ impl<'a> Visit for Pen<'a> {
 pub fn draw(layer: &Layer, room: &mut [Point]) -> usize
     requires { IsCounted layer.now.bytes.now layer.now.blobs layer.now.vertices }
     ensures answer { OfLayer layer.now.bytes.now (λ trees. result ≡ vertex_count trees) }
-    ensures room { OfLayer layer.now.bytes.now (λ trees. room.new ≡ filled (map point_of (all_vertices trees)) room.old) }
+    ensures room { OfLayer layer.now.bytes.now (λ trees.
+        room.new ≡ filled (map point_of (all_vertices trees)) room.old) }
 {
     let mut certified = layer.certified();
     let mut pen = Pen { room, drawn: 0 };

@@ -107,7 +107,8 @@ fn take_begun_fields(
 /// at most. Else as [`read_range_before`].
 #[inline(always)]
 pub fn pass_range_before(cursor: &mut Cursor, stop: usize) -> Option<()>
-    ensures spelled { OnSome result ((range : RawRange) × SpellsTwoSigned (passed cursor.old cursor.new) range.minimum range.extent) }
+    ensures spelled { OnSome result ((range : RawRange)
+        × SpellsTwoSigned (passed cursor.old cursor.new) range.minimum range.extent) }
     ensures moved { OnSome result (IsMoved cursor.old cursor.new) }
 {
     match cursor.pass_pair_before(stop) {
@@ -123,7 +124,8 @@ pub fn pass_range_before(cursor: &mut Cursor, stop: usize) -> Option<()>
 /// Else byte by byte, and `None` where a number is farther than 2^61 from zero.
 #[inline(always)]
 pub fn read_range_before(cursor: &mut Cursor, stop: usize) -> Option<RawRange>
-    ensures spelled { IfSome result (λ range. SpellsTwoSigned (passed cursor.old cursor.new) range.minimum range.extent) }
+    ensures spelled { IfSome result (λ range.
+        SpellsTwoSigned (passed cursor.old cursor.new) range.minimum range.extent) }
     ensures moved { OnSome result (IsMoved cursor.old cursor.new) }
     ensures near { IfSome result IsNear }
 {
@@ -142,7 +144,8 @@ pub fn read_range_before(cursor: &mut Cursor, stop: usize) -> Option<RawRange>
 // It isn't inlined, and is given a cursor of its own: so the cursor of the others stays in registers, and they are inlined.
 #[inline(never)]
 fn read_slow_range(cursor: &mut Cursor) -> Option<RawRange>
-    ensures spelled { IfSome result (λ range. SpellsTwoSigned (passed cursor.old cursor.new) range.minimum range.extent) }
+    ensures spelled { IfSome result (λ range.
+        SpellsTwoSigned (passed cursor.old cursor.new) range.minimum range.extent) }
     ensures moved { OnSome result (IsMoved cursor.old cursor.new) }
     ensures near { IfSome result IsNear }
 {

@@ -53,7 +53,8 @@ pub struct RawHead {
 pub fn read_raw_head(cursor: &mut Cursor, depth: u8) -> Option<RawHead>
     requires shallowest { 1 ≤ depth }
     requires deepest { depth ≤ deepest }
-    ensures ok { IfSome result (λ raw. IsHeadAt (whole_head raw) depth cursor.old.place (passed cursor.old cursor.new)) }
+    ensures ok { IfSome result (λ raw.
+        IsHeadAt (whole_head raw) depth cursor.old.place (passed cursor.old cursor.new)) }
     ensures moved { OnSome result (IsMoved cursor.old cursor.new) }
     ensures xy { IfSome result (λ raw. IsPrecision raw.head.xy) }
     ensures z_high { IfSome result (λ raw. IfSome raw.head.z (λ p. p ≤ 7)) }
@@ -72,7 +73,8 @@ pub fn read_raw_head(cursor: &mut Cursor, depth: u8) -> Option<RawHead>
 pub fn read_flat_head(cursor: &mut Cursor, depth: u8) -> Option<RawHead>
     requires shallowest { 1 ≤ depth }
     requires deepest { depth ≤ deepest }
-    ensures ok { IfSome result (λ flat. IsHeadAt (whole_head flat) depth cursor.old.place (passed cursor.old cursor.new)) }
+    ensures ok { IfSome result (λ flat.
+        IsHeadAt (whole_head flat) depth cursor.old.place (passed cursor.old cursor.new)) }
     ensures moved { OnSome result (IsMoved cursor.old cursor.new) }
     ensures none { IfNone result (cursor.new ≡ cursor.old) }
     ensures xy { IfSome result (λ flat. IsPrecision flat.head.xy) }
@@ -90,7 +92,8 @@ pub fn read_flat_head(cursor: &mut Cursor, depth: u8) -> Option<RawHead>
 /// `None`, and the cursor is as it was.
 #[inline(always)]
 pub fn read_sized_point_head(cursor: &mut Cursor) -> Option<u64>
-    ensures ok { IfSome result (λ size. (head : Head) × IsHeadAt head 1 cursor.old.place (passed cursor.old cursor.new) × IsSizedPoint head size cursor.new.place) }
+    ensures ok { IfSome result (λ size. (head : Head)
+        × IsHeadAt head 1 cursor.old.place (passed cursor.old cursor.new) × IsSizedPoint head size cursor.new.place) }
     ensures moved { OnSome result (IsMoved cursor.old cursor.new) }
     ensures none { IfNone result (cursor.new ≡ cursor.old) }
 {
@@ -101,7 +104,9 @@ pub fn read_sized_point_head(cursor: &mut Cursor) -> Option<u64>
 /// The precision of X and Y and the size in such a header.
 #[inline(always)]
 pub fn read_point_head(cursor: &mut Cursor) -> Option<(i8, u64)>
-    ensures ok { IfSome result (λ fields. (head : Head) × IsHeadAt head 1 cursor.old.place (passed cursor.old cursor.new) × IsSizedPoint head fields.1 cursor.new.place × (head.xy ≡ fields.0)) }
+    ensures ok { IfSome result (λ fields. (head : Head)
+        × IsHeadAt head 1 cursor.old.place (passed cursor.old cursor.new)
+        × IsSizedPoint head fields.1 cursor.new.place × (head.xy ≡ fields.0)) }
     ensures moved { OnSome result (IsMoved cursor.old cursor.new) }
     ensures none { IfNone result (cursor.new ≡ cursor.old) }
     ensures xy { IfSome result (λ fields. IsPrecision fields.0) }
@@ -117,7 +122,8 @@ pub fn read_point_head(cursor: &mut Cursor) -> Option<(i8, u64)>
 /// A cursor behind the header at the place, if it is that of a line of X and Y with neither a size nor a box.
 #[inline(always)]
 pub fn behind_bare_line_head<'a>(cursor: &Cursor<'a>) -> Option<Cursor<'a>>
-    ensures ok { IfSome result (λ behind. (head : Head) × IsHeadAt head 1 cursor.now.place (passed cursor.now behind) × IsBareLine head) }
+    ensures ok { IfSome result (λ behind. (head : Head)
+        × IsHeadAt head 1 cursor.now.place (passed cursor.now behind) × IsBareLine head) }
     ensures moved { IfSome result (λ behind. IsMoved cursor.now behind) }
 {
     let word = cursor.word()?;
@@ -235,7 +241,8 @@ fn take_raw_box(
     has_m: bool,
 ) -> Option<Option<RawBox>>
     ensures { (xy : ℤ) (z m : Option ℕ) → is_some z ≡ has_z → is_some m ≡ has_m
-        → IfSome result (λ bounds. optional_at announced (bounds_from xy z m) cursor.old ≡ (Ok (option_map (raw_bounds xy z m) bounds), cursor.new)) }
+        → IfSome result (λ bounds. optional_at announced (bounds_from xy z m) cursor.old
+        ≡ (Ok (option_map (raw_bounds xy z m) bounds), cursor.new)) }
 {
     if announced {
         let x = take_raw_range(cursor)?;
@@ -272,7 +279,8 @@ fn take_range_if(cursor: &mut Cursor, is_there: bool) -> Option<RawRange>
 // It isn't inlined: few boxes have these axes, and a header that is smaller is inlined into each function that reads one.
 #[inline(never)]
 fn take_further_range(cursor: &mut Cursor) -> Option<RawRange>
-    ensures { IfSome result (λ range. range_from cursor.old ≡ (Ok (range.minimum, range.minimum +ℤ range.extent), cursor.new)) }
+    ensures { IfSome result (λ range.
+        range_from cursor.old ≡ (Ok (range.minimum, range.minimum +ℤ range.extent), cursor.new)) }
 {
     take_raw_range(cursor)
 }
@@ -280,7 +288,8 @@ fn take_further_range(cursor: &mut Cursor) -> Option<RawRange>
 /// Minimum and extent of an axis, from one word of eight bytes where they are short.
 #[inline(always)]
 fn take_raw_range(cursor: &mut Cursor) -> Option<RawRange>
-    ensures { IfSome result (λ range. range_from cursor.old ≡ (Ok (range.minimum, range.minimum +ℤ range.extent), cursor.new)) }
+    ensures { IfSome result (λ range.
+        range_from cursor.old ≡ (Ok (range.minimum, range.minimum +ℤ range.extent), cursor.new)) }
 {
     match cursor.svarint_pair() {
         Some((minimum, extent)) => Some(RawRange { minimum, extent }),
@@ -292,7 +301,8 @@ fn take_raw_range(cursor: &mut Cursor) -> Option<RawRange>
 #[inline(always)]
 #[tactic(auto, unfolding(crate::specs::Devices::HeadReader::range_from))]
 pub fn take_long_range(cursor: &mut Cursor) -> Option<RawRange>
-    ensures { IfSome result (λ range. range_from cursor.old ≡ (Ok (range.minimum, range.minimum +ℤ range.extent), cursor.new)) }
+    ensures { IfSome result (λ range.
+        range_from cursor.old ≡ (Ok (range.minimum, range.minimum +ℤ range.extent), cursor.new)) }
 {
     let Ok(minimum) = take_signed(cursor) else {
         return None;

@@ -20,12 +20,14 @@ use twkb_num::Cursor;
 pub fn look_at_point(cursor: &mut Cursor, windows: &RawWindows) -> Option<bool>
     requires { (g : Geometry) × StandsAt g 1 cursor.old.bytes cursor.old.place }
     ensures stays { IfNone result (cursor.new ≡ cursor.old) }
-    ensures found { (g : Geometry) → StandsAt g 1 cursor.old.bytes cursor.old.place → IfSome result (λ inside. inside ≡ list_any (is_inside windows.now) (vertices g)) }
-    ensures past { (g : Geometry) → StandsAt g 1 cursor.old.bytes cursor.old.place → OnSome result (cursor.new ≡ record {
-      bytes = cursor.old.bytes;
-      place = cursor.old.place + size_of g;
-      count = added cursor.old.count (cost windows.now g);
-    }) }
+    ensures found { (g : Geometry) → StandsAt g 1 cursor.old.bytes cursor.old.place
+        → IfSome result (λ inside. inside ≡ list_any (is_inside windows.now) (vertices g)) }
+    ensures past { (g : Geometry) → StandsAt g 1 cursor.old.bytes cursor.old.place
+        → OnSome result (cursor.new ≡ record {
+          bytes = cursor.old.bytes;
+          place = cursor.old.place + size_of g;
+          count = added cursor.old.count (cost windows.now g);
+        }) }
 {
     cursor.place_is_within();
     let mut ahead = cursor.ahead();

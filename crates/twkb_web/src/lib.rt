@@ -37,7 +37,8 @@ pub extern "C" fn twkb_certify(bytes: &[u8], ids: &mut [i64]) -> Verdict
 pub extern "C" fn twkb_certify_tight(bytes: &[u8], ids: &mut [i64]) -> Verdict
     ensures says { Says IsTightlyTrue result bytes.now }
     ensures tight { result.answer ≡ 0 → (trees : List Geometry) × IsTightLayer trees bytes.now }
-    ensures complete { (trees : List Geometry) → IsTightLayer trees bytes.now → (result.answer ≡ 0) ⊎ (result.answer ≡ 2) }
+    ensures complete { (trees : List Geometry) → IsTightLayer trees bytes.now
+        → (result.answer ≡ 0) ⊎ (result.answer ≡ 2) }
 {
     twkb_call::certify_tight_lent(bytes, ids)
 }
@@ -57,7 +58,8 @@ pub extern "C" fn twkb_list(layer: &Layer, room: &mut [Row]) -> usize
 #[unsafe(no_mangle)]
 pub extern "C" fn twkb_window_parse(text: &[u8], window: &mut Window) -> u32
     ensures answers { result ≤ 2 }
-    ensures window { result ≡ 0 → IsWindowText text.now (ranges_of window.new) × (in_order (ranges_of window.new) ≡ true) }
+    ensures window { result ≡ 0 → IsWindowText text.now (ranges_of window.new)
+        × (in_order (ranges_of window.new) ≡ true) }
     ensures order { result ≡ 2 → (w : Bounds) × IsWindowText text.now w × (in_order w ≡ false) }
     ensures exact { (w : Bounds) → IsWindowText text.now w → result ≡ (if in_order w then 0 else 2) }
     ensures kept { result ≢ 0 → window.new ≡ window.old }
@@ -83,7 +85,8 @@ pub extern "C" fn twkb_scan(layer: &Layer, window: &Window, room: &mut [Hit]) ->
 pub extern "C" fn twkb_draw(layer: &Layer, room: &mut [Point]) -> usize
     requires { IsCounted layer.now.bytes.now layer.now.blobs layer.now.vertices }
     ensures answer { OfLayer layer.now.bytes.now (λ trees. result ≡ vertex_count trees) }
-    ensures room { OfLayer layer.now.bytes.now (λ trees. room.new ≡ filled (map point_of (all_vertices trees)) room.old) }
+    ensures room { OfLayer layer.now.bytes.now (λ trees.
+        room.new ≡ filled (map point_of (all_vertices trees)) room.old) }
 {
     twkb_call::draw(layer, room)
 }

@@ -163,7 +163,8 @@ pub fn take_parts_of<P: Points>(
 ) -> Option<usize>
     requires precisions { HasPrecisions head.now }
     requires axes { axes ≡ axes_with head.now.z head.now.m }
-    ensures { IfSome result (AddsParts (P.step (of_head head.now)) head.now.kind head.now.ids axes cursor.old cursor.new (P.state points.old) (P.state points.new)) }
+    ensures { IfSome result (AddsParts (P.step (of_head head.now)) head.now.kind head.now.ids axes
+        cursor.old cursor.new (P.state points.old) (P.state points.new)) }
 {
     let count = take_sure_count(cursor, head.kind, head.ids)?;
     let mut trail = Trail::new();
@@ -176,7 +177,8 @@ pub fn take_parts_of<P: Points>(
 /// How many parts there are: one, or the count of a list whose ids rise, if it has ids.
 #[inline(always)]
 fn take_sure_count(cursor: &mut Cursor, kind: Kind, has_ids: bool) -> Option<u64>
-    ensures { IfSome result (λ count. (list : ListHead) × (count_at (is_multi kind) has_ids cursor.old ≡ (Ok list, cursor.new))
+    ensures { IfSome result (λ count. (list : ListHead)
+        × (count_at (is_multi kind) has_ids cursor.old ≡ (Ok list, cursor.new))
         × IsListFound cursor.old cursor.new list (record { count = count; ids = None })) }
 {
     if kind.is_multi() {

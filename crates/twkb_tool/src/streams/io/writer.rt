@@ -32,7 +32,13 @@ impl<W: Write> ToWriter<W> {
 impl<W: Write> Sink for ToWriter<W> {
     ghost use Rattle.std.specs.Prelude.{false, []};
 
-    ghost state = { λ s. record { tells = false; bytes = []; moved = s.moved; failed = s.failed; flushing = s.flushing } };
+    ghost state = { λ s. record {
+      tells = false;
+      bytes = [];
+      moved = s.moved;
+      failed = s.failed;
+      flushing = s.flushing;
+    } };
 
     fn put(&mut self, piece: &[u8]) -> Result<usize, SinkFailed> {
         self.flushing = false;
