@@ -16,7 +16,7 @@ import tempfile
 
 import layers
 import programs
-from programs import Best, field, the_same
+from programs import Times, field, the_same
 
 BINDINGS = os.path.join(layers.TOP, "bindings")
 LIBRARY = os.path.join(layers.TOP, "build", "bindings")
@@ -55,16 +55,16 @@ def note(bests, language, command):
         title, time, answer = re.fullmatch(r"(.*): (\S+) [mn]s,?(.*)", line).groups()
         title = title.replace(" into a room", "")
         # What a step finds is compared where each language says it.
-        bests.setdefault((title, language), Best()).note(float(time), answer if title in ("certify", *SCANS) else "")
+        bests.setdefault((title, language), Times()).note(float(time), answer if title in ("certify", *SCANS) else "")
 
 
 def note_program(bests, tool, layer):
     """The same by whole runs of the program."""
     (line,), seconds, _ = programs.run([tool, "check", layer])
     blobs, vertices = field(line, "blobs"), field(line, "vertices")
-    bests.setdefault(("certify", "the program"), Best()).note(1000 * seconds, f" {blobs} blobs, {vertices} vertices")
+    bests.setdefault(("certify", "the program"), Times()).note(1000 * seconds, f" {blobs} blobs, {vertices} vertices")
     _, seconds, _ = programs.run([tool, "list", layer])
-    bests.setdefault(("list", "the program"), Best()).note(1000 * seconds, "")
+    bests.setdefault(("list", "the program"), Times()).note(1000 * seconds, "")
     hits = read = milliseconds = 0
     windows = [tile(number) for number in range(WINDOWS)]
     for first in range(0, WINDOWS, AT_ONCE):
@@ -73,12 +73,12 @@ def note_program(bests, tool, layer):
         hits += sum(int(field(line, "hits")) for line in ends)
         read += sum(int(field(line, "read")) for line in ends)
         milliseconds += 1000 * seconds
-    bests.setdefault((SCANS[1], "the program"), Best()).note(milliseconds, f" {hits} hits, {read} bytes read")
+    bests.setdefault((SCANS[1], "the program"), Times()).note(milliseconds, f" {hits} hits, {read} bytes read")
 
 
 def row(title, kind, unit, bests):
     """A row of the table: times, and ratios over C."""
-    times = [bests[title, language].time if (title, language) in bests else None for language in LANGUAGES]
+    times = [bests[title, language].best if (title, language) in bests else None for language in LANGUAGES]
     shown = ["" if time is None else f"{time:,.1f}" for time in times]
     ratios = ["" if time is None else f"{time / times[0]:.2f}" for time in times[1:]]
     print("| " + " | ".join([title, kind, unit, *shown, *ratios]) + " |")
@@ -99,11 +99,11 @@ def main():
                     note(bests, language, [*command, layer])
                 note_program(bests, tool, layer)
             for step in STEPS:
-                the_same(*(best for (title, _), best in bests.items() if title == step))
+                the_same(*(times for (title, _), times in bests.items() if title == step))
                 row(step, kind, "ms", bests)
             os.remove(layer)
-            for key, best in bests.items():
-                calls.setdefault(key, Best()).note(best.time, "")
+            for key, times in bests.items():
+                calls.setdefault(key, Times()).note(times.best, "")
         for step in CALLS:
             row(step, "", "ns", calls)
 

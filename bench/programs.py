@@ -2,6 +2,7 @@
 import os
 import re
 import shutil
+import statistics
 import subprocess
 import sys
 
@@ -48,16 +49,24 @@ def one_more(command, repeats):
     return more - fewer
 
 
-class Best:
-    """The best of the times of a step, in milliseconds, and its answers, which must all be one."""
+class Times:
+    """What a step took in each round, in milliseconds, and its answers, which must all be one."""
 
     def __init__(self):
-        self.time = float("inf")
+        self.taken = []
         self.answers = set()
 
     def note(self, milliseconds, answer):
-        self.time = min(self.time, milliseconds)
+        self.taken.append(milliseconds)
         self.answers.add(answer)
+
+    @property
+    def best(self):
+        return min(self.taken)
+
+    def over(self, other):
+        """The median of the ratios, round by round: what else the machine does in a round, it does to both."""
+        return statistics.median(ours / its for ours, its in zip(self.taken, other.taken, strict=True))
 
 
 def the_same(*steps):

@@ -3,13 +3,13 @@
 
 usage: bench/run.py TOOL SCANNER [RUNS]
 
-TOOL is twkb_tool, whose `check` is timed as whole runs less runs on the same bytes with a first one that no blob
-begins with: these read the file and refuse it. SCANNER is twkb_bench, which times scans itself. They are compared with
-programs in plain Rust, std only: fast/ is the fastest that we know how to write, without SIMD; of the two called plain,
-plain.rs checks as one would write it at first, and hops.rs scans with all inlined. All take turns, and of each the best
-time of RUNS is kept. Times are of 40 MB, and instructions, which valgrind counts, of 4 MB: of whole processes for
-`check`, of one scan alone for the others. Where two answers differ, the run fails. A plot of the times over the fastest
-program's goes to docs/bench.svg.
+SCANNER is twkb_bench, which times audits and scans within its process. TOOL is twkb_tool, of which whole runs are
+timed, and runs on the same bytes with a first one that no blob begins with: these read the file and refuse it. They are
+compared with programs in plain Rust, std only: fast/ is the fastest that we know how to write, without SIMD; of the two
+called plain, plain.rs checks as one would write it at first, and hops.rs scans with all inlined. All take turns for
+RUNS rounds. Of each the best time is shown; ratios of times are medians of those of the rounds. Times are of 40 MB, and
+instructions, which valgrind counts, of 4 MB, of one audit or scan alone. Where two answers differ, the run fails. A
+plot of the times over the fastest program's goes to docs/bench.svg.
 """
 import os
 import sys
@@ -19,7 +19,7 @@ import layers
 import plots
 import programs
 import symbols
-from programs import Best, field, instructions, one_more, the_same
+from programs import Times, field, one_more, the_same
 
 TIMED, COUNTED = 40_000_000, 4_000_000
 ONE_EUROPE, ONE_INDIES = "x=10..30,y=35..45", "x=100..140,y=-10..10"
@@ -51,10 +51,19 @@ class Programs:
         self.hops = programs.built(folder, "hops", "hops.rs")
 
     def checks(self, layer):
+        """Whole runs."""
         return {
             "ours": [self.tool, "check", layer],
             "fast": [self.fast, "check", layer],
             "plain": [self.plain, layer],
+        }
+
+    def audits(self, layer, repeats):
+        """The same, repeated within the process."""
+        return {
+            "ours": [self.scanner, layer, repeats],
+            "fast": [self.fast, "check", layer, repeats],
+            "plain": [self.plain, layer, repeats],
         }
 
     def scans(self, layer, window, repeats):
@@ -65,37 +74,57 @@ class Programs:
         }
 
 
-def note_checks(commands, bests, memories):
+def note_audits(found, layer, rounds):
+    """One round of the audit by each program, the best of three repeats."""
+    for name, command in found.audits(layer, "3").items():
+        (line,), _, _ = programs.run(command)
+        answer = field(line, "blobs"), field(line, "vertices")
+        rounds.setdefault(name, Times()).note(int(field(line, "nanoseconds")) / 1e6, answer)
+
+
+def note_runs(commands, rounds, memories):
+    """One round of whole runs."""
     for name, command in commands.items():
         (line, *_), seconds, kilobytes = programs.run(command)
-        bests.setdefault(name, Best()).note(1000 * seconds, line.split(" nanoseconds=")[0])
+        rounds.setdefault(name, Times()).note(1000 * seconds, line.split(" nanoseconds=")[0])
         memories[name] = max(memories.get(name, 0), kilobytes / 1024)
 
 
-def note_scans(found, layer, bests):
+def note_scans(found, layer, rounds):
     """One round of each scan by each program."""
     windows = list(STEPS.values())
-    lines, _, _ = programs.run([found.scanner, layer, "2", *windows, "build", NOTHING])
+    (_, *lines), _, _ = programs.run([found.scanner, layer, "2", *windows, "build", NOTHING])
     for step, line in zip([*STEPS, BUILD, LOOKUP], lines, strict=True):
         answer = "built" if step == BUILD else field(line, "found")
-        bests.setdefault((step, "ours"), Best()).note(int(field(line, "nanoseconds")) / 1e6, answer)
+        rounds.setdefault((step, "ours"), Times()).note(int(field(line, "nanoseconds")) / 1e6, answer)
     for step, window in STEPS.items():
         for name, command in found.scans(layer, window, "2").items():
             (line,), _, _ = programs.run(command)
-            bests.setdefault((step, name), Best()).note(int(field(line, "nanoseconds")) / 1e6, field(line, "hits"))
+            rounds.setdefault((step, name), Times()).note(int(field(line, "nanoseconds")) / 1e6, field(line, "hits"))
+
+
+def count_audits(found, layer):
+    """The instructions of one audit alone. The scanner does all once with 0 for repeats, the others with 1."""
+    commands = found.audits(layer, "REPEATS")
+    return {name: one_more(command, 0 if name == "ours" else 1) for name, command in commands.items()}
 
 
 def count_scans(found, layer):
-    """The instructions of one of each of the scans alone."""
+    """The instructions of one of each of the scans alone. With each repeat the scanner audits too."""
     ours = [found.scanner, layer, "REPEATS"]
-    counts = {(step, "ours"): one_more([*ours, window], 0) for step, window in STEPS.items()}
-    counts[BUILD, "ours"] = one_more([*ours, "build"], 0)
+    audit = one_more(ours, 0)
+    counts = {(step, "ours"): less(one_more([*ours, window], 0), audit) for step, window in STEPS.items()}
     both = one_more([*ours, "build", NOTHING], 0)
-    counts[LOOKUP, "ours"] = both and both - counts[BUILD, "ours"]
+    counts[BUILD, "ours"] = less(one_more([*ours, "build"], 0), audit)
+    counts[LOOKUP, "ours"] = less(both, one_more([*ours, "build"], 0))
     for step, window in STEPS.items():
         for name, command in found.scans(layer, window, "REPEATS").items():
             counts[step, name] = one_more(command, 1)
     return counts
+
+
+def less(count, other):
+    return None if count is None else count - other
 
 
 def shown(value, digits=1):
@@ -106,13 +135,22 @@ def ratio(value, over):
     return "" if not value or not over else f"{value / over:.2f}"
 
 
-def row(title, kind, times, counts):
-    """A row of a table; the ratios are over the yardstick's."""
-    cells = [title, kind]
-    for values in (times, counts):
-        ours, fast, plain = (values.get(name) for name in ("ours", "fast", "plain"))
-        cells += [shown(ours), shown(fast), shown(plain), ratio(ours, fast), ratio(ours, plain)]
-    print("| " + " | ".join(cells) + " |")
+def cells_of_times(rounds):
+    """The best times of the three programs, and the ratios of ours over the other two."""
+    ours, fast, plain = (rounds[name] for name in ("ours", "fast", "plain"))
+    ratios = [shown(ours.over(other), 2) for other in (fast, plain)]
+    return [shown(times.best) for times in (ours, fast, plain)] + ratios
+
+
+def cells_of_numbers(numbers):
+    """The same of numbers that come out alike each time."""
+    ours, fast, plain = (numbers.get(name) for name in ("ours", "fast", "plain"))
+    return [shown(ours), shown(fast), shown(plain), ratio(ours, fast), ratio(ours, plain)]
+
+
+def row(title, kind, rounds, counts):
+    """A row of a table, of times and of instructions."""
+    print("| " + " | ".join([title, kind, *cells_of_times(rounds), *cells_of_numbers(counts)]) + " |", flush=True)
 
 
 def heading():
@@ -121,42 +159,44 @@ def heading():
     print("|---" * 12 + "|")
 
 
-def table_of_checks(found, folder, runs):
-    """Prints the rows of `check`, and gives of each kind the times of audits, whole runs and reading, and memories."""
+def table_of_audits(found, folder, runs):
+    """Prints the rows of audits, and gives the times of each kind."""
     kept = {}
     for kind in (*layers.EXAMPLES, layers.BARE, layers.IDS, layers.LONG):
         layer, _ = layers.write_layer(folder, kind, TIMED)
-        refused, _ = layers.write_layer(folder, kind, TIMED, layers.NO_BLOB)
-        whole, reading, memories = {}, {}, {}
+        rounds = {}
         for _ in range(runs):
-            note_checks(found.checks(layer), whole, memories)
-            note_checks(found.checks(refused), reading, {})
-        the_same(*reading.values())
-        the_same(*whole.values())
+            note_audits(found, layer, rounds)
+        the_same(*rounds.values())
         os.remove(layer)
-        os.remove(refused)
-        times = {name: whole[name].time - reading[name].time for name in whole}
-        wholes, reads = ({name: best.time for name, best in bests.items()} for bests in (whole, reading))
-        kept[kind] = (times, wholes, reads, memories)
         small, _ = layers.write_layer(folder, kind, COUNTED)
-        row("check", kind, times, {name: instructions(command) for name, command in found.checks(small).items()})
+        row("audit", kind, rounds, count_audits(found, small))
+        kept[kind] = rounds
     return kept
 
 
-def table_of_whole_runs(audits, wholes, reads, memories):
+def table_of_whole_runs(found, folder, runs, audits):
     """Prints what whole runs of `check` on the mix take, from the start of the process to its end.
 
     Reading is a run that ends at the first byte. The yardstick reads by std::fs::read, so its reading and our audit
     together are what our whole run would take with a reading that costs nothing more.
     """
+    layer, _ = layers.write_layer(folder, "the mix", TIMED)
+    refused, _ = layers.write_layer(folder, "the mix", TIMED, layers.NO_BLOB)
+    wholes, reads, memories = {}, {}, {}
+    for _ in range(runs):
+        note_runs(found.checks(layer), wholes, memories)
+        note_runs(found.checks(refused), reads, {})
+    the_same(*reads.values())
+    the_same(*wholes.values())
     print("\n| Whole run of check, the mix | ours | fast | plain | ours to fast | ours to plain |")
     print("|---" * 6 + "|")
-    rows = {"all, ms": wholes, "reading alone, ms": reads, "greatest memory, MB": memories}
-    for title, values in rows.items():
-        ours, fast, plain = (values[name] for name in ("ours", "fast", "plain"))
-        print(f"| {title} | {shown(ours)} | {shown(fast)} | {shown(plain)} | {ratio(ours, fast)} | {ratio(ours, plain)} |")
-    together = audits["ours"] + reads["fast"]
-    print(f"our audit and the reading of fast take {together:.1f} ms together: our whole run is {ratio(wholes['ours'], together)} of it")
+    for title, rounds in {"all, ms": wholes, "reading alone, ms": reads}.items():
+        print(f"| {title} | " + " | ".join(cells_of_times(rounds)) + " |")
+    print("| greatest memory, MB | " + " | ".join(cells_of_numbers(memories)) + " |")
+    together = audits["ours"].best + reads["fast"].best
+    over = ratio(wholes["ours"].best, together)
+    print(f"our audit and the reading of fast take {together:.1f} ms together: our whole run is {over} of it")
 
 
 def tell_of_memory(found, folder, audits):
@@ -164,7 +204,8 @@ def tell_of_memory(found, folder, audits):
     layer, _ = layers.write_layer(folder, "the mix", TIMED)
     (line,), _, _ = programs.run([found.fast, "touch", layer, "10"])
     summed = int(field(line, "nanoseconds")) / 1e6
-    print(f"a sum of the bytes of the mix takes {summed:.1f} ms: our audit is {ratio(audits['ours'], summed)} of it")
+    over = ratio(audits["ours"].best, summed)
+    print(f"a sum of the bytes of the mix takes {summed:.1f} ms: our audit is {over} of it")
 
 
 def table_of_scans(found, folder, runs):
@@ -172,27 +213,26 @@ def table_of_scans(found, folder, runs):
     notes, over_fast = [], {}
     for kind in ("the mix", "lines"):
         layer, copies = layers.write_layer(folder, kind, TIMED)
-        bests = {}
+        rounds = {}
         for _ in range(runs):
-            note_scans(found, layer, bests)
+            note_scans(found, layer, rounds)
         for step, window in STEPS.items():
-            hits = the_same(*(bests[step, name] for name in ("ours", "fast", "plain")))
+            hits = the_same(*(rounds[step, name] for name in ("ours", "fast", "plain")))
             if kind == "lines" and window in POSTGIS and int(hits) != POSTGIS[window] * copies:
                 sys.exit(f"{hits} blobs were found in {window}, {POSTGIS[window] * copies} by PostGIS")
-        the_same(bests[LOOKUP, "ours"], bests["hop scan that hits nothing", "ours"])
+        hop, lookup = rounds["hop scan that hits nothing", "ours"], rounds[LOOKUP, "ours"]
+        the_same(lookup, hop)
         small, _ = layers.write_layer(folder, kind, COUNTED)
         counts = count_scans(found, small)
         for step in [*STEPS, BUILD, LOOKUP]:
             # A directory is compared with the hop scans of the same window.
             other = step if step in STEPS else "hop scan that hits nothing"
             names = {"ours": (step, "ours"), "fast": (other, "fast"), "plain": (other, "plain")}
-            times = {name: bests[key].time for name, key in names.items()}
-            row(step, kind, times, {name: counts[key] for name, key in names.items()})
+            row(step, kind, *({name: of[key] for name, key in names.items()} for of in (rounds, counts)))
             if step in STEPS:
-                over_fast[f"{step}, {kind}"] = times["ours"] / times["fast"]
-        rate = bests["hop scan that hits nothing", "ours"].time / bests[LOOKUP, "ours"].time
+                over_fast[f"{step}, {kind}"] = rounds[step, "ours"].over(rounds[step, "fast"])
         notes.append(f"{kind}: {bytes_a_blob(found, folder, kind):.0f} bytes a blob in a directory, "
-                     f"whose scan that hits nothing has {rate:.1f} times the rate of the hop scan")
+                     f"whose scan that hits nothing has {hop.over(lookup):.1f} times the rate of the hop scan")
     return notes, over_fast
 
 
@@ -212,14 +252,14 @@ def main():
     with tempfile.TemporaryDirectory() as folder:
         found = Programs(folder, *sys.argv[1:3])
         heading()
-        checks = table_of_checks(found, folder, runs)
+        audits = table_of_audits(found, folder, runs)
         notes, scans = table_of_scans(found, folder, runs)
-        table_of_whole_runs(*checks["the mix"])
-        tell_of_memory(found, folder, checks["the mix"][0])
+        table_of_whole_runs(found, folder, runs, audits["the mix"])
+        tell_of_memory(found, folder, audits["the mix"])
         print("\n" + "\n".join(notes))
         symbols.tell(found.tool, "twkb_tool")
         symbols.tell(found.scanner, "twkb_bench")
-    audits = {kind: times["ours"] / times["fast"] for kind, (times, *_) in checks.items()}
+    audits = {kind: rounds["ours"].over(rounds["fast"]) for kind, rounds in audits.items()}
     sections = [("audits: time over that of fast", audits), ("scans: time over that of fast", scans)]
     plots.ratios(os.path.join(layers.TOP, "docs", "bench.svg"), sections)
 
