@@ -272,16 +272,18 @@ fn check(bytes: &[u8]) -> String {
 fn main() {
     let words: Vec<String> = std::env::args().collect();
     let bytes = std::fs::read(&words[1]).expect("a file to read");
-    println!("{}", check(&bytes));
-    if let Some(runs) = words.get(2) {
-        let runs: usize = runs.parse().expect("a number of runs");
-        let best = (0..runs)
-            .map(|_| {
-                let start = Instant::now();
-                std::hint::black_box(check(std::hint::black_box(&bytes)));
-                start.elapsed().as_nanos()
-            })
-            .min();
-        println!("{}", best.unwrap_or(0));
-    }
+    let text = check(&bytes);
+    let Some(runs) = words.get(2) else {
+        println!("{text}");
+        return;
+    };
+    let runs: usize = runs.parse().expect("a number of runs");
+    let best = (0..runs)
+        .map(|_| {
+            let start = Instant::now();
+            std::hint::black_box(check(std::hint::black_box(&bytes)));
+            start.elapsed().as_nanos()
+        })
+        .min();
+    println!("{text} nanoseconds={}", best.unwrap_or(0));
 }

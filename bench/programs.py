@@ -2,7 +2,6 @@
 import os
 import re
 import shutil
-import statistics
 import subprocess
 import sys
 
@@ -50,7 +49,7 @@ def one_more(command, repeats):
 
 
 class Times:
-    """What a step took in each round, in milliseconds, and its answers, which must all be one."""
+    """What a step took each time, in milliseconds, and its answers, which must all be one."""
 
     def __init__(self):
         self.taken = []
@@ -63,10 +62,6 @@ class Times:
     @property
     def best(self):
         return min(self.taken)
-
-    def over(self, other):
-        """The median of the ratios, round by round: what else the machine does in a round, it does to both."""
-        return statistics.median(ours / its for ours, its in zip(self.taken, other.taken, strict=True))
 
 
 def the_same(*steps):

@@ -6,10 +6,11 @@ usage: bench/run.py TOOL SCANNER [RUNS]
 SCANNER is twkb_bench, which times audits and scans within its process. TOOL is twkb_tool, of which whole runs are
 timed, and runs on the same bytes with a first one that no blob begins with: these read the file and refuse it. They are
 compared with programs in plain Rust, std only: fast/ is the fastest that we know how to write, without SIMD; of the two
-called plain, plain.rs checks as one would write it at first, and hops.rs scans with all inlined. All take turns for
-RUNS rounds. Of each the best time is shown; ratios of times are medians of those of the rounds. Times are of 40 MB, and
-instructions, which valgrind counts, of 4 MB, of one audit or scan alone. Where two answers differ, the run fails. A
-plot of the times over the fastest program's goes to docs/bench.svg.
+called plain, plain.rs checks as one would write it at first, and hops.rs scans with all inlined. In each of RUNS
+rounds ours is run between two runs of the fastest one. Of each the best time is shown. Ratios of times over the fastest
+program's are medians of the rounds in which both of its runs took as long. Times are of 40 MB, and instructions, which
+valgrind counts, of 4 MB, of one audit or scan alone. Where two answers differ, the run fails. A plot of the ratios goes
+to docs/bench.svg.
 """
 import os
 import sys
@@ -19,15 +20,17 @@ import layers
 import plots
 import programs
 import symbols
-from programs import Times, field, one_more, the_same
+from programs import field, one_more, the_same
+from rounds import Rounds
 
 TIMED, COUNTED = 40_000_000, 4_000_000
 ONE_EUROPE, ONE_INDIES = "x=10..30,y=35..45", "x=100..140,y=-10..10"
 WHOLE, NOTHING = "x=-360..360,y=-360..360", "x=10..30,y=85..89"
+MISSED = "hop scan that hits nothing"
 STEPS = {
     "hop scan, 20 by 10 degrees": ONE_EUROPE,
     "hop scan, 40 by 20 degrees": ONE_INDIES,
-    "hop scan that hits nothing": NOTHING,
+    MISSED: NOTHING,
     "scan of everything": WHOLE,
 }
 BUILD, LOOKUP = "building a directory", "directory scan that hits nothing"
@@ -74,33 +77,49 @@ class Programs:
         }
 
 
+def told(line, *names):
+    """The time that a line tells, in milliseconds, and the values of these names in it."""
+    return int(field(line, "nanoseconds")) / 1e6, tuple(field(line, name) for name in names)
+
+
 def note_audits(found, layer, rounds):
-    """One round of the audit by each program, the best of three repeats."""
-    for name, command in found.audits(layer, "3").items():
-        (line,), _, _ = programs.run(command)
-        answer = field(line, "blobs"), field(line, "vertices")
-        rounds.setdefault(name, Times()).note(int(field(line, "nanoseconds")) / 1e6, answer)
+    """One round of audits, each the best of three repeats."""
+    commands = found.audits(layer, "3")
+
+    def audited(name):
+        (line,), _, _ = programs.run(commands[name])
+        return told(line, "blobs", "vertices")
+
+    before, ours, behind, plain = (audited(name) for name in ("fast", "ours", "fast", "plain"))
+    rounds.note(ours, before, behind, plain)
 
 
 def note_runs(commands, rounds, memories):
     """One round of whole runs."""
-    for name, command in commands.items():
-        (line, *_), seconds, kilobytes = programs.run(command)
-        rounds.setdefault(name, Times()).note(1000 * seconds, line.split(" nanoseconds=")[0])
+
+    def ran(name):
+        (line, *_), seconds, kilobytes = programs.run(commands[name])
         memories[name] = max(memories.get(name, 0), kilobytes / 1024)
+        return 1000 * seconds, line.split(" nanoseconds=")[0]
+
+    before, ours, behind, plain = (ran(name) for name in ("fast", "ours", "fast", "plain"))
+    rounds.note(ours, before, behind, plain)
 
 
 def note_scans(found, layer, rounds):
-    """One round of each scan by each program."""
-    windows = list(STEPS.values())
-    (_, *lines), _, _ = programs.run([found.scanner, layer, "2", *windows, "build", NOTHING])
+    """One round of each scan, the best of two repeats. Directories are compared with hop scans that hit nothing."""
+
+    def scanned(name):
+        lines = {step: programs.run(found.scans(layer, window, "2")[name])[0][0] for step, window in STEPS.items()}
+        return {step: told(line, "hits") for step, line in lines.items()}
+
+    before = scanned("fast")
+    (_, *lines), _, _ = programs.run([found.scanner, layer, "2", *STEPS.values(), "build", NOTHING])
+    behind, plain = scanned("fast"), scanned("plain")
     for step, line in zip([*STEPS, BUILD, LOOKUP], lines, strict=True):
-        answer = "built" if step == BUILD else field(line, "found")
-        rounds.setdefault((step, "ours"), Times()).note(int(field(line, "nanoseconds")) / 1e6, answer)
-    for step, window in STEPS.items():
-        for name, command in found.scans(layer, window, "2").items():
-            (line,), _, _ = programs.run(command)
-            rounds.setdefault((step, name), Times()).note(int(field(line, "nanoseconds")) / 1e6, field(line, "hits"))
+        other = step if step in STEPS else MISSED
+        ours = told(line) if step == BUILD else told(line, "found")
+        rounds[step].note(ours, before[other], behind[other], plain[other])
 
 
 def count_audits(found, layer):
@@ -137,9 +156,7 @@ def ratio(value, over):
 
 def cells_of_times(rounds):
     """The best times of the three programs, and the ratios of ours over the other two."""
-    ours, fast, plain = (rounds[name] for name in ("ours", "fast", "plain"))
-    ratios = [shown(ours.over(other), 2) for other in (fast, plain)]
-    return [shown(times.best) for times in (ours, fast, plain)] + ratios
+    return [*map(shown, rounds.bests()), shown(rounds.over_fast(), 2), shown(rounds.over_plain(), 2)]
 
 
 def cells_of_numbers(numbers):
@@ -164,14 +181,13 @@ def table_of_audits(found, folder, runs):
     kept = {}
     for kind in (*layers.EXAMPLES, layers.BARE, layers.IDS, layers.LONG):
         layer, _ = layers.write_layer(folder, kind, TIMED)
-        rounds = {}
+        kept[kind] = Rounds()
         for _ in range(runs):
-            note_audits(found, layer, rounds)
-        the_same(*rounds.values())
+            note_audits(found, layer, kept[kind])
+        the_same(kept[kind])
         os.remove(layer)
         small, _ = layers.write_layer(folder, kind, COUNTED)
-        row("audit", kind, rounds, count_audits(found, small))
-        kept[kind] = rounds
+        row("audit", kind, kept[kind], count_audits(found, small))
     return kept
 
 
@@ -183,19 +199,19 @@ def table_of_whole_runs(found, folder, runs, audits):
     """
     layer, _ = layers.write_layer(folder, "the mix", TIMED)
     refused, _ = layers.write_layer(folder, "the mix", TIMED, layers.NO_BLOB)
-    wholes, reads, memories = {}, {}, {}
+    wholes, reads, memories = Rounds(), Rounds(), {}
     for _ in range(runs):
         note_runs(found.checks(layer), wholes, memories)
         note_runs(found.checks(refused), reads, {})
-    the_same(*reads.values())
-    the_same(*wholes.values())
+    the_same(wholes)
+    the_same(reads)
     print("\n| Whole run of check, the mix | ours | fast | plain | ours to fast | ours to plain |")
     print("|---" * 6 + "|")
     for title, rounds in {"all, ms": wholes, "reading alone, ms": reads}.items():
         print(f"| {title} | " + " | ".join(cells_of_times(rounds)) + " |")
     print("| greatest memory, MB | " + " | ".join(cells_of_numbers(memories)) + " |")
-    together = audits["ours"].best + reads["fast"].best
-    over = ratio(wholes["ours"].best, together)
+    together = min(audits.ours) + min(reads.fast)
+    over = ratio(min(wholes.ours), together)
     print(f"our audit and the reading of fast take {together:.1f} ms together: our whole run is {over} of it")
 
 
@@ -204,7 +220,7 @@ def tell_of_memory(found, folder, audits):
     layer, _ = layers.write_layer(folder, "the mix", TIMED)
     (line,), _, _ = programs.run([found.fast, "touch", layer, "10"])
     summed = int(field(line, "nanoseconds")) / 1e6
-    over = ratio(audits["ours"].best, summed)
+    over = ratio(min(audits.ours), summed)
     print(f"a sum of the bytes of the mix takes {summed:.1f} ms: our audit is {over} of it")
 
 
@@ -213,26 +229,24 @@ def table_of_scans(found, folder, runs):
     notes, over_fast = [], {}
     for kind in ("the mix", "lines"):
         layer, copies = layers.write_layer(folder, kind, TIMED)
-        rounds = {}
+        rounds = {step: Rounds() for step in [*STEPS, BUILD, LOOKUP]}
         for _ in range(runs):
             note_scans(found, layer, rounds)
         for step, window in STEPS.items():
-            hits = the_same(*(rounds[step, name] for name in ("ours", "fast", "plain")))
+            (hits,) = the_same(rounds[step])
             if kind == "lines" and window in POSTGIS and int(hits) != POSTGIS[window] * copies:
                 sys.exit(f"{hits} blobs were found in {window}, {POSTGIS[window] * copies} by PostGIS")
-        hop, lookup = rounds["hop scan that hits nothing", "ours"], rounds[LOOKUP, "ours"]
-        the_same(lookup, hop)
+        the_same(rounds[LOOKUP])
         small, _ = layers.write_layer(folder, kind, COUNTED)
         counts = count_scans(found, small)
-        for step in [*STEPS, BUILD, LOOKUP]:
-            # A directory is compared with the hop scans of the same window.
-            other = step if step in STEPS else "hop scan that hits nothing"
+        for step, times in rounds.items():
+            other = step if step in STEPS else MISSED
             names = {"ours": (step, "ours"), "fast": (other, "fast"), "plain": (other, "plain")}
-            row(step, kind, *({name: of[key] for name, key in names.items()} for of in (rounds, counts)))
-            if step in STEPS:
-                over_fast[f"{step}, {kind}"] = rounds[step, "ours"].over(rounds[step, "fast"])
+            row(step, kind, times, {name: counts[key] for name, key in names.items()})
+        over_fast |= {f"{step}, {kind}": rounds[step].over_fast() for step in STEPS}
+        rate = min(rounds[MISSED].ours) / min(rounds[LOOKUP].ours)
         notes.append(f"{kind}: {bytes_a_blob(found, folder, kind):.0f} bytes a blob in a directory, "
-                     f"whose scan that hits nothing has {hop.over(lookup):.1f} times the rate of the hop scan")
+                     f"whose scan that hits nothing has {rate:.1f} times the rate of the hop scan")
     return notes, over_fast
 
 
@@ -241,7 +255,7 @@ def bytes_a_blob(found, folder, kind):
     measured = []
     for least_bytes in (TIMED // 2, TIMED):
         layer, _ = layers.write_layer(folder, kind, least_bytes)
-        (line,), _, kilobytes = programs.run([found.scanner, layer, "0", "build"])
+        (_, line), _, kilobytes = programs.run([found.scanner, layer, "0", "build"])
         measured.append((1024 * kilobytes - os.path.getsize(layer), int(field(line, "blobs"))))
     (fewer, few), (more, many) = measured
     return (more - fewer) / (many - few)
@@ -259,8 +273,8 @@ def main():
         print("\n" + "\n".join(notes))
         symbols.tell(found.tool, "twkb_tool")
         symbols.tell(found.scanner, "twkb_bench")
-    audits = {kind: rounds["ours"].over(rounds["fast"]) for kind, rounds in audits.items()}
-    sections = [("audits: time over that of fast", audits), ("scans: time over that of fast", scans)]
+    over_fast = {kind: rounds.over_fast() for kind, rounds in audits.items()}
+    sections = [("audits: time over that of fast", over_fast), ("scans: time over that of fast", scans)]
     plots.ratios(os.path.join(layers.TOP, "docs", "bench.svg"), sections)
 
 

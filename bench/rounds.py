@@ -1,0 +1,33 @@
+"""Times of a step in rounds, in each of which ours is run between two runs of the yardstick."""
+import statistics
+
+# A round tells of the ratio only where the yardstick takes as long behind ours as before it, but for a twentieth. Else
+# the machine did other work meanwhile.
+ALIKE = 1.05
+
+
+class Rounds:
+    """Times in milliseconds, and the answers of all runs, which must be one."""
+
+    def __init__(self):
+        self.ours, self.fast, self.plain, self.ratios = [], [], [], []
+        self.answers = set()
+
+    def note(self, ours, before, behind, plain):
+        """One round; each run is a time and an answer."""
+        self.answers.update(answer for _, answer in (ours, before, behind, plain))
+        self.ours.append(ours[0])
+        self.fast += [before[0], behind[0]]
+        self.plain.append(plain[0])
+        if max(self.fast[-2:]) <= ALIKE * min(self.fast[-2:]):
+            self.ratios.append(2 * ours[0] / sum(self.fast[-2:]))
+
+    def bests(self):
+        return min(self.ours), min(self.fast), min(self.plain)
+
+    def over_fast(self):
+        """The median of the ratios of quiet rounds, or that of the best times, where no round was quiet."""
+        return statistics.median(self.ratios) if self.ratios else min(self.ours) / min(self.fast)
+
+    def over_plain(self):
+        return min(self.ours) / min(self.plain)
