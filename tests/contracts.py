@@ -171,6 +171,18 @@ def file_items(top, crate, module, names, traits):
     for lines in found:
         if lines[0].startswith("impl"):
             yield from impl_items(crate, lines, near, declared, traits)
+    if module:
+        for inner in re.findall(r"^mod (\w+);", code, re.MULTILINE):
+            yield from inner_methods(top, crate, f"{module}/{inner}", declared)
+
+
+def inner_methods(top, crate, module, public):
+    """The public methods that a private module below has for a type of the one above it."""
+    path = source(top, crate, module)
+    text = open(path, encoding="utf-8").read() if path else ""
+    for lines in blocks(uncommented_code(text)):
+        if lines[0].startswith("impl"):
+            yield from impl_items(crate, lines, imports(text), public, set())
 
 
 def public_traits(top, crate):

@@ -1,5 +1,5 @@
 //! The box that the vertices of a geometry have to lie in: its own, or that of a geometry above.
-ghost use Rattle.std.specs.Prelude.{◌≡◌, ◌≤ℤ◌, ◌+ℤ◌, None, IfSome, IsTrue, option_map};
+ghost use Rattle.std.specs.Prelude.{◌≡◌, None, IfSome, IsTrue, option_map};
 ghost use Rattle.twkb_body.specs.Devices.Sure.{framed, IsFrameUnder, LiesIn, LiesInAll};
 
 use twkb_head::{Head, RawBox, RawRange};
@@ -82,18 +82,16 @@ fn lies_in_further(inner: &RawBox, outer: &RawBox) -> bool
     lies_in(&inner.third, &outer.third) && lies_in(&inner.fourth, &outer.fourth)
 }
 
-/// Whether one range lies in another.
+/// Whether one range lies in another, where 64 bits tell.
 #[inline(always)]
 fn lies_in(inner: &RawRange, outer: &RawRange) -> bool
     ensures { IsTrue result → LiesIn inner.now outer.now }
 {
-    outer.minimum <= inner.minimum && maximum(inner) <= maximum(outer)
-}
-
-/// The greatest number of a range, which may pass 64 bits.
-#[inline(always)]
-fn maximum(range: &RawRange) -> i128
-    ensures { result ≡ range.now.minimum +ℤ range.now.extent }
-{
-    i128::from(range.minimum) + i128::from(range.extent)
+    let Some(apart) = inner.minimum.checked_sub(outer.minimum) else {
+        return false;
+    };
+    let Some(left) = outer.extent.checked_sub(apart) else {
+        return false;
+    };
+    0 <= apart && inner.extent <= left
 }

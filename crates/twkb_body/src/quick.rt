@@ -38,16 +38,21 @@ pub fn take_at_sight(cursor: &mut Cursor) -> Option<usize>
 }
 
 /// The same, but for points with a size alone and lines with nothing.
-// It isn't inlined, so that a layer of points is read with the cursor in registers.
+// It isn't inlined, so that a layer of points is read with the cursor in registers. What is copied is put back only where
+// there is no answer: no blob waits for the copy of a cursor of which one field was just written.
 #[inline(never)]
 fn take_ahead(cursor: &mut Cursor) -> Option<usize>
     ensures some { IfSome result (IsSure (deepest - 1) None cursor.old cursor.new) }
     ensures none { IfNone result (cursor.new ≡ cursor.old) }
 {
-    let mut ahead = cursor.ahead();
-    let vertices = take_sure(&mut ahead, 1, &None)?;
-    *cursor = ahead;
-    Some(vertices)
+    let before = cursor.ahead();
+    match take_sure(cursor, 1, &None) {
+        Some(vertices) => Some(vertices),
+        None => {
+            *cursor = before;
+            None
+        }
+    }
 }
 
 /// A point that has a true size and nothing else. Its numbers are told by their ends alone, since no box asks for them.

@@ -275,23 +275,26 @@ fn take_range_if(cursor: &mut Cursor, is_there: bool) -> Option<RawRange>
     }
 }
 
-/// Minimum and extent of Z or M.
+/// Minimum and extent of Z or M, from one word of eight bytes where they are short.
 // It isn't inlined: few boxes have these axes, and a header that is smaller is inlined into each function that reads one.
 #[inline(never)]
 fn take_further_range(cursor: &mut Cursor) -> Option<RawRange>
     ensures { IfSome result (λ range.
         range_from cursor.old ≡ (Ok (range.minimum, range.minimum +ℤ range.extent), cursor.new)) }
 {
-    take_raw_range(cursor)
+    let Some((minimum, extent)) = cursor.svarint_pair() else {
+        return take_long_range(cursor);
+    };
+    Some(RawRange { minimum, extent })
 }
 
-/// Minimum and extent of an axis, from one word of eight bytes where they are short.
+/// The same of X or Y, whose minimum is seldom as short as its extent: there is no path for such.
 #[inline(always)]
 fn take_raw_range(cursor: &mut Cursor) -> Option<RawRange>
     ensures { IfSome result (λ range.
         range_from cursor.old ≡ (Ok (range.minimum, range.minimum +ℤ range.extent), cursor.new)) }
 {
-    match cursor.svarint_pair() {
+    match cursor.svarint_mixed_pair() {
         Some((minimum, extent)) => Some(RawRange { minimum, extent }),
         None => take_long_range(cursor),
     }

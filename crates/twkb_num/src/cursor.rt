@@ -2,14 +2,13 @@
 ghost use Rattle.std.specs.Prelude.{◌≡◌, ◌+◌, ◌-◌, ◌<◌, ◌≤◌, ◌↔◌, ℕ, ℤ, List, [], ◌∷◌, ◌++◌, length, take, IsNone, IfOk, IfErr, IfSome, IfNone, OnOk, OnSome};
 ghost use Rattle.twkb_num.specs.Cursor.{rest, passed, counted, IsMoved, IsSound};
 ghost use Rattle.twkb_num.specs.Devices.Ends.{IsFirstEnd};
-ghost use Rattle.twkb_num.specs.Varint.{SpellsMany, Spells, IsSigned, SpellsTwoSigned, IsShort, Faults, IsCut, looked_at};
+ghost use Rattle.twkb_num.specs.Varint.{SpellsMany, Spells, IsSigned, Faults, IsCut, looked_at};
 ghost use Rattle.twkb_num.specs.declared.varint.NumFault.TheVariants.{Cut};
 ghost use Rattle.twkb_num.specs.Devices.Varint.{IsBegunBy};
 
 use crate::ends::{first_end, length_of};
 use crate::signed::unzigzag;
 use crate::varint::{NumFault, decode};
-use crate::word::{Pair, last_of, next_mixed_pair, next_pair};
 use std::marker::Model;
 
 /// A place in bytes, and a count of the bytes read, which stays at `u64::MAX` once there.
@@ -292,108 +291,8 @@ impl<'a> Cursor<'a> {
     {
         first_end(self.bytes[self.place..].first_chunk::<8>()?)
     }
-
-    /// The two signed varints at the place, which it moves past, where each takes at most four bytes and eight bytes are
-    /// left. Else `None`: nothing was read, and two reads in turn say what stands there.
-    #[inline(always)]
-    pub fn svarint_pair(&mut self) -> Option<(i64, i64)>
-        ensures some { IfSome result (λ pair. SpellsTwoSigned (passed self.old self.new) pair.0 pair.1) }
-        ensures short { IfSome result (λ pair. IsShort pair.0 × IsShort pair.1) }
-        ensures moved { OnSome result (IsMoved self.old self.new) }
-        ensures none { IfNone result (self.new ≡ self.old) }
-    {
-        let pair = next_pair(self.bytes[self.place..].first_chunk::<8>()?)?;
-        self.place += pair.len;
-        Some((pair.first, pair.second))
-    }
-
-    /// The same, where eight bytes are left before `stop`: no byte from there on is looked at. For numbers of which few are short.
-    #[inline(always)]
-    pub fn svarint_pair_before(&mut self, stop: usize) -> Option<(i64, i64)>
-        ensures some { IfSome result (λ pair. SpellsTwoSigned (passed self.old self.new) pair.0 pair.1) }
-        ensures short { IfSome result (λ pair. IsShort pair.0 × IsShort pair.1) }
-        ensures moved { OnSome result (IsMoved self.old self.new) }
-        ensures within { OnSome result (self.old.place + 8 ≤ stop) }
-        ensures none { IfNone result (self.new ≡ self.old) }
-    {
-        if stop.saturating_sub(self.place) < 8 {
-            return None;
-        }
-        let two = next_mixed_pair(self.bytes[self.place..].first_chunk::<8>()?)?;
-        self.place += two.len;
-        Some((two.first, two.second))
-    }
-
-    /// Past the two varints at the place, without asking for their numbers, where eight bytes are left before `stop` and both
-    /// end among them: no byte from there on is looked at. Else `None`, and the cursor is as it was.
-    #[inline(always)]
-    pub fn pass_pair_before(&mut self, stop: usize) -> Option<()>
-        ensures some { OnSome result (SpellsMany (passed self.old self.new) 2) }
-        ensures moved { OnSome result (IsMoved self.old self.new) }
-        ensures within { OnSome result (self.old.place + 8 ≤ stop) }
-        ensures none { IfNone result (self.new ≡ self.old) }
-    {
-        let left = stop.saturating_sub(self.place);
-        if left < 8 {
-            return None;
-        }
-        let both = length_of(self.bytes[self.place..].first_chunk::<8>()?, 2)?;
-        self.place += both;
-        Some(())
-    }
-
-    /// The same, where both end at `stop` or before: no byte from there on is looked at. Where fewer than eight bytes are left
-    /// before it, they are taken from the word that ends there.
-    #[inline(always)]
-    pub fn svarint_pair_to(&mut self, stop: usize) -> Option<(i64, i64)>
-        ensures some { IfSome result (λ pair. SpellsTwoSigned (passed self.old self.new) pair.0 pair.1) }
-        ensures short { IfSome result (λ pair. IsShort pair.0 × IsShort pair.1) }
-        ensures moved { OnSome result (IsMoved self.old self.new) }
-        ensures within { OnSome result (self.new.place ≤ stop) }
-        ensures none { IfNone result (self.new ≡ self.old) }
-    {
-        let left = stop.saturating_sub(self.place);
-        let Pair { first, second, len } = if left < 8 {
-            self.last_pair(stop, left)?
-        } else {
-            self.first_pair()?
-        };
-        self.place += len;
-        Some((first, second))
-    }
-
-    // The two numbers of the next eight bytes.
-    #[inline(always)]
-    fn first_pair(&self) -> Option<Pair>
-        ensures within { IfSome result (λ pair. pair.len ≤ length (rest self.now)) }
-        ensures len { IfSome result (λ pair. pair.len ≤ 8) }
-        ensures some { IfSome result (λ pair. SpellsTwoSigned (take pair.len (rest self.now)) pair.first pair.second) }
-        ensures short { IfSome result (λ pair. IsShort pair.first × IsShort pair.second) }
-    {
-        next_pair(self.bytes[self.place..].first_chunk::<8>()?)
-    }
-
-    // The same of the bytes before `stop`, of which so few are left.
-    #[inline(always)]
-    fn last_pair(&self, stop: usize, left: usize) -> Option<Pair>
-        requires left { left ≡ stop - self.now.place }
-        requires few { left < 8 }
-        ensures within { IfSome result (λ pair. pair.len ≤ length (rest self.now)) }
-        ensures len { IfSome result (λ pair. pair.len ≤ left) }
-        ensures some { IfSome result (λ pair. SpellsTwoSigned (take pair.len (rest self.now)) pair.first pair.second) }
-        ensures short { IfSome result (λ pair. IsShort pair.first × IsShort pair.second) }
-    {
-        if left == 0 || stop < 8 || stop > self.len() {
-            return None;
-        }
-        let word = self.bytes[stop - 8..].first_chunk::<8>()?;
-        let pair = next_pair(&last_of(word, left as u32))?;
-        if pair.len > left {
-            return None;
-        }
-        Some(pair)
-    }
 }
 
+mod pairs;
 #[cfg(test)]
 mod tests;

@@ -11,4 +11,4 @@ returns-in-Some c =
     let minimum : to_z w64 (of_z w64 c.in-Some.minimum) ≡ c.in-Some.minimum = omega (arith, ints) in
     let extent : to_z w64 (of_z w64 c.in-Some.extent) ≡ c.in-Some.extent = omega (arith, ints) in
     pair_range c.in-Some.minimum c.in-Some.extent _ _ c.in-Some.ensures.some c.in-Some.ensures.moved
-    ∙ ap₂ (λ (low more : ℤ). (Ok (low, low +ℤ more), c.svarint_pair.new.self)) (sym minimum) (sym extent)
+    ∙ ap₂ (λ (low more : ℤ). (Ok (low, low +ℤ more), c.svarint_mixed_pair.new.self)) (sym minimum) (sym extent)
