@@ -12,7 +12,7 @@ use Rattle.twkb_head.specs.Header.{Header, axes_of}
 use Rattle.twkb_head.specs.declared.raw.RawBox.{RawBox}
 use Rattle.twkb_head.specs.declared.raw.RawRange.{RawRange}
 use Rattle.twkb_body.specs.declared.trail.Trail.{Trail}
-use Rattle.twkb_body.specs.Devices.Boxed.{reaches, is_in_box, Held, held_with, IsNear, IsClose, IsMet, IsNearRange, IsNearBox}
+use Rattle.twkb_body.specs.Devices.Boxed.{reaches, is_in_box, Held, held_with, IsNearZero, IsClose, IsMet, IsNearRange, IsNearBox}
 use Rattle.twkb_body.specs.Geometry.{PointValue}
 use Rattle.twkb_body.proofs.FlatRuns.{has_64_bits, IsFlatRun, flat_begins, flat_goes_on}
 use Rattle.twkb_body.proofs.Judging.{le_decides}
@@ -50,7 +50,7 @@ module _ (h : Header) (start : Trail) (state : Held) (from : Reading) (box : Raw
     pub close : inside ≡ true → IsClose across × IsClose up
 
   pub boxed_begins : (across up : ℤ) (inside : Bool) (x y : ℤ) → length start.last ≡ 4 → x ≡ slice_index_or start.last 0 (pos 0) → y ≡ slice_index_or start.last 1 (pos 0)
-      → IsNear x → IsNear y → IsNearBox box → across ≡ x -ℤ box.x.minimum → up ≡ y -ℤ box.y.minimum → state ≡ record { box = box; inside = inside }
+      → IsNearZero x → IsNearZero y → IsNearBox box → across ≡ x -ℤ box.x.minimum → up ≡ y -ℤ box.y.minimum → state ≡ record { box = box; inside = inside }
       → IsBoxedRun across up inside from 0
   boxed_begins across up inside x y four is_x is_y near_x near_y near across_is up_is state_is = record {
     run = subst (λ (u : Held). IsFlatRun (held_with h) start state from (box.x.minimum +ℤ across) (box.y.minimum +ℤ up) u from 0) state_is

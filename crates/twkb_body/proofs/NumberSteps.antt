@@ -9,7 +9,7 @@ use Rattle.twkb_head.specs.Devices.Reader.{Answer, ◌>>=◌, viewed, many_at, c
 use Rattle.twkb_head.proofs.Steps.{read_signed, coordinate_ok, fits_true}
 use Rattle.twkb_body.specs.Devices.Body.{first_of, behind}
 use Rattle.twkb_body.specs.Devices.BodyReader.{point_at}
-use Rattle.twkb_body.specs.Devices.Boxed.{IsNear, IsClose}
+use Rattle.twkb_body.specs.Devices.Boxed.{IsNearZero, IsClose}
 use Rattle.twkb_body.specs.Geometry.{PointValue}
 use Rattle.twkb_body.specs.Devices.Numbers.{IsIn64, AreDifferences}
 use Rattle.twkb_body.proofs.Coordinates.{coordinate_ahead}
@@ -30,7 +30,7 @@ pub fits_in_64 : (z : ℤ) → IsIn64 z → SFits w64 z
 fits_in_64 z h = has_64_bits z h.0 h.1
 
 -- a number near zero is at a distance from another that fits
-pub distance_is : (a b : ℤ) → to_z w64 (of_z w64 a) ≡ a → to_z w64 (of_z w64 b) ≡ b → IsNear a → IsNear b → (a ≡ b +ℤ to_z w64 (of_z w64 (to_z w64 (of_z w64 a) -ℤ to_z w64 (of_z w64 b)))) × IsClose (to_z w64 (of_z w64 (to_z w64 (of_z w64 a) -ℤ to_z w64 (of_z w64 b))))
+pub distance_is : (a b : ℤ) → to_z w64 (of_z w64 a) ≡ a → to_z w64 (of_z w64 b) ≡ b → IsNearZero a → IsNearZero b → (a ≡ b +ℤ to_z w64 (of_z w64 (to_z w64 (of_z w64 a) -ℤ to_z w64 (of_z w64 b)))) × IsClose (to_z w64 (of_z w64 (to_z w64 (of_z w64 a) -ℤ to_z w64 (of_z w64 b))))
 distance_is a b a_is b_is near near_b =
     let within : IsIn64 (a -ℤ b) = (omega (arith, ints, near.0, near_b.1), omega (arith, ints, near.1, near_b.0)) in
     let bits = difference_in_bits a b a_is b_is within in
@@ -38,7 +38,7 @@ distance_is a b a_is b_is near near_b =
     let back : b +ℤ (a -ℤ b) ≡ a = omega (arith, ints) in
     (sym (ap (λ (z : ℤ). b +ℤ z) bits ∙ back), subst IsClose (sym bits) close)
 
-pub difference_fits : (a b : ℤ) → IsNear a → IsNear b → SFits w64 (a -ℤ to_z w64 (of_z w64 b))
+pub difference_fits : (a b : ℤ) → IsNearZero a → IsNearZero b → SFits w64 (a -ℤ to_z w64 (of_z w64 b))
 difference_fits a b near near_b =
     let b_is : to_z w64 (of_z w64 b) ≡ b = in_bits b (omega (arith, ints, near_b.0), omega (arith, ints, near_b.1)) in
     rw b_is (fits_in_64 (a -ℤ b) (omega (arith, ints, near.0, near_b.1), omega (arith, ints, near.1, near_b.0)))

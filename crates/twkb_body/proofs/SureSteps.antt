@@ -39,7 +39,7 @@ use Rattle.twkb_body.specs.Devices.IdLists.{IsListFound}
 use Rattle.twkb_body.specs.Devices.Inside.{of_head, IsInside}
 use Rattle.twkb_body.specs.Devices.Pass.{first, false_at, is_within}
 use Rattle.twkb_body.specs.Devices.Ranges.{widened}
-use Rattle.twkb_body.specs.Devices.Sure.{LiesIn, LiesInAll, framed, faultless, unseen, AddsParts, AddsHeld, frame_bounds, IsHeldBy, IsFrameUnder, body_vertices, IsSureBody, IsSure}
+use Rattle.twkb_body.specs.Devices.Sure.{LiesIn, LiesInAll, framed, faultless, unseen, AddsParts, AddsHeld, frame_bounds, IsHeldBy, IsFrameUnder, body_vertices, IsSureBody, IsSure, IsFramed}
 use Rattle.twkb_body.specs.Devices.Walk.{HaveAxes, lasts_from}
 use Rattle.twkb_body.proofs.BoxedRuns.{reaches_decides, both_true}
 use Rattle.twkb_body.proofs.Coordinates.{coordinate_ahead, vertices_same}
@@ -354,20 +354,20 @@ option_same (Some m) (Some n) e = ap Some (eqb-true m n (not_false (m == n) e))
     not_false false e = absurd (cc (e))
 
 -- a frame in that above, at the precisions of its header
-pub frame_inside : (outer inner : Frame) (head : Head) → outer ≡ framed head outer.bounds → inner ≡ framed head inner.bounds → LiesInAll head.z head.m inner.bounds outer.bounds → IsFrameUnder (Some outer) head (Some inner) (Some inner)
+pub frame_inside : (outer inner : Frame) (head : Head) → outer ≡ framed head outer.bounds → IsFramed head inner → LiesInAll head.z head.m inner.bounds outer.bounds → IsFrameUnder (Some outer) head (Some inner) (Some inner)
 frame_inside outer inner head same own lies = record {
-  precisions = own;
+  framed = own;
   own_is = refl;
   above_holds = λ vs held. subst (λ (f : Frame). All (Holds (frame_bounds f)) vs) (sym same)
-      (holds_wider head.xy head.z head.m inner.bounds outer.bounds lies vs (subst (λ (f : Frame). All (Holds (frame_bounds f)) vs) own held));
+      (holds_wider head.xy head.z head.m inner.bounds outer.bounds lies vs (subst (λ (f : Frame). All (Holds (frame_bounds f)) vs) own.0 held));
 }
 
-pub frame_above : (frame : Frame) (head : Head) → frame ≡ framed head frame.bounds → IsFrameUnder (Some frame) head None (Some frame)
-frame_above frame head same = record { precisions = same; own_is = tt; above_holds = λ vs held. held }
+pub frame_above : (frame : Frame) (head : Head) → IsFramed head frame → IsFrameUnder (Some frame) head None (Some frame)
+frame_above frame head is = record { framed = is; own_is = tt; above_holds = λ vs held. held }
 
 -- a frame under none
-pub frame_alone : (head : Head) (own : Option Frame) → IfSome own (λ f. f ≡ framed head f.bounds) → IsFrameUnder None head own own
-frame_alone head own same = record { precisions = same; own_is = itself own; above_holds = λ vs held. tt }
+pub frame_alone : (head : Head) (own : Option Frame) → IfSome own (IsFramed head) → IsFrameUnder None head own own
+frame_alone head own is = record { framed = is; own_is = itself own; above_holds = λ vs held. tt }
   where
     itself : (own : Option Frame) → IfSome own (λ f. own ≡ Some f)
     itself None = tt

@@ -1,7 +1,8 @@
 //! Points under one header that are asked for nothing but whether a box of raw numbers holds them all.
 ghost use Rattle.std.specs.Prelude.{◌≡◌, ◌&&◌, ◌≤◌, ◌≤ℤ◌, ◌-ℤ◌, ◌^◌, pos, neg_ℤ, true, IfSome, ◌↔◌, IsTrue};
 ghost use Rattle.twkb_head.specs.Header.{axes_with};
-ghost use Rattle.twkb_body.specs.Devices.Boxed.{reaches, reaches_if, reach_further, reach_all, is_in_range, is_in_axis, is_in_flat, is_in_further, is_in_box, held_with, IsNear, IsClose, IsMet, IsNearRange, IsNearBox, AreNear};
+ghost use Rattle.twkb_head.specs.Raw.{IsNear, HasNearRanges};
+ghost use Rattle.twkb_body.specs.Devices.Boxed.{reaches, reaches_if, reach_further, reach_all, is_in_range, is_in_axis, is_in_flat, is_in_further, is_in_box, held_with, IsNearZero, IsClose, IsMet, IsNearRange, IsNearBox, AreNear};
 ghost use Rattle.twkb_body.specs.Devices.Inside.{of_head};
 ghost use Rattle.twkb_body.specs.Devices.Numbers.{listed, Each, axes_by, placed_at};
 ghost use Rattle.twkb_body.specs.Devices.Walk.{IsRun};
@@ -24,22 +25,24 @@ pub struct Boxed {
 }
 
 impl Model for Boxed {
+    ghost use Rattle.twkb_head.specs.Raw.{HasNearRanges};
     ghost use Rattle.twkb_body.specs.Devices.Boxed.{Held, IsNearBox};
 
     ghost Value = { Held };
 
     ghost view = { λ b. record { box = b.bounds; inside = b.inside } };
 
-    ghost invariant = { λ b. IsNearBox b.bounds };
+    ghost invariant = { λ b. IsNearBox b.bounds × HasNearRanges b.bounds };
 }
 
 impl Boxed {
-    /// A box, and no point yet; `None` if its numbers are far from zero or an extent is negative.
+    /// A box, and no point yet; `None` if its extent in X or Y is negative.
     #[inline(always)]
     pub fn new(bounds: &RawBox) -> Option<Boxed>
+        requires { HasNearRanges bounds.now }
         ensures { IfSome result (λ boxed. boxed ≡ record { box = bounds.now; inside = true }) }
     {
-        if !is_near_range(&bounds.x) || !is_near_range(&bounds.y) {
+        if !is_range(&bounds.x) || !is_range(&bounds.y) {
             return None;
         }
         Some(Boxed {
@@ -150,12 +153,13 @@ fn is_near(number: i64) -> bool
     -NEAR <= number && number <= NEAR
 }
 
-/// Whether the numbers of a range are near zero, and its extent isn't negative.
+/// Whether the extent of a range of near numbers isn't negative.
 #[inline(always)]
-fn is_near_range(range: &RawRange) -> bool
+fn is_range(range: &RawRange) -> bool
+    requires { IsNear range.now }
     ensures { IsTrue result ↔ IsNearRange range.now }
 {
-    is_near(range.minimum) && range.extent.cast_unsigned() <= NEAR.cast_unsigned()
+    0 <= range.extent
 }
 
 /// Whether a distance from a minimum lies within an extent: one comparison, since a negative number is a great one
@@ -231,12 +235,13 @@ fn is_in_box(axes: usize, bounds: &RawBox, point: &[i64; 4]) -> bool
     is_in_others(axes, bounds, point) && is_in_flat(bounds, point)
 }
 
-/// Whether the ranges behind that of Y are near zero, and so are the coordinates of a point.
+/// Whether the ranges behind that of Y have no negative extent, and the coordinates of a point are near zero.
 #[inline(always)]
 fn are_near(bounds: &RawBox, point: &Numbers) -> bool
+    requires { HasNearRanges bounds.now }
     ensures { IsTrue result → AreNear bounds.now point.now }
 {
-    if !is_near_range(&bounds.third) || !is_near_range(&bounds.fourth) {
+    if !is_range(&bounds.third) || !is_range(&bounds.fourth) {
         return false;
     }
     if !is_near(point.x) || !is_near(point.y) || !is_near(point.third) {

@@ -1,6 +1,7 @@
 //! The box that the vertices of a geometry have to lie in: its own, or that of a geometry above.
 ghost use Rattle.std.specs.Prelude.{◌≡◌, None, IfSome, IsTrue, option_map};
-ghost use Rattle.twkb_body.specs.Devices.Sure.{framed, IsFrameUnder, LiesIn, LiesInAll};
+ghost use Rattle.twkb_head.specs.Raw.{HasNearRanges};
+ghost use Rattle.twkb_body.specs.Devices.Sure.{framed, IsFramed, IsNearFrame, IsFrameUnder, LiesIn, LiesInAll};
 
 use twkb_head::{Head, RawBox, RawRange};
 
@@ -18,7 +19,8 @@ impl Frame {
     /// and their precisions are to be those above. `None`: they differ, or its own doesn't lie there.
     #[inline(always)]
     pub fn under(above: &Option<Frame>, head: &Head, own: Option<Frame>) -> Option<Option<Frame>>
-        requires { IfSome own (λ f. f ≡ framed head.now f.bounds) }
+        requires near { IfSome above.now IsNearFrame }
+        requires own { IfSome own (IsFramed head.now) }
         ensures { IfSome result (IsFrameUnder above.now head.now own) }
     {
         let Some(frame) = above else {
@@ -42,7 +44,9 @@ impl Frame {
     /// The frame of a geometry's own box, if it has one.
     #[inline(always)]
     pub fn of(head: &Head, own: Option<RawBox>) -> Option<Frame>
-        ensures { result ≡ option_map (framed head.now) own }
+        requires { IfSome own HasNearRanges }
+        ensures own { result ≡ option_map (framed head.now) own }
+        ensures framed { IfSome result (IsFramed head.now) }
     {
         match own {
             Some(bounds) => Some(Frame {

@@ -7,7 +7,7 @@ ghost use Rattle.std.specs.Prelude.{◌≡◌, ◌-◌, ◌+◌, ◌≤◌, None
 ghost use Rattle.twkb_num.specs.Units.{IsPrecision};
 ghost use Rattle.twkb_head.specs.BegunHeader.{deepest, is_collection, IsAllowedAt};
 ghost use Rattle.twkb_body.specs.Devices.Found.{size_judged};
-ghost use Rattle.twkb_body.specs.Devices.Sure.{framed, IsSureBody, IsSure};
+ghost use Rattle.twkb_body.specs.Devices.Sure.{IsFramed, IsNearFrame, IsSureBody, IsSure};
 ghost use Rattle.twkb_body.specs.Devices.Walk.{HasPrecisions};
 
 mod parts;
@@ -94,6 +94,7 @@ fn take_bare_line(cursor: &mut Cursor) -> Option<usize>
 fn take_sure(cursor: &mut Cursor, depth: u8, above: &Option<Frame>) -> Option<usize>
     requires shallowest { 1 ≤ depth }
     requires deepest { depth ≤ deepest }
+    requires near { IfSome above.now IsNearFrame }
     ensures { IfSome result (IsSure (deepest - depth) above.now cursor.old cursor.new) }
 {
     cursor.place_is_within();
@@ -118,6 +119,7 @@ fn take_sure(cursor: &mut Cursor, depth: u8, above: &Option<Frame>) -> Option<us
 fn take_further(cursor: &mut Cursor, depth: u8, above: &Option<Frame>) -> Option<usize>
     requires shallowest { 1 ≤ depth }
     requires deepest { depth ≤ deepest }
+    requires near { IfSome above.now IsNearFrame }
     ensures { IfSome result (IsSure (deepest - depth) above.now cursor.old cursor.new) }
 {
     cursor.place_is_within();
@@ -157,7 +159,7 @@ fn take_flat_body(
     requires z { head.now.z ≡ None }
     requires m { head.now.m ≡ None }
     requires full { head.now.empty ≡ false }
-    requires frame { IfSome frame.now (λ f. f ≡ framed head.now f.bounds) }
+    requires frame { IfSome frame.now (IsFramed head.now) }
     ensures { IfSome result (IsSureBody (deepest - depth) head.now frame.now cursor.old cursor.new) }
 {
     if head.kind.is_collection() {
@@ -180,7 +182,7 @@ fn take_further_body(
     requires allowed { IsAllowedAt head.now.kind depth }
     requires precisions { HasPrecisions head.now }
     requires full { head.now.empty ≡ false }
-    requires frame { IfSome frame.now (λ f. f ≡ framed head.now f.bounds) }
+    requires frame { IfSome frame.now (IsFramed head.now) }
     ensures { IfSome result (IsSureBody (deepest - depth) head.now frame.now cursor.old cursor.new) }
 {
     if head.kind.is_collection() {
@@ -203,6 +205,7 @@ fn take_sure_members(
     requires below { depth + 1 ≤ deepest }
     requires full { head.now.empty ≡ false }
     requires kind { is_collection head.now.kind ≡ true }
+    requires near { IfSome frame.now IsNearFrame }
     ensures { IfSome result (IsSureBody (deepest - depth) head.now frame.now cursor.old cursor.new) }
 {
     let count = take_sure_list(cursor, head.ids)?;
@@ -230,7 +233,7 @@ fn take_flat_shape(
     requires m { head.now.m ≡ None }
     requires full { head.now.empty ≡ false }
     requires kind { is_collection head.now.kind ≡ false }
-    requires frame { IfSome frame.now (λ f. f ≡ framed head.now f.bounds) }
+    requires frame { IfSome frame.now (IsFramed head.now) }
     ensures { IfSome result (IsSureBody (deepest - depth) head.now frame.now cursor.old cursor.new) }
 {
     match frame {
@@ -260,7 +263,7 @@ fn take_further_shape(
     requires precisions { HasPrecisions head.now }
     requires full { head.now.empty ≡ false }
     requires kind { is_collection head.now.kind ≡ false }
-    requires frame { IfSome frame.now (λ f. f ≡ framed head.now f.bounds) }
+    requires frame { IfSome frame.now (IsFramed head.now) }
     ensures { IfSome result (IsSureBody (deepest - depth) head.now frame.now cursor.old cursor.new) }
 {
     match frame {

@@ -27,6 +27,13 @@ pub record IsNear (range : RawRange) : Type 0 where
   pub least : neg_ℤ (pos (2 ^ 61)) ≤ℤ range.extent
   pub greatest : range.extent ≤ℤ pos (2 ^ 61)
 
+-- the same of all ranges of a box
+pub record HasNearRanges (box : RawBox) : Type 0 where
+  pub x : IsNear box.x
+  pub y : IsNear box.y
+  pub third : IsNear box.third
+  pub fourth : IsNear box.fourth
+
 -- a box of raw numbers in units, by the precisions of its header
 abbrev pub raw_bounds : ℤ → Option ℕ → Option ℕ → RawBox → Bounds
 raw_bounds xy z m box = bounds_of xy z m (ranges_in box)

@@ -1,5 +1,5 @@
 //! Headers with a box for a scan, which looks at no byte behind a geometry while it reads the box.
-ghost use Rattle.std.specs.Prelude.{◌≡◌, ◌^◌, ◌≤ℤ◌, pos, neg_ℤ, false, true, IfSome, OnSome};
+ghost use Rattle.std.specs.Prelude.{◌≡◌, false, true, IfSome, OnSome};
 ghost use Rattle.twkb_num.specs.Cursor.{passed, IsMoved};
 ghost use Rattle.twkb_num.specs.Units.{IsPrecision};
 ghost use Rattle.twkb_num.specs.Varint.{SpellsTwoSigned};
@@ -12,11 +12,8 @@ use crate::bits::{BOX, EMPTY, EXTENDED, SIZE, has_bit};
 use crate::fields::{take_byte, take_number, take_type};
 use crate::header::SizeField;
 use crate::kinds::Kind;
-use crate::raw::RawRange;
+use crate::raw::{RawRange, near_range};
 use twkb_num::Cursor;
-
-/// How far from zero a number of a box may be.
-const FAR: i64 = 1 << 61;
 
 /// What a header with a size and a box in X and Y says up to the range in X, which stands before that in Y.
 #[derive(Clone, Copy, Debug, PartialEq, Eq)]
@@ -155,16 +152,6 @@ fn read_slow_range(cursor: &mut Cursor) -> Option<RawRange>
     let Ok(extent) = cursor.svarint() else {
         return None;
     };
-    if reaches(minimum) && reaches(extent) {
-        Some(RawRange { minimum, extent })
-    } else {
-        None
-    }
-}
-
-/// Whether a number is at most so far from zero that sums of two have 64 bits.
-fn reaches(number: i64) -> bool
-    ensures { result ≡ true → (neg_ℤ (pos (2 ^ 61)) ≤ℤ number) × (number ≤ℤ pos (2 ^ 61)) }
-{
-    -FAR <= number && number <= FAR
+    let range = near_range(minimum, extent)?;
+    Some(range)
 }

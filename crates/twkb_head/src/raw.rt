@@ -1,9 +1,9 @@
 //! Headers of geometries that have a body, with their boxes in raw numbers: numbers at one precision compare without units.
-ghost use Rattle.std.specs.Prelude.{◌≡◌, ◌-◌, ◌≤◌, ◌+ℤ◌, ℕ, ℤ, Ok, None, Option, false, is_some, option_map, IfSome, IfNone, OnSome};
+ghost use Rattle.std.specs.Prelude.{◌≡◌, ◌-◌, ◌≤◌, ◌^◌, ◌+ℤ◌, ◌≤ℤ◌, pos, neg_ℤ, ℕ, ℤ, Ok, None, Option, false, true, is_some, option_map, IfSome, IfNone, OnSome};
 ghost use Rattle.twkb_num.specs.Cursor.{Reading, passed, IsMoved};
 ghost use Rattle.twkb_num.specs.Units.{IsPrecision};
 ghost use Rattle.twkb_head.specs.BegunHeader.{deepest};
-ghost use Rattle.twkb_head.specs.Raw.{raw_bounds, whole_head, IsSizedPoint, IsBareLine};
+ghost use Rattle.twkb_head.specs.Raw.{raw_bounds, whole_head, IsSizedPoint, IsBareLine, IsNear, HasNearRanges};
 ghost use Rattle.twkb_head.specs.Devices.Raw.{AreFieldsOf, IsRangeIf};
 ghost use Rattle.twkb_head.specs.Head.{IsHeadAt};
 ghost use Rattle.twkb_head.specs.Header.{has_bit, z_in, m_in};
@@ -16,6 +16,9 @@ use crate::header::Head;
 use crate::kinds::Kind;
 use crate::read::{size_field, take_extended, take_size};
 use twkb_num::Cursor;
+
+/// How far from zero a number of a box may be.
+const FAR: i64 = 1 << 61;
 
 /// The two numbers of an axis of a box: a minimum, and the extent from there to the maximum.
 #[derive(Clone, Copy, Debug, PartialEq, Eq)]
@@ -47,8 +50,9 @@ pub struct RawHead {
     pub box_place: usize,
 }
 
-/// The header at the place, if the geometry, which stands at `depth`, isn't empty. Else `None`, and the cursor is somewhere
-/// behind its place: a look ahead is best made with [`Cursor::ahead`].
+/// The header at the place, if the geometry, which stands at `depth`, isn't empty, and no number of its box is farther than
+/// 2^61 from zero. Else `None`, and the cursor is somewhere behind its place: a look ahead is best made with
+/// [`Cursor::ahead`].
 #[inline(always)]
 pub fn read_raw_head(cursor: &mut Cursor, depth: u8) -> Option<RawHead>
     requires shallowest { 1 ≤ depth }
@@ -61,6 +65,7 @@ pub fn read_raw_head(cursor: &mut Cursor, depth: u8) -> Option<RawHead>
     ensures m_high { IfSome result (λ raw. IfSome raw.head.m (λ p. p ≤ 7)) }
     ensures full { IfSome result (λ raw. raw.head.empty ≡ false) }
     ensures no_box { IfSome result (λ raw. raw.head.bounds ≡ None) }
+    ensures near { IfSome result (λ raw. IfSome raw.bounds HasNearRanges) }
 {
     cursor.place_is_within();
     let raw = take_raw_head(cursor, depth)?;
@@ -80,6 +85,7 @@ pub fn read_flat_head(cursor: &mut Cursor, depth: u8) -> Option<RawHead>
     ensures xy { IfSome result (λ flat. IsPrecision flat.head.xy) }
     ensures flat { IfSome result (λ flat. (flat.head.z ≡ None) × (flat.head.m ≡ None) × (flat.head.empty ≡ false)) }
     ensures no_box { IfSome result (λ flat. flat.head.bounds ≡ None) }
+    ensures near { IfSome result (λ flat. IfSome flat.bounds HasNearRanges) }
 {
     cursor.place_is_within();
     let mut ahead = cursor.ahead();
@@ -145,6 +151,7 @@ fn take_raw_head(cursor: &mut Cursor, depth: u8) -> Option<RawHead>
     ensures m_high { IfSome result (λ raw. IfSome raw.head.m (λ p. p ≤ 7)) }
     ensures full { IfSome result (λ raw. raw.head.empty ≡ false) }
     ensures no_box { IfSome result (λ raw. raw.head.bounds ≡ None) }
+    ensures near { IfSome result (λ raw. IfSome raw.bounds HasNearRanges) }
 {
     let start = cursor.place();
     let Ok((kind, xy)) = take_type(cursor, depth) else {
@@ -170,6 +177,7 @@ fn take_flat_head(cursor: &mut Cursor, depth: u8) -> Option<RawHead>
     ensures xy { IfSome result (λ flat. IsPrecision flat.head.xy) }
     ensures flat { IfSome result (λ flat. (flat.head.z ≡ None) × (flat.head.m ≡ None) × (flat.head.empty ≡ false)) }
     ensures no_box { IfSome result (λ flat. flat.head.bounds ≡ None) }
+    ensures near { IfSome result (λ flat. IfSome flat.bounds HasNearRanges) }
 {
     let start = cursor.place();
     let Ok((kind, xy)) = take_type(cursor, depth) else {
@@ -205,6 +213,7 @@ fn take_raw_fields(
     ensures m_high { IfSome result (λ raw. IfSome raw.head.m (λ p. p ≤ 7)) }
     ensures full { IfSome result (λ raw. raw.head.empty ≡ false) }
     ensures no_box { IfSome result (λ raw. raw.head.bounds ≡ None) }
+    ensures near { IfSome result (λ raw. IfSome raw.bounds HasNearRanges) }
 {
     let z = z_of(extended);
     let m = m_of(extended);
@@ -240,9 +249,10 @@ fn take_raw_box(
     has_z: bool,
     has_m: bool,
 ) -> Option<Option<RawBox>>
-    ensures { (xy : ℤ) (z m : Option ℕ) → is_some z ≡ has_z → is_some m ≡ has_m
+    ensures read { (xy : ℤ) (z m : Option ℕ) → is_some z ≡ has_z → is_some m ≡ has_m
         → IfSome result (λ bounds. optional_at announced (bounds_from xy z m) cursor.old
         ≡ (Ok (option_map (raw_bounds xy z m) bounds), cursor.new)) }
+    ensures near { IfSome result (λ bounds. IfSome bounds HasNearRanges) }
 {
     if announced {
         let x = take_raw_range(cursor)?;
@@ -263,7 +273,8 @@ fn take_raw_box(
 /// Minimum and extent of an axis that may be there, or zeros.
 #[inline(always)]
 fn take_range_if(cursor: &mut Cursor, is_there: bool) -> Option<RawRange>
-    ensures { IfSome result (λ range. IsRangeIf is_there range cursor.old cursor.new) }
+    ensures read { IfSome result (λ range. IsRangeIf is_there range cursor.old cursor.new) }
+    ensures near { IfSome result IsNear }
 {
     if is_there {
         take_further_range(cursor)
@@ -279,8 +290,9 @@ fn take_range_if(cursor: &mut Cursor, is_there: bool) -> Option<RawRange>
 // It isn't inlined: few boxes have these axes, and a header that is smaller is inlined into each function that reads one.
 #[inline(never)]
 fn take_further_range(cursor: &mut Cursor) -> Option<RawRange>
-    ensures { IfSome result (λ range.
+    ensures read { IfSome result (λ range.
         range_from cursor.old ≡ (Ok (range.minimum, range.minimum +ℤ range.extent), cursor.new)) }
+    ensures near { IfSome result IsNear }
 {
     let Some((minimum, extent)) = cursor.svarint_pair() else {
         return take_long_range(cursor);
@@ -291,8 +303,9 @@ fn take_further_range(cursor: &mut Cursor) -> Option<RawRange>
 /// The same of X or Y, whose minimum is seldom as short as its extent: there is no path for such.
 #[inline(always)]
 fn take_raw_range(cursor: &mut Cursor) -> Option<RawRange>
-    ensures { IfSome result (λ range.
+    ensures read { IfSome result (λ range.
         range_from cursor.old ≡ (Ok (range.minimum, range.minimum +ℤ range.extent), cursor.new)) }
+    ensures near { IfSome result IsNear }
 {
     match cursor.svarint_mixed_pair() {
         Some((minimum, extent)) => Some(RawRange { minimum, extent }),
@@ -300,12 +313,13 @@ fn take_raw_range(cursor: &mut Cursor) -> Option<RawRange>
     }
 }
 
-/// The same of numbers that may be long or near the end of the bytes.
+/// The same of numbers that may be long, or at the end of the bytes. `None` where one is farther than 2^61 from zero.
 #[inline(always)]
 #[tactic(auto, unfolding(crate::specs::Devices::HeadReader::range_from))]
 pub fn take_long_range(cursor: &mut Cursor) -> Option<RawRange>
-    ensures { IfSome result (λ range.
+    ensures read { IfSome result (λ range.
         range_from cursor.old ≡ (Ok (range.minimum, range.minimum +ℤ range.extent), cursor.new)) }
+    ensures near { IfSome result IsNear }
 {
     let Ok(minimum) = take_signed(cursor) else {
         return None;
@@ -313,5 +327,26 @@ pub fn take_long_range(cursor: &mut Cursor) -> Option<RawRange>
     let Ok(extent) = take_signed(cursor) else {
         return None;
     };
-    Some(RawRange { minimum, extent })
+    near_range(minimum, extent)
+}
+
+/// The range of two numbers, if both are near.
+#[inline(always)]
+pub fn near_range(minimum: i64, extent: i64) -> Option<RawRange>
+    ensures range { IfSome result (λ range. (range.minimum ≡ minimum) × (range.extent ≡ extent)) }
+    ensures near { IfSome result IsNear }
+{
+    if reaches(minimum) && reaches(extent) {
+        Some(RawRange { minimum, extent })
+    } else {
+        None
+    }
+}
+
+/// Whether a number is at most so far from zero that sums of two have 64 bits.
+#[inline(always)]
+fn reaches(number: i64) -> bool
+    ensures { result ≡ true → (neg_ℤ (pos (2 ^ 61)) ≤ℤ number) × (number ≤ℤ pos (2 ^ 61)) }
+{
+    -FAR <= number && number <= FAR
 }

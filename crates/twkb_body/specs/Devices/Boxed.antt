@@ -58,8 +58,8 @@ abbrev pub held_with : Header → Held → PointValue → Held
 held_with h = held_then (axes_of h)
 
 -- a number near zero
-abbrev pub IsNear : ℤ → Type 0
-IsNear z = (neg_ℤ (pos (2 ^ 61)) ≤ℤ z) × (z ≤ℤ pos (2 ^ 61))
+abbrev pub IsNearZero : ℤ → Type 0
+IsNearZero z = (neg_ℤ (pos (2 ^ 61)) ≤ℤ z) × (z ≤ℤ pos (2 ^ 61))
 
 -- a distance between two of them, as is that of a point in the box
 abbrev pub IsClose : ℤ → Type 0
@@ -84,4 +84,4 @@ IsNearBox box = IsNearRange box.x × IsNearRange box.y
 pub record AreNear (box : RawBox) (point : Numbers) : Type 0 where
   pub third : IsNearRange box.third
   pub fourth : IsNearRange box.fourth
-  pub all : Each IsNear point
+  pub all : Each IsNearZero point

@@ -9,7 +9,7 @@ use Rattle.twkb_head.specs.declared.boxes.Vertex.{Vertex}
 use Rattle.twkb_head.specs.declared.raw.RawBox.{RawBox}
 use Rattle.twkb_head.specs.declared.raw.RawRange.{RawRange}
 use Rattle.twkb_head.specs.BegunHeader.{is_collection}
-use Rattle.twkb_head.specs.Raw.{raw_bounds}
+use Rattle.twkb_head.specs.Raw.{raw_bounds, HasNearRanges}
 use Rattle.twkb_head.specs.Header.{Header, is_multi}
 use Rattle.twkb_head.specs.Holds.{Holds}
 use Rattle.twkb_head.specs.Devices.Reader.{many_at}
@@ -82,10 +82,18 @@ pub record LiesInAll (z m : Option ℕ) (inner outer : RawBox) : Type 0 where
 abbrev pub framed : Head → RawBox → Frame
 framed head box = record { xy = head.xy; z = head.z; m = head.m; bounds = box }
 
+-- the numbers of a frame are near
+abbrev pub IsNearFrame : Frame → Type 0
+IsNearFrame frame = HasNearRanges frame.bounds
+
+-- the same, and it is at the precisions of a header
+abbrev pub IsFramed : Head → Frame → Type 0
+IsFramed head frame = (frame ≡ framed head frame.bounds) × IsNearFrame frame
+
 -- The frame that a geometry with this header and this own frame, if any, gives to its vertices under the one above: its own,
 -- which lies in that above, or else that above.
 pub record IsFrameUnder (above : Option Frame) (head : Head) (own frame : Option Frame) : Type 0 where
-  pub precisions : IfSome frame (λ f. f ≡ framed head f.bounds)
+  pub framed : IfSome frame (IsFramed head)
   pub own_is : IfSome own (λ f. frame ≡ Some f)
   pub above_holds : (vertices : List Vertex) → IsHeldBy frame vertices → IsHeldBy above vertices
 

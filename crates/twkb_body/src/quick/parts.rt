@@ -2,6 +2,7 @@
 ghost use Rattle.std.specs.Prelude.{◌≡◌, ◌≤◌, None, IfSome, Ok, false};
 ghost use Rattle.twkb_num.specs.Units.{IsPrecision};
 ghost use Rattle.twkb_head.specs.Header.{axes_with, is_multi};
+ghost use Rattle.twkb_head.specs.Raw.{HasNearRanges};
 ghost use Rattle.twkb_head.specs.declared.kinds.Kind.TheVariants.{LineString};
 ghost use Rattle.twkb_body.specs.Devices.Bare.{unchanged};
 ghost use Rattle.twkb_body.specs.Devices.Body.{ListHead};
@@ -108,6 +109,7 @@ pub fn take_boxed(
     axes: usize,
     bounds: &RawBox,
 ) -> Option<usize>
+    requires { HasNearRanges bounds.now }
     ensures { IfSome result (AddsHeld kind has_ids axes bounds.now cursor.old cursor.new) }
 {
     match axes {
@@ -126,6 +128,7 @@ fn take_boxed_three(
     has_ids: bool,
     bounds: &RawBox,
 ) -> Option<usize>
+    requires { HasNearRanges bounds.now }
     ensures { IfSome result (AddsHeld kind has_ids 3 bounds.now cursor.old cursor.new) }
 {
     let head = head_of(kind, has_ids, 3);
@@ -141,6 +144,7 @@ fn take_boxed_three(
 /// The same of four axes.
 #[inline(never)]
 fn take_boxed_four(cursor: &mut Cursor, kind: Kind, has_ids: bool, bounds: &RawBox) -> Option<usize>
+    requires { HasNearRanges bounds.now }
     ensures { IfSome result (AddsHeld kind has_ids 4 bounds.now cursor.old cursor.new) }
 {
     let head = head_of(kind, has_ids, 4);

@@ -3,7 +3,7 @@ use Rattle.std.proofs.Common.{◌≡◌, refl, subst, arith}
 use Rattle.std.proofs.lemmas.Int.{ints}
 use mir.Val.{to_z, of_z}
 use Rattle.std.specs.Int.{w64}
-use Rattle.twkb_body.specs.Devices.Boxed.{IsNear}
+use Rattle.twkb_body.specs.Devices.Boxed.{IsNearZero}
 use Rattle.twkb_body.proofs.boxed.are_near.Goals as goal
 
 pub returns : goal.returns
@@ -14,12 +14,12 @@ returns c = λ e.
     let third : to_z w64 (of_z w64 a.third) ≡ a.third = omega (arith, ints) in
     let fourth : to_z w64 (of_z w64 a.fourth) ≡ a.fourth = omega (arith, ints) in
     record {
-      third = c.if-not-is_near_range.ensures.0 refl;
-      fourth = c.if-not-is_near_range-2.ensures.0 refl;
+      third = c.if-not-is_range.ensures.0 refl;
+      fourth = c.if-not-is_range-2.ensures.0 refl;
       all = record {
-        x = subst IsNear x (c.if-not-is_near.ensures.0 refl);
-        y = subst IsNear y (c.if-not-is_near-2.ensures.0 refl);
-        third = subst IsNear third (c.if-not-is_near-3.ensures.0 refl);
-        fourth = subst IsNear fourth (c.is_near-2.ensures.0 e);
+        x = subst IsNearZero x (c.if-not-is_near.ensures.0 refl);
+        y = subst IsNearZero y (c.if-not-is_near-2.ensures.0 refl);
+        third = subst IsNearZero third (c.if-not-is_near-3.ensures.0 refl);
+        fourth = subst IsNearZero fourth (c.is_near-2.ensures.0 e);
       };
     }

@@ -9,7 +9,7 @@ use Rattle.twkb_body.proofs.quick.+take_sure.Goals as goal
 pub take_sure-returns : goal.take_sure-returns
 take_sure-returns t c =
     let flat = c.in-Some.flat in
-    let under = rw c.of-own.ensures at c.in_ok-frame.ensures in
+    let under = rw c.of-own.ensures.own at c.in_ok-frame.ensures in
     geometry_sure (whole_head flat) flat.head c.args.depth c.args.above.now c.in_ok-frame.frame c.args.cursor.now c.read_flat_head.new.cursor _ _ c.requires.shallowest c.requires.deepest c.place_is_within.ensures
     c.in-Some.ensures.ok c.in-Some.ensures.moved refl (own_box flat c.args.above.now c.in_ok-frame.frame under) under.above_holds c.in_ok-vertices.ensures
     (sym (ap (size_judged flat.head.size) (sym c.place-stop.ensures.value) ∙ c.if-not-is_size_true.ensures refl))
@@ -17,7 +17,7 @@ take_sure-returns t c =
 pub take_further-returns : goal.take_further-returns
 take_further-returns t c =
     let raw = c.in_ok-raw.raw in
-    let under = rw c.of-own.ensures at c.in_ok-frame.ensures in
+    let under = rw c.of-own.ensures.own at c.in_ok-frame.ensures in
     geometry_sure (whole_head raw) raw.head c.args.depth c.args.above.now c.in_ok-frame.frame c.args.cursor.now c.read_raw_head.new.cursor _ _ c.requires.shallowest c.requires.deepest c.place_is_within.ensures
     c.in_ok-raw.ensures.ok c.in_ok-raw.ensures.moved refl (own_box raw c.args.above.now c.in_ok-frame.frame under) under.above_holds c.in_ok-vertices.ensures
     (sym (ap (size_judged raw.head.size) (sym c.place-stop.ensures.value) ∙ c.if-not-is_size_true.ensures refl))

@@ -10,4 +10,4 @@ returns-in_ok-vertices-in-None c =
 
 pub returns-in_ok-vertices-in-Some : goal.returns-in_ok-vertices-in-Some
 returns-in_ok-vertices-in-Some c =
-    rw c.in-Some.is (body_held (deepest - c.args.depth) c.args.head.now _ _ _ _ (sym c.axes.ensures.value) c.requires.full c.requires.kind c.in-Some.frame (rw c.in-Some.is at c.requires.frame) c.in_ok-vertices-in-Some.ensures)
+    rw c.in-Some.is (body_held (deepest - c.args.depth) c.args.head.now _ _ _ _ (sym c.axes.ensures.value) c.requires.full c.requires.kind c.in-Some.frame (rw c.in-Some.is at c.requires.frame).0 c.in_ok-vertices-in-Some.ensures)

@@ -23,7 +23,7 @@ loop-is_inside-preserved c =
     let near = c.if-not-are_near.ensures refl in
     record {
       run = further_goes_on (of_head c.args._head.now) c.args.trail.now c.args.self.now c.args.cursor.now c.self.inside.bounds c.args.has_fourth c.loop-is_inside.apart c.in-Some.more _ _ _ _ _ c.loop-is_inside.taken
-          c.requires.further c.loop-is_inside-test.true c.self.invariant near.third near.fourth c.in-Some.ensures.some c.plus-apart.ensures c.reach_all-is_inside.ensures c.loop-is_inside.invariant.run;
+          c.requires.further c.loop-is_inside-test.true c.self.invariant.0 near.third near.fourth c.in-Some.ensures.some c.plus-apart.ensures c.reach_all-is_inside.ensures c.loop-is_inside.invariant.run;
       few = omega (arith, c.if-taken-most.true);
     }
 

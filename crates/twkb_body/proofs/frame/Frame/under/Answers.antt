@@ -13,7 +13,7 @@ returns-then-lies_in_all c =
     let z = option_same frame.z head.z c.if-ne.ensures in
     let m = option_same frame.m head.m c.if-ne-2.ensures in
     let same : frame ≡ framed head frame.bounds = λ j. record { xy = xy j; z = z j; m = m j; bounds = frame.bounds } in
-    rw (c.in-Some.is, c.in-Some-own.is) (frame_inside frame c.in-Some-own.inner head same (rw c.in-Some-own.is at c.requires) (c.if-lies_in_all.ensures refl))
+    rw (c.in-Some.is, c.in-Some-own.is) (frame_inside frame c.in-Some-own.inner head same (rw c.in-Some-own.is at c.requires.own) (c.if-lies_in_all.ensures refl))
 
 pub returns-in-None : goal.returns-in-None
 returns-in-None c =
@@ -23,7 +23,7 @@ returns-in-None c =
     let z = option_same frame.z head.z c.if-ne.ensures in
     let m = option_same frame.m head.m c.if-ne-2.ensures in
     let same : frame ≡ framed head frame.bounds = λ j. record { xy = xy j; z = z j; m = m j; bounds = frame.bounds } in
-    rw (c.in-Some.is, c.in-None.is) (frame_above frame head same)
+    rw (c.in-Some.is, c.in-None.is) (frame_above frame head (same, rw c.in-Some.is at c.requires.near))
 
 pub returns-in_default : goal.returns-in_default
-returns-in_default c = rw c.in_default.is (frame_alone c.args.head.now c.args.own c.requires)
+returns-in_default c = rw c.in_default.is (frame_alone c.args.head.now c.args.own c.requires.own)
