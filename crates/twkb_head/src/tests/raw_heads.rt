@@ -178,6 +178,21 @@ fn raw_boxes_in_the_order_of_the_axes(rt: HostRuntime) {
     }
 }
 
+// An extent of 2^61, one more, and as much the other way.
+#[test]
+fn raw_boxes_have_near_numbers(rt: HostRuntime) {
+    for (lowest, is_near) in [(0x80, true), (0x82, false), (0x81, false)] {
+        let bytes = [
+            0x02, 0x01, 0x02, 0x08, 0x02, lowest, 0x80, 0x80, 0x80, 0x80, 0x80, 0x80, 0x80, 0x40,
+            0x00,
+        ];
+        let raw = read_raw_head(&mut Cursor::new(&bytes), 1);
+        assert_eq!(rt; raw.is_some(), is_near, "of {lowest}");
+        let flat = read_flat_head(&mut Cursor::new(&bytes), 1);
+        assert_eq!(rt; flat.is_some(), is_near, "of {lowest}");
+    }
+}
+
 #[test]
 fn raw_heads_say_where_a_box_would_stand(rt: HostRuntime) {
     let size = SizeField {
@@ -272,7 +287,7 @@ fn every_metadata_byte_of_raw_heads(rt: &impl Abort, mut bytes: [u8; 48], stop: 
     }
 }
 
-// The header at place 1 is read raw exactly where it is one of a geometry that isn't empty.
+// The header at place 1 is read raw exactly where it is one of a geometry that isn't empty, with no far number in its box.
 fn raw_like_head(rt: &impl Abort, bytes: &[u8], depth: u8)
     requires some { 1 ≤ length bytes.now }
     requires shallowest { 1 ≤ depth }
@@ -292,10 +307,27 @@ fn raw_like_head(rt: &impl Abort, bytes: &[u8], depth: u8)
             assert!(rt; !raw.head.empty);
         }
         None => {
-            let is_full = head.is_ok_and(|head| !head.empty);
-            assert!(rt; !is_full, "of {bytes:?}");
+            if let Ok(head) = head {
+                assert!(rt; head.empty || has_far_numbers(bytes, &head), "of {bytes:?}");
+            }
         }
     }
+}
+
+// Whether a number of the box is farther than 2^61 from zero.
+fn has_far_numbers(bytes: &[u8], head: &Head) -> bool {
+    let Some(BoxField { offset, .. }) = head.bounds else {
+        return false;
+    };
+    let mut numbers = Cursor::new(bytes);
+    numbers.go_to(offset.min(bytes.len()));
+    let mut is_far = false;
+    for _ in 0..head.axes().saturating_mul(2) {
+        if let Ok(number) = numbers.svarint() {
+            is_far = is_far || number < -(1 << 61) || number > 1 << 61;
+        }
+    }
+    is_far
 }
 
 // The header with its box in units.
