@@ -82,7 +82,10 @@ impl Boxed {
             };
             across += x_more;
             up += y_more;
-            inside = reach_both(&self.bounds, across, up);
+            // Told by where it goes on, and not kept as a value at each point.
+            if !reach_both(&self.bounds, across, up) {
+                inside = false;
+            }
             done += 1;
         }
         // The proof knows from here that the place fits its type, and so does the number of points.

@@ -10,7 +10,7 @@ use Rattle.twkb_body.proofs.BoxedRuns.{boxed_begins, boxed_goes_on}
 use Rattle.twkb_body.proofs.FlatRuns.{IsFlatRun, flat_ends}
 use Rattle.twkb_body.proofs.NumberSteps.{difference_fits, points_fit}
 use Rattle.twkb_body.proofs.boxed.Boxed.take_flat_run.Goals as goal
-use Rattle.twkb_body.proofs.boxed.Boxed.take_flat_run.Goals.{then-loop-inside-test+else-done-most, else-loop-inside-test, then-loop-inside-test+then-done-most+in_default}
+use Rattle.twkb_body.proofs.boxed.Boxed.take_flat_run.Goals.{then-not-reach_both, else-not-reach_both, then-loop-inside-test+else-done-most, else-loop-inside-test, then-loop-inside-test+then-done-most+in_default}
 
 pub loop-inside-init : goal.loop-inside-init
 loop-inside-init c =
@@ -40,7 +40,12 @@ loop-inside-preserved c =
     let up : to_z w64 (of_z w64 (to_z w64 c.loop-inside.up-bits +ℤ to_z w64 (of_z w64 c.in-Some.y_more))) ≡ to_z w64 c.loop-inside.up-bits +ℤ c.in-Some.y_more = omega (arith, ints, close.1.0, close.1.1, short.1.0, short.1.1) in
     record {
       run = boxed_goes_on (of_head c.args._head.now) c.args.trail.now c.args.self.now c.args.cursor.now box _ _ c.in-Some.x_more c.in-Some.y_more _ _ _ _ _ _ c.loop-inside.done c.requires.flat c.loop-inside-test.true c.self.invariant.0
-          c.in-Some.ensures.some short.0 short.1 c.in-Some.ensures.moved across up c.reach_both-inside.ensures l;
+          c.in-Some.ensures.some short.0 short.1 c.in-Some.ensures.moved across up
+          (elim c.if-not-reach_both.branch [
+            | then-not-reach_both w ↦ w.inside-is ∙ w.if-not-reach_both.ensures
+            | else-not-reach_both w ↦ w.inside-is ∙ c.loop-inside-test.true ∙ w.if-not-reach_both.ensures
+          ])
+          l;
       few = omega (arith, c.if-done-most.true);
     }
 
