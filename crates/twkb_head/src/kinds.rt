@@ -64,7 +64,7 @@ pub fn kind_at(byte: u8, depth: u8) -> Result<Kind, Why>
 
 /// The kinds by their codes, from 1 on. They are looked up, since the branches of a `match` are guessed wrong where kinds
 /// change from geometry to geometry.
-const KINDS: [Kind; 7] = [
+static KINDS: [Kind; 7] = [
     Kind::Point,
     Kind::LineString,
     Kind::Polygon,
