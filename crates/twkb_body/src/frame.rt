@@ -1,6 +1,6 @@
 //! The box that the vertices of a geometry have to lie in: its own, or that of a geometry above.
 ghost use Rattle.std.specs.Prelude.{◌≡◌, None, IfSome, IsTrue, option_map};
-ghost use Rattle.twkb_head.specs.Raw.{HasNearRanges};
+ghost use Rattle.twkb_head.specs.Raw.{IsNear, HasNearRanges};
 ghost use Rattle.twkb_body.specs.Devices.Sure.{framed, IsFramed, IsNearFrame, IsFrameUnder, LiesIn, LiesInAll};
 
 use twkb_head::{Head, RawBox, RawRange};
@@ -63,6 +63,8 @@ impl Frame {
 /// Whether one box lies in another, in each axis that the header has.
 #[inline(always)]
 fn lies_in_all(head: &Head, inner: &RawBox, outer: &RawBox) -> bool
+    requires inner { HasNearRanges inner.now }
+    requires outer { HasNearRanges outer.now }
     ensures { IsTrue result → LiesInAll head.now.z head.now.m inner.now outer.now }
 {
     lies_in(&inner.x, &outer.x)
@@ -81,21 +83,20 @@ fn is_flat(head: &Head) -> bool
 /// Whether a box lies in another in the axes behind X and Y. Where one isn't there, both have zeros.
 #[inline(always)]
 fn lies_in_further(inner: &RawBox, outer: &RawBox) -> bool
+    requires inner { HasNearRanges inner.now }
+    requires outer { HasNearRanges outer.now }
     ensures { IsTrue result → LiesIn inner.now.third outer.now.third × LiesIn inner.now.fourth outer.now.fourth }
 {
     lies_in(&inner.third, &outer.third) && lies_in(&inner.fourth, &outer.fourth)
 }
 
-/// Whether one range lies in another, where 64 bits tell.
+/// Whether one range lies in another.
 #[inline(always)]
 fn lies_in(inner: &RawRange, outer: &RawRange) -> bool
+    requires inner { IsNear inner.now }
+    requires outer { IsNear outer.now }
     ensures { IsTrue result → LiesIn inner.now outer.now }
 {
-    let Some(apart) = inner.minimum.checked_sub(outer.minimum) else {
-        return false;
-    };
-    let Some(left) = outer.extent.checked_sub(apart) else {
-        return false;
-    };
-    0 <= apart && inner.extent <= left
+    let apart = inner.minimum - outer.minimum;
+    0 <= apart && inner.extent <= outer.extent - apart
 }
