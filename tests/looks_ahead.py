@@ -26,6 +26,7 @@ ALLOWED = {
         "crates/twkb_head/src/raw.rt",
         *(f"crates/twkb_body/src/{name}.rt" for name in ("boxed", "numbers")),
     },
+    ".svarint_mixed_pair()": {"crates/twkb_head/src/raw.rt", "crates/twkb_num/src/cursor/pairs.rt"},
     ".pass_varint()": {"crates/twkb_body/src/quick.rt"},
     # Of a line the words end before its last four points do.
     ".pass_varints(": {"crates/twkb_body/src/bare.rt", "crates/twkb_layer/src/lines.rt"},
