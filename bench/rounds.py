@@ -26,8 +26,9 @@ class Rounds:
         return min(self.ours), min(self.fast), min(self.plain)
 
     def over_fast(self):
-        """The median of the ratios of quiet rounds, or that of the best times, where no round was quiet."""
-        return statistics.median(self.ratios) if self.ratios else min(self.ours) / min(self.fast)
+        """The median of the ratios of quiet rounds, or that of the best times, where fewer than half of the rounds were quiet."""
+        quiet = 2 * len(self.ratios) >= len(self.ours)
+        return statistics.median(self.ratios) if quiet else min(self.ours) / min(self.fast)
 
     def over_plain(self):
         return min(self.ours) / min(self.plain)

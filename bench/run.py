@@ -8,9 +8,9 @@ timed, and runs on the same bytes with a first one that no blob begins with: the
 compared with programs in plain Rust, std only: fast/ is the fastest that we know how to write, without SIMD; of the two
 called plain, plain.rs checks as one would write it at first, and hops.rs scans with all inlined. In each of RUNS
 rounds ours is run between two runs of the fastest one. Of each the best time is shown. Ratios of times over the fastest
-program's are medians of the rounds in which both of its runs took as long. Times are of 40 MB, and instructions, which
-valgrind counts, of 4 MB, of one audit or scan alone. Where two answers differ, the run fails. A plot of the ratios goes
-to docs/bench.svg.
+program's are medians of the rounds in which both of its runs took as long, or of the best times, where fewer than half of
+the rounds were such. Times are of 40 MB, and instructions, which valgrind counts, of 4 MB, of one audit or scan alone.
+Where two answers differ, the run fails. A plot of the ratios goes to docs/bench.svg.
 """
 import os
 import sys
