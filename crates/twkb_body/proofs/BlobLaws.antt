@@ -16,28 +16,32 @@ use Rattle.twkb_head.proofs.Plans.{IsViableIn, IsRefused, no_field, no_value, ru
 use Rattle.twkb_body.specs.Geometry.{Geometry}
 use Rattle.twkb_body.specs.Encoding.{Blob}
 use Rattle.twkb_body.specs.Begun.{IsBegun, IsViable}
+use Rattle.twkb_head.proofs.Combinators.{PlanLaws}
 use Rattle.twkb_body.proofs.GeometryPlan.{geometry_plan, read_at, read_blob}
 use Rattle.twkb_body.specs.Malformation.{BeginsWithNoBlob, IsWrong}
-use Rattle.twkb_body.proofs.Geometries.{blob_spelled, spelled_blob, geometry_stops, stops_geometry}
+use Rattle.twkb_body.proofs.Geometries.{blob_laws}
 
 -- a blob has all levels but its own below it
 from_top : 1 + (deepest - 1) ≡ deepest
 from_top = refl
 
 module _ (levels depth : ℕ) (deep : depth + levels ≡ deepest) (some : 1 ≤ depth) where
+  laws : PlanLaws (geometry_plan levels) (λ g front. Blob g front depth) (IsBegun depth)
+  laws = blob_laws deepest levels depth deep some
+
   -- what is read is a blob
   pub read_takes : (bytes rest : List ℕ) (g : Geometry) → read_at levels bytes ≡ Ok (g, rest) → (front : List ℕ) × (bytes ≡ front ++ rest) × Blob g front depth
   read_takes bytes rest g e =
       let t = run_takes (geometry_plan levels) bytes (g, rest) e in
-      (t.0, t.1, blob_spelled deepest levels depth deep some g t.0 t.2)
+      (t.0, t.1, laws.spelled g t.0 t.2)
 
   -- a blob is read, whatever follows it
   pub read_again : (g : Geometry) (front rest : List ℕ) → Blob g front depth → read_at levels (front ++ rest) ≡ Ok (g, rest)
-  read_again g front rest b = run_again (geometry_plan levels) g front rest (spelled_blob deepest levels depth deep some g front b)
+  read_again g front rest b = run_again (geometry_plan levels) g front rest (laws.spelled_back g front b)
 
   -- what is begun is cut where it ends
   pub read_begun : (p : List ℕ) (due : Field) → IsBegun depth p due → read_at levels p ≡ Err (fault Cut due [])
-  read_begun p due b = run_stops (geometry_plan levels) p due (stops_geometry deepest levels depth deep some p due b)
+  read_begun p due b = run_stops (geometry_plan levels) p due (laws.stops_back p due b)
 
   -- the tree and the end are unique, and no blob is a proper prefix of another
   pub blob_once : (g h : Geometry) (a b x y : List ℕ) → Blob g a depth → Blob h b depth → a ++ x ≡ b ++ y → (g ≡ h) × (a ≡ b) × (x ≡ y)
@@ -66,21 +70,24 @@ module _ (levels depth : ℕ) (deep : depth + levels ≡ deepest) (some : 1 ≤ 
   IsViableAt p = ((g : Geometry) × Blob g p depth) ⊎ ((due : Field) × IsBegun depth p due)
 
   viable_in : (p : List ℕ) → IsViableAt p → IsViableIn (geometry_plan levels) p
-  viable_in p (inl (g, b)) = inl (g, spelled_blob deepest levels depth deep some g p b)
-  viable_in p (inr (due, b)) = inr (due, stops_geometry deepest levels depth deep some p due b)
+  viable_in p (inl (g, b)) = inl (g, laws.spelled_back g p b)
+  viable_in p (inr (due, b)) = inr (due, laws.stops_back p due b)
 
   in_viable : (p : List ℕ) → IsViableIn (geometry_plan levels) p → IsViableAt p
-  in_viable p (inl (g, b)) = inl (g, blob_spelled deepest levels depth deep some g p b)
-  in_viable p (inr (due, b)) = inr (due, geometry_stops deepest levels depth deep some p due b)
+  in_viable p (inl (g, b)) = inl (g, laws.spelled g p b)
+  in_viable p (inr (due, b)) = inr (due, laws.stops p due b)
 
   -- something viable goes on, behind a begun prefix, by one field of the kind that is due, and is viable there
   pub goes_on : (p rest : List ℕ) (due : Field) → IsBegun depth p due → IsViableAt (p ++ rest) → rest ≢ []
       → (front : List ℕ) × (behind : List ℕ) × (rest ≡ front ++ behind) × IsField due front × IsViableAt (p ++ front)
   goes_on p rest due b v more =
-      let t = run_goes_on (geometry_plan levels) p rest due (stops_geometry deepest levels depth deep some p due b) (viable_in (p ++ rest) v) more in
+      let t = run_goes_on (geometry_plan levels) p rest due (laws.stops_back p due b) (viable_in (p ++ rest) v) more in
       (t.0, t.1, t.2, t.3, in_viable (p ++ t.0) t.4)
 
 -- ---- faults
+top : PlanLaws (geometry_plan (deepest - 1)) (λ g front. Blob g front 1) (IsBegun 1)
+top = laws (deepest - 1) 1 from_top (omega arith)
+
 code_is : (levels : ℕ) (t : ℕ) (o : Option Kind) (why : Why) → kind_of_code (t % 16) ≡ o → judge_kind levels o ≡ Some why
     → ((why ≡ BadKind) × ((t % 16 ≡ 0) ⊎ (8 ≤ t % 16))) ⊎ ((why ≡ Depth) × (t % 16 ≡ 7))
 code_is levels t None why e j = inl (cc (j), no_kind (t % 16) e)
@@ -135,7 +142,7 @@ pub read_fails : (bytes : List ℕ) (why : Why) (due : Field) (f : List ℕ) →
     → (p : List ℕ) × (bytes ≡ p ++ f) × IsBegun 1 p due × IsWrong why due p f
 read_fails bytes why due f e =
     let t = run_fails (geometry_plan (deepest - 1)) bytes why due f e in
-    (t.p, t.parts, geometry_stops deepest (deepest - 1) 1 from_top (omega arith) t.p due t.stops, wrong_of t.p why due f t.refused)
+    (t.p, t.parts, top.stops t.p due t.stops, wrong_of t.p why due f t.refused)
 
 -- and the other way round
 refuses_kind : (b : ℕ) → (b % 16 ≡ 0) ⊎ (8 ≤ b % 16) → (r : Request) → type_field ≡ field_of r → judge r (b ∷ []) ≡ Some BadKind
@@ -165,12 +172,12 @@ module _ (p f : List ℕ) where
   Fails why due = read_blob (p ++ f) ≡ Err (fault why due f)
 
   uncut : (why : Why) (due : Field) → IsBegun 1 p due → cut_field due f ≡ Err why → Fails why due
-  uncut why due b e = run_uncut (geometry_plan (deepest - 1)) p due why f (stops_geometry deepest (deepest - 1) 1 from_top (omega arith) p due b) e
+  uncut why due b e = run_uncut (geometry_plan (deepest - 1)) p due why f (top.stops_back p due b) e
 
   refused : (why : Why) (due : Field) (front behind : List ℕ) → IsBegun 1 p due → f ≡ front ++ behind → IsField due front → (IsViable (p ++ front) → ⊥)
       → ((w : Why) (r : Request) → due ≡ field_of r → judge r front ≡ Some w → w ≡ why) → Fails why due
   refused why due front behind b parts field none only =
-      let t = run_refused (geometry_plan (deepest - 1)) p due front behind (stops_geometry deepest (deepest - 1) 1 from_top (omega arith) p due b) field
+      let t = run_refused (geometry_plan (deepest - 1)) p due front behind (top.stops_back p due b) field
       (λ v. none (in_viable (deepest - 1) 1 from_top (omega arith) (p ++ front) v)) in
       subst (λ (z : List ℕ). read_blob (p ++ z) ≡ Err (fault why due z)) (sym parts)
       (t.4 ∙ ap (λ (w : Why). Err (fault w due (front ++ behind))) (only t.1 t.0 t.2 t.3))
@@ -187,7 +194,7 @@ module _ (p f : List ℕ) where
   wrong_fails Varint coordinate_field b w = uncut Varint coordinate_field b (too_long f w)
   wrong_fails BadKind type_field b (t, behind, parts, code) =
       subst (λ (z : List ℕ). read_blob (p ++ z) ≡ Err (fault BadKind type_field z)) (sym parts)
-      (run_judged (geometry_plan (deepest - 1)) p type_field BadKind (t ∷ []) behind (stops_geometry deepest (deepest - 1) 1 from_top (omega arith) p type_field b) (t, refl) (refuses_kind t code))
+      (run_judged (geometry_plan (deepest - 1)) p type_field BadKind (t ∷ []) behind (top.stops_back p type_field b) (t, refl) (refuses_kind t code))
   wrong_fails BadKind byte_field b w = absurd w
   wrong_fails BadKind number_field b w = absurd w
   wrong_fails BadKind coordinate_field b w = absurd w

@@ -11,7 +11,7 @@ use Rattle.twkb_head.specs.Parts.{Then, Sequence, Times}
 use Rattle.twkb_head.specs.Devices.Plan.{signeds_plan}
 use Rattle.twkb_head.specs.Devices.Reader.{signed_at, signeds_at, Fails}
 use Rattle.twkb_head.proofs.Plans.{run_takes}
-use Rattle.twkb_head.proofs.Leaves.{signeds_spelled}
+use Rattle.twkb_head.proofs.Leaves.{signeds_laws}
 use Rattle.twkb_head.proofs.Readings.{read_ok}
 use Rattle.twkb_head.proofs.Loops.{IsLoop, loop_begins, loop_goes_on, loop_fails, loop_ends}
 use Rattle.twkb_body.specs.Devices.IdLists.{HasManyIds}
@@ -31,7 +31,7 @@ signeds_stand : (n : ℕ) (r new : Reading) (ids : List ℤ) → IsSound r → s
 signeds_stand n r new ids sound e =
     let ok = read_ok (signeds_plan n) r new ids sound (signeds_runs n r ∙ e) in
     let t = run_takes (signeds_plan n) (rest r) (ids, rest new) ok.0 in
-    (t.0, t.1, signeds_spelled n ids t.0 t.2, ok.1.bytes)
+    (t.0, t.1, (signeds_laws n).spelled ids t.0 t.2, ok.1.bytes)
 
 module _ (count : ℕ) (from : Reading) where
   -- so many ids were read, and are held

@@ -7,7 +7,7 @@ use Rattle.twkb_head.specs.Devices.Plan.{Plan, number_plan}
 use Rattle.twkb_head.proofs.Spelling.{Spelled}
 use Rattle.twkb_head.specs.Devices.Reader.{Answer, read, number_at, Fails}
 use Rattle.twkb_head.proofs.Plans.{run_takes}
-use Rattle.twkb_head.proofs.Leaves.{number_spelled}
+use Rattle.twkb_head.proofs.Leaves.{number_laws}
 use Rattle.twkb_head.proofs.Readings.{read_ok}
 use Rattle.twkb_body.specs.declared.stopped.Stopped.{Stopped}
 use Rattle.twkb_body.specs.declared.stopped.Stopped.TheVariants.{Malformed as BadField, Memory}
@@ -29,4 +29,4 @@ plan_stands p r new x sound e =
 
 pub number_stands : (r new : Reading) (n : ℕ) → IsSound r → number_at r ≡ (Ok n, new) → (front : List ℕ) × (rest r ≡ front ++ rest new) × Spells front n × IsMoved r new
 unfolding number_at
-number_stands r new n sound e = let t = plan_stands number_plan r new n sound e in (t.0, t.1, number_spelled n t.0 t.2, t.3)
+number_stands r new n sound e = let t = plan_stands number_plan r new n sound e in (t.0, t.1, number_laws.spelled n t.0 t.2, t.3)

@@ -20,7 +20,7 @@ use Rattle.twkb_head.specs.declared.refusal.Malformed.{Malformed}
 use Rattle.twkb_head.specs.declared.header.Head.{Head}
 use Rattle.twkb_head.proofs.FieldCuts.{ok_is, err_is, cut_off, too_long}
 use Rattle.twkb_head.proofs.Plans.{run_again, run_uncut}
-use Rattle.twkb_head.proofs.Heads.{IsAllowedWith, kind_code, allowed_with, spelled_head, stops_head}
+use Rattle.twkb_head.proofs.Heads.{IsAllowedWith, kind_code, allowed_with, head_laws}
 use Rattle.twkb_head.proofs.Readings.{read_ok, read_err, reading_path}
 use Rattle.twkb_head.proofs.HeadLaws.{type_first}
 
@@ -48,7 +48,7 @@ shallow MultiPolygon = refl
 shallow GeometryCollection = refl
 
 header_runs : (h : Header) (a x : List ℕ) (ih : IsHeader h a) → run (head_plan 1) (a ++ x) ≡ Ok (value_of h a ih, x)
-header_runs h a x ih = run_again (head_plan 1) (value_of h a ih) a x (spelled_head 1 (value_of h a ih) a (record { header = ih; allowed = shallow h.kind; before = refl; size = refl }))
+header_runs h a x ih = run_again (head_plan 1) (value_of h a ih) a x ((head_laws 2 1 1 refl (omega arith)).spelled_back (value_of h a ih) a (record { header = ih; allowed = shallow h.kind; before = refl; size = refl }))
 
 -- Two headers at the front of the same bytes are one, with the same parts,
 pub parts_once : (h k : Header) (a x b y : List ℕ) → a ++ x ≡ b ++ y → (ih : IsHeader h a) (ik : IsHeader k b) → (value_of h a ih ≡ value_of k b ik) × (x ≡ y)
@@ -101,13 +101,13 @@ module _ (depth : ℕ) (some : 1 ≤ depth) (deep : depth ≤ deepest) where
 
   -- a field is due, and it is wrong: there reading fails
   wrong_fails : (levels : ℕ) → depth + levels ≡ deepest → (p f : List ℕ) (why : Why) (due : Field) → IsBegunHeader deepest depth p due → IsWrongField deepest depth why due f → run (head_plan levels) (p ++ f) ≡ Err (fault why due f)
-  wrong_fails levels sum p f Cut type_field b w = run_uncut (head_plan levels) p type_field Cut f (stops_head deepest levels depth sum some p type_field b) (ap cut_byte w)
-  wrong_fails levels sum p f Cut byte_field b w = run_uncut (head_plan levels) p byte_field Cut f (stops_head deepest levels depth sum some p byte_field b) (ap cut_byte w)
-  wrong_fails levels sum p f Cut number_field b w = run_uncut (head_plan levels) p number_field Cut f (stops_head deepest levels depth sum some p number_field b) (cut_off f w)
+  wrong_fails levels sum p f Cut type_field b w = run_uncut (head_plan levels) p type_field Cut f ((head_laws deepest levels depth sum some).stops_back p type_field b) (ap cut_byte w)
+  wrong_fails levels sum p f Cut byte_field b w = run_uncut (head_plan levels) p byte_field Cut f ((head_laws deepest levels depth sum some).stops_back p byte_field b) (ap cut_byte w)
+  wrong_fails levels sum p f Cut number_field b w = run_uncut (head_plan levels) p number_field Cut f ((head_laws deepest levels depth sum some).stops_back p number_field b) (cut_off f w)
   wrong_fails levels sum p f Cut coordinate_field b w = absurd w
   wrong_fails levels sum p f Varint type_field b w = absurd w
   wrong_fails levels sum p f Varint byte_field b w = absurd w
-  wrong_fails levels sum p f Varint number_field b w = run_uncut (head_plan levels) p number_field Varint f (stops_head deepest levels depth sum some p number_field b) (too_long f w)
+  wrong_fails levels sum p f Varint number_field b w = run_uncut (head_plan levels) p number_field Varint f ((head_laws deepest levels depth sum some).stops_back p number_field b) (too_long f w)
   wrong_fails levels sum p f Varint coordinate_field b w = absurd w
   wrong_fails levels sum p f Kind type_field b (t, behind, is, code) =
       fails_first levels p f t behind Kind (type_first deepest depth p type_field b refl) is (ap (judge_kind levels) (none_kind (t % 16) code))
@@ -135,7 +135,7 @@ module _ (depth : ℕ) (some : 1 ≤ depth) (deep : depth ≤ deepest) where
 
       runs : run (head_plan (deepest - depth)) (rest r) ≡ Ok (value, rest new)
       runs = ap (run (head_plan (deepest - depth))) (rest-passed r new moved) ∙ run_again (head_plan (deepest - depth)) value (passed r new) (rest new)
-          (spelled_head (deepest - depth) value (passed r new) (record { header = at.is; allowed = allowed_with deepest (deepest - depth) depth at.header.kind (omega (arith, deep)) at.allowed; before = refl; size = refl }))
+          ((head_laws deepest (deepest - depth) depth (omega (arith, deep)) some).spelled_back value (passed r new) (record { header = at.is; allowed = allowed_with deepest (deepest - depth) depth at.header.kind (omega (arith, deep)) at.allowed; before = refl; size = refl }))
 
       go : (a : Answer HeadValue) → read (head_plan (deepest - depth)) r ≡ a → read (head_plan (deepest - depth)) r ≡ (Ok value, new)
       go (Ok x, b) is =

@@ -22,7 +22,8 @@ use Rattle.twkb_head.specs.declared.refusal.Malformed.{Malformed}
 use Rattle.twkb_head.specs.declared.header.Head.{Head}
 use Rattle.twkb_head.proofs.FieldCuts.{ok_is, err_is, byte_fails, number_fails}
 use Rattle.twkb_head.proofs.Plans.{IsViableIn, IsRefused, no_field, no_value, run_takes, run_again, run_fails}
-use Rattle.twkb_head.proofs.Heads.{no_kind, code_kind, allowed_at, allowed_with, IsHead, head_spelled, spelled_head, head_stops, stops_head}
+use Rattle.twkb_head.proofs.Combinators.{PlanLaws}
+use Rattle.twkb_head.proofs.Heads.{no_kind, code_kind, allowed_at, allowed_with, IsHead, head_laws}
 use Rattle.twkb_head.proofs.Readings.{IsLooked, read_ok, read_err, ok_not_err}
 use Rattle.twkb_head.proofs.HeadRuns.{placed, head_runs}
 
@@ -106,7 +107,7 @@ module _ (limit levels depth : ℕ) (deep : depth + levels ≡ limit) (some : 1 
           c.1,
           λ allowed. none (inr (
             byte_field,
-            stops_head limit levels depth deep some (p ++ front) byte_field
+            (head_laws limit levels depth deep some).stops_back (p ++ front) byte_field
                 (metadata_due b (record { kind = GeometryCollection; code = c.1; allowed = allowed }) first refl),
           )),
         ),
@@ -149,6 +150,9 @@ module _ (depth : ℕ) (some : 1 ≤ depth) (deep : depth ≤ deepest) (r new : 
   sum : depth + (deepest - depth) ≡ deepest
   sum = omega (arith, deep)
 
+  laws : PlanLaws (head_plan (deepest - depth)) (IsHead (deepest - depth)) (IsBegunHeader deepest depth)
+  laws = head_laws deepest (deepest - depth) depth sum some
+
   -- a header that was read stands there
   pub head_stands : (head : Head) → head_at (deepest - depth) r ≡ (Ok head, new) → IsHeadAt head depth r.place (passed r new) × IsMoved r new
   head_stands head e =
@@ -156,7 +160,7 @@ module _ (depth : ℕ) (some : 1 ≤ depth) (deep : depth ≤ deepest) (r new : 
       let ok = read_ok (head_plan (deepest - depth)) r new read.value sound read.is in
       let taken = run_takes (head_plan (deepest - depth)) (rest r) (read.value, rest new) ok.0 in
       let front : taken.0 ≡ passed r new = append_cancel_right taken.0 (passed r new) (rest new) (sym taken.1 ∙ rest-passed r new ok.1) in
-      let h : IsHead (deepest - depth) read.value (passed r new) = subst (IsHead (deepest - depth) read.value) front (head_spelled (deepest - depth) read.value taken.0 taken.2) in
+      let h : IsHead (deepest - depth) read.value (passed r new) = subst (IsHead (deepest - depth) read.value) front (laws.spelled read.value taken.0 taken.2) in
       let long : length (passed r new) ≡ new.place - r.place = grind (arith, common_steps, ok.1.within) in
       let size_place : r.place + read.value.before ≡ r.place + 2 + length h.header.extended_bytes = omega (arith, h.before) in
       let box_place : r.place + read.value.before + read.value.size ≡ r.place + 2 + length h.header.extended_bytes + length h.header.size_bytes = omega (arith, h.before, h.size) in
@@ -177,7 +181,7 @@ module _ (depth : ℕ) (some : 1 ≤ depth) (deep : depth ≤ deepest) (r new : 
       → head_at (deepest - depth) r ≡ (Err m, new) → ⊥
   head_read h front behind m parts is allowed e =
       let value : HeadValue = record { header = h; before = 2 + length is.extended_bytes; size = length is.size_bytes } in
-      let spelled = spelled_head (deepest - depth) value front (record { header = is; allowed = allowed_with deepest (deepest - depth) depth h.kind sum allowed; before = refl; size = refl }) in
+      let spelled = laws.spelled_back value front (record { header = is; allowed = allowed_with deepest (deepest - depth) depth h.kind sum allowed; before = refl; size = refl }) in
       let ok = ap (run (head_plan (deepest - depth))) parts ∙ run_again (head_plan (deepest - depth)) value front behind spelled in
       let bad = read_err (head_plan (deepest - depth)) r new m sound (failed_of (deepest - depth) r new m e) in
       apart (value, behind) (fault m.why bad.due (drop m.offset r.bytes)) (run (head_plan (deepest - depth)) (rest r)) ok bad.is
@@ -191,7 +195,7 @@ module _ (depth : ℕ) (some : 1 ≤ depth) (deep : depth ≤ deepest) (r new : 
       let bad = read_err (head_plan (deepest - depth)) r new m sound (failed_of (deepest - depth) r new m e) in
       let f = drop m.offset r.bytes in
       let failed = run_fails (head_plan (deepest - depth)) (rest r) m.why bad.due f bad.is in
-      let begun = head_stops deepest (deepest - depth) depth sum some failed.p bad.due failed.stops in
+      let begun = laws.stops failed.p bad.due failed.stops in
       let whole : length (rest r) ≡ length r.bytes - r.place = grind (arith, common_steps) in
       let behind : length f ≡ length r.bytes - m.offset = grind (arith, common_steps) in
       let parts : length (rest r) ≡ length failed.p + length f = ap length failed.parts ∙ length-append failed.p f in
@@ -211,7 +215,7 @@ module _ (depth : ℕ) (some : 1 ≤ depth) (deep : depth ≤ deepest) (r new : 
   head_left m e =
       let bad = read_err (head_plan (deepest - depth)) r new m sound (failed_of (deepest - depth) r new m e) in
       let failed = run_fails (head_plan (deepest - depth)) (rest r) m.why bad.due (drop m.offset r.bytes) bad.is in
-      let begun = head_stops deepest (deepest - depth) depth sum some failed.p bad.due failed.stops in
+      let begun = laws.stops failed.p bad.due failed.stops in
       let wrong = wrong_of deepest (deepest - depth) depth sum some failed.p m.why bad.due (drop m.offset r.bytes) begun failed.refused in
       let looked : bad.looked ≡ looked_at_field m.why (drop m.offset r.bytes) = looked_same m.why (drop m.offset r.bytes) bad.looked (no_range deepest depth m.why bad.due (drop m.offset r.bytes) wrong) bad.looked_is in
       bad.left ∙ ap (λ (n : ℕ). record { bytes = r.bytes; place = m.offset; count = added r.count (m.offset - r.place + n) }) looked

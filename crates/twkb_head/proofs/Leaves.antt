@@ -1,96 +1,94 @@
--- Plans of one field.
-use Rattle.std.proofs.Common.{◌≡◌, ℕ, Bool, true, false, cond, List, [], ◌∷◌, ◌++◌, slice_index, ℤ, pos, ◌+ℤ◌, Some, None, inl, inr, refl, sym, ap, subst, ◌∙◌}
+-- The laws of plans of one field, and of such fields one after another.
+use Rattle.std.proofs.Common.{◌≡◌, ℕ, ◌<◌, Bool, true, false, cond, List, [], ◌∷◌, ◌++◌, length, slice_index, ℤ, pos, ◌+ℤ◌, Some, None, inl, inr, refl, sym, ap, subst, ◌∙◌}
 use Rattle.std.proofs.lemmas.List.{append-nil}
 use Rattle.twkb_head.specs.declared.refusal.Why.TheVariants.{Range}
 use Rattle.twkb_num.specs.Varint.{Spells, sum_of_groups, zigzag_value, IsSigned}
 use Rattle.twkb_head.specs.Parts.{Sequence, Times}
 use Rattle.twkb_head.specs.Header.{IsByte}
-use Rattle.twkb_head.specs.BegunHeader.{Field, number_field, IsFewer}
-use Rattle.twkb_head.specs.Devices.Plan.{Request, byte, number, coordinate, field_of, fits, judge, done, ask, byte_plan, number_plan, signed_plan, signeds_plan, coordinate_plan}
+use Rattle.twkb_head.specs.BegunHeader.{Field, byte_field, number_field, coordinate_field, IsFewer}
+use Rattle.twkb_head.specs.Devices.Plan.{Request, byte, number, coordinate, field_of, fits, done, ask, byte_plan, number_plan, signed_plan, signeds_plan, coordinate_plan}
 use Rattle.twkb_head.proofs.Spelling.{IsGood, Spelled, Stops}
-use Rattle.twkb_head.proofs.Combinators.{FitAll, many_spelled, spelled_many, many_stops, stops_many}
+use Rattle.twkb_head.proofs.Combinators.{PlanLaws, restated, BegunMany, times_laws, free, FitAll}
 
-pub leaf_spelled : {A : Type 0} (r : Request) (g : List ℕ → A) (y : A) (bytes : List ℕ) → Spelled (ask r (λ field. done (g field))) y bytes → IsGood r bytes × (y ≡ g bytes)
-leaf_spelled r g y bytes (front, rest, parts, ok, (e, nil)) =
-    let same : front ≡ bytes = sym (parts ∙ ap (λ (z : List ℕ). front ++ z) nil ∙ append-nil front) in
-    (subst (IsGood r) same ok, e ∙ ap g same)
+-- nothing is there yet of the field that is due
+abbrev pub IsDue : Field → List ℕ → Field → Type 0
+IsDue field p due = (p ≡ []) × (due ≡ field)
 
-pub spelled_leaf : {A : Type 0} (r : Request) (g : List ℕ → A) (y : A) (bytes : List ℕ) → IsGood r bytes → y ≡ g bytes → Spelled (ask r (λ field. done (g field))) y bytes
-spelled_leaf r g y bytes ok e = (bytes, [], sym (append-nil bytes), ok, (e, refl))
+pub leaf_laws : {A : Type 0} (r : Request) (g : List ℕ → A)
+    → PlanLaws (ask r (λ field. done (g field))) (λ y bytes. IsGood r bytes × (y ≡ g bytes)) (IsDue (field_of r))
+leaf_laws {A} r g = record {
+  spelled = whole;
+  spelled_back = λ y bytes h. (bytes, [], sym (append-nil bytes), h.0, (h.1, refl));
+  stops = begun;
+  stops_back = λ p due h. inl h;
+}
+  where
+    whole : (y : A) (bytes : List ℕ) → Spelled (ask r (λ field. done (g field))) y bytes → IsGood r bytes × (y ≡ g bytes)
+    whole y bytes (front, rest, parts, ok, (e, nil)) =
+        let same : front ≡ bytes = sym (parts ∙ ap (λ (z : List ℕ). front ++ z) nil ∙ append-nil front) in
+        (subst (IsGood r) same ok, e ∙ ap g same)
 
-pub leaf_stops : {A : Type 0} (r : Request) (g : List ℕ → A) (p : List ℕ) (due : Field) → Stops (ask r (λ field. done (g field))) p due → (p ≡ []) × (due ≡ field_of r)
-leaf_stops r g p due (inl h) = h
-leaf_stops r g p due (inr (front, rest, parts, ok, more)) = absurd more
+    begun : (p : List ℕ) (due : Field) → Stops (ask r (λ field. done (g field))) p due → IsDue (field_of r) p due
+    begun p due (inl h) = h
+    begun p due (inr (front, rest, parts, ok, more)) = absurd more
 
-pub stops_leaf : {A : Type 0} (r : Request) (g : List ℕ → A) (p : List ℕ) (due : Field) → p ≡ [] → due ≡ field_of r → Stops (ask r (λ field. done (g field))) p due
-stops_leaf r g p due e is = inl (e, is)
+-- a byte alone is the byte at its front
+pub alone : (b : ℕ) (bytes : List ℕ) → (c : ℕ) × (bytes ≡ c ∷ []) → b ≡ slice_index bytes 0 → bytes ≡ b ∷ []
+alone b bytes (c, is) e = is ∙ ap (λ (d : ℕ). d ∷ []) (sym (e ∙ ap (λ (z : List ℕ). slice_index z 0) is))
 
-pub byte_spelled : (b : ℕ) (bytes : List ℕ) → Spelled byte_plan b bytes → IsByte b bytes
-byte_spelled b bytes s =
-    let t = leaf_spelled byte (λ (field : List ℕ). slice_index field 0) b bytes s in
-    let field = t.0.0 in
-    field.1 ∙ ap (λ (c : ℕ). c ∷ []) (sym (t.1 ∙ ap (λ (z : List ℕ). slice_index z 0) field.1))
+pub byte_laws : PlanLaws byte_plan IsByte (IsDue byte_field)
+byte_laws = restated (leaf_laws byte (λ (field : List ℕ). slice_index field 0)) (λ b bytes h. alone b bytes h.0.0 h.1)
+    (λ b bytes is. (((b, is), refl), sym (ap (λ (z : List ℕ). slice_index z 0) is))) (λ p due b. b) (λ p due b. b)
 
-pub spelled_byte : (b : ℕ) (bytes : List ℕ) → IsByte b bytes → Spelled byte_plan b bytes
-spelled_byte b bytes e = spelled_leaf byte (λ (field : List ℕ). slice_index field 0) b bytes ((b, e), refl) (sym (ap (λ (z : List ℕ). slice_index z 0) e))
+-- the number that a varint spells
+abbrev pub IsNumber : ℕ → List ℕ → Type 0
+IsNumber n bytes = Spells bytes n
 
-pub number_spelled : (n : ℕ) (bytes : List ℕ) → Spelled number_plan n bytes → Spells bytes n
-number_spelled n bytes s =
-    let t = leaf_spelled number (sum_of_groups 0) n bytes s in
-    let field = t.0.0 in
-    subst (Spells bytes) (field.1.value ∙ sym t.1) field.1
+pub number_laws : PlanLaws number_plan (λ n bytes. Spells bytes n) (IsDue number_field)
+number_laws = restated (leaf_laws number (sum_of_groups 0)) (λ n bytes h. subst (Spells bytes) (h.0.0.1.value ∙ sym h.1) h.0.0.1)
+    (λ n bytes s. (((n, s), refl), s.value)) (λ p due b. b) (λ p due b. b)
 
-pub spelled_number : (n : ℕ) (bytes : List ℕ) → Spells bytes n → Spelled number_plan n bytes
-spelled_number n bytes s = spelled_leaf number (sum_of_groups 0) n bytes ((n, s), refl) (s.value)
+signed_from : (z : ℤ) (bytes : List ℕ) → (n : ℕ) × Spells bytes n → z ≡ zigzag_value (sum_of_groups 0 bytes) → IsSigned z bytes
+signed_from z bytes (n, s) e = (n, s, sym (e ∙ ap zigzag_value (sym s.value)))
 
-pub signed_spelled : (z : ℤ) (bytes : List ℕ) → Spelled signed_plan z bytes → IsSigned z bytes
-signed_spelled z bytes s =
-    let t = leaf_spelled number (λ (field : List ℕ). zigzag_value (sum_of_groups 0 field)) z bytes s in
-    let field = t.0.0 in
-    (field.0, field.1, sym (t.1 ∙ ap zigzag_value (sym field.1.value)))
+signed_is : (z : ℤ) (bytes : List ℕ) → IsSigned z bytes → z ≡ zigzag_value (sum_of_groups 0 bytes)
+signed_is z bytes (n, s, e) = sym e ∙ ap zigzag_value s.value
 
-pub spelled_signed : (z : ℤ) (bytes : List ℕ) → IsSigned z bytes → Spelled signed_plan z bytes
-spelled_signed z bytes (n, s, e) =
-    spelled_leaf number (λ (field : List ℕ). zigzag_value (sum_of_groups 0 field)) z bytes ((n, s), refl) (sym e ∙ ap zigzag_value s.value)
+pub signed_laws : PlanLaws signed_plan IsSigned (IsDue number_field)
+signed_laws = restated (leaf_laws number (λ (field : List ℕ). zigzag_value (sum_of_groups 0 field))) (λ z bytes h. signed_from z bytes h.0.0 h.1)
+    (λ z bytes s. (((s.0, s.1), refl), signed_is z bytes s)) (λ p due b. b) (λ p due b. b)
 
 no_range : (b : Bool) → cond b None (Some Range) ≡ None → b ≡ true
 no_range true e = refl
 no_range false e = absurd (cc (e))
 
-pub coordinate_spelled : (c z : ℤ) (bytes : List ℕ) → Spelled (coordinate_plan c) z bytes → IsSigned z bytes × (fits (c +ℤ z) ≡ true)
-coordinate_spelled c z bytes s =
-    let t = leaf_spelled (coordinate c) (λ (field : List ℕ). zigzag_value (sum_of_groups 0 field)) z bytes s in
-    let field = t.0.0 in
-    ((field.0, field.1, sym (t.1 ∙ ap zigzag_value (sym field.1.value))), ap (λ (y : ℤ). fits (c +ℤ y)) t.1 ∙ no_range _ t.0.1)
+pub coordinate_laws : (c : ℤ) → PlanLaws (coordinate_plan c) (λ z bytes. IsSigned z bytes × (fits (c +ℤ z) ≡ true)) (IsDue coordinate_field)
+coordinate_laws c =
+    restated (leaf_laws (coordinate c) (λ (field : List ℕ). zigzag_value (sum_of_groups 0 field))) whole back (λ p due b. b) (λ p due b. b)
+  where
+    whole : (z : ℤ) (bytes : List ℕ) → IsGood (coordinate c) bytes × (z ≡ zigzag_value (sum_of_groups 0 bytes))
+        → IsSigned z bytes × (fits (c +ℤ z) ≡ true)
+    whole z bytes (good, e) = (signed_from z bytes good.0 e, ap (λ (y : ℤ). fits (c +ℤ y)) e ∙ no_range _ good.1)
 
-pub spelled_coordinate : (c z : ℤ) (bytes : List ℕ) → IsSigned z bytes → fits (c +ℤ z) ≡ true → Spelled (coordinate_plan c) z bytes
-spelled_coordinate c z bytes (n, s, e) fit =
-    let is : z ≡ zigzag_value (sum_of_groups 0 bytes) = sym e ∙ ap zigzag_value s.value in
-    let ok : judge (coordinate c) bytes ≡ None = ap (λ (y : ℤ). cond (fits (c +ℤ y)) None (Some Range)) (sym is) ∙ ap (λ (b : Bool). cond b None (Some Range)) fit in
-    spelled_leaf (coordinate c) (λ (field : List ℕ). zigzag_value (sum_of_groups 0 field)) z bytes ((n, s), ok) is
+    back : (z : ℤ) (bytes : List ℕ) → IsSigned z bytes × (fits (c +ℤ z) ≡ true) → IsGood (coordinate c) bytes × (z ≡ zigzag_value (sum_of_groups 0 bytes))
+    back z bytes (s, fit) =
+        let is = signed_is z bytes s in
+        (((s.0, s.1), ap (λ (y : ℤ). cond (fits (c +ℤ y)) None (Some Range)) (sym is) ∙ ap (λ (b : Bool). cond b None (Some Range)) fit), is)
 
--- numbers in a row
-pub free : (s : ℤ) (zs : List ℤ) → FitAll (λ (s z : ℤ). s) (λ (s z : ℤ). Unit {0}) s zs
-free s [] = tt
-free s (z ∷ zs) = (tt, free s zs)
+-- of values of one field each, fewer than n are whole, and nothing is there of the next
+abbrev pub AreFewer : {A S : Type 0} → ℕ → (S → A → S) → (A → List ℕ → Type 0) → (S → A → Type 0) → S → Field → List ℕ → Field → Type 0
+AreFewer {A} n after Q Fit s field p due = (xs : List A) × (length xs < n) × Sequence Q xs p × FitAll after Fit s xs × (due ≡ field)
 
-pub signeds_spelled : (n : ℕ) (zs : List ℤ) (bytes : List ℕ) → Spelled (signeds_plan n) zs bytes → Times n IsSigned zs bytes
-signeds_spelled n zs bytes s =
-    let t = many_spelled (λ (s z : ℤ). s) (λ (s : ℤ). signed_plan) IsSigned (λ (s z : ℤ). Unit {0}) (λ s z b h. (signed_spelled z b h, tt)) n (pos 0) zs bytes s in
-    (t.0, t.1)
+module _ {A S : Type 0} {n : ℕ} {after : S → A → S} {Q : A → List ℕ → Type 0} {Fit : S → A → Type 0} {s : S} {field : Field} where
+  pub fewer : (p : List ℕ) (due : Field) → BegunMany n after Q Fit (λ s. IsDue field) s p due → AreFewer n after Q Fit s field p due
+  fewer p due b =
+      (b.xs, b.fewer, subst (Sequence Q b.xs) (sym (b.parts ∙ ap (λ (z : List ℕ). b.wholes ++ z) b.begun.0 ∙ append-nil b.wholes)) b.whole, b.fit, b.begun.1)
 
-pub spelled_signeds : (n : ℕ) (zs : List ℤ) (bytes : List ℕ) → Times n IsSigned zs bytes → Spelled (signeds_plan n) zs bytes
-spelled_signeds n zs bytes h =
-    spelled_many (λ (s z : ℤ). s) (λ (s : ℤ). signed_plan) IsSigned (λ (s z : ℤ). Unit {0}) (λ s z b h u. spelled_signed z b h) n (pos 0) zs bytes h.0 h.1 (free (pos 0) zs)
+  pub fewer_back : (p : List ℕ) (due : Field) → AreFewer n after Q Fit s field p due → BegunMany n after Q Fit (λ s. IsDue field) s p due
+  fewer_back p due (xs, few, whole, fit, is) =
+      record { xs = xs; wholes = p; rest = []; fewer = few; whole = whole; fit = fit; begun = (refl, is); parts = sym (append-nil p) }
 
-pub signeds_stops : (n : ℕ) (p : List ℕ) (due : Field) → Stops (signeds_plan n) p due → (zs : List ℤ) × IsFewer n zs p × (due ≡ number_field)
-signeds_stops n p due s =
-    let b = many_stops (λ (s z : ℤ). s) (λ (s : ℤ). signed_plan) IsSigned (λ (s z : ℤ). Unit {0}) (λ s z b h. (signed_spelled z b h, tt))
-    (λ s rest due. (rest ≡ []) × (due ≡ number_field)) (λ s rest due h. leaf_stops number (λ (field : List ℕ). zigzag_value (sum_of_groups 0 field)) rest due h)
-    n (pos 0) p due s in
-    (b.xs, (b.fewer, subst (Sequence IsSigned b.xs) (sym (b.parts ∙ ap (λ (z : List ℕ). b.wholes ++ z) (b.begun.0) ∙ append-nil b.wholes)) b.whole), b.begun.1)
-
-pub stops_signeds : (n : ℕ) (zs : List ℤ) (p : List ℕ) (due : Field) → IsFewer n zs p → due ≡ number_field → Stops (signeds_plan n) p due
-stops_signeds n zs p due h e =
-    stops_many (λ (s z : ℤ). s) (λ (s : ℤ). signed_plan) IsSigned (λ (s z : ℤ). Unit {0}) (λ s z b h u. spelled_signed z b h) n (pos 0) zs p [] p due
-    h.0 h.1 (free (pos 0) zs) (inl (refl, e)) (sym (append-nil p))
+-- signed numbers in a row
+pub signeds_laws : (n : ℕ) → PlanLaws (signeds_plan n) (Times n IsSigned) (λ p due. (zs : List ℤ) × IsFewer n zs p × (due ≡ number_field))
+signeds_laws n = restated (times_laws signed_laws n) (λ zs bytes h. h) (λ zs bytes h. h)
+    (λ p due b. let t = fewer p due b in (t.0, (t.1, t.2), t.4)) (λ p due t. fewer_back p due (t.0, t.1.0, t.1.1, free (pos 0) t.0, t.2))

@@ -20,7 +20,7 @@ use Rattle.twkb_head.specs.declared.refusal.Why.TheVariants.{Cut, Range}
 use Rattle.twkb_head.specs.declared.refusal.Malformed.{Malformed}
 use Rattle.twkb_head.proofs.FieldCuts.{ok_is, field_again, cut_off, too_long}
 use Rattle.twkb_head.proofs.Plans.{run_takes}
-use Rattle.twkb_head.proofs.Leaves.{byte_spelled}
+use Rattle.twkb_head.proofs.Leaves.{byte_laws}
 use Rattle.twkb_head.proofs.Readings.{reading_path, read_ok, ok_not_err}
 
 -- where a move came to
@@ -105,7 +105,7 @@ module _ (levels : ℕ) (a b : Reading) (t : ℕ) (sound : IsSound a) (e : byte_
   front_is =
       let ok = read_ok byte_plan a b t sound e in
       let taken = run_takes byte_plan (rest a) (t, rest b) ok.0 in
-      let is = byte_spelled t taken.0 taken.2 in
+      let is = byte_laws.spelled t taken.0 taken.2 in
       let cut : cut_byte (rest a) ≡ Ok (t ∷ [], rest b) = ap cut_byte (taken.1 ∙ ap (λ (z : List ℕ). z ++ rest b) is) in
       let long : length (passed a b) ≡ 1 = ap length (append_cancel_right (passed a b) (t ∷ []) (rest b) (sym (rest-passed a b ok.1) ∙ taken.1 ∙ ap (λ (z : List ℕ). z ++ rest b) is)) in
       (t ∷ [], refl, cut, moved_is a b ok.1 ∙ ap (λ (n : ℕ). past n a) long)
