@@ -5,11 +5,12 @@ use mir.Val.{to_z, of_z, SFits, Fits}
 use Rattle.std.specs.Int.{w64}
 use Rattle.twkb_num.specs.Cursor.{Reading, passed, IsMoved}
 use Rattle.twkb_num.specs.Varint.{IsSigned, SpellsTwoSigned, IsShort}
+use Rattle.twkb_head.specs.declared.raw.RawRange.{RawRange}
 use Rattle.twkb_head.specs.Devices.Reader.{Answer, ◌>>=◌, viewed, many_at, coordinate_at}
 use Rattle.twkb_head.proofs.Steps.{read_signed, coordinate_ok, fits_true}
 use Rattle.twkb_body.specs.Devices.Body.{first_of, behind}
 use Rattle.twkb_body.specs.Devices.BodyReader.{point_at}
-use Rattle.twkb_body.specs.Devices.Boxed.{IsNearZero, IsClose}
+use Rattle.twkb_body.specs.Devices.Boxed.{IsNearZero, IsNearRange, IsMet, IsClose}
 use Rattle.twkb_body.specs.Geometry.{PointValue}
 use Rattle.twkb_body.specs.Devices.Numbers.{IsIn64, AreDifferences}
 use Rattle.twkb_body.proofs.Coordinates.{coordinate_ahead}
@@ -23,25 +24,30 @@ in_bits z h = omega (arith, ints, h.0, h.1)
 pub sum_in_bits : (a b : ℤ) → to_z w64 (of_z w64 a) ≡ a → to_z w64 (of_z w64 b) ≡ b → IsIn64 (a +ℤ b) → to_z w64 (of_z w64 (to_z w64 (of_z w64 a) +ℤ to_z w64 (of_z w64 b))) ≡ a +ℤ b
 sum_in_bits a b a_is b_is h = rw (a_is, b_is) (in_bits (a +ℤ b) h)
 
-pub difference_in_bits : (a b : ℤ) → to_z w64 (of_z w64 a) ≡ a → to_z w64 (of_z w64 b) ≡ b → IsIn64 (a -ℤ b) → to_z w64 (of_z w64 (to_z w64 (of_z w64 a) -ℤ to_z w64 (of_z w64 b))) ≡ a -ℤ b
-difference_in_bits a b a_is b_is h = rw (a_is, b_is) (in_bits (a -ℤ b) h)
-
 pub fits_in_64 : (z : ℤ) → IsIn64 z → SFits w64 z
 fits_in_64 z h = has_64_bits z h.0 h.1
 
--- a number near zero is at a distance from another that fits
-pub distance_is : (a b : ℤ) → to_z w64 (of_z w64 a) ≡ a → to_z w64 (of_z w64 b) ≡ b → IsNearZero a → IsNearZero b → (a ≡ b +ℤ to_z w64 (of_z w64 (to_z w64 (of_z w64 a) -ℤ to_z w64 (of_z w64 b)))) × IsClose (to_z w64 (of_z w64 (to_z w64 (of_z w64 a) -ℤ to_z w64 (of_z w64 b))))
-distance_is a b a_is b_is near near_b =
+-- ---- numbers near zero
+near_in_bits : (z : ℤ) → IsNearZero z → to_z w64 (of_z w64 z) ≡ z
+near_in_bits z near = in_bits z (omega (arith, ints, near.0), omega (arith, ints, near.1))
+
+-- they are at a distance that fits
+pub distance_is : (a b : ℤ) → IsNearZero a → IsNearZero b → (a ≡ b +ℤ to_z w64 (of_z w64 (to_z w64 (of_z w64 a) -ℤ to_z w64 (of_z w64 b)))) × IsClose (to_z w64 (of_z w64 (to_z w64 (of_z w64 a) -ℤ to_z w64 (of_z w64 b))))
+distance_is a b near near_b =
     let within : IsIn64 (a -ℤ b) = (omega (arith, ints, near.0, near_b.1), omega (arith, ints, near.1, near_b.0)) in
-    let bits = difference_in_bits a b a_is b_is within in
+    let bits : to_z w64 (of_z w64 (to_z w64 (of_z w64 a) -ℤ to_z w64 (of_z w64 b))) ≡ a -ℤ b = rw (near_in_bits a near, near_in_bits b near_b) (in_bits (a -ℤ b) within) in
     let close : IsClose (a -ℤ b) = (omega (arith, ints, near.0, near_b.1), omega (arith, ints, near.1, near_b.0)) in
     let back : b +ℤ (a -ℤ b) ≡ a = omega (arith, ints) in
     (sym (ap (λ (z : ℤ). b +ℤ z) bits ∙ back), subst IsClose (sym bits) close)
 
+-- a distance that is met, from the minimum of a range, is at a coordinate that fits
+pub met_is : (range : RawRange) (distance : ℤ) → IsNearRange range → IsMet distance → to_z w64 (of_z w64 (to_z w64 (of_z w64 range.minimum) +ℤ to_z w64 (of_z w64 distance))) ≡ range.minimum +ℤ distance
+met_is range distance near met =
+    let met_in_bits = in_bits distance (omega (arith, ints, met.0), omega (arith, ints, met.1)) in
+    sum_in_bits range.minimum distance (near_in_bits range.minimum (near.low, near.high)) met_in_bits (omega (arith, ints, near.low, met.0), omega (arith, ints, near.high, met.1))
+
 pub difference_fits : (a b : ℤ) → IsNearZero a → IsNearZero b → SFits w64 (a -ℤ to_z w64 (of_z w64 b))
-difference_fits a b near near_b =
-    let b_is : to_z w64 (of_z w64 b) ≡ b = in_bits b (omega (arith, ints, near_b.0), omega (arith, ints, near_b.1)) in
-    rw b_is (fits_in_64 (a -ℤ b) (omega (arith, ints, near.0, near_b.1), omega (arith, ints, near.1, near_b.0)))
+difference_fits a b near near_b = rw (near_in_bits b near_b) (fits_in_64 (a -ℤ b) (omega (arith, ints, near.0, near_b.1), omega (arith, ints, near.1, near_b.0)))
 
 -- there are fewer points than bytes
 pub points_fit : {many done start stop place points : ℕ} → many ≡ done → many + start ≤ stop → points ≤ start → stop ≡ place → place < 2 ^ 64 → Fits w64 (points + done)

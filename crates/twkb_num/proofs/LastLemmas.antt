@@ -5,7 +5,7 @@ use Rattle.std.specs.Int.{w64, from_le_bytes, to_le_bytes}
 use Rattle.std.proofs.lemmas.List.{take-take, drop-take, drop-drop}
 use mir.Val.{to_z, of_z}
 use Rattle.std.proofs.lemmas.Int.{ints}
-use Rattle.twkb_num.specs.Cursor.{Reading, rest, passed}
+use Rattle.twkb_num.specs.Cursor.{rest}
 use Rattle.twkb_num.specs.Varint.{SpellsTwoSigned, IsShort}
 use Rattle.twkb_num.specs.declared.word.Pair.{Pair}
 
@@ -68,10 +68,10 @@ last_chunk bytes word last from left place len few short there same is =
     ap (drop (8 - left)) (same ∙ ap (λ n. take n (drop from bytes)) eight) ∙ drop-take (8 - left) left (drop from bytes) ∙ ap (take left) (drop-drop (8 - left) from bytes ∙ ap (λ n. drop n bytes) there) in
     sym (take-take len left last short) ∙ ap (take len) (is ∙ dropped) ∙ take-take len left (drop place bytes) short
 
--- two short numbers that the bytes passed spell
-pub passed_two : (old new : Reading) (pair : Pair) → passed old new ≡ take pair.len (rest old) → SpellsTwoSigned (take pair.len (rest old)) pair.first pair.second → IsShort pair.first × IsShort pair.second
-    → SpellsTwoSigned (passed old new) (to_z w64 (of_z w64 pair.first)) (to_z w64 (of_z w64 pair.second))
-passed_two old new pair same spells short =
+-- two short numbers that a part spells, by the bytes it was read from
+pub passed_two : (part front : List ℕ) (pair : Pair) → front ≡ part → SpellsTwoSigned front pair.first pair.second → IsShort pair.first × IsShort pair.second
+    → SpellsTwoSigned part (to_z w64 (of_z w64 pair.first)) (to_z w64 (of_z w64 pair.second))
+passed_two part front pair same spells short =
     let first : to_z w64 (of_z w64 pair.first) ≡ pair.first = omega (arith, ints, short.0.0, short.0.1) in
     let second : to_z w64 (of_z w64 pair.second) ≡ pair.second = omega (arith, ints, short.1.0, short.1.1) in
-    (spells.0, spells.1, rw same spells.2, spells.3 ∙ sym first, spells.4 ∙ sym second)
+    (spells.0, spells.1, rw (← same) spells.2, spells.3 ∙ sym first, spells.4 ∙ sym second)

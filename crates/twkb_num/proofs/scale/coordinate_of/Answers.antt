@@ -20,11 +20,11 @@ above (pos n) u power some e up = omega (arith, ints)
 above (negsuc n) u zero some e up = absurd (omega (arith, some))
 above (negsuc n) u (suc p) some e up = absurd (grind (arith, ints, e, up))
 
--- what the code's division gives
-divided : (c p units one : ℤ) (size power distance : ℕ) → FitsSigned w8 p → FitsSigned w128 units → units ≡ units_of c p
+-- what the code's division gives: the size of each coordinate that has these units
+divided : (p units one : ℤ) (size power distance : ℕ) → FitsSigned w8 p → FitsSigned w128 units
     → one ≡ pos (10 ^ unsigned_abs (pos 7 -ℤ to_z w8 (of_z w8 p))) → 0 < 10 ^ unsigned_abs (pos 7 -ℤ to_z w8 (of_z w8 p)) → 10 ^ unsigned_abs (pos 7 -ℤ to_z w8 (of_z w8 p)) ≤ 10 ^ 15
-    → size ≡ unsigned_abs (to_z w64 (of_z w64 one)) → power ≡ size → distance ≡ unsigned_abs (to_z w128 (of_z w128 units)) → distance / power ≡ unsigned_abs c
-divided c p units one size power distance fits wide is value some few size_is power_is distance_is =
+    → size ≡ unsigned_abs (to_z w64 (of_z w64 one)) → power ≡ size → distance ≡ unsigned_abs (to_z w128 (of_z w128 units)) → (c : ℤ) → units ≡ units_of c p → distance / power ≡ unsigned_abs c
+divided p units one size power distance fits wide value some few size_is power_is distance_is c is =
     let ten : ℕ = 10 ^ unsigned_abs (pos 7 -ℤ p) in
     let passed = to_z-of_z w8 p fits in
     let small : ten ≤ 10 ^ 15 = subst (λ (z : ℤ). 10 ^ unsigned_abs (pos 7 -ℤ z) ≤ 10 ^ 15) passed few in
@@ -36,22 +36,16 @@ divided c p units one size power distance fits wide is value some few size_is po
 
 pub returns-then-units-lt0 : goal.returns-then-units-lt0
 returns-then-units-lt0 c = λ z is.
-    let q = divided c.requires.exact.0 c.args.precision c.args.units _ _ _ _ c.ranges.precision c.ranges.units c.requires.exact.3 c.units_in_one.ensures.value c.units_in_one.ensures.some c.units_in_one.ensures.few
-    c.unsigned_abs.ensures.value c.from-power.ensures c.unsigned_abs-2.ensures.value in
-    let p = divided z c.args.precision c.args.units _ _ _ _ c.ranges.precision c.ranges.units is c.units_in_one.ensures.value c.units_in_one.ensures.some c.units_in_one.ensures.few
-    c.unsigned_abs.ensures.value c.from-power.ensures c.unsigned_abs-2.ensures.value in
-    let some = subst (λ (z : ℤ). 0 < 10 ^ unsigned_abs (pos 7 -ℤ z)) (to_z-of_z w8 c.args.precision c.ranges.precision) c.units_in_one.ensures.some in
+    let one = c.units_in_one.ensures in
+    let size = divided c.args.precision c.args.units _ _ _ _ c.ranges.precision c.ranges.units one.value one.some one.few c.unsigned_abs.ensures.value c.from-power.ensures c.unsigned_abs-2.ensures.value in
+    let some = subst (λ (z : ℤ). 0 < 10 ^ unsigned_abs (pos 7 -ℤ z)) (to_z-of_z w8 c.args.precision c.ranges.precision) one.some in
     let seen = ap (λ z. lt_z z (pos 0)) (sym (to_z-of_z w128 c.args.units c.ranges.units)) in
-    let down = below z c.args.units _ some is (seen ∙ c.if-units-lt0.true) in
-    omega (arith, ints, q, p, down, c.requires.exact.1, c.requires.exact.2)
+    omega (arith, ints, size c.requires.exact.0 c.requires.exact.3, size z is, below z c.args.units _ some is (seen ∙ c.if-units-lt0.true), c.requires.exact.1, c.requires.exact.2)
 
 pub returns-else-units-lt0 : goal.returns-else-units-lt0
 returns-else-units-lt0 c = λ z is.
-    let q = divided c.requires.exact.0 c.args.precision c.args.units _ _ _ _ c.ranges.precision c.ranges.units c.requires.exact.3 c.units_in_one.ensures.value c.units_in_one.ensures.some c.units_in_one.ensures.few
-    c.unsigned_abs.ensures.value c.from-power.ensures c.unsigned_abs-2.ensures.value in
-    let p = divided z c.args.precision c.args.units _ _ _ _ c.ranges.precision c.ranges.units is c.units_in_one.ensures.value c.units_in_one.ensures.some c.units_in_one.ensures.few
-    c.unsigned_abs.ensures.value c.from-power.ensures c.unsigned_abs-2.ensures.value in
-    let some = subst (λ (z : ℤ). 0 < 10 ^ unsigned_abs (pos 7 -ℤ z)) (to_z-of_z w8 c.args.precision c.ranges.precision) c.units_in_one.ensures.some in
+    let one = c.units_in_one.ensures in
+    let size = divided c.args.precision c.args.units _ _ _ _ c.ranges.precision c.ranges.units one.value one.some one.few c.unsigned_abs.ensures.value c.from-power.ensures c.unsigned_abs-2.ensures.value in
+    let some = subst (λ (z : ℤ). 0 < 10 ^ unsigned_abs (pos 7 -ℤ z)) (to_z-of_z w8 c.args.precision c.ranges.precision) one.some in
     let seen = ap (λ z. lt_z z (pos 0)) (sym (to_z-of_z w128 c.args.units c.ranges.units)) in
-    let up = above z c.args.units _ some is (seen ∙ c.if-units-lt0.false) in
-    omega (arith, ints, q, p, up, c.requires.exact.1, c.requires.exact.2)
+    omega (arith, ints, size c.requires.exact.0 c.requires.exact.3, size z is, above z c.args.units _ some is (seen ∙ c.if-units-lt0.false), c.requires.exact.1, c.requires.exact.2)
