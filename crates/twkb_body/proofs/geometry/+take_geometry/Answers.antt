@@ -1,9 +1,9 @@
 -- The pass over a geometry and that over members, each by the other: header, body, then the judging of claims.
-use Rattle.std.proofs.Common.{rules, ◌≡◌, suc, ◌+◌, ◌-◌, Bool, true, false, ◌||◌, None, refl, sym, ap, subst, ◌∙◌, arith}
+use Rattle.std.proofs.Common.{rules, ◌≡◌, ◌+◌, ◌-◌, Bool, true, ◌||◌, None, refl, sym, ap, subst, ◌∙◌, arith}
 use Rattle.std.proofs.lemmas.Result.{err_from_is_err_and}
 use Rattle.twkb_num.specs.Cursor.{Reading, rest}
 use Rattle.twkb_head.specs.declared.header.Head.{Head}
-use Rattle.twkb_head.specs.BegunHeader.{is_collection, deepest}
+use Rattle.twkb_head.specs.BegunHeader.{deepest}
 use Rattle.twkb_head.proofs.HeadBack.{head_value, head_fails}
 use Rattle.twkb_head.specs.Header.{is_multi}
 use Rattle.twkb_body.specs.Devices.Body.{no_body, members_body, members_of}
@@ -14,8 +14,8 @@ use Rattle.twkb_body.specs.Devices.Inside.{of_head}
 use Rattle.twkb_body.specs.Audited.{HasLongList}
 use Rattle.twkb_body.specs.Devices.Stops.{WantsInside, own_ids, member_ids}
 use Rattle.twkb_body.proofs.HeadFacts.{head_size}
-use Rattle.twkb_body.proofs.GeometrySteps.{header_fails, body_gives, body_fails, empty_body, shape_body, shape_of_head, nothing_inside, geometry_found}
-use Rattle.twkb_body.proofs.MemberSteps.{collection_below, collection_body, members_begin, members_go_on, members_fail, members_end, no_list, no_member, collection_gives, members_inside, member_bytes, long_list_own, long_list_inside}
+use Rattle.twkb_body.proofs.GeometrySteps.{header_fails, body_gives, body_fails, empty_body, shape_behind_head, nothing_inside, geometry_found}
+use Rattle.twkb_body.proofs.MemberSteps.{collection_head, members_begin, members_go_on, members_fail, members_end, no_list, no_member, collection_gives, members_inside, member_bytes, long_list_own, long_list_inside}
 use Rattle.twkb_body.proofs.Stopping.{stops_outside}
 use Rattle.twkb_body.proofs.geometry.+take_geometry.Goals as goal
 
@@ -43,9 +43,7 @@ take_geometry-returns-in_err-inside g t c =
     let p = err_from_is_err_and c.from_residual-in_err-inside.result c.from_residual-in_err-inside.ensures.1 in
     let ok = c.in_ok-head.ensures in
     let headed = head_value c.args.depth c.requires.shallowest c.requires.deepest _ _ c.in_ok-head.head c.place_is_within.ensures ok.ok ok.moved in
-    let full : ok.ok.header.empty ≡ false = sym (ap (λ (h : Head). h.empty) ok.ok.fields) ∙ c.if-head.false in
-    let single : is_collection ok.ok.header.kind ≡ false = sym (ap (λ (h : Head). is_collection h.kind) ok.ok.fields) ∙ sym c.is_collection.ensures ∙ c.if-not-is_collection.true in
-    let body = shape_body ok.ok.header (members_under (deepest - c.args.depth)) c.read_head.new.cursor full single ∙ sym (shape_of_head c.in_ok-head.head ok.ok.header _ _ _ _ ok.ok.fields c.read_head.new.cursor) in
+    let body = shape_behind_head c.in_ok-head.head ok.ok.header _ _ _ _ ok.ok.fields c.if-head.false (sym c.is_collection.ensures ∙ c.if-not-is_collection.true) (members_under (deepest - c.args.depth)) c.read_head.new.cursor in
     rw (p.1, p.2) (stops_outside (shape_at (is_multi c.in_ok-head.head.kind) (of_head c.in_ok-head.head) c.read_head.new.cursor) (geometry_at (deepest - c.args.depth) c.args.cursor.now)
     (HasManyIdsAfterCount c.in_ok-head.head.ids (rest c.read_head.new.cursor)) (HasLongList c.args.depth (rest c.args.cursor.now)) c.read_head.new.cursor c.args.cursor.now _ c.take_shape.new.cursor
     (λ m f. body_fails (deepest - c.args.depth) c.args.cursor.now _ _ headed m _ (record { left = f.left; is = body ∙ f.is; bytes = f.bytes }))
@@ -62,9 +60,7 @@ pub take_geometry-returns-then-not-is_collection : goal.take_geometry-returns-th
 take_geometry-returns-then-not-is_collection g t c =
     let ok = c.in_ok-head.ensures in
     let headed = head_value c.args.depth c.requires.shallowest c.requires.deepest _ _ c.in_ok-head.head c.place_is_within.ensures ok.ok ok.moved in
-    let full : ok.ok.header.empty ≡ false = sym (ap (λ (h : Head). h.empty) ok.ok.fields) ∙ c.if-head.false in
-    let single : is_collection ok.ok.header.kind ≡ false = sym (ap (λ (h : Head). is_collection h.kind) ok.ok.fields) ∙ sym c.is_collection.ensures ∙ c.if-not-is_collection.true in
-    let body = shape_body ok.ok.header (members_under (deepest - c.args.depth)) c.read_head.new.cursor full single ∙ sym (shape_of_head c.in_ok-head.head ok.ok.header _ _ _ _ ok.ok.fields c.read_head.new.cursor) in
+    let body = shape_behind_head c.in_ok-head.head ok.ok.header _ _ _ _ ok.ok.fields c.if-head.false (sym c.is_collection.ensures ∙ c.if-not-is_collection.true) (members_under (deepest - c.args.depth)) c.read_head.new.cursor in
     let s = c.in_ok-inside.ensures in (
       _,
       body_gives (deepest - c.args.depth) c.args.cursor.now _ _ headed s.0 _ (body ∙ s.1),
@@ -75,8 +71,8 @@ take_geometry-returns-then-not-is_collection g t c =
 pub take_geometry-take_members-requires : goal.take_geometry-take_members-requires
 take_geometry-take_members-requires g t c =
     let ok = c.in_ok-head.ensures in
-    let many : is_collection ok.ok.header.kind ≡ true = sym (ap (λ (h : Head). is_collection h.kind) ok.ok.fields) ∙ sym c.is_collection.ensures ∙ c.if-not-is_collection.false in
-    let below = collection_below ok.ok.header.kind c.args.depth ok.ok.allowed many in
+    let h = collection_head c.in_ok-head.head ok.ok.header _ _ _ _ c.args.depth c.read_head.new.cursor ok.ok.fields ok.ok.allowed c.if-head.false (sym c.is_collection.ensures ∙ c.if-not-is_collection.false) in
+    let below = h.below in
     search rules
 
 pub take_geometry-returns-in_err-inside-2 : goal.take_geometry-returns-in_err-inside-2
@@ -84,19 +80,14 @@ take_geometry-returns-in_err-inside-2 g t c =
     let p = err_from_is_err_and c.from_residual-in_err-inside-2.result c.from_residual-in_err-inside-2.ensures.1 in
     let ok = c.in_ok-head.ensures in
     let headed = head_value c.args.depth c.requires.shallowest c.requires.deepest _ _ c.in_ok-head.head c.place_is_within.ensures ok.ok ok.moved in
-    let full : ok.ok.header.empty ≡ false = sym (ap (λ (h : Head). h.empty) ok.ok.fields) ∙ c.if-head.false in
-    let many : is_collection ok.ok.header.kind ≡ true = sym (ap (λ (h : Head). is_collection h.kind) ok.ok.fields) ∙ sym c.is_collection.ensures ∙ c.if-not-is_collection.false in
-    let below = collection_below ok.ok.header.kind c.args.depth ok.ok.allowed many in
-    let under : deepest - c.args.depth ≡ suc (deepest - (c.args.depth + 1)) = omega (arith, below) in
-    let ids = ap (λ (h : Head). h.ids) ok.ok.fields in
-    let body = collection_body (deepest - c.args.depth) (deepest - (c.args.depth + 1)) ok.ok.header c.read_head.new.cursor under full many ∙ ap (λ (b : Bool). collection_at (geometry_at (deepest - (c.args.depth + 1))) b c.read_head.new.cursor) (sym ids) in
+    let h = collection_head c.in_ok-head.head ok.ok.header _ _ _ _ c.args.depth c.read_head.new.cursor ok.ok.fields ok.ok.allowed c.if-head.false (sym c.is_collection.ensures ∙ c.if-not-is_collection.false) in
     rw (p.1, p.2) (stops_outside (collection_at (geometry_at (deepest - (c.args.depth + 1))) c.in_ok-head.head.ids c.read_head.new.cursor) (geometry_at (deepest - c.args.depth) c.args.cursor.now)
     (WantsInside c.args.depth (deepest - (c.args.depth + 1)) c.in_ok-head.head.ids c.read_head.new.cursor) (HasLongList c.args.depth (rest c.args.cursor.now)) c.read_head.new.cursor c.args.cursor.now _ c.take_members.new.cursor
-    (λ m f. body_fails (deepest - c.args.depth) c.args.cursor.now _ _ headed m _ (record { left = f.left; is = body ∙ f.is; bytes = f.bytes }))
+    (λ m f. body_fails (deepest - c.args.depth) c.args.cursor.now _ _ headed m _ (record { left = f.left; is = h.body ∙ f.is; bytes = f.bytes }))
     (λ bytes wants. (
       bytes ∙ ok.moved.bytes,
-      long_list_inside c.args.depth (deepest - (c.args.depth + 1)) _ _ ok.ok.header (omega (arith, below)) c.requires.shallowest c.place_is_within-2.ensures ok.moved ok.ok.is ok.ok.allowed full many
-          (subst (λ (b : Bool). WantsInside c.args.depth (deepest - (c.args.depth + 1)) b c.read_head.new.cursor) ids wants),
+      long_list_inside c.args.depth (deepest - (c.args.depth + 1)) _ _ ok.ok.header (omega (arith, h.below)) c.requires.shallowest c.place_is_within-2.ensures ok.moved ok.ok.is ok.ok.allowed h.full h.many
+          (subst (λ (b : Bool). WantsInside c.args.depth (deepest - (c.args.depth + 1)) b c.read_head.new.cursor) h.ids wants),
     ))
     c.in_err-inside-2.ensures)
 
@@ -110,15 +101,10 @@ pub take_geometry-returns : goal.take_geometry-returns
 take_geometry-returns g t c =
     let ok = c.in_ok-head.ensures in
     let headed = head_value c.args.depth c.requires.shallowest c.requires.deepest _ _ c.in_ok-head.head c.place_is_within.ensures ok.ok ok.moved in
-    let full : ok.ok.header.empty ≡ false = sym (ap (λ (h : Head). h.empty) ok.ok.fields) ∙ c.if-head.false in
-    let many : is_collection ok.ok.header.kind ≡ true = sym (ap (λ (h : Head). is_collection h.kind) ok.ok.fields) ∙ sym c.is_collection.ensures ∙ c.if-not-is_collection.false in
-    let below = collection_below ok.ok.header.kind c.args.depth ok.ok.allowed many in
-    let under : deepest - c.args.depth ≡ suc (deepest - (c.args.depth + 1)) = omega (arith, below) in
-    let ids = ap (λ (h : Head). h.ids) ok.ok.fields in
-    let body = collection_body (deepest - c.args.depth) (deepest - (c.args.depth + 1)) ok.ok.header c.read_head.new.cursor under full many ∙ ap (λ (b : Bool). collection_at (geometry_at (deepest - (c.args.depth + 1))) b c.read_head.new.cursor) (sym ids) in
+    let h = collection_head c.in_ok-head.head ok.ok.header _ _ _ _ c.args.depth c.read_head.new.cursor ok.ok.fields ok.ok.allowed c.if-head.false (sym c.is_collection.ensures ∙ c.if-not-is_collection.false) in
     let s = c.in_ok-inside-2.ensures in (
       _,
-      body_gives (deepest - c.args.depth) c.args.cursor.now _ _ headed s.0 _ (body ∙ s.1),
+      body_gives (deepest - c.args.depth) c.args.cursor.now _ _ headed s.0 _ (h.body ∙ s.1),
       geometry_found _ c.in_ok-head.head c.args.depth c.args.cursor.now c.read_head.new.cursor c.take_members.new.cursor ok.ok ok.moved (omega (arith, s.2.few)) s.0 c.in_ok-inside-2.inside _ _ c.judged-2.result
           s.2 c.judged-2.ensures.vertices (rw c.place-stop-2.ensures.value at c.judged-2.ensures.refused),
     )
