@@ -343,7 +343,7 @@ holds_wider xy z m inner outer lies (v ∷ vs) all =
     }) (holds_wider xy z m inner outer lies vs (All-tail (Holds (raw_bounds xy z m inner)) v vs all))
 
 -- precisions that don't differ
-pub option_same : (a b : Option ℕ) → false ≡ not (option_eq (λ (m n : ℕ). m == n) a b) → a ≡ b
+option_same : (a b : Option ℕ) → false ≡ not (option_eq (λ (m n : ℕ). m == n) a b) → a ≡ b
 option_same None None e = refl
 option_same None (Some n) e = absurd (cc (e))
 option_same (Some m) None e = absurd (cc (e))
@@ -352,6 +352,10 @@ option_same (Some m) (Some n) e = ap Some (eqb-true m n (not_false (m == n) e))
     not_false : (b : Bool) → false ≡ not b → b ≡ true
     not_false true e = refl
     not_false false e = absurd (cc (e))
+
+-- a frame at the precisions of a header
+pub framed_same : (frame : Frame) (head : Head) → frame.xy ≡ head.xy → false ≡ not (option_eq (λ (m n : ℕ). m == n) frame.z head.z) → false ≡ not (option_eq (λ (m n : ℕ). m == n) frame.m head.m) → frame ≡ framed head frame.bounds
+framed_same frame head xy z m = λ j. record { xy = xy j; z = option_same frame.z head.z z j; m = option_same frame.m head.m m j; bounds = frame.bounds }
 
 -- a frame in that above, at the precisions of its header
 pub frame_inside : (outer inner : Frame) (head : Head) → outer ≡ framed head outer.bounds → IsFramed head inner → LiesInAll head.z head.m inner.bounds outer.bounds → IsFrameUnder (Some outer) head (Some inner) (Some inner)
