@@ -25,6 +25,9 @@ pub record IsListHead (ids : Bool) (x : ListHead) (bytes : List ℕ) : Type 0 wh
   pub ids_field : Announced ids (Times (x.0).0 IsSigned) (x.1).0 id_list
   pub ids_length : (x.1).1 ≡ length id_list
 
+pub list_head : {ids : Bool} {n : ℕ} {list : Option (List ℤ)} (count id_list : List ℕ) → Spells count n → Announced ids (Times n IsSigned) list id_list → IsListHead ids ((n, length count), (list, length id_list)) (count ++ id_list)
+list_head count id_list spells has = record { count = count; id_list = id_list; fields = refl; count_field = spells; count_length = refl; ids_field = has; ids_length = refl }
+
 -- a count is due, or ids are
 abbrev pub BegunListHead : Bool → List ℕ → Field → Type 0
 BegunListHead ids = BegunChain (IsDue number_field) IsNumber (λ n rest due. (ids ≡ true) × ((list : List ℤ) × IsFewer n list rest × (due ≡ number_field)))
@@ -75,11 +78,6 @@ module _ {h : Header} {Each : List ℕ → Type 0} (l : Lengths) where
     list_length = omega (arith, hd.count_length, hd.ids_length);
   }
 
-  pub list_head : (ids : Option (List ℤ)) (n : ℕ) (bytes : List ℕ) → (s : IsList h l ids n Each bytes)
-      → IsListHead h.ids ((n, length s.count), (ids, length s.id_list)) (s.count ++ s.id_list)
-  list_head ids n bytes s =
-      record { count = s.count; id_list = s.id_list; fields = refl; count_field = s.count_field; count_length = refl; ids_field = s.ids_field; ids_length = refl }
-
 -- such a list begun
 module _ {A : Type 0} {ids : Bool} {Q : A → List ℕ → Type 0} {points_in : A → List PointValue} {B : List PointValue → List ℕ → Field → Type 0} where
   pub list_begun : (p : List ℕ) (due : Field) → BegunListHead ids p due → IsBegunList ids Q points_in B [] p due
@@ -98,8 +96,7 @@ module _ {A : Type 0} {ids : Bool} {Q : A → List ℕ → Type 0} {points_in : 
   begun_list points p due (id_due n count id_list list has spells few e split is) = inl (inr (n, (count, id_list, split, spells, (has, (list, few, is)))))
   begun_list points p due (member_due n count id_list wholes rest list xs last spells has few whole begun all split) =
       inr (chained ((n, length count), (list, length id_list)) (count ++ id_list) (wholes ++ rest) (split ∙ sym (append_assoc count id_list (wholes ++ rest)))
-      (record { count = count; id_list = id_list; fields = refl; count_field = spells; count_length = refl; ids_field = has; ids_length = refl })
-      (record { xs = xs; last = last; wholes = wholes; rest = rest; fewer = few; whole = whole; begun = begun; all = all; parts = refl }))
+      (list_head count id_list spells has) (record { xs = xs; last = last; wholes = wholes; rest = rest; fewer = few; whole = whole; begun = begun; all = all; parts = refl }))
 
 -- shapes
 record IsNumbersBody (multi : Bool) (h : Header) (l : Lengths) (b : Body) (bytes : List ℕ) : Type 0 where
@@ -147,7 +144,7 @@ module _ (h : Header) (l : Lengths) (single : is_collection h.kind ≡ false) wh
       back b bytes n =
           let s = n.spelled in
           let x : ListHead = ((length n.numbers, length s.count), (b.ids, length s.id_list)) in
-          chained x (s.count ++ s.id_list) s.members (s.fields ∙ sym (append_assoc s.count s.id_list s.members)) (list_head (with_lengths l b) b.ids (length n.numbers) bytes s)
+          chained x (s.count ++ s.id_list) s.members (s.fields ∙ sym (append_assoc s.count s.id_list s.members)) (list_head s.count s.id_list s.count_field s.ids_field)
           (n.numbers, body_path b (parts_body x n.numbers) refl n.polygons n.members s.count_length s.list_length, (refl, s.each, n.fit))
 
       AreBegun : List ℕ → Field → Type 0
@@ -228,7 +225,7 @@ module _ (h : Header) (l : Lengths) {members : ℕ → Plan MemberTrees} {Each :
       back : (b : Body) (bytes : List ℕ) → IsBodyOf h l Each false true b bytes → AreMany b bytes
       back b bytes (no_polygons, s) =
           let x : ListHead = ((member_count b.members, length s.count), (b.ids, length s.id_list)) in
-          chained x (s.count ++ s.id_list) s.members (s.fields ∙ sym (append_assoc s.count s.id_list s.members)) (list_head (with_lengths l b) b.ids (member_count b.members) bytes s)
+          chained x (s.count ++ s.id_list) s.members (s.fields ∙ sym (append_assoc s.count s.id_list s.members)) (list_head s.count s.id_list s.count_field s.ids_field)
           (b.members, body_path b (members_body x b.members) refl no_polygons refl s.count_length s.list_length, (refl, s.each))
 
   -- empty and collection as the header says

@@ -15,7 +15,7 @@ use Rattle.twkb_body.specs.Begun.{IsBegunUnder, header_begun, shape_begun, membe
 use Rattle.twkb_body.specs.Devices.Body.{Body, geometry_from, members_of}
 use Rattle.twkb_body.proofs.GeometryPlan.{parts_plan, geometry_with, members_plan, geometry_plan}
 use Rattle.twkb_body.proofs.PartPlans.{BegunMembers}
-use Rattle.twkb_body.proofs.Bodies.{IsListHead, BegunListHead, MembersLaws, IsBodyOf, BegunBody, body_laws, list_begun, begun_list}
+use Rattle.twkb_body.proofs.Bodies.{IsListHead, BegunListHead, MembersLaws, IsBodyOf, BegunBody, list_head, body_laws, list_begun, begun_list}
 
 no_level : (k : Kind) → is_collection k ≡ true → IsAllowedWith zero k → ⊥
 no_level GeometryCollection c a = cc (a)
@@ -157,8 +157,7 @@ module _ (limit : ℕ) where
     begun_back p due (member_begun _ _ _ h n front count id_list wholes rest ids gs hd allowed not_empty many_of spells has few whole begun split) =
         behind h front (count ++ (id_list ++ (wholes ++ rest))) p due true hd allowed not_empty many_of split
         (inr (chained ((n, length count), (ids, length id_list)) (count ++ id_list) (wholes ++ rest) (sym (append_assoc count id_list (wholes ++ rest)))
-        (record { count = count; id_list = id_list; fields = refl; count_field = spells; count_length = refl; ids_field = has; ids_length = refl })
-        (record { gs = gs; wholes = wholes; rest = rest; fewer = few; whole = whole; begun = begun; parts = refl })))
+        (list_head count id_list spells has) (record { gs = gs; wholes = wholes; rest = rest; fewer = few; whole = whole; begun = begun; parts = refl })))
 
     with_laws : PlanLaws (geometry_with levels members) (λ g bytes. BlobUnder limit g bytes depth) (IsBegunUnder limit depth)
     with_laws = restated (done_laws (λ (x : ((HeadValue × ℕ) × Body) × ℕ). geometry_from x.0 x.1) (measure_laws parts_laws)) blob_is is_blob begun begun_back
