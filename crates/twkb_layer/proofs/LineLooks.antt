@@ -1,5 +1,5 @@
 -- Lines whose first vertex is inside.
-use Rattle.std.proofs.Common.{◌≡◌, ℕ, suc, ◌+◌, ◌-◌, ◌%◌, ◌/◌, ℤ, ◌||◌, ◌&&◌, Bool, not, true, false, cond, [], ◌∷◌, ◌++◌, List, Option, Some, None, Ok, Err, option_map, is_some, pos, ◌+ℤ◌, fold, map, refl, ap, sym, ◌∙◌, arith}
+use Rattle.std.proofs.Common.{◌≡◌, ℕ, suc, ◌+◌, ◌-◌, ◌%◌, ◌/◌, ℤ, ◌||◌, ◌&&◌, Bool, not, true, false, cond, [], ◌∷◌, ◌++◌, List, Option, Some, None, Ok, Err, option_map, is_some, pos, ◌+ℤ◌, fold, map, refl, ap, sym, subst, ◌∙◌, arith}
 use Rattle.std.proofs.lemmas.Int.{ints}
 use mir.Val.{SFits}
 use Rattle.std.specs.Int.{w64}
@@ -68,7 +68,7 @@ pub record IsLine (head : Head) (xy : ℤ) : Type 0 where
   pub full : head.empty ≡ false
   pub precision : head.xy ≡ xy
 
-pub line_head : (xy : ℤ) (r a : Reading) (head : Head) → IsLineStart xy r → IsHeadAt head 1 r.place (passed r a) → IsMoved r a → IsLine head xy
+line_head : (xy : ℤ) (r a : Reading) (head : Head) → IsLineStart xy r → IsHeadAt head 1 r.place (passed r a) → IsMoved r a → IsLine head xy
 line_head xy r a head start ha moved =
     let is = ha.is in
     let same : start.type_byte ∷ (start.metadata ∷ start.behind) ≡ is.type_byte ∷ (is.metadata ∷ ((is.extended_bytes ++ (is.size_bytes ++ is.box_bytes)) ++ rest a)) =
@@ -122,6 +122,11 @@ line_begins : (p : PointValue) (others : Answer (List PointValue)) (body : Body)
     → viewed part_body (viewed (λ (line : Ring). line ∷ []) (viewed (λ (ps : List PointValue). p ∷ ps) others)) ≡ (Ok body, stop) → (ps : List PointValue) × (part_body ((p ∷ ps) ∷ []) ≡ body)
 line_begins p (Ok ps, r) body stop e = (ps, ok_is {A = Body} {E = Malformed} (part_body ((p ∷ ps) ∷ [])) body (ap (λ (a : Answer Body). a.0) e))
 line_begins p (Err m, r) body stop e = absurd (let bad = ap (λ (a : Answer Body). a.0) e in cc (bad))
+
+-- of a line whose first vertex is inside: it is found, and where it ends
+pub record IsLineLook (w : Bounds) (g : Geometry) (r : Reading) (head : Head) : Type 0 where
+  pub found : list_any (is_inside w) (vertices g) ≡ true
+  pub past : (size : SizeField) (last : Reading) → head.size ≡ Some size → IsMoved r last → last.place ≡ size.after + size.value → last ≡ record { bytes = r.bytes; place = r.place + size_of g; count = added r.count (cost w g) }
 
 module _ (w : Bounds) (g : Geometry) (r a new : Reading) (head : Head) (xy : ℤ) (more : ℕ) (sound : IsSound r) (at : StandsAt g 1 r.bytes r.place) (ha : IsHeadAt head 1 r.place (passed r a)) (moved : IsMoved r a)
     (line : IsLine head xy) (begins : BeginsInside w xy more a new) where
@@ -189,7 +194,7 @@ module _ (w : Bounds) (g : Geometry) (r a new : Reading) (head : Head) (xy : ℤ
       told : (a b : Bool) → a ≡ true → (a || b) ≡ true
       told a b e = ap (λ (d : Bool). d || b) e
 
-  pub line_found : list_any (is_inside w) (vertices g) ≡ true
+  line_found : list_any (is_inside w) (vertices g) ≡ true
   line_found = sym shown_all ∙ (ap (λ (b : Body). list_any (is_inside w) (map (vertex_of (of_head head)) (points_of b.polygons))) (sym line_is.1) ∙ met line_is.0)
 
   not_missed : is_missed w (box_of g) ≡ false
@@ -207,9 +212,18 @@ module _ (w : Bounds) (g : Geometry) (r a new : Reading) (head : Head) (xy : ℤ
           let hd = has_head h l ids polygons members 1 r a head at ha moved in
           sym (ap (λ (x : Head). is_collection x.kind) hd.head_is) ∙ single
 
-  pub line_past : (size : SizeField) (last : Reading) → head.size ≡ Some size → IsMoved r last → last.place ≡ size.after + size.value → last ≡ record { bytes = r.bytes; place = r.place + size_of g; count = added r.count (cost w g) }
+  line_past : (size : SizeField) (last : Reading) → head.size ≡ Some size → IsMoved r last → last.place ≡ size.after + size.value → last ≡ record { bytes = r.bytes; place = r.place + size_of g; count = added r.count (cost w g) }
   line_past size last sized on ends =
       let place : last.place ≡ r.place + size_of g = ends ∙ size_ends g r a head size at ha moved sized in
       let far : last.place - r.place ≡ size_of g = omega (arith, place) in
       let count : last.count ≡ added r.count (cost w g) = on.count ∙ ap (added r.count) (far ∙ sym (all_read w g not_missed line_kind)) in
       (λ j. record { bytes = on.bytes j; place = place j; count = count j })
+
+  looked : IsLineLook w g r head
+  looked = record { found = line_found; past = line_past }
+
+-- the same where its first bytes were looked at, by the precision that they say
+pub line_looked : (w : Bounds) (g : Geometry) (r a new : Reading) (head : Head) (xy xy_bits : ℤ) (more : ℕ) → xy_bits ≡ xy → IsSound r → StandsAt g 1 r.bytes r.place → IsHeadAt head 1 r.place (passed r a) → IsMoved r a
+    → IsLineStart xy r → BeginsInside w xy_bits more a new → IsLineLook w g r head
+line_looked w g r a new head xy xy_bits more xy_is sound at ha moved start begins =
+    looked w g r a new head xy more sound at ha moved (line_head xy r a head start ha moved) (subst (λ xy. BeginsInside w xy more a new) xy_is begins)

@@ -49,13 +49,13 @@ inner : (z : ℤ) → IsShort z → IsInner z
 inner z short = record { low = omega (arith, ints, short.0); high = omega (arith, ints, short.1) }
 
 -- a point is inside where the range of it alone doesn't miss the window, and this bounds neither Z nor M
-pub point_judged : (p : ℤ) (w : Bounds) (raw : RawWindow) (x y : ℤ) (misses flat : Bool) → IsRawWindow p w raw → IsShort x → IsShort y
-    → misses ≡ ((int_lt x raw.x.least || int_lt raw.x.greatest x) || (int_lt y raw.y.least || int_lt raw.y.greatest y)) → flat ≡ (in_bound w.z None && in_bound w.m None)
+pub point_judged : (p : ℤ) (w : Bounds) (raw : RawWindow) (x y x_bits y_bits : ℤ) (misses flat : Bool) → x_bits ≡ x → y_bits ≡ y → IsRawWindow p w raw → IsShort x → IsShort y
+    → misses ≡ ((int_lt x_bits raw.x.least || int_lt raw.x.greatest x_bits) || (int_lt y_bits raw.y.least || int_lt raw.y.greatest y_bits)) → flat ≡ (in_bound w.z None && in_bound w.m None)
     → (not misses && flat) ≡ is_inside w (record { x = units_of x p; y = units_of y p; z = None; m = None })
-point_judged p w raw x y misses flat is x_short y_short missed is_flat =
+point_judged p w raw x y x_bits y_bits misses flat x_is y_is is x_short y_short missed is_flat =
     let x_inner = inner x x_short in
     let y_inner = inner y y_short in
-    let same = missed ∙ misses_raw p w raw is (x, x) (y, y) (record { first = x_inner; second = x_inner }) (record { first = y_inner; second = y_inner }) in
+    let same = missed ∙ (λ j. (int_lt (x_is j) raw.x.least || int_lt raw.x.greatest (x_is j)) || (int_lt (y_is j) raw.y.least || int_lt raw.y.greatest (y_is j))) ∙ misses_raw p w raw is (x, x) (y, y) (record { first = x_inner; second = x_inner }) (record { first = y_inner; second = y_inner }) in
     (λ j. not (same j) && is_flat j) ∙ join (lie_apart (span_at p (x, x)) w.x) (lie_apart (span_at p (y, y)) w.y) (in_bound w.z None && in_bound w.m None)
     ∙ (λ j. sym (in_or_apart w.x (units_of x p)) j && (sym (in_or_apart w.y (units_of y p)) j && (in_bound w.z None && in_bound w.m None)))
 
