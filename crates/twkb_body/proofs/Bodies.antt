@@ -5,7 +5,7 @@ use Rattle.twkb_head.specs.Parts.{Times, Announced}
 use Rattle.twkb_head.specs.Header.{Header, axes_of, is_multi}
 use Rattle.twkb_head.specs.BegunHeader.{is_collection, Field, number_field, IsFewer}
 use Rattle.twkb_head.specs.Devices.Plan.{Plan, bind}
-use Rattle.twkb_head.proofs.Combinators.{PlanLaws, restated, Chain, chained, BegunChain, Made, Measured, bind_laws, done_laws, measure_laws, optional_laws, AreAll}
+use Rattle.twkb_head.proofs.Combinators.{PlanLaws, restated, Chain, chained, BegunChain, behind_again, Made, Measured, bind_laws, done_laws, measure_laws, optional_laws, AreAll}
 use Rattle.twkb_head.proofs.Leaves.{IsDue, IsNumber, number_laws, signeds_laws}
 use Rattle.twkb_body.specs.Geometry.{Lengths, PointValue, PolygonValue, points_of, member_count, none, Members as MemberTrees}
 use Rattle.twkb_body.specs.Encoding.{IsPart, IsList, IsNumbers, IsShape, IsBody, SameForm}
@@ -156,12 +156,7 @@ module _ (h : Header) (l : Lengths) (single : is_collection h.kind ≡ false) wh
       begun p due (inr (x, (front, rest, split, hd, (points, b, fit)))) = (points, member_begun points p front rest due x split hd b, fit)
 
       begun_back : (p : List ℕ) (due : Field) → BegunFrom (IsBegunNumbers true h) zeros p due → AreBegun p due
-      begun_back p due (points, b, fit) = go (begun_list points p due b)
-        where
-          go : BegunChain (BegunListHead h.ids) (IsListHead h.ids)
-              (λ x. BegunMembers (x.0).0 (IsPart h.kind (axes_of h)) (λ part. flat_map (λ ring. ring) part) (IsBegunPart h.kind (axes_of h)) points) p due → AreBegun p due
-          go (inl b) = inl b
-          go (inr (x, (front, rest, split, hd, b))) = inr (x, (front, rest, split, hd, (points, b, fit)))
+      begun_back p due (points, b, fit) = behind_again (λ x rest b. (points, b, fit)) (begun_list points p due b)
 
   pub shape_laws : PlanLaws (shape_plan (is_multi h.kind) h) (λ b bytes. (b.members ≡ none) × IsShape h (with_lengths l b) b.ids b.polygons bytes) (BegunShape h)
   shape_laws = restated (numbers_laws (is_multi h.kind)) whole back (λ p due b. (b.0, b.1, sums_fit b.0 b.2)) (λ p due b. (b.0, b.1, fit_sums b.0 b.2))

@@ -7,15 +7,14 @@ use Rattle.twkb_head.specs.Header.{Header, IsHeader}
 use Rattle.twkb_head.specs.BegunHeader.{IsAllowedUnder, is_collection, Field, IsBegunHeader}
 use Rattle.twkb_head.specs.Devices.Plan.{Plan, done}
 use Rattle.twkb_head.specs.Devices.HeadPlan.{HeadValue}
-use Rattle.twkb_head.proofs.Combinators.{PlanLaws, restated, Chain, chained, BegunChain, Made, Measured, bind_laws_behind, done_laws, measure_laws, BegunTimes, free, times_laws}
+use Rattle.twkb_head.proofs.Combinators.{PlanLaws, restated, Chain, chained, BegunChain, behind_again, Made, Measured, bind_laws_behind, done_laws, measure_laws, BegunTimes, free, times_laws}
 use Rattle.twkb_head.proofs.Heads.{IsAllowedWith, allowed_at, allowed_with, IsHead, head_laws}
 use Rattle.twkb_body.specs.Geometry.{Geometry, Members, geometry, none, more, member_count, Lengths}
 use Rattle.twkb_body.specs.Encoding.{BlobUnder, BlobsUnder, IsBody}
 use Rattle.twkb_body.specs.Begun.{IsBegunUnder, header_begun, shape_begun, members_begun, member_begun}
 use Rattle.twkb_body.specs.Devices.Body.{Body, geometry_from, members_of}
 use Rattle.twkb_body.proofs.GeometryPlan.{parts_plan, geometry_with, members_plan, geometry_plan}
-use Rattle.twkb_body.proofs.PartPlans.{BegunMembers}
-use Rattle.twkb_body.proofs.Bodies.{IsListHead, BegunListHead, MembersLaws, IsBodyOf, BegunBody, list_head, body_laws, list_begun, begun_list}
+use Rattle.twkb_body.proofs.Bodies.{MembersLaws, IsBodyOf, BegunBody, list_head, body_laws, list_begun, begun_list}
 
 no_level : (k : Kind) → is_collection k ≡ true → IsAllowedWith zero k → ⊥
 no_level GeometryCollection c a = cc (a)
@@ -148,12 +147,7 @@ module _ (limit : ℕ) where
     begun_back p due (shape_begun _ _ _ h front rest points hd allowed not_empty single b fit split) =
         behind h front rest p due false hd allowed not_empty single split (points, b, fit)
     begun_back p due (members_begun _ _ _ h front rest hd allowed not_empty many_of b split) =
-        behind h front rest p due true hd allowed not_empty many_of split (in_list (begun_list [] rest due b))
-      where
-        in_list : BegunChain (BegunListHead h.ids) (IsListHead h.ids) (λ x. BegunMembers {A = ℕ} (x.0).0 (λ n bytes. ⊥) (λ n. []) (λ points bytes field. ⊥) []) rest due
-            → BegunBody h (BegunBlobs (suc depth)) false true rest due
-        in_list (inl b) = inl b
-        in_list (inr (x, (list, behind, split', l, b))) = absurd b.begun
+        behind h front rest p due true hd allowed not_empty many_of split (behind_again (λ x rest b. absurd b.begun) (begun_list {A = ℕ} [] rest due b))
     begun_back p due (member_begun _ _ _ h n front count id_list wholes rest ids gs hd allowed not_empty many_of spells has few whole begun split) =
         behind h front (count ++ (id_list ++ (wholes ++ rest))) p due true hd allowed not_empty many_of split
         (inr (chained ((n, length count), (ids, length id_list)) (count ++ id_list) (wholes ++ rest) (sym (append_assoc count id_list (wholes ++ rest)))

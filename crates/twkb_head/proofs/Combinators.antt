@@ -38,6 +38,12 @@ chained x front rest split is next = (x, (front, rest, split, is, next))
 abbrev pub BegunChain : {A : Type 0} → (List ℕ → Field → Type 0) → (A → List ℕ → Type 0) → (A → List ℕ → Field → Type 0) → List ℕ → Field → Type 0
 BegunChain {A} Begun Is Next p due = Begun p due ⊎ ((x : A) × Then (Is x) (λ rest. Next x rest due) p)
 
+-- what depends on it in other words
+pub behind_again : {A Begun : Type 0} {Is Next Other : A → List ℕ → Type 0} {p : List ℕ} → ((x : A) (rest : List ℕ) → Next x rest → Other x rest)
+    → Begun ⊎ ((x : A) × Then (Is x) (Next x) p) → Begun ⊎ ((x : A) × Then (Is x) (Other x) p)
+behind_again other (inl b) = inl b
+behind_again other (inr (x, (front, rest, split, is, next))) = inr (x, (front, rest, split, is, other x rest next))
+
 -- a value that f makes
 abbrev pub Made : {A B : Type 0} → (A → B) → (A → List ℕ → Type 0) → B → List ℕ → Type 0
 Made {A} f Is y bytes = (x : A) × (y ≡ f x) × Is x bytes
@@ -140,15 +146,9 @@ measure_spelled n (ask r next) x bytes (front, rest, parts, ok, more) =
 
 spelled_measure : {A : Type 0} (n : ℕ) (p : Plan A) (x : A) (bytes : List ℕ) → Spelled p x bytes → Spelled (measure n p) (x, n + length bytes) bytes
 spelled_measure n (done y) x bytes (e, nil) = (ap₂ (λ (a : _) (b : ℕ). (a, b)) e (ap (λ (z : List ℕ). n + length z) nil ∙ add-zero n), nil)
-spelled_measure {A} n (ask r next) x bytes (front, rest, parts, ok, more) = (
-  front,
-  rest,
-  parts,
-  ok,
-  subst (λ (m : ℕ). Spelled (measure (n + length front) (next front)) (x, m) rest)
-      (add_assoc n (length front) (length rest) ∙ ap (λ (k : ℕ). n + k) (sym (length-append front rest)) ∙ ap (λ (z : List ℕ). n + length z) (sym parts))
-      (spelled_measure (n + length front) (next front) x rest more),
-)
+spelled_measure {A} n (ask r next) x bytes (front, rest, parts, ok, more) =
+    let long : n + length front + length rest ≡ n + length bytes = add_assoc n (length front) (length rest) ∙ ap (λ (k : ℕ). n + k) (sym (length-append front rest)) ∙ ap (λ (z : List ℕ). n + length z) (sym parts) in
+    (front, rest, parts, ok, subst (λ (m : ℕ). Spelled (measure (n + length front) (next front)) (x, m) rest) long (spelled_measure (n + length front) (next front) x rest more))
 
 measure_stops : {A : Type 0} (n : ℕ) (p : Plan A) (bytes : List ℕ) (due : Field) → Stops (measure n p) bytes due → Stops p bytes due
 measure_stops n (done y) bytes due s = s

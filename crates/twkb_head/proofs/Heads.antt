@@ -1,5 +1,5 @@
 -- The laws of the plan of a header, in words of the definition of headers.
-use Rattle.std.proofs.Common.{◌≡◌, ℕ, zero, suc, ◌+◌, ◌*◌, ◌%◌, ◌≤◌, true, List, [], ◌∷◌, ◌++◌, length, slice_index, ℤ, ◌+ℤ◌, ◌-ℤ◌, Option, Some, None, unwrap_or, ◌⊎◌, inl, inr, refl, sym, ap, ap₂, subst, ◌∙◌, arith}
+use Rattle.std.proofs.Common.{◌≡◌, ℕ, zero, suc, ◌+◌, ◌*◌, ◌%◌, ◌≤◌, true, List, [], ◌∷◌, ◌++◌, length, slice_index, ℤ, ◌+ℤ◌, ◌-ℤ◌, Option, Some, None, IfSome, IfNone, unwrap_or, ◌⊎◌, inl, inr, refl, sym, ap, ap₂, subst, ◌∙◌, arith}
 use Rattle.std.proofs.lemmas.List.{append-nil}
 use Rattle.std.proofs.lemmas.Int.{ints}
 use Rattle.twkb_head.specs.declared.kinds.Kind.{Kind}
@@ -15,9 +15,6 @@ use Rattle.twkb_head.proofs.BoxFields.{box_numbers, ranges_numbers, numbers_rang
 use Rattle.twkb_head.proofs.Combinators.{PlanLaws, restated, Chain, chained, BegunChain, Made, Measured, bind_laws, done_laws, measure_laws, optional_laws}
 use Rattle.twkb_head.proofs.Leaves.{IsDue, IsNumber, alone, leaf_laws, byte_laws, number_laws, signeds_laws}
 
-some_is : {A : Type 0} (x y : A) → Some x ≡ Some y → x ≡ y
-some_is x y e = cc
-
 -- kinds
 pub kind_code : (k : Kind) → kind_of_code (code_of k) ≡ Some k
 kind_code Point = refl
@@ -28,27 +25,23 @@ kind_code MultiLineString = refl
 kind_code MultiPolygon = refl
 kind_code GeometryCollection = refl
 
+-- a number is the code of its kind, or of none
+kind_at : (n : ℕ) → IfSome (kind_of_code n) (λ k. n ≡ code_of k) × IfNone (kind_of_code n) ((n ≡ 0) ⊎ (8 ≤ n))
+kind_at zero = (tt, inl refl)
+kind_at (suc zero) = (refl, tt)
+kind_at (suc (suc zero)) = (refl, tt)
+kind_at (suc (suc (suc zero))) = (refl, tt)
+kind_at (suc (suc (suc (suc zero)))) = (refl, tt)
+kind_at (suc (suc (suc (suc (suc zero))))) = (refl, tt)
+kind_at (suc (suc (suc (suc (suc (suc zero)))))) = (refl, tt)
+kind_at (suc (suc (suc (suc (suc (suc (suc zero))))))) = (refl, tt)
+kind_at (suc (suc (suc (suc (suc (suc (suc (suc n)))))))) = (tt, inr (omega arith))
+
 pub code_kind : (n : ℕ) (k : Kind) → kind_of_code n ≡ Some k → n ≡ code_of k
-code_kind zero k e = absurd (cc (e))
-code_kind (suc zero) k e = ap code_of (some_is _ _ e)
-code_kind (suc (suc zero)) k e = ap code_of (some_is _ _ e)
-code_kind (suc (suc (suc zero))) k e = ap code_of (some_is _ _ e)
-code_kind (suc (suc (suc (suc zero)))) k e = ap code_of (some_is _ _ e)
-code_kind (suc (suc (suc (suc (suc zero))))) k e = ap code_of (some_is _ _ e)
-code_kind (suc (suc (suc (suc (suc (suc zero)))))) k e = ap code_of (some_is _ _ e)
-code_kind (suc (suc (suc (suc (suc (suc (suc zero))))))) k e = ap code_of (some_is _ _ e)
-code_kind (suc (suc (suc (suc (suc (suc (suc (suc n)))))))) k e = absurd (cc (e))
+code_kind n k e = subst (λ (o : Option Kind). IfSome o (λ k. n ≡ code_of k)) e (kind_at n).0
 
 pub no_kind : (n : ℕ) → kind_of_code n ≡ None → (n ≡ 0) ⊎ (8 ≤ n)
-no_kind zero e = inl refl
-no_kind (suc zero) e = absurd (cc (e))
-no_kind (suc (suc zero)) e = absurd (cc (e))
-no_kind (suc (suc (suc zero))) e = absurd (cc (e))
-no_kind (suc (suc (suc (suc zero)))) e = absurd (cc (e))
-no_kind (suc (suc (suc (suc (suc zero))))) e = absurd (cc (e))
-no_kind (suc (suc (suc (suc (suc (suc zero)))))) e = absurd (cc (e))
-no_kind (suc (suc (suc (suc (suc (suc (suc zero))))))) e = absurd (cc (e))
-no_kind (suc (suc (suc (suc (suc (suc (suc (suc n)))))))) e = inr (omega arith)
+no_kind n e = subst (λ (o : Option Kind). IfNone o ((n ≡ 0) ⊎ (8 ≤ n))) e (kind_at n).1
 
 -- the kind may stand with so many levels below it
 abbrev pub IsAllowedWith : ℕ → Kind → Type 0
