@@ -1,6 +1,6 @@
 //! Bodies that no box asks for, on each side of each condition of the pass that counts the ends of numbers, against the plain
 //! reader.
-use super::steps::{GREATEST, put, put_unsigned};
+use super::steps::{GREATEST, number_of, put, put_unsigned};
 use super::variants::agrees;
 use super::*;
 use crate::quick::take_at_sight;
@@ -11,14 +11,7 @@ use std::process::Abort;
 // A number of one to four bytes, now and then of up to ten.
 fn number(dice: &mut Dice) -> i64 {
     let lengths = if dice.once_in(40) { 10 } else { 4 };
-    let length = dice.below(lengths) as usize;
-    let greatest = GREATEST.get(length).copied().unwrap_or(0);
-    let number = dice.around(0, greatest);
-    if dice.once_in(2) {
-        number.wrapping_neg()
-    } else {
-        number
-    }
+    number_of(dice, lengths)
 }
 
 // A number of points, and their numbers.

@@ -1,6 +1,6 @@
 //! Lines, polygons and lists of points at random, each against a plain reader: numbers of each length, sums that leave 64
 //! bits, boxes whose ends are met or missed by one, and the end of the bytes at each distance.
-use super::steps::{GREATEST, put};
+use super::steps::{number_of, put};
 use super::variants::agrees;
 use super::*;
 use random_layers::Dice;
@@ -10,14 +10,7 @@ use twkb_num::zigzag;
 // Mostly of one byte to three, else of one to ten.
 pub fn difference(dice: &mut Dice) -> i64 {
     let lengths = if dice.once_in(8) { 10 } else { 3 };
-    let length = dice.below(lengths) as usize;
-    let greatest = GREATEST.get(length).copied().unwrap_or(0);
-    let number = dice.around(0, greatest);
-    if dice.once_in(2) {
-        number.wrapping_neg()
-    } else {
-        number
-    }
+    number_of(dice, lengths)
 }
 
 // Now and then with some groups of zero behind it.

@@ -1,5 +1,6 @@
 //! Boxes whose ends are as far from the vertices as a step, nearly so far, and farther, on each side of each axis.
 use super::*;
+use random_layers::Dice;
 use std::alloc::{AllocError, Global};
 use std::process::Abort;
 use twkb_num::zigzag;
@@ -28,6 +29,18 @@ pub const GREATEST: [i64; 10] = [
     4611686018427387903,
     9223372036854775807,
 ];
+
+// A number of so many bytes at most, of either sign.
+pub fn number_of(dice: &mut Dice, lengths: u64) -> i64 {
+    let length = dice.below(lengths) as usize;
+    let greatest = GREATEST.get(length).copied().unwrap_or(0);
+    let number = dice.around(0, greatest);
+    if dice.once_in(2) {
+        number.wrapping_neg()
+    } else {
+        number
+    }
+}
 
 // A signed number.
 pub fn put(out: &mut Vec<u8>, number: i64) -> Result<(), AllocError> {

@@ -1,6 +1,8 @@
 //! Boxes that are true and too large, and boxes that aren't.
 use super::variants::variants_agree;
 use super::*;
+use std::alloc::Global;
+use std::process::Abort;
 
 // Blobs whose boxes are not loose.
 const TIGHT: [(&[u8], usize); 9] = [
@@ -151,17 +153,18 @@ fn tight_boxes(rt: HostRuntime) {
     }
 }
 
+// The claim is named, and the cursor is as it was.
+fn refused_there(rt: &impl Abort, alloc: Global, bytes: &[u8], offset: usize, claim: Claim) {
+    let mut cursor = Cursor::new(bytes);
+    let fault = AuditFault::FalseClaim { offset, claim };
+    assert_eq!(rt; audit_tight(alloc, &mut cursor), Err(fault), "of {bytes:?}");
+    assert_eq!(rt; cursor.place(), 0);
+}
+
 #[test]
 fn loose_boxes(rt: HostRuntime) {
     for (bytes, offset, claim) in LOOSE {
-        let mut cursor = Cursor::new(bytes);
-        let fault = AuditFault::FalseClaim { offset, claim };
-        assert_eq!(rt;
-            audit_tight(rt.alloc(), &mut cursor),
-            Err(fault),
-            "of {bytes:?}"
-        );
-        assert_eq!(rt; cursor.place(), 0);
+        refused_there(&rt, rt.alloc(), bytes, offset, claim);
     }
 }
 
@@ -169,13 +172,7 @@ fn loose_boxes(rt: HostRuntime) {
 #[test]
 fn other_false_claims(rt: HostRuntime) {
     for (bytes, offset, claim) in FALSE {
-        let mut cursor = Cursor::new(bytes);
-        let fault = AuditFault::FalseClaim { offset, claim };
-        assert_eq!(rt;
-            audit_tight(rt.alloc(), &mut cursor),
-            Err(fault),
-            "of {bytes:?}"
-        );
+        refused_there(&rt, rt.alloc(), bytes, offset, claim);
     }
 }
 
