@@ -1,9 +1,6 @@
 //! Room for the ids of a list: memory that grows, or a slice that is lent.
-ghost use Rattle.std.specs.Prelude.{◌≡◌, ◌↔◌, ◌≢◌, ◌≤◌, length, IsTrue, AllPairs};
-ghost use Rattle.twkb_num.specs.Cursor.{rest};
-ghost use Rattle.twkb_head.specs.Devices.Reader.{signeds_at};
-ghost use Rattle.twkb_body.specs.Devices.Stops.{ReadsOrStops};
-ghost use Rattle.twkb_body.specs.Devices.IdLists.{HasManyIds};
+ghost use Rattle.std.specs.Prelude.{◌≤◌, length};
+ghost use Rattle.twkb_body.specs.Devices.Stops.{ReadsIds};
 
 use crate::fields::take_signed;
 use crate::ids::{are_distinct, slice_distinct};
@@ -16,9 +13,7 @@ use twkb_num::Cursor;
 pub trait IdRoom {
     /// The ids of a list, which are so many: whether they are distinct.
     fn take_ids(&mut self, cursor: &mut Cursor, count: u64) -> Result<bool, Stopped>
-        ensures { ReadsOrStops (signeds_at count cursor.old)
-            (λ ids distinct. IsTrue distinct ↔ AllPairs (λ a b. a ≢ b) ids)
-            (HasManyIds count (rest cursor.old)) cursor.old result cursor.new };
+        ensures { ReadsIds count cursor.old result cursor.new };
 }
 
 impl<A: Allocator> IdRoom for &A {
@@ -39,8 +34,7 @@ impl IdRoom for &mut [i64] {
 
 /// The ids of a list in memory that grows as they are read. They are freed when they are judged.
 fn take_grown<A: Allocator>(alloc: &A, cursor: &mut Cursor, count: u64) -> Result<bool, Stopped>
-    ensures { ReadsOrStops (signeds_at count cursor.old) (λ ids distinct. IsTrue distinct ↔ AllPairs (λ a b. a ≢ b) ids)
-        (HasManyIds count (rest cursor.old)) cursor.old result cursor.new }
+    ensures { ReadsIds count cursor.old result cursor.new }
 {
     cursor.place_is_within();
     let mut ids: SmallVec<i64, 16, &A> = SmallVec::new(alloc);
@@ -54,8 +48,7 @@ fn take_grown<A: Allocator>(alloc: &A, cursor: &mut Cursor, count: u64) -> Resul
 /// The ids of a list in places that are lent, of which there are sixteen at least.
 fn take_lent(ids: &mut [i64], cursor: &mut Cursor, count: u64) -> Result<bool, Stopped>
     requires { 16 ≤ length ids.old }
-    ensures { ReadsOrStops (signeds_at count cursor.old) (λ ids distinct. IsTrue distinct ↔ AllPairs (λ a b. a ≢ b) ids)
-        (HasManyIds count (rest cursor.old)) cursor.old result cursor.new }
+    ensures { ReadsIds count cursor.old result cursor.new }
 {
     cursor.place_is_within();
     let mut held = 0;

@@ -2,7 +2,7 @@
 use Rattle.std.proofs.Common.{◌≡◌, ◌+◌, ◌^◌, ◌<◌, ◌≤◌, ℤ, int_lt, ◌||◌, Bool, true, false, length, Option, Some, None, IfSome, option_map, refl, ap, sym, subst, ◌∙◌, arith}
 use Rattle.std.proofs.lemmas.Int.{ints}
 use Rattle.std.specs.List.{list_any}
-use Rattle.twkb_num.specs.Cursor.{Reading, IsMoved, IsSound, added, passed}
+use Rattle.twkb_num.specs.Cursor.{Reading, IsMoved, IsSound, passed}
 use Rattle.twkb_head.specs.Head.{IsHeadAt, span_at}
 use Rattle.twkb_head.specs.Raw.{raw_bounds, flat_box, ends_of, IsNear, IsBegunBox}
 use Rattle.twkb_head.specs.declared.raw.RawRange.{RawRange}
@@ -16,8 +16,7 @@ use Rattle.twkb_body.specs.Devices.Skimmed.{Config, hop_of, skimmed}
 use Rattle.twkb_body.specs.Standing.{StandsAt}
 use Rattle.twkb_body.proofs.HeadStands.{hop_fits, hop_within, enter_hops}
 use Rattle.twkb_body.proofs.Remaining.{none_left}
-use Rattle.twkb_layer.specs.Hits.{cost}
-use Rattle.twkb_layer.specs.Layer.{size_of}
+use Rattle.twkb_layer.specs.Devices.Layer.{scanned}
 use Rattle.twkb_layer.specs.Devices.Seeking.{seeks_soundly, Seeking, seeks, seeks_past}
 use Rattle.twkb_layer.specs.Devices.Raw.{IsRawWindow, HasMissed}
 use Rattle.twkb_layer.specs.Devices.Slots.{AreInner}
@@ -51,7 +50,7 @@ module _ (w : Bounds) (g : Geometry) (r a : Reading) (head : Head) (size : SizeF
       let zero : member_count e.below ≡ 0 = omega (arith, e.count) in
       none_left seeks seeks_past e.below _ zero ∙ e.left
 
-  pub hop_past : (new : Reading) → new ≡ record a { place = size.after + size.value } → new ≡ record { bytes = r.bytes; place = r.place + size_of g; count = added r.count (cost w g) }
+  pub hop_past : (new : Reading) → new ≡ record a { place = size.after + size.value } → new ≡ scanned w g r
   hop_past new is = rw (cost_walk (seeking w) g) (ap (λ (d : Config Seeking). d.reading) (hopped new is))
 
   pub hop_none : (new : Reading) → new ≡ record a { place = size.after + size.value } → list_any (is_inside w) (vertices g) ≡ false

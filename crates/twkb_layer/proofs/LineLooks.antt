@@ -37,6 +37,7 @@ use Rattle.twkb_body.proofs.PairReads.{pair_read}
 use Rattle.twkb_body.proofs.Remaining.{none_left}
 use Rattle.twkb_layer.specs.Directory.{box_of}
 use Rattle.twkb_layer.specs.Hits.{cost}
+use Rattle.twkb_layer.specs.Devices.Layer.{scanned}
 use Rattle.twkb_layer.specs.Layer.{size_of}
 use Rattle.twkb_layer.specs.Devices.Lines.{IsLineStart, BeginsInside}
 use Rattle.twkb_layer.specs.Devices.Seeking.{Seeking, seeks}
@@ -126,7 +127,7 @@ line_begins p (Err m, r) body stop e = absurd (let bad = ap (λ (a : Answer Body
 -- of a line whose first vertex is inside: it is found, and where it ends
 pub record IsLineLook (w : Bounds) (g : Geometry) (r : Reading) (head : Head) : Type 0 where
   pub found : list_any (is_inside w) (vertices g) ≡ true
-  pub past : (size : SizeField) (last : Reading) → head.size ≡ Some size → IsMoved r last → last.place ≡ size.after + size.value → last ≡ record { bytes = r.bytes; place = r.place + size_of g; count = added r.count (cost w g) }
+  pub past : (size : SizeField) (last : Reading) → head.size ≡ Some size → IsMoved r last → last.place ≡ size.after + size.value → last ≡ scanned w g r
 
 module _ (w : Bounds) (g : Geometry) (r a new : Reading) (head : Head) (xy : ℤ) (more : ℕ) (sound : IsSound r) (at : StandsAt g 1 r.bytes r.place) (ha : IsHeadAt head 1 r.place (passed r a)) (moved : IsMoved r a)
     (line : IsLine head xy) (begins : BeginsInside w xy more a new) where
@@ -212,7 +213,7 @@ module _ (w : Bounds) (g : Geometry) (r a new : Reading) (head : Head) (xy : ℤ
           let hd = has_head h l ids polygons members 1 r a head at ha moved in
           sym (ap (λ (x : Head). is_collection x.kind) hd.head_is) ∙ single
 
-  line_past : (size : SizeField) (last : Reading) → head.size ≡ Some size → IsMoved r last → last.place ≡ size.after + size.value → last ≡ record { bytes = r.bytes; place = r.place + size_of g; count = added r.count (cost w g) }
+  line_past : (size : SizeField) (last : Reading) → head.size ≡ Some size → IsMoved r last → last.place ≡ size.after + size.value → last ≡ scanned w g r
   line_past size last sized on ends =
       let place : last.place ≡ r.place + size_of g = ends ∙ size_ends g r a head size at ha moved sized in
       let far : last.place - r.place ≡ size_of g = omega (arith, place) in

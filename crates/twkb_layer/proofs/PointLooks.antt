@@ -1,8 +1,8 @@
 -- Points with a size and nothing else.
-use Rattle.std.proofs.Common.{◌≡◌, ℕ, ◌+◌, ℤ, int_lt, ◌||◌, ◌&&◌, Bool, not, true, false, [], ◌∷◌, List, Option, Some, None, Ok, option_map, pos, ◌+ℤ◌, fold, map, refl, ap, sym, ◌∙◌, arith}
+use Rattle.std.proofs.Common.{◌≡◌, ℕ, ℤ, int_lt, ◌||◌, ◌&&◌, Bool, not, true, false, [], ◌∷◌, List, Option, Some, None, Ok, option_map, pos, ◌+ℤ◌, fold, map, refl, ap, sym, ◌∙◌, arith}
 use Rattle.std.proofs.lemmas.Int.{ints}
 use Rattle.std.specs.List.{list_any}
-use Rattle.twkb_num.specs.Cursor.{Reading, IsMoved, IsSound, added, passed}
+use Rattle.twkb_num.specs.Cursor.{Reading, IsMoved, IsSound, passed}
 use Rattle.twkb_num.specs.Units.{units_of}
 use Rattle.twkb_num.specs.Varint.{SpellsTwoSigned, IsShort}
 use Rattle.twkb_head.specs.Head.{IsHeadAt, m_axis, span_at}
@@ -24,8 +24,7 @@ use Rattle.twkb_body.specs.Standing.{StandsAt}
 use Rattle.twkb_body.proofs.HeadStands.{enter_shape}
 use Rattle.twkb_body.proofs.PointShapes.{point_body, point_shape}
 use Rattle.twkb_body.proofs.Remaining.{none_left}
-use Rattle.twkb_layer.specs.Hits.{cost}
-use Rattle.twkb_layer.specs.Layer.{size_of}
+use Rattle.twkb_layer.specs.Devices.Layer.{scanned}
 use Rattle.twkb_layer.specs.Devices.Seeking.{Seeking, seeks, seeks_past}
 use Rattle.twkb_layer.specs.Devices.Raw.{IsRawWindow}
 use Rattle.twkb_layer.specs.Devices.Slots.{IsInner}
@@ -102,7 +101,7 @@ module _ (w : Bounds) (g : Geometry) (r a new : Reading) (head : Head) (size aft
       let zero : member_count e.below ≡ 0 = omega (arith, e.count) in
       none_left seeks seeks_past e.below _ zero ∙ e.left
 
-  pub point_past : new ≡ record { bytes = r.bytes; place = r.place + size_of g; count = added r.count (cost w g) }
+  pub point_past : new ≡ scanned w g r
   point_past = rw (cost_walk (seeking w) g) (ap (λ (d : Config Seeking). d.reading) looked)
 
   pub point_found : is_inside w (flat_vertex head.xy x y) ≡ list_any (is_inside w) (vertices g)

@@ -1,15 +1,12 @@
 //! Hops over the blobs of a certified layer whose box misses a window, judged in raw integers.
-ghost use Rattle.std.specs.Prelude.{◌≡◌, ◌+◌, false, true};
+ghost use Rattle.std.specs.Prelude.{◌≡◌, false, true};
 ghost use Rattle.std.specs.List.{list_any};
-ghost use Rattle.twkb_num.specs.Cursor.{added};
 ghost use Rattle.twkb_num.specs.Units.{IsPrecision};
 ghost use Rattle.twkb_head.specs.Raw.{ends_of, IsNear};
 ghost use Rattle.twkb_body.specs.Geometry.{Geometry, vertices};
 ghost use Rattle.twkb_body.specs.Standing.{StandsAt};
-ghost use Rattle.twkb_layer.specs.Hits.{cost};
-ghost use Rattle.twkb_layer.specs.Devices.Layer.{OfBlob};
+ghost use Rattle.twkb_layer.specs.Devices.Layer.{OfBlob, scanned};
 ghost use Rattle.twkb_layer.specs.Devices.Raw.{HasMissed};
-ghost use Rattle.twkb_layer.specs.Layer.{size_of};
 ghost use Rattle.twkb_layer.specs.Window.{is_inside};
 
 use crate::raw::RawWindows;
@@ -24,11 +21,7 @@ pub fn hop_over(cursor: &mut Cursor, windows: &RawWindows) -> bool
     ensures stays { result ≡ false → cursor.new ≡ cursor.old }
     ensures outside { OfBlob cursor.old.bytes cursor.old.place (λ g.
         result ≡ true → list_any (is_inside windows.now) (vertices g) ≡ false) }
-    ensures past { OfBlob cursor.old.bytes cursor.old.place (λ g. result ≡ true → cursor.new ≡ record {
-      bytes = cursor.old.bytes;
-      place = cursor.old.place + size_of g;
-      count = added cursor.old.count (cost windows.now g);
-    }) }
+    ensures past { OfBlob cursor.old.bytes cursor.old.place (λ g. result ≡ true → cursor.new ≡ scanned windows.now g cursor.old) }
 {
     cursor.place_is_within();
     let mut ahead = cursor.ahead();

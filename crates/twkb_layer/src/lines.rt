@@ -1,14 +1,12 @@
 //! Lines with a size and a box whose first vertex is inside a window, judged in raw integers.
-ghost use Rattle.std.specs.Prelude.{◌≡◌, ◌+◌, false, true, IfSome, OnSome};
+ghost use Rattle.std.specs.Prelude.{◌≡◌, false, true, IfSome, OnSome};
 ghost use Rattle.std.specs.List.{list_any};
-ghost use Rattle.twkb_num.specs.Cursor.{added, IsMoved};
+ghost use Rattle.twkb_num.specs.Cursor.{IsMoved};
 ghost use Rattle.twkb_num.specs.Units.{IsPrecision};
 ghost use Rattle.twkb_body.specs.Geometry.{Geometry, vertices};
 ghost use Rattle.twkb_body.specs.Standing.{StandsAt};
-ghost use Rattle.twkb_layer.specs.Devices.Layer.{OfBlob};
+ghost use Rattle.twkb_layer.specs.Devices.Layer.{OfBlob, scanned};
 ghost use Rattle.twkb_layer.specs.Devices.Lines.{IsLineStart, BeginsInside};
-ghost use Rattle.twkb_layer.specs.Hits.{cost};
-ghost use Rattle.twkb_layer.specs.Layer.{size_of};
 ghost use Rattle.twkb_layer.specs.Window.{is_inside};
 
 use crate::hops::ends_of;
@@ -27,11 +25,7 @@ pub fn look_at_line(cursor: &mut Cursor, windows: &RawWindows) -> bool
     ensures stays { result ≡ false → cursor.new ≡ cursor.old }
     ensures inside { OfBlob cursor.old.bytes cursor.old.place (λ g.
         result ≡ true → list_any (is_inside windows.now) (vertices g) ≡ true) }
-    ensures past { OfBlob cursor.old.bytes cursor.old.place (λ g. result ≡ true → cursor.new ≡ record {
-      bytes = cursor.old.bytes;
-      place = cursor.old.place + size_of g;
-      count = added cursor.old.count (cost windows.now g);
-    }) }
+    ensures past { OfBlob cursor.old.bytes cursor.old.place (λ g. result ≡ true → cursor.new ≡ scanned windows.now g cursor.old) }
 {
     cursor.place_is_within();
     let Some(xy) = line_precision(cursor) else {

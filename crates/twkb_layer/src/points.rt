@@ -1,13 +1,11 @@
 //! Points with a size and nothing else, judged in raw integers.
-ghost use Rattle.std.specs.Prelude.{◌≡◌, ◌+◌, None, IfSome, IfNone, OnSome};
+ghost use Rattle.std.specs.Prelude.{◌≡◌, None, IfSome, IfNone, OnSome};
 ghost use Rattle.std.specs.List.{list_any};
-ghost use Rattle.twkb_num.specs.Cursor.{added};
 ghost use Rattle.twkb_num.specs.Units.{IsPrecision, units_of};
 ghost use Rattle.twkb_num.specs.Varint.{IsShort};
 ghost use Rattle.twkb_body.specs.Geometry.{Geometry, vertices};
 ghost use Rattle.twkb_body.specs.Standing.{StandsAt};
-ghost use Rattle.twkb_layer.specs.Hits.{cost};
-ghost use Rattle.twkb_layer.specs.Layer.{size_of};
+ghost use Rattle.twkb_layer.specs.Devices.Layer.{OfBlob, scanned};
 ghost use Rattle.twkb_layer.specs.Window.{is_inside};
 
 use crate::raw::RawWindows;
@@ -20,14 +18,9 @@ use twkb_num::Cursor;
 pub fn look_at_point(cursor: &mut Cursor, windows: &RawWindows) -> Option<bool>
     requires { (g : Geometry) × StandsAt g 1 cursor.old.bytes cursor.old.place }
     ensures stays { IfNone result (cursor.new ≡ cursor.old) }
-    ensures found { (g : Geometry) → StandsAt g 1 cursor.old.bytes cursor.old.place
-        → IfSome result (λ inside. inside ≡ list_any (is_inside windows.now) (vertices g)) }
-    ensures past { (g : Geometry) → StandsAt g 1 cursor.old.bytes cursor.old.place
-        → OnSome result (cursor.new ≡ record {
-          bytes = cursor.old.bytes;
-          place = cursor.old.place + size_of g;
-          count = added cursor.old.count (cost windows.now g);
-        }) }
+    ensures found { OfBlob cursor.old.bytes cursor.old.place (λ g.
+        IfSome result (λ inside. inside ≡ list_any (is_inside windows.now) (vertices g))) }
+    ensures past { OfBlob cursor.old.bytes cursor.old.place (λ g. OnSome result (cursor.new ≡ scanned windows.now g cursor.old)) }
 {
     cursor.place_is_within();
     let mut ahead = cursor.ahead();

@@ -1,10 +1,10 @@
 -- Devices of proofs: nothing public names them.
 -- How a read in code that may want memory is the reader's.
-use Rattle.std.specs.Prelude.{◌≡◌, ℕ, ◌+◌, ◌-◌, ◌<◌, Bool, ℤ, pos, List, Result, Ok, Err}
+use Rattle.std.specs.Prelude.{◌≡◌, ◌≢◌, ◌↔◌, ℕ, ◌+◌, ◌-◌, ◌<◌, Bool, IsTrue, ℤ, pos, List, AllPairs, Result, Ok, Err}
 use Rattle.twkb_num.specs.Cursor.{Reading, rest}
 use Rattle.twkb_head.specs.declared.header.Head.{Head}
 use Rattle.twkb_head.specs.BegunHeader.{deepest}
-use Rattle.twkb_head.specs.Devices.Reader.{Answer, Fails, many_at}
+use Rattle.twkb_head.specs.Devices.Reader.{Answer, Fails, many_at, signeds_at}
 use Rattle.twkb_body.specs.Geometry.{Geometry, vertices}
 use Rattle.twkb_body.specs.Audited.{HasLongList}
 use Rattle.twkb_body.specs.Extent.{reach_of}
@@ -13,7 +13,7 @@ use Rattle.twkb_body.specs.Devices.BodyReader.{list_at, geometry_at}
 use Rattle.twkb_body.specs.Devices.Found.{IsFound}
 use Rattle.twkb_body.specs.Devices.Seen.{HasSeen}
 use Rattle.twkb_body.specs.Devices.Inside.{of_head, IsInside}
-use Rattle.twkb_body.specs.Devices.IdLists.{HasManyIdsAfterCount, IsListFound}
+use Rattle.twkb_body.specs.Devices.IdLists.{HasManyIds, HasManyIdsAfterCount, IsListFound}
 use Rattle.twkb_body.specs.declared.found.Found.{Found}
 use Rattle.twkb_body.specs.declared.inside.Inside.{Inside}
 use Rattle.twkb_body.specs.declared.lists.List.{List as ListFound}
@@ -30,6 +30,11 @@ HasStopped answer Wants old Memory new = (new.bytes ≡ old.bytes) × Wants
 abbrev pub ReadsOrStops : {A B : Type 0} → Answer A → (A → B → Type 0) → Type 0 → Reading → Result B Stopped → Reading → Type 0
 ReadsOrStops {A} answer Gives Wants old (Ok y) new = (x : A) × (answer ≡ (Ok x, new)) × Gives x y
 ReadsOrStops answer Gives Wants old (Err e) new = HasStopped answer Wants old e new
+
+-- the same of so many ids, of which the code says whether no two are equal
+abbrev pub ReadsIds : ℕ → Reading → Result Bool Stopped → Reading → Type 0
+ReadsIds count old result new =
+    ReadsOrStops (signeds_at count old) (λ ids distinct. IsTrue distinct ↔ AllPairs (λ a b. a ≢ b) ids) (HasManyIds count (rest old)) old result new
 
 -- the same of a list: its count, and its ids where they are announced
 abbrev pub ReadsList : Answer ListHead → Bool → Reading → Result ListFound Stopped → Reading → Type 0
