@@ -16,7 +16,7 @@ use Rattle.twkb_body.specs.Geometry.{Geometry, Members, Lengths, points_of, vert
 use Rattle.twkb_body.specs.Extent.{Reach, reach_of, both}
 use Rattle.twkb_body.specs.Devices.Body.{Body, no_body, geometry_from}
 use Rattle.twkb_body.specs.Devices.BodyReader.{spanned, shape_at, body_at, parts_at, geometry_by, geometry_at, members_under}
-use Rattle.twkb_body.specs.Devices.Pass.{IsRefusedFor, MemberSums, Sums, first, false_at, is_within, is_tight, ids_refused}
+use Rattle.twkb_body.specs.Devices.Pass.{NamesFirstOf, MemberSums, Sums, first, false_at, is_within, is_tight, ids_refused}
 use Rattle.twkb_body.proofs.TreeSums.{nothing, over, size_refused, box_refused}
 use Rattle.twkb_body.specs.Devices.Found.{named, size_judged, box_judged, IsFound}
 use Rattle.twkb_body.specs.Devices.Seen.{HasSeen}
@@ -161,7 +161,7 @@ module _ (tight : Bool) (head : Head) (depth : ℕ) (r a new : Reading) (at : Is
           sums = record {
             count = counted ∙ i.vertices ∙ all.count;
             reach = refl;
-            refused = subst (IsRefusedFor tight g r.place) (sym named_first) all.refused;
+            refused = subst (NamesFirstOf tight g r.place) (sym named_first) all.refused;
           };
           stop_is = omega (arith, moved.ahead, ahead);
           few = omega (arith, counted, i.few, moved.ahead);

@@ -10,14 +10,15 @@ use Rattle.twkb_call.specs.declared.window.Window.{Window}
 abbrev pub value_of : Units → ℤ
 value_of u = u.high *ℤ pos (2 ^ 64) +ℤ pos u.low
 
-abbrev pub span_of : Range → Span
-span_of r = record { lo = value_of r.lo; hi = value_of r.hi }
+-- the range of its two numbers
+abbrev pub span_from : Range → Span
+span_from r = record { lo = value_of r.lo; hi = value_of r.hi }
 
 -- the window that is meant: of Z and M only where it says so
 abbrev pub ranges_of : Window → Bounds
 ranges_of w = record {
-  x = span_of w.x;
-  y = span_of w.y;
-  z = if w.has_z then Some (span_of w.z) else None;
-  m = if w.has_m then Some (span_of w.m) else None;
+  x = span_from w.x;
+  y = span_from w.y;
+  z = if w.has_z then Some (span_from w.z) else None;
+  m = if w.has_m then Some (span_from w.m) else None;
 }

@@ -3,7 +3,7 @@ ghost use Rattle.std.specs.Prelude.{◌≡◌, ◌≢◌, ◌≤◌, if◌then�
 ghost use Rattle.twkb_head.specs.declared.boxes.Bounds.{Bounds};
 ghost use Rattle.twkb_layer.specs.WindowText.{IsWindowText, in_order};
 ghost use Rattle.twkb_call.specs.Vertices.{words_of};
-ghost use Rattle.twkb_call.specs.Window.{value_of, span_of, ranges_of};
+ghost use Rattle.twkb_call.specs.Window.{value_of, span_from, ranges_of};
 
 use twkb_layer::{BadWindow, Span};
 
@@ -68,7 +68,7 @@ impl Range {
     };
 
     fn of(span: &Span) -> Range
-        ensures { span_of result ≡ span.now }
+        ensures { span_from result ≡ span.now }
     {
         Range {
             lo: Units::of(span.lo),
@@ -77,7 +77,7 @@ impl Range {
     }
 
     fn span(&self) -> Span
-        ensures { result ≡ span_of self.now }
+        ensures { result ≡ span_from self.now }
     {
         Span {
             lo: self.lo.value(),

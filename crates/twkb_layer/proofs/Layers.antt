@@ -1,5 +1,6 @@
 -- The laws of layers.
 use Rattle.std.proofs.Common.{◌≡◌, ℕ, ◌-◌, ◌*◌, ◌≤◌, List, [], ◌∷◌, ◌++◌, length, take, drop, refl, sym, ap, ap₂, subst, ◌∙◌, append_assoc, arith, length-append}
+use Rattle.std.specs.List.{concat}
 use Rattle.std.proofs.lemmas.List.{take-append-drop, take_at, drop_at, append-nil}
 use Rattle.twkb_head.specs.BegunHeader.{deepest}
 use Rattle.twkb_body.specs.Geometry.{Geometry, geometry}
@@ -8,7 +9,7 @@ use Rattle.twkb_body.proofs.BlobLaws.{blob_once}
 use Rattle.twkb_body.proofs.Growing.{blob_stays}
 use Rattle.twkb_body.proofs.Orders.{blob_order}
 use Rattle.twkb_layer.specs.Layer.{IsLayer, IsLayerUnder, IsCertifiedLayerUnder, size_of}
-use Rattle.twkb_layer.specs.Laws.{AreBlobs, joined}
+use Rattle.twkb_layer.specs.Laws.{AreBlobs}
 
 -- ---- blobs
 
@@ -57,19 +58,19 @@ layer_grows (h ∷ gs) bytes g more l b =
 
 -- ---- a layer is its blobs, wherever they are cut
 
-pub layer_blobs : (trees : List Geometry) (bytes : List ℕ) → IsLayer trees bytes → (parts : List (List ℕ)) × AreBlobs trees parts × (bytes ≡ joined parts)
+pub layer_blobs : (trees : List Geometry) (bytes : List ℕ) → IsLayer trees bytes → (parts : List (List ℕ)) × AreBlobs trees parts × (bytes ≡ concat parts)
 layer_blobs [] bytes l = ([], tt, l)
 layer_blobs (g ∷ gs) bytes l =
     let rest = layer_blobs gs (drop (size_of g) bytes) l.1 in
     (take (size_of g) bytes ∷ rest.0, (l.0, rest.1), sym (take-append-drop (size_of g) bytes) ∙ ap (λ (z : List ℕ). take (size_of g) bytes ++ z) rest.2)
 
-blobs_joined : (trees : List Geometry) (parts : List (List ℕ)) → AreBlobs trees parts → IsLayer trees (joined parts)
+blobs_joined : (trees : List Geometry) (parts : List (List ℕ)) → AreBlobs trees parts → IsLayer trees (concat parts)
 blobs_joined [] [] a = refl
 blobs_joined [] (part ∷ parts) a = absurd a
 blobs_joined (g ∷ gs) [] a = absurd a
-blobs_joined (g ∷ gs) (part ∷ parts) a = layer_first g gs part (joined parts) a.0 (blobs_joined gs parts a.1)
+blobs_joined (g ∷ gs) (part ∷ parts) a = layer_first g gs part (concat parts) a.0 (blobs_joined gs parts a.1)
 
-pub blobs_layer : (trees : List Geometry) (bytes : List ℕ) → (parts : List (List ℕ)) × AreBlobs trees parts × (bytes ≡ joined parts) → IsLayer trees bytes
+pub blobs_layer : (trees : List Geometry) (bytes : List ℕ) → (parts : List (List ℕ)) × AreBlobs trees parts × (bytes ≡ concat parts) → IsLayer trees bytes
 blobs_layer trees bytes (parts, are, is) = subst (IsLayer trees) (sym is) (blobs_joined trees parts are)
 
 -- ---- a layer has one list of trees, and one place for each cut
@@ -77,17 +78,17 @@ blobs_layer trees bytes (parts, are, is) = subst (IsLayer trees) (sym is) (blobs
 not_nil : (g : Geometry) (part rest : List ℕ) → Blob g part 1 → [] ≡ part ++ rest → ⊥
 not_nil g part rest b e = omega (arith, ap length e, length-append part rest, blob_some g part b)
 
-pub parts_once : (trees others : List Geometry) (parts pieces : List (List ℕ)) → AreBlobs trees parts → AreBlobs others pieces → joined parts ≡ joined pieces
+pub parts_once : (trees others : List Geometry) (parts pieces : List (List ℕ)) → AreBlobs trees parts → AreBlobs others pieces → concat parts ≡ concat pieces
     → (trees ≡ others) × (parts ≡ pieces)
 parts_once [] [] [] [] a b e = (refl, refl)
 parts_once [] _ (part ∷ parts) _ a b e = absurd a
 parts_once (g ∷ gs) _ [] _ a b e = absurd a
 parts_once _ [] _ (piece ∷ pieces) a b e = absurd b
 parts_once _ (h ∷ hs) _ [] a b e = absurd b
-parts_once [] (h ∷ hs) [] (piece ∷ pieces) a b e = absurd (not_nil h piece (joined pieces) b.0 e)
-parts_once (g ∷ gs) [] (part ∷ parts) [] a b e = absurd (not_nil g part (joined parts) a.0 (sym e))
+parts_once [] (h ∷ hs) [] (piece ∷ pieces) a b e = absurd (not_nil h piece (concat pieces) b.0 e)
+parts_once (g ∷ gs) [] (part ∷ parts) [] a b e = absurd (not_nil g part (concat parts) a.0 (sym e))
 parts_once (g ∷ gs) (h ∷ hs) (part ∷ parts) (piece ∷ pieces) a b e =
-    let first = one_blob g h part piece (joined parts) (joined pieces) a.0 b.0 e in
+    let first = one_blob g h part piece (concat parts) (concat pieces) a.0 b.0 e in
     let rest = parts_once gs hs parts pieces a.1 b.1 first.2 in
     (ap₂ (λ (z : Geometry) (zs : List Geometry). z ∷ zs) first.0 rest.0, ap₂ (λ (z : List ℕ) (zs : List (List ℕ)). z ∷ zs) first.1 rest.1)
 

@@ -32,24 +32,24 @@ NamesFirstFalse IsTrue list None = All IsTrue list
 NamesFirstFalse IsTrue list (Some at) =
     (claim : Claim) × IsFirstFalse IsTrue list claim × (at.0 ≡ offset_of claim) × IsRefusedAs at.1 claim
 
--- what a geometry is refused for
-abbrev pub IsRefusedFor : Bool → Geometry → ℕ → Refused → Type 0
-IsRefusedFor tight g start refused = NamesFirstFalse (IsTrueBy tight) (claims g start) refused
+-- the same of the claims of a geometry, and of members
+abbrev pub NamesFirstOf : Bool → Geometry → ℕ → Refused → Type 0
+NamesFirstOf tight g start refused = NamesFirstFalse (IsTrueBy tight) (claims g start) refused
 
-abbrev pub AreRefusedFor : Bool → Members → ℕ → Refused → Type 0
-AreRefusedFor tight gs start refused = NamesFirstFalse (IsTrueBy tight) (member_claims gs start) refused
+abbrev pub NamesFirstOfMembers : Bool → Members → ℕ → Refused → Type 0
+NamesFirstOfMembers tight gs start refused = NamesFirstFalse (IsTrueBy tight) (member_claims gs start) refused
 
 -- the summary is of these vertices and claims
 pub record Sums (tight : Bool) (g : Geometry) (start : ℕ) (s : Summary) : Type 0 where
   pub count : s.count ≡ length (vertices g)
   pub reach : s.reach ≡ reach_of (vertices g)
-  pub refused : IsRefusedFor tight g start s.refused
+  pub refused : NamesFirstOf tight g start s.refused
 
 -- the same of members
 pub record MemberSums (tight : Bool) (gs : Members) (start : ℕ) (s : Summary) : Type 0 where
   pub count : s.count ≡ length (member_vertices gs)
   pub reach : s.reach ≡ reach_of (member_vertices gs)
-  pub refused : AreRefusedFor tight gs start s.refused
+  pub refused : NamesFirstOfMembers tight gs start s.refused
 
 -- ---- tests
 abbrev pub covers : Option Span → Option Span → Bool
