@@ -8,7 +8,13 @@ use crate::{
 };
 use refusing::Refusing;
 use std::alloc::Allocator;
+use std::fmt::Debug;
 use std::process::Abort;
+
+// That a call answers what is wanted. A test that calls this is proved sooner than one that compares where it stands.
+fn equal<T: PartialEq + Debug + Drop>(rt: &impl Abort, got: T, wanted: T) {
+    assert_eq!(rt; got, wanted);
+}
 
 // A line with a size and a box that holds (1 1) and (5 5), and a point with a box at (10 10).
 const TWO_BLOBS: [u8; 20] = [
@@ -68,21 +74,21 @@ fn no(blob: usize, offset: usize, kind: u32) -> Verdict {
 #[test]
 fn verdicts(rt: HostRuntime) {
     let alloc = rt.alloc();
-    assert_eq!(rt; certify(&alloc, &[]), yes(0, 0));
-    assert_eq!(rt; certify(&alloc, &TWO_BLOBS), yes(2, 3));
-    assert_eq!(rt; certify(&alloc, &SIZE_OFF_BY_ONE), no(0, 2, 6));
-    assert_eq!(rt; certify(&alloc, &TWO_BLOBS[..13]), no(1, 13, 1));
-    assert_eq!(rt; certify(&alloc, &LOOSE), yes(1, 2));
-    assert_eq!(rt; certify(&alloc, &FALLING_IDS), yes(1, 17));
+    equal(&rt, certify(&alloc, &[]), yes(0, 0));
+    equal(&rt, certify(&alloc, &TWO_BLOBS), yes(2, 3));
+    equal(&rt, certify(&alloc, &SIZE_OFF_BY_ONE), no(0, 2, 6));
+    equal(&rt, certify(&alloc, &TWO_BLOBS[..13]), no(1, 13, 1));
+    equal(&rt, certify(&alloc, &LOOSE), yes(1, 2));
+    equal(&rt, certify(&alloc, &FALLING_IDS), yes(1, 17));
 }
 
 #[test]
 fn tight_verdicts(rt: HostRuntime) {
     let alloc = rt.alloc();
-    assert_eq!(rt; certify_tight(&alloc, &[]), yes(0, 0));
-    assert_eq!(rt; certify_tight(&alloc, &TWO_BLOBS), yes(2, 3));
-    assert_eq!(rt; certify_tight(&alloc, &SIZE_OFF_BY_ONE), no(0, 2, 6));
-    assert_eq!(rt; certify_tight(&alloc, &LOOSE), no(0, 3, 9));
+    equal(&rt, certify_tight(&alloc, &[]), yes(0, 0));
+    equal(&rt, certify_tight(&alloc, &TWO_BLOBS), yes(2, 3));
+    equal(&rt, certify_tight(&alloc, &SIZE_OFF_BY_ONE), no(0, 2, 6));
+    equal(&rt, certify_tight(&alloc, &LOOSE), no(0, 3, 9));
 }
 
 #[test]
@@ -92,13 +98,14 @@ fn each_allocation_is_refused(rt: HostRuntime) {
         let memory = Refusing::new(rt.alloc(), call);
         let verdict = certify(&memory, &FALLING_IDS);
         if !memory.has_refused() {
-            assert_eq!(rt; verdict, yes(1, 17));
+            equal(&rt, verdict, yes(1, 17));
             break;
         }
-        assert_eq!(rt; verdict, NO_MEMORY);
-        assert_eq!(rt;
+        equal(&rt, verdict, NO_MEMORY);
+        equal(
+            &rt,
             certify_tight(&Refusing::new(rt.alloc(), call), &FALLING_IDS),
-            NO_MEMORY
+            NO_MEMORY,
         );
         refusals = call + 1;
     }
@@ -108,26 +115,26 @@ fn each_allocation_is_refused(rt: HostRuntime) {
 #[test]
 fn verdicts_in_lent_room(rt: HostRuntime) {
     let mut none: [i64; 0] = [];
-    assert_eq!(rt; certify_lent(&[], &mut none), yes(0, 0));
-    assert_eq!(rt; certify_lent(&TWO_BLOBS, &mut none), yes(2, 3));
-    assert_eq!(rt; certify_lent(&SIZE_OFF_BY_ONE, &mut none), no(0, 2, 6));
-    assert_eq!(rt; certify_lent(&LOOSE, &mut none), yes(1, 2));
-    assert_eq!(rt; certify_tight_lent(&TWO_BLOBS, &mut none), yes(2, 3));
-    assert_eq!(rt; certify_tight_lent(&LOOSE, &mut none), no(0, 3, 9));
-    assert_eq!(rt; certify_lent(&FALLING_IDS, &mut none), NO_MEMORY);
+    equal(&rt, certify_lent(&[], &mut none), yes(0, 0));
+    equal(&rt, certify_lent(&TWO_BLOBS, &mut none), yes(2, 3));
+    equal(&rt, certify_lent(&SIZE_OFF_BY_ONE, &mut none), no(0, 2, 6));
+    equal(&rt, certify_lent(&LOOSE, &mut none), yes(1, 2));
+    equal(&rt, certify_tight_lent(&TWO_BLOBS, &mut none), yes(2, 3));
+    equal(&rt, certify_tight_lent(&LOOSE, &mut none), no(0, 3, 9));
+    equal(&rt, certify_lent(&FALLING_IDS, &mut none), NO_MEMORY);
     let mut sixteen = [0; 16];
-    assert_eq!(rt; certify_lent(&FALLING_IDS, &mut sixteen), NO_MEMORY);
-    assert_eq!(rt; certify_tight_lent(&FALLING_IDS, &mut sixteen), NO_MEMORY);
+    equal(&rt, certify_lent(&FALLING_IDS, &mut sixteen), NO_MEMORY);
+    let verdict = certify_tight_lent(&FALLING_IDS, &mut sixteen);
+    equal(&rt, verdict, NO_MEMORY);
     let mut seventeen = [0; 17];
-    assert_eq!(rt; certify_lent(&FALLING_IDS, &mut seventeen), yes(1, 17));
-    assert_eq!(rt;
-        certify_tight_lent(&FALLING_IDS, &mut seventeen),
-        yes(1, 17)
-    );
+    equal(&rt, certify_lent(&FALLING_IDS, &mut seventeen), yes(1, 17));
+    let verdict = certify_tight_lent(&FALLING_IDS, &mut seventeen);
+    equal(&rt, verdict, yes(1, 17));
     let mut equal_ids = FALLING_IDS;
     equal_ids[19] = equal_ids[3];
-    assert_eq!(rt; certify_lent(&equal_ids, &mut seventeen), no(0, 3, 8));
-    assert_eq!(rt; certify_tight_lent(&equal_ids, &mut seventeen), no(0, 3, 8));
+    equal(&rt, certify_lent(&equal_ids, &mut seventeen), no(0, 3, 8));
+    let verdict = certify_tight_lent(&equal_ids, &mut seventeen);
+    equal(&rt, verdict, no(0, 3, 8));
 }
 
 /// The bytes as a layer that was certified before.
@@ -182,13 +189,13 @@ const POINT: Row = Row {
 fn rows_that_fit(rt: HostRuntime) {
     let layer = layer_of(&rt, &rt.alloc(), &TWO_BLOBS);
     let mut none: [Row; 0] = [];
-    assert_eq!(rt; list(&layer, &mut none), 2);
+    equal(&rt, list(&layer, &mut none), 2);
     let mut one = [NONE];
-    assert_eq!(rt; list(&layer, &mut one), 2);
-    assert_eq!(rt; one, [LINE]);
+    equal(&rt, list(&layer, &mut one), 2);
+    equal(&rt, one, [LINE]);
     let mut three = [NONE, NONE, NONE];
-    assert_eq!(rt; list(&layer, &mut three), 2);
-    assert_eq!(rt; three, [LINE, POINT, NONE]);
+    equal(&rt, list(&layer, &mut three), 2);
+    equal(&rt, three, [LINE, POINT, NONE]);
 }
 
 const NOTHING: Units = Units { low: 0, high: 0 };
@@ -212,49 +219,52 @@ fn windows_in_two_words(rt: HostRuntime) {
     let mut window = UNREAD;
     let text =
         b"x=-0.0000001..1,y=-999999999999999999999999999..999999999999999999999999999.9999999,m=2..2";
-    assert_eq!(rt; parse_window(text, &mut window), 0);
-    assert_eq!(rt;
+    equal(&rt, parse_window(text, &mut window), 0);
+    equal(
+        &rt,
         window.x,
         Range {
             lo: Units {
                 low: u64::MAX,
-                high: -1
+                high: -1,
             },
             hi: Units {
                 low: 10_000_000,
-                high: 0
-            }
-        }
+                high: 0,
+            },
+        },
     );
     // 10^34 - 10^7 and 10^34 - 1, by 2^64.
-    assert_eq!(rt;
+    equal(
+        &rt,
         window.y,
         Range {
             lo: Units {
                 low: 14_443_731_869_769_438_848,
-                high: -542_101_086_242_753
+                high: -542_101_086_242_753,
             },
             hi: Units {
                 low: 4_003_012_203_950_112_767,
-                high: 542_101_086_242_752
-            }
-        }
+                high: 542_101_086_242_752,
+            },
+        },
     );
-    assert_eq!(rt;
+    equal(
+        &rt,
         window.m,
         Range {
             lo: Units {
                 low: 20_000_000,
-                high: 0
+                high: 0,
             },
             hi: Units {
                 low: 20_000_000,
-                high: 0
-            }
-        }
+                high: 0,
+            },
+        },
     );
     assert!(rt; !window.has_z && window.has_m);
-    assert_eq!(rt; window.z, NOWHERE);
+    equal(&rt, window.z, NOWHERE);
 }
 
 #[test]
@@ -271,13 +281,14 @@ fn texts_that_are_no_window(rt: HostRuntime) {
             has_z: true,
             ..UNREAD
         };
-        assert_eq!(rt; parse_window(text, &mut window), answer);
-        assert_eq!(rt;
+        equal(&rt, parse_window(text, &mut window), answer);
+        equal(
+            &rt,
             window,
             Window {
                 has_z: true,
                 ..UNREAD
-            }
+            },
         );
     }
 }
@@ -303,18 +314,13 @@ fn hits_that_fit(rt: HostRuntime) {
     ];
     for (text, hits, bytes_read, first) in table {
         let mut window = UNREAD;
-        assert_eq!(rt; parse_window(text, &mut window), 0);
+        equal(&rt, parse_window(text, &mut window), 0);
         let mut none: [Hit; 0] = [];
-        assert_eq!(rt;
-            scan(&layer, &window, &mut none),
-            Scanned { hits, bytes_read }
-        );
+        let scanned = Scanned { hits, bytes_read };
+        equal(&rt, scan(&layer, &window, &mut none), scanned);
         let mut one = [NO_HIT];
-        assert_eq!(rt;
-            scan(&layer, &window, &mut one),
-            Scanned { hits, bytes_read }
-        );
-        assert_eq!(rt; one, first);
+        equal(&rt, scan(&layer, &window, &mut one), scanned);
+        equal(&rt, one, first);
     }
 }
 
@@ -344,20 +350,24 @@ fn point(x: u8, y: u8) -> Point {
 fn vertices_that_fit(rt: HostRuntime) {
     let layer = layer_of(&rt, &rt.alloc(), &TWO_BLOBS);
     let mut none: [Point; 0] = [];
-    assert_eq!(rt; draw(&layer, &mut none), 3);
+    equal(&rt, draw(&layer, &mut none), 3);
     let mut two = [NO_POINT, NO_POINT];
-    assert_eq!(rt; draw(&layer, &mut two), 3);
-    assert_eq!(rt; two, [point(1, 1), point(5, 5)]);
+    equal(&rt, draw(&layer, &mut two), 3);
+    equal(&rt, two, [point(1, 1), point(5, 5)]);
     let mut four = [NO_POINT, NO_POINT, NO_POINT, NO_POINT];
-    assert_eq!(rt; draw(&layer, &mut four), 3);
-    assert_eq!(rt; four, [point(1, 1), point(5, 5), point(10, 10), NO_POINT]);
+    equal(&rt, draw(&layer, &mut four), 3);
+    equal(
+        &rt,
+        four,
+        [point(1, 1), point(5, 5), point(10, 10), NO_POINT],
+    );
 }
 
 #[test]
 fn vertices_in_two_words(rt: HostRuntime) {
     let layer = layer_of(&rt, &rt.alloc(), &CROSSING_LINE);
     let mut room = [NO_POINT, NO_POINT];
-    assert_eq!(rt; draw(&layer, &mut room), 2);
+    equal(&rt, draw(&layer, &mut room), 2);
     // -10^7 and -2 * 10^7, less 2^64 in the high word.
     let one_west = Units {
         low: 18_446_744_073_699_551_616,
@@ -367,7 +377,8 @@ fn vertices_in_two_words(rt: HostRuntime) {
         low: 18_446_744_073_689_551_616,
         high: -1,
     };
-    assert_eq!(rt;
+    equal(
+        &rt,
         room,
         [
             Point {
@@ -378,6 +389,6 @@ fn vertices_in_two_words(rt: HostRuntime) {
                 y: two_south,
                 ..point(3, 0)
             },
-        ]
+        ],
     );
 }

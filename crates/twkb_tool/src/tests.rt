@@ -8,6 +8,7 @@ use crate::run::run;
 use crate::status::status_of;
 use crate::streams::memory::{MemSink, MemSource};
 use std::alloc::Global;
+use std::fmt::Debug;
 use std::process::Abort;
 use std::test::Fail;
 use twkb_layer::Window;
@@ -17,6 +18,11 @@ mod runs;
 mod streams;
 mod words;
 mod worked;
+
+// That a call answers what is wanted. A test that calls this is proved sooner than one that compares where it stands.
+fn equal<T: PartialEq + Debug + Drop>(rt: &impl Abort, got: T, wanted: T) {
+    assert_eq!(rt; got, wanted);
+}
 
 /// The boxed line, and a point at (10 10) with a box and no size.
 const TWO_BLOBS: [u8; 20] = [
@@ -65,8 +71,8 @@ fn answers(
     } else {
         Verdict::No
     };
-    assert_eq!(rt; sink.bytes(), text.as_bytes());
-    assert_eq!(rt; outcome, Ok(verdict));
-    assert_eq!(rt; status_of(&outcome), u8::from(!is_certified));
+    equal(rt, sink.bytes(), text.as_bytes());
+    equal(rt, outcome, Ok(verdict));
+    equal(rt, status_of(&outcome), u8::from(!is_certified));
     Ok(())
 }

@@ -99,7 +99,7 @@ fn put_steps(out: &mut Vec<u8>, points: u64) -> Result<(), AllocError> {
 // The quick pass is sure of so many vertices, as is the plain reader.
 fn is_sure_of(rt: &impl Abort, alloc: Global, bytes: &[u8], vertices: usize) {
     let mut cursor = Cursor::new(bytes);
-    assert_eq!(rt; take_at_sight(&mut cursor), Some(vertices));
+    equal(rt, take_at_sight(&mut cursor), Some(vertices));
     agrees(rt, alloc, bytes, false);
 }
 
@@ -160,8 +160,8 @@ fn line_of(alloc: Global, x: i64, y: i64, behind: usize) -> Result<Vec<u8>, Allo
 
 #[test]
 fn bare_numbers_of_every_two_lengths(rt: HostRuntime) -> Result<(), Fail> {
-    for x in GREATEST {
-        for y in GREATEST {
+    for &x in &GREATEST {
+        for &y in &GREATEST {
             for behind in 0..9 {
                 let bytes = line_of(rt.alloc(), x, y.wrapping_neg(), behind)?;
                 agrees(&rt, rt.alloc(), &bytes, false);

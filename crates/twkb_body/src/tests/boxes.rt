@@ -50,10 +50,14 @@ const TOO_SMALL: [(&[u8], usize); 4] = [
 
 #[test]
 fn boxes_hold_what_is_deeper(rt: HostRuntime) -> Result<(), Fail> {
-    for bytes in NESTED {
+    for &bytes in &NESTED {
         let stop = bytes.len();
         let answer = audit(rt.alloc(), &mut Cursor::new(bytes));
-        assert_eq!(rt; answer, Ok(Audit { vertices: 1, stop }), "of {bytes:?}");
+        equal(
+            &rt,
+            (answer, bytes),
+            (Ok(Audit { vertices: 1, stop }), bytes),
+        );
         variants_agree(&rt, rt.alloc(), bytes)?;
     }
     Ok(())
@@ -61,13 +65,13 @@ fn boxes_hold_what_is_deeper(rt: HostRuntime) -> Result<(), Fail> {
 
 #[test]
 fn boxes_that_are_too_small(rt: HostRuntime) -> Result<(), Fail> {
-    for (bytes, offset) in TOO_SMALL {
+    for &(bytes, offset) in &TOO_SMALL {
         let fault = AuditFault::FalseClaim {
             offset,
             claim: Claim::Box,
         };
         let answer = audit(rt.alloc(), &mut Cursor::new(bytes));
-        assert_eq!(rt; answer, Err(fault), "of {bytes:?}");
+        equal(&rt, (answer, bytes), (Err(fault), bytes));
         variants_agree(&rt, rt.alloc(), bytes)?;
     }
     Ok(())

@@ -20,23 +20,26 @@ const CERTIFIED_BELOW: [(usize, &[u8], usize, u64); 7] = [
 
 #[test]
 fn certified_below(rt: HostRuntime) -> Result<(), Fail> {
-    for (collections, inmost, vertices, read) in CERTIFIED_BELOW {
+    for &(collections, inmost, vertices, read) in &CERTIFIED_BELOW {
         let bytes = nested(rt.alloc(), collections, inmost)?;
         let stop = bytes.len();
-        assert_eq!(&rt;
+        equal(
+            &rt,
             audit(rt.alloc(), &mut Cursor::new(&bytes)),
-            Ok(Audit { vertices, stop })
+            Ok(Audit { vertices, stop }),
         );
-        assert_eq!(&rt;
+        equal(
+            &rt,
             skimmed(rt.alloc(), &bytes, &mut Nothing {}),
-            Some((stop, read))
+            Some((stop, read)),
         );
         let mut summary = Summary::new();
-        assert_eq!(&rt;
+        equal(
+            &rt,
             skimmed(rt.alloc(), &bytes, &mut summary),
-            Some((stop, stop as u64))
+            Some((stop, stop as u64)),
         );
-        assert_eq!(&rt; summary.vertices(), vertices);
+        equal(&rt, summary.vertices(), vertices);
     }
     Ok(())
 }
@@ -53,10 +56,10 @@ const MALFORMED_BELOW: [(usize, &[u8], usize, Why); 6] = [
 
 #[test]
 fn malformed_below(rt: HostRuntime) -> Result<(), Fail> {
-    for (collections, inmost, offset, why) in MALFORMED_BELOW {
+    for &(collections, inmost, offset, why) in &MALFORMED_BELOW {
         let bytes = nested(rt.alloc(), collections, inmost)?;
         let fault = AuditFault::Malformed(Malformed { offset, why });
-        assert_eq!(&rt; audit(rt.alloc(), &mut Cursor::new(&bytes)), Err(fault));
+        equal(&rt, audit(rt.alloc(), &mut Cursor::new(&bytes)), Err(fault));
     }
     Ok(())
 }
@@ -87,9 +90,9 @@ fn sizes_off_by_one(rt: HostRuntime) -> Result<(), Fail> {
         vertices: 1,
         stop: 288,
     };
-    assert_eq!(&rt; audit(rt.alloc(), &mut Cursor::new(&bytes)), Ok(whole));
-    for (offset, byte) in SIZES {
-        assert_eq!(&rt; bytes.get(offset), Some(&byte));
+    equal(&rt, audit(rt.alloc(), &mut Cursor::new(&bytes)), Ok(whole));
+    for &(offset, byte) in &SIZES {
+        equal(&rt, bytes.get(offset), Some(&byte));
         for other in [byte.wrapping_sub(1), byte.wrapping_add(1)] {
             if let Some(size) = bytes.get_mut(offset) {
                 *size = other;
@@ -98,7 +101,7 @@ fn sizes_off_by_one(rt: HostRuntime) -> Result<(), Fail> {
                 offset,
                 claim: Claim::Size,
             };
-            assert_eq!(&rt; audit(rt.alloc(), &mut Cursor::new(&bytes)), Err(fault));
+            equal(&rt, audit(rt.alloc(), &mut Cursor::new(&bytes)), Err(fault));
         }
         if let Some(size) = bytes.get_mut(offset) {
             *size = byte;

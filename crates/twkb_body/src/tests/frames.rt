@@ -151,7 +151,7 @@ fn deeper_agrees(rt: &impl Abort, alloc: Global, member: &[u8]) -> Result<(), Al
 
 #[test]
 fn boxes_of_two_levels(rt: HostRuntime) -> Result<(), Fail> {
-    for member in MEMBERS {
+    for &member in &MEMBERS {
         deeper_agrees(&rt, rt.alloc(), member)?;
     }
     for place in &PLACES {
@@ -194,9 +194,9 @@ fn point_agrees(
 #[test]
 fn members_at_other_precisions(rt: HostRuntime) -> Result<(), Fail> {
     const NUMBERS: [i64; 13] = [-11, -10, -1, 0, 1, 9, 10, 11, 12, 99, 100, 101, 110];
-    for above in PRECISIONS {
-        for here in PRECISIONS {
-            for number in NUMBERS {
+    for &above in &PRECISIONS {
+        for &here in &PRECISIONS {
+            for &number in &NUMBERS {
                 point_agrees(&rt, rt.alloc(), (above, here), [number, 1])?;
                 point_agrees(&rt, rt.alloc(), (above, here), [1, number])?;
             }
@@ -260,13 +260,13 @@ fn worked_boxes_that_poke_out(rt: HostRuntime) -> Result<(), Fail> {
     for member in [MEMBERS[3], MEMBERS[4], MEMBERS[5], MEMBERS[6]] {
         let bytes = collection(rt.alloc(), 0x07, &BOXES[1], None, &[member])?;
         let answer = audit(rt.alloc(), &mut Cursor::new(&bytes));
-        assert_eq!(&rt; answer, Ok(Audit { vertices: 1, stop }));
+        equal(&rt, answer, Ok(Audit { vertices: 1, stop }));
     }
     let bytes = collection(rt.alloc(), 0x07, &BOXES[1], None, &[MEMBERS[8]])?;
     let fault = AuditFault::FalseClaim {
         offset: 2,
         claim: Claim::Box,
     };
-    assert_eq!(&rt; audit(rt.alloc(), &mut Cursor::new(&bytes)), Err(fault));
+    equal(&rt, audit(rt.alloc(), &mut Cursor::new(&bytes)), Err(fault));
     Ok(())
 }

@@ -97,9 +97,9 @@ fn ends_agree(
 
 #[test]
 fn ends_of_near_ranges_and_far_ones_of_z_and_m(rt: HostRuntime) -> Result<(), Fail> {
-    for minimum in MINIMA {
-        for extent in EXTENTS {
-            for further in FURTHER {
+    for &minimum in &MINIMA {
+        for &extent in &EXTENTS {
+            for &further in &FURTHER {
                 ends_agree(&rt, rt.alloc(), further, (minimum, extent))?;
             }
         }
@@ -111,9 +111,9 @@ fn ends_of_near_ranges_and_far_ones_of_z_and_m(rt: HostRuntime) -> Result<(), Fa
 fn sums_agree(rt: &impl Abort, alloc: Global, about: i64) -> Result<(), AllocError> {
     for beside in [-1, 0, 1] {
         let first = about.wrapping_add(beside);
-        for step in STEPS {
+        for &step in &STEPS {
             let second = first.wrapping_add(step);
-            for (dims, axis) in FURTHER {
+            for &(dims, axis) in &FURTHER {
                 let points = [first, second, first, second].map(|at| in_axis(axis, at, 0));
                 for range in [
                     (0, i64::MAX),
@@ -170,10 +170,10 @@ fn point_agrees(
 
 #[test]
 fn z_and_m_of_every_two_lengths(rt: HostRuntime) -> Result<(), Fail> {
-    for z in GREATEST {
+    for &z in &GREATEST {
         point_agrees(&rt, rt.alloc(), Z, z, 0)?;
         point_agrees(&rt, rt.alloc(), M, -1 - z, 0)?;
-        for m in GREATEST {
+        for &m in &GREATEST {
             point_agrees(&rt, rt.alloc(), BOTH, z, m)?;
             point_agrees(&rt, rt.alloc(), BOTH, z.wrapping_neg(), m)?;
             point_agrees(&rt, rt.alloc(), BOTH, z, -1 - m)?;
@@ -228,7 +228,7 @@ const OVER_MEMBERS: [&[u8]; 4] = [
 
 #[test]
 fn variants_with_z_and_m(rt: HostRuntime) -> Result<(), Fail> {
-    for bytes in OVER_MEMBERS {
+    for &bytes in &OVER_MEMBERS {
         variants_agree(&rt, rt.alloc(), bytes)?;
     }
     Ok(())

@@ -1,5 +1,5 @@
 //! Audits with room for the ids of a list that is lent.
-use super::{CERTIFIED, FALLING_IDS, FALSE, MALFORMED};
+use super::{CERTIFIED, FALLING_IDS, FALSE, MALFORMED, equal};
 use crate::{Audit, AuditFault, Claim, audit_lent, audit_tight_lent};
 use twkb_head::Malformed;
 use twkb_num::Cursor;
@@ -13,14 +13,14 @@ fn room_for_seventeen_ids(rt: HostRuntime) {
         let mut cursor = Cursor::new(&FALLING_IDS);
         let answer = audit_lent(&mut room[..places], &mut cursor);
         if places < 17 {
-            assert_eq!(rt; answer, Err(AuditFault::Memory));
-            assert_eq!(rt; cursor.place(), 0);
+            equal(&rt, answer, Err(AuditFault::Memory));
+            equal(&rt, cursor.place(), 0);
         } else {
-            assert_eq!(rt; answer, Ok(Audit { vertices: 17, stop }));
-            assert_eq!(rt; cursor.place(), stop);
+            equal(&rt, answer, Ok(Audit { vertices: 17, stop }));
+            equal(&rt, cursor.place(), stop);
         }
         let tight = audit_tight_lent(&mut room[..places], &mut Cursor::new(&FALLING_IDS));
-        assert_eq!(rt; tight, answer);
+        equal(&rt, tight, answer);
     }
 }
 
@@ -33,52 +33,56 @@ fn equal_ids_in_room(rt: HostRuntime) {
         claim: Claim::Ids,
     };
     let mut room = [0; 17];
-    assert_eq!(rt;
+    equal(
+        &rt,
         audit_lent(&mut room, &mut Cursor::new(&equal_ids)),
-        Err(fault)
+        Err(fault),
     );
-    assert_eq!(rt;
+    equal(
+        &rt,
         audit_tight_lent(&mut room, &mut Cursor::new(&equal_ids)),
-        Err(fault)
+        Err(fault),
     );
     let few = &mut room[..16];
-    assert_eq!(rt;
+    equal(
+        &rt,
         audit_lent(few, &mut Cursor::new(&equal_ids)),
-        Err(AuditFault::Memory)
+        Err(AuditFault::Memory),
     );
-    assert_eq!(rt;
+    equal(
+        &rt,
         audit_tight_lent(few, &mut Cursor::new(&equal_ids)),
-        Err(AuditFault::Memory)
+        Err(AuditFault::Memory),
     );
 }
 
 // No list of these has more than sixteen ids, but for one that rises.
 #[test]
 fn no_room(rt: HostRuntime) {
-    for (bytes, vertices) in CERTIFIED {
+    for &(bytes, vertices) in &CERTIFIED {
         let stop = bytes.len();
         let answer = audit_lent(&mut [], &mut Cursor::new(bytes));
-        assert_eq!(rt; answer, Ok(Audit { vertices, stop }), "of {bytes:?}");
+        equal(&rt, (answer, bytes), (Ok(Audit { vertices, stop }), bytes));
     }
-    for (bytes, offset, claim) in FALSE {
+    for &(bytes, offset, claim) in &FALSE {
         let fault = AuditFault::FalseClaim { offset, claim };
-        assert_eq!(rt;
-            audit_lent(&mut [], &mut Cursor::new(bytes)),
-            Err(fault),
-            "of {bytes:?}"
+        equal(
+            &rt,
+            (audit_lent(&mut [], &mut Cursor::new(bytes)), bytes),
+            (Err(fault), bytes),
         );
     }
-    for (bytes, offset, why) in MALFORMED {
+    for &(bytes, offset, why) in &MALFORMED {
         let fault = AuditFault::Malformed(Malformed { offset, why });
-        assert_eq!(rt;
-            audit_lent(&mut [], &mut Cursor::new(bytes)),
-            Err(fault),
-            "of {bytes:?}"
+        equal(
+            &rt,
+            (audit_lent(&mut [], &mut Cursor::new(bytes)), bytes),
+            (Err(fault), bytes),
         );
-        assert_eq!(rt;
-            audit_tight_lent(&mut [], &mut Cursor::new(bytes)),
-            Err(fault),
-            "of {bytes:?}"
+        equal(
+            &rt,
+            (audit_tight_lent(&mut [], &mut Cursor::new(bytes)), bytes),
+            (Err(fault), bytes),
         );
     }
 }

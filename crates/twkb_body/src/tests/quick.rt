@@ -118,8 +118,8 @@ fn ends_agree(
 
 #[test]
 fn ends_of_near_boxes_and_far_ones(rt: HostRuntime) -> Result<(), Fail> {
-    for minimum in MINIMA {
-        for extent in EXTENTS {
+    for &minimum in &MINIMA {
+        for &extent in &EXTENTS {
             for axis in 0..2 {
                 ends_agree(&rt, rt.alloc(), axis, (minimum, extent))?;
             }
@@ -144,10 +144,10 @@ pub const STEPS: [i64; 7] = [0, 1, -1, 134217727, -134217728, 134217728, NEAR];
 
 // Of each axis in turn a line that begins about so far from zero and makes a step.
 fn sums_agree(rt: &impl Abort, alloc: Global, about: i64) -> Result<(), AllocError> {
-    for range in FAR_BOXES {
+    for &range in &FAR_BOXES {
         for beside in [-1, 0, 1] {
             let first = about.wrapping_add(beside);
-            for step in STEPS {
+            for &step in &STEPS {
                 let second = first.wrapping_add(step);
                 for axis in 0..2 {
                     let points = [first, second, first, second].map(|at| crossed(axis, at, 0));
@@ -197,8 +197,8 @@ fn pair_agrees(rt: &impl Abort, alloc: Global, x: i64, y: i64) -> Result<(), All
 
 #[test]
 fn pairs_of_every_two_lengths(rt: HostRuntime) -> Result<(), Fail> {
-    for x in GREATEST {
-        for y in GREATEST {
+    for &x in &GREATEST {
+        for &y in &GREATEST {
             pair_agrees(&rt, rt.alloc(), x, y)?;
             pair_agrees(&rt, rt.alloc(), x.wrapping_neg(), y)?;
             pair_agrees(&rt, rt.alloc(), x, -1 - y)?;
@@ -314,11 +314,15 @@ const AT_SIGHT: [(&[u8], usize); 22] = [
 
 #[test]
 fn certified_at_sight(rt: HostRuntime) {
-    for (bytes, vertices) in AT_SIGHT {
+    for &(bytes, vertices) in &AT_SIGHT {
         let mut cursor = Cursor::new(bytes);
-        assert_eq!(rt; take_at_sight(&mut cursor), Some(vertices), "of {bytes:?}");
-        assert_eq!(rt; cursor.place(), bytes.len());
-        assert_eq!(rt; cursor.read_count(), bytes.len() as u64);
+        equal(
+            &rt,
+            (take_at_sight(&mut cursor), bytes),
+            (Some(vertices), bytes),
+        );
+        equal(&rt, cursor.place(), bytes.len());
+        equal(&rt, cursor.read_count(), bytes.len() as u64);
     }
 }
 
@@ -361,14 +365,18 @@ const LEFT: [&[u8]; 12] = [
 
 #[test]
 fn left_to_the_audit(rt: HostRuntime) {
-    for bytes in LEFT {
+    for &bytes in &LEFT {
         let mut cursor = Cursor::new(bytes);
-        assert_eq!(rt; take_at_sight(&mut cursor), None, "of {bytes:?}");
-        assert_eq!(rt; cursor.place(), 0);
-        assert_eq!(rt; cursor.read_count(), 0);
+        equal(&rt, (take_at_sight(&mut cursor), bytes), (None, bytes));
+        equal(&rt, cursor.place(), 0);
+        equal(&rt, cursor.read_count(), 0);
         let stop = bytes.len();
         let answer = audit(rt.alloc(), &mut cursor);
-        assert_eq!(rt; answer.map(|audit| audit.stop), Ok(stop), "of {bytes:?}");
-        assert_eq!(rt; cursor.read_count(), stop as u64);
+        equal(
+            &rt,
+            (answer.map(|audit| audit.stop), bytes),
+            (Ok(stop), bytes),
+        );
+        equal(&rt, cursor.read_count(), stop as u64);
     }
 }

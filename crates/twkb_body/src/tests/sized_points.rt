@@ -48,7 +48,7 @@ fn cuts_agree(rt: &impl Abort, alloc: Global, bytes: &[u8]) {
 fn coordinates_of_each_length(rt: HostRuntime) -> Result<(), Fail> {
     for x in 1..12usize {
         for y in 1..12usize {
-            for behind in BEHIND {
+            for &behind in &BEHIND {
                 let length = x.wrapping_add(y);
                 for size in [length, length.wrapping_add(1), length.wrapping_sub(1)] {
                     let mut bytes = Vec::new(rt.alloc());
@@ -87,7 +87,7 @@ fn long_sizes(rt: HostRuntime) -> Result<(), Fail> {
             0x01, 0x02, 0x82, 0x80, 0x80, 0x80, 0x80, 0x80, 0x80, 0x80, 0x80, 0x02, 0x02, 0x04,
         ],
     ];
-    for bytes in BLOBS {
+    for &bytes in &BLOBS {
         variants_agree(&rt, rt.alloc(), bytes)?;
     }
     Ok(())
@@ -124,7 +124,7 @@ fn members_under_boxes(rt: HostRuntime) -> Result<(), Fail> {
             0x01, 0x01, 0x02, 0x02, 0x02, 0x04,
         ],
     ];
-    for bytes in BLOBS {
+    for &bytes in &BLOBS {
         variants_agree(&rt, rt.alloc(), bytes)?;
     }
     Ok(())
@@ -141,8 +141,8 @@ fn worked_sized_points(rt: HostRuntime) {
         stop: 11,
     };
     let mut cursor = Cursor::new(&POINT);
-    assert_eq!(rt; audit(rt.alloc(), &mut cursor), Ok(certified));
-    assert_eq!(rt; cursor.read_count(), 11);
+    equal(&rt, audit(rt.alloc(), &mut cursor), Ok(certified));
+    equal(&rt, cursor.read_count(), 11);
     for size in [7, 9] {
         let mut bytes = POINT;
         bytes[2] = size;
@@ -151,9 +151,9 @@ fn worked_sized_points(rt: HostRuntime) {
             claim: Claim::Size,
         };
         let mut cursor = Cursor::new(&bytes);
-        assert_eq!(rt; audit(rt.alloc(), &mut cursor), Err(fault));
-        assert_eq!(rt; cursor.place(), 0);
-        assert_eq!(rt; cursor.read_count(), 11);
+        equal(&rt, audit(rt.alloc(), &mut cursor), Err(fault));
+        equal(&rt, cursor.place(), 0);
+        equal(&rt, cursor.read_count(), 11);
     }
     // The last byte is missing: Y, at place 7, is cut, and all bytes were looked at.
     let fault = AuditFault::Malformed(Malformed {
@@ -161,6 +161,6 @@ fn worked_sized_points(rt: HostRuntime) {
         why: Why::Cut,
     });
     let mut cursor = Cursor::new(&POINT[..10]);
-    assert_eq!(rt; audit(rt.alloc(), &mut cursor), Err(fault));
-    assert_eq!(rt; cursor.read_count(), 10);
+    equal(&rt, audit(rt.alloc(), &mut cursor), Err(fault));
+    equal(&rt, cursor.read_count(), 10);
 }

@@ -100,7 +100,7 @@ fn boxed(
 ) -> Result<Vec<u8>, AllocError> {
     let mut out = Vec::new(alloc);
     out.extend_from_slice(&[first, 0x09, extended])?;
-    for least in LEAST {
+    for &least in &LEAST {
         put(&mut out, least)?;
         put(&mut out, 3)?;
     }
@@ -130,10 +130,10 @@ fn judged(
     let bytes = boxed(alloc, *bytes, &from, &to)?;
     let stop = bytes.len();
     let found = Audit { vertices: 2, stop };
-    assert_eq!(rt;
-        audit(alloc, &mut Cursor::new(&bytes)),
-        Ok(found),
-        "of {bytes:?}"
+    equal(
+        rt,
+        (audit(alloc, &mut Cursor::new(&bytes)), &bytes),
+        (Ok(found), &bytes),
     );
     let wanted = if away < step(precisions, axis) {
         Ok(found)
@@ -144,7 +144,7 @@ fn judged(
         })
     };
     let answer = audit_tight(alloc, &mut Cursor::new(&bytes));
-    assert_eq!(rt; answer, wanted, "{away} away, of {bytes:?}");
+    equal(rt, (answer, away, &bytes), (wanted, away, &bytes));
     Ok(())
 }
 

@@ -140,16 +140,16 @@ const LOOSE: [(&[u8], usize, Claim); 10] = [
 
 #[test]
 fn tight_boxes(rt: HostRuntime) {
-    for (bytes, vertices) in TIGHT {
+    for &(bytes, vertices) in &TIGHT {
         let mut cursor = Cursor::new(bytes);
         let stop = bytes.len();
-        assert_eq!(rt;
-            audit_tight(rt.alloc(), &mut cursor),
-            Ok(Audit { vertices, stop }),
-            "of {bytes:?}"
+        equal(
+            &rt,
+            (audit_tight(rt.alloc(), &mut cursor), bytes),
+            (Ok(Audit { vertices, stop }), bytes),
         );
-        assert_eq!(rt; cursor.place(), stop);
-        assert_eq!(rt; cursor.read_count(), stop as u64);
+        equal(&rt, cursor.place(), stop);
+        equal(&rt, cursor.read_count(), stop as u64);
     }
 }
 
@@ -157,13 +157,17 @@ fn tight_boxes(rt: HostRuntime) {
 fn refused_there(rt: &impl Abort, alloc: Global, bytes: &[u8], offset: usize, claim: Claim) {
     let mut cursor = Cursor::new(bytes);
     let fault = AuditFault::FalseClaim { offset, claim };
-    assert_eq!(rt; audit_tight(alloc, &mut cursor), Err(fault), "of {bytes:?}");
-    assert_eq!(rt; cursor.place(), 0);
+    equal(
+        rt,
+        (audit_tight(alloc, &mut cursor), bytes),
+        (Err(fault), bytes),
+    );
+    equal(rt, cursor.place(), 0);
 }
 
 #[test]
 fn loose_boxes(rt: HostRuntime) {
-    for (bytes, offset, claim) in LOOSE {
+    for &(bytes, offset, claim) in &LOOSE {
         refused_there(&rt, rt.alloc(), bytes, offset, claim);
     }
 }
@@ -171,14 +175,14 @@ fn loose_boxes(rt: HostRuntime) {
 // What any check refuses is refused alike in tight checking: no box here is loose before the claim that is false.
 #[test]
 fn other_false_claims(rt: HostRuntime) {
-    for (bytes, offset, claim) in FALSE {
+    for &(bytes, offset, claim) in &FALSE {
         refused_there(&rt, rt.alloc(), bytes, offset, claim);
     }
 }
 
 #[test]
 fn variants_of_tight_boxes(rt: HostRuntime) -> Result<(), Fail> {
-    for (bytes, _) in TIGHT {
+    for &(bytes, _) in &TIGHT {
         variants_agree(&rt, rt.alloc(), bytes)?;
     }
     Ok(())
@@ -186,7 +190,7 @@ fn variants_of_tight_boxes(rt: HostRuntime) -> Result<(), Fail> {
 
 #[test]
 fn variants_of_loose_boxes(rt: HostRuntime) -> Result<(), Fail> {
-    for (bytes, _, _) in LOOSE {
+    for &(bytes, _, _) in &LOOSE {
         variants_agree(&rt, rt.alloc(), bytes)?;
     }
     Ok(())
@@ -201,12 +205,12 @@ fn memory_runs_out_in_tight_checking(rt: HostRuntime) {
         let mut cursor = Cursor::new(&SEVENTEEN_IDS);
         let answer = audit_tight_in(&memory, &mut cursor);
         if memory.has_refused() {
-            assert_eq!(rt; answer, Err(AuditFault::Memory));
-            assert_eq!(rt; cursor.place(), 0);
+            equal(&rt, answer, Err(AuditFault::Memory));
+            equal(&rt, cursor.place(), 0);
             refusals = call + 1;
         } else {
             let stop = SEVENTEEN_IDS.len();
-            assert_eq!(rt; answer, Ok(Audit { vertices: 17, stop }));
+            equal(&rt, answer, Ok(Audit { vertices: 17, stop }));
         }
     }
     assert!(rt; 0 < refusals && refusals < 10, "{refusals}");

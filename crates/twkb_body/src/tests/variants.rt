@@ -35,11 +35,11 @@ pub fn agrees(rt: &impl Abort, alloc: Global, bytes: &[u8], is_tight: bool) {
         let plainly = plain::read_blob(alloc, bytes);
         (audit(alloc, &mut cursor), plainly)
     };
-    assert_eq!(rt; answer, audited(plainly), "of {bytes:?}");
+    equal(rt, (answer, bytes), (audited(plainly), bytes));
     let place = answer.map_or(0, |audit| audit.stop);
-    assert_eq!(rt; cursor.place(), place);
+    equal(rt, cursor.place(), place);
     if answer.is_ok() {
-        assert_eq!(rt; cursor.read_count(), place as u64, "of {bytes:?}");
+        equal(rt, (cursor.read_count(), bytes), (place as u64, bytes));
     }
 }
 
@@ -66,7 +66,7 @@ pub fn variants_agree(rt: &impl Abort, alloc: Global, bytes: &[u8]) -> Result<()
 
 #[test]
 fn variants_of_certified_blobs(rt: HostRuntime) -> Result<(), Fail> {
-    for (bytes, _) in CERTIFIED {
+    for &(bytes, _) in &CERTIFIED {
         agree(&rt, rt.alloc(), bytes, false)?;
     }
     Ok(())
@@ -74,7 +74,7 @@ fn variants_of_certified_blobs(rt: HostRuntime) -> Result<(), Fail> {
 
 #[test]
 fn variants_of_certified_blobs_in_tight_checking(rt: HostRuntime) -> Result<(), Fail> {
-    for (bytes, _) in CERTIFIED {
+    for &(bytes, _) in &CERTIFIED {
         agree(&rt, rt.alloc(), bytes, true)?;
     }
     Ok(())
@@ -82,7 +82,7 @@ fn variants_of_certified_blobs_in_tight_checking(rt: HostRuntime) -> Result<(), 
 
 #[test]
 fn variants_of_malformed_blobs(rt: HostRuntime) -> Result<(), Fail> {
-    for (bytes, _, _) in MALFORMED {
+    for &(bytes, _, _) in &MALFORMED {
         variants_agree(&rt, rt.alloc(), bytes)?;
     }
     Ok(())
@@ -90,7 +90,7 @@ fn variants_of_malformed_blobs(rt: HostRuntime) -> Result<(), Fail> {
 
 #[test]
 fn variants_of_false_blobs(rt: HostRuntime) -> Result<(), Fail> {
-    for (bytes, _, _) in FALSE {
+    for &(bytes, _, _) in &FALSE {
         variants_agree(&rt, rt.alloc(), bytes)?;
     }
     Ok(())

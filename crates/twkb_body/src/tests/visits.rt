@@ -78,9 +78,9 @@ fn are_shown(rt: &impl Abort, alloc: Global, bytes: &[u8], layer: &plain::Layer)
     };
     let end = skims::skimmed(alloc, bytes, &mut expecting);
     let whole = layer.geometries.first().map_or(0, |blob| blob.whole);
-    assert_eq!(rt; end, Some((whole, whole as u64)), "of {bytes:?}");
-    assert_eq!(rt; expecting.shown, layer.vertices.len(), "of {bytes:?}");
-    assert_eq!(rt; expecting.wrong, 0, "of {bytes:?}");
+    equal(rt, (end, bytes), (Some((whole, whole as u64)), bytes));
+    equal(rt, (expecting.shown, bytes), (layer.vertices.len(), bytes));
+    equal(rt, (expecting.wrong, bytes), (0, bytes));
 }
 
 #[test]
@@ -141,6 +141,6 @@ fn words_up_to_the_end(rt: HostRuntime) -> Result<(), Fail> {
             }
         }
     }
-    assert_eq!(rt; visited, 972);
+    equal(&rt, visited, 972);
     Ok(())
 }

@@ -37,9 +37,9 @@ fn raw_heads_have_raw_boxes(rt: HostRuntime) {
         }),
         box_place: 6,
     };
-    assert_eq!(rt; read_raw_head(&mut cursor, 2), Some(expected));
-    assert_eq!(rt; cursor.place(), 10);
-    assert_eq!(rt; cursor.read_count(), 7);
+    equal(&rt, read_raw_head(&mut cursor, 2), Some(expected));
+    equal(&rt, cursor.place(), 10);
+    equal(&rt, cursor.read_count(), 7);
 }
 
 #[test]
@@ -59,12 +59,16 @@ fn boxes_are_begun_up_to_y(rt: HostRuntime) {
             x: range(1, 4),
         };
         let mut cursor = Cursor::new(&bytes);
-        assert_eq!(rt; read_begun_box(&mut cursor), Some(expected));
-        assert_eq!(rt; cursor.read_count(), 5);
+        equal(&rt, read_begun_box(&mut cursor), Some(expected));
+        equal(&rt, cursor.read_count(), 5);
         let stop = 3 + usize::from(size);
-        assert_eq!(rt; read_range_before(&mut cursor, stop), Some(range(1, -4)));
-        assert_eq!(rt; cursor.place(), 7);
-        assert_eq!(rt; cursor.read_count(), 7);
+        equal(
+            &rt,
+            read_range_before(&mut cursor, stop),
+            Some(range(1, -4)),
+        );
+        equal(&rt, cursor.place(), 7);
+        equal(&rt, cursor.read_count(), 7);
     }
 }
 
@@ -94,11 +98,12 @@ fn passes_a_range(rt: &impl Abort, bytes: &[u8], stop: usize, many: usize) {
     let mut reads = Cursor::new(bytes);
     let mut passes = Cursor::new(bytes);
     assert!(rt; read_range_before(&mut reads, stop).is_some());
-    assert_eq!(rt; pass_range_before(&mut passes, stop), Some(()));
-    assert_eq!(rt; [reads.place(), passes.place()], [many, many]);
-    assert_eq!(rt;
+    equal(rt, pass_range_before(&mut passes, stop), Some(()));
+    equal(rt, [reads.place(), passes.place()], [many, many]);
+    equal(
+        rt,
         [reads.read_count(), passes.read_count()],
-        [many as u64, many as u64]
+        [many as u64, many as u64],
     );
 }
 
@@ -108,8 +113,8 @@ fn ranges_end_with_the_bytes(rt: HostRuntime) {
     passes_a_range(&rt, &bytes, 5, 5);
     for stop in 0..5 {
         let cut = &bytes[..stop];
-        assert_eq!(rt; read_range_before(&mut Cursor::new(cut), 5), None);
-        assert_eq!(rt; pass_range_before(&mut Cursor::new(cut), 5), None);
+        equal(&rt, read_range_before(&mut Cursor::new(cut), 5), None);
+        equal(&rt, pass_range_before(&mut Cursor::new(cut), 5), None);
     }
 }
 
@@ -134,7 +139,7 @@ fn no_other_boxes_are_begun(rt: HostRuntime) {
         ],
     ];
     for bytes in table {
-        assert_eq!(rt; read_begun_box(&mut Cursor::new(&bytes)), None);
+        equal(&rt, read_begun_box(&mut Cursor::new(&bytes)), None);
     }
 }
 
@@ -168,13 +173,13 @@ fn raw_boxes_in_the_order_of_the_axes(rt: HostRuntime) {
             }),
             box_place: 3,
         };
-        assert_eq!(rt;
-            read_raw_head(&mut cursor, 1),
-            Some(expected),
-            "of {extended}"
+        equal(
+            &rt,
+            (read_raw_head(&mut cursor, 1), extended),
+            (Some(expected), extended),
         );
-        assert_eq!(rt; cursor.place(), stop);
-        assert_eq!(rt; cursor.read_count(), stop as u64);
+        equal(&rt, cursor.place(), stop);
+        equal(&rt, cursor.read_count(), stop as u64);
     }
 }
 
@@ -187,9 +192,9 @@ fn raw_boxes_have_near_numbers(rt: HostRuntime) {
             0x00,
         ];
         let raw = read_raw_head(&mut Cursor::new(&bytes), 1);
-        assert_eq!(rt; raw.is_some(), is_near, "of {lowest}");
+        equal(&rt, (raw.is_some(), lowest), (is_near, lowest));
         let flat = read_flat_head(&mut Cursor::new(&bytes), 1);
-        assert_eq!(rt; flat.is_some(), is_near, "of {lowest}");
+        equal(&rt, (flat.is_some(), lowest), (is_near, lowest));
     }
 }
 
@@ -218,7 +223,7 @@ fn raw_heads_say_where_a_box_would_stand(rt: HostRuntime) {
             box_place: stop,
         };
         let answer = read_raw_head(&mut Cursor::new(bytes), 1);
-        assert_eq!(rt; answer, Some(expected), "of {bytes:?}");
+        equal(&rt, (answer, bytes), (Some(expected), bytes));
     }
 }
 
@@ -300,10 +305,10 @@ fn raw_like_head(rt: &impl Abort, bytes: &[u8], depth: u8)
     let head = read_head(&mut heads, depth);
     match read_raw_head(&mut raws, depth) {
         Some(raw) => {
-            assert_eq!(rt; raw.head.bounds, None);
-            assert_eq!(rt; Ok(in_units(&raw)), head, "of {bytes:?}");
-            assert_eq!(rt; raws.place(), heads.place());
-            assert_eq!(rt; raws.read_count(), heads.read_count());
+            equal(rt, raw.head.bounds, None);
+            equal(rt, (Ok(in_units(&raw)), bytes), (head, bytes));
+            equal(rt, raws.place(), heads.place());
+            equal(rt, raws.read_count(), heads.read_count());
             assert!(rt; !raw.head.empty);
         }
         None => {

@@ -28,14 +28,14 @@ fn sized_point_is(rt: &impl Abort, bytes: &[u8], expected: Option<u64>)
 {
     let mut cursor = Cursor::new(bytes);
     cursor.go_to(1);
-    assert_eq!(rt;
-        read_sized_point_head(&mut cursor),
-        expected,
-        "of {bytes:?}"
+    equal(
+        rt,
+        (read_sized_point_head(&mut cursor), bytes),
+        (expected, bytes),
     );
     let passed = if expected.is_some() { 3 } else { 0 };
-    assert_eq!(rt; cursor.place(), 1 + passed);
-    assert_eq!(rt; cursor.read_count(), passed as u64);
+    equal(rt, cursor.place(), 1 + passed);
+    equal(rt, cursor.read_count(), passed as u64);
 }
 
 #[test]
@@ -68,9 +68,9 @@ fn bare_line_is(rt: &impl Abort, bytes: &[u8], expected: bool)
         None => None,
     };
     let expected = if expected { Some((3, 2)) } else { None };
-    assert_eq!(rt; behind, expected, "of {bytes:?}");
-    assert_eq!(rt; cursor.place(), 1);
-    assert_eq!(rt; cursor.read_count(), 0);
+    equal(rt, (behind, bytes), (expected, bytes));
+    equal(rt, cursor.place(), 1);
+    equal(rt, cursor.read_count(), 0);
 }
 
 #[test]

@@ -1,5 +1,6 @@
 //! Where a file is malformed at an offset, what stands before that is begun, and no more: cut there, it is cut short.
 use super::depths::deepest;
+use super::equal;
 use super::layers::{BOX_OF_A_MEMBER, EQUAL_IDS_BEFORE_A_SIZE, LONG_COORDINATE, SUM_PAST_64_BITS};
 use super::tight::plain_refusal;
 use super::worked::{
@@ -38,7 +39,7 @@ const FILES: [&[u8]; 20] = [
 
 // How many files were tried, how many of them the plain reader calls malformed, how many were cut, by the kind that was
 // named, and how many of these ended with a blob.
-#[derive(Clone, Copy, Debug)]
+#[derive(Clone, Copy)]
 struct Met {
     tried: usize,
     malformed: usize,
@@ -66,7 +67,7 @@ fn judge(rt: &impl Abort, alloc: Global, bytes: &[u8], met: &mut Met) {
     let front = bytes.get(..offset).expect(rt, "the offset is in the file");
     match certify(alloc, Cursor::new(front)) {
         Ok(layer) => {
-            assert_eq!(rt; layer.blobs(), blob, "of {bytes:?}");
+            equal(rt, (layer.blobs(), bytes), (blob, bytes));
             met.ended = met.ended.saturating_add(1);
         }
         Err(answer) => {
@@ -75,7 +76,7 @@ fn judge(rt: &impl Abort, alloc: Global, bytes: &[u8], met: &mut Met) {
                 offset,
                 kind: 1,
             };
-            assert_eq!(rt; answer, cut, "of {bytes:?}");
+            equal(rt, (answer, bytes), (cut, bytes));
         }
     }
     if let Some(times) = met.cut.get_mut(usize::from(kind).wrapping_sub(1)) {
@@ -112,7 +113,7 @@ fn what_stands_before_a_malformation_is_cut_short(rt: HostRuntime) -> Result<(),
         ended: 0,
     };
     let mut variants = 0usize;
-    for file in FILES {
+    for &file in &FILES {
         variants = variants.saturating_add(file.len().saturating_mul(256));
         judge_variants(&rt, rt.alloc(), file, 255, &mut met)?;
     }
@@ -120,13 +121,13 @@ fn what_stands_before_a_malformation_is_cut_short(rt: HostRuntime) -> Result<(),
     let deepest = deepest(rt.alloc())?;
     variants = variants.saturating_add(deepest.len().saturating_mul(8));
     judge_variants(&rt, rt.alloc(), &deepest, 7, &mut met)?;
-    assert_eq!(&rt; met.tried, variants);
+    equal(&rt, met.tried, variants);
     let mut cut = 0usize;
     for times in met.cut {
-        assert!(&rt; times > 0, "{met:?}");
+        assert!(&rt; times > 0);
         cut = cut.saturating_add(times);
     }
-    assert_eq!(&rt; cut, met.malformed, "{met:?}");
-    assert!(&rt; met.ended > 0 && met.ended < cut, "{met:?}");
+    equal(&rt, cut, met.malformed);
+    assert!(&rt; met.ended > 0 && met.ended < cut);
     Ok(())
 }

@@ -4,7 +4,7 @@ ghost use Rattle.twkb_layer.specs.Directory.{IsDirectoryOf};
 
 use super::plain_scans::{plain_hits, plain_layer};
 use super::worked::flat;
-use super::{NOWHERE, certified, window};
+use super::{NOWHERE, certified, equal, window};
 use crate::{
     Bounds, Certified, Cursor, Directory, Hit, Kind, Refusal, Row, certify, certify_tight,
 };
@@ -42,10 +42,11 @@ fn nesting(rt: HostRuntime) -> Result<(), Fail> {
     ];
     for (collections, inmost, refusal) in table {
         let bytes = nested(rt.alloc(), collections, inmost)?;
-        assert_eq!(&rt; certify(rt.alloc(), Cursor::new(&bytes)).err(), refusal);
-        assert_eq!(&rt;
+        equal(&rt, certify(rt.alloc(), Cursor::new(&bytes)).err(), refusal);
+        equal(
+            &rt,
             certify_tight(rt.alloc(), Cursor::new(&bytes)).err(),
-            refusal
+            refusal,
         );
     }
     Ok(())
@@ -78,13 +79,13 @@ const CHANGES: [(usize, u8, usize, u8); 9] = [
 
 #[test]
 fn one_byte_false(rt: HostRuntime) -> Result<(), Fail> {
-    for (place, byte, offset, kind) in CHANGES {
+    for &(place, byte, offset, kind) in &CHANGES {
         let mut bytes = deepest(rt.alloc())?;
         if let Some(changed) = bytes.get_mut(place) {
             *changed = byte;
         }
         let refusal = certify(rt.alloc(), Cursor::new(&bytes)).err();
-        assert_eq!(&rt; refusal, no(offset, kind), "byte {byte} at {place}");
+        equal(&rt, (refusal, byte, place), (no(offset, kind), byte, place));
     }
     Ok(())
 }
@@ -104,7 +105,7 @@ fn rows(rt: HostRuntime) -> Result<(), Fail> {
         has_size: false,
         has_box: false,
     };
-    assert_eq!(&rt; rows.as_slice(), [row].as_slice());
+    equal(&rt, rows.as_slice(), [row].as_slice());
     Ok(())
 }
 
@@ -154,11 +155,11 @@ fn scans(rt: HostRuntime) -> Result<(), Fail> {
     for case in cases() {
         let before = layer.read_count();
         let mut room = [NOWHERE; 1];
-        assert_eq!(&rt; layer.scan(&window(&case.ranges), &mut room), case.hits);
-        assert_eq!(&rt; room, [case.first]);
-        assert_eq!(&rt; layer.read_count(), before.saturating_add(case.read));
-        assert_eq!(&rt; plain_hits(&plain, &case.ranges).1, case.hits);
-        assert_eq!(&rt; plain.work(&case.ranges).read, case.read);
+        equal(&rt, layer.scan(&window(&case.ranges), &mut room), case.hits);
+        equal(&rt, room, [case.first]);
+        equal(&rt, layer.read_count(), before.saturating_add(case.read));
+        equal(&rt, plain_hits(&plain, &case.ranges).1, case.hits);
+        equal(&rt, plain.work(&case.ranges).read, case.read);
     }
     Ok(())
 }
@@ -172,7 +173,7 @@ fn scans_by_a_directory(rt: HostRuntime) -> Result<(), Fail> {
     for case in cases() {
         scans_to(&rt, &directory, &mut layer, &case);
         let work = plain.work_by_directory(&case.ranges);
-        assert_eq!(&rt; work.read, case.read_by_directory);
+        equal(&rt, work.read, case.read_by_directory);
     }
     Ok(())
 }
@@ -184,8 +185,8 @@ fn scans_to(rt: &impl Abort, directory: &Directory<Global>, layer: &mut Certifie
     let before = layer.read_count();
     let mut room = [NOWHERE; 1];
     let found = directory.scan(layer, &window(&case.ranges), &mut room);
-    assert_eq!(rt; found, case.hits);
-    assert_eq!(rt; room, [case.first]);
+    equal(rt, found, case.hits);
+    equal(rt, room, [case.first]);
     let read = before.saturating_add(case.read_by_directory);
-    assert_eq!(rt; layer.read_count(), read);
+    equal(rt, layer.read_count(), read);
 }

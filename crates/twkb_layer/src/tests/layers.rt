@@ -1,9 +1,9 @@
 //! Worked files: layers that are certified, and layers that are refused.
-use super::is_certified;
 use super::worked::{
     BOXED_LINE, BOXED_POINT, EMPTY, EMPTY_BOXED_POINT, MANY_IDS_ANNOUNCED, SEVENTEEN_IDS,
     TWO_BLOBS, Z_IN_THE_BOX_ALONE,
 };
+use super::{equal, is_certified};
 use crate::{Cursor, Refusal, certify};
 use std::alloc::Global;
 
@@ -28,31 +28,43 @@ fn layers_are_certified(rt: HostRuntime) {
 
 #[test]
 fn malformed_layers_are_refused(rt: HostRuntime) {
-    assert_eq!(rt;
+    equal(
+        &rt,
         refusal_of(rt.alloc(), &POINT_CUT_BEHIND_A_LINE),
-        no(1, 10, 1)
+        no(1, 10, 1),
     );
-    assert_eq!(rt; refusal_of(rt.alloc(), &MANY_IDS_ANNOUNCED), no(0, 12, 1));
-    assert_eq!(rt; refusal_of(rt.alloc(), &LONG_COORDINATE), no(0, 2, 2));
-    assert_eq!(rt;
+    equal(
+        &rt,
+        refusal_of(rt.alloc(), &MANY_IDS_ANNOUNCED),
+        no(0, 12, 1),
+    );
+    equal(&rt, refusal_of(rt.alloc(), &LONG_COORDINATE), no(0, 2, 2));
+    equal(
+        &rt,
         refusal_of(rt.alloc(), &[0x07, 0x00, 0x01, 0x0F, 0x00]),
-        no(0, 3, 3)
+        no(0, 3, 3),
     );
-    assert_eq!(rt; refusal_of(rt.alloc(), &SUM_PAST_64_BITS), no(0, 14, 5));
+    equal(&rt, refusal_of(rt.alloc(), &SUM_PAST_64_BITS), no(0, 14, 5));
 }
 
 #[test]
 fn false_claims_are_refused(rt: HostRuntime) {
-    assert_eq!(rt;
+    equal(
+        &rt,
         refusal_of(rt.alloc(), &[0x01, 0x02, 0x03, 0x02, 0x04, 0x08]),
-        no(0, 2, 6)
+        no(0, 2, 6),
     );
-    assert_eq!(rt; refusal_of(rt.alloc(), &BOX_OF_A_MEMBER), no(0, 5, 7));
-    assert_eq!(rt;
+    equal(&rt, refusal_of(rt.alloc(), &BOX_OF_A_MEMBER), no(0, 5, 7));
+    equal(
+        &rt,
         refusal_of(rt.alloc(), &EQUAL_IDS_BEFORE_A_SIZE),
-        no(0, 3, 8)
+        no(0, 3, 8),
     );
-    assert_eq!(rt; refusal_of(rt.alloc(), &BOX_BEHIND_A_LINE), no(1, 10, 7));
+    equal(
+        &rt,
+        refusal_of(rt.alloc(), &BOX_BEHIND_A_LINE),
+        no(1, 10, 7),
+    );
 }
 
 fn refusal_of(alloc: Global, bytes: &[u8]) -> Option<Refusal> {

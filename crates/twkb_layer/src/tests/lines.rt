@@ -1,7 +1,7 @@
 //! Lines behind a blob with a vertex inside, which a scan looks at without a hop, against the plain reader.
 use super::plain_scans::{plain_hits, plain_layer};
 use super::worked::{flat, with_z};
-use super::{NOWHERE, certified, window};
+use super::{NOWHERE, certified, equal, window};
 use crate::{Bounds, Directory};
 use std::alloc::Global;
 use std::process::Abort;
@@ -136,7 +136,7 @@ fn everything() -> Bounds {
 fn everything_is_found(rt: HostRuntime) {
     for (bytes, blobs) in layers() {
         let found = agrees(&rt, rt.alloc(), bytes, &everything());
-        assert_eq!(rt; found, blobs, "{bytes:?}");
+        equal(&rt, (found, bytes), (blobs, bytes));
     }
 }
 
@@ -160,13 +160,13 @@ fn windows_around_the_first_point(rt: HostRuntime) {
 #[test]
 fn first_or_later(rt: HostRuntime) {
     let by_the_first = agrees(&rt, rt.alloc(), &EIGHT, &flat((1, 1), (1, 1)));
-    assert_eq!(rt; by_the_first, 2);
+    equal(&rt, by_the_first, 2);
     let by_a_later_one = agrees(&rt, rt.alloc(), &OUTSIDE_FIRST, &flat((1, 1), (1, 1)));
-    assert_eq!(rt; by_a_later_one, 2);
+    equal(&rt, by_a_later_one, 2);
     let by_the_edge = agrees(&rt, rt.alloc(), &TWO, &flat((0, 3), (1, 1)));
-    assert_eq!(rt; by_the_edge, 2);
+    equal(&rt, by_the_edge, 2);
     let by_the_point_alone = agrees(&rt, rt.alloc(), &COARSE, &flat((1, 3), (1, 3)));
-    assert_eq!(rt; by_the_point_alone, 1);
+    equal(&rt, by_the_point_alone, 1);
 }
 
 /// How many blobs a scan finds, without a directory and with one: those that the plain reader does, for as many bytes.
@@ -174,18 +174,19 @@ fn agrees(rt: &impl Abort, alloc: Global, bytes: &[u8], ranges: &Bounds) -> usiz
     let mut layer = certified(rt, alloc, bytes);
     let plain = plain_layer(rt, alloc, bytes);
     let expected = plain_hits(&plain, ranges);
+    let case = (ranges, bytes);
     let before = layer.read_count();
     let mut room = [NOWHERE; 16];
     let found = layer.scan(&window(ranges), &mut room);
-    assert_eq!(rt; (room, found), expected, "{ranges:?} of {bytes:?}");
+    equal(rt, ((room, found), case), (expected, case));
     let read = before.saturating_add(plain.work(ranges).read);
-    assert_eq!(rt; layer.read_count(), read, "{ranges:?} of {bytes:?}");
+    equal(rt, (layer.read_count(), case), (read, case));
     let directory = Directory::build(alloc, &mut layer).expect(rt, "there is memory");
     let before = layer.read_count();
     let mut room = [NOWHERE; 16];
     let found = directory.scan(&mut layer, &window(ranges), &mut room);
-    assert_eq!(rt; (room, found), expected, "{ranges:?} of {bytes:?}");
+    equal(rt, ((room, found), case), (expected, case));
     let read = before.saturating_add(plain.work_by_directory(ranges).read);
-    assert_eq!(rt; layer.read_count(), read, "{ranges:?} of {bytes:?}");
+    equal(rt, (layer.read_count(), case), (read, case));
     found
 }

@@ -1,4 +1,5 @@
 //! Lists of a thousand ids: in rising order, in orders that aren't, and with two that are equal.
+use super::equal;
 use super::worked::{FALLING_IDS, SEVENTEEN_IDS};
 use crate::{
     Cursor, Refusal, certify, certify_in, certify_lent, certify_tight, certify_tight_in,
@@ -83,16 +84,16 @@ fn layer(alloc: Global, list: &List, ids: &Ids) -> Result<Vec<u8>, AllocError> {
 
 #[test]
 fn different_ids_are_certified(rt: HostRuntime) -> Result<(), Fail> {
-    for list in LISTS {
+    for &list in &LISTS {
         for step in [RISING, MIXED, FALLING] {
             let bytes = layer(rt.alloc(), &list, &different(step))?;
             let plainly = certify(rt.alloc(), Cursor::new(&bytes));
             let tightly = certify_tight(rt.alloc(), Cursor::new(&bytes));
             for answer in [plainly, tightly] {
                 let certified = answer.expect(&rt, "ids differ");
-                assert_eq!(&rt; certified.blobs(), 2);
-                assert_eq!(&rt; certified.vertices(), 1001);
-                assert_eq!(&rt; certified.read_count(), bytes.len() as u64);
+                equal(&rt, certified.blobs(), 2);
+                equal(&rt, certified.vertices(), 1001);
+                equal(&rt, certified.read_count(), bytes.len() as u64);
             }
         }
     }
@@ -117,15 +118,16 @@ const EQUAL_IDS: Option<Refusal> = Some(Refusal::No {
 
 #[test]
 fn equal_ids_are_refused(rt: HostRuntime) -> Result<(), Fail> {
-    for list in LISTS {
+    for &list in &LISTS {
         for step in [RISING, MIXED, FALLING] {
-            for (place, other) in EQUAL {
+            for &(place, other) in &EQUAL {
                 let ids = Ids { step, place, other };
+                let case = (list.head, step, place);
                 let bytes = layer(rt.alloc(), &list, &ids)?;
                 let refusal = certify(rt.alloc(), Cursor::new(&bytes)).err();
-                assert_eq!(&rt; refusal, EQUAL_IDS, "{list:?}, {ids:?}");
+                equal(&rt, (refusal, case), (EQUAL_IDS, case));
                 let refusal = certify_tight(rt.alloc(), Cursor::new(&bytes)).err();
-                assert_eq!(&rt; refusal, EQUAL_IDS, "{list:?}, {ids:?}");
+                equal(&rt, (refusal, case), (EQUAL_IDS, case));
             }
         }
     }
@@ -153,35 +155,35 @@ fn growths(
         let memory = Refusing::new(alloc, call);
         let refusal = refusal_in(&memory, bytes, is_tight);
         if !memory.has_refused() {
-            assert_eq!(rt; refusal, wanted);
+            equal(rt, refusal, wanted);
             return call;
         }
-        assert_eq!(rt; refusal, Some(Refusal::Memory), "call {call}");
+        equal(rt, (refusal, call), (Some(Refusal::Memory), call));
         // The allocator grants the next call, and a new cursor gives the answer.
-        assert_eq!(rt; refusal_in(&memory, bytes, is_tight), wanted);
+        equal(rt, refusal_in(&memory, bytes, is_tight), wanted);
     }
     panic!(rt; "no run without a refusal");
 }
 
 #[test]
 fn each_growth_is_refused(rt: HostRuntime) -> Result<(), Fail> {
-    let equal = Ids {
+    let two_equal = Ids {
         step: RISING,
         place: 999,
         other: 0,
     };
-    for list in LISTS {
+    for &list in &LISTS {
         for is_tight in [false, true] {
             for step in [MIXED, FALLING] {
                 let bytes = layer(rt.alloc(), &list, &different(step))?;
                 assert!(&rt; growths(&rt, rt.alloc(), &bytes, is_tight, None) > 1);
             }
-            let bytes = layer(rt.alloc(), &list, &equal)?;
+            let bytes = layer(rt.alloc(), &list, &two_equal)?;
             assert!(&rt; growths(&rt, rt.alloc(), &bytes, is_tight, EQUAL_IDS) > 1);
         }
         // Ids that rise need no memory, but in tight checking.
         let bytes = layer(rt.alloc(), &list, &different(RISING))?;
-        assert_eq!(&rt; growths(&rt, rt.alloc(), &bytes, false, None), 0);
+        equal(&rt, growths(&rt, rt.alloc(), &bytes, false, None), 0);
         assert!(&rt; growths(&rt, rt.alloc(), &bytes, true, None) > 1);
     }
     Ok(())
@@ -209,27 +211,39 @@ fn refusal_in_less(bytes: &[u8], is_tight: bool) -> Option<Refusal> {
 // Room for a thousand ids is enough for each list, and with one place less memory is wanted.
 #[test]
 fn lent_room(rt: HostRuntime) -> Result<(), Fail> {
-    let equal = Ids {
+    let two_equal = Ids {
         step: MIXED,
         place: 999,
         other: 0,
     };
-    for list in LISTS {
+    for &list in &LISTS {
         for is_tight in [false, true] {
             for step in [MIXED, FALLING] {
                 let bytes = layer(rt.alloc(), &list, &different(step))?;
-                assert_eq!(&rt; refusal_in_enough(&bytes, is_tight), None);
-                assert_eq!(&rt; refusal_in_less(&bytes, is_tight), Some(Refusal::Memory));
+                equal(&rt, refusal_in_enough(&bytes, is_tight), None);
+                equal(
+                    &rt,
+                    refusal_in_less(&bytes, is_tight),
+                    Some(Refusal::Memory),
+                );
             }
-            let bytes = layer(rt.alloc(), &list, &equal)?;
-            assert_eq!(&rt; refusal_in_enough(&bytes, is_tight), EQUAL_IDS);
-            assert_eq!(&rt; refusal_in_less(&bytes, is_tight), Some(Refusal::Memory));
+            let bytes = layer(rt.alloc(), &list, &two_equal)?;
+            equal(&rt, refusal_in_enough(&bytes, is_tight), EQUAL_IDS);
+            equal(
+                &rt,
+                refusal_in_less(&bytes, is_tight),
+                Some(Refusal::Memory),
+            );
         }
         // Ids that rise want no room, but in tight checking.
         let bytes = layer(rt.alloc(), &list, &different(RISING))?;
-        assert_eq!(&rt; refusal_with(&mut [], &bytes, false), None);
-        assert_eq!(&rt; refusal_with(&mut [], &bytes, true), Some(Refusal::Memory));
-        assert_eq!(&rt; refusal_in_enough(&bytes, true), None);
+        equal(&rt, refusal_with(&mut [], &bytes, false), None);
+        equal(
+            &rt,
+            refusal_with(&mut [], &bytes, true),
+            Some(Refusal::Memory),
+        );
+        equal(&rt, refusal_in_enough(&bytes, true), None);
     }
     Ok(())
 }
@@ -251,8 +265,12 @@ fn twenty_bytes_want_memory(rt: HostRuntime) {
                         kind: 1,
                     }),
                 };
-                assert_eq!(rt; refusal_in(&memory, front, is_tight), wanted, "{len}");
-                assert_eq!(rt; memory.has_refused(), len == 20);
+                equal(
+                    &rt,
+                    (refusal_in(&memory, front, is_tight), len),
+                    (wanted, len),
+                );
+                equal(&rt, memory.has_refused(), len == 20);
             }
         }
     }

@@ -1,7 +1,7 @@
 //! Allocations that are refused, each in turn.
 use super::lists::LINE_AND_POINT;
 use super::worked::{EMPTY, FALLING_IDS, MANY_IDS_ANNOUNCED, TWO_BLOBS, flat};
-use super::{certified, window};
+use super::{certified, equal, window};
 use crate::{Certified, Cursor, Directory, Refusal, certify_in, certify_tight_in};
 use refusing::Refusing;
 use std::alloc::Allocator;
@@ -11,12 +11,12 @@ use std::process::Abort;
 fn runs_out<A: Allocator>(rt: &impl Abort, memory: &A, bytes: &[u8]) -> bool {
     match certify_in(memory, Cursor::new(bytes)) {
         Ok(layer) => {
-            assert_eq!(rt; layer.blobs(), 1);
-            assert_eq!(rt; layer.vertices(), 17);
+            equal(rt, layer.blobs(), 1);
+            equal(rt, layer.vertices(), 17);
             false
         }
         Err(refusal) => {
-            assert_eq!(rt; refusal, Refusal::Memory);
+            equal(rt, refusal, Refusal::Memory);
             true
         }
     }
@@ -29,7 +29,7 @@ fn each_allocation_is_refused(rt: HostRuntime) {
     for call in 0..100u64 {
         let memory = Refusing::new(rt.alloc(), call);
         let is_out = runs_out(&rt, &memory, &FALLING_IDS);
-        assert_eq!(rt; is_out, memory.has_refused());
+        equal(&rt, is_out, memory.has_refused());
         if !is_out {
             break;
         }
@@ -87,9 +87,9 @@ fn counts_take_no_memory(rt: HostRuntime) {
             kind: 1,
         };
         let refusal = certify_in(&memory, Cursor::new(bytes)).err();
-        assert_eq!(rt; refusal, Some(cut_at_the_end));
+        equal(&rt, refusal, Some(cut_at_the_end));
         let refusal = certify_tight_in(&memory, Cursor::new(bytes)).err();
-        assert_eq!(rt; refusal, Some(cut_at_the_end));
+        equal(&rt, refusal, Some(cut_at_the_end));
         assert!(rt; !memory.has_refused());
     }
 }
@@ -100,13 +100,13 @@ fn list_runs_out<A: Allocator>(rt: &impl Abort, memory: &A, layer: &mut Certifie
     let before = layer.read_count();
     match layer.list_in(memory) {
         Ok(rows) => {
-            assert_eq!(rt; rows.as_slice(), LINE_AND_POINT.as_slice());
+            equal(rt, rows.as_slice(), LINE_AND_POINT.as_slice());
             let most = before.saturating_add(40);
             assert!(rt; layer.read_count() <= most);
             false
         }
         Err(_) => {
-            assert_eq!(rt; layer.read_count(), before);
+            equal(rt, layer.read_count(), before);
             true
         }
     }
@@ -119,12 +119,16 @@ fn refused_lists_may_be_repeated(rt: HostRuntime) {
     for call in 0..100u64 {
         let memory = Refusing::new(rt.alloc(), call);
         let is_out = list_runs_out(&rt, &memory, &mut layer);
-        assert_eq!(rt; is_out, memory.has_refused());
+        equal(&rt, is_out, memory.has_refused());
         if !is_out {
             break;
         }
         assert!(rt; !list_runs_out(&rt, &memory, &mut layer));
-        assert_eq!(rt; layer.scan(&window(&flat((0, 10), (0, 10))), &mut []), 2);
+        equal(
+            &rt,
+            layer.scan(&window(&flat((0, 10), (0, 10))), &mut []),
+            2,
+        );
         refusals = call + 1;
     }
     assert!(rt; 0 < refusals && refusals < 100, "{refusals}");
@@ -138,11 +142,11 @@ fn directory_runs_out<A: Allocator>(rt: &impl Abort, memory: &A, layer: &mut Cer
             let most = before.saturating_add(40);
             assert!(rt; layer.read_count() <= most);
             let found = directory.scan(layer, &window(&flat((0, 10), (0, 10))), &mut []);
-            assert_eq!(rt; found, 2);
+            equal(rt, found, 2);
             false
         }
         Err(_) => {
-            assert_eq!(rt; layer.read_count(), before);
+            equal(rt, layer.read_count(), before);
             true
         }
     }
@@ -155,12 +159,16 @@ fn refused_directories_may_be_built_again(rt: HostRuntime) {
     for call in 0..100u64 {
         let memory = Refusing::new(rt.alloc(), call);
         let is_out = directory_runs_out(&rt, &memory, &mut layer);
-        assert_eq!(rt; is_out, memory.has_refused());
+        equal(&rt, is_out, memory.has_refused());
         if !is_out {
             break;
         }
         assert!(rt; !directory_runs_out(&rt, &memory, &mut layer));
-        assert_eq!(rt; layer.scan(&window(&flat((0, 10), (0, 10))), &mut []), 2);
+        equal(
+            &rt,
+            layer.scan(&window(&flat((0, 10), (0, 10))), &mut []),
+            2,
+        );
         refusals = call + 1;
     }
     assert!(rt; 0 < refusals && refusals < 100, "{refusals}");
@@ -174,9 +182,10 @@ fn the_empty_layer_needs_no_memory(rt: HostRuntime) {
     let rows = layer.list_in(&memory).expect(&rt, "no memory is asked for");
     assert!(rt; rows.is_empty());
     let directory = Directory::build_in(&memory, &mut layer).expect(&rt, "no memory is asked for");
-    assert_eq!(rt;
+    equal(
+        &rt,
         directory.scan(&mut layer, &window(&flat((0, 9), (0, 9))), &mut []),
-        0
+        0,
     );
     assert!(rt; !memory.has_refused());
 }

@@ -1,6 +1,6 @@
 //! The plain reader itself, on the worked scans: other tests stand on it.
-use super::NOWHERE;
 use super::worked::{Case, cases_of_more_axes, flat_cases};
+use super::{NOWHERE, equal};
 use crate::{Bounds, Hit};
 use plain::{Layer, read_layer};
 use std::alloc::Global;
@@ -57,11 +57,12 @@ fn windows_of_more_axes(rt: HostRuntime) {
 fn scans_to(rt: &impl Abort, alloc: Global, case: &Case) {
     let plain = plain_layer(rt, alloc, case.bytes);
     let (room, found) = plain_hits(&plain, &case.window);
-    assert_eq!(rt; found, usize::from(case.hit.is_some()));
-    assert_eq!(rt; room[0], case.hit.unwrap_or(NOWHERE));
-    assert_eq!(rt; plain.work(&case.window).read, case.read);
-    assert_eq!(rt;
+    equal(rt, found, usize::from(case.hit.is_some()));
+    equal(rt, room[0], case.hit.unwrap_or(NOWHERE));
+    equal(rt, plain.work(&case.window).read, case.read);
+    equal(
+        rt,
         plain.work_by_directory(&case.window).read,
-        case.read_by_directory
+        case.read_by_directory,
     );
 }

@@ -4,7 +4,7 @@ ghost use Rattle.std.specs.Prelude.{◌≡◌};
 ghost use Rattle.twkb_layer.specs.Directory.{IsDirectoryOf};
 
 use super::plain_scans::{plain_hits, plain_layer};
-use super::{NOWHERE, certified, window};
+use super::{NOWHERE, certified, equal, window};
 use crate::{Bounds, Certified, Directory, Row, Vertex};
 use plain::{Layer, Work};
 use random_layers::Dice;
@@ -143,10 +143,10 @@ fn rows_agree(rt: &impl Abort, alloc: Global, plain: &Layer, layer: &mut Certifi
     ensures { layer.new.bytes ≡ layer.old.bytes }
 {
     let blobs = plain.blobs(alloc).expect(rt, "there is memory");
-    assert_eq!(rt; layer.blobs(), blobs.len());
-    assert_eq!(rt; layer.vertices(), plain.vertices.len());
+    equal(rt, layer.blobs(), blobs.len());
+    equal(rt, layer.vertices(), plain.vertices.len());
     let rows = layer.list(alloc).expect(rt, "there is memory");
-    assert_eq!(rt; rows.len(), blobs.len());
+    equal(rt, rows.len(), blobs.len());
     for (blob, (row, geometry)) in rows.iter().zip(&blobs).enumerate() {
         let expected = Row {
             blob,
@@ -158,7 +158,7 @@ fn rows_agree(rt: &impl Abort, alloc: Global, plain: &Layer, layer: &mut Certifi
             has_size: geometry.has_size,
             has_box: geometry.bounds.is_some(),
         };
-        assert_eq!(rt; *row, expected);
+        equal(rt, *row, expected);
     }
 }
 
@@ -176,9 +176,10 @@ fn scans_agree(
     let before = layer.read_count();
     let mut room = [NOWHERE; 16];
     let found = layer.scan(&window(ranges), &mut room);
-    assert_eq!(rt; (room, found), expected, "{ranges:?} of {plain:?}");
+    let case = (ranges, plain.vertices.as_slice());
+    equal(rt, ((room, found), case), (expected, case));
     let read = before.saturating_add(work.read);
-    assert_eq!(rt; layer.read_count(), read, "{ranges:?} of {plain:?}");
+    equal(rt, (layer.read_count(), case), (read, case));
     met.work.and(&work);
     met.scan(ranges, found);
 }
@@ -199,8 +200,9 @@ fn directory_scans_agree(
     let before = layer.read_count();
     let mut room = [NOWHERE; 16];
     let found = directory.scan(layer, &window(ranges), &mut room);
-    assert_eq!(rt; (room, found), expected, "{ranges:?} of {plain:?}");
+    let case = (ranges, plain.vertices.as_slice());
+    equal(rt, ((room, found), case), (expected, case));
     let read = before.saturating_add(work.read);
-    assert_eq!(rt; layer.read_count(), read, "{ranges:?} of {plain:?}");
+    equal(rt, (layer.read_count(), case), (read, case));
     met.work_by_directory.and(&work);
 }

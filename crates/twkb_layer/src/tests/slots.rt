@@ -1,7 +1,7 @@
 //! Windows in raw integers, and boxes on each side of where a directory compares these.
 ghost use Rattle.twkb_num.specs.Units.{IsPrecision};
 
-use super::{certified, window};
+use super::{certified, equal, window};
 use crate::raw::RawEnds;
 use crate::{Bounds, Directory, Span};
 use std::alloc::Global;
@@ -17,26 +17,30 @@ fn ends(lo: i128, hi: i128, precision: i8) -> (i64, i64)
 
 #[test]
 fn windows_are_rounded_inward(rt: HostRuntime) {
-    assert_eq!(rt; ends(-3, 5, 7), (-3, 5));
-    assert_eq!(rt; ends(-20, 20, 6), (-2, 2));
-    assert_eq!(rt; ends(-21, 21, 6), (-2, 2));
-    assert_eq!(rt; ends(-19, 19, 6), (-1, 1));
+    equal(&rt, ends(-3, 5, 7), (-3, 5));
+    equal(&rt, ends(-20, 20, 6), (-2, 2));
+    equal(&rt, ends(-21, 21, 6), (-2, 2));
+    equal(&rt, ends(-19, 19, 6), (-1, 1));
     // Between two numbers there is none.
-    assert_eq!(rt; ends(11, 19, 6), (2, 1));
-    assert_eq!(rt; ends(-19, -11, 6), (-1, -2));
-    assert_eq!(rt; ends(1, 1_000_000_000_000_000, -8), (1, 1));
-    assert_eq!(rt; ends(-1, -1, -8), (0, -1));
+    equal(&rt, ends(11, 19, 6), (2, 1));
+    equal(&rt, ends(-19, -11, 6), (-1, -2));
+    equal(&rt, ends(1, 1_000_000_000_000_000, -8), (1, 1));
+    equal(&rt, ends(-1, -1, -8), (0, -1));
     // On each side of where a division has 64 bits.
     let (least, greatest) = (i128::from(i64::MIN), i128::from(i64::MAX));
     let tenth = 922_337_203_685_477_580;
-    assert_eq!(rt; ends(least, greatest, 7), (i64::MIN, i64::MAX));
-    assert_eq!(rt; ends(least, greatest, 6), (-tenth, tenth));
-    assert_eq!(rt; ends(least - 1, greatest + 1, 6), (-tenth, tenth));
-    assert_eq!(rt; ends(least - 2, greatest + 3, 6), (-tenth - 1, tenth + 1));
-    assert_eq!(rt; ends(least, greatest, -8), (-9_223, 9_223));
-    assert_eq!(rt; ends(greatest + 1, least - 1, -8), (9_224, -9_224));
-    assert_eq!(rt; ends(i128::MIN, i128::MAX, 7), (i64::MIN, i64::MAX));
-    assert_eq!(rt; ends(i128::MAX, i128::MIN, -8), (i64::MAX, i64::MIN));
+    equal(&rt, ends(least, greatest, 7), (i64::MIN, i64::MAX));
+    equal(&rt, ends(least, greatest, 6), (-tenth, tenth));
+    equal(&rt, ends(least - 1, greatest + 1, 6), (-tenth, tenth));
+    equal(
+        &rt,
+        ends(least - 2, greatest + 3, 6),
+        (-tenth - 1, tenth + 1),
+    );
+    equal(&rt, ends(least, greatest, -8), (-9_223, 9_223));
+    equal(&rt, ends(greatest + 1, least - 1, -8), (9_224, -9_224));
+    equal(&rt, ends(i128::MIN, i128::MAX, 7), (i64::MIN, i64::MAX));
+    equal(&rt, ends(i128::MAX, i128::MIN, -8), (i64::MAX, i64::MIN));
 }
 
 // A scan with a directory of one blob: how many hits, and how many bytes were read.
@@ -80,7 +84,7 @@ const PRECISIONS: [(u8, i64); 16] = [
 // A window that is one unit off in X or in Y misses the box of the point at 3 and -4, whatever its precision.
 #[test]
 fn boxes_of_each_precision(rt: HostRuntime) {
-    for (first, unit) in PRECISIONS {
+    for &(first, unit) in &PRECISIONS {
         let point = [first, 0x03, 0x06, 0x06, 0x00, 0x07, 0x00, 0x06, 0x07];
         let (x, y) = (3 * i128::from(unit), -4 * i128::from(unit));
         let cases = [
@@ -91,7 +95,7 @@ fn boxes_of_each_precision(rt: HostRuntime) {
             (in_units((x, x), (y - 9, y - 1)), (0, 0)),
         ];
         for (ranges, answer) in cases {
-            assert_eq!(rt; looked_up(&rt, rt.alloc(), &point, &ranges), answer);
+            equal(&rt, looked_up(&rt, rt.alloc(), &point, &ranges), answer);
         }
     }
 }
@@ -106,7 +110,7 @@ const NEAR_AN_END: [(i64, u8); 4] = [
 
 #[test]
 fn boxes_at_the_ends_of_64_bits(rt: HostRuntime) {
-    for (place, low) in NEAR_AN_END {
+    for &(place, low) in &NEAR_AN_END {
         let point = [
             0xE1, 0x03, 0x18, low, 0xFF, 0xFF, 0xFF, 0xFF, 0xFF, 0xFF, 0xFF, 0xFF, 0x01, 0x00,
             0x00, 0x00, low, 0xFF, 0xFF, 0xFF, 0xFF, 0xFF, 0xFF, 0xFF, 0xFF, 0x01, 0x00,
@@ -120,7 +124,7 @@ fn boxes_at_the_ends_of_64_bits(rt: HostRuntime) {
             (in_units((i128::MIN, i128::MAX), (0, 0)), (1, 27)),
         ];
         for (ranges, answer) in cases {
-            assert_eq!(rt; looked_up(&rt, rt.alloc(), &point, &ranges), answer);
+            equal(&rt, looked_up(&rt, rt.alloc(), &point, &ranges), answer);
         }
     }
 }

@@ -1,8 +1,8 @@
 //! Tight checking: worked files, each refused allocation, and random layers against a plain reader.
-use super::is_certified;
 use super::worked::{
     BOXED_LINE, EMPTY, EMPTY_BOXED_POINT, SEVENTEEN_IDS, TWO_BLOBS, Z_IN_THE_BOX_ALONE,
 };
+use super::{equal, is_certified};
 use crate::{Cursor, Refusal, certify, certify_tight, certify_tight_in};
 use plain::{Claim, Fault};
 use random_layers::Dice;
@@ -49,9 +49,9 @@ fn layers_are_refused(rt: HostRuntime) {
     ];
     for (bytes, plainly, tightly) in table {
         let refusal = certify(rt.alloc(), Cursor::new(bytes)).err();
-        assert_eq!(rt; refusal, plainly, "of {bytes:?}");
+        equal(&rt, (refusal, bytes), (plainly, bytes));
         let refusal = certify_tight(rt.alloc(), Cursor::new(bytes)).err();
-        assert_eq!(rt; refusal, tightly, "of {bytes:?}");
+        equal(&rt, (refusal, bytes), (tightly, bytes));
     }
 }
 
@@ -106,7 +106,7 @@ fn runs_out<A: Allocator>(
     if refusal == Some(Refusal::Memory) {
         return true;
     }
-    assert_eq!(rt; refusal, wanted);
+    equal(rt, refusal, wanted);
     false
 }
 
@@ -118,7 +118,7 @@ fn each_allocation_is_refused(rt: HostRuntime) {
         for call in 0..100u64 {
             let memory = Refusing::new(rt.alloc(), call);
             let is_out = runs_out(&rt, &memory, bytes, wanted);
-            assert_eq!(rt; is_out, memory.has_refused());
+            equal(&rt, is_out, memory.has_refused());
             if !is_out {
                 break;
             }
@@ -208,9 +208,17 @@ fn random_layers(rt: HostRuntime) {
 // Whether both calls answer as the plain reader does.
 fn agrees(rt: &impl Abort, alloc: Global, bytes: &[u8], kinds: &mut [usize; 10]) {
     let refusal = certify(alloc, Cursor::new(bytes)).err();
-    assert_eq!(rt; refusal, plain_refusal(alloc, bytes, false), "of {bytes:?}");
+    equal(
+        rt,
+        (refusal, bytes),
+        (plain_refusal(alloc, bytes, false), bytes),
+    );
     let refusal = certify_tight(alloc, Cursor::new(bytes)).err();
-    assert_eq!(rt; refusal, plain_refusal(alloc, bytes, true), "of {bytes:?}");
+    equal(
+        rt,
+        (refusal, bytes),
+        (plain_refusal(alloc, bytes, true), bytes),
+    );
     let kind = match refusal {
         Some(Refusal::No { kind, .. }) => usize::from(kind),
         _ => 0,

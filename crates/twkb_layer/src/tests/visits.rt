@@ -1,6 +1,6 @@
 //! Visits of worked layers.
-use super::certified;
 use super::worked::{EMPTY, HOP_IN_A_COLLECTION, TWO_BLOBS, TWO_RINGS};
+use super::{certified, equal};
 use crate::passer::Passer;
 use twkb_body::Summary;
 
@@ -18,10 +18,10 @@ fn all_vertices_of_all_blobs(rt: HostRuntime) {
         let before = layer.read_count();
         let mut summary = Summary::new();
         layer.visit(&mut summary);
-        assert_eq!(rt; summary.vertices(), vertices);
-        assert_eq!(rt; layer.read_count() - before, bytes.len() as u64);
+        equal(&rt, summary.vertices(), vertices);
+        equal(&rt, layer.read_count() - before, bytes.len() as u64);
         layer.visit(&mut summary);
-        assert_eq!(rt; summary.vertices(), 2 * vertices);
+        equal(&rt, summary.vertices(), 2 * vertices);
     }
 }
 
@@ -31,5 +31,5 @@ fn a_visitor_that_skips_is_led_past(rt: HostRuntime) {
     let mut layer = certified(&rt, rt.alloc(), &TWO_BLOBS);
     let before = layer.read_count();
     layer.visit(&mut Passer);
-    assert_eq!(rt; layer.read_count() - before, 15u64);
+    equal(&rt, layer.read_count() - before, 15u64);
 }

@@ -1,44 +1,45 @@
 use super::*;
+use crate::tests::equal;
 use std::process::Abort;
 use std::test::Fail;
 
 #[test]
 fn bytes_come_in_order(rt: HostRuntime) {
     let mut cursor = Cursor::new(&[7, 9]);
-    assert_eq!(rt; cursor.len(), 2);
-    assert_eq!(rt; cursor.byte(), Some(7));
-    assert_eq!(rt; cursor.place(), 1);
-    assert_eq!(rt; cursor.byte(), Some(9));
-    assert_eq!(rt; cursor.byte(), None);
-    assert_eq!(rt; cursor.place(), 2);
-    assert_eq!(rt; cursor.read_count(), 2);
+    equal(&rt, cursor.len(), 2);
+    equal(&rt, cursor.byte(), Some(7));
+    equal(&rt, cursor.place(), 1);
+    equal(&rt, cursor.byte(), Some(9));
+    equal(&rt, cursor.byte(), None);
+    equal(&rt, cursor.place(), 2);
+    equal(&rt, cursor.read_count(), 2);
 }
 
 #[test]
 fn a_fault_leaves_the_place_of_its_field(rt: HostRuntime) {
     let mut cursor = Cursor::new(&[0xC8, 0x01, 0x80]);
-    assert_eq!(rt; cursor.svarint(), Ok(100));
-    assert_eq!(rt; cursor.uvarint(), Err(NumFault::Cut));
-    assert_eq!(rt; cursor.place(), 2);
-    assert_eq!(rt; cursor.read_count(), 3);
-    assert_eq!(rt; cursor.byte(), Some(0x80));
-    assert_eq!(rt; cursor.read_count(), 4);
+    equal(&rt, cursor.svarint(), Ok(100));
+    equal(&rt, cursor.uvarint(), Err(NumFault::Cut));
+    equal(&rt, cursor.place(), 2);
+    equal(&rt, cursor.read_count(), 3);
+    equal(&rt, cursor.byte(), Some(0x80));
+    equal(&rt, cursor.read_count(), 4);
 }
 
 #[test]
 fn a_jump_leaves_the_count(rt: HostRuntime) {
     let mut cursor = Cursor::new(&[0x01, 0x02, 0x03]);
     cursor.go_to(2);
-    assert_eq!(rt; cursor.place(), 2);
-    assert_eq!(rt; cursor.read_count(), 0);
-    assert_eq!(rt; cursor.uvarint(), Ok(3));
+    equal(&rt, cursor.place(), 2);
+    equal(&rt, cursor.read_count(), 0);
+    equal(&rt, cursor.uvarint(), Ok(3));
     cursor.go_to(0);
-    assert_eq!(rt; cursor.read_count(), 1);
-    assert_eq!(rt; cursor.byte(), Some(1));
-    assert_eq!(rt; cursor.read_count(), 2);
+    equal(&rt, cursor.read_count(), 1);
+    equal(&rt, cursor.byte(), Some(1));
+    equal(&rt, cursor.read_count(), 2);
     cursor.go_to(3);
-    assert_eq!(rt; cursor.place(), cursor.len());
-    assert_eq!(rt; cursor.uvarint(), Err(NumFault::Cut));
+    equal(&rt, cursor.place(), cursor.len());
+    equal(&rt, cursor.uvarint(), Err(NumFault::Cut));
 }
 
 #[test]
@@ -49,48 +50,48 @@ fn the_greatest_count_stays(rt: HostRuntime) {
         start: 0,
         counted_before: u64::MAX - 1,
     };
-    assert_eq!(rt; cursor.byte(), Some(1));
-    assert_eq!(rt; cursor.read_count(), u64::MAX);
-    assert_eq!(rt; cursor.uvarint(), Ok(128));
-    assert_eq!(rt; cursor.read_count(), u64::MAX);
-    assert_eq!(rt; cursor.svarint(), Err(NumFault::Cut));
-    assert_eq!(rt; cursor.read_count(), u64::MAX);
+    equal(&rt, cursor.byte(), Some(1));
+    equal(&rt, cursor.read_count(), u64::MAX);
+    equal(&rt, cursor.uvarint(), Ok(128));
+    equal(&rt, cursor.read_count(), u64::MAX);
+    equal(&rt, cursor.svarint(), Err(NumFault::Cut));
+    equal(&rt, cursor.read_count(), u64::MAX);
 }
 
 #[test]
 fn what_is_read_ahead_is_counted_by_who_goes_on(rt: HostRuntime) {
     let mut cursor = Cursor::new(&[0x01, 0x02, 0x05, 0x06, 0x80]);
-    assert_eq!(rt; cursor.byte(), Some(1));
+    equal(&rt, cursor.byte(), Some(1));
     cursor.go_to(2);
-    assert_eq!(rt; cursor.byte(), Some(5));
+    equal(&rt, cursor.byte(), Some(5));
     let mut ahead = cursor.ahead();
-    assert_eq!(rt; ahead.place(), 3);
-    assert_eq!(rt; ahead.read_count(), 2);
-    assert_eq!(rt; ahead.svarint(), Ok(3));
-    assert_eq!(rt; ahead.svarint(), Err(NumFault::Cut));
-    assert_eq!(rt; ahead.place(), 4);
-    assert_eq!(rt; ahead.read_count(), 4);
-    assert_eq!(rt; cursor.place(), 3);
-    assert_eq!(rt; cursor.read_count(), 2);
+    equal(&rt, ahead.place(), 3);
+    equal(&rt, ahead.read_count(), 2);
+    equal(&rt, ahead.svarint(), Ok(3));
+    equal(&rt, ahead.svarint(), Err(NumFault::Cut));
+    equal(&rt, ahead.place(), 4);
+    equal(&rt, ahead.read_count(), 4);
+    equal(&rt, cursor.place(), 3);
+    equal(&rt, cursor.read_count(), 2);
     cursor = ahead;
-    assert_eq!(rt; cursor.byte(), Some(0x80));
-    assert_eq!(rt; cursor.read_count(), 5);
+    equal(&rt, cursor.byte(), Some(0x80));
+    equal(&rt, cursor.read_count(), 5);
 }
 
 #[test]
 fn a_word_is_the_next_eight_bytes(rt: HostRuntime) {
     let bytes = [1, 2, 3, 4, 5, 6, 7, 8, 9];
     let mut cursor = Cursor::new(&bytes);
-    assert_eq!(rt; cursor.word(), Some([1, 2, 3, 4, 5, 6, 7, 8]));
-    assert_eq!(rt; cursor.byte(), Some(1));
-    assert_eq!(rt; cursor.word(), Some([2, 3, 4, 5, 6, 7, 8, 9]));
-    assert_eq!(rt; cursor.place(), 1);
-    assert_eq!(rt; cursor.read_count(), 1);
-    assert_eq!(rt; cursor.byte(), Some(2));
-    assert_eq!(rt; cursor.word(), None);
+    equal(&rt, cursor.word(), Some([1, 2, 3, 4, 5, 6, 7, 8]));
+    equal(&rt, cursor.byte(), Some(1));
+    equal(&rt, cursor.word(), Some([2, 3, 4, 5, 6, 7, 8, 9]));
+    equal(&rt, cursor.place(), 1);
+    equal(&rt, cursor.read_count(), 1);
+    equal(&rt, cursor.byte(), Some(2));
+    equal(&rt, cursor.word(), None);
     cursor.go_to(9);
-    assert_eq!(rt; cursor.word(), None);
-    assert_eq!(rt; cursor.read_count(), 2);
+    equal(&rt, cursor.word(), None);
+    equal(&rt, cursor.read_count(), 2);
 }
 
 #[test]
@@ -99,11 +100,11 @@ fn bytes_are_counted_where_they_are_passed(rt: HostRuntime) {
     let mut cursor = Cursor::new(&bytes);
     cursor.go_to(1);
     cursor.pass(9);
-    assert_eq!(rt; cursor.place(), 10);
-    assert_eq!(rt; cursor.read_count(), 9);
+    equal(&rt, cursor.place(), 10);
+    equal(&rt, cursor.read_count(), 9);
     cursor.pass(0);
-    assert_eq!(rt; cursor.byte(), Some(11));
-    assert_eq!(rt; cursor.read_count(), 10);
+    equal(&rt, cursor.byte(), Some(11));
+    equal(&rt, cursor.read_count(), 10);
 }
 
 // A number of ten bytes, and behind it one of as many: from place k on the first has 10 - k bytes.
@@ -129,12 +130,12 @@ fn passes_as_it_reads(rt: &impl Abort, bytes: &[u8], is_passed: bool) {
     let mut passes = Cursor::new(bytes);
     if is_passed {
         assert!(rt; reads.uvarint().is_ok());
-        assert_eq!(rt; passes.pass_varint(), Some(()));
+        equal(rt, passes.pass_varint(), Some(()));
     } else {
-        assert_eq!(rt; passes.pass_varint(), None);
+        equal(rt, passes.pass_varint(), None);
     }
-    assert_eq!(rt; passes.place(), reads.place());
-    assert_eq!(rt; passes.read_count(), reads.read_count());
+    equal(rt, passes.place(), reads.place());
+    equal(rt, passes.read_count(), reads.read_count());
 }
 
 #[test]
@@ -146,13 +147,13 @@ fn varints_are_passed_up_to_their_ends(rt: HostRuntime) {
     ];
     let mut cursor = Cursor::new(&bytes);
     for place in [3, 4, 12] {
-        assert_eq!(rt; cursor.pass_varint(), Some(()));
-        assert_eq!(rt; cursor.place(), place);
-        assert_eq!(rt; cursor.read_count(), place as u64);
+        equal(&rt, cursor.pass_varint(), Some(()));
+        equal(&rt, cursor.place(), place);
+        equal(&rt, cursor.read_count(), place as u64);
     }
-    assert_eq!(rt; cursor.pass_varint(), None);
-    assert_eq!(rt; cursor.place(), 12);
-    assert_eq!(rt; cursor.read_count(), 12);
+    equal(&rt, cursor.pass_varint(), None);
+    equal(&rt, cursor.place(), 12);
+    equal(&rt, cursor.read_count(), 12);
 }
 
 // A varint of one to seven bytes, eight of one to four in many orders, and bytes behind them.
@@ -186,9 +187,9 @@ fn passes_many_as_it_reads(rt: &impl Abort, bytes: &[u8], many: u64) {
         assert!(rt; reads.uvarint().is_ok());
     }
     let mut passes = Cursor::new(bytes);
-    assert_eq!(rt; passes.pass_varints(many), Some(()));
-    assert_eq!(rt; passes.place(), reads.place());
-    assert_eq!(rt; passes.read_count(), reads.read_count());
+    equal(rt, passes.pass_varints(many), Some(()));
+    equal(rt, passes.place(), reads.place());
+    equal(rt, passes.read_count(), reads.read_count());
 }
 
 // The fourth takes more and more bytes, in the first word and the second: all four of a half word go on.
@@ -212,9 +213,9 @@ fn no_varint_goes_on_through_half_a_word(rt: HostRuntime) {
 // Nothing is passed, and nothing is counted.
 fn is_left(rt: &impl Abort, bytes: &[u8], many: u64) {
     let mut cursor = Cursor::new(bytes);
-    assert_eq!(rt; cursor.pass_varints(many), None);
-    assert_eq!(rt; cursor.place(), 0);
-    assert_eq!(rt; cursor.read_count(), 0);
+    equal(rt, cursor.pass_varints(many), None);
+    equal(rt, cursor.place(), 0);
+    equal(rt, cursor.read_count(), 0);
 }
 
 #[test]
@@ -252,15 +253,15 @@ fn a_pair_is_two_reads(rt: HostRuntime) {
     ];
     let mut cursor = Cursor::new(&bytes);
     for (first, second, place) in table {
-        assert_eq!(rt; cursor.svarint_pair(), Some((first, second)));
-        assert_eq!(rt; cursor.place(), place);
-        assert_eq!(rt; cursor.read_count(), place as u64);
+        equal(&rt, cursor.svarint_pair(), Some((first, second)));
+        equal(&rt, cursor.place(), place);
+        equal(&rt, cursor.read_count(), place as u64);
     }
-    assert_eq!(rt; cursor.svarint_pair(), None);
-    assert_eq!(rt; cursor.place(), 33);
-    assert_eq!(rt; cursor.read_count(), 33);
-    assert_eq!(rt; cursor.svarint(), Ok(3));
-    assert_eq!(rt; cursor.svarint(), Ok(-4));
+    equal(&rt, cursor.svarint_pair(), None);
+    equal(&rt, cursor.place(), 33);
+    equal(&rt, cursor.read_count(), 33);
+    equal(&rt, cursor.svarint(), Ok(3));
+    equal(&rt, cursor.svarint(), Ok(-4));
 }
 
 // Pairs of each two lengths, with seven bytes left, eight, and more.
@@ -284,14 +285,14 @@ fn pair_like_two_reads(rt: &impl Abort, bytes: &[u8], is_read: bool) {
     let mut pairs = Cursor::new(bytes);
     if is_read {
         match (reads.svarint(), reads.svarint()) {
-            (Ok(x), Ok(y)) => assert_eq!(rt; pairs.svarint_pair(), Some((x, y))),
+            (Ok(x), Ok(y)) => equal(rt, pairs.svarint_pair(), Some((x, y))),
             _ => assert!(rt; false),
         }
     } else {
-        assert_eq!(rt; pairs.svarint_pair(), None);
+        equal(rt, pairs.svarint_pair(), None);
     }
-    assert_eq!(rt; pairs.place(), reads.place());
-    assert_eq!(rt; pairs.read_count(), reads.read_count());
+    equal(rt, pairs.place(), reads.place());
+    equal(rt, pairs.read_count(), reads.read_count());
 }
 
 // A pair is read where eight bytes are left before the stop, and among all bytes.
@@ -306,10 +307,14 @@ fn no_pair_passes_the_stop(rt: HostRuntime) {
             cursor.go_to(start);
             let is_read = stop >= 8usize.saturating_add(start);
             let answer = cursor.svarint_pair_before(stop);
-            assert_eq!(rt; answer, if is_read { Some(pair) } else { None });
+            equal(&rt, answer, if is_read { Some(pair) } else { None });
             let passed = if is_read { end } else { start };
-            assert_eq!(rt; cursor.place(), passed);
-            assert_eq!(rt; cursor.read_count(), passed.saturating_sub(start) as u64);
+            equal(&rt, cursor.place(), passed);
+            equal(
+                &rt,
+                cursor.read_count(),
+                passed.saturating_sub(start) as u64,
+            );
         }
     }
 }
@@ -346,10 +351,14 @@ fn pairs_are_passed_before_a_stop(rt: HostRuntime) {
 fn passes_a_pair(rt: &impl Abort, bytes: &[u8], stop: usize, passed: Option<usize>) {
     let mut cursor = Cursor::new(bytes);
     assert!(rt; cursor.byte().is_some());
-    assert_eq!(rt; cursor.pass_pair_before(stop).is_some(), passed.is_some());
+    equal(
+        rt,
+        cursor.pass_pair_before(stop).is_some(),
+        passed.is_some(),
+    );
     let place = passed.unwrap_or(0).saturating_add(1);
-    assert_eq!(rt; cursor.place(), place);
-    assert_eq!(rt; cursor.read_count(), place as u64);
+    equal(rt, cursor.place(), place);
+    equal(rt, cursor.read_count(), place as u64);
 }
 
 #[test]

@@ -1,7 +1,7 @@
 //! Allocations that are refused, each in turn.
 ghost use Rattle.twkb_tool.specs.Words.{HoldsWindows};
 
-use super::{TWO_BLOBS, TWO_WINDOWS, TWO_WINDOWS_TEXT, scan_for};
+use super::{TWO_BLOBS, TWO_WINDOWS, TWO_WINDOWS_TEXT, equal, scan_for};
 use crate::judge::Verdict;
 use crate::request::Request;
 use crate::run::{RunFault, run_in};
@@ -42,13 +42,13 @@ fn runs_out<A: Allocator>(
     let mut sink = MemSink::new(alloc, 100, 100, None)?;
     match run_in(memory, &mut source, &mut sink, request, 100) {
         Ok(verdict) => {
-            assert_eq!(rt; verdict, Verdict::Yes);
-            assert_eq!(rt; sink.bytes(), text.as_bytes());
+            equal(rt, verdict, Verdict::Yes);
+            equal(rt, sink.bytes(), text.as_bytes());
             Ok(false)
         }
         Err(fault) => {
-            assert_eq!(rt; fault, RunFault::Memory);
-            assert_eq!(rt; status_of(&Err(fault)), 3);
+            equal(rt, fault, RunFault::Memory);
+            equal(rt, status_of(&Err(fault)), 3);
             assert!(rt; sink.bytes().is_empty());
             Ok(true)
         }
@@ -68,7 +68,7 @@ fn refusals(
     for call in 0..100u64 {
         let memory = Refusing::new(alloc, call);
         let is_out = runs_out(rt, alloc, &memory, bytes, request, text)?;
-        assert_eq!(rt; is_out, memory.has_refused());
+        equal(rt, is_out, memory.has_refused());
         if !is_out {
             return Ok(call);
         }

@@ -1,5 +1,5 @@
 //! Whole runs on worked files, stage by stage of the format.
-use super::answers;
+use super::{answers, equal};
 use crate::judge::Verdict;
 use crate::request::Request;
 use crate::run::{RunFault, run};
@@ -293,8 +293,8 @@ fn the_limit_is_the_most_bytes(rt: HostRuntime) -> Result<(), Fail> {
         let mut source = MemSource::new(&bytes, 100, None);
         let mut sink = MemSink::new(rt.alloc(), 100, 100, None)?;
         let outcome = run(rt.alloc(), &mut source, &mut sink, &Request::Check, limit);
-        assert_eq!(rt; outcome, wanted);
-        assert_eq!(rt; sink.bytes().is_empty(), wanted.is_err());
+        equal(&rt, outcome, wanted);
+        equal(&rt, sink.bytes().is_empty(), wanted.is_err());
     }
     Ok(())
 }
@@ -309,6 +309,6 @@ fn statuses_follow_the_answer(rt: HostRuntime) {
         (Err(RunFault::Memory), 3),
         (Err(RunFault::Write { done: 7 }), 3),
     ] {
-        assert_eq!(rt; status_of(&outcome), status);
+        equal(&rt, status_of(&outcome), status);
     }
 }

@@ -1,5 +1,5 @@
 //! Sources and sinks that fail, that have no end, and those over real files.
-use super::{TWO_BLOBS, TWO_WINDOWS, TWO_WINDOWS_TEXT, scan_for};
+use super::{TWO_BLOBS, TWO_WINDOWS, TWO_WINDOWS_TEXT, equal, scan_for};
 use crate::judge::Verdict;
 use crate::request::Request;
 use crate::run::{RunFault, run};
@@ -22,8 +22,8 @@ fn a_source_fails_at_each_call(rt: HostRuntime) -> Result<(), Fail> {
         let mut source = MemSource::new(&TWO_BLOBS, 1, Some(k));
         let mut sink = MemSink::new(rt.alloc(), 100, 1, None)?;
         let outcome = run(rt.alloc(), &mut source, &mut sink, &Request::Check, 100);
-        assert_eq!(rt; outcome, Err(RunFault::Read));
-        assert_eq!(rt; status_of(&outcome), 3);
+        equal(&rt, outcome, Err(RunFault::Read));
+        equal(&rt, status_of(&outcome), 3);
         assert!(rt; source.failed() && source.moved() == k as u64 - 1);
         assert!(rt; sink.bytes().is_empty() && sink.moved() == 0);
     }
@@ -37,9 +37,9 @@ fn a_sink_fails_at_each_call_up_to_the_flush(rt: HostRuntime) -> Result<(), Fail
         let mut source = MemSource::new(&TWO_BLOBS, 9, None);
         let mut sink = MemSink::new(rt.alloc(), 100, 1, Some(k))?;
         let outcome = run(rt.alloc(), &mut source, &mut sink, &request, 100);
-        assert_eq!(rt; outcome, Err(RunFault::Write { done: k - 1 }));
-        assert_eq!(rt; status_of(&outcome), 3);
-        assert_eq!(rt; sink.bytes(), &TWO_WINDOWS_TEXT.as_bytes()[..k - 1]);
+        equal(&rt, outcome, Err(RunFault::Write { done: k - 1 }));
+        equal(&rt, status_of(&outcome), 3);
+        equal(&rt, sink.bytes(), &TWO_WINDOWS_TEXT.as_bytes()[..k - 1]);
         assert!(rt; sink.failed() && sink.moved() == k as u64 - 1);
     }
     Ok(())
@@ -50,8 +50,8 @@ fn a_flush_alone_fails(rt: HostRuntime) -> Result<(), Fail> {
     let mut source = MemSource::new(&POINT, 9, None);
     let mut sink = MemSink::new(rt.alloc(), 100, 100, Some(2))?;
     let outcome = run(rt.alloc(), &mut source, &mut sink, &Request::Check, 100);
-    assert_eq!(rt; outcome, Err(RunFault::Write { done: 22 }));
-    assert_eq!(rt; sink.bytes(), TEXT.as_bytes());
+    equal(&rt, outcome, Err(RunFault::Write { done: 22 }));
+    equal(&rt, sink.bytes(), TEXT.as_bytes());
     Ok(())
 }
 
@@ -60,9 +60,9 @@ fn a_sink_takes_three_bytes(rt: HostRuntime) -> Result<(), Fail> {
     let mut source = MemSource::new(&POINT, 9, None);
     let mut sink = MemSink::new(rt.alloc(), 3, 100, None)?;
     let outcome = run(rt.alloc(), &mut source, &mut sink, &Request::Check, 100);
-    assert_eq!(rt; outcome, Err(RunFault::Write { done: 3 }));
-    assert_eq!(rt; status_of(&outcome), 3);
-    assert_eq!(rt; sink.bytes(), b"ok ".as_slice());
+    equal(&rt, outcome, Err(RunFault::Write { done: 3 }));
+    equal(&rt, status_of(&outcome), 3);
+    equal(&rt, sink.bytes(), b"ok ".as_slice());
     Ok(())
 }
 
@@ -102,7 +102,7 @@ fn a_source_without_end_is_too_large(rt: HostRuntime) -> Result<(), Fail> {
         let mut source = Endless { calls: 0, moved: 0 };
         let mut sink = MemSink::new(rt.alloc(), 100, 1, None)?;
         let outcome = run(rt.alloc(), &mut source, &mut sink, &Request::Check, limit);
-        assert_eq!(rt; outcome, Err(RunFault::TooLarge));
+        equal(&rt, outcome, Err(RunFault::TooLarge));
         assert!(rt; sink.bytes().is_empty());
         assert!(rt; source.moved() == limit as u64 + 1 && source.calls <= limit + 1);
     }
@@ -116,7 +116,7 @@ fn a_byte_past_the_limit_ends_the_reading(rt: HostRuntime) -> Result<(), Fail> {
         let mut source = MemSource::new(&[1; 6], step, Some(7));
         let mut sink = MemSink::new(rt.alloc(), 100, 1, None)?;
         let outcome = run(rt.alloc(), &mut source, &mut sink, &Request::Check, 5);
-        assert_eq!(rt; outcome, Err(RunFault::TooLarge));
+        equal(&rt, outcome, Err(RunFault::TooLarge));
         assert!(rt; source.moved() == 6 && sink.bytes().is_empty());
     }
     Ok(())
@@ -164,7 +164,7 @@ fn readers_and_writers_fail(rt: HostRuntime) -> Result<(), Fail> {
         });
         let mut sink = MemSink::new(rt.alloc(), 100, 100, None)?;
         let outcome = run(rt.alloc(), &mut source, &mut sink, &Request::Check, 100);
-        assert_eq!(rt; outcome, Err(RunFault::Read));
+        equal(&rt, outcome, Err(RunFault::Read));
         assert!(rt; source.failed() && source.moved() == fail_at as u64 - 1);
     }
     let mut source = MemSource::new(&POINT, 2, None);
@@ -174,7 +174,7 @@ fn readers_and_writers_fail(rt: HostRuntime) -> Result<(), Fail> {
         kind: io::ErrorKind::Other,
     });
     let outcome = run(rt.alloc(), &mut source, &mut sink, &Request::Check, 100);
-    assert_eq!(rt; outcome, Err(RunFault::Write { done: 0 }));
+    equal(&rt, outcome, Err(RunFault::Write { done: 0 }));
     assert!(rt; sink.failed() && sink.moved() == 0);
     Ok(())
 }
@@ -198,7 +198,7 @@ fn a_flush_of_a_writer_fails(rt: HostRuntime) {
     let mut source = MemSource::new(&POINT, 2, None);
     let mut sink = ToWriter::new(Unflushed);
     let outcome = run(rt.alloc(), &mut source, &mut sink, &Request::Check, 100);
-    assert_eq!(rt; outcome, Err(RunFault::Write { done: 22 }));
+    equal(&rt, outcome, Err(RunFault::Write { done: 22 }));
     assert!(rt; sink.failed() && sink.moved() == 22);
 }
 
@@ -212,13 +212,13 @@ fn a_run_goes_from_file_to_file(rt: HostRuntime) -> Result<(), Fail> {
         let mut source = FromReader::new(File::open(&rt, &layer)?);
         let mut sink = ToWriter::new(File::create(&rt, &answer)?);
         let outcome = run(rt.alloc(), &mut source, &mut sink, &Request::Check, 100);
-        assert_eq!(rt; outcome, Ok(Verdict::Yes));
+        equal(&rt, outcome, Ok(Verdict::Yes));
         assert!(rt; source.moved() == 5 && !source.failed());
         assert!(rt; sink.moved() == 22 && !sink.failed());
     }
     let written = fs::read_to_string(&rt, &answer)?;
     fs::remove_file(&rt, &layer)?;
     fs::remove_file(&rt, &answer)?;
-    assert_eq!(rt; written.as_str(), TEXT);
+    equal(&rt, written.as_str(), TEXT);
     Ok(())
 }

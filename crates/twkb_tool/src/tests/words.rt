@@ -1,4 +1,5 @@
 //! What words ask for.
+use super::equal;
 use crate::request::Request;
 use crate::status::{HostFault, host_status, usage_status};
 use crate::words::{Usage, request_of};
@@ -33,7 +34,7 @@ fn sixty_five_windows() -> [&'static str; 68] {
 #[test]
 fn check_takes_a_file(rt: HostRuntime) -> Result<(), Fail> {
     let line = request_of(rt.alloc(), &["twkb_tool", "check", "a.twkb"])?;
-    assert_eq!(rt; line.path.as_str(), "a.twkb");
+    equal(&rt, line.path.as_str(), "a.twkb");
     assert!(rt; matches!(&line.request, Request::Check));
     Ok(())
 }
@@ -46,7 +47,7 @@ fn check_takes_a_flag_on_either_side(rt: HostRuntime) -> Result<(), Fail> {
     ];
     for words in table {
         let line = request_of(rt.alloc(), &words)?;
-        assert_eq!(rt; line.path.as_str(), "a.twkb");
+        equal(&rt, line.path.as_str(), "a.twkb");
         assert!(rt; matches!(&line.request, Request::CheckTight), "{words:?}");
     }
     Ok(())
@@ -55,7 +56,7 @@ fn check_takes_a_flag_on_either_side(rt: HostRuntime) -> Result<(), Fail> {
 #[test]
 fn list_takes_a_file(rt: HostRuntime) -> Result<(), Fail> {
     let line = request_of(rt.alloc(), &["twkb_tool", "list", "a.twkb"])?;
-    assert_eq!(rt; line.path.as_str(), "a.twkb");
+    equal(&rt, line.path.as_str(), "a.twkb");
     assert!(rt; matches!(&line.request, Request::List));
     Ok(())
 }
@@ -68,9 +69,9 @@ fn assert_scans(
     wanted: &[Window],
 ) -> Result<(), Fail> {
     let line = request_of(alloc, words)?;
-    assert_eq!(rt; line.path.as_str(), "a.twkb");
+    equal(rt, line.path.as_str(), "a.twkb");
     match &line.request {
-        Request::Scan(windows) => assert_eq!(rt; windows.as_slice(), wanted),
+        Request::Scan(windows) => equal(rt, windows.as_slice(), wanted),
         _ => assert!(rt; false),
     }
     Ok(())
@@ -162,10 +163,10 @@ fn the_first_unreadable_window_is_named(rt: HostRuntime) {
     ];
     for ([a, b, c], number, why) in table {
         let words = ["twkb_tool", "scan", "a.twkb", a, b, c];
-        assert_eq!(rt;
-            bad_window(rt.alloc(), &words),
-            Some((number, why)),
-            "{words:?}"
+        equal(
+            &rt,
+            (bad_window(rt.alloc(), &words), words),
+            (Some((number, why)), words),
         );
     }
 }
@@ -182,9 +183,17 @@ fn many_windows_are_counted_before_they_are_read(rt: HostRuntime) {
 fn each_of_many_windows_is_read(rt: HostRuntime) {
     let mut words = sixty_four_windows();
     words[66] = "x";
-    assert_eq!(rt; bad_window(rt.alloc(), &words), Some((64, BadWindow::Form)));
+    equal(
+        &rt,
+        bad_window(rt.alloc(), &words),
+        Some((64, BadWindow::Form)),
+    );
     words[4] = "x=1..0,y=0..0";
-    assert_eq!(rt; bad_window(rt.alloc(), &words), Some((2, BadWindow::Order)));
+    equal(
+        &rt,
+        bad_window(rt.alloc(), &words),
+        Some((2, BadWindow::Order)),
+    );
 }
 
 /// For which kind of error `clap` refuses words.
@@ -287,7 +296,7 @@ fn a_path_may_be_any_word(rt: HostRuntime) -> Result<(), Fail> {
         (&["", "list", "Küste 1.twkb"], "Küste 1.twkb"),
     ];
     for (words, path) in table {
-        assert_eq!(rt; request_of(rt.alloc(), words)?.path.as_str(), path);
+        equal(&rt, request_of(rt.alloc(), words)?.path.as_str(), path);
     }
     Ok(())
 }
@@ -300,17 +309,17 @@ fn usages_have_their_statuses(rt: HostRuntime) {
         number: 1,
         why: BadWindow::Form,
     };
-    assert_eq!(rt; usage_status(&Usage::Words(None)), 2);
-    assert_eq!(rt; usage_status(&Usage::TooMany), 2);
-    assert_eq!(rt; usage_status(&window), 2);
-    assert_eq!(rt; usage_status(&Usage::Memory), 3);
-    assert_eq!(rt; host_status(HostFault::Words), 3);
-    assert_eq!(rt; host_status(HostFault::File), 3);
+    equal(&rt, usage_status(&Usage::Words(None)), 2);
+    equal(&rt, usage_status(&Usage::TooMany), 2);
+    equal(&rt, usage_status(&window), 2);
+    equal(&rt, usage_status(&Usage::Memory), 3);
+    equal(&rt, host_status(HostFault::Words), 3);
+    equal(&rt, host_status(HostFault::File), 3);
 }
 
 /// Demands that a usage has this text.
 fn assert_says(rt: &impl Abort, alloc: Global, usage: &Usage, text: &str) -> Result<(), Fail> {
-    assert_eq!(rt; usage.to_string(alloc)?.as_str(), text);
+    equal(rt, usage.to_string(alloc)?.as_str(), text);
     Ok(())
 }
 
@@ -338,13 +347,15 @@ fn usages_have_their_texts(rt: HostRuntime) -> Result<(), Fail> {
         "window 64: lower bound above upper bound",
     )?;
     assert_says(&rt, rt.alloc(), &Usage::Memory, "out of memory")?;
-    assert_eq!(rt;
+    equal(
+        &rt,
         HostFault::Words.to_string(rt.alloc())?.as_str(),
-        "cannot read words"
+        "cannot read words",
     );
-    assert_eq!(rt;
+    equal(
+        &rt,
         HostFault::File.to_string(rt.alloc())?.as_str(),
-        "cannot open file"
+        "cannot open file",
     );
     Ok(())
 }
