@@ -3,23 +3,24 @@ PROGRAM = build/twkb_tool
 SCANNER = build/twkb_bench
 MODULE = build/web/twkb_web.wasm
 PAGE = build/dozhemik.html
-# What the program stands on, each behind what it stands on itself, and the program last.
-CRATES = refusing twkb_num twkb_head plain random_layers twkb_body twkb_layer twkb_tool
+# What the program stands on, each behind what it stands on itself.
+LIBRARIES = refusing twkb_num twkb_head plain random_layers twkb_body twkb_layer
 PREFIX = /usr/local
 INTO = $(DESTDIR)$(PREFIX)
 MANUALS = share/man/man1
 BASH = share/bash-completion/completions
 ZSH = share/zsh/site-functions
 
-.PHONY: help kit build install uninstall demo test bindings web page bench callers picture trusted refusals twins stack clean
+.PHONY: help kit libraries library build install uninstall demo test bindings web page bench callers picture trusted refusals twins stack clean
 
 help:
 	@echo 'make build      prove and build the program: $(PROGRAM) (some minutes the first time)'
 	@echo 'make install    put the program, its manual page and completions below $(PREFIX), or PREFIX=..'
 	@echo 'make uninstall  take them away'
 	@echo 'make demo       build, and check, list and scan layers that PostGIS wrote'
-	@echo 'make test       build, test the program from end to end, and run the merge gate'
-	@echo 'make bindings   build the library for C, Rust and Python, and test what calls it'
+	@echo 'make test       run the merge gate, and test the program that it built from end to end'
+	@echo 'make library    prove and build the library for C, Rust and Python: build/bindings'
+	@echo 'make bindings   build the library, and test what calls it'
 	@echo 'make web        build the module for web pages, and compare it with the library (needs wasm-opt and node)'
 	@echo 'make page       build the page that checks a layer in a browser: $(PAGE) (needs wasm-opt)'
 	@echo 'make bench      build, and compare with plain Rust on 40 MB (needs rustc; valgrind counts instructions)'
@@ -34,16 +35,20 @@ help:
 kit:
 	@$(if $(shell command -v rt),:,$(error The Rattle kit is missing: its command rt is not in PATH))
 
-# Each crate is proved before those on it. rt run builds a proved program alone, and then runs it: here on an empty layer.
-build: kit
-	@echo 'Proving $(words $(CRATES)) crates and building the program takes some minutes the first time, then seconds.'
+# Each library is proved before those on it.
+libraries: kit
+	@echo 'Proving $(words $(LIBRARIES)) libraries takes some minutes the first time, then seconds.'
 	@mkdir -p build
-	@number=0; for crate in $(CRATES); do \
+	@number=0; for crate in $(LIBRARIES); do \
 	    number=$$((number + 1)); \
-	    case $$crate in twkb_tool) command='run -- check /dev/null';; *) command=lib;; esac; \
-	    echo "proving $$crate, crate $$number of $(words $(CRATES))"; \
-	    (cd crates/$$crate && rt $$command) > build/$$crate.log 2>&1 || { cat build/$$crate.log; exit 1; }; \
+	    echo "proving $$crate, library $$number of $(words $(LIBRARIES))"; \
+	    (cd crates/$$crate && rt lib) > build/$$crate.log 2>&1 || { cat build/$$crate.log; exit 1; }; \
 	done
+
+# rt run builds a proved program alone, and then runs it: here on an empty layer.
+build: libraries
+	@echo 'proving twkb_tool, and building the program'
+	@(cd crates/twkb_tool && rt run -- check /dev/null) > build/twkb_tool.log 2>&1 || { cat build/twkb_tool.log; exit 1; }
 	cp crates/twkb_tool/out/twkb_tool $(PROGRAM)
 
 # Installing needs no kit where the program is built already.
@@ -64,25 +69,36 @@ uninstall:
 demo: build
 	@examples/demo.sh $(PROGRAM)
 
-test: build
-	python3 tests/run.py $(PROGRAM)
+# The tests run the program that rt ci builds, and stand on its libraries, so that all is proved once. Its last line comes last.
+test: SHELL = bash
+test: kit
 	python3 tests/looks_ahead.py
 	python3 tests/trusted.py --strict
 	python3 tests/trusted_cases.py
+	@mkdir -p build
+	set -o pipefail; rt ci | tee build/ci.log
+	cp crates/twkb_tool/out/twkb_tool $(PROGRAM)
+	python3 tests/run.py $(PROGRAM)
 	python3 tests/install.py
 	python3 tests/scripts.py $(PROGRAM)
 	python3 tests/bindings.py $(PROGRAM)
 	python3 tests/web.py
 	python3 tests/page.py $(PROGRAM)
-	rt ci
+	@tail -n 1 build/ci.log
+
+# What other languages call stands on one library more.
+library bindings web page callers: LIBRARIES += twkb_call
+
+library: libraries
+	bindings/build.sh
 
 bindings: build
 	python3 tests/bindings.py $(PROGRAM)
 
-web: build
+web: libraries
 	python3 tests/web.py
 
-page: kit
+page: libraries
 	bindings/web/build.sh
 	python3 bindings/web/make_page.py $(MODULE) $(PAGE)
 
@@ -91,8 +107,7 @@ bench: build
 	cp crates/twkb_bench/out/twkb_bench $(SCANNER)
 	python3 bench/run.py $(PROGRAM) $(SCANNER) $(RUNS)
 
-callers: build
-	bindings/build.sh
+callers: build library
 	python3 bench/callers.py $(PROGRAM) $(RUNS)
 
 picture: build

@@ -1,32 +1,29 @@
 #!/bin/sh
 # Builds build/bindings/libtwkb.a and libtwkb.so out of the proved static library. usage: bindings/build.sh [--second]
+# `make library` proves the libraries below it before.
 # With --second it is build/bindings/second/libtwkb.a alone, by the kit's second compiler, to compare the answers of both.
 # Wants rt of the Rattle kit, ar and gcc.
 set -eu
 top=$(cd "$(dirname "$0")/.." && pwd)
 out=$top/build/bindings
 kit=$(dirname "$(rt doc)")
-flags=
+backend=llvm
 case ${1-} in
-    --second) out=$out/second flags='--backend rattle' ;;
+    --second) out=$out/second backend=rattle ;;
     '') ;;
     *) echo "usage: bindings/build.sh [--second]" >&2; exit 2 ;;
 esac
 mkdir -p "$out"
 
-# shellcheck disable=SC2086 (the flags are words)
-if ! (cd "$top/crates/twkb_c" && rt lib $flags) > "$out/twkb_c.log" 2>&1; then
-    cat "$out/twkb_c.log" >&2
-    exit 1
-fi
+"$top/bindings/prove.sh" twkb_c "$out/twkb_c.a" --backend $backend
 objects=$(mktemp -d)
 trap 'rm -rf "$objects"' EXIT
 # The crate's code, and the kit's three functions over malloc, in one archive.
-(cd "$objects" && ar x "$top/crates/twkb_c/out/libtwkb_c.a" && ar x "$kit/c/liblibc_c.a")
+(cd "$objects" && ar x "$out/twkb_c.a" && ar x "$kit/c/liblibc_c.a")
 rm -f "$out/libtwkb.a"
 ar rcs "$out/libtwkb.a" "$objects"/*.o
 echo "built $out/libtwkb.a"
-[ -z "$flags" ] || exit 0
+[ $backend = llvm ] || exit 0
 gcc -shared -s -o "$out/libtwkb.so" -Wl,--whole-archive "$out/libtwkb.a" -Wl,--no-whole-archive -Wl,-z,defs \
     -Wl,--version-script="$top/bindings/exports.map" -Wl,-soname,libtwkb.so.0
 # By this name the loader looks for it: the same file under a second name, since the kit's gate takes no symbolic links.

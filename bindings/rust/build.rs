@@ -14,7 +14,7 @@ fn main() {
         }
         Err(why) => {
             eprintln!("dozhemik: {why}.");
-            eprintln!("dozhemik: `make bindings` in the repository makes libtwkb.a. Set TWKB_LIB to its folder.");
+            eprintln!("dozhemik: `make library` in the repository makes libtwkb.a. Set TWKB_LIB to its folder.");
             exit(1);
         }
     }

@@ -108,7 +108,7 @@ def _loaded() -> ctypes.CDLL:
             call = getattr(found, name)
             call.argtypes, call.restype = takes, answers
     except (OSError, AttributeError) as why:
-        raise ImportError(f"{why}. bindings/build.sh builds libtwkb.so, and TWKB_LIBRARY names it") from why
+        raise ImportError(f"{why}. `make library` builds libtwkb.so, and TWKB_LIBRARY names it") from why
     return found
 
 

@@ -170,12 +170,12 @@ class Loading(unittest.TestCase):
     def test_missing(self):
         status, told = self.told("import dozhemik", TWKB_LIBRARY="/missing/libtwkb.so")
         self.assertEqual(status, 1)
-        self.assertRegex(told, "ImportError: .*/missing/libtwkb.so.*bindings/build.sh")
+        self.assertRegex(told, "ImportError: .*/missing/libtwkb.so.*make library")
 
     def test_another_library(self):
         status, told = self.told("import dozhemik", TWKB_LIBRARY="libc.so.6")
         self.assertEqual(status, 1)
-        self.assertRegex(told, "ImportError: .*twkb_certify.*bindings/build.sh")
+        self.assertRegex(told, "ImportError: .*twkb_certify.*make library")
 
     def test_sizes_are_compared(self):
         words = "import ctypes; ctypes.sizeof = lambda struct: 41; import dozhemik"
