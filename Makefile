@@ -76,6 +76,8 @@ test: kit
 	python3 tests/trusted.py --strict
 	python3 tests/trusted_cases.py
 	@mkdir -p build
+# It would put back the libraries of earlier commands, which may be of older sources: so they go before.
+	rm -rf crates/*/out/rlib
 	set -o pipefail; rt ci | tee build/ci.log
 	cp crates/twkb_tool/out/twkb_tool $(PROGRAM)
 	python3 tests/run.py $(PROGRAM)

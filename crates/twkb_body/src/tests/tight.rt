@@ -142,14 +142,8 @@ const LOOSE: [(&[u8], usize, Claim); 10] = [
 fn tight_boxes(rt: HostRuntime) {
     for &(bytes, vertices) in &TIGHT {
         let mut cursor = Cursor::new(bytes);
-        let stop = bytes.len();
-        equal(
-            &rt,
-            (audit_tight(rt.alloc(), &mut cursor), bytes),
-            (Ok(Audit { vertices, stop }), bytes),
-        );
-        equal(&rt, cursor.place(), stop);
-        equal(&rt, cursor.read_count(), stop as u64);
+        let answer = audit_tight(rt.alloc(), &mut cursor);
+        is_whole(&rt, &cursor, answer, bytes, vertices);
     }
 }
 
