@@ -55,6 +55,26 @@ fn malformation(refusal: Option<Refusal>) -> Option<(usize, usize, u8)> {
     }
 }
 
+// Whether the file ends with a blob where it is cut at the offset. Else it is cut short there.
+fn ends_there(rt: &impl Abort, alloc: Global, bytes: &[u8], blob: usize, offset: usize) -> bool {
+    let front = bytes.get(..offset).expect(rt, "the offset is in the file");
+    match certify(alloc, Cursor::new(front)) {
+        Ok(layer) => {
+            equal(rt, (layer.blobs(), bytes), (blob, bytes));
+            true
+        }
+        Err(answer) => {
+            let cut = Refusal::No {
+                blob,
+                offset,
+                kind: 1,
+            };
+            equal(rt, (answer, bytes), (cut, bytes));
+            false
+        }
+    }
+}
+
 fn judge(rt: &impl Abort, alloc: Global, bytes: &[u8], met: &mut Met) {
     met.tried = met.tried.saturating_add(1);
     if malformation(plain_refusal(alloc, bytes, false)).is_some() {
@@ -64,20 +84,8 @@ fn judge(rt: &impl Abort, alloc: Global, bytes: &[u8], met: &mut Met) {
     let Some((blob, offset, kind)) = malformation(refusal) else {
         return;
     };
-    let front = bytes.get(..offset).expect(rt, "the offset is in the file");
-    match certify(alloc, Cursor::new(front)) {
-        Ok(layer) => {
-            equal(rt, (layer.blobs(), bytes), (blob, bytes));
-            met.ended = met.ended.saturating_add(1);
-        }
-        Err(answer) => {
-            let cut = Refusal::No {
-                blob,
-                offset,
-                kind: 1,
-            };
-            equal(rt, (answer, bytes), (cut, bytes));
-        }
+    if ends_there(rt, alloc, bytes, blob, offset) {
+        met.ended = met.ended.saturating_add(1);
     }
     if let Some(times) = met.cut.get_mut(usize::from(kind).wrapping_sub(1)) {
         *times = times.saturating_add(1);

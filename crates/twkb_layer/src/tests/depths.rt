@@ -2,6 +2,7 @@
 ghost use Rattle.std.specs.Prelude.{◌≡◌};
 ghost use Rattle.twkb_layer.specs.Directory.{IsDirectoryOf};
 
+use super::lists::has_one_row;
 use super::plain_scans::{plain_hits, plain_layer};
 use super::worked::flat;
 use super::{NOWHERE, certified, equal, window};
@@ -93,8 +94,6 @@ fn one_byte_false(rt: HostRuntime) -> Result<(), Fail> {
 #[test]
 fn rows(rt: HostRuntime) -> Result<(), Fail> {
     let bytes = deepest(rt.alloc())?;
-    let mut layer = certified(&rt, rt.alloc(), &bytes);
-    let rows = layer.list(rt.alloc()).expect(&rt, "there is memory");
     let row = Row {
         blob: 0,
         offset: 0,
@@ -105,7 +104,7 @@ fn rows(rt: HostRuntime) -> Result<(), Fail> {
         has_size: false,
         has_box: false,
     };
-    equal(&rt, rows.as_slice(), [row].as_slice());
+    has_one_row(&rt, rt.alloc(), &bytes, row);
     Ok(())
 }
 
@@ -153,15 +152,20 @@ fn scans(rt: HostRuntime) -> Result<(), Fail> {
     let plain = plain_layer(&rt, rt.alloc(), &bytes);
     let mut layer = certified(&rt, rt.alloc(), &bytes);
     for case in cases() {
-        let before = layer.read_count();
-        let mut room = [NOWHERE; 1];
-        equal(&rt, layer.scan(&window(&case.ranges), &mut room), case.hits);
-        equal(&rt, room, [case.first]);
-        equal(&rt, layer.read_count(), before.saturating_add(case.read));
+        scans_plainly_to(&rt, &mut layer, &case);
         equal(&rt, plain_hits(&plain, &case.ranges).1, case.hits);
         equal(&rt, plain.work(&case.ranges).read, case.read);
     }
     Ok(())
+}
+
+fn scans_plainly_to(rt: &impl Abort, layer: &mut Certified, case: &Expected) {
+    let before = layer.read_count();
+    let mut room = [NOWHERE; 1];
+    let found = layer.scan(&window(&case.ranges), &mut room);
+    equal(rt, found, case.hits);
+    equal(rt, room, [case.first]);
+    equal(rt, layer.read_count(), before.saturating_add(case.read));
 }
 
 #[test]

@@ -1,7 +1,7 @@
 //! Lines behind a blob with a vertex inside, which a scan looks at without a hop, against the plain reader.
-use super::plain_scans::{plain_hits, plain_layer};
+use super::plain_scans::{directory_scan_agrees, plain_layer, scan_agrees};
 use super::worked::{flat, with_z};
-use super::{NOWHERE, certified, equal, window};
+use super::{certified, equal};
 use crate::{Bounds, Directory};
 use std::alloc::Global;
 use std::process::Abort;
@@ -173,20 +173,8 @@ fn first_or_later(rt: HostRuntime) {
 fn agrees(rt: &impl Abort, alloc: Global, bytes: &[u8], ranges: &Bounds) -> usize {
     let mut layer = certified(rt, alloc, bytes);
     let plain = plain_layer(rt, alloc, bytes);
-    let expected = plain_hits(&plain, ranges);
-    let case = (ranges, bytes);
-    let before = layer.read_count();
-    let mut room = [NOWHERE; 16];
-    let found = layer.scan(&window(ranges), &mut room);
-    equal(rt, ((room, found), case), (expected, case));
-    let read = before.saturating_add(plain.work(ranges).read);
-    equal(rt, (layer.read_count(), case), (read, case));
+    let found = scan_agrees(rt, &plain, &mut layer, ranges);
     let directory = Directory::build(alloc, &mut layer).expect(rt, "there is memory");
-    let before = layer.read_count();
-    let mut room = [NOWHERE; 16];
-    let found = directory.scan(&mut layer, &window(ranges), &mut room);
-    equal(rt, ((room, found), case), (expected, case));
-    let read = before.saturating_add(plain.work_by_directory(ranges).read);
-    equal(rt, (layer.read_count(), case), (read, case));
+    directory_scan_agrees(rt, &plain, &directory, &mut layer, ranges);
     found
 }

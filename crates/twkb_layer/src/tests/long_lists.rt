@@ -1,6 +1,6 @@
 //! Lists of a thousand ids: in rising order, in orders that aren't, and with two that are equal.
-use super::equal;
 use super::worked::{FALLING_IDS, SEVENTEEN_IDS};
+use super::{equal, is_certified};
 use crate::{
     Cursor, Refusal, certify, certify_in, certify_lent, certify_tight, certify_tight_in,
     certify_tight_lent,
@@ -89,12 +89,8 @@ fn different_ids_are_certified(rt: HostRuntime) -> Result<(), Fail> {
             let bytes = layer(rt.alloc(), &list, &different(step))?;
             let plainly = certify(rt.alloc(), Cursor::new(&bytes));
             let tightly = certify_tight(rt.alloc(), Cursor::new(&bytes));
-            for answer in [plainly, tightly] {
-                let certified = answer.expect(&rt, "ids differ");
-                equal(&rt, certified.blobs(), 2);
-                equal(&rt, certified.vertices(), 1001);
-                equal(&rt, certified.read_count(), bytes.len() as u64);
-            }
+            is_certified(&rt, plainly, &bytes, 2, 1001);
+            is_certified(&rt, tightly, &bytes, 2, 1001);
         }
     }
     Ok(())
@@ -143,8 +139,8 @@ fn refusal_in<A: Allocator>(memory: &A, bytes: &[u8], is_tight: bool) -> Option<
     }
 }
 
-// How many growths there are, each refused in turn, until a run that meets no refusal gives the answer.
-fn growths(
+/// How many growths there are, each refused in turn, until a run that meets no refusal gives the answer.
+pub fn growths(
     rt: &impl Abort,
     alloc: Global,
     bytes: &[u8],
@@ -165,8 +161,20 @@ fn growths(
     panic!(rt; "no run without a refusal");
 }
 
+fn growths_of(
+    rt: &impl Abort,
+    alloc: Global,
+    list: &List,
+    ids: &Ids,
+    is_tight: bool,
+    wanted: Option<Refusal>,
+) -> u64 {
+    let bytes = layer(alloc, list, ids).expect(rt, "there is memory");
+    growths(rt, alloc, &bytes, is_tight, wanted)
+}
+
 #[test]
-fn each_growth_is_refused(rt: HostRuntime) -> Result<(), Fail> {
+fn each_growth_is_refused(rt: HostRuntime) {
     let two_equal = Ids {
         step: RISING,
         place: 999,
@@ -175,18 +183,21 @@ fn each_growth_is_refused(rt: HostRuntime) -> Result<(), Fail> {
     for &list in &LISTS {
         for is_tight in [false, true] {
             for step in [MIXED, FALLING] {
-                let bytes = layer(rt.alloc(), &list, &different(step))?;
-                assert!(&rt; growths(&rt, rt.alloc(), &bytes, is_tight, None) > 1);
+                let ids = different(step);
+                assert!(&rt; growths_of(&rt, rt.alloc(), &list, &ids, is_tight, None) > 1);
             }
-            let bytes = layer(rt.alloc(), &list, &two_equal)?;
-            assert!(&rt; growths(&rt, rt.alloc(), &bytes, is_tight, EQUAL_IDS) > 1);
+            let refused = growths_of(&rt, rt.alloc(), &list, &two_equal, is_tight, EQUAL_IDS);
+            assert!(&rt; refused > 1);
         }
         // Ids that rise need no memory, but in tight checking.
-        let bytes = layer(rt.alloc(), &list, &different(RISING))?;
-        equal(&rt, growths(&rt, rt.alloc(), &bytes, false, None), 0);
-        assert!(&rt; growths(&rt, rt.alloc(), &bytes, true, None) > 1);
+        let ids = different(RISING);
+        equal(
+            &rt,
+            growths_of(&rt, rt.alloc(), &list, &ids, false, None),
+            0,
+        );
+        assert!(&rt; growths_of(&rt, rt.alloc(), &list, &ids, true, None) > 1);
     }
-    Ok(())
 }
 
 fn refusal_with(ids: &mut [i64], bytes: &[u8], is_tight: bool) -> Option<Refusal> {

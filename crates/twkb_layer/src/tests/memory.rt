@@ -94,6 +94,12 @@ fn counts_take_no_memory(rt: HostRuntime) {
     }
 }
 
+// Since that count each of the twenty bytes of the layer was read twice at most.
+fn reads_at_most_twice(rt: &impl Abort, layer: &Certified, before: u64) {
+    let most = before.saturating_add(40);
+    assert!(rt; layer.read_count() <= most);
+}
+
 // One list of two blobs with all its memory from an allocator: whether that was refused. A refusal comes before any
 // byte is read.
 fn list_runs_out<A: Allocator>(rt: &impl Abort, memory: &A, layer: &mut Certified) -> bool {
@@ -101,8 +107,7 @@ fn list_runs_out<A: Allocator>(rt: &impl Abort, memory: &A, layer: &mut Certifie
     match layer.list_in(memory) {
         Ok(rows) => {
             equal(rt, rows.as_slice(), LINE_AND_POINT.as_slice());
-            let most = before.saturating_add(40);
-            assert!(rt; layer.read_count() <= most);
+            reads_at_most_twice(rt, layer, before);
             false
         }
         Err(_) => {
@@ -139,8 +144,7 @@ fn directory_runs_out<A: Allocator>(rt: &impl Abort, memory: &A, layer: &mut Cer
     let before = layer.read_count();
     match Directory::build_in(memory, layer) {
         Ok(directory) => {
-            let most = before.saturating_add(40);
-            assert!(rt; layer.read_count() <= most);
+            reads_at_most_twice(rt, layer, before);
             let found = directory.scan(layer, &window(&flat((0, 10), (0, 10))), &mut []);
             equal(rt, found, 2);
             false

@@ -1,7 +1,10 @@
 //! The plain reader itself, on the worked scans: other tests stand on it.
+ghost use Rattle.std.specs.Prelude.{◌≡◌};
+ghost use Rattle.twkb_layer.specs.Directory.{IsDirectoryOf};
+
 use super::worked::{Case, cases_of_more_axes, flat_cases};
-use super::{NOWHERE, equal};
-use crate::{Bounds, Hit};
+use super::{NOWHERE, equal, window};
+use crate::{Bounds, Certified, Directory, Hit};
 use plain::{Layer, read_layer};
 use std::alloc::Global;
 use std::process::Abort;
@@ -38,6 +41,49 @@ pub fn plain_layer(rt: &impl Abort, alloc: Global, bytes: &[u8]) -> Layer {
         Ok(layer) => layer,
         Err(fault) => panic!(rt; "{fault:?}, of {bytes:?}"),
     }
+}
+
+/// How many blobs a scan without a directory finds: those that the plain reader does, for as many bytes.
+pub fn scan_agrees(rt: &impl Abort, plain: &Layer, layer: &mut Certified, ranges: &Bounds) -> usize
+    ensures { layer.new.bytes ≡ layer.old.bytes }
+{
+    let read = layer.read_count().saturating_add(plain.work(ranges).read);
+    let mut room = [NOWHERE; 16];
+    let found = layer.scan(&window(ranges), &mut room);
+    is_as_plain(rt, plain, ranges, (room, found), (layer.read_count(), read));
+    found
+}
+
+/// The same of a scan with a directory.
+pub fn directory_scan_agrees(
+    rt: &impl Abort,
+    plain: &Layer,
+    directory: &Directory<Global>,
+    layer: &mut Certified,
+    ranges: &Bounds,
+)
+    requires { IsDirectoryOf directory.now layer.old.bytes }
+    ensures { layer.new.bytes ≡ layer.old.bytes }
+{
+    let read = layer
+        .read_count()
+        .saturating_add(plain.work_by_directory(ranges).read);
+    let mut room = [NOWHERE; 16];
+    let found = directory.scan(layer, &window(ranges), &mut room);
+    is_as_plain(rt, plain, ranges, (room, found), (layer.read_count(), read));
+}
+
+// The hits are those that the plain reader finds, and the two counts of bytes are equal.
+fn is_as_plain(
+    rt: &impl Abort,
+    plain: &Layer,
+    ranges: &Bounds,
+    hits: (Room, usize),
+    counts: (u64, u64),
+) {
+    let case = (ranges, plain.vertices.as_slice());
+    equal(rt, (hits, case), (plain_hits(plain, ranges), case));
+    equal(rt, (counts.0, case), (counts.1, case));
 }
 
 #[test]

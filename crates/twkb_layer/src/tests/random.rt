@@ -1,10 +1,9 @@
 //! Layers and windows made at random, against a plain reader: it finds the hits by looking at each vertex, and the
 //! bytes that a scan reads by the lengths of all geometries.
 ghost use Rattle.std.specs.Prelude.{◌≡◌};
-ghost use Rattle.twkb_layer.specs.Directory.{IsDirectoryOf};
 
-use super::plain_scans::{plain_hits, plain_layer};
-use super::{NOWHERE, certified, equal, window};
+use super::plain_scans::{directory_scan_agrees, plain_layer, scan_agrees};
+use super::{certified, equal};
 use crate::{Bounds, Certified, Directory, Row, Vertex};
 use plain::{Layer, Work};
 use random_layers::Dice;
@@ -48,7 +47,9 @@ impl Met {
         }
     }
 
-    fn scan(&mut self, ranges: &Bounds, found: usize) {
+    fn scan(&mut self, plain: &Layer, ranges: &Bounds, found: usize) {
+        self.work.and(&plain.work(ranges));
+        self.work_by_directory.and(&plain.work_by_directory(ranges));
         self.hits = self.hits.saturating_add(found);
         if ranges.z.is_some() || ranges.m.is_some() {
             self.hits_by_more_axes = self.hits_by_more_axes.saturating_add(found);
@@ -100,8 +101,9 @@ fn agrees(rt: &impl Abort, alloc: Global, seed: u64, bytes: &[u8], met: &mut Met
     for _ in 0..WINDOWS {
         let near = place(&mut dice, &plain);
         let ranges = random_layers::window(&mut dice, &near);
-        scans_agree(rt, &plain, &mut layer, &ranges, met);
-        directory_scans_agree(rt, &plain, &directory, &mut layer, &ranges, met);
+        let found = scan_agrees(rt, &plain, &mut layer, &ranges);
+        directory_scan_agrees(rt, &plain, &directory, &mut layer, &ranges);
+        met.scan(&plain, &ranges, found);
     }
 }
 
@@ -160,49 +162,4 @@ fn rows_agree(rt: &impl Abort, alloc: Global, plain: &Layer, layer: &mut Certifi
         };
         equal(rt, *row, expected);
     }
-}
-
-fn scans_agree(
-    rt: &impl Abort,
-    plain: &Layer,
-    layer: &mut Certified,
-    ranges: &Bounds,
-    met: &mut Met,
-)
-    ensures { layer.new.bytes ≡ layer.old.bytes }
-{
-    let work = plain.work(ranges);
-    let expected = plain_hits(plain, ranges);
-    let before = layer.read_count();
-    let mut room = [NOWHERE; 16];
-    let found = layer.scan(&window(ranges), &mut room);
-    let case = (ranges, plain.vertices.as_slice());
-    equal(rt, ((room, found), case), (expected, case));
-    let read = before.saturating_add(work.read);
-    equal(rt, (layer.read_count(), case), (read, case));
-    met.work.and(&work);
-    met.scan(ranges, found);
-}
-
-fn directory_scans_agree(
-    rt: &impl Abort,
-    plain: &Layer,
-    directory: &Directory<Global>,
-    layer: &mut Certified,
-    ranges: &Bounds,
-    met: &mut Met,
-)
-    requires { IsDirectoryOf directory.now layer.old.bytes }
-    ensures { layer.new.bytes ≡ layer.old.bytes }
-{
-    let work = plain.work_by_directory(ranges);
-    let expected = plain_hits(plain, ranges);
-    let before = layer.read_count();
-    let mut room = [NOWHERE; 16];
-    let found = directory.scan(layer, &window(ranges), &mut room);
-    let case = (ranges, plain.vertices.as_slice());
-    equal(rt, ((room, found), case), (expected, case));
-    let read = before.saturating_add(work.read);
-    equal(rt, (layer.read_count(), case), (read, case));
-    met.work_by_directory.and(&work);
 }

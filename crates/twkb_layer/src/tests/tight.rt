@@ -1,13 +1,13 @@
 //! Tight checking: worked files, each refused allocation, and random layers against a plain reader.
+use super::long_lists::growths;
 use super::worked::{
     BOXED_LINE, EMPTY, EMPTY_BOXED_POINT, SEVENTEEN_IDS, TWO_BLOBS, Z_IN_THE_BOX_ALONE,
 };
 use super::{equal, is_certified};
-use crate::{Cursor, Refusal, certify, certify_tight, certify_tight_in};
+use crate::{Cursor, Refusal, certify, certify_tight};
 use plain::{Claim, Fault};
 use random_layers::Dice;
-use refusing::Refusing;
-use std::alloc::{Allocator, Global};
+use std::alloc::Global;
 use std::process::Abort;
 
 #[test]
@@ -95,38 +95,11 @@ const EQUAL_IDS: [u8; 54] = [
     0, 0, 0, 0, 0, 0, 0, 0, 0, 0,
 ];
 
-// One certification of seventeen ids with all its memory from an allocator: whether it answered that memory ran out.
-fn runs_out<A: Allocator>(
-    rt: &impl Abort,
-    memory: &A,
-    bytes: &[u8],
-    wanted: Option<Refusal>,
-) -> bool {
-    let refusal = certify_tight_in(memory, Cursor::new(bytes)).err();
-    if refusal == Some(Refusal::Memory) {
-        return true;
-    }
-    equal(rt, refusal, wanted);
-    false
-}
-
 #[test]
 fn each_allocation_is_refused(rt: HostRuntime) {
     let layers: [(&[u8], Option<Refusal>); 2] = [(&SEVENTEEN_IDS, None), (&EQUAL_IDS, no(0, 3, 8))];
     for (bytes, wanted) in layers {
-        let mut refusals = 0u64;
-        for call in 0..100u64 {
-            let memory = Refusing::new(rt.alloc(), call);
-            let is_out = runs_out(&rt, &memory, bytes, wanted);
-            equal(&rt, is_out, memory.has_refused());
-            if !is_out {
-                break;
-            }
-            // The allocator grants the next call, and a new cursor gives the answer.
-            assert!(rt; !runs_out(&rt, &memory, bytes, wanted));
-            refusals = call + 1;
-        }
-        assert!(rt; 0 < refusals && refusals < 100, "{refusals}");
+        assert!(rt; growths(&rt, rt.alloc(), bytes, true, wanted) > 0);
     }
 }
 
