@@ -1,6 +1,6 @@
 -- The lines of a window, of what a scan answered.
-use Rattle.std.proofs.Common.{◌≡◌, ◌∙◌, ℕ, ℤ, ◌+◌, ◌-◌, ◌^◌, ◌<◌, ◌≤◌, Bool, true, false, cond, List, [], ◌∷◌, ◌++◌, length, take, drop, flat_map, min, sum_by, codes, decimal, refl, ap, arith, append_assoc, length-append}
-use Rattle.std.proofs.lemmas.List.{take_all, take_at}
+use Rattle.std.proofs.Common.{◌≡◌, ◌∙◌, ℕ, ℤ, ◌+◌, ◌-◌, ◌*◌, ◌^◌, ◌<◌, ◌≤◌, Bool, true, false, cond, List, [], ◌∷◌, ◌++◌, length, take, drop, flat_map, min, sum_by, codes, decimal, refl, sym, ap, arith, append_assoc, get_or, length-append}
+use Rattle.std.proofs.lemmas.List.{flat_map_more, take_all, take_at, take_more}
 use Rattle.std.specs.List.{list_any}
 use Rattle.twkb_head.specs.declared.boxes.Bounds.{Bounds}
 use Rattle.twkb_body.specs.Geometry.{Geometry, vertices}
@@ -12,7 +12,8 @@ use Rattle.twkb_layer.proofs.Layers.{layer_once}
 use Rattle.twkb_layer.proofs.Scanning.{hits_from}
 use Rattle.twkb_layer.specs.declared.row.Row.{Row}
 use Rattle.std.specs.Fmt.{signed_decimal}
-use Rattle.twkb_tool.specs.Output.{name_of, yes_no, row_line, hit_line, end_line, window_text}
+use Rattle.twkb_tool.specs.declared.run.TheConstants.{MAX_FILE}
+use Rattle.twkb_tool.specs.Output.{name_of, yes_no, no_line, row_line, hit_line, end_line, window_text}
 
 one_or_none : (b : Bool) (hit : Hit) → length (cond b (hit ∷ []) []) ≤ 1
 one_or_none true hit = omega arith
@@ -42,6 +43,10 @@ found_fits_room bytes w room0 room found (given, whole, enough) answer same = om
 pub grew : (before after len read : ℕ) → AddsAtMost len before after → before + len < 2 ^ 64 - 1 → after ≡ min (before + read) (2 ^ 64 - 1) → after - before ≡ read
 grew before after len read few small is = omega (arith, few.few, few.is, small, is)
 
+-- a scan more reads no more than all bytes once more
+pub read_more : (i len before after : ℕ) → AddsAtMost len before after → len ≤ MAX_FILE → before ≤ (3 + i) * MAX_FILE → after ≤ (3 + (i + 1)) * MAX_FILE
+read_more i len before after few small read = omega (arith, few.few, few.is, small, read)
+
 -- what was found and read makes the lines of the window
 pub window_lines : (reads : Bounds → Geometry → ℕ) (w : Bounds) (trees : List Geometry) (bytes : List ℕ) (room0 room : List Hit) (found read len : ℕ)
     → (given : List Geometry) × IsCertifiedLayer given bytes × (length given ≤ length room0) → IsCertifiedLayer trees bytes
@@ -51,6 +56,19 @@ window_lines reads w trees bytes room0 room found read len given layer answer fi
     let enough : length (hits trees w) ≤ length room0 = omega (arith, few_hits 0 0 trees w, enough_for (length room0) bytes trees given layer) in
     let front : take found room ≡ hits trees w = rw (answer, filled_is) (all_in_front (hits trees w) room0 enough) in
     rw (front, answer, read_is, len_is) refl
+
+-- the lines of one element more, behind those of the elements before it
+pub lines_more : {X : Type 0} (line : X → List ℕ) (out now next : List ℕ) (xs : List X) (i : ℕ) (d : X) → i < length xs
+    → now ≡ out ++ flat_map line (take i xs) → next ≡ now ++ line (get_or xs i d) → next ≡ out ++ flat_map line (take (i + 1) xs)
+lines_more line out now next xs i d lt before more =
+    more ∙ ap (λ (text : List ℕ). text ++ line (get_or xs i d)) before ∙ flat_map_more line out (take i xs) (get_or xs i d)
+    ∙ ap (λ (front : List _). out ++ flat_map line front) (sym (take_more xs i d lt))
+
+-- the pieces for a refused file, one behind another, make its line
+pub no_made : (blob offset : ℕ) (out a b c word : List ℕ) → a ≡ out ++ (codes "no blob=" ++ decimal blob) → b ≡ a ++ (codes " offset=" ++ decimal offset)
+    → c ≡ b ++ (codes " kind=" ++ word) → c ++ codes "\n" ≡ out ++ no_line blob offset word
+unfolding no_line
+no_made blob offset out a b c word ea eb ec = rw (ec, eb, ea) (simp append_assoc refl)
 
 -- eight names and their values, one behind another
 joined : (out n1 v1 n2 v2 n3 v3 n4 v4 n5 v5 n6 v6 n7 v7 n8 v8 last : List ℕ)

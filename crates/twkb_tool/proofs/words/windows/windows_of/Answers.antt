@@ -1,12 +1,13 @@
 -- One text more is a window; the first that is none is named.
-use Rattle.std.proofs.Common.{ap, arith, length, length-append, rules, [], ◌∷◌}
+use Rattle.std.proofs.Common.{ap, arith, length, length-append, [], ◌∷◌}
+use Rattle.std.proofs.lemmas.Result.{err_from_is_err_and}
 use Rattle.twkb_tool.proofs.WindowLemmas.{no_windows, windows_more}
 use Rattle.twkb_tool.proofs.words.windows.windows_of.Goals as goal
 
 pub returns-in_err-push_window-clause-err : goal.returns-in_err-push_window-clause-err
 returns-in_err-push_window-clause-err c =
-    let none = no_windows c.args.texts.now c.loop-i.i _ _ c.loop-i.windows.items _ c.loop-i-test.true (omega arith) c.loop-i.invariant.windows c.in_err-push_window.ensures.err in
-    search rules
+    let passed = err_from_is_err_and c.from_residual.result c.from_residual.ensures.1 in
+    rw (passed.1, passed.2) (no_windows c.args.texts.now c.loop-i.i _ _ c.loop-i.windows.items _ c.loop-i-test.true (omega arith) c.loop-i.invariant.windows c.in_err-push_window.ensures.err)
 
 pub loop-i-preserved : goal.loop-i-preserved
 loop-i-preserved c =

@@ -1,0 +1,8 @@
+-- One hit more is one line more.
+use Rattle.twkb_tool.proofs.TextLemmas.{lines_more}
+use Rattle.twkb_tool.specs.Output.{hit_line}
+use Rattle.twkb_tool.proofs.text.push_hits.Goals as goal
+
+pub loop-hit-preserved : goal.loop-hit-preserved
+loop-hit-preserved g c =
+    lines_more hit_line _ _ _ c.args.hits.now c.loop-hit.hit-index _ c.loop-hit-test.true c.loop-hit.invariant c.in_ok-push_hit_line.ensures
