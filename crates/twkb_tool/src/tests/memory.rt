@@ -78,42 +78,56 @@ fn refusals(
     panic!(rt; "a run takes memory without end");
 }
 
+/// The same, and demands that there are at least so many.
+fn refuses_each(
+    rt: &impl Abort,
+    alloc: Global,
+    bytes: &[u8],
+    request: &Request,
+    text: &str,
+    least: u64,
+) -> Result<(), Fail>
+    requires { HoldsWindows request.now }
+{
+    let count = refusals(rt, alloc, bytes, request, text)?;
+    assert!(rt; least <= count, "{count}");
+    Ok(())
+}
+
 #[test]
 fn each_allocation_of_a_check_is_refused(rt: HostRuntime) -> Result<(), Fail> {
     let text = "ok blobs=1 vertices=17\n";
     // At least those for the bytes and the text, and for ids that fall.
-    for (bytes, least) in [(SEVENTEEN_IDS, 2), (FALLING_IDS, 3)] {
-        let count = refusals(&rt, rt.alloc(), bytes, &Request::Check, text)?;
-        assert!(rt; least <= count, "{count}");
-    }
-    Ok(())
+    refuses_each(&rt, rt.alloc(), SEVENTEEN_IDS, &Request::Check, text, 2)?;
+    refuses_each(&rt, rt.alloc(), FALLING_IDS, &Request::Check, text, 3)
 }
 
 #[test]
 fn each_allocation_of_a_tight_check_is_refused(rt: HostRuntime) -> Result<(), Fail> {
     let text = "ok blobs=1 vertices=17\n";
-    let count = refusals(&rt, rt.alloc(), SEVENTEEN_IDS, &Request::CheckTight, text)?;
     // At least those for the bytes, the ids and the text.
-    assert!(rt; 3 <= count, "{count}");
-    Ok(())
+    refuses_each(
+        &rt,
+        rt.alloc(),
+        SEVENTEEN_IDS,
+        &Request::CheckTight,
+        text,
+        3,
+    )
 }
 
 #[test]
 fn each_allocation_of_a_list_is_refused(rt: HostRuntime) -> Result<(), Fail> {
     let text = "blob=0 offset=0 bytes=5 type=point precision=-1 vertices=1 size=no box=no\n";
-    let count = refusals(&rt, rt.alloc(), COARSE_POINT, &Request::List, text)?;
     // At least those for the bytes, the rows and the text.
-    assert!(rt; 3 <= count, "{count}");
-    Ok(())
+    refuses_each(&rt, rt.alloc(), COARSE_POINT, &Request::List, text, 3)
 }
 
 #[test]
 fn each_allocation_of_a_scan_is_refused(rt: HostRuntime) -> Result<(), Fail> {
     let request = scan_for(&rt, rt.alloc(), &TWO_WINDOWS)?;
-    let count = refusals(&rt, rt.alloc(), &TWO_BLOBS, &request, TWO_WINDOWS_TEXT)?;
     // At least those for the bytes, the room, the directory and the text.
-    assert!(rt; 4 <= count, "{count}");
-    Ok(())
+    refuses_each(&rt, rt.alloc(), &TWO_BLOBS, &request, TWO_WINDOWS_TEXT, 4)
 }
 
 #[test]

@@ -1,14 +1,18 @@
 //! Sources and sinks that fail, that have no end, and those over real files.
+ghost use Rattle.std.specs.Prelude.{◌≡◌, ◌≤◌, false};
+
 use super::{TWO_BLOBS, TWO_WINDOWS, TWO_WINDOWS_TEXT, equal, scan_for};
 use crate::judge::Verdict;
 use crate::request::Request;
-use crate::run::{RunFault, run};
+use crate::run::{MAX_FILE, RunFault, run};
 use crate::status::status_of;
 use crate::streams::io::{FromReader, ToWriter};
 use crate::streams::memory::{MemSink, MemSource};
 use crate::streams::{Sink, Source, SourceFailed};
+use std::alloc::Global;
 use std::fs::File;
 use std::io::{Read, Write};
+use std::process::Abort;
 use std::test::Fail;
 use std::{env, fs, io};
 
@@ -16,16 +20,46 @@ const POINT: [u8; 5] = [0x01, 0x02, 0x02, 0x02, 0x04];
 
 const TEXT: &str = "ok blobs=1 vertices=1\n";
 
+/// Checks what a source gives, and demands that the run stops for this fault, with its status.
+fn check_stops<S: Source, K: Sink>(
+    rt: &impl Abort,
+    alloc: Global,
+    source: &mut S,
+    sink: &mut K,
+    limit: usize,
+    fault: RunFault,
+)
+    requires limit { limit ≤ MAX_FILE }
+    requires source { (S.state source.old).failed ≡ false }
+    requires sink { (K.state sink.old).failed ≡ false }
+{
+    let outcome = run(alloc, source, sink, &Request::Check, limit);
+    equal(rt, outcome, Err(fault));
+    equal(rt, status_of(&outcome), 3);
+}
+
+/// Demands of a source whether its last call failed, and how many bytes it gave.
+fn source_is<S: Source>(rt: &impl Abort, source: &S, failed: bool, moved: u64) {
+    equal(rt, source.failed(), failed);
+    equal(rt, source.moved(), moved);
+}
+
+/// Demands of a sink whether its last call failed, and how many bytes it took.
+fn sink_is<K: Sink>(rt: &impl Abort, sink: &K, failed: bool, moved: u64) {
+    equal(rt, sink.failed(), failed);
+    equal(rt, sink.moved(), moved);
+}
+
 #[test]
 fn a_source_fails_at_each_call(rt: HostRuntime) -> Result<(), Fail> {
     for k in 1..22 {
         let mut source = MemSource::new(&TWO_BLOBS, 1, Some(k));
         let mut sink = MemSink::new(rt.alloc(), 100, 1, None)?;
-        let outcome = run(rt.alloc(), &mut source, &mut sink, &Request::Check, 100);
-        equal(&rt, outcome, Err(RunFault::Read));
-        equal(&rt, status_of(&outcome), 3);
-        assert!(rt; source.failed() && source.moved() == k as u64 - 1);
-        assert!(rt; sink.bytes().is_empty() && sink.moved() == 0);
+        let fault = RunFault::Read;
+        check_stops(&rt, rt.alloc(), &mut source, &mut sink, 100, fault);
+        source_is(&rt, &source, true, k as u64 - 1);
+        sink_is(&rt, &sink, false, 0);
+        assert!(rt; sink.bytes().is_empty());
     }
     Ok(())
 }
@@ -40,7 +74,7 @@ fn a_sink_fails_at_each_call_up_to_the_flush(rt: HostRuntime) -> Result<(), Fail
         equal(&rt, outcome, Err(RunFault::Write { done: k - 1 }));
         equal(&rt, status_of(&outcome), 3);
         equal(&rt, sink.bytes(), &TWO_WINDOWS_TEXT.as_bytes()[..k - 1]);
-        assert!(rt; sink.failed() && sink.moved() == k as u64 - 1);
+        sink_is(&rt, &sink, true, k as u64 - 1);
     }
     Ok(())
 }
@@ -49,8 +83,8 @@ fn a_sink_fails_at_each_call_up_to_the_flush(rt: HostRuntime) -> Result<(), Fail
 fn a_flush_alone_fails(rt: HostRuntime) -> Result<(), Fail> {
     let mut source = MemSource::new(&POINT, 9, None);
     let mut sink = MemSink::new(rt.alloc(), 100, 100, Some(2))?;
-    let outcome = run(rt.alloc(), &mut source, &mut sink, &Request::Check, 100);
-    equal(&rt, outcome, Err(RunFault::Write { done: 22 }));
+    let fault = RunFault::Write { done: 22 };
+    check_stops(&rt, rt.alloc(), &mut source, &mut sink, 100, fault);
     equal(&rt, sink.bytes(), TEXT.as_bytes());
     Ok(())
 }
@@ -59,9 +93,8 @@ fn a_flush_alone_fails(rt: HostRuntime) -> Result<(), Fail> {
 fn a_sink_takes_three_bytes(rt: HostRuntime) -> Result<(), Fail> {
     let mut source = MemSource::new(&POINT, 9, None);
     let mut sink = MemSink::new(rt.alloc(), 3, 100, None)?;
-    let outcome = run(rt.alloc(), &mut source, &mut sink, &Request::Check, 100);
-    equal(&rt, outcome, Err(RunFault::Write { done: 3 }));
-    equal(&rt, status_of(&outcome), 3);
+    let fault = RunFault::Write { done: 3 };
+    check_stops(&rt, rt.alloc(), &mut source, &mut sink, 100, fault);
     equal(&rt, sink.bytes(), b"ok ".as_slice());
     Ok(())
 }
@@ -101,10 +134,11 @@ fn a_source_without_end_is_too_large(rt: HostRuntime) -> Result<(), Fail> {
     for limit in [0usize, 6, 100_000] {
         let mut source = Endless { calls: 0, moved: 0 };
         let mut sink = MemSink::new(rt.alloc(), 100, 1, None)?;
-        let outcome = run(rt.alloc(), &mut source, &mut sink, &Request::Check, limit);
-        equal(&rt, outcome, Err(RunFault::TooLarge));
+        let fault = RunFault::TooLarge;
+        check_stops(&rt, rt.alloc(), &mut source, &mut sink, limit, fault);
         assert!(rt; sink.bytes().is_empty());
-        assert!(rt; source.moved() == limit as u64 + 1 && source.calls <= limit + 1);
+        source_is(&rt, &source, false, limit as u64 + 1);
+        assert!(rt; source.calls <= limit + 1);
     }
     Ok(())
 }
@@ -115,9 +149,10 @@ fn a_byte_past_the_limit_ends_the_reading(rt: HostRuntime) -> Result<(), Fail> {
     for step in [6usize, 1] {
         let mut source = MemSource::new(&[1; 6], step, Some(7));
         let mut sink = MemSink::new(rt.alloc(), 100, 1, None)?;
-        let outcome = run(rt.alloc(), &mut source, &mut sink, &Request::Check, 5);
-        equal(&rt, outcome, Err(RunFault::TooLarge));
-        assert!(rt; source.moved() == 6 && sink.bytes().is_empty());
+        let fault = RunFault::TooLarge;
+        check_stops(&rt, rt.alloc(), &mut source, &mut sink, 5, fault);
+        source_is(&rt, &source, false, 6);
+        assert!(rt; sink.bytes().is_empty());
     }
     Ok(())
 }
@@ -163,9 +198,9 @@ fn readers_and_writers_fail(rt: HostRuntime) -> Result<(), Fail> {
             kind: io::ErrorKind::Interrupted,
         });
         let mut sink = MemSink::new(rt.alloc(), 100, 100, None)?;
-        let outcome = run(rt.alloc(), &mut source, &mut sink, &Request::Check, 100);
-        equal(&rt, outcome, Err(RunFault::Read));
-        assert!(rt; source.failed() && source.moved() == fail_at as u64 - 1);
+        let fault = RunFault::Read;
+        check_stops(&rt, rt.alloc(), &mut source, &mut sink, 100, fault);
+        source_is(&rt, &source, true, fail_at as u64 - 1);
     }
     let mut source = MemSource::new(&POINT, 2, None);
     let mut sink = ToWriter::new(Faulty {
@@ -173,9 +208,9 @@ fn readers_and_writers_fail(rt: HostRuntime) -> Result<(), Fail> {
         fail_at: 0,
         kind: io::ErrorKind::Other,
     });
-    let outcome = run(rt.alloc(), &mut source, &mut sink, &Request::Check, 100);
-    equal(&rt, outcome, Err(RunFault::Write { done: 0 }));
-    assert!(rt; sink.failed() && sink.moved() == 0);
+    let fault = RunFault::Write { done: 0 };
+    check_stops(&rt, rt.alloc(), &mut source, &mut sink, 100, fault);
+    sink_is(&rt, &sink, true, 0);
     Ok(())
 }
 
@@ -197,9 +232,9 @@ impl Write for Unflushed {
 fn a_flush_of_a_writer_fails(rt: HostRuntime) {
     let mut source = MemSource::new(&POINT, 2, None);
     let mut sink = ToWriter::new(Unflushed);
-    let outcome = run(rt.alloc(), &mut source, &mut sink, &Request::Check, 100);
-    equal(&rt, outcome, Err(RunFault::Write { done: 22 }));
-    assert!(rt; sink.failed() && sink.moved() == 22);
+    let fault = RunFault::Write { done: 22 };
+    check_stops(&rt, rt.alloc(), &mut source, &mut sink, 100, fault);
+    sink_is(&rt, &sink, true, 22);
 }
 
 #[test]
@@ -213,8 +248,8 @@ fn a_run_goes_from_file_to_file(rt: HostRuntime) -> Result<(), Fail> {
         let mut sink = ToWriter::new(File::create(&rt, &answer)?);
         let outcome = run(rt.alloc(), &mut source, &mut sink, &Request::Check, 100);
         equal(&rt, outcome, Ok(Verdict::Yes));
-        assert!(rt; source.moved() == 5 && !source.failed());
-        assert!(rt; sink.moved() == 22 && !sink.failed());
+        source_is(&rt, &source, false, 5);
+        sink_is(&rt, &sink, false, 22);
     }
     let written = fs::read_to_string(&rt, &answer)?;
     fs::remove_file(&rt, &layer)?;

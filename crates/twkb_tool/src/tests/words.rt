@@ -5,6 +5,7 @@ use crate::status::{HostFault, host_status, usage_status};
 use crate::words::{Usage, request_of};
 use clap::error::ErrorKind;
 use std::alloc::Global;
+use std::fmt::Display;
 use std::process::Abort;
 use std::test::Fail;
 use twkb_layer::{BadWindow, Span, Window};
@@ -31,34 +32,48 @@ fn sixty_five_windows() -> [&'static str; 68] {
     words
 }
 
+/// The name of a request.
+fn name_of(request: &Request) -> &'static str {
+    match request {
+        Request::Check => "check",
+        Request::CheckTight => "check, tight",
+        Request::List => "list",
+        Request::Scan(_) => "scan",
+    }
+}
+
+/// Demands that words ask for the request of this name, at this path.
+fn assert_asks(
+    rt: &impl Abort,
+    alloc: Global,
+    words: &[&str],
+    name: &str,
+    path: &str,
+) -> Result<(), Fail> {
+    let line = request_of(alloc, words)?;
+    equal(rt, name_of(&line.request), name);
+    equal(rt, line.path.as_str(), path);
+    Ok(())
+}
+
 #[test]
 fn check_takes_a_file(rt: HostRuntime) -> Result<(), Fail> {
-    let line = request_of(rt.alloc(), &["twkb_tool", "check", "a.twkb"])?;
-    equal(&rt, line.path.as_str(), "a.twkb");
-    assert!(rt; matches!(&line.request, Request::Check));
-    Ok(())
+    let words = ["twkb_tool", "check", "a.twkb"];
+    assert_asks(&rt, rt.alloc(), &words, "check", "a.twkb")
 }
 
 #[test]
 fn check_takes_a_flag_on_either_side(rt: HostRuntime) -> Result<(), Fail> {
-    let table: [[&str; 4]; 2] = [
-        ["twkb_tool", "check", "--tight", "a.twkb"],
-        ["twkb_tool", "check", "a.twkb", "--tight"],
-    ];
-    for words in table {
-        let line = request_of(rt.alloc(), &words)?;
-        equal(&rt, line.path.as_str(), "a.twkb");
-        assert!(rt; matches!(&line.request, Request::CheckTight), "{words:?}");
-    }
-    Ok(())
+    let before = ["twkb_tool", "check", "--tight", "a.twkb"];
+    assert_asks(&rt, rt.alloc(), &before, "check, tight", "a.twkb")?;
+    let behind = ["twkb_tool", "check", "a.twkb", "--tight"];
+    assert_asks(&rt, rt.alloc(), &behind, "check, tight", "a.twkb")
 }
 
 #[test]
 fn list_takes_a_file(rt: HostRuntime) -> Result<(), Fail> {
-    let line = request_of(rt.alloc(), &["twkb_tool", "list", "a.twkb"])?;
-    equal(&rt, line.path.as_str(), "a.twkb");
-    assert!(rt; matches!(&line.request, Request::List));
-    Ok(())
+    let words = ["twkb_tool", "list", "a.twkb"];
+    assert_asks(&rt, rt.alloc(), &words, "list", "a.twkb")
 }
 
 /// Demands that words ask to scan `a.twkb` for these windows.
@@ -148,26 +163,32 @@ fn bad_window(alloc: Global, words: &[&str]) -> Option<(usize, BadWindow)> {
     }
 }
 
+/// Demands that words are refused for the window of this number, and for this reason.
+fn assert_bad_window(
+    rt: &impl Abort,
+    alloc: Global,
+    words: &[&str],
+    number: usize,
+    why: BadWindow,
+) {
+    let got = (bad_window(alloc, words), words);
+    equal(rt, got, (Some((number, why)), words));
+}
+
+/// Words with three windows, the number of the first that can't be read, and why.
+#[rattlefmt::skip]
+const UNREADABLE: [(&[&str], usize, BadWindow); 5] = [
+    (&["twkb_tool", "scan", "a.twkb", "x=1..0,y=0..0", SQUARE, SQUARE], 1, BadWindow::Order),
+    (&["twkb_tool", "scan", "a.twkb", "x=1.,y=0..0", SQUARE, SQUARE], 1, BadWindow::Form),
+    (&["twkb_tool", "scan", "a.twkb", SQUARE, "x=0..0,y=0.1..0", ""], 2, BadWindow::Order),
+    (&["twkb_tool", "scan", "a.twkb", SQUARE, "", "x=1..0,y=0..0"], 2, BadWindow::Form),
+    (&["twkb_tool", "scan", "a.twkb", SQUARE, SQUARE, "x=0..1,y=0..1,m=0..1,z=0..1"], 3, BadWindow::Form),
+];
+
 #[test]
 fn the_first_unreadable_window_is_named(rt: HostRuntime) {
-    let table = [
-        (["x=1..0,y=0..0", SQUARE, SQUARE], 1, BadWindow::Order),
-        (["x=1.,y=0..0", SQUARE, SQUARE], 1, BadWindow::Form),
-        ([SQUARE, "x=0..0,y=0.1..0", ""], 2, BadWindow::Order),
-        ([SQUARE, "", "x=1..0,y=0..0"], 2, BadWindow::Form),
-        (
-            [SQUARE, SQUARE, "x=0..1,y=0..1,m=0..1,z=0..1"],
-            3,
-            BadWindow::Form,
-        ),
-    ];
-    for ([a, b, c], number, why) in table {
-        let words = ["twkb_tool", "scan", "a.twkb", a, b, c];
-        equal(
-            &rt,
-            (bad_window(rt.alloc(), &words), words),
-            (Some((number, why)), words),
-        );
+    for (words, number, why) in &UNREADABLE {
+        assert_bad_window(&rt, rt.alloc(), words, *number, *why);
     }
 }
 
@@ -183,17 +204,9 @@ fn many_windows_are_counted_before_they_are_read(rt: HostRuntime) {
 fn each_of_many_windows_is_read(rt: HostRuntime) {
     let mut words = sixty_four_windows();
     words[66] = "x";
-    equal(
-        &rt,
-        bad_window(rt.alloc(), &words),
-        Some((64, BadWindow::Form)),
-    );
+    assert_bad_window(&rt, rt.alloc(), &words, 64, BadWindow::Form);
     words[4] = "x=1..0,y=0..0";
-    equal(
-        &rt,
-        bad_window(rt.alloc(), &words),
-        Some((2, BadWindow::Order)),
-    );
+    assert_bad_window(&rt, rt.alloc(), &words, 2, BadWindow::Order);
 }
 
 /// For which kind of error `clap` refuses words.
@@ -204,99 +217,108 @@ fn kind_of(alloc: Global, words: &[&str]) -> Option<ErrorKind> {
     }
 }
 
+/// Demands that `clap` refuses words for this kind of error.
+fn assert_kind(rt: &impl Abort, alloc: Global, words: &[&str], kind: ErrorKind) {
+    assert!(rt; kind_of(alloc, words) == Some(kind), "{words:?}");
+}
+
+/// Words, and the kind of error that `clap` refuses them for.
+const OTHER_WORDS: [(&[&str], ErrorKind); 25] = [
+    (&[], ErrorKind::MissingSubcommand),
+    (&["twkb_tool"], ErrorKind::MissingSubcommand),
+    (
+        &["twkb_tool", "sum", "a.twkb"],
+        ErrorKind::InvalidSubcommand,
+    ),
+    (
+        &["twkb_tool", "Check", "a.twkb"],
+        ErrorKind::InvalidSubcommand,
+    ),
+    (&["twkb_tool", "check"], ErrorKind::MissingRequiredArgument),
+    (
+        &["twkb_tool", "check", "a.twkb", "b.twkb"],
+        ErrorKind::UnknownArgument,
+    ),
+    (
+        &["twkb_tool", "check", "--loud", "a.twkb"],
+        ErrorKind::UnknownArgument,
+    ),
+    (
+        &["twkb_tool", "check", "-a.twkb"],
+        ErrorKind::UnknownArgument,
+    ),
+    (
+        &["twkb_tool", "check", "--tight"],
+        ErrorKind::MissingRequiredArgument,
+    ),
+    (
+        &["twkb_tool", "check", "--tight", "--tight", "a.twkb"],
+        ErrorKind::ArgumentConflict,
+    ),
+    (
+        &["twkb_tool", "--tight", "check", "a.twkb"],
+        ErrorKind::UnknownArgument,
+    ),
+    (
+        &["twkb_tool", "list", "--tight", "a.twkb"],
+        ErrorKind::UnknownArgument,
+    ),
+    (
+        &["twkb_tool", "scan", "a.twkb", SQUARE, "--tight"],
+        ErrorKind::UnknownArgument,
+    ),
+    (&["twkb_tool", "list"], ErrorKind::MissingRequiredArgument),
+    (
+        &["twkb_tool", "list", "a.twkb", SQUARE],
+        ErrorKind::UnknownArgument,
+    ),
+    (&["twkb_tool", "scan"], ErrorKind::MissingRequiredArgument),
+    (
+        &["twkb_tool", "scan", "a.twkb"],
+        ErrorKind::MissingRequiredArgument,
+    ),
+    (
+        &["twkb_tool", "scan", SQUARE],
+        ErrorKind::MissingRequiredArgument,
+    ),
+    (
+        &["twkb_tool", "scan", "a.twkb", "-x=0..1,y=0..1"],
+        ErrorKind::UnknownArgument,
+    ),
+    (
+        &["twkb_tool", "scan", "a.twkb", SQUARE, "--x=0..1,y=0..1"],
+        ErrorKind::UnknownArgument,
+    ),
+    (&["twkb_tool", "--help"], ErrorKind::DisplayHelp),
+    (&["twkb_tool", "help", "scan"], ErrorKind::DisplayHelp),
+    (&["twkb_tool", "list", "-h"], ErrorKind::DisplayHelp),
+    (
+        &["twkb_tool", "scan", "a.twkb", "x=1..0,y=0..0", "--help"],
+        ErrorKind::DisplayHelp,
+    ),
+    (&["twkb_tool", "--version"], ErrorKind::UnknownArgument),
+];
+
 #[test]
 fn other_words_are_refused(rt: HostRuntime) {
-    let table: [(&[&str], ErrorKind); 25] = [
-        (&[], ErrorKind::MissingSubcommand),
-        (&["twkb_tool"], ErrorKind::MissingSubcommand),
-        (
-            &["twkb_tool", "sum", "a.twkb"],
-            ErrorKind::InvalidSubcommand,
-        ),
-        (
-            &["twkb_tool", "Check", "a.twkb"],
-            ErrorKind::InvalidSubcommand,
-        ),
-        (&["twkb_tool", "check"], ErrorKind::MissingRequiredArgument),
-        (
-            &["twkb_tool", "check", "a.twkb", "b.twkb"],
-            ErrorKind::UnknownArgument,
-        ),
-        (
-            &["twkb_tool", "check", "--loud", "a.twkb"],
-            ErrorKind::UnknownArgument,
-        ),
-        (
-            &["twkb_tool", "check", "-a.twkb"],
-            ErrorKind::UnknownArgument,
-        ),
-        (
-            &["twkb_tool", "check", "--tight"],
-            ErrorKind::MissingRequiredArgument,
-        ),
-        (
-            &["twkb_tool", "check", "--tight", "--tight", "a.twkb"],
-            ErrorKind::ArgumentConflict,
-        ),
-        (
-            &["twkb_tool", "--tight", "check", "a.twkb"],
-            ErrorKind::UnknownArgument,
-        ),
-        (
-            &["twkb_tool", "list", "--tight", "a.twkb"],
-            ErrorKind::UnknownArgument,
-        ),
-        (
-            &["twkb_tool", "scan", "a.twkb", SQUARE, "--tight"],
-            ErrorKind::UnknownArgument,
-        ),
-        (&["twkb_tool", "list"], ErrorKind::MissingRequiredArgument),
-        (
-            &["twkb_tool", "list", "a.twkb", SQUARE],
-            ErrorKind::UnknownArgument,
-        ),
-        (&["twkb_tool", "scan"], ErrorKind::MissingRequiredArgument),
-        (
-            &["twkb_tool", "scan", "a.twkb"],
-            ErrorKind::MissingRequiredArgument,
-        ),
-        (
-            &["twkb_tool", "scan", SQUARE],
-            ErrorKind::MissingRequiredArgument,
-        ),
-        (
-            &["twkb_tool", "scan", "a.twkb", "-x=0..1,y=0..1"],
-            ErrorKind::UnknownArgument,
-        ),
-        (
-            &["twkb_tool", "scan", "a.twkb", SQUARE, "--x=0..1,y=0..1"],
-            ErrorKind::UnknownArgument,
-        ),
-        (&["twkb_tool", "--help"], ErrorKind::DisplayHelp),
-        (&["twkb_tool", "help", "scan"], ErrorKind::DisplayHelp),
-        (&["twkb_tool", "list", "-h"], ErrorKind::DisplayHelp),
-        (
-            &["twkb_tool", "scan", "a.twkb", "x=1..0,y=0..0", "--help"],
-            ErrorKind::DisplayHelp,
-        ),
-        (&["twkb_tool", "--version"], ErrorKind::UnknownArgument),
-    ];
-    for (words, kind) in table {
-        assert!(rt; kind_of(rt.alloc(), words) == Some(kind), "{words:?}");
+    for (words, kind) in &OTHER_WORDS {
+        assert_kind(&rt, rt.alloc(), words, *kind);
     }
 }
 
+/// Words, the name of the request that they ask for, and its path.
+const PATHS: [(&[&str], &str, &str); 5] = [
+    (&["twkb_tool", "check", "--", "-a.twkb"], "check", "-a.twkb"),
+    (&["twkb_tool", "check", "-"], "check", "-"),
+    (&["twkb_tool", "check", "help"], "check", "help"),
+    (&["twkb_tool", "list", "check"], "list", "check"),
+    (&["", "list", "Küste 1.twkb"], "list", "Küste 1.twkb"),
+];
+
 #[test]
 fn a_path_may_be_any_word(rt: HostRuntime) -> Result<(), Fail> {
-    let table: [(&[&str], &str); 5] = [
-        (&["twkb_tool", "check", "--", "-a.twkb"], "-a.twkb"),
-        (&["twkb_tool", "check", "-"], "-"),
-        (&["twkb_tool", "check", "help"], "help"),
-        (&["twkb_tool", "list", "check"], "check"),
-        (&["", "list", "Küste 1.twkb"], "Küste 1.twkb"),
-    ];
-    for (words, path) in table {
-        equal(&rt, request_of(rt.alloc(), words)?.path.as_str(), path);
+    for (words, name, path) in &PATHS {
+        assert_asks(&rt, rt.alloc(), words, name, path)?;
     }
     Ok(())
 }
@@ -317,9 +339,14 @@ fn usages_have_their_statuses(rt: HostRuntime) {
     equal(&rt, host_status(HostFault::File), 3);
 }
 
-/// Demands that a usage has this text.
-fn assert_says(rt: &impl Abort, alloc: Global, usage: &Usage, text: &str) -> Result<(), Fail> {
-    equal(rt, usage.to_string(alloc)?.as_str(), text);
+/// Demands that a fault has this text.
+fn assert_says<E: Display + Drop>(
+    rt: &impl Abort,
+    alloc: Global,
+    fault: E,
+    text: &str,
+) -> Result<(), Fail> {
+    equal(rt, fault.to_string(alloc)?.as_str(), text);
     Ok(())
 }
 
@@ -329,33 +356,16 @@ fn usages_have_their_texts(rt: HostRuntime) -> Result<(), Fail> {
         number: 1,
         why: BadWindow::Form,
     };
+    let text = "window 1: not of the form x=A..B,y=C..D[,z=E..F][,m=G..H]";
+    assert_says(&rt, rt.alloc(), form, text)?;
     let order = Usage::Window {
         number: 64,
         why: BadWindow::Order,
     };
-    assert_says(&rt, rt.alloc(), &Usage::TooMany, "more than 64 windows")?;
-    assert_says(
-        &rt,
-        rt.alloc(),
-        &form,
-        "window 1: not of the form x=A..B,y=C..D[,z=E..F][,m=G..H]",
-    )?;
-    assert_says(
-        &rt,
-        rt.alloc(),
-        &order,
-        "window 64: lower bound above upper bound",
-    )?;
-    assert_says(&rt, rt.alloc(), &Usage::Memory, "out of memory")?;
-    equal(
-        &rt,
-        HostFault::Words.to_string(rt.alloc())?.as_str(),
-        "cannot read words",
-    );
-    equal(
-        &rt,
-        HostFault::File.to_string(rt.alloc())?.as_str(),
-        "cannot open file",
-    );
-    Ok(())
+    let text = "window 64: lower bound above upper bound";
+    assert_says(&rt, rt.alloc(), order, text)?;
+    assert_says(&rt, rt.alloc(), Usage::TooMany, "more than 64 windows")?;
+    assert_says(&rt, rt.alloc(), Usage::Memory, "out of memory")?;
+    assert_says(&rt, rt.alloc(), HostFault::Words, "cannot read words")?;
+    assert_says(&rt, rt.alloc(), HostFault::File, "cannot open file")
 }
