@@ -1,6 +1,6 @@
 //! Bodies that no box asks for, on each side of each condition of the pass that counts the ends of numbers, against the plain
 //! reader.
-use super::steps::{GREATEST, number_of, put, put_unsigned};
+use super::steps::{GREATEST, number_of, put, put_bytes, put_unsigned};
 use super::variants::agrees;
 use super::*;
 use crate::quick::take_at_sight;
@@ -66,9 +66,7 @@ fn geometry(alloc: Global, dice: &mut Dice) -> Result<Vec<u8>, AllocError> {
         let less = dice.below(9) as usize;
         out.truncate(out.len().saturating_sub(less));
     }
-    for _ in 0..dice.below(11) {
-        out.push(0x81)?;
-    }
+    put_bytes(&mut out, 0x81, dice.below(11) as usize)?;
     Ok(out)
 }
 
@@ -87,13 +85,18 @@ fn random_bodies_without_a_box(rt: HostRuntime) -> Result<(), Fail> {
     Ok(())
 }
 
+// So many pairs of bytes.
+fn put_pairs(out: &mut Vec<u8>, pair: [u8; 2], count: u64) -> Result<(), AllocError> {
+    for _ in 0..count {
+        out.extend_from_slice(&pair)?;
+    }
+    Ok(())
+}
+
 // So many points of two bytes.
 fn put_steps(out: &mut Vec<u8>, points: u64) -> Result<(), AllocError> {
     put_unsigned(out, points)?;
-    for _ in 0..points {
-        out.extend_from_slice(&[0x02, 0x01])?;
-    }
-    Ok(())
+    put_pairs(out, [0x02, 0x01], points)
 }
 
 // The quick pass is sure of so many vertices, as is the plain reader.
@@ -103,20 +106,33 @@ fn is_sure_of(rt: &impl Abort, alloc: Global, bytes: &[u8], vertices: usize) {
     agrees(rt, alloc, bytes, false);
 }
 
+// A line of so many points.
+fn line_of_steps(alloc: Global, points: u64) -> Result<Vec<u8>, AllocError> {
+    let mut out = Vec::new(alloc);
+    out.extend_from_slice(&[0x02, 0x00])?;
+    put_steps(&mut out, points)?;
+    Ok(out)
+}
+
+// A polygon of a ring of 8000 points, one of so many and one of a point.
+fn polygon_of_steps(alloc: Global, points: u64) -> Result<Vec<u8>, AllocError> {
+    let mut out = Vec::new(alloc);
+    out.extend_from_slice(&[0x03, 0x00, 0x03])?;
+    put_steps(&mut out, 8000)?;
+    put_steps(&mut out, points)?;
+    put_steps(&mut out, 1)?;
+    Ok(out)
+}
+
 // Up to 2^14 points are passed by the ends of their numbers, more are summed.
 #[test]
 fn bodies_of_few_points_and_of_many(rt: HostRuntime) -> Result<(), Fail> {
     for points in [16383, 16384, 16385, 16386] {
-        let mut line = Vec::new(rt.alloc());
-        line.extend_from_slice(&[0x02, 0x00])?;
-        put_steps(&mut line, points)?;
+        let line = line_of_steps(rt.alloc(), points)?;
         is_sure_of(&rt, rt.alloc(), &line, points as usize);
-        let mut polygon = Vec::new(rt.alloc());
-        polygon.extend_from_slice(&[0x03, 0x00, 0x03])?;
-        put_steps(&mut polygon, 8000)?;
-        put_steps(&mut polygon, points - 8000)?;
-        put_steps(&mut polygon, 1)?;
-        is_sure_of(&rt, rt.alloc(), &polygon, points as usize + 1);
+        let polygon = polygon_of_steps(rt.alloc(), points.saturating_sub(8000))?;
+        let vertices = (points as usize).saturating_add(1);
+        is_sure_of(&rt, rt.alloc(), &polygon, vertices);
     }
     Ok(())
 }
@@ -128,9 +144,7 @@ fn line_to_the_end(alloc: Global, less: i64, steps: u64) -> Result<Vec<u8>, Allo
     put_unsigned(&mut out, steps.saturating_add(1))?;
     put(&mut out, i64::MAX.wrapping_sub(less))?;
     put(&mut out, 0)?;
-    for _ in 0..steps {
-        out.extend_from_slice(&[0x02, 0x00])?;
-    }
+    put_pairs(&mut out, [0x02, 0x00], steps)?;
     Ok(out)
 }
 
@@ -152,9 +166,7 @@ fn line_of(alloc: Global, x: i64, y: i64, behind: usize) -> Result<Vec<u8>, Allo
     put(&mut out, x)?;
     put(&mut out, y)?;
     out.extend_from_slice(&[0x01, 0x02])?;
-    for _ in 0..behind {
-        out.push(0x81)?;
-    }
+    put_bytes(&mut out, 0x81, behind)?;
     Ok(out)
 }
 
@@ -185,9 +197,7 @@ fn sized_line(
     let size = (body.len() as u64).wrapping_add_signed(too_great);
     put_unsigned(&mut out, size)?;
     out.extend_from_slice(&body)?;
-    for _ in 0..behind {
-        out.push(0x00)?;
-    }
+    put_bytes(&mut out, 0x00, behind)?;
     Ok(out)
 }
 

@@ -52,12 +52,7 @@ const TOO_SMALL: [(&[u8], usize); 4] = [
 fn boxes_hold_what_is_deeper(rt: HostRuntime) -> Result<(), Fail> {
     for &bytes in &NESTED {
         let stop = bytes.len();
-        let answer = audit(rt.alloc(), &mut Cursor::new(bytes));
-        equal(
-            &rt,
-            (answer, bytes),
-            (Ok(Audit { vertices: 1, stop }), bytes),
-        );
+        answers(&rt, rt.alloc(), bytes, Ok(Audit { vertices: 1, stop }));
         variants_agree(&rt, rt.alloc(), bytes)?;
     }
     Ok(())
@@ -70,8 +65,7 @@ fn boxes_that_are_too_small(rt: HostRuntime) -> Result<(), Fail> {
             offset,
             claim: Claim::Box,
         };
-        let answer = audit(rt.alloc(), &mut Cursor::new(bytes));
-        equal(&rt, (answer, bytes), (Err(fault), bytes));
+        answers(&rt, rt.alloc(), bytes, Err(fault));
         variants_agree(&rt, rt.alloc(), bytes)?;
     }
     Ok(())

@@ -1,9 +1,10 @@
 //! Collections in one another, as deep as they may be and deeper, and what stands in the deepest.
 use super::skims::{Nothing, skimmed};
-use super::variants::agrees;
+use super::variants::{agrees, set};
 use super::*;
 use random_layers::{TWO_COLLECTIONS, nested};
 use std::alloc::{AllocError, Global};
+use std::process::Abort;
 
 // How many collections, what stands in the inmost, how many vertices it has, and how many bytes of the whole are read
 // where every box is skipped.
@@ -18,28 +19,24 @@ const CERTIFIED_BELOW: [(usize, &[u8], usize, u64); 7] = [
     (61, &TWO_COLLECTIONS, 3, 207),
 ];
 
+// Skims reach the end: one that skips every box reads so many bytes, and one that skips none sees so many vertices.
+fn are_skimmed(rt: &impl Abort, alloc: Global, bytes: &[u8], vertices: usize, read: u64) {
+    let stop = bytes.len();
+    let hops = skimmed(alloc, bytes, &mut Nothing {});
+    equal(rt, hops, Some((stop, read)));
+    let mut summary = Summary::new();
+    let skim = skimmed(alloc, bytes, &mut summary);
+    equal(rt, skim, Some((stop, stop as u64)));
+    equal(rt, summary.vertices(), vertices);
+}
+
 #[test]
 fn certified_below(rt: HostRuntime) -> Result<(), Fail> {
     for &(collections, inmost, vertices, read) in &CERTIFIED_BELOW {
         let bytes = nested(rt.alloc(), collections, inmost)?;
         let stop = bytes.len();
-        equal(
-            &rt,
-            audit(rt.alloc(), &mut Cursor::new(&bytes)),
-            Ok(Audit { vertices, stop }),
-        );
-        equal(
-            &rt,
-            skimmed(rt.alloc(), &bytes, &mut Nothing {}),
-            Some((stop, read)),
-        );
-        let mut summary = Summary::new();
-        equal(
-            &rt,
-            skimmed(rt.alloc(), &bytes, &mut summary),
-            Some((stop, stop as u64)),
-        );
-        equal(&rt, summary.vertices(), vertices);
+        answers(&rt, rt.alloc(), &bytes, Ok(Audit { vertices, stop }));
+        are_skimmed(&rt, rt.alloc(), &bytes, vertices, read);
     }
     Ok(())
 }
@@ -59,19 +56,23 @@ fn malformed_below(rt: HostRuntime) -> Result<(), Fail> {
     for &(collections, inmost, offset, why) in &MALFORMED_BELOW {
         let bytes = nested(rt.alloc(), collections, inmost)?;
         let fault = AuditFault::Malformed(Malformed { offset, why });
-        equal(&rt, audit(rt.alloc(), &mut Cursor::new(&bytes)), Err(fault));
+        answers(&rt, rt.alloc(), &bytes, Err(fault));
     }
     Ok(())
+}
+
+// The header of a collection of one member, with a size of two bytes.
+fn put_long_size(out: &mut Vec<u8>, size: u16) -> Result<(), AllocError> {
+    let low = (size % 128) as u8 | 128;
+    let high = (size / 128 % 128) as u8;
+    out.extend_from_slice(&[0x07, 0x02, low, high, 0x01])
 }
 
 // 63 collections, each with its size, and a point at (1 2) in the inmost. The sizes of the first 32 take two bytes.
 fn sized(alloc: Global) -> Result<Vec<u8>, AllocError> {
     let mut bytes = Vec::new(alloc);
     for level in 0..32u16 {
-        let size = 284 - 5 * level;
-        let low = (size % 128 + 128) as u8;
-        let high = (size / 128) as u8;
-        bytes.extend_from_slice(&[0x07, 0x02, low, high, 0x01])?;
+        put_long_size(&mut bytes, 284 - 5 * level)?;
     }
     for level in 0..31u8 {
         bytes.extend_from_slice(&[0x07, 0x02, 125 - 4 * level, 0x01])?;
@@ -83,6 +84,16 @@ fn sized(alloc: Global) -> Result<Vec<u8>, AllocError> {
 // Where the sizes at depth 1, 32, 33 and 63 stand, and the first byte of each.
 const SIZES: [(usize, u8); 4] = [(2, 0x9C), (157, 0x81), (162, 0x7D), (282, 0x05)];
 
+// The size that stands there is false with this byte.
+fn is_false_size(rt: &impl Abort, alloc: Global, bytes: &mut [u8], offset: usize, byte: u8) {
+    set(bytes, offset, byte);
+    let fault = AuditFault::FalseClaim {
+        offset,
+        claim: Claim::Size,
+    };
+    answers(rt, alloc, bytes, Err(fault));
+}
+
 #[test]
 fn sizes_off_by_one(rt: HostRuntime) -> Result<(), Fail> {
     let mut bytes = sized(rt.alloc())?;
@@ -90,24 +101,23 @@ fn sizes_off_by_one(rt: HostRuntime) -> Result<(), Fail> {
         vertices: 1,
         stop: 288,
     };
-    equal(&rt, audit(rt.alloc(), &mut Cursor::new(&bytes)), Ok(whole));
+    answers(&rt, rt.alloc(), &bytes, Ok(whole));
     for &(offset, byte) in &SIZES {
         equal(&rt, bytes.get(offset), Some(&byte));
-        for other in [byte.wrapping_sub(1), byte.wrapping_add(1)] {
-            if let Some(size) = bytes.get_mut(offset) {
-                *size = other;
-            }
-            let fault = AuditFault::FalseClaim {
-                offset,
-                claim: Claim::Size,
-            };
-            equal(&rt, audit(rt.alloc(), &mut Cursor::new(&bytes)), Err(fault));
-        }
-        if let Some(size) = bytes.get_mut(offset) {
-            *size = byte;
-        }
+        is_false_size(&rt, rt.alloc(), &mut bytes, offset, byte.wrapping_sub(1));
+        is_false_size(&rt, rt.alloc(), &mut bytes, offset, byte.wrapping_add(1));
+        set(&mut bytes, offset, byte);
     }
     Ok(())
+}
+
+// With the byte there one less, one more, and the mark of an empty geometry.
+fn near_values_agree(rt: &impl Abort, alloc: Global, bytes: &mut [u8], place: usize, byte: u8) {
+    for value in [byte.wrapping_sub(1), byte.wrapping_add(1), 0x10] {
+        set(bytes, place, value);
+        agrees(rt, alloc, bytes, false);
+        agrees(rt, alloc, bytes, true);
+    }
 }
 
 // The plain reader agrees on each byte of the two changed a little, and cut there.
@@ -121,16 +131,8 @@ fn variants_below(rt: HostRuntime) -> Result<(), Fail> {
         changed.extend_from_slice(&bytes)?;
         for k in 0..bytes.len() {
             agrees(&rt, rt.alloc(), &bytes[..k], false);
-            for value in [bytes[k].wrapping_sub(1), bytes[k].wrapping_add(1), 0x10] {
-                if let Some(byte) = changed.get_mut(k) {
-                    *byte = value;
-                }
-                agrees(&rt, rt.alloc(), &changed, false);
-                agrees(&rt, rt.alloc(), &changed, true);
-            }
-            if let Some(byte) = changed.get_mut(k) {
-                *byte = bytes[k];
-            }
+            near_values_agree(&rt, rt.alloc(), &mut changed, k, bytes[k]);
+            set(&mut changed, k, bytes[k]);
         }
     }
     Ok(())

@@ -1,6 +1,6 @@
 //! Collections in boxes over members of all sorts: with boxes of their own, with none, at other precisions, and such as the
 //! quick pass isn't sure of. All against the plain reader.
-use super::steps::{put, put_unsigned};
+use super::steps::{put, put_bounds, put_unsigned};
 use super::variants::agrees;
 use super::*;
 use std::alloc::{AllocError, Global};
@@ -9,10 +9,13 @@ use std::process::Abort;
 // Minimum and extent of X, and of Y.
 pub type Bounds = [(i64, i64); 2];
 
+// From 0 to 10.
+const TO_TEN: Option<Bounds> = Some([(0, 10), (0, 10)]);
+
 // None, from 0 to 10, wider by one on each side, and narrower by one on one side of one axis.
 const BOXES: [Option<Bounds>; 7] = [
     None,
-    Some([(0, 10), (0, 10)]),
+    TO_TEN,
     Some([(-1, 12), (-1, 12)]),
     Some([(1, 9), (0, 10)]),
     Some([(0, 9), (0, 10)]),
@@ -20,9 +23,11 @@ const BOXES: [Option<Bounds>; 7] = [
     Some([(0, 10), (0, 9)]),
 ];
 
+const MIDDLE: [u8; 4] = [0x01, 0x00, 0x0A, 0x0A];
+
 // Points in the middle of 0 to 10, at each of its ends, and outside by one.
 const PLACES: [[u8; 4]; 9] = [
-    [0x01, 0x00, 0x0A, 0x0A],
+    MIDDLE,
     [0x01, 0x00, 0x00, 0x0A],
     [0x01, 0x00, 0x14, 0x0A],
     [0x01, 0x00, 0x0A, 0x00],
@@ -71,6 +76,19 @@ const MEMBERS: [&[u8]; 22] = [
     ],
 ];
 
+// A box, if any, and members.
+fn body(alloc: Global, bounds: &Option<Bounds>, members: &[&[u8]]) -> Result<Vec<u8>, AllocError> {
+    let mut out = Vec::new(alloc);
+    if let Some(bounds) = bounds {
+        put_bounds(&mut out, bounds)?;
+    }
+    out.push((members.len() % 128) as u8)?;
+    for member in members {
+        out.extend_from_slice(member)?;
+    }
+    Ok(out)
+}
+
 // A collection at a precision, with a box, if any, and a size that is greater by so much, if any.
 fn collection(
     alloc: Global,
@@ -79,27 +97,15 @@ fn collection(
     size: Option<u64>,
     members: &[&[u8]],
 ) -> Result<Vec<u8>, AllocError> {
-    let mut sized = Vec::new(alloc);
-    let mut metadata = 0;
-    if let Some(bounds) = bounds {
-        metadata = 1;
-        for (minimum, extent) in bounds {
-            put(&mut sized, *minimum)?;
-            put(&mut sized, *extent)?;
-        }
-    }
-    sized.push((members.len() % 128) as u8)?;
-    for member in members {
-        sized.extend_from_slice(member)?;
-    }
+    let sized = body(alloc, bounds, members)?;
+    let has_box = u8::from(bounds.is_some());
     let mut out = Vec::new(alloc);
-    out.push(first)?;
     match size {
         Some(more) => {
-            out.push(metadata | 2)?;
+            out.extend_from_slice(&[first, has_box | 2])?;
             put_unsigned(&mut out, (sized.len() as u64).wrapping_add(more))?;
         }
-        None => out.push(metadata)?,
+        None => out.extend_from_slice(&[first, has_box])?,
     }
     out.extend_from_slice(&sized)?;
     Ok(out)
@@ -110,26 +116,70 @@ fn both_agree(rt: &impl Abort, alloc: Global, bytes: &[u8]) {
     agrees(rt, alloc, bytes, true);
 }
 
+// Such a collection.
+fn collection_agrees(
+    rt: &impl Abort,
+    alloc: Global,
+    first: u8,
+    bounds: &Option<Bounds>,
+    size: Option<u64>,
+    members: &[&[u8]],
+) -> Result<(), AllocError> {
+    let bytes = collection(alloc, first, bounds, size, members)?;
+    both_agree(rt, alloc, &bytes);
+    Ok(())
+}
+
 // Two members in both orders, in each box.
 fn two_agree(rt: &impl Abort, alloc: Global, a: &[u8], b: &[u8]) -> Result<(), AllocError> {
     for bounds in &BOXES {
-        let bytes = collection(alloc, 0x07, bounds, None, &[a, b])?;
-        both_agree(rt, alloc, &bytes);
-        let bytes = collection(alloc, 0x07, bounds, Some(0), &[b, a])?;
-        both_agree(rt, alloc, &bytes);
+        collection_agrees(rt, alloc, 0x07, bounds, None, &[a, b])?;
+        collection_agrees(rt, alloc, 0x07, bounds, Some(0), &[b, a])?;
+    }
+    Ok(())
+}
+
+// A member with each place.
+fn places_agree(rt: &impl Abort, alloc: Global, a: &[u8]) -> Result<(), AllocError> {
+    for place in &PLACES {
+        two_agree(rt, alloc, a, place)?;
+    }
+    Ok(())
+}
+
+// A member with each of these.
+fn others_agree(
+    rt: &impl Abort,
+    alloc: Global,
+    a: &[u8],
+    others: &[&[u8]],
+) -> Result<(), AllocError> {
+    for &b in others {
+        two_agree(rt, alloc, a, b)?;
     }
     Ok(())
 }
 
 #[test]
 fn every_two_members(rt: HostRuntime) -> Result<(), Fail> {
-    for (k, a) in MEMBERS.iter().enumerate() {
-        for place in &PLACES {
-            two_agree(&rt, rt.alloc(), a, place)?;
-        }
-        for b in MEMBERS.iter().skip(k) {
-            two_agree(&rt, rt.alloc(), a, b)?;
-        }
+    let members: &[&[u8]] = &MEMBERS;
+    for k in 0..members.len() {
+        places_agree(&rt, rt.alloc(), members[k])?;
+        others_agree(&rt, rt.alloc(), members[k], &members[k..])?;
+    }
+    Ok(())
+}
+
+// A collection in each box with a point behind it, and what holds it behind a point.
+fn outer_boxes_agree(
+    rt: &impl Abort,
+    alloc: Global,
+    below: &[u8],
+    middle: &[u8],
+) -> Result<(), AllocError> {
+    for outer in &BOXES {
+        collection_agrees(rt, alloc, 0x07, outer, None, &[below, &MIDDLE])?;
+        collection_agrees(rt, alloc, 0x07, outer, Some(0), &[&MIDDLE, middle])?;
     }
     Ok(())
 }
@@ -137,14 +187,9 @@ fn every_two_members(rt: HostRuntime) -> Result<(), Fail> {
 // A member in a collection in another, each in each box, with a point behind it.
 fn deeper_agrees(rt: &impl Abort, alloc: Global, member: &[u8]) -> Result<(), AllocError> {
     for inner in &BOXES {
-        for outer in &BOXES {
-            let below = collection(alloc, 0x07, inner, None, &[member])?;
-            let bytes = collection(alloc, 0x07, outer, None, &[&below, &PLACES[0]])?;
-            both_agree(rt, alloc, &bytes);
-            let middle = collection(alloc, 0x07, &None, Some(0), &[&below])?;
-            let bytes = collection(alloc, 0x07, outer, Some(0), &[&PLACES[0], &middle])?;
-            both_agree(rt, alloc, &bytes);
-        }
+        let below = collection(alloc, 0x07, inner, None, &[member])?;
+        let middle = collection(alloc, 0x07, &None, Some(0), &[&below])?;
+        outer_boxes_agree(rt, alloc, &below, &middle)?;
     }
     Ok(())
 }
@@ -163,6 +208,35 @@ fn boxes_of_two_levels(rt: HostRuntime) -> Result<(), Fail> {
 // Type bytes of a precision without a kind: 0, one digit less and one more.
 const PRECISIONS: [u8; 3] = [0x00, 0x10, 0x20];
 
+// A point, in a box that holds it alone where the metadata byte says that there is one.
+fn point_of(
+    alloc: Global,
+    [first, metadata]: [u8; 2],
+    [x, y]: [i64; 2],
+) -> Result<Vec<u8>, AllocError> {
+    let mut out = Vec::new(alloc);
+    out.extend_from_slice(&[first, metadata])?;
+    if metadata == 1 {
+        put_bounds(&mut out, &[(x, 0), (y, 0)])?;
+    }
+    put(&mut out, x)?;
+    put(&mut out, y)?;
+    Ok(out)
+}
+
+// These members in each box.
+fn in_boxes_agree(
+    rt: &impl Abort,
+    alloc: Global,
+    first: u8,
+    members: &[&[u8]],
+) -> Result<(), AllocError> {
+    for bounds in &BOXES {
+        collection_agrees(rt, alloc, first, bounds, None, members)?;
+    }
+    Ok(())
+}
+
 // A point at a precision, in a box that holds it alone or in none, in a box of another precision.
 fn point_agrees(
     rt: &impl Abort,
@@ -171,35 +245,28 @@ fn point_agrees(
     point: [i64; 2],
 ) -> Result<(), AllocError> {
     for metadata in [0u8, 1] {
-        let mut member = Vec::new(alloc);
-        member.extend_from_slice(&[here | 1, metadata])?;
-        if metadata == 1 {
-            for coordinate in point {
-                put(&mut member, coordinate)?;
-                put(&mut member, 0)?;
-            }
-        }
-        for coordinate in point {
-            put(&mut member, coordinate)?;
-        }
-        for bounds in &BOXES {
-            let below = collection(alloc, here | 7, &None, None, &[&member])?;
-            let bytes = collection(alloc, above | 7, bounds, None, &[&member, &below])?;
-            both_agree(rt, alloc, &bytes);
-        }
+        let member = point_of(alloc, [here | 1, metadata], point)?;
+        let below = collection(alloc, here | 7, &None, None, &[&member])?;
+        in_boxes_agree(rt, alloc, above | 7, &[&member, &below])?;
+    }
+    Ok(())
+}
+
+// Points with each number in X, and in Y.
+fn points_agree(rt: &impl Abort, alloc: Global, both: (u8, u8)) -> Result<(), AllocError> {
+    const NUMBERS: [i64; 13] = [-11, -10, -1, 0, 1, 9, 10, 11, 12, 99, 100, 101, 110];
+    for &number in &NUMBERS {
+        point_agrees(rt, alloc, both, [number, 1])?;
+        point_agrees(rt, alloc, both, [1, number])?;
     }
     Ok(())
 }
 
 #[test]
 fn members_at_other_precisions(rt: HostRuntime) -> Result<(), Fail> {
-    const NUMBERS: [i64; 13] = [-11, -10, -1, 0, 1, 9, 10, 11, 12, 99, 100, 101, 110];
     for &above in &PRECISIONS {
         for &here in &PRECISIONS {
-            for &number in &NUMBERS {
-                point_agrees(&rt, rt.alloc(), (above, here), [number, 1])?;
-                point_agrees(&rt, rt.alloc(), (above, here), [1, number])?;
-            }
+            points_agree(&rt, rt.alloc(), (above, here))?;
         }
     }
     Ok(())
@@ -216,13 +283,49 @@ fn nested(
     let mut whole = Vec::new(alloc);
     whole.extend_from_slice(member)?;
     for k in 0..many {
-        whole = if k == other {
-            collection(alloc, 0x07, bounds, Some(more), &[&whole])?
+        let (bounds, more) = if k == other {
+            (bounds, more)
         } else {
-            collection(alloc, 0x07, &BOXES[1], Some(0), &[&whole])?
+            (&TO_TEN, 0)
         };
+        whole = collection(alloc, 0x07, bounds, Some(more), &[&whole])?;
     }
     Ok(whole)
+}
+
+fn nested_agrees(
+    rt: &impl Abort,
+    alloc: Global,
+    many: usize,
+    other: (usize, &Option<Bounds>, u64),
+    member: &[u8],
+) -> Result<(), AllocError> {
+    let bytes = nested(alloc, many, other, member)?;
+    both_agree(rt, alloc, &bytes);
+    Ok(())
+}
+
+// Points in the middle, at the greatest X and beyond it, and a collection whose box is false.
+const INMOST: [&[u8]; 4] = [
+    &MIDDLE,
+    &[0x01, 0x00, 0x14, 0x0A],
+    &[0x01, 0x00, 0x16, 0x0A],
+    &[
+        0x07, 0x01, 0x00, 0x14, 0x00, 0x14, 0x01, 0x01, 0x00, 0x16, 0x0A,
+    ],
+];
+
+// Each of them in so many collections, one of which has this box.
+fn inmost_agree(
+    rt: &impl Abort,
+    alloc: Global,
+    many: usize,
+    (other, bounds): (usize, &Option<Bounds>),
+) -> Result<(), AllocError> {
+    for &member in &INMOST {
+        nested_agrees(rt, alloc, many, (other, bounds, 0), member)?;
+    }
+    Ok(())
 }
 
 #[test]
@@ -230,12 +333,7 @@ fn boxes_at_each_depth(rt: HostRuntime) -> Result<(), Fail> {
     for many in [1, 2, 31, 61, 62, 63, 64usize] {
         for other in [0, 1, 30, 61, 62, 63usize] {
             for bounds in &BOXES {
-                for member in [&PLACES[0], &PLACES[2], &PLACES[6]] {
-                    let bytes = nested(rt.alloc(), many, (other, bounds, 0), member)?;
-                    both_agree(&rt, rt.alloc(), &bytes);
-                }
-                let bytes = nested(rt.alloc(), many, (other, bounds, 0), MEMBERS[21])?;
-                both_agree(&rt, rt.alloc(), &bytes);
+                inmost_agree(&rt, rt.alloc(), many, (other, bounds))?;
             }
         }
     }
@@ -246,8 +344,7 @@ fn boxes_at_each_depth(rt: HostRuntime) -> Result<(), Fail> {
 fn false_sizes_at_each_depth(rt: HostRuntime) -> Result<(), Fail> {
     for other in 0..63usize {
         for more in [1, u64::MAX] {
-            let bytes = nested(rt.alloc(), 63, (other, &BOXES[1], more), &PLACES[0])?;
-            both_agree(&rt, rt.alloc(), &bytes);
+            nested_agrees(&rt, rt.alloc(), 63, (other, &TO_TEN, more), &MIDDLE)?;
         }
     }
     Ok(())
@@ -257,16 +354,16 @@ fn false_sizes_at_each_depth(rt: HostRuntime) -> Result<(), Fail> {
 #[test]
 fn worked_boxes_that_poke_out(rt: HostRuntime) -> Result<(), Fail> {
     let stop = 15;
-    for member in [MEMBERS[3], MEMBERS[4], MEMBERS[5], MEMBERS[6]] {
-        let bytes = collection(rt.alloc(), 0x07, &BOXES[1], None, &[member])?;
-        let answer = audit(rt.alloc(), &mut Cursor::new(&bytes));
-        equal(&rt, answer, Ok(Audit { vertices: 1, stop }));
+    let members: &[&[u8]] = &MEMBERS;
+    for &member in &members[3..7] {
+        let bytes = collection(rt.alloc(), 0x07, &TO_TEN, None, &[member])?;
+        answers(&rt, rt.alloc(), &bytes, Ok(Audit { vertices: 1, stop }));
     }
-    let bytes = collection(rt.alloc(), 0x07, &BOXES[1], None, &[MEMBERS[8]])?;
+    let bytes = collection(rt.alloc(), 0x07, &TO_TEN, None, &[members[8]])?;
     let fault = AuditFault::FalseClaim {
         offset: 2,
         claim: Claim::Box,
     };
-    equal(&rt, audit(rt.alloc(), &mut Cursor::new(&bytes)), Err(fault));
+    answers(&rt, rt.alloc(), &bytes, Err(fault));
     Ok(())
 }

@@ -1,6 +1,6 @@
 //! Lines with Z, M or both, in a box on each side of each condition of the quick pass, against the plain reader.
 use super::quick::{EXTENTS, MINIMA, STEPS, reaching};
-use super::steps::{GREATEST, put};
+use super::steps::{GREATEST, put_bounds, put_bytes, put_points};
 use super::variants::{agrees, variants_agree};
 use super::*;
 use std::alloc::{AllocError, Global};
@@ -29,25 +29,10 @@ fn line_in_box(
 ) -> Result<Vec<u8>, AllocError> {
     let mut out = Vec::new(alloc);
     out.extend_from_slice(&[0x02, 0x09, extended])?;
-    for axis in 0..4 {
-        if axis < axes {
-            put(&mut out, bounds[axis].0)?;
-            put(&mut out, bounds[axis].1)?;
-        }
-    }
+    put_bounds(&mut out, &bounds[..axes.min(4)])?;
     out.push((points.len() % 128) as u8)?;
-    let mut last = [0i64; 4];
-    for point in points {
-        for axis in 0..4 {
-            if axis < axes {
-                put(&mut out, point[axis].wrapping_sub(last[axis]))?;
-            }
-        }
-        last = *point;
-    }
-    for _ in 0..behind {
-        out.push(0x00)?;
-    }
+    put_points(&mut out, axes, points)?;
+    put_bytes(&mut out, 0x00, behind)?;
     Ok(out)
 }
 

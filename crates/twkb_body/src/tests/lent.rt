@@ -1,6 +1,7 @@
 //! Audits with room for the ids of a list that is lent.
 use super::{CERTIFIED, FALLING_IDS, FALSE, MALFORMED, equal};
 use crate::{Audit, AuditFault, Claim, audit_lent, audit_tight_lent};
+use std::process::Abort;
 use twkb_head::Malformed;
 use twkb_num::Cursor;
 
@@ -24,6 +25,14 @@ fn room_for_seventeen_ids(rt: HostRuntime) {
     }
 }
 
+// Both audits name this fault.
+fn are_refused(rt: &impl Abort, room: &mut [i64], bytes: &[u8], fault: AuditFault) {
+    let answer = audit_lent(room, &mut Cursor::new(bytes));
+    equal(rt, (answer, bytes), (Err(fault), bytes));
+    let tight = audit_tight_lent(room, &mut Cursor::new(bytes));
+    equal(rt, (tight, bytes), (Err(fault), bytes));
+}
+
 #[test]
 fn equal_ids_in_room(rt: HostRuntime) {
     let mut equal_ids = FALLING_IDS;
@@ -33,27 +42,8 @@ fn equal_ids_in_room(rt: HostRuntime) {
         claim: Claim::Ids,
     };
     let mut room = [0; 17];
-    equal(
-        &rt,
-        audit_lent(&mut room, &mut Cursor::new(&equal_ids)),
-        Err(fault),
-    );
-    equal(
-        &rt,
-        audit_tight_lent(&mut room, &mut Cursor::new(&equal_ids)),
-        Err(fault),
-    );
-    let few = &mut room[..16];
-    equal(
-        &rt,
-        audit_lent(few, &mut Cursor::new(&equal_ids)),
-        Err(AuditFault::Memory),
-    );
-    equal(
-        &rt,
-        audit_tight_lent(few, &mut Cursor::new(&equal_ids)),
-        Err(AuditFault::Memory),
-    );
+    are_refused(&rt, &mut room, &equal_ids, fault);
+    are_refused(&rt, &mut room[..16], &equal_ids, AuditFault::Memory);
 }
 
 // No list of these has more than sixteen ids, but for one that rises.
@@ -74,15 +64,6 @@ fn no_room(rt: HostRuntime) {
     }
     for &(bytes, offset, why) in &MALFORMED {
         let fault = AuditFault::Malformed(Malformed { offset, why });
-        equal(
-            &rt,
-            (audit_lent(&mut [], &mut Cursor::new(bytes)), bytes),
-            (Err(fault), bytes),
-        );
-        equal(
-            &rt,
-            (audit_tight_lent(&mut [], &mut Cursor::new(bytes)), bytes),
-            (Err(fault), bytes),
-        );
+        are_refused(&rt, &mut [], bytes, fault);
     }
 }

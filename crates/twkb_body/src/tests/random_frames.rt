@@ -1,11 +1,12 @@
 //! Collections at random, in boxes that are right, wider or narrower by one, mostly at one precision, against the plain
 //! reader.
-use super::steps::{put, put_unsigned};
+use super::steps::{put, put_bytes, put_unsigned};
 use super::variants::agrees;
 use super::*;
 use crate::quick::take_at_sight;
 use random_layers::Dice;
 use std::alloc::{AllocError, Global};
+use std::process::Abort;
 
 // A geometry, as its bytes, and the least and the greatest number of each axis.
 #[derive(Drop)]
@@ -34,6 +35,17 @@ fn off_by_one(dice: &mut Dice) -> i64 {
     }
 }
 
+// A box that holds these, mostly.
+fn put_box(out: &mut Vec<u8>, dice: &mut Dice, ranges: &[(i64, i64); 2]) -> Result<(), AllocError> {
+    for &(least, greatest) in ranges {
+        let minimum = least.wrapping_add(off_by_one(dice));
+        let maximum = greatest.wrapping_add(off_by_one(dice));
+        put(out, minimum)?;
+        put(out, maximum.wrapping_sub(minimum))?;
+    }
+    Ok(())
+}
+
 // A header and the body behind it. Now and then the header is that of another precision.
 fn with_header(
     alloc: Global,
@@ -46,12 +58,7 @@ fn with_header(
     let has_size = dice.once_in(2);
     let mut sized = Vec::new(alloc);
     if has_box {
-        for (least, greatest) in ranges {
-            let minimum = least.wrapping_add(off_by_one(dice));
-            let maximum = greatest.wrapping_add(off_by_one(dice));
-            put(&mut sized, minimum)?;
-            put(&mut sized, maximum.wrapping_sub(minimum))?;
-        }
+        put_box(&mut sized, dice, &ranges)?;
     }
     sized.extend_from_slice(body)?;
     let mut bytes = Vec::new(alloc);
@@ -66,33 +73,34 @@ fn with_header(
     Ok(Piece { bytes, ranges })
 }
 
+// What stands before the points of a kind: their count, where it has one, and a count of one for each level above.
+fn put_counts(out: &mut Vec<u8>, kind: u8, count: u64) -> Result<(), AllocError> {
+    match kind {
+        1 => Ok(()),
+        3 | 5 | 6 => {
+            put_bytes(out, 0x01, usize::from(kind.saturating_sub(2)))?;
+            put_unsigned(out, count)
+        }
+        _ => put_unsigned(out, count),
+    }
+}
+
 // Some points about a middle, and their count where the kind has one.
 fn points(
     out: &mut Vec<u8>,
     dice: &mut Dice,
     (kind, count): (u8, u64),
 ) -> Result<[(i64, i64); 2], AllocError> {
-    match kind {
-        1 => {}
-        3 | 5 | 6 => {
-            for _ in 3..kind {
-                out.push(0x01)?;
-            }
-            out.push(0x01)?;
-            put_unsigned(out, count)?;
-        }
-        _ => put_unsigned(out, count)?,
-    }
+    put_counts(out, kind, count)?;
     let middle = dice.around(0, 3000);
     let mut ranges = NOTHING;
     let mut last = [0i64; 2];
     for _ in 0..count {
-        for axis in 0..2 {
-            let place = dice.around(middle, 90);
-            put(out, place.wrapping_sub(last[axis]))?;
-            last[axis] = place;
-        }
-        ranges = merged(&ranges, &[(last[0], last[0]), (last[1], last[1])]);
+        let (x, y) = (dice.around(middle, 90), dice.around(middle, 90));
+        put(out, x.wrapping_sub(last[0]))?;
+        put(out, y.wrapping_sub(last[1]))?;
+        last = [x, y];
+        ranges = merged(&ranges, &[(x, x), (y, y)]);
     }
     Ok(ranges)
 }
@@ -162,27 +170,40 @@ fn blob(alloc: Global, dice: &mut Dice) -> Result<Vec<u8>, AllocError> {
     Ok(whole.bytes)
 }
 
+// How many vertices an audit finds.
+fn vertices_of(answer: Result<Audit, AuditFault>) -> Result<usize, AuditFault> {
+    match answer {
+        Ok(audit) => Ok(audit.vertices),
+        Err(fault) => Err(fault),
+    }
+}
+
+// 0 where the bytes are certified at sight, 1 where by the audit alone, and 2 where they are refused.
+fn sort_of(rt: &impl Abort, alloc: Global, bytes: &[u8]) -> usize {
+    let answer = vertices_of(audit(alloc, &mut Cursor::new(bytes)));
+    match take_at_sight(&mut Cursor::new(bytes)) {
+        Some(vertices) => {
+            equal(rt, (answer, bytes), (Ok(vertices), bytes));
+            0
+        }
+        None => usize::from(answer.is_err()).wrapping_add(1),
+    }
+}
+
 // Many are certified at sight, many by the audit alone, and many are refused.
 #[test]
 fn random_collections_in_boxes(rt: HostRuntime) -> Result<(), Fail> {
-    let mut sure = 0u64;
-    let mut certified = 0u64;
-    let mut refused = 0u64;
+    let mut sorts = [0u64; 3];
     for seed in 0..4000 {
         let bytes = blob(rt.alloc(), &mut Dice::new(seed))?;
         agrees(&rt, rt.alloc(), &bytes, false);
         agrees(&rt, rt.alloc(), &bytes, true);
-        let at_sight = take_at_sight(&mut Cursor::new(&bytes));
-        let answer = audit(rt.alloc(), &mut Cursor::new(&bytes)).map(|audit| audit.vertices);
-        if let Some(vertices) = at_sight {
-            equal(&rt, (answer, &bytes), (Ok(vertices), &bytes));
-            sure = sure.wrapping_add(1);
-        } else if answer.is_ok() {
-            certified = certified.wrapping_add(1);
-        } else {
-            refused = refused.wrapping_add(1);
+        let sort = sort_of(&rt, rt.alloc(), &bytes);
+        if let Some(count) = sorts.get_mut(sort) {
+            *count = count.wrapping_add(1);
         }
     }
+    let [sure, certified, refused] = sorts;
     assert!(&rt;
         sure > 500 && certified > 300 && refused > 300,
         "{sure} {certified} {refused}"

@@ -60,6 +60,30 @@ pub fn numbers(
     Ok(ranges)
 }
 
+// A box round these ranges, which now and then misses one by one.
+fn put_box(out: &mut Vec<u8>, dice: &mut Dice, ranges: &[(i64, i64)]) -> Result<(), AllocError> {
+    for &(least, greatest) in ranges {
+        let missed = if dice.once_in(6) {
+            dice.around(0, 1)
+        } else {
+            0
+        };
+        put(out, least.wrapping_add(missed))?;
+        put(out, greatest.wrapping_sub(least))?;
+    }
+    Ok(())
+}
+
+fn cut_or_lengthen(out: &mut Vec<u8>, dice: &mut Dice) -> Result<(), AllocError> {
+    if dice.once_in(3) {
+        let less = dice.below(12) as usize;
+        out.truncate(out.len().saturating_sub(less));
+    } else if dice.once_in(2) {
+        out.extend_from_slice(&[0x81, 0, 0, 0, 0, 0, 0, 0])?;
+    }
+    Ok(())
+}
+
 // A geometry with a box and two or three axes, perhaps cut, or with more bytes behind it.
 fn geometry(alloc: Global, dice: &mut Dice) -> Result<Vec<u8>, AllocError> {
     let (first, before) = kind(dice);
@@ -71,25 +95,11 @@ fn geometry(alloc: Global, dice: &mut Dice) -> Result<Vec<u8>, AllocError> {
     let mut out = Vec::new(alloc);
     out.push(first)?;
     out.extend_from_slice(if has_z { &[0x09, 0x01] } else { &[0x01] })?;
-    for axis in 0..axes {
-        let (least, greatest) = ranges[axis];
-        let missed = if dice.once_in(6) {
-            dice.around(0, 1)
-        } else {
-            0
-        };
-        put(&mut out, least.wrapping_add(missed))?;
-        put(&mut out, greatest.wrapping_sub(least))?;
-    }
+    put_box(&mut out, dice, &ranges[..axes])?;
     out.extend_from_slice(before)?;
     out.push((count % 128) as u8)?;
     out.extend_from_slice(&points)?;
-    if dice.once_in(3) {
-        let less = dice.below(12) as usize;
-        out.truncate(out.len().saturating_sub(less));
-    } else if dice.once_in(2) {
-        out.extend_from_slice(&[0x81, 0, 0, 0, 0, 0, 0, 0])?;
-    }
+    cut_or_lengthen(&mut out, dice)?;
     Ok(out)
 }
 

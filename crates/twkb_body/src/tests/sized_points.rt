@@ -1,6 +1,7 @@
 //! Points with a size and nothing else, which go by a path of their own, against the plain reader: coordinates of each
 //! length, up to one that passes 64 bits, sizes that are false, cuts, all type bytes and metadata bytes, all depths, and
 //! boxes above.
+use super::steps::put_bytes;
 use super::variants::{agrees, variants_agree};
 use super::*;
 use std::alloc::{AllocError, Global};
@@ -12,9 +13,7 @@ const BEHIND: [usize; 5] = [0, 1, 7, 8, 16];
 
 // A number of so many bytes: ten of them are the greatest of 64 bits, and eleven pass 64 bits.
 fn put(out: &mut Vec<u8>, bytes: usize) -> Result<(), AllocError> {
-    for _ in 1..bytes {
-        out.push(0xFF)?;
-    }
+    put_bytes(out, 0xFF, bytes.saturating_sub(1))?;
     out.push(0x01)?;
     Ok(())
 }
@@ -28,10 +27,7 @@ fn sized_point(
     out.extend_from_slice(&[0xA1, 0x02, (size % 128) as u8])?;
     put(out, x)?;
     put(out, y)?;
-    for _ in 0..behind {
-        out.push(0x00)?;
-    }
-    Ok(())
+    put_bytes(out, 0x00, behind)
 }
 
 // Both audits agree with the plain reader on the bytes, and on each cut of them.
@@ -130,6 +126,20 @@ fn members_under_boxes(rt: HostRuntime) -> Result<(), Fail> {
     Ok(())
 }
 
+// An audit answers so, passes so many bytes and reads so many.
+fn is_answered(
+    rt: &impl Abort,
+    alloc: Global,
+    bytes: &[u8],
+    wanted: Result<Audit, AuditFault>,
+    (place, read): (usize, u64),
+) {
+    let mut cursor = Cursor::new(bytes);
+    equal(rt, audit(alloc, &mut cursor), wanted);
+    equal(rt, cursor.place(), place);
+    equal(rt, cursor.read_count(), read);
+}
+
 // Points whose answers are known from the format's own words.
 #[test]
 fn worked_sized_points(rt: HostRuntime) {
@@ -140,9 +150,7 @@ fn worked_sized_points(rt: HostRuntime) {
         vertices: 1,
         stop: 11,
     };
-    let mut cursor = Cursor::new(&POINT);
-    equal(&rt, audit(rt.alloc(), &mut cursor), Ok(certified));
-    equal(&rt, cursor.read_count(), 11);
+    is_answered(&rt, rt.alloc(), &POINT, Ok(certified), (11, 11));
     for size in [7, 9] {
         let mut bytes = POINT;
         bytes[2] = size;
@@ -150,17 +158,12 @@ fn worked_sized_points(rt: HostRuntime) {
             offset: 2,
             claim: Claim::Size,
         };
-        let mut cursor = Cursor::new(&bytes);
-        equal(&rt, audit(rt.alloc(), &mut cursor), Err(fault));
-        equal(&rt, cursor.place(), 0);
-        equal(&rt, cursor.read_count(), 11);
+        is_answered(&rt, rt.alloc(), &bytes, Err(fault), (0, 11));
     }
     // The last byte is missing: Y, at place 7, is cut, and all bytes were looked at.
     let fault = AuditFault::Malformed(Malformed {
         offset: 7,
         why: Why::Cut,
     });
-    let mut cursor = Cursor::new(&POINT[..10]);
-    equal(&rt, audit(rt.alloc(), &mut cursor), Err(fault));
-    equal(&rt, cursor.read_count(), 10);
+    is_answered(&rt, rt.alloc(), &POINT[..10], Err(fault), (0, 10));
 }

@@ -60,6 +60,35 @@ pub fn put_unsigned(out: &mut Vec<u8>, number: u64) -> Result<(), AllocError> {
     Ok(())
 }
 
+// So many of one byte.
+pub fn put_bytes(out: &mut Vec<u8>, byte: u8, count: usize) -> Result<(), AllocError> {
+    for _ in 0..count {
+        out.push(byte)?;
+    }
+    Ok(())
+}
+
+// Minimum and extent of each axis.
+pub fn put_bounds(out: &mut Vec<u8>, bounds: &[(i64, i64)]) -> Result<(), AllocError> {
+    for &(minimum, extent) in bounds {
+        put(out, minimum)?;
+        put(out, extent)?;
+    }
+    Ok(())
+}
+
+// The differences from point to point.
+pub fn put_points(out: &mut Vec<u8>, axes: usize, points: &[[i64; 4]]) -> Result<(), AllocError> {
+    let mut last = [0i64; 4];
+    for point in points {
+        for axis in 0..axes.min(4) {
+            put(out, point[axis].wrapping_sub(last[axis]))?;
+        }
+        last = *point;
+    }
+    Ok(())
+}
+
 // One in the last digit, in units.
 fn step(precisions: &[i8; 3], axis: usize) -> i64 {
     let precision = match axis {
@@ -91,12 +120,11 @@ fn corner(precisions: &[i8; 3], is_greatest: bool, axis: usize, away: i64) -> [i
     corner
 }
 
-// A collection with a box of three steps in each axis, over a line from one point to the other, which is in units.
+// A collection with a box of three steps in each axis, over a line of two points in units.
 fn boxed(
     alloc: Global,
     [first, extended]: [u8; 2],
-    from: &[i64; 4],
-    to: &[i64; 4],
+    points: &[[i64; 4]; 2],
 ) -> Result<Vec<u8>, AllocError> {
     let mut out = Vec::new(alloc);
     out.extend_from_slice(&[first, 0x09, extended])?;
@@ -106,12 +134,7 @@ fn boxed(
     }
     // One line of two points, each axis with seven digits.
     out.extend_from_slice(&[0x01, 0xE2, 0x08, 0xFF, 0x02])?;
-    for number in from {
-        put(&mut out, *number)?;
-    }
-    for k in 0..4 {
-        put(&mut out, to[k].wrapping_sub(from[k]))?;
-    }
+    put_points(&mut out, 4, points)?;
     Ok(out)
 }
 
@@ -127,14 +150,10 @@ fn judged(
     let (low, high) = if is_greatest { (0, away) } else { (away, 0) };
     let from = corner(precisions, false, axis, low);
     let to = corner(precisions, true, axis, high);
-    let bytes = boxed(alloc, *bytes, &from, &to)?;
+    let bytes = boxed(alloc, *bytes, &[from, to])?;
     let stop = bytes.len();
     let found = Audit { vertices: 2, stop };
-    equal(
-        rt,
-        (audit(alloc, &mut Cursor::new(&bytes)), &bytes),
-        (Ok(found), &bytes),
-    );
+    answers(rt, alloc, &bytes, Ok(found));
     let wanted = if away < step(precisions, axis) {
         Ok(found)
     } else {
@@ -148,17 +167,28 @@ fn judged(
     Ok(())
 }
 
+// Ends that are away by nothing, about a step, and two.
+fn both_judged(
+    rt: &impl Abort,
+    alloc: Global,
+    precisions: &([i8; 3], [u8; 2]),
+    axis: usize,
+) -> Result<(), Fail> {
+    let step = step(&precisions.0, axis);
+    let nearer = step.wrapping_sub(1);
+    let farther = step.wrapping_add(1);
+    for away in [0, nearer, step, farther, step.wrapping_mul(2)] {
+        judged(rt, alloc, precisions, axis, false, away)?;
+        judged(rt, alloc, precisions, axis, true, away)?;
+    }
+    Ok(())
+}
+
 #[test]
 fn loose_from_a_step_on(rt: HostRuntime) -> Result<(), Fail> {
     for precisions in &PRECISIONS {
         for axis in 0..4 {
-            let step = step(&precisions.0, axis);
-            let nearer = step.wrapping_sub(1);
-            let farther = step.wrapping_add(1);
-            for away in [0, nearer, step, farther, step.wrapping_mul(2)] {
-                judged(&rt, rt.alloc(), precisions, axis, false, away)?;
-                judged(&rt, rt.alloc(), precisions, axis, true, away)?;
-            }
+            both_judged(&rt, rt.alloc(), precisions, axis)?;
         }
     }
     Ok(())

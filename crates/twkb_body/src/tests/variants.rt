@@ -25,21 +25,48 @@ fn audited(answer: Result<plain::Layer, Fault>) -> Result<Audit, AuditFault> {
     }
 }
 
+// The answer of one audit or the other.
+fn answer_of(alloc: Global, cursor: &mut Cursor, is_tight: bool) -> Result<Audit, AuditFault> {
+    if is_tight {
+        audit_tight(alloc, cursor)
+    } else {
+        audit(alloc, cursor)
+    }
+}
+
+// That of the plain reader.
+fn plain_answer(alloc: Global, bytes: &[u8], is_tight: bool) -> Result<Audit, AuditFault> {
+    if is_tight {
+        audited(plain::read_blob_tight(alloc, bytes))
+    } else {
+        audited(plain::read_blob(alloc, bytes))
+    }
+}
+
 // Whether one audit or the other answers as the plain reader does, and counts the bytes of a whole blob once.
 pub fn agrees(rt: &impl Abort, alloc: Global, bytes: &[u8], is_tight: bool) {
     let mut cursor = Cursor::new(bytes);
-    let (answer, plainly) = if is_tight {
-        let plainly = plain::read_blob_tight(alloc, bytes);
-        (audit_tight(alloc, &mut cursor), plainly)
-    } else {
-        let plainly = plain::read_blob(alloc, bytes);
-        (audit(alloc, &mut cursor), plainly)
-    };
-    equal(rt, (answer, bytes), (audited(plainly), bytes));
-    let place = answer.map_or(0, |audit| audit.stop);
-    equal(rt, cursor.place(), place);
-    if answer.is_ok() {
-        equal(rt, (cursor.read_count(), bytes), (place as u64, bytes));
+    let answer = answer_of(alloc, &mut cursor, is_tight);
+    let plainly = plain_answer(alloc, bytes, is_tight);
+    equal(rt, (answer, bytes), (plainly, bytes));
+    match answer {
+        Ok(audit) => are_passed(rt, &cursor, bytes, audit.stop),
+        Err(_) => equal(rt, cursor.place(), 0),
+    }
+}
+
+/// Sets a byte, if it is there.
+pub fn set(bytes: &mut [u8], place: usize, value: u8) {
+    if let Some(byte) = bytes.get_mut(place) {
+        *byte = value;
+    }
+}
+
+// They agree on the bytes with one of them set to every value.
+fn values_agree(rt: &impl Abort, alloc: Global, bytes: &mut [u8], place: usize, is_tight: bool) {
+    for value in 0..=255u8 {
+        set(bytes, place, value);
+        agrees(rt, alloc, bytes, is_tight);
     }
 }
 
@@ -49,11 +76,8 @@ fn agree(rt: &impl Abort, alloc: Global, bytes: &[u8], is_tight: bool) -> Result
     changed.extend_from_slice(bytes)?;
     for k in 0..bytes.len() {
         agrees(rt, alloc, &bytes[..k], is_tight);
-        for value in 0..=255u8 {
-            changed[k] = value;
-            agrees(rt, alloc, &changed, is_tight);
-        }
-        changed[k] = bytes[k];
+        values_agree(rt, alloc, &mut changed, k, is_tight);
+        set(&mut changed, k, bytes[k]);
     }
     Ok(())
 }

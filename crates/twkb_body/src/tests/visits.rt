@@ -1,6 +1,7 @@
 //! Visits of points at random, each vertex against that of the plain reader: numbers of each length, with a size and with
 //! none, at the end of the bytes and before others.
 use super::runs::{kind, numbers};
+use super::steps::put_bytes;
 use super::*;
 use random_layers::Dice;
 use std::alloc::{AllocError, Global};
@@ -40,6 +41,11 @@ impl<'a> Visit for Expecting<'a> {
     }
 }
 
+// A size, of two bytes.
+fn put_long_size(out: &mut Vec<u8>, size: usize) -> Result<(), AllocError> {
+    out.extend_from_slice(&[(size % 128) as u8 | 128, (size / 128 % 128) as u8])
+}
+
 // A geometry of X and Y, and perhaps Z, at some precision, with a size or none, and then other bytes or none.
 fn geometry(alloc: Global, dice: &mut Dice) -> Result<Vec<u8>, AllocError> {
     let (first, before) = kind(dice);
@@ -58,14 +64,10 @@ fn geometry(alloc: Global, dice: &mut Dice) -> Result<Vec<u8>, AllocError> {
         out.push(0x01)?;
     }
     if has_size {
-        let size = body.len();
-        out.push((size % 128) as u8 | 128)?;
-        out.push((size / 128 % 128) as u8)?;
+        put_long_size(&mut out, body.len())?;
     }
     out.extend_from_slice(&body)?;
-    if dice.once_in(2) {
-        out.extend_from_slice(&[0xFF, 0xFF, 0xFF, 0xFF, 0xFF, 0xFF, 0xFF, 0xFF])?;
-    }
+    put_bytes(&mut out, 0xFF, if dice.once_in(2) { 8 } else { 0 })?;
     Ok(out)
 }
 
@@ -118,9 +120,7 @@ fn even_line(
     for _ in 0..numbers {
         out.extend_from_slice(difference)?;
     }
-    for _ in 0..behind {
-        out.push(0xFF)?;
-    }
+    put_bytes(&mut out, 0xFF, behind)?;
     Ok(out)
 }
 
