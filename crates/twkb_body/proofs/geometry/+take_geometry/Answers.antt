@@ -26,6 +26,9 @@ take_geometry-returns-in_err-head g t c =
     (ap (λ (r : Reading). r.bytes) c.in_err-head.ensures.still) c.in_err-head.ensures.refused in
     rw (p.1, p.2) (header_fails (deepest - c.args.depth) c.args.cursor.now c.in_err-head.field-0.0 _ e)
 
+pub take_geometry-judged-requires : goal.take_geometry-judged-requires
+take_geometry-judged-requires g t c = head_size _ _ c.in_ok-head.head c.args.depth c.in_ok-head.ensures.ok c.in_ok-head.ensures.moved _ (omega (arith, c.place-stop.ensures.value))
+
 pub take_geometry-returns-then-head : goal.take_geometry-returns-then-head
 take_geometry-returns-then-head g t c =
     let ok = c.in_ok-head.ensures in
@@ -136,6 +139,9 @@ take_members-returns-in_err-member g t c =
       member_ids list.0 c.take_list.new.cursor c.loop.cursor c.loop.counter l.front list.1 (omega (arith, c.loop-test.true, list.2.count)) l.so_far wants,
     ))
     c.in_err-member.ensures)
+
+pub take_members-then-found-requires : goal.take_members-then-found-requires
+take_members-then-found-requires g t c = omega (arith, c.loop.invariant.few, c.in_ok-member.ensures.2.0.few, c.place_is_within-in-loop.ensures.within, c.place_is_within-in-loop.ensures.length_fits)
 
 pub take_members-loop-preserved : goal.take_members-loop-preserved
 take_members-loop-preserved g t c =

@@ -25,6 +25,9 @@ take_further-returns t c =
 pub take_sure_members-loop-init : goal.take_sure_members-loop-init
 take_sure_members-loop-init t c = sure_begins _ _ _ _
 
+pub take_sure_members-overflow_add-vertices : goal.take_sure_members-overflow_add-vertices
+take_sure_members-overflow_add-vertices t c = omega (arith, c.loop.invariant.loop.few, c.in_ok-member.ensures.found.few, c.place_is_within.ensures.within, c.place_is_within.ensures.length_fits)
+
 pub take_sure_members-loop-preserved : goal.take_sure_members-loop-preserved
 take_sure_members-loop-preserved t c = sure_goes_on _ _ _ _ c.loop.counter c.loop.vertices c.in_ok-member.member _ c.loop.cursor c.take_sure.new.cursor c.loop-test.true c.in_ok-member.ensures refl c.loop.invariant
 
