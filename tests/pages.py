@@ -70,8 +70,9 @@ def numbers(reach):
 
 def bodies(reach):
     """How many wrong bodies and twins there are."""
-    wrong, twins = (sum(numbers[NAMES.index(name)] for _, numbers in all_sizes(reach.top)) for name in ("Wrong bodies", "Twins"))
-    return f"There are {wrong} wrong bodies and {twins} twins."
+    found = [numbers for _, numbers in all_sizes(reach.top)]
+    gate, apart, twins = (sum(numbers[NAMES.index(name)] for numbers in found) for name in ("Wrong bodies", "Apart", "Twins"))
+    return f"There are {gate + apart} wrong bodies, {gate} of them at the gate, and {twins} twins."
 
 
 def sizes(reach):

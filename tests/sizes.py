@@ -1,10 +1,10 @@
-"""How large the crates are: lines of source, of tests, of definitions, of devices and of proofs, and files of wrong bodies and
-of their twins. Empty lines count."""
+"""How large the crates are: lines of source, of tests, of definitions, of devices and of proofs, and files of wrong bodies, at
+the gate and apart from it, and of their twins. Empty lines count."""
 import os
 
 from definitions import CRATES, DEVICES, TOP
 
-NAMES = ("Source", "Tests", "Definitions", "Devices", "Proofs", "Wrong bodies", "Twins")
+NAMES = ("Source", "Tests", "Definitions", "Devices", "Proofs", "Wrong bodies", "Apart", "Twins")
 
 
 def below(folder, ending):
@@ -42,6 +42,7 @@ def sizes(folder):
         lines(path for path, parts in specs if is_device(parts)),
         lines(path for path, _ in below(os.path.join(folder, "proofs"), ".antt")),
         len(list(below(os.path.join(folder, "must-fail"), ".edit"))),
+        len(list(below(os.path.join(folder, "must-fail-apart"), ".edit"))),
         len(list(below(os.path.join(folder, "twins"), ".edit"))),
     )
 

@@ -1,0 +1,188 @@
+"""Changes of the crates' sources that are tried on a copy: wrong bodies, and their twins.
+
+A change is a file NAME.edit with lines 'file:', 'old:' and 'new:', as the kit reads them in must-fail/. What a function
+promises stands as it was, so its proof alone speaks of its body: a round changes many functions at once, each once, in one
+check of their crate."""
+import os
+import re
+import shutil
+import subprocess
+import tempfile
+
+TOP = os.path.dirname(os.path.dirname(os.path.abspath(__file__)))
+# Folders of wrong bodies: those that the gate tries, and those that it leaves out.
+GATE, APART = "must-fail", "must-fail-apart"
+
+FUNCTION = re.compile(r"^ *(?:pub(?:\(\w+\))? )?(?:const )?(?:unsafe )?(?:extern \"C\" )?fn (\w+)", re.MULTILINE)
+# A line of a check's report that says of a function that it isn't proved, and not only that one that it calls isn't.
+UNPROVED = re.compile(r"^fn (\S+): (?!proved|no proof: it calls )", re.MULTILINE)
+
+
+class BadEdit(Exception):
+    """Why an edit can't be applied."""
+
+
+def read(path):
+    with open(path, encoding="utf-8") as file:
+        return file.read()
+
+
+def write(path, text):
+    with open(path, "w", encoding="utf-8") as file:
+        file.write(text)
+
+
+def stands_on():
+    """The crates of crates.txt, each with the names behind it."""
+    lines = [line for line in read(os.path.join(TOP, "crates.txt")).splitlines() if line and not line.startswith("#")]
+    return {name.split()[0]: below.split() for name, _, below in (line.partition(":") for line in lines)}
+
+
+def with_those_below(crates):
+    below, found, left = stands_on(), set(), list(crates)
+    while left:
+        crate = left.pop()
+        if crate in below and crate not in found:
+            found.add(crate)
+            left.extend(below[crate])
+    return sorted(found)
+
+
+def names_of(crate, kind):
+    folder = os.path.join(TOP, "crates", crate, kind)
+    names = os.listdir(folder) if os.path.isdir(folder) else []
+    return sorted(name.removesuffix(".edit") for name in names if name.endswith(".edit"))
+
+
+class Change:
+    """An edit of a crate: the texts that it replaces, and the functions that they stand in."""
+
+    def __init__(self, crate, kind, name):
+        self.crate, self.name = crate, name
+        self.pairs = list(self.read_pairs(os.path.join(TOP, "crates", crate, kind, name + ".edit")))
+        if not self.pairs:
+            raise BadEdit("it has no pair of lines 'old:' and 'new:'")
+        self.lines, self.functions = set(), set()
+        texts = self.applied_to({file: self.source(file) for file, _, _ in self.pairs})
+        for file, old, _ in self.pairs:
+            before, found, _ = self.source(file).partition(old)
+            if found:
+                self.lines.add((file, before.count("\n") + 1))
+                names = FUNCTION.findall(before + old)
+                self.functions.add((file, names[-1] if names else ""))
+        self.changes_nothing = all(text == self.source(file) for file, text in texts.items())
+
+    @staticmethod
+    def read_pairs(path):
+        """The file, the old and the new text of each pair."""
+        file, old = None, None
+        for line in read(path).splitlines():
+            word, _, text = line.partition(":")
+            text = text.removeprefix(" ")
+            if word == "file":
+                file = text.strip()
+            elif word == "old":
+                old = text
+            elif word == "new":
+                if not file or not old:
+                    raise BadEdit("a line 'new:' has no 'file:' and 'old:' before it")
+                yield file, old, text
+                old = None
+
+    def source(self, file):
+        path = os.path.join(TOP, "crates", self.crate, file)
+        if not os.path.isfile(path):
+            raise BadEdit(f"there is no file {file}")
+        return read(path)
+
+    def applied_to(self, texts):
+        """These texts, by their files, with the change."""
+        changed = dict(texts)
+        for file, old, new in self.pairs:
+            text = changed.get(file) or self.source(file)
+            if text.count(old) != 1:
+                raise BadEdit(f"an old text stands in {file} {text.count(old)} times, and not once")
+            changed[file] = text.replace(old, new)
+        return changed
+
+
+    def stands_in_one(self):
+        """Whether it changes one function alone, as far as the text shows."""
+        return len(self.functions) == 1 and all(name for _, name in self.functions)
+
+
+def rounds(changes):
+    """The changes in as few rounds as the functions allow, and the texts of each: a function is changed once in a round, and what
+    stands in no function, or in more than one, has a round of its own."""
+    found = []
+    for change in changes:
+        for members, texts in found:
+            if not change.stands_in_one() or any(change.functions & other.functions for other in members):
+                continue
+            if not all(other.stands_in_one() for other in members):
+                continue
+            try:
+                texts.update(change.applied_to(texts))
+            except BadEdit:
+                # It changes a line that another has changed.
+                continue
+            members.append(change)
+            break
+        else:
+            found.append(([change], change.applied_to({})))
+    return found
+
+
+def copy_into(room, crates):
+    """The crates and those below them, as a repository of their own."""
+    wanted = with_those_below(crates)
+    shutil.copy2(os.path.join(TOP, "HANDLES"), room)
+    rows = [line for line in read(os.path.join(TOP, "crates.txt")).splitlines() if line.partition(":")[0].split()[:1]]
+    write(os.path.join(room, "crates.txt"), "".join(f"{row}\n" for row in rows if row.partition(":")[0].split()[0] in wanted))
+    for crate in wanted:
+        shutil.copytree(os.path.join(TOP, "crates", crate), os.path.join(room, "crates", crate), symlinks=True)
+
+
+class Check:
+    """What a check of a crate says."""
+
+    def __init__(self, folder, texts):
+        """Checks the crate in the folder with these texts in place of its own, which are put back."""
+        before = {file: read(os.path.join(folder, file)) for file in texts}
+        for file, text in texts.items():
+            write(os.path.join(folder, file), text)
+        done = subprocess.run(["rt", "check"], cwd=folder, capture_output=True, text=True, errors="replace")
+        for file, text in before.items():
+            write(os.path.join(folder, file), text)
+        self.lines = (done.stdout + done.stderr).splitlines()
+        # Before the crate's own verdict may stand those of libraries below it, and behind it a note of the kit.
+        verdict = [line.split()[0] for line in self.lines if line.startswith("logic=")][-1:]
+        self.is_proved = done.returncode == 0 and verdict == ["logic=proved"]
+        self.is_refused = done.returncode == 1 and verdict == ["logic=not-proved"]
+        self.unproved = sorted(name.rpartition("::")[2] for name in UNPROVED.findall("\n".join(self.lines)))
+
+    def told(self):
+        """The first lines that say why."""
+        told = [line for line in self.lines if ": error" in line] or self.lines[-3:]
+        return "\n    ".join(told[:5])
+
+
+def tried(changes, is_well, fault_of):
+    """Tries the changes of each crate, over what earlier checks kept, and gives the crate, the name and the fault of each. A round
+    is well where the call says so of its check and its members. Else each is tried alone, and the other call names its fault."""
+    with tempfile.TemporaryDirectory(prefix="edits-") as room:
+        copy_into(room, [crate for crate in changes if changes[crate]])
+        for crate, all_of_it in changes.items():
+            folder = os.path.join(room, "crates", crate)
+            as_it_is = Check(folder, {}) if all_of_it else None
+            if as_it_is and not as_it_is.is_proved:
+                yield crate, "as it is", f"so none of its changes is tried\n    {as_it_is.told()}"
+                continue
+            for members, texts in rounds(all_of_it):
+                whole = Check(folder, texts)
+                for change in members:
+                    if is_well(whole, members):
+                        yield crate, change.name, None
+                    else:
+                        alone = whole if len(members) == 1 else Check(folder, change.applied_to({}))
+                        yield crate, change.name, fault_of(alone, change)
