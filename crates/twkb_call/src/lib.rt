@@ -9,8 +9,6 @@ mod drawing;
 mod layer;
 mod rows;
 mod scans;
-#[cfg(test)]
-mod tests;
 mod verdict;
 mod window;
 

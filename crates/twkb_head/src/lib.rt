@@ -40,8 +40,6 @@ mod ranges;
 mod raw;
 mod read;
 mod refusal;
-#[cfg(test)]
-mod tests;
 
 pub use boxed::{BegunBox, pass_range_before, read_begun_box, read_range_before};
 pub use boxes::{Bounds, Span, Vertex};

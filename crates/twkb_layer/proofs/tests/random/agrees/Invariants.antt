@@ -1,6 +1,0 @@
--- The directory stays the layer's from scan to scan.
-use Rattle.twkb_layer.specs.Directory.{IsDirectoryOf}
-use Rattle.twkb_layer.proofs.tests.random.agrees.Given as goal
-
-abbrev pub invariant-loop : goal.invariant-loop
-invariant-loop g l = IsDirectoryOf l.directory l.layer.bytes

@@ -1,0 +1,141 @@
+//! Where a file is malformed at an offset, what stands before that is begun, and no more: cut there, it is cut short.
+use super::depths::deepest;
+use super::equal;
+use super::layers::{BOX_OF_A_MEMBER, EQUAL_IDS_BEFORE_A_SIZE, LONG_COORDINATE, SUM_PAST_64_BITS};
+use super::tight::plain_refusal;
+use super::worked::{
+    BOXED_LINE, BOXED_POINT, COARSE_POINT, EMPTY_BOXED_POINT, EMPTY_POINT, FALLING_IDS,
+    HOP_IN_A_COLLECTION, MANY_IDS_ANNOUNCED, POINT_WITH_M, POINT_WITH_Z, PUBLISHED_LINE,
+    SEVENTEEN_IDS, TWO_LINES, TWO_MEMBERS, TWO_RINGS, Z_IN_THE_BOX_ALONE,
+};
+use std::alloc::Global;
+use std::process::Abort;
+use std::test::Fail;
+use twkb_layer::{Cursor, Refusal, certify};
+
+// The worked files of one blob, and those that are refused.
+const FILES: [&[u8]; 20] = [
+    &PUBLISHED_LINE,
+    &BOXED_LINE,
+    &COARSE_POINT,
+    &HOP_IN_A_COLLECTION,
+    &TWO_RINGS,
+    &TWO_MEMBERS,
+    &EMPTY_POINT,
+    &EMPTY_BOXED_POINT,
+    &TWO_LINES,
+    &POINT_WITH_Z,
+    &POINT_WITH_M,
+    &BOXED_POINT,
+    &Z_IN_THE_BOX_ALONE,
+    &SEVENTEEN_IDS,
+    &FALLING_IDS,
+    &MANY_IDS_ANNOUNCED,
+    &LONG_COORDINATE,
+    &SUM_PAST_64_BITS,
+    &BOX_OF_A_MEMBER,
+    &EQUAL_IDS_BEFORE_A_SIZE,
+];
+
+// How many files were tried, how many of them the plain reader calls malformed, how many were cut, by the kind that was
+// named, and how many of these ended with a blob.
+#[derive(Clone, Copy)]
+struct Met {
+    tried: usize,
+    malformed: usize,
+    cut: [usize; 5],
+    ended: usize,
+}
+
+// The refusal of a file for a kind from 1 to 5: the blob, the offset and the kind.
+fn malformation(refusal: Option<Refusal>) -> Option<(usize, usize, u8)> {
+    match refusal {
+        Some(Refusal::No { blob, offset, kind }) if kind <= 5 => Some((blob, offset, kind)),
+        _ => None,
+    }
+}
+
+// Whether the file ends with a blob where it is cut at the offset. Else it is cut short there.
+fn ends_there(rt: &impl Abort, alloc: Global, bytes: &[u8], blob: usize, offset: usize) -> bool {
+    let front = bytes.get(..offset).expect(rt, "the offset is in the file");
+    match certify(alloc, Cursor::new(front)) {
+        Ok(layer) => {
+            equal(rt, (layer.blobs(), bytes), (blob, bytes));
+            true
+        }
+        Err(answer) => {
+            let cut = Refusal::No {
+                blob,
+                offset,
+                kind: 1,
+            };
+            equal(rt, (answer, bytes), (cut, bytes));
+            false
+        }
+    }
+}
+
+fn judge(rt: &impl Abort, alloc: Global, bytes: &[u8], met: &mut Met) {
+    met.tried = met.tried.saturating_add(1);
+    if malformation(plain_refusal(alloc, bytes, false)).is_some() {
+        met.malformed = met.malformed.saturating_add(1);
+    }
+    let refusal = certify(alloc, Cursor::new(bytes)).err();
+    let Some((blob, offset, kind)) = malformation(refusal) else {
+        return;
+    };
+    if ends_there(rt, alloc, bytes, blob, offset) {
+        met.ended = met.ended.saturating_add(1);
+    }
+    if let Some(times) = met.cut.get_mut(usize::from(kind).wrapping_sub(1)) {
+        *times = times.saturating_add(1);
+    }
+}
+
+// Each byte is set to every value up to the last.
+fn judge_variants(
+    rt: &impl Abort,
+    alloc: Global,
+    bytes: &[u8],
+    last: u8,
+    met: &mut Met,
+) -> Result<(), Fail> {
+    let mut changed = Vec::new(alloc);
+    changed.extend_from_slice(bytes)?;
+    for k in 0..bytes.len() {
+        for value in 0..=last {
+            changed[k] = value;
+            judge(rt, alloc, &changed, met);
+        }
+        changed[k] = bytes[k];
+    }
+    Ok(())
+}
+
+#[test]
+fn what_stands_before_a_malformation_is_cut_short(rt: HostRuntime) -> Result<(), Fail> {
+    let mut met = Met {
+        tried: 0,
+        malformed: 0,
+        cut: [0; 5],
+        ended: 0,
+    };
+    let mut variants = 0usize;
+    for &file in &FILES {
+        variants = variants.saturating_add(file.len().saturating_mul(256));
+        judge_variants(&rt, rt.alloc(), file, 255, &mut met)?;
+    }
+    // In the deepest blob a collection may stand too deep. Its bytes are set to the kinds, since there are so many.
+    let deepest = deepest(rt.alloc())?;
+    variants = variants.saturating_add(deepest.len().saturating_mul(8));
+    judge_variants(&rt, rt.alloc(), &deepest, 7, &mut met)?;
+    equal(&rt, met.tried, variants);
+    let mut cut = 0usize;
+    for times in met.cut {
+        assert!(&rt; times > 0);
+        cut = cut.saturating_add(times);
+    }
+    equal(&rt, cut, met.malformed);
+    assert!(&rt; met.ended > 0 && met.ended < cut);
+    Ok(())
+}

@@ -1,0 +1,195 @@
+//! Allocations that are refused, each in turn.
+use super::lists::LINE_AND_POINT;
+use super::worked::{EMPTY, FALLING_IDS, MANY_IDS_ANNOUNCED, TWO_BLOBS, flat};
+use super::{certified, equal, window};
+use refusing::Refusing;
+use std::alloc::Allocator;
+use std::process::Abort;
+use twkb_layer::{Certified, Cursor, Directory, Refusal, certify_in, certify_tight_in};
+
+/// One certification with all its memory from an allocator: whether it answered that memory ran out.
+fn runs_out<A: Allocator>(rt: &impl Abort, memory: &A, bytes: &[u8]) -> bool {
+    match certify_in(memory, Cursor::new(bytes)) {
+        Ok(layer) => {
+            equal(rt, layer.blobs(), 1);
+            equal(rt, layer.vertices(), 17);
+            false
+        }
+        Err(refusal) => {
+            equal(rt, refusal, Refusal::Memory);
+            true
+        }
+    }
+}
+
+// A list of more than sixteen ids that don't rise.
+#[test]
+fn each_allocation_is_refused(rt: HostRuntime) {
+    let mut refusals = 0u64;
+    for call in 0..100u64 {
+        let memory = Refusing::new(rt.alloc(), call);
+        let is_out = runs_out(&rt, &memory, &FALLING_IDS);
+        equal(&rt, is_out, memory.has_refused());
+        if !is_out {
+            break;
+        }
+        // The allocator grants the next call, and a new cursor gives the answer.
+        assert!(rt; !runs_out(&rt, &memory, &FALLING_IDS));
+        refusals = call + 1;
+    }
+    assert!(rt; 0 < refusals && refusals < 100, "{refusals}");
+}
+
+// A multipoint that announces a thousand and one ids, and has sixteen, as many as need no memory.
+const SIXTEEN_OF_MANY: [u8; 20] = [
+    0x04, 0x04, 0xE9, 0x07, 0x00, 0x02, 0x04, 0x06, 0x08, 0x0A, 0x0C, 0x0E, 0x10, 0x12, 0x14, 0x16,
+    0x18, 0x1A, 0x1C, 0x1E,
+];
+
+// As many points as a count can announce, without ids: none of them there, and two.
+const MANY_POINTS: [u8; 12] = [
+    0x04, 0x00, 0xFF, 0xFF, 0xFF, 0xFF, 0xFF, 0xFF, 0xFF, 0xFF, 0xFF, 0x01,
+];
+
+const TWO_OF_MANY_POINTS: [u8; 16] = [
+    0x04, 0x00, 0xFF, 0xFF, 0xFF, 0xFF, 0xFF, 0xFF, 0xFF, 0xFF, 0xFF, 0x01, 0x02, 0x02, 0x02, 0x02,
+];
+
+// The same of a linestring, of the second ring of a polygon, and of the members of a collection, of which one is there.
+const MANY_POINTS_OF_A_LINE: [u8; 12] = [
+    0x02, 0x00, 0xFF, 0xFF, 0xFF, 0xFF, 0xFF, 0xFF, 0xFF, 0xFF, 0xFF, 0x01,
+];
+
+const MANY_POINTS_OF_A_RING: [u8; 14] = [
+    0x03, 0x00, 0x02, 0x00, 0xFF, 0xFF, 0xFF, 0xFF, 0xFF, 0xFF, 0xFF, 0xFF, 0xFF, 0x01,
+];
+
+const MANY_MEMBERS: [u8; 14] = [
+    0x07, 0x00, 0xFF, 0xFF, 0xFF, 0xFF, 0xFF, 0xFF, 0xFF, 0xFF, 0xFF, 0x01, 0x01, 0x10,
+];
+
+#[test]
+fn counts_take_no_memory(rt: HostRuntime) {
+    let layers: [&[u8]; 7] = [
+        &MANY_IDS_ANNOUNCED,
+        &SIXTEEN_OF_MANY,
+        &MANY_POINTS,
+        &TWO_OF_MANY_POINTS,
+        &MANY_POINTS_OF_A_LINE,
+        &MANY_POINTS_OF_A_RING,
+        &MANY_MEMBERS,
+    ];
+    for bytes in layers {
+        let memory = Refusing::new(rt.alloc(), 0);
+        let cut_at_the_end = Refusal::No {
+            blob: 0,
+            offset: bytes.len(),
+            kind: 1,
+        };
+        let refusal = certify_in(&memory, Cursor::new(bytes)).err();
+        equal(&rt, refusal, Some(cut_at_the_end));
+        let refusal = certify_tight_in(&memory, Cursor::new(bytes)).err();
+        equal(&rt, refusal, Some(cut_at_the_end));
+        assert!(rt; !memory.has_refused());
+    }
+}
+
+// Since that count each of the twenty bytes of the layer was read twice at most.
+fn reads_at_most_twice(rt: &impl Abort, layer: &Certified, before: u64) {
+    let most = before.saturating_add(40);
+    assert!(rt; layer.read_count() <= most);
+}
+
+// One list of two blobs with all its memory from an allocator: whether that was refused. A refusal comes before any
+// byte is read.
+fn list_runs_out<A: Allocator>(rt: &impl Abort, memory: &A, layer: &mut Certified) -> bool {
+    let before = layer.read_count();
+    match layer.list_in(memory) {
+        Ok(rows) => {
+            equal(rt, rows.as_slice(), LINE_AND_POINT.as_slice());
+            reads_at_most_twice(rt, layer, before);
+            false
+        }
+        Err(_) => {
+            equal(rt, layer.read_count(), before);
+            true
+        }
+    }
+}
+
+#[test]
+fn refused_lists_may_be_repeated(rt: HostRuntime) {
+    let mut layer = certified(&rt, rt.alloc(), &TWO_BLOBS);
+    let mut refusals = 0u64;
+    for call in 0..100u64 {
+        let memory = Refusing::new(rt.alloc(), call);
+        let is_out = list_runs_out(&rt, &memory, &mut layer);
+        equal(&rt, is_out, memory.has_refused());
+        if !is_out {
+            break;
+        }
+        assert!(rt; !list_runs_out(&rt, &memory, &mut layer));
+        equal(
+            &rt,
+            layer.scan(&window(&flat((0, 10), (0, 10))), &mut []),
+            2,
+        );
+        refusals = call + 1;
+    }
+    assert!(rt; 0 < refusals && refusals < 100, "{refusals}");
+}
+
+// The same of building a directory.
+fn directory_runs_out<A: Allocator>(rt: &impl Abort, memory: &A, layer: &mut Certified) -> bool {
+    let before = layer.read_count();
+    match Directory::build_in(memory, layer) {
+        Ok(directory) => {
+            reads_at_most_twice(rt, layer, before);
+            let found = directory.scan(layer, &window(&flat((0, 10), (0, 10))), &mut []);
+            equal(rt, found, 2);
+            false
+        }
+        Err(_) => {
+            equal(rt, layer.read_count(), before);
+            true
+        }
+    }
+}
+
+#[test]
+fn refused_directories_may_be_built_again(rt: HostRuntime) {
+    let mut layer = certified(&rt, rt.alloc(), &TWO_BLOBS);
+    let mut refusals = 0u64;
+    for call in 0..100u64 {
+        let memory = Refusing::new(rt.alloc(), call);
+        let is_out = directory_runs_out(&rt, &memory, &mut layer);
+        equal(&rt, is_out, memory.has_refused());
+        if !is_out {
+            break;
+        }
+        assert!(rt; !directory_runs_out(&rt, &memory, &mut layer));
+        equal(
+            &rt,
+            layer.scan(&window(&flat((0, 10), (0, 10))), &mut []),
+            2,
+        );
+        refusals = call + 1;
+    }
+    assert!(rt; 0 < refusals && refusals < 100, "{refusals}");
+}
+
+// An allocator that would refuse its first call isn't asked.
+#[test]
+fn the_empty_layer_needs_no_memory(rt: HostRuntime) {
+    let memory = Refusing::new(rt.alloc(), 0);
+    let mut layer = certify_in(&memory, Cursor::new(&EMPTY)).expect(&rt, "no memory is asked for");
+    let rows = layer.list_in(&memory).expect(&rt, "no memory is asked for");
+    assert!(rt; rows.is_empty());
+    let directory = Directory::build_in(&memory, &mut layer).expect(&rt, "no memory is asked for");
+    equal(
+        &rt,
+        directory.scan(&mut layer, &window(&flat((0, 9), (0, 9))), &mut []),
+        0,
+    );
+    assert!(rt; !memory.has_refused());
+}

@@ -1,0 +1,59 @@
+//! Visits of worked layers.
+use super::worked::{EMPTY, HOP_IN_A_COLLECTION, TWO_BLOBS, TWO_RINGS};
+use super::{certified, equal};
+use twkb_body::Summary;
+use twkb_layer::{Bounds, Vertex, Visit};
+
+// Asks nothing of the vertices, so it skips every box.
+#[derive(Drop)]
+struct Nothing {}
+
+impl Visit for Nothing {
+    ghost use Rattle.std.specs.Prelude.{true, refl};
+
+    ghost State = { Unit {0} };
+
+    ghost state = { λ s. tt };
+
+    ghost step = { λ s v. s };
+
+    ghost passes = { λ s b. true };
+
+    ghost sound = { λ s b v e h. refl };
+
+    fn point(&mut self, _v: &Vertex) {}
+
+    fn skips(&self, _b: &Bounds) -> bool {
+        true
+    }
+}
+
+// How many vertices a visitor is shown, and how many bytes are read: all, since it skips no box.
+#[test]
+fn all_vertices_of_all_blobs(rt: HostRuntime) {
+    let table: [(&[u8], usize); 4] = [
+        (&EMPTY, 0),
+        (&TWO_BLOBS, 3),
+        (&HOP_IN_A_COLLECTION, 2),
+        (&TWO_RINGS, 2),
+    ];
+    for (bytes, vertices) in table {
+        let mut layer = certified(&rt, rt.alloc(), bytes);
+        let before = layer.read_count();
+        let mut summary = Summary::new();
+        layer.visit(&mut summary);
+        equal(&rt, summary.vertices(), vertices);
+        equal(&rt, layer.read_count() - before, bytes.len() as u64);
+        layer.visit(&mut summary);
+        equal(&rt, summary.vertices(), 2 * vertices);
+    }
+}
+
+// Of a line with a size and a box its header of 7 bytes is read, of a point without a size all of its 8.
+#[test]
+fn a_visitor_that_skips_is_led_past(rt: HostRuntime) {
+    let mut layer = certified(&rt, rt.alloc(), &TWO_BLOBS);
+    let before = layer.read_count();
+    layer.visit(&mut Nothing {});
+    equal(&rt, layer.read_count() - before, 15u64);
+}
