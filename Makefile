@@ -11,7 +11,7 @@ MANUALS = share/man/man1
 BASH = share/bash-completion/completions
 ZSH = share/zsh/site-functions
 
-.PHONY: help kit libraries library build install uninstall demo test bindings web page bench callers picture trusted refusals twins stack clean
+.PHONY: help kit libraries library build install uninstall demo test test-program test-languages bindings web page bench callers picture trusted refusals apart twins stack clean
 
 help:
 	@echo 'make build      prove and build the program: $(PROGRAM) (some minutes the first time)'
@@ -28,6 +28,7 @@ help:
 	@echo 'make picture    build, and draw how much of a layer scans read: docs/hops.svg'
 	@echo 'make trusted    print how many lines of definitions have to be believed, crate by crate'
 	@echo 'make refusals   build, and refuse each call of the program for memory in turn (needs cc)'
+	@echo 'make apart      have the prover refuse the wrong bodies that the gate leaves out'
 	@echo 'make twins      check the twins of the wrong bodies, which mean what the source means'
 	@echo 'make stack      build, and measure how much stack the deepest collections take (gdb tells more)'
 	@echo 'make clean      remove what was built'
@@ -80,13 +81,19 @@ test: kit
 	rm -rf crates/*/out/rlib
 	set -o pipefail; rt ci | tee build/ci.log
 	cp crates/twkb_tool/out/twkb_tool $(PROGRAM)
+	@$(MAKE) --no-print-directory --jobs=2 --output-sync=target test-program test-languages
+	@tail -n 1 build/ci.log
+
+# Both stand on what is built already.
+test-program:
 	python3 tests/run.py $(PROGRAM)
 	python3 tests/install.py
 	python3 tests/scripts.py $(PROGRAM)
+
+test-languages:
 	python3 tests/bindings.py $(PROGRAM)
 	python3 tests/web.py
 	python3 tests/page.py $(PROGRAM)
-	@tail -n 1 build/ci.log
 
 # What other languages call stands on one library more.
 library bindings web page callers: LIBRARIES += twkb_call
@@ -123,6 +130,9 @@ refusals: build
 	python3 tests/refuse_allocations.py $(PROGRAM)
 
 # Each is a check of its crate, so the gate leaves them out.
+apart: kit
+	python3 tests/apart.py
+
 twins: kit
 	python3 tests/twins.py
 
