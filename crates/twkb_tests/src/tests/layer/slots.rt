@@ -42,7 +42,7 @@ fn point_at(first: u8, x: i64) -> [u8; 27] {
 
 // The first byte of a point, the ends of a window in X, and the least and the greatest number of such points inside. Where the
 // least is above the greatest there is none.
-const ROUNDED: [(u8, i128, i128, i64, i64); 17] = [
+const ROUNDED: [(u8, i128, i128, i64, i64); 19] = [
     (0xE1, -3, 5, -3, 5),
     (0xC1, -20, 20, -2, 2),
     (0xC1, -21, 21, -2, 2),
@@ -57,6 +57,8 @@ const ROUNDED: [(u8, i128, i128, i64, i64); 17] = [
     (0xC1, LEAST - 1, GREATEST + 1, -TENTH, TENTH),
     (0xC1, LEAST - 2, GREATEST + 3, -TENTH - 1, TENTH + 1),
     (0xF1, LEAST, GREATEST, -9_223, 9_223),
+    (0xF1, GREATEST + 1, i128::MAX, 9_224, i64::MAX),
+    (0xF1, i128::MIN, LEAST - 1, i64::MIN, -9_224),
     (0xF1, GREATEST + 1, LEAST - 1, 9_224, -9_224),
     (0xE1, i128::MIN, i128::MAX, i64::MIN, i64::MAX),
     (0xF1, i128::MAX, i128::MIN, i64::MAX, i64::MIN),

@@ -4,11 +4,13 @@ use super::{certified, equal};
 use twkb_body::Summary;
 use twkb_layer::{Bounds, Vertex, Visit};
 
-// Asks nothing of the vertices, so it skips every box.
+// Counts what it is shown, and skips every box. Its contract says nothing of the count.
 #[derive(Drop)]
-struct Nothing {}
+struct Counter {
+    shown: usize,
+}
 
-impl Visit for Nothing {
+impl Visit for Counter {
     ghost use Rattle.std.specs.Prelude.{true, refl};
 
     ghost State = { Unit {0} };
@@ -21,7 +23,9 @@ impl Visit for Nothing {
 
     ghost sound = { λ s b v e h. refl };
 
-    fn point(&mut self, _v: &Vertex) {}
+    fn point(&mut self, _v: &Vertex) {
+        self.shown = self.shown.saturating_add(1);
+    }
 
     fn skips(&self, _b: &Bounds) -> bool {
         true
@@ -54,6 +58,8 @@ fn all_vertices_of_all_blobs(rt: HostRuntime) {
 fn a_visitor_that_skips_is_led_past(rt: HostRuntime) {
     let mut layer = certified(&rt, rt.alloc(), &TWO_BLOBS);
     let before = layer.read_count();
-    layer.visit(&mut Nothing {});
+    let mut counter = Counter { shown: 0 };
+    layer.visit(&mut counter);
+    equal(&rt, counter.shown, 1);
     equal(&rt, layer.read_count() - before, 15u64);
 }
