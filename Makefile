@@ -11,7 +11,8 @@ MANUALS = share/man/man1
 BASH = share/bash-completion/completions
 ZSH = share/zsh/site-functions
 
-.PHONY: help kit libraries library build install uninstall demo test test-program test-languages bindings web page bench callers picture trusted refusals apart twins stack clean
+.PHONY: help kit libraries library build install uninstall demo test test-program test-languages bindings web page
+.PHONY: bench callers picture trusted refusals apart twins stack clean
 
 help:
 	@echo 'make build      prove and build the program: $(PROGRAM) (some minutes the first time)'
@@ -77,7 +78,7 @@ test: kit
 	python3 tests/trusted.py --strict
 	python3 tests/trusted_cases.py
 	@mkdir -p build
-# It would put back the libraries of earlier commands, which may be of older sources: so they go before.
+# rt ci would put back the libraries of earlier commands, which may be of older sources: so they go before.
 	rm -rf crates/*/out/rlib
 	set -o pipefail; rt ci | tee build/ci.log
 	cp crates/twkb_tool/out/twkb_tool $(PROGRAM)
@@ -129,7 +130,7 @@ trusted:
 refusals: build
 	python3 tests/refuse_allocations.py $(PROGRAM)
 
-# Each is a check of its crate, so the gate leaves them out.
+# Both take some checks of each crate, so the gate leaves them out.
 apart: kit
 	python3 tests/apart.py
 

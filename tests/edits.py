@@ -2,20 +2,24 @@
 
 A change is a file NAME.edit with lines 'file:', 'old:' and 'new:', as the kit reads them in must-fail/. What a function
 promises stands as it was, so its proof alone speaks of its body: a round changes many functions at once, each once, in one
-check of their crate."""
+check of their crate. Functions that call one another in a cycle have one proof, so what stands in a cycle goes alone, and so
+does what stands in no function or in several."""
+import functools
 import os
 import re
 import shutil
+import signal
 import subprocess
+import sys
 import tempfile
 
 TOP = os.path.dirname(os.path.dirname(os.path.abspath(__file__)))
 # Folders of wrong bodies: those that the gate tries, and those that it leaves out.
 GATE, APART = "must-fail", "must-fail-apart"
 
-FUNCTION = re.compile(r"^ *(?:pub(?:\(\w+\))? )?(?:const )?(?:unsafe )?(?:extern \"C\" )?fn (\w+)", re.MULTILINE)
-# A line of a check's report that says of a function that it isn't proved, and not only that one that it calls isn't.
-UNPROVED = re.compile(r"^fn (\S+): (?!proved|no proof: it calls )", re.MULTILINE)
+FUNCTION = re.compile(r'^( *)(?:pub(?:\(\w+\))? )?(?:const )?(?:unsafe )?(?:extern "C" )?fn (\w+)', re.MULTILINE)
+# A line of a check's report on a function that isn't proved, not only since one that it calls isn't. The kit tells it so too.
+UNPROVED = re.compile(r"^fn (\S+): (?:not proved|no proof)(?!.*(?:it calls|it passes|a call of))", re.MULTILINE)
 
 
 class BadEdit(Exception):
@@ -54,8 +58,28 @@ def names_of(crate, kind):
     return sorted(name.removesuffix(".edit") for name in names if name.endswith(".edit"))
 
 
+@functools.cache
+def source(crate, file):
+    """What a file of the crate says, read once."""
+    path = os.path.join(TOP, "crates", crate, file)
+    if not os.path.isfile(path):
+        raise BadEdit(f"there is no file {file}")
+    return read(path)
+
+
+def function_at(text, place):
+    """The name of the function that the place is in, if it is in one that has a proof of its own."""
+    found = [match for match in FUNCTION.finditer(text) if match.start() <= place]
+    if not found:
+        return None
+    indent, name = found[-1].groups()
+    end = text.find(f"\n{indent}}}", found[-1].end())
+    above = text[: found[-1].start()].rpartition("}\n")[2]
+    return None if -1 < end < place or "#[cycle(" in above else name
+
+
 class Change:
-    """An edit of a crate: the texts that it replaces, and the functions that they stand in."""
+    """An edit of a crate: the texts that it replaces, and where they stand."""
 
     def __init__(self, crate, kind, name):
         self.crate, self.name = crate, name
@@ -63,14 +87,13 @@ class Change:
         if not self.pairs:
             raise BadEdit("it has no pair of lines 'old:' and 'new:'")
         self.lines, self.functions = set(), set()
-        texts = self.applied_to({file: self.source(file) for file, _, _ in self.pairs})
         for file, old, _ in self.pairs:
-            before, found, _ = self.source(file).partition(old)
-            if found:
-                self.lines.add((file, before.count("\n") + 1))
-                names = FUNCTION.findall(before + old)
-                self.functions.add((file, names[-1] if names else ""))
-        self.changes_nothing = all(text == self.source(file) for file, text in texts.items())
+            text = source(crate, file)
+            if text.count(old) == 1:
+                place = text.index(old)
+                self.lines.add((file, text.count("\n", 0, place) + 1))
+                self.functions.add((file, function_at(text, place + len(old) - 1)))
+        self.changes_nothing = all(text == source(crate, file) for file, text in self.applied_to({}).items())
 
     @staticmethod
     def read_pairs(path):
@@ -89,37 +112,28 @@ class Change:
                 yield file, old, text
                 old = None
 
-    def source(self, file):
-        path = os.path.join(TOP, "crates", self.crate, file)
-        if not os.path.isfile(path):
-            raise BadEdit(f"there is no file {file}")
-        return read(path)
-
     def applied_to(self, texts):
         """These texts, by their files, with the change."""
         changed = dict(texts)
         for file, old, new in self.pairs:
-            text = changed.get(file) or self.source(file)
+            text = changed.get(file) or source(self.crate, file)
             if text.count(old) != 1:
                 raise BadEdit(f"an old text stands in {file} {text.count(old)} times, and not once")
             changed[file] = text.replace(old, new)
         return changed
 
-
     def stands_in_one(self):
-        """Whether it changes one function alone, as far as the text shows."""
+        """Whether it changes one function alone, which has a proof of its own."""
         return len(self.functions) == 1 and all(name for _, name in self.functions)
 
 
 def rounds(changes):
-    """The changes in as few rounds as the functions allow, and the texts of each: a function is changed once in a round, and what
-    stands in no function, or in more than one, has a round of its own."""
+    """The changes in as few rounds as the functions allow, and the texts of each."""
     found = []
     for change in changes:
         for members, texts in found:
-            if not change.stands_in_one() or any(change.functions & other.functions for other in members):
-                continue
-            if not all(other.stands_in_one() for other in members):
+            alone = not all(member.stands_in_one() for member in [change, *members])
+            if alone or any(change.functions & other.functions for other in members):
                 continue
             try:
                 texts.update(change.applied_to(texts))
@@ -138,7 +152,8 @@ def copy_into(room, crates):
     wanted = with_those_below(crates)
     shutil.copy2(os.path.join(TOP, "HANDLES"), room)
     rows = [line for line in read(os.path.join(TOP, "crates.txt")).splitlines() if line.partition(":")[0].split()[:1]]
-    write(os.path.join(room, "crates.txt"), "".join(f"{row}\n" for row in rows if row.partition(":")[0].split()[0] in wanted))
+    kept = [row for row in rows if row.partition(":")[0].split()[0] in wanted]
+    write(os.path.join(room, "crates.txt"), "\n".join([*kept, ""]))
     for crate in wanted:
         shutil.copytree(os.path.join(TOP, "crates", crate), os.path.join(room, "crates", crate), symlinks=True)
 
@@ -159,7 +174,16 @@ class Check:
         verdict = [line.split()[0] for line in self.lines if line.startswith("logic=")][-1:]
         self.is_proved = done.returncode == 0 and verdict == ["logic=proved"]
         self.is_refused = done.returncode == 1 and verdict == ["logic=not-proved"]
-        self.unproved = sorted(name.rpartition("::")[2] for name in UNPROVED.findall("\n".join(self.lines)))
+        self.unproved = UNPROVED.findall("\n".join(self.lines))
+
+    def refuses(self, change):
+        """Whether the function that the change stands in isn't proved, and not only since one that it calls isn't."""
+        if not self.is_refused or not change.stands_in_one():
+            return False
+        ((file, function),) = change.functions
+        module = file.removeprefix("src/").removesuffix(".rt").replace("/", "::")
+        front = "::".join([change.crate, *([] if module in ("lib", "main") else [module]), ""])
+        return any(name.startswith(front) and name.endswith(f"::{function}") for name in self.unproved)
 
     def told(self):
         """The first lines that say why."""
@@ -168,8 +192,8 @@ class Check:
 
 
 def tried(changes, is_well, fault_of):
-    """Tries the changes of each crate, over what earlier checks kept, and gives the crate, the name and the fault of each. A round
-    is well where the call says so of its check and its members. Else each is tried alone, and the other call names its fault."""
+    """Tries the changes of each crate, over what earlier checks kept, and gives the crate, the name and the fault of each. One call
+    says whether a round's check is well for a member. Where it isn't, that one is tried alone, and the other names its fault."""
     with tempfile.TemporaryDirectory(prefix="edits-") as room:
         copy_into(room, [crate for crate in changes if changes[crate]])
         for crate, all_of_it in changes.items():
@@ -181,8 +205,38 @@ def tried(changes, is_well, fault_of):
             for members, texts in rounds(all_of_it):
                 whole = Check(folder, texts)
                 for change in members:
-                    if is_well(whole, members):
+                    if is_well(whole, change):
                         yield crate, change.name, None
                     else:
                         alone = whole if len(members) == 1 else Check(folder, change.applied_to({}))
                         yield crate, change.name, fault_of(alone, change)
+
+
+class Tally:
+    """Tells what became of each change, and how many passed."""
+
+    def __init__(self, well):
+        """Tells so of those that pass."""
+        self.well, self.passed, self.failed = well, 0, 0
+        # A run that is ended takes its copy away too.
+        signal.signal(signal.SIGTERM, lambda *_: sys.exit(1))
+
+    def tell(self, crate, name, fault):
+        self.failed += bool(fault)
+        self.passed += not fault
+        print(f"{crate}/{name}: {fault or self.well}", flush=True)
+
+    def changes_of(self, crate, kind, make):
+        """The crate's changes of a kind, each as the call makes it of its name. One that can't be applied is told."""
+        found = []
+        for name in names_of(crate, kind):
+            try:
+                found.append(make(crate, name))
+            except BadEdit as why:
+                self.tell(crate, name, f"BAD EDIT: {why}")
+        return [change for change in found if change]
+
+    def end(self):
+        """Exits with status 1 where any failed, or where there was nothing to try."""
+        print(f"{self.passed} passed, {self.failed} failed")
+        sys.exit(self.failed > 0 or not self.passed)

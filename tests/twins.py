@@ -8,21 +8,12 @@ crates/CRATE/twins/NAME.edit beside must-fail/NAME.edit or must-fail-apart/NAME.
 that the wrong body changes and means what stood there before: so the crate has to check with it, by the proofs as they
 are. Twins of different functions are tried in one check, on a copy of the crate and of those below it, over what earlier
 checks kept; where that fails, each alone. The repository isn't changed. Prints a line for each twin, how many wrong
-bodies have none, and last `N passed, M failed`; the status is 1 where any failed. --only WORD tries those with the word
-in their names; --untwinned also names the wrong bodies without a twin.
+bodies have none, and last `N passed, M failed`; the status is 1 where any failed, or there is none. --only WORD tries
+those with the word in their names; --untwinned also names the wrong bodies without a twin.
 """
 import argparse
-import signal
-import sys
 
-from edits import APART, GATE, BadEdit, Change, names_of, stands_on, tried
-
-counts = {"passed": 0, "failed": 0}
-
-
-def report(name, fault):
-    counts["failed" if fault else "passed"] += 1
-    print(f"{name}: {fault or 'checks, as it must'}", flush=True)
+from edits import APART, GATE, BadEdit, Change, Tally, names_of, stands_on, tried
 
 
 def twin_of(crate, name):
@@ -36,18 +27,6 @@ def twin_of(crate, name):
     if twin.changes_nothing:
         raise BadEdit("it changes nothing")
     return twin
-
-
-def twins_of(crate, word):
-    """The crate's twins with the word in their names. One that is none is reported."""
-    found = []
-    for name in names_of(crate, "twins"):
-        if word in name:
-            try:
-                found.append(twin_of(crate, name))
-            except BadEdit as why:
-                report(f"{crate}/{name}", f"BAD TWIN: {why}")
-    return found
 
 
 def fault_of(check, _):
@@ -74,17 +53,14 @@ def main():
     unknown = [crate for crate in words.crates if crate not in known]
     if unknown:
         parser.error(f"crates.txt lists no crate {unknown[0]}")
-    crates = words.crates or list(known)
-    # A run that is ended takes its copy away too.
-    signal.signal(signal.SIGTERM, lambda *_: sys.exit(1))
-    twins = {crate: twins_of(crate, words.only) for crate in crates}
-    if words.only and not any(twins.values()) and not counts["failed"]:
-        parser.error(f"no twin has {words.only} in its name")
+    crates, tally = words.crates or list(known), Tally("checks, as it must")
+    # Those with the word in their names.
+    make = lambda crate, name: twin_of(crate, name) if words.only in name else None
+    twins = {crate: tally.changes_of(crate, "twins", make) for crate in crates}
     for crate, name, fault in tried(twins, lambda check, _: check.is_proved, fault_of):
-        report(f"{crate}/{name}", fault)
+        tally.tell(crate, name, fault)
     tell_untwinned(crates, words.untwinned)
-    print(f"{counts['passed']} passed, {counts['failed']} failed")
-    sys.exit(counts["failed"] > 0)
+    tally.end()
 
 
 if __name__ == "__main__":
