@@ -85,7 +85,8 @@ test: kit
 	@$(MAKE) --no-print-directory --jobs=2 --output-sync=target test-program test-languages
 	@tail -n 1 build/ci.log
 
-# Both stand on what is built already.
+# Both stand on what is built already. A make that they call has jobs of its own.
+unexport MAKEFLAGS
 test-program:
 	python3 tests/run.py $(PROGRAM)
 	python3 tests/install.py
