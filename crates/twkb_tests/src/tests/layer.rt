@@ -22,7 +22,7 @@ mod slots;
 mod texts;
 mod tight;
 mod visits;
-mod worked;
+pub mod worked;
 
 /// The bytes of a certified layer.
 fn certified<'a>(rt: &impl Abort, alloc: Global, bytes: &'a [u8]) -> Certified<'a>
