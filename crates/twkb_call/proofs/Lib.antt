@@ -1,3 +1,4 @@
 -- What is proved of what crosses.
 pub mod Windows
 pub mod Points
+pub mod Verdicts
