@@ -9,3 +9,6 @@ pub returns-clause-room : goal.returns-clause-room
 returns-clause-room c = λ trees h.
     let certified = subst (λ bytes. IsCertifiedLayer trees bytes) (sym (ap (λ (layer : Layer). layer.bytes) c.certified-certified.ensures)) h in
     room_drawn _ _ (all_vertices trees) c.visit.new.visitor _ (c.visit.ensures.visitor trees certified) (search rules)
+
+pub returns-clause-answer : goal.returns-clause-answer
+returns-clause-answer c = search rules

@@ -1,0 +1,6 @@
+-- Why a blob is refused with lent room is passed on.
+use Rattle.std.proofs.Common.{rules}
+use Rattle.twkb_body.proofs.auditing.audit_lent.Goals as goal
+
+pub returns-in-None-clause-refused : goal.returns-in-None-clause-refused
+returns-in-None-clause-refused c = search rules

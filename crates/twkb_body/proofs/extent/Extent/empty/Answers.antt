@@ -1,0 +1,6 @@
+-- No vertex is in it.
+use Rattle.std.proofs.Common.{rules}
+use Rattle.twkb_body.proofs.extent.Extent.empty.Goals as goal
+
+pub returns : goal.returns
+returns c = search rules

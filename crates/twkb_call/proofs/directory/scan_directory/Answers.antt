@@ -1,0 +1,6 @@
+-- The bytes that were read are those of a scan with the directory.
+use Rattle.std.proofs.Common.{rules}
+use Rattle.twkb_call.proofs.directory.scan_directory.Goals as goal
+
+pub returns-clause-read : goal.returns-clause-read
+returns-clause-read c = search rules

@@ -1,0 +1,6 @@
+-- The sum is that of the two numbers, beyond 64 bits too.
+use Rattle.std.proofs.Common.{rules}
+use Rattle.twkb_head.proofs.boxes.maximum.Goals as goal
+
+pub returns : goal.returns
+returns c = search rules

@@ -1,0 +1,6 @@
+-- A number that is cut is named so.
+use Rattle.std.proofs.Common.{rules}
+use Rattle.twkb_head.proofs.fields.malformed.Goals as goal
+
+pub returns-in-Cut-clause-why : goal.returns-in-Cut-clause-why
+returns-in-Cut-clause-why c = search rules

@@ -1,0 +1,6 @@
+-- The code's limit is the definition's.
+use Rattle.std.proofs.Common.{rules}
+use Rattle.twkb_head.proofs.laws.deepest_level_is_the_limit.Goals as goal
+
+pub returns : goal.returns
+returns c = search rules

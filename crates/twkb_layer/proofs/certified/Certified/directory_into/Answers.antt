@@ -1,0 +1,9 @@
+-- The room is filled where it has places enough, and else stays as it was.
+use Rattle.std.proofs.Common.{rules}
+use Rattle.twkb_layer.proofs.certified.Certified.directory_into.Goals as goal
+
+pub put_slots-requires : goal.put_slots-requires
+put_slots-requires c = search rules
+
+pub returns-clause-kept : goal.returns-clause-kept
+returns-clause-kept c = search rules

@@ -1,0 +1,6 @@
+-- The layer's numbers stay.
+use Rattle.std.proofs.Common.{rules}
+use Rattle.twkb_layer.proofs.certified.Certified.scan.Goals as goal
+
+pub invariant_of-self : goal.invariant_of-self
+invariant_of-self c = search rules

@@ -1,0 +1,6 @@
+-- The bytes that were read are those of a scan with the directory.
+use Rattle.std.proofs.Common.{rules}
+use Rattle.twkb_layer.proofs.directory.Directory.scan.Goals as goal
+
+pub returns-clause-count : goal.returns-clause-count
+returns-clause-count g c = search rules

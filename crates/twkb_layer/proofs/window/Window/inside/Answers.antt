@@ -1,0 +1,6 @@
+-- A vertex is inside where it is so on each axis.
+use Rattle.std.proofs.Common.{rules}
+use Rattle.twkb_layer.proofs.window.Window.inside.Goals as goal
+
+pub returns-then-in_bound : goal.returns-then-in_bound
+returns-then-in_bound c = search rules

@@ -1,0 +1,9 @@
+-- Nothing that is read of the cursor changes.
+use Rattle.std.proofs.Common.{rules}
+use Rattle.twkb_num.proofs.cursor.Cursor.go_on_from.Goals as goal
+
+pub invariant_of-self : goal.invariant_of-self
+invariant_of-self c = search rules
+
+pub returns : goal.returns
+returns c = search rules

@@ -1,0 +1,6 @@
+-- The place alone changes.
+use Rattle.std.proofs.Common.{rules}
+use Rattle.twkb_num.proofs.cursor.Cursor.go_to.Goals as goal
+
+pub returns : goal.returns
+returns c = search rules
