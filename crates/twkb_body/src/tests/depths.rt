@@ -62,7 +62,7 @@ fn malformed_below(rt: HostRuntime) -> Result<(), Fail> {
 }
 
 // The header of a collection of one member, with a size of two bytes.
-fn put_long_size(out: &mut Vec<u8>, size: u16) -> Result<(), AllocError> {
+fn put_collection(out: &mut Vec<u8>, size: u16) -> Result<(), AllocError> {
     let low = (size % 128) as u8 | 128;
     let high = (size / 128 % 128) as u8;
     out.extend_from_slice(&[0x07, 0x02, low, high, 0x01])
@@ -72,7 +72,7 @@ fn put_long_size(out: &mut Vec<u8>, size: u16) -> Result<(), AllocError> {
 fn sized(alloc: Global) -> Result<Vec<u8>, AllocError> {
     let mut bytes = Vec::new(alloc);
     for level in 0..32u16 {
-        put_long_size(&mut bytes, 284 - 5 * level)?;
+        put_collection(&mut bytes, 284 - 5 * level)?;
     }
     for level in 0..31u8 {
         bytes.extend_from_slice(&[0x07, 0x02, 125 - 4 * level, 0x01])?;
@@ -86,7 +86,7 @@ const SIZES: [(usize, u8); 4] = [(2, 0x9C), (157, 0x81), (162, 0x7D), (282, 0x05
 
 // The size that stands there is false with this byte.
 fn is_false_size(rt: &impl Abort, alloc: Global, bytes: &mut [u8], offset: usize, byte: u8) {
-    set(bytes, offset, byte);
+    set(rt, bytes, offset, byte);
     let fault = AuditFault::FalseClaim {
         offset,
         claim: Claim::Size,
@@ -106,7 +106,7 @@ fn sizes_off_by_one(rt: HostRuntime) -> Result<(), Fail> {
         equal(&rt, bytes.get(offset), Some(&byte));
         is_false_size(&rt, rt.alloc(), &mut bytes, offset, byte.wrapping_sub(1));
         is_false_size(&rt, rt.alloc(), &mut bytes, offset, byte.wrapping_add(1));
-        set(&mut bytes, offset, byte);
+        set(&rt, &mut bytes, offset, byte);
     }
     Ok(())
 }
@@ -114,7 +114,7 @@ fn sizes_off_by_one(rt: HostRuntime) -> Result<(), Fail> {
 // With the byte there one less, one more, and the mark of an empty geometry.
 fn near_values_agree(rt: &impl Abort, alloc: Global, bytes: &mut [u8], place: usize, byte: u8) {
     for value in [byte.wrapping_sub(1), byte.wrapping_add(1), 0x10] {
-        set(bytes, place, value);
+        set(rt, bytes, place, value);
         agrees(rt, alloc, bytes, false);
         agrees(rt, alloc, bytes, true);
     }
@@ -132,7 +132,7 @@ fn variants_below(rt: HostRuntime) -> Result<(), Fail> {
         for k in 0..bytes.len() {
             agrees(&rt, rt.alloc(), &bytes[..k], false);
             near_values_agree(&rt, rt.alloc(), &mut changed, k, bytes[k]);
-            set(&mut changed, k, bytes[k]);
+            set(&rt, &mut changed, k, bytes[k]);
         }
     }
     Ok(())

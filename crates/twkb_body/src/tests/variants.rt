@@ -55,17 +55,18 @@ pub fn agrees(rt: &impl Abort, alloc: Global, bytes: &[u8], is_tight: bool) {
     }
 }
 
-/// Sets a byte, if it is there.
-pub fn set(bytes: &mut [u8], place: usize, value: u8) {
-    if let Some(byte) = bytes.get_mut(place) {
-        *byte = value;
+/// Sets a byte, which is there.
+pub fn set(rt: &impl Abort, bytes: &mut [u8], place: usize, value: u8) {
+    match bytes.get_mut(place) {
+        Some(byte) => *byte = value,
+        None => panic!(rt; "there is no byte at {place}"),
     }
 }
 
 // They agree on the bytes with one of them set to every value.
 fn values_agree(rt: &impl Abort, alloc: Global, bytes: &mut [u8], place: usize, is_tight: bool) {
     for value in 0..=255u8 {
-        set(bytes, place, value);
+        set(rt, bytes, place, value);
         agrees(rt, alloc, bytes, is_tight);
     }
 }
@@ -77,7 +78,7 @@ fn agree(rt: &impl Abort, alloc: Global, bytes: &[u8], is_tight: bool) -> Result
     for k in 0..bytes.len() {
         agrees(rt, alloc, &bytes[..k], is_tight);
         values_agree(rt, alloc, &mut changed, k, is_tight);
-        set(&mut changed, k, bytes[k]);
+        set(rt, &mut changed, k, bytes[k]);
     }
     Ok(())
 }
