@@ -1,6 +1,10 @@
 -- One blob more is found.
-use Rattle.std.proofs.Common.{rules}
+use Rattle.std.proofs.Common.{arith, rules}
+use Rattle.std.proofs.lemmas.Grind.{common_steps}
 use Rattle.twkb_layer.proofs.scans.report.Goals as goal
 
 pub returns-clause-found : goal.returns-clause-found
 returns-clause-found c = search rules
+
+pub returns-clause-room : goal.returns-clause-room
+returns-clause-room c = grind (arith, common_steps)

@@ -1,0 +1,6 @@
+-- One vertex reaches from itself to itself, on each axis that it has.
+use Rattle.std.proofs.Common.{rules}
+use Rattle.twkb_body.proofs.extent.Extent.of.Goals as goal
+
+pub returns : goal.returns
+returns c = search rules

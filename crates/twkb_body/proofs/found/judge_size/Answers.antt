@@ -1,0 +1,6 @@
+-- A size counts from behind its field.
+use Rattle.std.proofs.Common.{rules}
+use Rattle.twkb_body.proofs.found.judge_size.Goals as goal
+
+pub returns-in-Some : goal.returns-in-Some
+returns-in-Some c = search rules

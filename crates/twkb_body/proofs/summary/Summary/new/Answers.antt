@@ -1,0 +1,6 @@
+-- None has been shown.
+use Rattle.std.proofs.Common.{rules}
+use Rattle.twkb_body.proofs.summary.Summary.new.Goals as goal
+
+pub returns : goal.returns
+returns c = search rules

@@ -1,0 +1,6 @@
+-- The number is that of the vertices that were shown.
+use Rattle.std.proofs.Common.{rules}
+use Rattle.twkb_body.proofs.summary.Summary.vertices.Goals as goal
+
+pub returns : goal.returns
+returns c = search rules

@@ -1,0 +1,6 @@
+-- The length is that of the bytes.
+use Rattle.std.proofs.Common.{rules}
+use Rattle.twkb_layer.proofs.certified.Certified.len.Goals as goal
+
+pub returns : goal.returns
+returns c = search rules

@@ -1,0 +1,6 @@
+-- It skips what the window misses.
+use Rattle.std.proofs.Common.{rules}
+use Rattle.twkb_layer.proofs.seeker.SeekerVisit.skips.Goals as goal
+
+pub returns : goal.returns
+returns c = search rules

@@ -1,0 +1,6 @@
+-- The ranges are those of the window.
+use Rattle.std.proofs.Common.{rules}
+use Rattle.twkb_layer.proofs.window.Window.ranges.Goals as goal
+
+pub returns : goal.returns
+returns c = search rules

@@ -1,0 +1,6 @@
+-- The range of M alone is another.
+use Rattle.std.proofs.Common.{rules}
+use Rattle.twkb_layer.proofs.window.Window.with_m.Goals as goal
+
+pub returns : goal.returns
+returns c = search rules

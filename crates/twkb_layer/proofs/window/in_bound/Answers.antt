@@ -1,0 +1,6 @@
+-- Where a range is bounded, a vertex without that axis is outside.
+use Rattle.std.proofs.Common.{rules}
+use Rattle.twkb_layer.proofs.window.in_bound.Goals as goal
+
+pub returns-in-Some-None : goal.returns-in-Some-None
+returns-in-Some-None c = search rules

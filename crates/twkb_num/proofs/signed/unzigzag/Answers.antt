@@ -1,0 +1,6 @@
+-- An odd number is that of a negative one.
+use Rattle.std.proofs.Common.{rules}
+use Rattle.twkb_num.proofs.signed.unzigzag.Goals as goal
+
+pub returns-else-number-eq0 : goal.returns-else-number-eq0
+returns-else-number-eq0 c = search rules
