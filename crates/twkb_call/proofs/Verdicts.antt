@@ -31,9 +31,9 @@ pub says_no : (IsTrue : Claim → Type 0) (v : Verdict) (cursor : Reading) (byte
     → IsNew cursor bytes → Says IsTrue v bytes
 says_no IsTrue v cursor bytes refusal is why new =
     said refusal is (subst (λ bytes. IsRefusedFor IsTrue refusal bytes) (bytes_of_new cursor bytes new) why) where
-  said : (refusal : Refusal) → v ≡ verdict_on refusal → IsRefusedFor IsTrue refusal bytes → Says IsTrue v bytes
-  said (No blob offset kind) is why = subst (λ v. Says IsTrue v bytes) (sym is) (inr (inl (refl, why)))
-  said Memory is why = inr (inr (is, why))
+      said : (refusal : Refusal) → v ≡ verdict_on refusal → IsRefusedFor IsTrue refusal bytes → Says IsTrue v bytes
+      said (No blob offset kind) is why = subst (λ v. Says IsTrue v bytes) (sym is) (inr (inl (refl, why)))
+      said Memory is why = inr (inr (is, why))
 
 -- where memory alone can be wanted, the answer says that it is
 pub says_memory : (v : Verdict) (refusal : Refusal) → v ≡ verdict_on refusal → refusal ≡ Memory → (v.answer ≡ 0) ⊎ (v.answer ≡ 2)

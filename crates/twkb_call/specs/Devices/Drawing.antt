@@ -1,6 +1,6 @@
 -- Devices of proofs: nothing public names them.
 -- The visitor that draws into room that is lent.
-use Rattle.std.specs.Prelude.{◌≡◌, ℕ, ◌+◌, ltb, cond, Bool, true, false, List, length, slice_set}
+use Rattle.std.specs.Prelude.{ℕ, ◌+◌, ltb, cond, Bool, false, List, length, slice_set}
 use Rattle.std.specs.Borrow.{GName}
 use Rattle.twkb_head.specs.declared.boxes.Vertex.{Vertex}
 use Rattle.twkb_head.specs.declared.boxes.Bounds.{Bounds}

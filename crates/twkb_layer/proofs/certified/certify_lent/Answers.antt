@@ -1,21 +1,15 @@
 -- What the audit of all blobs says holds of the layer; a refusal is passed on.
-use Rattle.std.proofs.lemmas.Result.{err_from_is_err_and}
+use Rattle.std.proofs.Common.{rules}
 use Rattle.twkb_layer.proofs.certified.certify_lent.Goals as goal
 
 pub returns-in_err-blobs-clause-refused : goal.returns-in_err-blobs-clause-refused
-returns-in_err-blobs-clause-refused c =
-    let p = err_from_is_err_and c.from_residual.result c.from_residual.ensures.1 in
-    rw (p.1, p.2) c.in_err-blobs.ensures.refused
+returns-in_err-blobs-clause-refused c = search rules
 
 pub returns-in_err-blobs-clause-kinds : goal.returns-in_err-blobs-clause-kinds
-returns-in_err-blobs-clause-kinds c =
-    let p = err_from_is_err_and c.from_residual.result c.from_residual.ensures.1 in
-    rw (p.1, p.2) c.in_err-blobs.ensures.kinds
+returns-in_err-blobs-clause-kinds c = search rules
 
 pub returns-in_err-blobs-clause-complete : goal.returns-in_err-blobs-clause-complete
-returns-in_err-blobs-clause-complete c =
-    let p = err_from_is_err_and c.from_residual.result c.from_residual.ensures.1 in
-    rw (p.1, p.2) c.in_err-blobs.ensures.complete
+returns-in_err-blobs-clause-complete c = search rules
 
 pub returns-clause-certified : goal.returns-clause-certified
 returns-clause-certified c = let counted = c.in_ok-blobs.ensures.ok in (counted.trees, counted.layer)

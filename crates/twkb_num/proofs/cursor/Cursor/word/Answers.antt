@@ -1,4 +1,4 @@
--- The word is of the bytes ahead, and as many are left.
+-- The word is of the next eight bytes, which are there.
 use Rattle.std.proofs.Common.{rules}
 use Rattle.twkb_num.proofs.cursor.Cursor.word.Goals as goal
 
