@@ -1,4 +1,4 @@
--- A size counts from behind its field.
+-- A size is false unless it is the length from behind its field to the stop.
 use Rattle.std.proofs.Common.{rules}
 use Rattle.twkb_body.proofs.found.judge_size.Goals as goal
 

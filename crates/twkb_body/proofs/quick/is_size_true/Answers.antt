@@ -1,4 +1,4 @@
--- It is true where no fault is found.
+-- Where it says yes, no fault of the size is found.
 use Rattle.std.proofs.Common.{rules}
 use Rattle.twkb_body.proofs.quick.is_size_true.Goals as goal
 

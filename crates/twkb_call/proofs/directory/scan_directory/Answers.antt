@@ -1,4 +1,4 @@
--- The bytes that were read are those of a scan with the directory.
+-- How many bytes were read is the cost of a scan with the directory.
 use Rattle.std.proofs.Common.{rules}
 use Rattle.twkb_call.proofs.directory.scan_directory.Goals as goal
 

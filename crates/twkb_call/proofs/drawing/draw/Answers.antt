@@ -1,4 +1,4 @@
--- The room ends as the pen leaves it.
+-- The room ends as the pen leaves it, and the answer is the number of the layer's vertices.
 use Rattle.std.proofs.Common.{rules, ap, sym, subst}
 use Rattle.twkb_layer.specs.Layer.{Layer, IsCertifiedLayer}
 use Rattle.twkb_layer.specs.Vertices.{all_vertices}

@@ -1,4 +1,4 @@
--- The bytes that were read are those of the layer's scan.
+-- How many bytes were read is the cost of the layer's scan.
 use Rattle.std.proofs.Common.{rules}
 use Rattle.twkb_call.proofs.scans.scan.Goals as goal
 

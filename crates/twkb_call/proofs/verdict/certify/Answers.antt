@@ -1,4 +1,4 @@
--- The verdict says what the layer's answer does.
+-- The verdict says what `certify_in` answers.
 use Rattle.twkb_body.specs.Claims.{IsTrueClaim}
 use Rattle.twkb_call.proofs.Verdicts.{says_yes, says_no}
 use Rattle.twkb_call.proofs.verdict.certify.Goals as goal

@@ -1,4 +1,4 @@
--- Each sign has its own half of the numbers.
+-- The number means the value, by zigzag, and no other number does.
 use Rattle.std.proofs.Common.{rules}
 use Rattle.twkb_num.proofs.signed.zigzag.Goals as goal
 

@@ -1,4 +1,4 @@
--- A run that stops says at what, and how far its streams have come.
+-- What a run leaves, by its answer: all is read and put, or it says where it stopped and what was put until then.
 use Rattle.std.proofs.Common.{rules}
 use Rattle.twkb_tool.proofs.run.run_in.Goals as goal
 

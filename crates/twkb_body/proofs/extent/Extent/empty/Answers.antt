@@ -1,4 +1,4 @@
--- No vertex is in it.
+-- It is the extent of no vertices.
 use Rattle.std.proofs.Common.{rules}
 use Rattle.twkb_body.proofs.extent.Extent.empty.Goals as goal
 

@@ -1,4 +1,4 @@
--- The size is judged before all that stands behind it.
+-- What is refused is the first of these: the size, the box, the ids, what is inside.
 use Rattle.std.proofs.Common.{rules}
 use Rattle.twkb_body.proofs.inside.Inside.judged.Goals as goal
 

@@ -1,4 +1,4 @@
--- The number is that of the vertices that were shown.
+-- The number is the one that is kept.
 use Rattle.std.proofs.Common.{rules}
 use Rattle.twkb_body.proofs.summary.Summary.vertices.Goals as goal
 

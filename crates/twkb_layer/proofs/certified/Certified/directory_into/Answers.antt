@@ -1,4 +1,4 @@
--- The room is filled where it has places enough, and else stays as it was.
+-- Slots are put where the room has the places that they want. Else room and count stay as they were.
 use Rattle.std.proofs.Common.{rules}
 use Rattle.twkb_layer.proofs.certified.Certified.directory_into.Goals as goal
 

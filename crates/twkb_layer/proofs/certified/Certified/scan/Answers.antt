@@ -1,4 +1,4 @@
--- The layer's numbers stay.
+-- Behind the scan the layer is certified still, with the same numbers.
 use Rattle.std.proofs.Common.{rules}
 use Rattle.twkb_layer.proofs.certified.Certified.scan.Goals as goal
 

@@ -1,4 +1,4 @@
--- The cursor moves over the varints, and counts them.
+-- Where varints are passed the cursor moves ahead, and counts the bytes that it passes.
 use Rattle.std.proofs.Common.{rules}
 use Rattle.twkb_num.proofs.cursor.Cursor.pass_varints.Goals as goal
 

@@ -1,4 +1,4 @@
--- The pair ends before the stop.
+-- Where a pair is answered, eight bytes were left before the stop.
 use Rattle.std.proofs.Common.{rules}
 use Rattle.twkb_num.proofs.cursor.Cursor.svarint_pair_before.Goals as goal
 
