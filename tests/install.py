@@ -91,6 +91,13 @@ def in_bash(folder):
         (["twkb_tool", "check", "-"], ["--tight"]),
         (["twkb_tool", "check", "another.twkb", "--"], ["--tight"]),
         (["twkb_tool", "check", "--tight", "an"], ["another.twkb"]),
+        (["twkb_tool", "help", ""], COMMANDS),
+        (["twkb_tool", "help", "sc"], ["scan"]),
+        (["twkb_tool", "help", "scan", ""], []),
+        (["twkb_tool", "list", "-"], ["--help"]),
+        (["twkb_tool", "list", "--tight"], []),
+        (["twkb_tool", "scan", "--h"], ["--help"]),
+        (["twkb_tool", "list", "another.twkb", "-"], []),
     ]
     for words, wanted in completed:
         count(f"bash: {words}", completed_by_bash(words, folder), wanted)
@@ -105,6 +112,12 @@ def in_zsh(folder):
         ("twkb_tool check another.twkb x\t", "twkb_tool check another.twkb x"),
         ("twkb_tool check --t\t", "twkb_tool check --tight "),
         ("twkb_tool check --tight ano\t", "twkb_tool check --tight another.twkb "),
+        ("twkb_tool help l\t", "twkb_tool help list "),
+        ("twkb_tool help a\t", "twkb_tool help a"),
+        ("twkb_tool help list a\t", "twkb_tool help list a"),
+        ("twkb_tool list -\t", "twkb_tool list --help "),
+        ("twkb_tool scan -\t", "twkb_tool scan --help "),
+        ("twkb_tool list --ti\t", "twkb_tool list --ti"),
     ]
     for keys, wanted in completed:
         with open(os.path.join(folder, ".keys"), "w") as file:
