@@ -7,7 +7,7 @@ A layer is a task, and no state goes from task to task. So a task whose worker i
 each layer is answered once. Writes what `twkb_tool check` prints of a layer, or `twkb_tool scan` for each window alone,
 with the file's name and a tab before each line. The layers stand in the order in which they are done. One line of
 progress goes to standard error. The status is 0 where all are certified, 1 where some are refused, 2 for bad words, and
-3 where some weren't judged: standard error says why.
+3 where some weren't judged, or there is no layer at all: standard error says why.
 
 Without --scheduler the cluster is N processes of this machine, which end with the script. Where N is left out, they are
 as many as it has cores. With it, the workers reach FOLDER under the same name, and have dozhemik and its library:
@@ -63,7 +63,11 @@ def layers_below(folder):
         raise why
 
     found = (os.path.join(place, name) for place, _, names in os.walk(folder, onerror=fail) for name in names)
-    return sorted(path for path in found if path.endswith(".twkb") and os.path.isfile(path))
+    # A link to nothing is a layer that can't be read. A pipe is none.
+    paths = sorted(path for path in found if path.endswith(".twkb") and (os.path.isfile(path) or not os.path.exists(path)))
+    if not paths:
+        raise OSError(f"no layer (*.twkb) is below {folder}")
+    return paths
 
 
 def run(client, paths, windows, tight):
@@ -89,11 +93,18 @@ def asked():
     words = argparse.ArgumentParser(description="Certifies and scans the layers below a folder on a Dask cluster.")
     where = words.add_mutually_exclusive_group()
     where.add_argument("--scheduler", metavar="ADDRESS", help="of a cluster that runs")
-    where.add_argument("--workers", metavar="N", type=int, default=os.cpu_count(), help="processes of this machine")
+    where.add_argument("--workers", metavar="N", type=some, default=os.cpu_count(), help="processes of this machine, from 1")
     words.add_argument("--tight", action="store_true", help="refuse loose boxes too")
     words.add_argument("folder", metavar="FOLDER")
     words.add_argument("windows", metavar="WINDOW", nargs="*", type=window, help="x=A..B,y=C..D[,z=E..F][,m=G..H]")
     return words.parse_args()
+
+
+def some(text):
+    """A number of workers. With none of them the cluster would wait for ever."""
+    if not text.isdecimal() or int(text) < 1:
+        raise argparse.ArgumentTypeError(f"{text!r} is no number from 1 on")
+    return int(text)
 
 
 def window(text):

@@ -108,9 +108,19 @@ def certified_alone(folder):
 
 
 def words_refused(folder):
-    for words, status in (([], 2), ([folder, "x=1..0,y=0..1"], 2), ([folder + "/missing"], 3)):
-        done = subprocess.run(script("--workers", "1", *words), env=ENVIRONMENT, capture_output=True, text=True)
-        count(f"bad words: {words}", (done.returncode, done.stdout), (status, ""))
+    os.mkdir(folder + " with none")
+    tried = [([], 2), ([folder, "x=1..0,y=0..1"], 2), ([folder + "/missing"], 3), ([folder + " with none"], 3)]
+    for workers, (words, status) in [*(("1", one) for one in tried), ("0", ([folder], 2)), ("-2", ([folder], 2))]:
+        done = subprocess.run(script("--workers", workers, *words), env=ENVIRONMENT, capture_output=True, text=True, timeout=60)
+        count(f"bad words: --workers {workers} {words}", (done.returncode, done.stdout), (status, ""))
+
+
+def link_to_nothing(folder):
+    """A layer that can't be read isn't passed over."""
+    os.mkdir(folder)
+    os.symlink("nothing", os.path.join(folder, "lost.twkb"))
+    done = subprocess.run(script("--workers", "1", folder), env=ENVIRONMENT, capture_output=True, text=True)
+    count("a link to nothing", (done.returncode, done.stdout, "lost.twkb\tnot judged" in done.stderr), (3, "", True))
 
 
 def started(words, **options):
@@ -211,6 +221,7 @@ def main():
             of_its_own(program, layers)
             certified_alone(os.path.join(folder, "certified"))
             words_refused(layers)
+            link_to_nothing(os.path.join(folder, "links"))
             one_lost(program, layers, folder)
     print(f"{counts['passed']} passed, {counts['failed']} failed")
     return int(counts["failed"] > 0)

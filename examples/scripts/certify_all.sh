@@ -1,21 +1,44 @@
 #!/bin/sh
 # Certifies each layer below a folder, on all cores, and prints a line for each: its status, its path and what was said.
 # usage: certify_all.sh FOLDER [PROGRAM]   (twkb_tool where it is left out)
-# The status is 0 where all are certified, 1 where some are refused, and 3 where some couldn't be judged.
+# Layers are what is named *.twkb. Links to files are followed, and FOLDER may be a link; links to folders below it aren't followed.
+# The status is 0 where all are certified, 1 where some are refused, 2 for bad words, and 3 where some couldn't be judged: where
+# there is no layer at all, or FOLDER or a folder below it can't be read, too.
 set -eu
-folder=$1
+if [ $# -lt 1 ] || [ $# -gt 2 ]; then
+    echo "usage: certify_all.sh FOLDER [PROGRAM]" >&2
+    exit 2
+fi
 program=${2:-twkb_tool}
+case $1 in
+    -*) folder=./$1 ;;
+    *) folder=$1 ;;
+esac
+
+unjudged() {
+    echo "certify_all.sh: $1" >&2
+    exit 3
+}
+
+# The list comes first, so that a folder that can't be read is known of.
+lists=$(mktemp -d)
+trap 'rm -rf "$lists"' EXIT
+find -H "$folder" -name '*.twkb' -print0 > "$lists/layers" || unjudged "not all of $1 can be read, so nothing is judged"
+[ -s "$lists/layers" ] || unjudged "no layer (*.twkb) is below $1"
 
 # A process a layer. Its line is one short write, so lines don't mix.
-told=$(find "$folder" -name '*.twkb' -print0 | xargs -0 -P "$(nproc)" -I LAYER sh -c '
+xargs -0 -n 1 -P "$(nproc)" sh -c '
     status=0
     said=$("$1" check "$2" 2>&1) || status=$?
     printf "%s\t%s\t%s\n" "$status" "$2" "$said"
-' sh "$program" LAYER)
+' sh "$program" < "$lists/layers" > "$lists/told" || unjudged "xargs ended with status $?"
 
-printf '%s\n' "$told" | sort -k 2
-case "$(printf '%s\n' "$told" | cut -f 1 | sort -u | tr -d '\n')" in
-    '' | 0) ;;
+sort -k 2 "$lists/told"
+layers=$(tr -dc '\000' < "$lists/layers" | wc -c)
+told=$(grep -c '^[0-9][0-9]*	' "$lists/told" || true)
+[ "$told" -ge "$layers" ] || unjudged "$told of $layers layers have a line"
+case "$(grep -o '^[0-9][0-9]*	' "$lists/told" | sort -u | tr -d '\t\n')" in
+    0) ;;
     1 | 01) exit 1 ;;
     *) exit 3 ;;
 esac

@@ -2,11 +2,32 @@
 # Certifies each layer below a folder by GNU parallel, on this machine and on others, and prints a line for each: its path
 # and what was said.
 # usage: certify_parallel.sh FOLDER JOBLOG [MACHINE ..]   (twkb_tool is in PATH on each MACHINE too, which ssh reaches)
-# JOBLOG gets a line for each layer, with its status (Exitval) and its time. The status is 0 where all are certified, else 1.
+# Layers are what is named *.twkb. Links to files are followed, and FOLDER may be a link; links to folders below it aren't followed.
+# JOBLOG gets a line for each layer, with its status (Exitval) and its time. The status is 0 where all are certified, 1 where some
+# are refused, 2 for bad words, and 3 where some couldn't be judged: where there is no layer at all, or FOLDER or a folder below it
+# can't be read, too.
 set -eu
-folder=$1
+if [ $# -lt 2 ]; then
+    echo "usage: certify_parallel.sh FOLDER JOBLOG [MACHINE ..]" >&2
+    exit 2
+fi
+case $1 in
+    -*) folder=./$1 ;;
+    *) folder=$1 ;;
+esac
 log=$2
 shift 2
+
+unjudged() {
+    echo "certify_parallel.sh: $1" >&2
+    exit 3
+}
+
+# The list comes first, so that a folder that can't be read is known of.
+list=$(mktemp)
+trap 'rm -f "$list"' EXIT
+find -H "$folder" -name '*.twkb' -print0 > "$list" || unjudged "not all of $folder can be read, so nothing is judged"
+[ -s "$list" ] || unjudged "no layer (*.twkb) is below $folder"
 
 # Another machine is sent a layer at a time, and keeps nothing of it. `:` is this one, whose layers stay where they are.
 if [ $# -gt 0 ]; then
@@ -14,5 +35,16 @@ if [ $# -gt 0 ]; then
     set -- --sshlogin ":,$machines" --transferfile '{}' --cleanup
 fi
 
-find "$folder" -name '*.twkb' -print0 |
-    parallel --null --will-cite "$@" --joblog "$log" --tag twkb_tool check {} || exit 1
+# An older log would speak of an older run.
+rm -f "$log"
+parallel --null --will-cite "$@" --joblog "$log" --tag twkb_tool check {} < "$list" || true
+[ -f "$log" ] || unjudged "parallel has judged nothing"
+layers=$(tr -dc '\000' < "$list" | wc -c)
+told=$(tail -n +2 "$log" | wc -l)
+[ "$told" -eq "$layers" ] || unjudged "$told of $layers layers are in $log"
+# The status of each layer, and the signal that ended its program, 0 for none.
+case "$(tail -n +2 "$log" | cut -f 7,8 | tr '\t' ' ' | sort -u | tr '\n' ',')" in
+    '0 0,') ;;
+    '1 0,' | '0 0,1 0,') exit 1 ;;
+    *) exit 3 ;;
+esac

@@ -4,11 +4,17 @@
 usage: spark-submit --files /usr/local/bin/twkb_tool certify_spark.py s3a://BUCKET/layers/*.twkb s3a://BUCKET/verdicts
 
 Writes a line for each layer: its status, its path and what was said, with tabs between. The status of the job is 0 where
-all are certified, else 1. A task holds its layer in memory twice, as Spark's and as the program's.
+all are certified, 1 where some are refused, 2 for bad words, and 3 where some couldn't be judged or there is no layer at all. A
+task holds its layer in memory twice, as Spark's and as the program's.
 """
 import subprocess
 import sys
 import tempfile
+
+
+def usage():
+    print("usage: certify_spark.py LAYERS VERDICTS", file=sys.stderr)
+    return 2
 
 
 def verdict(layer, program):
@@ -21,7 +27,16 @@ def verdict(layer, program):
     return done.returncode, path, (done.stdout or done.stderr).rstrip("\n")
 
 
+def status_of(statuses):
+    """The status of the job, by those that layers have."""
+    if not statuses:
+        print("certify_spark.py: there is no layer", file=sys.stderr)
+    return max(statuses) if statuses and set(statuses) <= {0, 1} else 3
+
+
 def main():
+    if len(sys.argv) != 3:
+        sys.exit(usage())
     from pyspark import SparkFiles
     from pyspark.sql import SparkSession
 
@@ -31,7 +46,7 @@ def main():
     found = context.binaryFiles(layers, minPartitions=1 << 20)
     told = found.map(lambda layer: verdict(layer, SparkFiles.get("twkb_tool"))).cache()
     told.map(lambda row: "\t".join(map(str, row))).saveAsTextFile(verdicts)
-    sys.exit(0 if told.filter(lambda row: row[0] != 0).isEmpty() else 1)
+    sys.exit(status_of(told.map(lambda row: row[0]).distinct().collect()))
 
 
 if __name__ == "__main__":
