@@ -91,6 +91,7 @@ test-program:
 	python3 tests/run.py $(PROGRAM)
 	python3 tests/install.py
 	python3 tests/scripts.py $(PROGRAM)
+	python3 tests/publish.py $(PROGRAM)
 
 test-languages:
 	python3 tests/bindings.py $(PROGRAM)
