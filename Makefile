@@ -3,6 +3,8 @@ PROGRAM = build/twkb_tool
 SCANNER = build/twkb_bench
 MODULE = build/web/twkb_web.wasm
 PAGE = build/dozhemik.html
+# The layer that `make try` checks.
+FILE = examples/coast_lines_sized.twkb
 # What the program stands on, each behind what it stands on itself.
 LIBRARIES = refusing twkb_num twkb_head plain random_layers twkb_body twkb_layer
 PREFIX = /usr/local
@@ -11,10 +13,12 @@ MANUALS = share/man/man1
 BASH = share/bash-completion/completions
 ZSH = share/zsh/site-functions
 
-.PHONY: help kit libraries library build install uninstall demo test test-program test-languages bindings web page
+.PHONY: help kit libraries library build install uninstall
+.PHONY: try demo test test-program test-languages bindings web page
 .PHONY: bench callers picture trusted refusals apart twins stack clean
 
 help:
+	@echo 'make try        check an example, or FILE=.., by the program before any proof (less than a minute)'
 	@echo 'make build      prove and build the program: $(PROGRAM) (some minutes the first time)'
 	@echo 'make install    put the program, its manual page and completions below $(PREFIX), or PREFIX=..'
 	@echo 'make uninstall  take them away'
@@ -37,21 +41,21 @@ help:
 kit:
 	@$(if $(shell command -v rt),:,$(error The Rattle kit is missing: its command rt is not in PATH))
 
-# Each library is proved before those on it.
+# Each library is proved before those on it, and beside those that it has nothing to do with.
 libraries: kit
-	@echo 'Proving $(words $(LIBRARIES)) libraries takes some minutes the first time, then seconds.'
-	@mkdir -p build
-	@number=0; for crate in $(LIBRARIES); do \
-	    number=$$((number + 1)); \
-	    echo "proving $$crate, library $$number of $(words $(LIBRARIES))"; \
-	    (cd crates/$$crate && rt lib) > build/$$crate.log 2>&1 || { cat build/$$crate.log; exit 1; }; \
-	done
+	@echo 'Proving $(words $(LIBRARIES)) libraries takes some 10 minutes on four processors the first time, and seconds later on.'
+	@echo 'The program, where it is wanted, takes some 3 minutes more. A line a minute says how far it is.'
+	@python3 tools/prove.py $(LIBRARIES)
 
-# rt run builds a proved program alone, and then runs it: here on an empty layer.
+# A program is built where it is proved, and not else.
 build: libraries
-	@echo 'proving twkb_tool, and building the program'
-	@(cd crates/twkb_tool && rt run -- check /dev/null) > build/twkb_tool.log 2>&1 || { cat build/twkb_tool.log; exit 1; }
+	@python3 tools/prove.py twkb_tool
 	cp crates/twkb_tool/out/twkb_tool $(PROGRAM)
+
+# Runs the program before any proof.
+try: kit
+	@echo 'Nothing is proved here: rt try compiles the program, and checks it while it runs. `make build` proves it.'
+	@file=$$(realpath -e -- "$(FILE)") && cd crates/twkb_tool && rt try -- check "$$file"
 
 # Installing needs no kit where the program is built already.
 $(PROGRAM):
@@ -92,6 +96,7 @@ test-program:
 	python3 tests/install.py
 	python3 tests/scripts.py $(PROGRAM)
 	python3 tests/publish.py $(PROGRAM)
+	python3 tests/first_answer.py
 
 test-languages:
 	python3 tests/bindings.py $(PROGRAM)
