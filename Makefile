@@ -1,8 +1,9 @@
-# `make help` says what there is. Each target but install and uninstall needs the Rattle kit, whose command is rt.
+# `make help` says what there is. Each target but those that install and uninstall needs the Rattle kit, whose command is rt.
 PROGRAM = build/twkb_tool
 SCANNER = build/twkb_bench
 MODULE = build/web/twkb_web.wasm
 PAGE = build/dozhemik.html
+LIBRARY = build/bindings/libtwkb.so
 # The layer that `make try` checks.
 FILE = examples/coast_lines_sized.twkb
 # What the program stands on, each behind what it stands on itself.
@@ -13,7 +14,7 @@ MANUALS = share/man/man1
 BASH = share/bash-completion/completions
 ZSH = share/zsh/site-functions
 
-.PHONY: help kit libraries library build install uninstall
+.PHONY: help kit libraries library build install uninstall install-library uninstall-library dist
 .PHONY: try demo test test-program test-languages bindings web page
 .PHONY: bench callers picture trusted refusals apart twins stack clean
 
@@ -25,9 +26,12 @@ help:
 	@echo 'make demo       build, and check, list and scan layers that PostGIS wrote'
 	@echo 'make test       run the merge gate, and test the program that it built from end to end'
 	@echo 'make library    prove and build the library for C, Rust and Python: build/bindings'
+	@echo 'make install-library    put it, its header and its pkg-config file below $(PREFIX), or PREFIX=..'
+	@echo 'make uninstall-library  take them away'
 	@echo 'make bindings   build the library, and test what calls it'
 	@echo 'make web        build the module for web pages, and compare it with the library (needs wasm-opt and node)'
 	@echo 'make page       build the page that checks a layer in a browser: $(PAGE) (needs wasm-opt)'
+	@echo 'make dist       pack what `make build library page` built: build/dozhemik-VERSION-x86_64-linux.tar.gz'
 	@echo 'make bench      build, and compare with plain Rust on 40 MB (needs rustc; valgrind counts instructions)'
 	@echo 'make callers    build, and compare calls from C, Rust and Python with the program on 40 MB'
 	@echo 'make picture    build, and draw how much of a layer scans read: docs/hops.svg'
@@ -49,17 +53,21 @@ libraries: kit
 
 # A program is built where it is proved, and not else.
 build: libraries
-	@python3 tools/prove.py twkb_tool
+	@sources=$$(tools/sources.sh) && python3 tools/prove.py twkb_tool && echo "$$sources" > build/proved
 	cp crates/twkb_tool/out/twkb_tool $(PROGRAM)
+	@mv build/proved $(PROGRAM).sources
 
 # Runs the program before any proof.
 try: kit
 	@echo 'Nothing is proved here: rt try compiles the program, and checks it while it runs. `make build` proves it.'
 	@file=$$(realpath -e -- "$(FILE)") && cd crates/twkb_tool && rt try -- check "$$file"
 
-# Installing needs no kit where the program is built already.
+# Installing needs no kit where the program and the library are built already.
 $(PROGRAM):
 	@$(MAKE) --no-print-directory build
+
+$(LIBRARY):
+	@$(MAKE) --no-print-directory library
 
 install: | $(PROGRAM)
 	install -d "$(INTO)/bin" "$(INTO)/$(MANUALS)" "$(INTO)/$(BASH)" "$(INTO)/$(ZSH)"
@@ -71,6 +79,22 @@ install: | $(PROGRAM)
 uninstall:
 	rm -f "$(INTO)/bin/twkb_tool" "$(INTO)/$(MANUALS)/twkb_tool.1"
 	rm -f "$(INTO)/$(BASH)/twkb_tool" "$(INTO)/$(ZSH)/_twkb_tool"
+
+install-library: | $(LIBRARY)
+	install -d "$(INTO)/include" "$(INTO)/lib/pkgconfig"
+	install -m 644 bindings/c/twkb.h "$(INTO)/include/twkb.h"
+	install -m 644 build/bindings/libtwkb.a "$(INTO)/lib/libtwkb.a"
+	install -m 644 $(LIBRARY) "$(INTO)/lib/libtwkb.so.0"
+	ln -sf libtwkb.so.0 "$(INTO)/lib/libtwkb.so"
+	install -m 644 bindings/c/twkb.pc "$(INTO)/lib/pkgconfig/twkb.pc"
+
+uninstall-library:
+	rm -f "$(INTO)/include/twkb.h" "$(INTO)/lib/pkgconfig/twkb.pc"
+	rm -f "$(INTO)/lib/libtwkb.a" "$(INTO)/lib/libtwkb.so" "$(INTO)/lib/libtwkb.so.0"
+
+# Packs what is built, and builds nothing.
+dist: kit
+	tools/dist.sh
 
 demo: build
 	@examples/demo.sh $(PROGRAM)
@@ -84,8 +108,10 @@ test: kit
 	@mkdir -p build
 # rt ci would put back the libraries of earlier commands, which may be of older sources: so they go before.
 	rm -rf crates/*/out/rlib
+	@tools/sources.sh > build/proved
 	set -o pipefail; rt ci | tee build/ci.log
 	cp crates/twkb_tool/out/twkb_tool $(PROGRAM)
+	@mv build/proved $(PROGRAM).sources
 	@$(MAKE) --no-print-directory --jobs=2 --output-sync=target test-program test-languages
 	@tail -n 1 build/ci.log
 
@@ -100,8 +126,10 @@ test-program:
 
 test-languages:
 	python3 tests/bindings.py $(PROGRAM)
+	python3 tests/versions.py
 	python3 tests/web.py
 	python3 tests/page.py $(PROGRAM)
+	python3 tests/release.py $(PROGRAM)
 
 # What other languages call stands on one library more.
 library bindings web page callers: LIBRARIES += twkb_call

@@ -14,12 +14,14 @@ case ${1-} in
     *) echo "usage: bindings/build.sh [--second]" >&2; exit 2 ;;
 esac
 mkdir -p "$out"
+sources=$("$top/tools/sources.sh")
 
 "$top/bindings/prove.sh" twkb_c "$out/twkb_c.a" --backend $backend
 objects=$(mktemp -d)
 trap 'rm -rf "$objects"' EXIT
-# The crate's code, and the kit's three functions over malloc, in one archive.
+# The crate's code, the kit's three functions over malloc, and the version, which is C, in one archive.
 (cd "$objects" && ar x "$out/twkb_c.a" && ar x "$kit/c/liblibc_c.a")
+gcc -std=c11 -O2 -fPIC -Wall -Wextra -Werror -c "$top/bindings/c/version.c" -o "$objects/twkb_version.o"
 rm -f "$out/libtwkb.a"
 ar rcs "$out/libtwkb.a" "$objects"/*.o
 echo "built $out/libtwkb.a"
@@ -28,4 +30,5 @@ gcc -shared -s -o "$out/libtwkb.so" -Wl,--whole-archive "$out/libtwkb.a" -Wl,--n
     -Wl,--version-script="$top/bindings/exports.map" -Wl,-soname,libtwkb.so.0
 # By this name the loader looks for it: the same file under a second name, since the kit's gate takes no symbolic links.
 ln -f "$out/libtwkb.so" "$out/libtwkb.so.0"
+echo "$sources" > "$out/libtwkb.so.sources"
 echo "built $out/libtwkb.so"

@@ -131,6 +131,9 @@ def main(program):
     succeeds("the library by the second compiler", [os.path.join(BINDINGS, "build.sh"), "--second"])
     succeeds("the library", [os.path.join(BINDINGS, "build.sh")])
     if not counts["failed"]:
+        sources = subprocess.run([os.path.join(TOP, "tools", "sources.sh")], stdout=subprocess.PIPE, text=True).stdout
+        with open(f"{SHARED}.sources") as told:
+            count("which crates it is of", told.read(), sources)
         with tempfile.TemporaryDirectory() as folder:
             test_c(program, folder)
             test_rust(program, folder)

@@ -33,7 +33,7 @@ echo "$began $(date +%s.%N) $crate $*" >> "$CALLS"
 
 def copied(folder):
     """The parts of a checkout that count here, and a PATH with the stand-in first."""
-    for name in ("Makefile", "crates.txt", "tools", "examples"):
+    for name in ("Makefile", "crates.txt", "HANDLES", "tools", "examples"):
         source = os.path.join(TOP, name)
         (shutil.copytree if os.path.isdir(source) else shutil.copy)(source, os.path.join(folder, name))
     for crate in [*LIBRARIES, "twkb_tool"]:
@@ -91,6 +91,9 @@ def proved(folder):
     first, *_ = done.stdout.splitlines()
     count("how long it takes, said first", bool(re.search(r"some \d+ minutes", first)), True)
     count("the program is put in its place", os.path.exists(os.path.join(folder, "build", "twkb_tool")), True)
+    with open(os.path.join(folder, "build", "twkb_tool.sources")) as told:
+        sources = subprocess.run([os.path.join(folder, "tools", "sources.sh")], capture_output=True, text=True).stdout
+        count("which crates it is of", (told.read(), len(sources)), (sources, 65))
 
 
 def side_by_side(folder, *words, **environment):

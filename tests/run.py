@@ -132,6 +132,8 @@ def words_of_clap(program, layer):
         (["list", "--tight", layer], b"unexpected argument '--tight' found"),
         (["scan", layer, WINDOW, "--tight"], b"unexpected argument '--tight' found"),
         (["--help"], b"Usage: twkb_tool <COMMAND>"),
+        (["--version"], b"unexpected argument '--version' found"),
+        (["-V"], b"unexpected argument '-V' found"),
         (["check", "--help"], b"Certifies a layer, or names its first false claim\n"),
         (["list", "--help"], b"Says of each blob of a certified layer what it is\n"),
         (["scan", "--help"], b"Names the blobs of a certified layer that have a vertex inside, for each window\n"),

@@ -29,6 +29,16 @@
 extern "C" {
 #endif
 
+/* The version of this header. */
+#define TWKB_VERSION "1.0.0"
+#define TWKB_VERSION_MAJOR 1
+#define TWKB_VERSION_MINOR 0
+#define TWKB_VERSION_PATCH 0
+
+/* The version of the library that is linked or loaded, which may be another than the header's: a text that stays. This one
+ * function isn't proved. It is C, and returns a constant. */
+const char *twkb_version(void);
+
 /* What a verdict answers. */
 enum { TWKB_CERTIFIED = 0, TWKB_REFUSED = 1, TWKB_NO_MEMORY = 2 };
 

@@ -12,10 +12,12 @@ if ! command -v wasm-opt > /dev/null; then
 fi
 
 mkdir -p "$out"
+sources=$("$top/tools/sources.sh")
 "$top/bindings/prove.sh" twkb_web "$out/twkb_web.a" --backend llvm --target $target
 "$kit/bin/rattle-link" --target $target --toolchain "$kit/toolchain" -o "$out/twkb_web64.wasm" "$out/twkb_web.a"
 
 # The kit compiles for 64 bits. Browsers want a flag for that, and run 32 bits faster.
 wasm-opt --enable-memory64 --enable-bulk-memory --enable-sign-ext --enable-mutable-globals --enable-nontrapping-float-to-int \
     --memory64-lowering "$out/twkb_web64.wasm" -o "$out/twkb_web.wasm"
+echo "$sources" > "$out/twkb_web.wasm.sources"
 echo "built $out/twkb_web.wasm"

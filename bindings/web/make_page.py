@@ -131,6 +131,7 @@ def main(module, out):
         code = packed(file.read())
     style = re.sub(r"^\s+|\n", "", text_of(PAGE, "style.css"), flags=re.MULTILINE)
     texts = {"STYLE": style, "MODULE": code, "WORKER": packed(joined(WORKER).encode()), "MAIN": joined(MAIN)}
+    texts["VERSION"] = text_of(TOP, "VERSION").strip()
 
     def page(parts):
         texts["EXAMPLES"] = layers(parts)

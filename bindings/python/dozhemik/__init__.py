@@ -18,10 +18,13 @@ each box holds the vertices below it, and the ids of each list differ. Only then
             print(hit.blob, hit.offset)
 
 What a call answers is proved of the library. This package is not: it passes the bytes, and makes Python's values of the
-answers. It loads the file that the environment variable TWKB_LIBRARY names, or libtwkb.so beside its modules.
+answers. It loads the file that the environment variable TWKB_LIBRARY names, or libtwkb.so beside its modules, or else
+libtwkb.so.0 where the system keeps its libraries.
 """
 from ._layer import Directory, Hit, Layer, Refused, Row, Scan, certify
 from ._window import BadWindow, Coordinate, Range, Window
+
+__version__ = "1.0.0"
 
 __all__ = [
     "BadWindow",
@@ -34,5 +37,6 @@ __all__ = [
     "Row",
     "Scan",
     "Window",
+    "__version__",
     "certify",
 ]

@@ -94,21 +94,26 @@ _CALLS = (
 )
 
 
+def _place() -> str:
+    """What the environment names, or what a wheel has beside the modules, or what the loader finds by this name."""
+    beside = os.path.join(os.path.dirname(os.path.abspath(__file__)), "libtwkb.so")
+    return os.environ.get("TWKB_LIBRARY") or (beside if os.path.exists(beside) else "libtwkb.so.0")
+
+
 def _loaded() -> ctypes.CDLL:
     for kind, size in _SIZES:
         if ctypes.sizeof(kind) != size:
             raise ImportError(f"a {kind.__name__} has {ctypes.sizeof(kind)} bytes here, and {size} in libtwkb.so")
     if (ROW.size, HIT.size) != (40, 16):
         raise ImportError(f"a row and a hit have {ROW.size} and {HIT.size} bytes here, and 40 and 16 in libtwkb.so")
-    beside = os.path.join(os.path.dirname(os.path.abspath(__file__)), "libtwkb.so")
-    path = os.environ.get("TWKB_LIBRARY") or beside
     try:
-        found = ctypes.CDLL(path)
+        found = ctypes.CDLL(_place())
         for name, takes, answers in _CALLS:
             call = getattr(found, name)
             call.argtypes, call.restype = takes, answers
     except (OSError, AttributeError) as why:
-        raise ImportError(f"{why}. `make library` builds libtwkb.so, and TWKB_LIBRARY names it") from why
+        told = "`make library` builds libtwkb.so, `make install-library` installs it, and TWKB_LIBRARY names it"
+        raise ImportError(f"{why}. {told}") from why
     return found
 
 

@@ -1,0 +1,103 @@
+#!/usr/bin/env python3
+"""Compares what states a version with the file VERSION: the packages, the header, the library, the page, the manual page, the docs
+and the list of changes.
+
+usage: tests/versions.py   (after `make library`, as tests/bindings.py builds it too)
+
+Without gcc the header's numbers and the library's answer aren't looked at, which a line says. Prints each difference, and last a
+line `N passed, M failed`; the status is 1 where any failed.
+"""
+import os
+import re
+import shutil
+import subprocess
+import sys
+import tempfile
+
+from harness import TOP, count, counts, written
+
+LIBRARY = os.path.join(TOP, "build", "bindings")
+# Where a version stands, and what stands round it.
+STATED = {
+    "bindings/c/twkb.h": r'^#define TWKB_VERSION "(.*)"$',
+    "bindings/c/twkb.pc": r"^Version: (.*)$",
+    "bindings/python/pyproject.toml": r'^version = "(.*)"$',
+    "bindings/python/dozhemik/__init__.py": r'^__version__ = "(.*)"$',
+    "bindings/rust/Cargo.toml": r'^version = "(.*)"$',
+    "docs/twkb_tool.1": r'^\.TH .* "Dozhemik (.*)" .*$',
+    "docs/USAGE.md": r"dozhemik-(\d.*?)-x86_64",
+    "docs/BINDINGS.md": r"dozhemik-(\d.*?)-py3",
+}
+# Prints the version of the header, by its numbers and as a text, and that of the library.
+PROGRAM = r"""
+#include "twkb.h"
+#include <stdio.h>
+
+int main(void) {
+    printf("%d.%d.%d %s %s\n", TWKB_VERSION_MAJOR, TWKB_VERSION_MINOR, TWKB_VERSION_PATCH, TWKB_VERSION, twkb_version());
+    return 0;
+}
+"""
+
+
+def text_of(path):
+    with open(os.path.join(TOP, path), encoding="utf-8") as file:
+        return file.read()
+
+
+def stated(version):
+    for path, form in STATED.items():
+        count(path, set(re.findall(form, text_of(path), re.MULTILINE)), {version})
+    count("CHANGELOG.md: the newest", re.findall(r"^## (.*)$", text_of("CHANGELOG.md"), re.MULTILINE)[:1], [version])
+
+
+def of_the_library(version, folder):
+    if not shutil.which("gcc"):
+        print("gcc is missing: apt-get install gcc libc6-dev; the library isn't asked for its version")
+        return
+    source, program = written(folder, "version.c", PROGRAM.encode()), os.path.join(folder, "version")
+    words = ["gcc", "-std=c11", "-Wall", "-Wextra", "-Werror", f"-I{TOP}/bindings/c", source]
+    for how, rest in (("static", [os.path.join(LIBRARY, "libtwkb.a")]), ("shared", [f"-L{LIBRARY}", "-ltwkb", f"-Wl,-rpath,{LIBRARY}"])):
+        done = subprocess.run([*words, *rest, "-o", program], capture_output=True, text=True)
+        count(f"building over the library, {how}", (done.returncode, done.stderr), (0, ""))
+        if done.returncode == 0:
+            told = subprocess.run([program], capture_output=True, text=True).stdout
+            count(f"header and library, {how}", told.split(), [version] * 3)
+
+
+def of_the_package(version):
+    environment = os.environ | {
+        "PYTHONPATH": os.path.join(TOP, "bindings", "python"),
+        "TWKB_LIBRARY": os.path.join(LIBRARY, "libtwkb.so"),
+        "PYTHONDONTWRITEBYTECODE": "1",
+    }
+    words = [sys.executable, "-c", "import dozhemik; print(dozhemik.__version__)"]
+    done = subprocess.run(words, capture_output=True, text=True, env=environment)
+    count("the package for Python", (done.stdout, done.stderr), (f"{version}\n", ""))
+
+
+def of_the_page(version, folder):
+    """The page's version stands in its text, whatever module is in it."""
+    page = os.path.join(folder, "page.html")
+    maker = os.path.join(TOP, "bindings", "web", "make_page.py")
+    done = subprocess.run([sys.executable, maker, written(folder, "none.wasm", b""), page], capture_output=True, text=True)
+    count("making a page", (done.returncode, done.stderr), (0, ""))
+    with open(page, encoding="utf-8") as file:
+        footer = re.search(r"<footer>.*</footer>", file.read(), re.DOTALL)
+    count("the page's footer", re.findall(r"Dozhemik (\d\S*)\.\s", footer[0]), [version])
+
+
+def main():
+    version = text_of("VERSION").removesuffix("\n")
+    count("three numbers", bool(re.fullmatch(r"\d+\.\d+\.\d+", version)), True)
+    stated(version)
+    of_the_package(version)
+    with tempfile.TemporaryDirectory() as folder:
+        of_the_library(version, folder)
+        of_the_page(version, folder)
+    print(f"{counts['passed']} passed, {counts['failed']} failed")
+    return int(counts["failed"] > 0)
+
+
+if __name__ == "__main__":
+    sys.exit(main())

@@ -1,0 +1,34 @@
+#!/bin/sh
+# Installs what this folder holds: the program with its manual page and completions, and the library with its header and its
+# pkg-config file. usage: install.sh PREFIX   (/usr/local, say)
+# Wants nothing but a shell and coreutils. The files are compared with SHA256SUMS before: where one differs, nothing is installed
+# and the status is 1. It is 2 where PREFIX is missing.
+set -eu
+here=$(cd "$(dirname "$0")" && pwd)
+if [ $# -ne 1 ] || [ -z "$1" ]; then
+    echo "usage: install.sh PREFIX" >&2
+    exit 2
+fi
+into=$1
+
+(cd "$here" && sha256sum --check --strict --quiet SHA256SUMS) || {
+    echo "install.sh: nothing is installed, since these files aren't those that were packed" >&2
+    exit 1
+}
+
+# put RIGHTS PATH: a file, where it stands in this folder.
+put() {
+    install -d "$into/$(dirname "$2")"
+    install -m "$1" "$here/$2" "$into/$2"
+}
+
+put 755 bin/twkb_tool
+put 644 share/man/man1/twkb_tool.1
+put 644 share/bash-completion/completions/twkb_tool
+put 644 share/zsh/site-functions/_twkb_tool
+put 644 include/twkb.h
+put 644 lib/libtwkb.a
+put 644 lib/libtwkb.so.0
+ln -sf libtwkb.so.0 "$into/lib/libtwkb.so"
+put 644 lib/pkgconfig/twkb.pc
+echo "installed below $into. Where $into/lib is one of the loader's folders, ldconfig tells it of libtwkb.so.0."
