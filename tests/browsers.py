@@ -1,7 +1,7 @@
 """Drives Debian's browsers without a screen, by the standard library alone: Chromium by its debugging pipe, Firefox by Marionette.
 
 Both have the same calls: `go`, `run` (an expression whose value, or promised value, comes back), `choose` (a file for an input),
-`mouse`, `wheel`, `fingers`, `type`, `size`, `picture` and `close`.
+`mouse`, `hover`, `wheel`, `fingers`, `swipe`, `type`, `size`, `picture` and `close`.
 """
 import base64
 import json
@@ -94,6 +94,9 @@ class Chromium:
         for kind, (x, y) in zip(kinds, [*places, places[-1]]):
             self.call("Input.dispatchMouseEvent", type=kind, x=x, y=y, button="left", buttons=int(kind != "mouseReleased"), clickCount=1)
 
+    def hover(self, x, y):
+        self.call("Input.dispatchMouseEvent", type="mouseMoved", x=x, y=y)
+
     def wheel(self, x, y, turn):
         self.call("Input.dispatchMouseEvent", type="mouseWheel", x=x, y=y, deltaX=0, deltaY=turn)
 
@@ -103,6 +106,15 @@ class Chromium:
         for kind, step in zip(kinds, steps):
             self.call("Input.dispatchTouchEvent", type=kind, touchPoints=[{"x": x, "y": y, "id": i} for i, (x, y) in enumerate(step)])
         self.call("Input.dispatchTouchEvent", type="touchEnd", touchPoints=[])
+
+    def swipe(self, places):
+        """One finger over these places, which may scroll the page."""
+        self.call("Emulation.setTouchEmulationEnabled", enabled=True, maxTouchPoints=5)
+        kinds = ["touchStart"] + ["touchMove"] * (len(places) - 1)
+        for kind, (x, y) in zip(kinds, places):
+            self.call("Input.dispatchTouchEvent", type=kind, touchPoints=[{"x": x, "y": y, "id": 0}])
+        self.call("Input.dispatchTouchEvent", type="touchEnd", touchPoints=[])
+        self.call("Emulation.setTouchEmulationEnabled", enabled=False)
 
     def type(self, key, code=0, shift=False):
         for kind in ("keyDown", "keyUp"):
@@ -207,6 +219,10 @@ class Firefox:
         pointer = {"type": "pointer", "id": "mouse", "parameters": {"pointerType": "mouse"}, "actions": actions}
         self.act(pointer)
 
+    def hover(self, x, y):
+        move = {"type": "pointerMove", "x": int(x), "y": int(y), "duration": 0}
+        self.call("WebDriver:PerformActions", actions=[{"type": "pointer", "id": "mouse", "parameters": {"pointerType": "mouse"}, "actions": [move]}])
+
     def act(self, *sources):
         self.call("WebDriver:PerformActions", actions=list(sources))
         self.call("WebDriver:ReleaseActions")
@@ -218,6 +234,12 @@ class Firefox:
     def fingers(self, steps):
         """Two fingers at the places of each step, one step after another."""
         self.act(*(self.finger(i, [step[i] for step in steps]) for i in range(2)))
+
+    def swipe(self, places):
+        """One finger over these places. Marionette tells the page alone of it, and doesn't scroll."""
+        moves = [{"type": "pointerMove", "x": int(x), "y": int(y), "duration": 0} for x, y in places]
+        actions = [moves[0], {"type": "pointerDown", "button": 0}, *moves[1:], {"type": "pointerUp", "button": 0}]
+        self.act({"type": "pointer", "id": "finger0", "parameters": {"pointerType": "touch"}, "actions": actions})
 
     def finger(self, number, places):
         """One of them acts at a time: Firefox tells pages the first alone of two that act at once."""

@@ -13,8 +13,9 @@ PICTURES = os.path.join(TOP, "build", "page")
 class Driven:
     """The page in a browser."""
 
-    def __init__(self, browser, page, program, folder):
+    def __init__(self, browser, page, program, folder, where=""):
         self.browser, self.program, self.folder, self.page = browser, program, folder, page
+        self.where = f", {where}" if where else ""
         self.reload()
 
     def reload(self):
@@ -24,7 +25,7 @@ class Driven:
         self.wait('document.documentElement.dataset.ready === "yes"')
 
     def name(self, what):
-        return f"{self.browser.name}, {what}"
+        return f"{self.browser.name}{self.where}, {what}"
 
     def run(self, expression):
         return self.browser.run(expression)

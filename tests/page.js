@@ -4,7 +4,7 @@ window.pause = () => new Promise((resume) => setTimeout(resume, 4));
 
 window.isSettled = () => {
   const { state, scan } = document.documentElement.dataset;
-  return state === "done" && ["none", "done", "wrong"].includes(scan);
+  return state === "done" && ["none", "done", "wrong"].includes(scan) && $("map").dataset.painted !== "no";
 };
 
 // Drops a file, given in base64, and waits for the answer.
@@ -29,8 +29,7 @@ window.scanned = async (text) => {
   $("text").value = text;
   $("window").requestSubmit();
   while (!isSettled()) await pause();
-  const sums = [...$("sums").tBodies[0].rows].map((row) => [...row.cells].map((cell) => cell.textContent));
-  return { printed: $("printed").textContent, wrong: $("wrong").textContent, sums };
+  return { printed: $("printed").textContent, wrong: $("wrong").textContent, sums: rowsOf("sums") };
 };
 
 // All pages of the table, as the program prints a list.
@@ -55,33 +54,122 @@ window.frame = () => {
   return { x, y, width, height, ...JSON.parse($("map").dataset.frame) };
 };
 
-// Texts whose contrast with what is behind them is below that of the accessibility guidelines.
+// The buttons of the examples, and the row that is marked.
+window.examples = () => [...document.querySelectorAll("main [role=group] button")];
+window.marked = () => $("list").querySelector("tr[aria-current]");
+
+// Whether an element is in view as a whole.
+window.isInView = (at) => {
+  const { top, bottom, height } = at?.getBoundingClientRect() ?? { height: 0 };
+  return height > 0 && top >= -1 && bottom <= innerHeight + 1;
+};
+
+// How far an element's middle is from the middle of another one, from left to right; NaN where it isn't there.
+window.offMiddle = (at, of) => {
+  const [one, other] = [at, of].map((box) => box?.getBoundingClientRect());
+  return one && other ? (one.left + one.right - other.left - other.right) / 2 : NaN;
+};
+
+// How many lines the leads have together.
+window.leadLines = () => {
+  const lines = [...document.querySelectorAll(".lead")].map((at) => at.clientHeight / parseFloat(getComputedStyle(at).lineHeight));
+  return Math.round(lines.reduce((one, other) => one + other, 0));
+};
+
+// The texts of a table's rows, cell by cell.
+window.rowsOf = (id) => [...($(id).tBodies[0]?.rows ?? [])].map((row) => [...row.cells].map((cell) => cell.textContent));
+
+// Drops files at once, which are given by their names.
+window.droppedAtOnce = (...names) => {
+  const moved = new DataTransfer();
+  for (const name of names) moved.items.add(new File(["\x01\0\x02\x04"], name));
+  document.dispatchEvent(new DragEvent("drop", { dataTransfer: moved, cancelable: true }));
+};
+
+const pen = new OffscreenCanvas(1, 1).getContext("2d", { willReadFrequently: true });
+// What is seen of a colour over another one.
+const seen = (under, colour) => {
+  for (const one of [`rgb(${under})`, colour]) {
+    pen.fillStyle = one;
+    pen.fillRect(0, 0, 1, 1);
+  }
+  return [...pen.getImageData(0, 0, 1, 1).data].slice(0, 3);
+};
+const part = (byte) => (byte / 255 <= 0.03928 ? byte / 255 / 12.92 : ((byte / 255 + 0.055) / 1.055) ** 2.4);
+const light = ([red, green, blue]) => 0.2126 * part(red) + 0.7152 * part(green) + 0.0722 * part(blue);
+const ground = (at) => seen(at.parentElement ? ground(at.parentElement) : [255, 255, 255], getComputedStyle(at).backgroundColor);
+const contrast = (one, other) => {
+  const both = [light(one), light(other)];
+  return (Math.max(...both) + 0.05) / (Math.min(...both) + 0.05);
+};
+
+// Texts whose contrast with their ground is below that of the accessibility guidelines.
 window.faint = () => {
-  const pen = new OffscreenCanvas(1, 1).getContext("2d", { willReadFrequently: true });
-  const seen = (under, colour) => {
-    for (const one of [`rgb(${under})`, colour]) {
-      pen.fillStyle = one;
-      pen.fillRect(0, 0, 1, 1);
-    }
-    return [...pen.getImageData(0, 0, 1, 1).data].slice(0, 3);
-  };
-  const part = (byte) => (byte / 255 <= 0.03928 ? byte / 255 / 12.92 : ((byte / 255 + 0.055) / 1.055) ** 2.4);
-  const light = ([red, green, blue]) => 0.2126 * part(red) + 0.7152 * part(green) + 0.0722 * part(blue);
-  const ground = (at) => seen(at.parentElement ? ground(at.parentElement) : [255, 255, 255], getComputedStyle(at).backgroundColor);
-  const contrast = (at) => {
-    const under = ground(at), both = [light(seen(under, getComputedStyle(at).color)), light(under)];
-    return (Math.max(...both) + 0.05) / (Math.min(...both) + 0.05);
-  };
   const hasText = (at) => [...at.childNodes].some((node) => node.nodeType === Node.TEXT_NODE && node.data.trim());
   const all = [...document.querySelectorAll("body *:not(script, :disabled)")].filter((at) => at.checkVisibility() && hasText(at));
-  return all.filter((at) => contrast(at) < 4.5).map((at) => at.outerHTML.slice(0, 80));
+  const isFaint = (at) => contrast(ground(at), seen(ground(at), getComputedStyle(at).color)) < 4.5;
+  return all.filter(isFaint).map((at) => at.outerHTML.slice(0, 80));
+};
+
+// The colours of an element that are seen beside its ground: its own, its border's, and those of its pattern.
+const coloursOf = (at) => {
+  const { backgroundColor, backgroundImage, borderTopWidth, borderTopColor } = getComputedStyle(at);
+  const border = parseFloat(borderTopWidth) ? [borderTopColor] : [];
+  const all = [backgroundColor, ...border, ...(backgroundImage.match(/rgba?\([^)]*\)|color\([^)]*\)/g) ?? [])];
+  return all.filter((colour) => !/^rgba\(.*, 0\)$/.test(colour));
+};
+
+// Marks, frames and borders with less contrast than 3 to what they are on. With no mark at all there is something to find.
+window.faintMarks = () => {
+  const marks = [...document.querySelectorAll(".legend i, .mark, td.hit, td.read, td.hopped")].filter((at) => at.checkVisibility());
+  const framed = [...document.querySelectorAll("button, .button, input:not([type]), #drop, #verdict")].filter((at) => at.checkVisibility());
+  const edge = (at) => getComputedStyle(at).borderLeftColor;
+  const faint = (at, colours) => {
+    const under = ground(at.parentElement);
+    return colours.some((one) => contrast(under, seen(under, one)) < 3);
+  };
+  const found = [...marks.filter((at) => faint(at, coloursOf(at))), ...framed.filter((at) => faint(at, [edge(at)]))];
+  return found.map((at) => at.outerHTML.slice(0, 60));
+};
+
+// Colours that whole pixels of a canvas have, but for its ground, with less contrast than 3 to it; and how many others there are.
+window.faintPixels = (id) => {
+  const canvas = $(id), under = ground(canvas), counts = new Map();
+  const { data } = canvas.getContext("2d").getImageData(0, 0, canvas.width, canvas.height);
+  const words = new Uint32Array(data.buffer);
+  for (const word of words) if (word >>> 24 === 255) counts.set(word, (counts.get(word) ?? 0) + 1);
+  const often = [...counts].filter(([, count]) => count > Math.max(60, words.length / 4000));
+  const colours = often.map(([word]) => [word & 255, (word >> 8) & 255, (word >> 16) & 255]);
+  const marks = colours.filter((colour) => String(colour) !== String(under));
+  return { faint: marks.filter((colour) => contrast(colour, under) < 3), marks: marks.length };
+};
+
+// How the marks of a legend look where colours aren't seen: their sizes, patterns and borders.
+window.shapesOf = (legend) =>
+  [...document.querySelectorAll(`${legend} i`)].map((at) => {
+    const { width, height, borderRadius, borderTopStyle, borderTopWidth, backgroundImage } = getComputedStyle(at);
+    const pattern = backgroundImage.replace(/(?:rgba?|color)\([^)]*\)/g, "");
+    return [width, height, borderRadius, borderTopStyle, borderTopWidth, pattern].join(" ");
+  });
+
+// Tables that reach beyond the screen with nothing that scrolls round them, and captions inside of what scrolls.
+window.cutTables = () => {
+  const scrolls = (at) => at && (["auto", "scroll"].includes(getComputedStyle(at).overflowX) ? at : scrolls(at.parentElement));
+  const all = [...document.querySelectorAll("table")].filter((at) => at.checkVisibility());
+  const cut = all.filter((at) => {
+    const room = scrolls(at.parentElement), right = at.getBoundingClientRect().right;
+    return right > innerWidth && !(room && room.tabIndex === 0 && room.getBoundingClientRect().right <= innerWidth);
+  });
+  const captions = [...document.querySelectorAll("caption")].filter((at) => at.checkVisibility() && scrolls(at.parentElement));
+  return [...cut, ...captions].map((at) => at.outerHTML.slice(0, 60));
 };
 
 // What lacks a name for those who don't see it.
 window.unnamed = () => {
   const named = (at) => at.getAttribute("aria-label") || at.getAttribute("aria-labelledby") || at.textContent.trim() || at.labels?.length;
   const nameless = [...document.querySelectorAll("button, input, canvas, progress, [tabindex]")].filter((at) => !named(at));
-  const tables = [...document.querySelectorAll("table")].filter((at) => at.checkVisibility() && !at.caption?.textContent);
+  const entitled = (at) => at.caption?.textContent || $(at.getAttribute("aria-labelledby"))?.textContent;
+  const tables = [...document.querySelectorAll("table")].filter((at) => at.checkVisibility() && !entitled(at));
   const heads = [...document.querySelectorAll("th")].filter((at) => !at.scope);
   return [...nameless, ...tables, ...heads].map((at) => at.outerHTML.slice(0, 80));
 };

@@ -1,16 +1,17 @@
 #!/usr/bin/env python3
 """Builds the page that checks a layer in a browser, and drives it in Chromium and in Firefox.
 
-usage: tests/page.py [PROGRAM] [--page PAGE] [--picture] [BROWSER..]   (build/twkb_tool where PROGRAM is left out)
+usage: tests/page.py [PROGRAM] [--page PAGE] [--picture] [--screens] [BROWSER..]   (build/twkb_tool where PROGRAM is left out)
 
 The small layers of cases.tsv are dropped on the page, and the examples chosen as files. What the page says has to be what the
 program prints. Then come windows that are dragged, large files, files that are no layers, both colours, and what people with
-keyboards and screen readers need. Pictures of it go to build/page. With --picture the one that README shows is written too;
+keyboards and screen readers need. Last, page_screens.py and page_answers.py try the page on screens of three widths, in both
+colours; with --screens they alone do. Pictures of it go to build/page. With --picture the one that README shows is written too;
 with --page that page is taken as it is. A browser that this machine lacks is named in one line, with what brings it, and its tests
 are left out. Prints each difference, and last a line `N passed, M failed`; the status is 1 where any failed.
 """
 import argparse
-import json
+import filecmp
 import os
 import shutil
 import subprocess
@@ -18,9 +19,12 @@ import sys
 import tempfile
 import time
 
-from browsers import BROWSERS
+from browsers import BROWSERS, Failed
 from driven import PICTURES, Driven
-from harness import TOP, count, counts, run, table, written
+from harness import TOP, count, counts, table, written
+from page_answers import ANSWERS, printed
+from page_moves import LINES, dragged, zoomed
+from page_screens import SCREENS, WIDTHS, WORLD, pictures
 from png import shrunk
 from widened import widened
 
@@ -28,16 +32,13 @@ WEB = os.path.join(TOP, "bindings", "web")
 PAGE = os.path.join(TOP, "build", "dozhemik.html")
 LARGEST_PAGE = 150_000
 LARGEST_FILE = 268435456
-EXAMPLES = ["points_sized.twkb", "coast_lines_sized.twkb", "coast_collections.twkb", "coast_z.twkb"]
-LINES = os.path.join(TOP, "examples", "coast_lines_sized.twkb")
-# So many copies of the lines have more than 100 MB.
+EXAMPLES = ["points_sized.twkb", "coast_lines_sized.twkb", "coast_collections.twkb", "coast_z.twkb", WORLD]
+# These copies of the lines have more than 100 MB.
 COPIES = 1190
-# How many windows of postgis.tsv are asked of each example: every so-and-so-manieth.
+# Of the world PostGIS was asked for no windows: those of the lines are taken.
+LINES_TOO = {WORLD: "coast_lines_sized.twkb"}
+# Of the windows that PostGIS was asked for every fifth one is asked for, of each example.
 EVERY = 5
-
-
-def printed(program, *words):
-    return run([program, *words])[1].decode().rstrip("\n")
 
 
 def cases(page):
@@ -63,7 +64,7 @@ def cases(page):
         else:
             count(page.name(name), told["line"], wanted)
             if "--tight" in rest:
-                count(page.name(f"{name}, tight"), (told["tight"] or "Tight").startswith("Tight"), True)
+                count(page.name(f"{name}, tight"), (told["tight"] or "Tight").startswith(("Tight", "No box")), True)
 
 
 def refused(page, name, layer, told):
@@ -78,18 +79,20 @@ def refused(page, name, layer, told):
 
 
 def examples(page):
-    """The four layers by the file input: the verdict, the list, and windows."""
+    """The example layers by the file input: the verdict, the list, and windows."""
     for layer in EXAMPLES:
         path = os.path.join(TOP, "examples", layer)
         told = page.open(path)
         count(page.name(layer), told["line"], printed(page.program, "check", path))
-        count(page.name(f"{layer}, tight"), told["tight"][:6], "Tight:")
-        count(page.name(f"{layer}, list"), page.run("listed()"), printed(page.program, "list", path).splitlines())
-        windows = [row[1] for row in table("postgis.tsv") if row[0] == layer]
+        rows = printed(page.program, "list", path).splitlines()
+        tight = "Tight:" if any("box=yes" in row for row in rows) else "No box"
+        count(page.name(f"{layer}, tight"), told["tight"][:6], tight)
+        count(page.name(f"{layer}, list"), page.run("listed()"), rows)
+        windows = [row[1] for row in table("postgis.tsv") if row[0] in (layer, LINES_TOO.get(layer))]
         for window in [*windows[::EVERY], *windows[-2:]]:
             told = page.scan(window)
             count(page.name(f"{layer}, {window}"), told["printed"], printed(page.program, "scan", path, window))
-            read = sum(int(row[3].replace(",", "")) for row in told["sums"])
+            read = sum(int(row[2].replace(",", "")) for row in told["sums"][:3])
             count(page.name(f"{layer}, {window}: blob by blob"), f"read={read} " in told["printed"], True)
         page.picture(layer[:-5], '$("asked")')
 
@@ -105,90 +108,6 @@ def inside(page):
         file = next((file for file in wanted if file in text), None)
         count(page.name(f"example {number}"), line.split("kind=")[-1] if file else line[:3], wanted.get(file, "ok "))
         page.picture(f"example-{number}", '$("verdict")')
-
-
-def dragged(page):
-    """A window that is dragged is the one of its text, and so is one that keys move."""
-    page.open(LINES)
-    page.scan("x=-20..20,y=-20..20")
-    page.run('void $("map").scrollIntoView({ block: "center" })')
-    for what, act in (("dragged", drag_whole), ("an edge dragged", drag_edge), ("drawn", draw), ("by keys", keys)):
-        before = page.run('$("text").value')
-        act(page)
-        page.wait("isSettled()")
-        text, hits = page.run('[$("text").value, $("printed").textContent]')
-        count(page.name(f"{what}: another window"), text != before, True)
-        count(page.name(f"{what}: {text}"), hits, printed(page.program, "scan", LINES, text))
-        page.scan("x=0..1,y=0..1")
-        count(page.name(f"{what} and typed: {text}"), page.scan(text)["printed"], hits)
-        count(page.name(f"{what} and typed: the frame"), page.run("frame().text"), text)
-    page.picture("dragged", '$("asked")')
-
-
-def corners(page):
-    """The window on the screen: left, top, right, bottom."""
-    frame = page.run("frame()")
-    left, top, right, bottom = frame["corners"]
-    return frame["x"] + left, frame["y"] + top, frame["x"] + right, frame["y"] + bottom
-
-
-def drag_whole(page):
-    left, top, right, bottom = corners(page)
-    x, y = (left + right) / 2, (top + bottom) / 2
-    page.browser.mouse([(x, y), (x + 20, y - 10), (x + 61, y - 33)])
-
-
-def drag_edge(page):
-    _, top, right, bottom = corners(page)
-    y = (top + bottom) / 2
-    page.browser.mouse([(right, y), (right + 15, y), (right + 40, y + 20)])
-
-
-def draw(page):
-    frame = page.run("frame()")
-    page.run('$("pen").click()')
-    x, y = frame["x"] + 500, frame["y"] + 100
-    page.browser.mouse([(x, y), (x + 30, y + 20), (x + 90, y + 75)])
-    page.run('$("pen").click()')
-
-
-def keys(page):
-    page.run('$("map").focus()')
-    page.browser.type("ArrowRight", 39, shift=True)
-    page.browser.type("ArrowUp", 38, shift=True)
-    page.browser.type("]", 221)
-    page.browser.type("+", 187)
-    page.browser.type("ArrowLeft", 37)
-
-
-def zoomed(page):
-    """Wheel, two fingers and keys make the map larger, a drag beside the window moves it, and 0 shows all again."""
-    page.open(LINES)
-    page.scan("x=-20..20,y=-20..20")
-    page.run('void $("map").scrollIntoView({ block: "center" })')
-    left, top, right, bottom = at_first = corners(page)
-    x, y = (left + right) / 2, (top + bottom) / 2
-
-    def after(act, *words):
-        before = page.run('$("map").dataset.frame')
-        act(*words)
-        page.wait(f'$("map").dataset.frame !== {json.dumps(before)}')
-        return corners(page)
-
-    wide = [at_first[2] - at_first[0]]
-    for what, act, words in (
-        ("wheel", page.browser.wheel, (x, y, -240)),
-        ("fingers", page.browser.fingers, ([[(x - 20, y), (x + 20, y)], [(x - 30, y), (x + 30, y)], [(x - 45, y), (x + 45, y)]],)),
-        ("keys", page.browser.type, ("+", 187)),
-    ):
-        got = after(act, *words)
-        wide.append(got[2] - got[0])
-        count(page.name(f"{what}: larger"), wide[-1] > 1.2 * wide[-2], True)
-        page.run('$("map").focus()')
-    count(page.name("0 shows all"), after(page.browser.type, "0", 48), at_first)
-    moved = after(page.browser.mouse, [(left - 60, top), (left - 40, top + 5), (left - 10, top + 20)])
-    count(page.name("a drag beside the window"), [round(a - b) for a, b in zip(moved, at_first)], [50, 20, 50, 20])
-    count(page.name("the window stays"), page.run('$("text").value'), "x=-20..20,y=-20..20")
 
 
 def no_layers(page):
@@ -304,11 +223,37 @@ def dark(page, light):
 def for_readme(page):
     """The picture that README shows."""
     page.browser.size(900, 1072)
-    page.open(LINES)
+    page.open(os.path.join(TOP, "examples", WORLD))
     page.scan("x=100..140,y=-10..10")
     path = page.picture("readme", '$("verdict")')
     page.browser.size(1000, 900)
     return path
+
+
+def tried(part, page):
+    """What goes wrong in a part is counted as a difference, and the next part begins on a fresh page."""
+    try:
+        part(page)
+    except (Failed, TimeoutError) as error:
+        count(page.name(part.__name__), str(error), "")
+        page.reload()
+
+
+def screens(Browser, page, program, folder):
+    """The page on screens of three widths, in both colours."""
+    for dark in (False, True):
+        browser = Browser(dark=dark)
+        try:
+            for width, height in WIDTHS.items():
+                start = time.monotonic()
+                browser.size(width, height)
+                driven = Driven(browser, page, program, folder, f"{width} px, {'dark' if dark else 'light'}")
+                for part in (*SCREENS, *ANSWERS):
+                    tried(part, driven)
+                pictures(driven, f"{width}-{'dark' if dark else 'light'}")
+                print(f"{driven.name('screens')}, {time.monotonic() - start:.0f} s", flush=True)
+        finally:
+            browser.close()
 
 
 def drive(Browser, page, program, folder, picture):
@@ -336,6 +281,23 @@ def drive(Browser, page, program, folder, picture):
         browser.close()
 
 
+def same_bytes(module, folder):
+    """A commit has one page. Outside of a repository the commit is unknown."""
+    make = os.path.join(WEB, "make_page.py")
+    made = [os.path.join(folder, name) for name in ("one.html", "two.html")]
+    for path in made:
+        subprocess.run([sys.executable, make, module, path], check=True, stdout=subprocess.DEVNULL)
+    count("the same page twice", filecmp.cmp(*made, shallow=False), True)
+    copy = os.path.join(folder, "copy")
+    for part in ("bindings/web", "examples", "tests"):
+        shutil.copytree(os.path.join(TOP, part), os.path.join(copy, part))
+    shutil.copy(os.path.join(TOP, "VERSION"), copy)
+    make = os.path.join(copy, "bindings", "web", "make_page.py")
+    subprocess.run([sys.executable, make, module, made[0]], check=True, stdout=subprocess.DEVNULL)
+    with open(made[0], encoding="utf-8") as file:
+        count("no repository: the commit is unknown", "commit unknown" in file.read(), True)
+
+
 def built():
     """The page, or nothing where this machine lacks what builds it."""
     if not shutil.which("wasm-opt"):
@@ -353,6 +315,7 @@ def main():
     words.add_argument("browsers", nargs="*")
     words.add_argument("--page")
     words.add_argument("--picture", action="store_true")
+    words.add_argument("--screens", action="store_true")
     asked = words.parse_args()
     there = [one for one in BROWSERS if shutil.which(one.name)]
     for lacking in set(BROWSERS) - set(there):
@@ -361,10 +324,16 @@ def main():
     if page:
         os.makedirs(PICTURES, exist_ok=True)
         count("the page's length", os.path.getsize(page) <= LARGEST_PAGE, True)
+        module = os.path.join(TOP, "build", "web", "twkb_web.wasm")
         with tempfile.TemporaryDirectory() as folder:
+            if os.path.exists(module):
+                same_bytes(module, folder)
             for Browser in there:
                 if not asked.browsers or Browser.name in asked.browsers:
-                    drive(Browser, os.path.abspath(page), os.path.abspath(asked.program), folder, asked.picture)
+                    paths = os.path.abspath(page), os.path.abspath(asked.program), folder
+                    if not asked.screens:
+                        drive(Browser, *paths, asked.picture)
+                    screens(Browser, *paths)
     print(f"{counts['passed']} passed, {counts['failed']} failed")
     return int(counts["failed"] > 0)
 

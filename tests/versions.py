@@ -24,6 +24,7 @@ STATED = {
     "bindings/python/pyproject.toml": r'^version = "(.*)"$',
     "bindings/python/dozhemik/__init__.py": r'^__version__ = "(.*)"$',
     "bindings/rust/Cargo.toml": r'^version = "(.*)"$',
+    "README.md": r"(?:dozhemik-|This is version )(\d+\.\d+\.\d+)",
     "docs/twkb_tool.1": r'^\.TH .* "Dozhemik (.*)" .*$',
     "docs/USAGE.md": r"dozhemik-(\d.*?)-x86_64",
     "docs/BINDINGS.md": r"dozhemik-(\d.*?)-py3",
@@ -84,7 +85,7 @@ def of_the_page(version, folder):
     count("making a page", (done.returncode, done.stderr), (0, ""))
     with open(page, encoding="utf-8") as file:
         footer = re.search(r"<footer>.*</footer>", file.read(), re.DOTALL)
-    count("the page's footer", re.findall(r"Dozhemik (\d\S*)\.\s", footer[0]), [version])
+    count("the page's footer", re.findall(r"Dozhemik (\d\S*), commit ", footer[0]), [version])
 
 
 def main():

@@ -4,38 +4,60 @@
 usage: bindings/web/make_page.py MODULE OUT
 
 The scripts of `page/` are joined in an order in which each imports from those before it alone, without comments and
-indentation. The module, the worker and the examples are compressed, and the examples shortened by whole blobs, so that the page
-stays below LARGEST bytes.
+indentation. The module, the scripts and the examples are compressed, and all examples but the first shortened by whole blobs, so
+that the page stays below LARGEST bytes. It names the version, from the file VERSION, and the commit, where git knows one. A commit has
+one page, byte for byte.
 """
 import bisect
 import functools
 import gzip
 import os
 import re
+import subprocess
 import sys
 
 HERE = os.path.dirname(os.path.abspath(__file__))
 TOP = os.path.dirname(os.path.dirname(HERE))
 PAGE = os.path.join(HERE, "page")
-WORKER = ["parts.js", "fields.js", "twkb.js", "reasons.js", "layer.js", "worker.js"]
-MAIN = ["dom.js", "words.js", "window.js", "bytes.js", "answers.js", "paint.js", "map.js", "table.js", "main.js"]
+WORKER = ["numbers.js", "parts.js", "fields.js", "fronts.js", "twkb.js", "reasons.js", "layer.js", "worker.js"]
+MAIN = [
+    *("dom.js", "numbers.js", "words.js", "window.js", "view.js", "graticule.js", "pick.js", "bytes.js", "answers.js", "files.js"),
+    *("paint.js", "strip.js", "map.js", "table.js", "main.js"),
+]
 LARGEST = 150_000
 sys.path.insert(0, os.path.join(TOP, "tests"))
 import plain  # noqa: E402
 
-# Each example: its file, its title, and how many blobs of it are taken, by parts of them: as many as there is room for.
+# The first example is there whole. Of each other one: its file, its title, and how many blobs of it are taken, by parts of them: as
+# many as there is room for.
+WORLD = ("world.twkb", "Shorelines")
 EXAMPLES = [
-    ("coast_lines_sized.twkb", "Shorelines", 4),
     ("coast_collections.twkb", "Collections", 1),
     ("coast_z.twkb", "Lines with Z and M", 3),
     ("points_sized.twkb", "Points", 16),
 ]
 MOST_PARTS = 100
+COMMIT_LETTERS = 12
 
 
 def text_of(*path):
     with open(os.path.join(*path), encoding="utf-8") as file:
         return file.read()
+
+
+def version():
+    return text_of(TOP, "VERSION").strip()
+
+
+def commit():
+    """The commit of this checkout, or that it is unknown. A repository round a folder without one isn't ours."""
+    git = ["git", "-C", TOP, "rev-parse", "--show-toplevel", "HEAD"]
+    try:
+        done = subprocess.run(git, stdout=subprocess.PIPE, stderr=subprocess.DEVNULL, text=True, check=True)
+    except (OSError, subprocess.CalledProcessError):
+        return "unknown"
+    top, head = done.stdout.splitlines()
+    return head[:COMMIT_LETTERS] if os.path.realpath(top) == os.path.realpath(TOP) else "unknown"
 
 
 def joined(modules):
@@ -53,7 +75,7 @@ def variable(module):
 
 
 def body(module, modules):
-    """The module with imports from what stands before it, and without comments of whole lines and indentation."""
+    """The module with imports from those before it, and without comments of whole lines and indentation."""
     text = text_of(PAGE, module)
     for found in re.findall(r'^import .* from "\./(\w+\.js)";', text, re.MULTILINE):
         if found not in modules[: modules.index(module)]:
@@ -77,17 +99,20 @@ def packed(data):
 
 
 @functools.cache
-def widest(name):
-    """An example, and its blobs with their numbers, the widest first; of those that are as wide, some from all over the file."""
+def example(name):
     with open(os.path.join(TOP, "examples", name), "rb") as file:
-        data = file.read()
-    return data, sorted(enumerate(plain.blobs_of(data)), key=lambda one: (-width(one[1]), one[0] % 9))
+        return file.read()
+
+
+@functools.cache
+def widest(name):
+    """The blobs of an example with their numbers, the widest first; of those that are as wide, some from all over the file."""
+    return sorted(enumerate(plain.blobs_of(example(name))), key=lambda one: (-width(one[1]), one[0] % 9))
 
 
 def shortened(name, most):
     """The widest blobs of an example, in file order."""
-    data, blobs = widest(name)
-    return b"".join(data[blob.start : blob.stop] for _, blob in sorted(blobs[:most], key=lambda one: one[0]))
+    return b"".join(example(name)[blob.start : blob.stop] for _, blob in sorted(widest(name)[:most], key=lambda one: one[0]))
 
 
 def width(blob):
@@ -96,25 +121,21 @@ def width(blob):
 
 
 def layers(parts):
-    """A script for each example, and three that are spoiled: what to change in the first of them, or how much is left of it."""
-    scripts = []
-    for name, title, blobs in EXAMPLES:
-        data = shortened(name, blobs * parts)
-        scripts.append(f'<script type="text/plain" id="{name[:-5]}" data-example="{name}" data-title="{title}">{packed(data)}</script>')
-    return "\n".join(scripts + spoiled(EXAMPLES[0], parts))
+    """A script for each example, and three that are broken: what to change in the first of them, or how much is left of it."""
+    whole = [(*WORLD, example(WORLD[0]))]
+    short = [(name, title, shortened(name, blobs * parts)) for name, title, blobs in EXAMPLES]
+    scripts = [
+        f'<script type="text/plain" id="{name[:-5]}" data-example="{name}" data-title="{title}">{packed(data)}</script>'
+        for name, title, data in whole + short
+    ]
+    return "\n".join(scripts + broken(WORLD[0]))
 
 
-def spoiled(example, parts):
-    name, _, blobs = example
-    data = shortened(name, blobs * parts)
-    read = plain.blobs_of(data)
-    # The size of one is one off, and the extent in X of another is half of what it was: its last byte says how wide it is.
-    size, box, cut = (read[len(read) * third // 4] for third in (1, 2, 3))
-    reader = plain.Reader(data)
-    reader.place = box.head.box_at
-    reader.signed()
-    reader.signed()
-    extent = reader.place - 1
+def broken(name):
+    data = example(name)
+    blobs = plain.blobs_of(data)
+    size, cut = (blobs[len(blobs) * third // 4] for third in (1, 3))
+    extent = next(filter(None, (halved(data, number) for number in range(len(blobs) // 2, len(blobs)))))
 
     def script(file, title, content="", more=""):
         return f'<script type="text/plain" data-layer="{name[:-5]}" data-example="{file}" data-title="{title}"{more}>{content}</script>'
@@ -126,12 +147,23 @@ def spoiled(example, parts):
     ]
 
 
+def halved(data, number):
+    """Where the extent in X of a blob's box ends, if its box is false when this last byte, which says how wide it is, is halved."""
+    reader = plain.Reader(data)
+    reader.place = plain.blobs_of(data)[number].head.box_at
+    reader.signed()
+    reader.signed()
+    place = reader.place - 1
+    told = plain.check(data[:place] + bytes([data[place] // 2]) + data[place + 1 :])
+    return place if told.startswith(f"no blob={number} ") and told.endswith("kind=box\n") else None
+
+
 def main(module, out):
     with open(module, "rb") as file:
         code = packed(file.read())
     style = re.sub(r"^\s+|\n", "", text_of(PAGE, "style.css"), flags=re.MULTILINE)
-    texts = {"STYLE": style, "MODULE": code, "WORKER": packed(joined(WORKER).encode()), "MAIN": joined(MAIN)}
-    texts["VERSION"] = text_of(TOP, "VERSION").strip()
+    texts = {"STYLE": style, "MODULE": code, "VERSION": version(), "COMMIT": commit(), "LOADER": body("loader.js", [])}
+    texts.update(WORKER=packed(joined(WORKER).encode()), MAIN=packed(joined(MAIN).encode()))
 
     def page(parts):
         texts["EXAMPLES"] = layers(parts)

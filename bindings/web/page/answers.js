@@ -1,24 +1,51 @@
 // What the page says of a layer in words: its verdict, what a scan saved, and how tight its boxes are.
 import { $, element } from "./dom.js";
-import { KINDS, line, many, number, share } from "./words.js";
+import { many, number } from "./numbers.js";
+import { DONE, KINDS, line, share } from "./words.js";
 
-const DONE = [["read", "read, no hit"], ["hopped", "hopped over"], ["hit", "hit, and read"]];
+// The places of the sums that the worker tells, in the order of legends and tables.
+const ORDER = [["hit", 2], ["read", 0], ["header", 3], ["hopped", 1]];
 
-export function showVerdict({ verdict, length }, name) {
-  const { answer, kind, blobs, vertices, blob, offset } = verdict;
-  const box = $("verdict");
-  box.className = answer === 0 ? "ok" : "no";
-  const first = element("p"), second = element("p");
-  if (answer === 0) {
-    first.append(element("strong", "Certified: every claim is true."));
-    second.textContent = `${name} has ${many(blobs, "blob")} with ${many(vertices, "vertex")}, in ${many(length, "byte")}.`;
-  } else {
-    first.append(element("strong", `Refused: ${KINDS[kind].short}.`));
-    second.textContent = `In ${name}, blob number ${number(blob)} (counted from 0) is wrong at byte ${number(offset)} of ${number(length)}.`;
-  }
-  const printed = element("p");
+export function showVerdict(told, name) {
+  const { verdict } = told, box = $("verdict");
+  box.className = verdict.answer === 0 ? "ok" : "no";
+  const [title, ...sentences] = verdict.answer === 0 ? certified(told, name) : refused(told, name);
+  const first = element("p"), printed = element("p");
+  first.append(element("strong", title));
   printed.append("As the program prints it: ", element("code", line(verdict)));
-  box.replaceChildren(first, second, printed);
+  box.replaceChildren(first, ...sentences.map(withCode), printed);
+}
+
+// A paragraph in which words between backquotes are code.
+function withCode(text) {
+  const made = element("p");
+  text.split("`").forEach((part, i) => made.append(i % 2 ? element("code", part) : part));
+  return made;
+}
+
+function certified({ verdict, length, claims }, name) {
+  const { blobs, vertices } = verdict;
+  if (!blobs) return ["Certified: an empty file.", `${name} has no bytes, so it has no blobs, and nothing is claimed.`];
+  const made = [["size", claims.sizes], ["box", claims.boxes], ["list of ids", claims.ids]].filter(([, count]) => count);
+  const words = made.map(([word, count]) => many(count, word));
+  const holds = `${name} has ${many(blobs, "blob")} with ${many(vertices, "vertex")}, in ${many(length, "byte")}.`;
+  if (!words.length) return ["Certified: well formed. Nothing is claimed.", holds, lacks(blobs, "a size or a box")];
+  const claimed = `${words.slice(0, -1).join(", ")}${words.length > 1 ? " and " : ""}${words.at(-1)}`;
+  const missing = ["a box", "a size"].filter((_, i) => ![claims.boxes, claims.sizes][i]).join(" or ");
+  const rest = claims.both ? [] : [lacks(blobs, missing || "both a size and a box")];
+  return ["Certified: every claim is true.", `${holds} It claims ${claimed}.`, ...rest];
+}
+
+function lacks(blobs, what) {
+  if (blobs === 1) return `The blob doesn't have ${what}, so a scan reads all of it.`;
+  return `None of the ${number(blobs)} blobs has ${what}, so a scan reads all of them.`;
+}
+
+function refused({ verdict, length, looksLike }, name) {
+  const { kind, blob, offset } = verdict;
+  const where = `In ${name}, blob number ${number(blob)} (counted from 0) is wrong at byte ${number(offset)} of ${number(length)}.`;
+  const looks = looksLike ? [`This looks like ${looksLike.what}${looksLike.how ? `: ${looksLike.how}` : "."}`] : [];
+  return [`Refused: ${KINDS[kind].short}.`, ...looks, where];
 }
 
 export function showFault(text) {
@@ -36,54 +63,83 @@ export function showReasons({ verdict, detail }) {
 
 export function showScan({ hits, read, first, length, text }) {
   const saved = length - read;
-  const most = saved ? `It hopped over ${number(saved)} bytes (${share(saved, length)}), which nobody had to fetch or unpack.` : "It could hop over nothing.";
-  $("scanned").textContent = `For this window the scan found ${many(hits, "blob")}, and read ${number(read)} of ${number(length)} bytes (${share(read, length)}). ${most}`;
+  const most = saved ? ` It hopped over ${many(saved, "byte")} (${share(saved, length)}), which need not be fetched or unpacked.` : " It could hop over nothing.";
+  $("scanned").textContent = `For this window the scan found ${many(hits, "blob")}, and read ${number(read)} of ${many(length, "byte")} (${share(read, length)}).${most}`;
   const lines = first.map(([blob, offset]) => `hit blob=${blob} offset=${offset}`);
-  if (first.length < hits) lines.push(`.. and ${hits - first.length} hits more`);
+  if (first.length < hits) lines.push(`.. and ${many(hits - first.length, "more hit")}`);
   $("printed").textContent = [...lines, `hits=${hits} read=${read} of=${length}`].join("\n");
   $("printed").dataset.window = text;
 }
 
 export function showSums({ sums, all }, rows) {
-  const made = [2, 0, 1].map((state) => {
-    const { blobs, bytes, read } = sums[state], row = element("tr");
-    row.append(element("td", DONE[state][1], DONE[state][0]));
-    for (const one of [blobs, bytes, read]) row.append(element("td", number(one), "number"));
-    return row;
-  });
-  $("sums").tBodies[0].replaceChildren(...made);
-  $("unhopped").textContent = all ? "" : `Blob by blob only the first ${number(rows)} are shown; the sentence above is of all.`;
+  const made = ORDER.map(([name, place]) => sumRow(element("th", DONE[name]), sums[place], name));
+  const read = (what) => sums[2][what] + sums[0][what] + sums[3][what];
+  const names = ["blobs", "bytes", "directoryBlobs", "directoryBytes"];
+  const whole = Object.fromEntries(names.map((what) => [what, read(what)]));
+  $("sums").tBodies[0].replaceChildren(...made, sumRow(element("th", "read in all"), whole));
+  showShares(sums);
+  const few = `Blob by blob only the first ${number(rows)} are shown. The sentence at the top counts all of them.`;
+  $("directory").textContent = all ? saves(whole) : few;
 }
 
-export function showHopping(both, rows) {
-  if (both || !rows) return;
-  $("unhopped").textContent = "No blob of this layer has both a size and a box of its own, so a scan can hop over no blob as a whole. With both, most of it needn't be read.";
+function saves({ bytes, directoryBytes }) {
+  if (!bytes) return "";
+  const directory = "With a directory, which keeps the place and the box of every blob in memory, it";
+  if (directoryBytes === bytes) return `${directory} would read just as much: no blob has a box that misses the window.`;
+  return `${directory} would read ${many(directoryBytes, "byte")}, since it leaves out the blobs whose box misses the window.`;
 }
 
-export function showTight({ tight, loose }, look) {
-  $("loosest").hidden = !loose || !loose.loosest.length;
+function sumRow(head, { blobs, bytes, directoryBlobs, directoryBytes }, name) {
+  const row = element("tr", undefined, name ? "" : "whole");
+  head.scope = "row";
+  if (name) head.prepend(element("i", undefined, `mark ${name}`));
+  row.append(head, ...[blobs, bytes, directoryBlobs, directoryBytes].map((one) => element("td", number(one), "number")));
+  return row;
+}
+
+// The bar: what was read of blobs, what was read of headers on the way, and what was hopped over.
+function showShares(sums) {
+  const bytes = { read: sums[2].bytes + sums[0].bytes, header: sums[3].bytes, hopped: sums[1].bytes };
+  const all = bytes.read + bytes.header + bytes.hopped, words = { ...DONE, read: "read" };
+  for (const [name, count] of Object.entries(bytes)) {
+    const part = document.querySelector(`#shares [data-share=${name}]`), says = `${words[name]}: ${share(count, all)}`;
+    part.style.flexGrow = all ? count / all : 0;
+    document.querySelector(`#shared [data-share=${name}] span`).textContent = says;
+  }
+  const hit = bytes.read ? sums[2].bytes / bytes.read : 0;
+  document.querySelector("#shares .hit").style.flexGrow = hit;
+  document.querySelector("#shares .read").style.flexGrow = 1 - hit;
+}
+
+export function showTight({ tight, loose, claims }, look) {
+  $("loose").hidden = !loose || !loose.loosest.length;
   if (!loose) {
-    $("tight").textContent = "Tight: no box is larger than its vertices ask for. A scan hops wherever a box can let it.";
+    const one = claims.boxes === 1, say = one ? "the box is" : `all ${number(claims.boxes)} boxes are`;
+    $("tight").textContent = claims.boxes ? `Tight: ${say} as small as the vertices allow.` : "No box is claimed, so none can be loose.";
     return;
   }
   const { found, atLeast, loosest } = loose;
-  $("tight").textContent = `Not tight: ${atLeast ? "at least " : ""}${many(found, "blob")} ${found === 1 ? "has" : "have"} a box larger than it has to be. Nothing is hidden, but scans read more than they need. The first is in blob ${number(tight.blob)}, at byte ${number(tight.offset)} (${line(tight)}).`;
-  $("loosest").querySelector("tbody").replaceChildren(...loosest.map((one) => looseRow(one, look)));
+  $("tight").textContent = `Not tight: ${atLeast ? "at least " : ""}${many(found, "blob")} ${found === 1 ? "has" : "have"} a larger box than the vertices need. Nothing is hidden, but scans read more than they need to. The first is blob ${number(tight.blob)}, at byte ${number(tight.offset)} (${line(tight)}).`;
+  $("loosest").tBodies[0].replaceChildren(...loosest.map((one) => looseRow(one, look)));
 }
 
-function looseRow({ blob, box, extent, beyond, decimals }, look) {
-  const row = element("tr"), show = element("button", "Show"), cell = element("td");
-  const ends = ([x0, y0, x1, y1]) => `x ${[x0, x1].map((end) => end.toFixed(decimals)).join(" to ")}, y ${[y0, y1].map((end) => end.toFixed(decimals)).join(" to ")}`;
+function looseRow({ blob, box, extent, beyond }, look) {
+  const row = element("tr"), show = element("button", number(blob)), cell = element("td", undefined, "number");
+  const ends = ([x0, y0, x1, y1]) => {
+    const made = element("td");
+    for (const [axis, low, high] of [["X", x0, x1], ["Y", y0, y1]]) made.append(element("div", `${axis} ${low} to ${high}`));
+    return made;
+  };
   show.type = "button";
-  show.setAttribute("aria-label", `Show blob ${blob} on the map`);
+  show.setAttribute("aria-label", `Show blob ${number(blob)} on the map`);
   show.onclick = () => look(blob);
   cell.append(show);
-  row.append(element("td", number(blob), "number"), element("td", ends(box)), element("td", ends(extent)), element("td", `up to ${beyond.toFixed(decimals)}`), cell);
+  row.append(cell, ends(box), ends(extent), element("td", `up to ${beyond}`));
   return row;
 }
 
 export function showSample({ every, blobs, vertices }, rows, all) {
   const some = every > 1 && rows > 1 ? `one blob in ${number(every)}, ${number(blobs.length)} of ${number(rows)}` : `the first ${number(vertices)} of ${number(all)} vertices`;
   const isWhole = vertices === all;
-  $("sample").textContent = isWhole ? `${many(blobs.length, "blob")}, ${many(vertices, "vertex")} drawn.` : `This layer has more than the map can show: it draws ${some}. Hits and bytes are counted over all.`;
+  $("sample").textContent = isWhole ? `${many(blobs.length, "blob")}, ${many(vertices, "vertex")} drawn.` : `This layer has more than the map can show. It draws ${some}. Hits and bytes are counted over all.`;
 }

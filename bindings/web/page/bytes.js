@@ -1,34 +1,42 @@
 // A refused layer: the bytes round the place, and the fields by their names.
 import { element } from "./dom.js";
+import { many, number } from "./numbers.js";
 
-const WIDE = 16;
+const hexOf = (byte) => byte.toString(16).padStart(2, "0");
+const letterOf = (byte) => (byte >= 32 && byte < 127 ? String.fromCharCode(byte) : ".");
 
-// The bytes in lines of sixteen: the named one marked, the rest of its field framed, and its blob shaded.
-export function showBytes(pre, { around, first, start, end, length, verdict, near }) {
-  const { offset } = verdict;
-  const field = near.find(({ from }) => from === offset);
-  const until = field ? Math.max(field.to, offset + 1) : offset + 1;
+// The bytes in lines, with their letters: the named one marked, the rest of its field framed, and its blob shaded.
+export function showBytes(pre, told, wide) {
+  const { around, first, length, verdict } = told, { offset } = verdict;
+  const digits = String(first + around.length).length;
   pre.replaceChildren();
-  for (let line = first; line < Math.max(first + around.length, offset + 1); line += WIDE) {
-    pre.append(`${String(line).padStart(9)}  `);
-    for (let at = line; at < line + WIDE; at++) {
-      if (at > length || (at === length && at !== offset)) break;
-      const two = at < length ? around[at - first].toString(16).padStart(2, "0") : "··";
-      const kind = at === offset ? "wrong" : at > offset && at < until ? "field blob" : at >= start && at < Math.max(end, offset) ? "blob" : "";
-      const cell = element(at === offset ? "mark" : "span", two, kind);
-      if (at === offset) Object.assign(cell, { id: "byte", title: `byte ${offset}${at === length ? ", where the file ends" : ""}` });
-      pre.append(cell, " ");
-    }
+  for (let line = first; line < Math.max(first + around.length, offset + 1); line += wide) {
+    const end = Math.min(line + wide, Math.max(length, offset + 1), first + Math.max(around.length, offset + 1 - first));
+    pre.append(`${String(line).padStart(digits)}  `);
+    for (let at = line; at < end; at++) pre.append(byteAt(at, told, "hex"), " ");
+    pre.append("   ".repeat(line + wide - end), " ");
+    for (let at = line; at < end; at++) pre.append(byteAt(at, told, "letter"));
     pre.append("\n");
   }
 }
 
+// A byte, in hexadecimal or as a letter. Where the file ends before the place, there is none.
+function byteAt(at, { around, first, start, end, length, verdict, near }, form) {
+  const { offset } = verdict, isHere = at === offset, byte = around[at - first];
+  const field = near.find(({ from }) => from === offset);
+  const isField = at > offset && field && at < field.to, isBlob = at >= start && at < Math.max(end, offset);
+  const text = form === "hex" ? (at < length ? hexOf(byte) : "··") : at < length ? letterOf(byte) : "·";
+  const cell = element(isHere ? "mark" : "span", text, isHere ? "wrong" : isField ? "field blob" : isBlob ? "blob" : "");
+  if (isHere && form === "hex") Object.assign(cell, { id: "byte", title: `byte ${offset}${at === length ? ", where the file ends" : ""}` });
+  return cell;
+}
+
 export function showFields(body, told) {
-  const { front, left, near, last } = told;
-  const rows = front.map((field) => fieldRow(field, told));
-  if (left) rows.push(gap(`${left.toLocaleString("en")} fields more`));
+  const { begins, left, near, last } = told;
+  const rows = begins.map((field) => fieldRow(field, told));
+  if (left) rows.push(gap(`${many(left, "more field")}, not shown`));
   rows.push(...near.map((field) => fieldRow(field, told)));
-  if (last) rows.push(gap("and further on"), fieldRow(last, told));
+  if (last) rows.push(gap("further on"), fieldRow(last, told));
   body.replaceChildren(...rows);
 }
 
@@ -39,16 +47,12 @@ function gap(text) {
   return row;
 }
 
-function fieldRow({ from, to, name, says, depth, stopped }, { verdict, around, first, guilty }) {
+function fieldRow({ from, bytes, name, says, depth, stopped }, { verdict, guilty }) {
   const isHere = from === verdict.offset, isGuilty = from === guilty;
   const row = element("tr", undefined, isHere ? "at" : isGuilty ? "guilty" : "");
-  const hex = [...around.subarray(Math.max(0, from - first), Math.max(0, to - first))].map((byte) => byte.toString(16).padStart(2, "0"));
-  const bytes = from < first || to > first + around.length ? "…" : hex.length ? hex.join(" ") : stopped ? "··" : "";
-  const label = depth > 1 ? `${name} (member at depth ${depth})` : name;
-  row.append(element("td", from.toLocaleString("en"), "number"));
   const code = element("td");
-  code.append(element("code", bytes));
+  code.append(element("code", [...bytes].map(hexOf).join(" ") || (stopped ? "··" : "")));
   const mark = isHere ? "  ← named by the verdict" : isGuilty ? "  ← makes it false" : "";
-  row.append(code, element("td", label), element("td", says + mark));
+  row.append(element("td", number(from), "number"), code, element("td", depth > 1 ? `${name} (member at depth ${depth})` : name), element("td", says + mark));
   return row;
 }

@@ -1,11 +1,15 @@
 // The fields of a blob by their names, as far as they can be read: for people who look at bytes.
 //
-// Any bytes may be walked here. A field that the bytes cut short, or that can't stand where it does, ends the walk.
+// Any bytes may be walked here. A field that the bytes cut short, or that can't follow where it is, ends the walk.
+import { decimal, many, number, plus, spelled, unzigzag } from "./numbers.js";
+
 const TYPES = ["", "point", "linestring", "polygon", "multipoint", "multilinestring", "multipolygon", "collection"];
-const PARTS = ["", "", "points", "rings", "points", "lines", "polygons", "members"];
+const PARTS = ["", "", "point", "ring", "point", "line", "polygon", "member"];
 export const AXES = "XYZM";
-const DEEPEST = 64;
-const LONGEST = 10;
+const DEEPEST = 64, LONGEST = 10;
+// A number of up to 7 bytes is exact without a BigInt.
+const SHORT = 7;
+const LEAST = -(2n ** 63n), GREATEST = 2n ** 63n - 1n;
 
 class Ended extends Error {}
 
@@ -46,14 +50,14 @@ export class Fields {
 
   varint(name, of) {
     const from = this.at;
-    let number = 0, scale = 1;
+    let short = 0, scale = 1;
     for (let i = 0; i < LONGEST; i++) {
-      if (this.at >= this.bytes.length) this.stop(from, name, i ? "the file ends inside this field" : "the file ends here", of);
+      if (this.at >= this.bytes.length) this.stop(from, name, i ? "the file ends inside this number" : "the file ends here", of);
       const byte = this.bytes[this.at++];
       if (i === LONGEST - 1 && byte > 1) this.stop(from, name, "a number of more than 64 bits", of);
-      number += (byte & 127) * scale;
+      short += (byte & 127) * scale;
       scale *= 128;
-      if (byte < 128) return number;
+      if (byte < 128) return i < SHORT ? short : spelled(this.bytes, from, this.at);
     }
   }
 
@@ -64,7 +68,7 @@ export class Fields {
   }
 
   signed(name, of, says, more) {
-    const from = this.at, number = half(this.varint(name, of));
+    const from = this.at, number = unzigzag(this.varint(name, of));
     this.tell(from, name, () => says(number), of, { number, ...more });
     return number;
   }
@@ -82,7 +86,7 @@ export class Fields {
     this.metadata(of);
     if (of.extended) this.dimensions(of);
     of.sizeAt = this.at;
-    if (of.hasSize) of.size = this.unsigned("size", of, (n) => `${n} bytes follow up to the end of this ${of.type}`);
+    if (of.hasSize) of.size = this.unsigned("size", of, (n) => `${many(n, "byte")} to the end of this ${of.type}`);
     of.boxAt = this.at;
     if (of.hasBox) this.box(of);
   }
@@ -91,10 +95,10 @@ export class Fields {
     const from = this.at, byte = this.byte("type and precision", of);
     of.kind = byte & 15;
     of.type = TYPES[of.kind];
-    of.precisions = [half(byte >> 4), half(byte >> 4)];
-    if (!of.type) this.stop(from, "type and precision", `type ${of.kind}, which there isn't`, of);
+    of.precisions = [unzigzag(byte >> 4), unzigzag(byte >> 4)];
+    if (!of.type) this.stop(from, "type and precision", `type ${of.kind}, but the types are 1 to 7`, of);
     if (of.kind === 7 && of.depth === DEEPEST) this.stop(from, "type and precision", `a collection inside ${DEEPEST - 1} others`, of);
-    this.tell(from, "type and precision", `${of.type}, ${of.precisions[0]} decimals`, of);
+    this.tell(from, "type and precision", `${of.type}, precision ${of.precisions[0]}`, of);
   }
 
   metadata(of) {
@@ -106,11 +110,11 @@ export class Fields {
   }
 
   dimensions(of) {
-    const from = this.at, byte = this.byte("further axes", of);
+    const from = this.at, byte = this.byte("extended dimensions", of);
     of.precisions[2] = byte & 1 ? (byte >> 2) & 7 : undefined;
     of.precisions[3] = byte & 2 ? byte >> 5 : undefined;
-    const there = [byte & 1 && `Z with ${of.precisions[2]} decimals`, byte & 2 && `M with ${of.precisions[3]} decimals`];
-    this.tell(from, "further axes", there.filter(Boolean).join(", ") || "none", of);
+    const there = [byte & 1 && `Z, precision ${of.precisions[2]}`, byte & 2 && `M, precision ${of.precisions[3]}`];
+    this.tell(from, "extended dimensions", there.filter(Boolean).join("; ") || "none", of);
   }
 
   axes(of) {
@@ -120,16 +124,18 @@ export class Fields {
   box(of) {
     of.box = [];
     for (const axis of this.axes(of)) {
-      const low = this.signed(`box, lowest ${AXES[axis]}`, of, (n) => value(n, of.precisions[axis]));
-      const extent = this.signed(`box, extent of ${AXES[axis]}`, of, (n) => `up to ${value(low + n, of.precisions[axis])}`);
-      of.box[axis] = [low, low + extent];
+      const precision = of.precisions[axis];
+      const low = this.signed(`box, lowest ${AXES[axis]}`, of, (n) => decimal(n, precision));
+      const says = (n) => (n < 0 ? `${decimal(n, precision)}: negative, so no vertex is in this box` : `${decimal(n, precision)}, so up to ${decimal(plus(low, n), precision)}`);
+      const extent = this.signed(`box, extent of ${AXES[axis]}`, of, says);
+      of.box[axis] = [low, plus(low, extent)];
     }
   }
 
   body(of) {
     const { kind } = of;
     if (kind === 1) return this.point(of, this.axes(of), [""]);
-    const count = this.unsigned(`count of ${PARTS[kind]}`, of, (n) => `${n} ${PARTS[kind]}`);
+    const count = this.count(`count of ${PARTS[kind]}s`, of, PARTS[kind]);
     if (kind === 2) return this.points(of, count, "");
     if (kind === 3) return this.lines(of, count, "ring ");
     if (of.hasIds) this.ids(of, count);
@@ -137,8 +143,12 @@ export class Fields {
     if (kind === 5) return this.lines(of, count, "line ");
     for (let i = 0; i < count; i++) {
       if (kind === 7) this.geometry(of.depth + 1, of);
-      else this.lines(of, this.unsigned(`polygon ${i}, count of rings`, of, (n) => `${n} rings`), `polygon ${i}, ring `);
+      else this.lines(of, this.count(`polygon ${i}, count of rings`, of, "ring"), `polygon ${i}, ring `);
     }
+  }
+
+  count(name, of, part) {
+    return this.unsigned(name, of, (n) => many(n, part));
   }
 
   ids(of, count) {
@@ -148,7 +158,7 @@ export class Fields {
 
   lines(of, count, name) {
     for (let i = 0; i < count; i++) {
-      const points = this.unsigned(`${name}${i}, count of points`, of, (n) => `${n} points`);
+      const points = this.count(`${name}${i}, count of points`, of, "point");
       this.points(of, points, `${name}${i}, `);
     }
   }
@@ -162,19 +172,21 @@ export class Fields {
   }
 
   pass(of, axes) {
-    for (const axis of axes) of.sums[axis] += half(this.varint());
+    for (const axis of axes) of.sums[axis] = plus(of.sums[axis], unzigzag(this.varint()));
     of.vertices++;
     if (this.at <= this.shown[0]) this.passed += axes.length;
   }
 
   point(of, axes, place) {
-    const { vertices } = of;
+    const vertex = of.vertices;
     for (const axis of axes) {
-      const sum = of.sums[axis], precision = of.precisions[axis];
-      const steps = (n) => (vertices ? ` (${n < 0 ? "" : "+"}${n} steps)` : "");
+      const from = this.at, before = of.sums[axis], precision = of.precisions[axis];
       const name = () => `${this.placed(place)}${AXES[axis]}`;
-      const more = { axis, vertex: vertices, sum };
-      of.sums[axis] += this.signed(name, of, (n) => value(sum + n, precision) + steps(n), more);
+      const step = unzigzag(this.varint(name, of)), sum = plus(before, step);
+      if (typeof sum === "bigint" && (sum < LEAST || sum > GREATEST)) this.stop(from, name, () => beyond(sum, precision), of);
+      const says = () => decimal(sum, precision) + (vertex ? ` (${step < 0 ? "" : "+"}${number(step)})` : "");
+      of.sums[axis] = sum;
+      this.tell(from, name, says, of, { axis, vertex, sum });
     }
     of.vertices++;
   }
@@ -184,19 +196,14 @@ export class Fields {
   }
 }
 
-// A field as it is shown.
-export function shown({ from, to, name, says, depth, stopped }) {
+// What a coordinate says that 64 bits can't hold.
+function beyond(sum, precision) {
+  const [side, limit] = sum < 0 ? ["below the least", LEAST] : ["above the greatest", GREATEST];
+  return `${decimal(sum, precision)}, which is ${side} coordinate of 64 bits, ${decimal(limit, precision)}`;
+}
+
+// A field as it is shown, with its bytes.
+export function shown({ from, to, name, says, depth, stopped }, bytes) {
   const text = (given) => (typeof given === "function" ? given() : given);
-  return { from, to, name: text(name), says: text(says), depth, stopped: !!stopped };
-}
-
-// The number that zigzag spells.
-function half(number) {
-  return number % 2 ? -(number + 1) / 2 : number / 2;
-}
-
-// A coordinate of a precision as a decimal.
-export function value(number, precision) {
-  const scaled = number / 10 ** precision;
-  return Number.isSafeInteger(number) ? scaled.toFixed(Math.max(0, precision)) : `about ${scaled.toPrecision(6)}`;
+  return { from, to, bytes: bytes.slice(from, to), name: text(name), says: text(says), depth, stopped: !!stopped };
 }

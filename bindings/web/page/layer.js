@@ -2,12 +2,16 @@
 //
 // Each works on runs of blobs, since a run of a certified layer is one by itself, and yields between: a yield says how much is
 // done of how much, and the worker may drop the rest.
-import { partsOf } from "./parts.js";
+import { inUnits, minus, ofUnits } from "./numbers.js";
+import { Fields } from "./fields.js";
+import { COLLECTION, EMPTY, partsOf } from "./parts.js";
 
 // The most rows that are kept, and the most vertices that are drawn.
 const MOST_ROWS = 1 << 22, MOST_DRAWN = 300000;
 const RUN = 4096, LOOSEST = 8, MOST_LOOSE = 2000;
-const READ = 0, HOPPED = 1, HIT = 2;
+// What a scan does with a blob. Of one that it hops over it reads the header, which has a place of its own in sums.
+const READ = 0, HOPPED = 1, HIT = 2, HEADER = 3;
+const UNITS = 1e7;
 
 export class Layer {
   constructor(library, { blobs, vertices }) {
@@ -29,9 +33,10 @@ export class Layer {
     Object.assign(this, columns, { count: vertices, rows: vertices.length });
     this.read = new Uint32Array(this.rows);
     this.state = new Uint8Array(this.rows);
+    this.missed = new Uint8Array(this.rows);
   }
 
-  // Which blobs the map draws: all, or every so-and-so-many-th where there are too many vertices.
+  // Which blobs the map draws: all, or every second, third and so on where there are too many vertices.
   sampled() {
     return Math.max(1, Math.ceil(this.vertices / MOST_DRAWN), Math.ceil(this.rows / MOST_DRAWN));
   }
@@ -55,7 +60,7 @@ export class Layer {
     return { ...picture, from, shape, of, xy: room.slice(0, 2 * used), vertices: used };
   }
 
-  // Notes the parts of a blob whose vertices have places up to `end`, and answers the place behind them.
+  // Notes the parts of a blob whose vertices have places up to `end`, and answers the place after them.
   parts(picture, i, k, used, end) {
     const box = partsOf(this.library.bytes, this.offset[k], (shape, count) => {
       if (used >= end || count === 0) return;
@@ -74,40 +79,55 @@ export class Layer {
     return this.library.scan(most);
   }
 
-  // The same blob by blob, of all or of every so-and-so-manieth, for what is read of each.
+  // Scans blob by blob, all or every second, third and so on, for what is read of each.
   *spread(every) {
     for (let k = 0, done = 1; k < this.rows; k += every, done++) {
       this.one(k);
       const { hits, read } = this.library.scan(0);
       this.read[k] = read;
-      this.state[k] = hits ? HIT : read < this.bytes[k] ? HOPPED : READ;
+      this.missed[k] = this.misses(k, read);
+      this.state[k] = hits ? HIT : this.missed[k] && this.size[k] ? HOPPED : READ;
       if (done % RUN === 0) yield [k, this.rows];
     }
   }
 
-  // By what was done with the blobs: how many, their bytes, and how many were read.
+  // Whether the blob's own box misses the window. A scan says so where it leaves a part of a blob without members.
+  misses(k, read) {
+    if (!this.box[k]) return false;
+    const isEmpty = this.library.bytes[this.offset[k] + 1] & EMPTY;
+    if (this.size[k] && this.kind[k] !== COLLECTION && !isEmpty) return read < this.bytes[k];
+    return this.library.misses(this.offset[k]);
+  }
+
+  // By what was done: how many blobs and bytes, here and in a scan with a directory, which reads nothing of a blob whose box misses.
   sums() {
-    const sums = [READ, HOPPED, HIT].map(() => ({ blobs: 0, bytes: 0, read: 0 }));
+    const sums = [READ, HOPPED, HIT, HEADER].map(() => ({ blobs: 0, bytes: 0, directoryBlobs: 0, directoryBytes: 0 }));
+    const hopped = sums[HOPPED];
     for (let k = 0; k < this.rows; k++) {
-      const sum = sums[this.state[k]];
+      const state = this.state[k], sum = sums[state === HOPPED ? HEADER : state], read = this.missed[k] ? 0 : this.read[k];
       sum.blobs++;
-      sum.bytes += this.bytes[k];
-      sum.read += this.read[k];
+      sum.bytes += this.read[k];
+      sum.directoryBlobs += 1 - this.missed[k];
+      sum.directoryBytes += read;
+      hopped.blobs += state === HOPPED;
+      hopped.bytes += this.bytes[k] - this.read[k];
+      hopped.directoryBlobs += this.missed[k];
+      hopped.directoryBytes += this.bytes[k] - read;
     }
     return sums;
   }
 
-  // The file in so many cells: how much of each was read for hits, read for none, and hopped over, as bytes.
+  // The file in cells: for each how many of its bytes were read for hits, read for none, read as a header, and hopped over.
   strip(cells) {
-    const strip = new Float32Array(3 * cells), scale = cells / Math.max(1, this.length);
+    const strip = new Float32Array(4 * cells), scale = cells / Math.max(1, this.length);
     const fill = (from, to, state) => {
       for (let cell = Math.floor(from * scale); cell < Math.min(cells, to * scale); cell++) {
-        strip[3 * cell + state] += Math.min(to, (cell + 1) / scale) - Math.max(from, cell / scale);
+        strip[4 * cell + state] += Math.min(to, (cell + 1) / scale) - Math.max(from, cell / scale);
       }
     };
     for (let k = 0; k < this.rows; k++) {
       const from = this.offset[k], to = from + this.bytes[k], read = from + this.read[k];
-      fill(from, read, this.state[k] === HIT ? HIT : READ);
+      fill(from, read, this.state[k] === HOPPED ? HEADER : this.state[k]);
       if (read < to) fill(read, to, HOPPED);
     }
     return strip;
@@ -124,31 +144,43 @@ export class Layer {
       }
       if (k % RUN === RUN - 1) yield [k, this.rows];
     }
-    return { found, atLeast: found === MOST_LOOSE, loosest };
+    return { found, atLeast: found === MOST_LOOSE, loosest: loosest.map(({ blob }) => this.looseness(blob)) };
   }
 
   rank(loosest, k) {
-    const [box, extent] = this.ends(k);
+    const { box, extent } = this.ends(k);
     if (!box || !extent) return;
-    const beyond = Math.max(...[0, 1].map((i) => Math.max(extent[i] - box[i], box[i + 2] - extent[i + 2])));
-    loosest.push({ blob: k, box, extent, beyond, decimals: Math.max(0, this.precision[k]) });
+    loosest.push({ blob: k, beyond: Math.max(...[0, 1].flatMap((i) => [extent[i] - box[i], box[i + 2] - extent[i + 2]])) });
     loosest.sort((one, other) => other.beyond - one.beyond);
     loosest.splice(LOOSEST);
   }
 
-  // The box of a blob, and the extent of its vertices.
-  ends(k) {
-    const xy = new Float64Array(2 * Math.min(this.count[k], MOST_DRAWN));
+  // How loose a blob's box is, as exact texts: the ends of box and vertices, and by how much the box is larger.
+  looseness(k) {
+    const precision = this.precision[k], of = this.header(k), extent = this.extent(k);
+    const box = [0, 1].flatMap((end) => [0, 1].map((axis) => inUnits(of.box[axis][end], precision)));
+    const beyond = [0, 1].flatMap((i) => [minus(extent[i], box[i]), minus(box[i + 2], extent[i + 2])]);
+    const most = beyond.reduce((one, other) => (one > other ? one : other));
+    const [boxEnds, vertexEnds] = [box, extent].map((ends) => ends.map((end) => ofUnits(end, precision)));
+    return { blob: k, box: boxEnds, extent: vertexEnds, beyond: ofUnits(most, precision) };
+  }
+
+  // The header with exact numbers.
+  header(k) {
+    const fields = new Fields(this.library.bytes, this.offset[k], () => {}), of = { depth: 1 };
+    fields.header(of);
+    return of;
+  }
+
+  extent(k) {
     this.one(k);
-    const drawn = this.library.draw(xy, 0, xy.length / 2);
-    const box = partsOf(this.library.bytes, this.offset[k], () => {});
-    if (!drawn) return [box, null];
-    const extent = [Infinity, Infinity, -Infinity, -Infinity];
-    for (let i = 0; i < 2 * drawn; i++) {
-      extent[i % 2] = Math.min(extent[i % 2], xy[i]);
-      extent[2 + (i % 2)] = Math.max(extent[2 + (i % 2)], xy[i]);
-    }
-    return [box, extent];
+    return this.library.extent(Math.min(this.count[k], MOST_DRAWN));
+  }
+
+  // The box of a blob, and the extent of its vertices, for drawing.
+  ends(k) {
+    const extent = this.extent(k)?.map((end) => Number(end) / UNITS) ?? null;
+    return { box: partsOf(this.library.bytes, this.offset[k], () => {}), extent };
   }
 
   // The numbers of the rows in the order of a column.
@@ -162,8 +194,16 @@ export class Layer {
   }
 
   page({ column, down, from, count }) {
-    const rows = [...this.sorted(column, down).subarray(from, from + count)];
-    const of = (k) => ["offset", "bytes", "kind", "precision", "count", "size", "box", "state", "read"].map((name) => [name, this[name][k]]);
-    return rows.map((k) => ({ blob: k, ...Object.fromEntries(of(k)) }));
+    return Array.from(this.sorted(column, down).subarray(from, from + count), (k) => this.row(k));
+  }
+
+  row(k) {
+    const names = ["offset", "bytes", "kind", "precision", "count", "size", "box", "state", "read"];
+    return { blob: k, ...Object.fromEntries(names.map((name) => [name, this[name][k]])) };
+  }
+
+  // Where a blob is in the order of a column.
+  position(k, { column, down }) {
+    return this.sorted(column, down).indexOf(k);
   }
 }

@@ -1,15 +1,23 @@
-// Puts the page together: files and examples in, the worker's answers out.
+// Puts the page together: layers in, the worker's answers out.
 import { showBytes, showFields } from "./bytes.js";
 import * as answers from "./answers.js";
-import { $, element } from "./dom.js";
-import { LayerMap, View } from "./map.js";
-import { coloursOf, paintOutside, paintStrip } from "./paint.js";
+import { $ } from "./dom.js";
+import { takeExamples, takeFiles } from "./files.js";
+import { LayerMap } from "./map.js";
+import { many, number } from "./numbers.js";
+import { coloursOf, paintOutside } from "./paint.js";
+import { vertexNear } from "./pick.js";
+import { paintStrip } from "./strip.js";
 import { BlobTable } from "./table.js";
-import { middle, textOf } from "./window.js";
-import { FAULTS, STAGES, WINDOW_ERRORS } from "./words.js";
+import { View } from "./view.js";
+import { textOf, windowIn } from "./window.js";
+import { FAULTS, STAGES, TYPES, WINDOW_ERRORS } from "./words.js";
 
 const STRIP_LINES = 4, STEP = 1.5;
-const state = { run: 0, scan: 0, shown: 0, name: "", rows: 0, strip: null, outside: null, scanning: false, next: null };
+// On a narrow screen a line has fewer bytes, and explanations are folded.
+const NARROW = 640, WIDE_LINE = 16, NARROW_LINE = 8;
+const NO_PLACE = "Point at the map, or tap it, for coordinates.";
+const state = { run: 0, scan: 0, shown: 0, name: "", rows: 0, strip: null, refused: null, scanning: false, next: null };
 // What tests wait for: that the page has answered all that it was asked.
 const settle = (what, where) => (document.documentElement.dataset[what] = where);
 
@@ -17,35 +25,27 @@ const settle = (what, where) => (document.documentElement.dataset[what] = where)
 const source = new Blob([await unpacked("worker")], { type: "text/javascript" });
 const worker = new Worker(URL.createObjectURL(source));
 const ask = (message, moved = []) => worker.postMessage({ run: state.run, ...message }, moved);
-const map = new LayerMap($("map"), (ends, pixel) => {
-  $("text").value = textOf(ends, pixel, $("text").value);
-  scan();
+const map = new LayerMap($("map"), {
+  window(ends, pixel) {
+    $("text").value = textOf(ends, pixel, $("text").value);
+    scan();
+  },
+  pick: (blob) => pick(blob, false),
+  at: (text) => ($("at").textContent = text || NO_PLACE),
 });
-const look = (blob) => ask({ ask: "ends", blob });
 const buttons = Object.fromEntries(["first", "back", "next", "last", "pages"].map((id) => [id, $(id)]));
-const table = new BlobTable($("list"), buttons, (wish) => ask({ ask: "rows", ...wish }), look);
-
-// What make_page.py packed: seven bits to a letter, and compressed.
-function unpacked(id) {
-  const text = $(id).textContent, packed = new Uint8Array(Math.floor((text.length * 7) / 8));
-  let held = 0, bits = 0, at = 0;
-  for (let i = 0; i < text.length; i++) {
-    held = ((held << 7) | (text.charCodeAt(i) & 127)) & 0xffff;
-    bits += 7;
-    if (bits >= 8) packed[at++] = held >> (bits -= 8);
-  }
-  return new Response(new Blob([packed]).stream().pipeThrough(new DecompressionStream("gzip"))).arrayBuffer();
-}
+const table = new BlobTable($("list"), $("listof"), buttons, (wish) => ask({ ask: "rows", ...wish }), (blob) => pick(blob, true));
 
 function open(file) {
   state.run++;
-  Object.assign(state, { name: file.name, scanning: false, next: null, strip: null, outside: null });
+  Object.assign(state, { name: file.name, scanning: false, next: null, strip: null, refused: null });
   settle("run", state.run);
   settle("state", "working");
   settle("scan", "none");
   $("refused").hidden = $("certified").hidden = true;
   $("verdict").className = "";
   $("verdict").textContent = `Checking ${file.name}.`;
+  $("wrong").textContent = "";
   table.clear();
   ask({ ask: "open", file });
 }
@@ -66,6 +66,24 @@ function scanned() {
   scan();
 }
 
+// Picks a blob, by a click on its shape or in a table. From a table the map comes into view.
+function pick(blob, toMap) {
+  settle("pick", "working");
+  if (blob === null) unpick();
+  else ask({ ask: "pick", blob, order: table.order });
+  if (!toMap) return;
+  $("map").focus({ preventScroll: true });
+  $("map").scrollIntoView({ block: "center" });
+}
+
+function unpick() {
+  map.chosen = null;
+  map.repaint();
+  table.choose(null);
+  $("picked").hidden = $("tomap").hidden = true;
+  settle("pick", "none");
+}
+
 function progress({ stage, done, of }) {
   $("progress").hidden = false;
   $("stage").textContent = STAGES[stage];
@@ -80,13 +98,30 @@ function finished() {
 function failed(text) {
   finished();
   answers.showFault(text);
+  toVerdict();
   settle("state", "done");
+}
+
+// The verdict comes into view: to the top of a narrow screen, and elsewhere if a part of it is outside.
+function toVerdict() {
+  const { top, bottom } = $("verdict").getBoundingClientRect();
+  if (innerWidth < NARROW || top < 0 || bottom > innerHeight) $("verdict").scrollIntoView({ block: "start" });
+  state.top = scrollY;
+}
+
+// The page grows after the verdict, so that there may be room now to bring it to the top. It stays where someone has scrolled meanwhile.
+function toVerdictAgain() {
+  if (scrollY === state.top) toVerdict();
 }
 
 function repaint() {
   map.repaint();
-  if (state.strip) paintStrip($("strip"), state.strip, coloursOf(document), STRIP_LINES);
-  if (state.outside) paintOutside($("escape"), state.outside, new View($("escape")), coloursOf(document));
+  const colours = coloursOf(document);
+  if (state.strip) paintStrip($("strip"), state.strip, colours, STRIP_LINES);
+  if (!state.refused) return;
+  const { outside } = state.refused;
+  if (outside) paintOutside($("escape"), outside, new View($("escape")), colours);
+  showBytes($("bytes"), state.refused, innerWidth < NARROW ? NARROW_LINE : WIDE_LINE);
 }
 
 const TOLD = {
@@ -95,36 +130,39 @@ const TOLD = {
   },
   progress,
   large({ length }) {
-    failed(`Not checked: ${state.name} has ${length.toLocaleString("en")} bytes, and at most 268,435,456 are read.`);
+    failed(`Not checked: ${state.name} has ${many(length, "byte")}. The most that is read is 268,435,456.`);
   },
   failed({ what, why }) {
     failed(FAULTS[what] ?? `Not checked: something went wrong (${why}).`);
   },
   verdict(told) {
     answers.showVerdict(told, state.name);
+    toVerdict();
   },
   refused(told) {
     $("refused").hidden = false;
     answers.showReasons(told);
-    state.outside = told.outside;
+    state.refused = told;
     $("outside").hidden = !told.outside;
     repaint();
-    showBytes($("bytes"), told);
     showFields($("fields").tBodies[0], told);
+    toVerdictAgain();
   },
-  picture({ picture, rows, vertices, both }) {
-    $("certified").hidden = false;
+  picture({ picture, rows, vertices }) {
+    // An empty file has nothing to show.
+    $("certified").hidden = !rows;
     $("tight").textContent = "Looking.";
-    $("loosest").hidden = true;
+    $("loose").hidden = true;
     state.rows = rows;
     answers.showSample(picture, rows, vertices);
-    answers.showHopping(both, rows);
-    state.both = both;
     map.show(picture);
+    unpick();
+    $("text").value = "";
     centre(map.painter.whole);
+    toVerdictAgain();
   },
   tight(told) {
-    answers.showTight(told, look);
+    answers.showTight(told, (blob) => pick(blob, true));
   },
   done() {
     finished();
@@ -150,7 +188,6 @@ const TOLD = {
   spread({ number, ...told }) {
     if (number !== state.shown) return;
     answers.showSums(told, state.rows);
-    if (told.all) answers.showHopping(state.both, state.rows);
     map.state = told.state;
     state.strip = told.strip;
     repaint();
@@ -158,10 +195,17 @@ const TOLD = {
     if (document.documentElement.dataset.state === "done") finished();
     settle("scan", "done");
   },
-  rows: (told) => table.show(told),
-  ends(told) {
-    map.mark(told);
-    $("map").focus();
+  rows: (told) => {
+    table.show(told);
+    settle("pick", "done");
+  },
+  picked(told) {
+    const { blob, kind, count, bytes, offset, position } = told;
+    $("pickedtext").textContent = `Blob ${number(blob)}: ${TYPES[kind]}, ${many(count, "vertex")}, ${many(bytes, "byte")} from byte ${number(offset)} on.`;
+    $("picked").hidden = $("tomap").hidden = false;
+    $("before").hidden = !map.before;
+    map.choose(told);
+    table.choose(blob, position);
   },
 };
 
@@ -170,10 +214,12 @@ worker.onmessage = ({ data }) => {
 };
 worker.onerror = (event) => failed(`Not checked: ${event.message}`);
 
-// A window in the middle of a part of the map, or of what is seen where that part is a line or a point.
+// A window round the vertex that is nearest to the middle of a part of the map, so that it has a hit. A part that is a line or a point
+// has no size: then the window is as large as the view asks for.
 function centre(part) {
-  const isFlat = part[0] === part[2] || part[1] === part[3];
-  map.drag(middle(isFlat ? map.view.seen : part));
+  const isFlat = part[0] === part[2] || part[1] === part[3], [x0, y0, x1, y1] = isFlat ? map.view.seen : part;
+  const vertex = vertexNear(map.painter.picture, [(x0 + x1) / 2, (y0 + y1) / 2]);
+  map.drag(windowIn([x0, y0, x1, y1], vertex ?? undefined));
 }
 
 function colours(dark) {
@@ -182,61 +228,59 @@ function colours(dark) {
   repaint();
 }
 
-function wire() {
-  const drop = $("drop"), dark = matchMedia("(prefers-color-scheme: dark)");
-  const over = (is) => (event) => {
-    event.preventDefault();
-    drop.classList.toggle("over", is);
+// A button that is pressed or not.
+function toggle(id, told) {
+  $(id).onclick = () => {
+    const is = $(id).getAttribute("aria-pressed") !== "true";
+    $(id).setAttribute("aria-pressed", String(is));
+    told(is);
   };
-  for (const type of ["dragenter", "dragover"]) document.addEventListener(type, over(true));
-  document.addEventListener("dragleave", over(false));
-  document.addEventListener("drop", (event) => {
-    over(false)(event);
-    if (event.dataTransfer.files[0]) open(event.dataTransfer.files[0]);
-  });
-  // The choice is forgotten, so that a file that was repaired can be chosen again.
-  $("file").addEventListener("change", () => {
-    if ($("file").files[0]) open($("file").files[0]);
-    $("file").value = "";
-  });
-  $("window").addEventListener("submit", (event) => {
-    event.preventDefault();
-    scan();
-  });
+}
+
+function wireMap() {
   $("in").onclick = () => map.zoom(STEP);
   $("out").onclick = () => map.zoom(1 / STEP);
   $("fit").onclick = () => map.fit();
-  $("here").onclick = () => centre(map.view.seen);
-  $("pen").onclick = () => {
-    map.drawing = !map.drawing;
-    $("pen").setAttribute("aria-pressed", String(map.drawing));
-  };
+  $("here").onclick = () => map.drag(windowIn(map.view.seen));
+  toggle("pen", (drawing) => map.mode({ drawing }));
+  toggle("finger", (moving) => map.mode({ moving }));
   $("boxes").onchange = () => {
     map.boxes = $("boxes").checked;
     map.repaint();
   };
+  $("torow").onclick = () => {
+    table.marked?.scrollIntoView({ block: "center" });
+    table.marked?.querySelector("button").focus({ preventScroll: true });
+  };
+  $("tomap").onclick = () => $("map").scrollIntoView({ block: "center" });
+  $("closer").onclick = () => {
+    map.closer();
+    $("before").hidden = !map.before;
+  };
+  $("before").onclick = () => {
+    map.back();
+    $("before").hidden = true;
+    $("closer").focus();
+  };
+  $("unpick").onclick = () => pick(null, false);
+}
+
+function wire() {
+  const dark = matchMedia("(prefers-color-scheme: dark)");
+  $("window").addEventListener("submit", (event) => {
+    event.preventDefault();
+    scan();
+  });
+  wireMap();
+  $("at").textContent = NO_PLACE;
+  $("about").open = innerWidth >= NARROW;
   $("colours").setAttribute("aria-pressed", String(dark.matches));
   $("colours").onclick = () => colours($("colours").getAttribute("aria-pressed") !== "true");
   dark.addEventListener("change", () => colours(dark.matches));
-  new ResizeObserver(repaint).observe($("strip"));
-}
-
-// The examples inside the page, and three that are spoiled here, a byte or two each.
-function examples() {
-  for (const script of document.querySelectorAll("script[data-example]")) {
-    const button = element("button", script.dataset.title);
-    button.type = "button";
-    button.onclick = async () => {
-      const bytes = new Uint8Array(await unpacked(script.dataset.layer ?? script.id));
-      const spoiled = (script.textContent.trim() && script.dataset.layer ? script.textContent.trim().split(" ") : []).map((one) => one.split("="));
-      for (const [at, byte] of spoiled) bytes[at] = Number(byte);
-      const length = Number(script.dataset.length ?? bytes.length);
-      open(new File([bytes.subarray(0, length)], script.dataset.example));
-    };
-    $(script.dataset.layer ? "spoiled" : "examples").append(button);
-  }
+  new ResizeObserver(repaint).observe(document.body);
+  takeFiles(open);
+  takeExamples(open);
 }
 
 wire();
-examples();
 unpacked("module").then((module) => ask({ ask: "load", module }, [module]), (error) => failed(`Not checked: ${error}`));

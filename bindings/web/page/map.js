@@ -1,72 +1,30 @@
-// The map: what of the layer is seen, and what mouse, fingers and keys do to the view and to the window.
+// The map: what mouse, fingers and keys do to the view, to the window and to the shape that is picked.
+import { textAt } from "./graticule.js";
 import { coloursOf, Painter, penOf } from "./paint.js";
+import { nearest } from "./pick.js";
+import { View } from "./view.js";
 import { dragged, grip, moved, ordered, scaled } from "./window.js";
 
-const NEAR = 7, TOUCH_NEAR = 16, STEP = 0.1, ZOOM = 1.5, MARGIN = 24;
+const NEAR = 7, TOUCH_NEAR = 16, STEP = 0.1, ZOOM = 1.5;
+// How far a press may move and still be a click, in pixels.
+const STILL = 4;
 const ARROWS = { ArrowLeft: [-1, 0], ArrowRight: [1, 0], ArrowUp: [0, 1], ArrowDown: [0, -1] };
-// A view is never narrower than this share of its middle's distance from 0: doubles end there.
-const FINEST = 1e-12;
-
-export class View {
-  constructor(canvas) {
-    Object.assign(this, { canvas, x: 0, y: 0, scale: 1 });
-    this.measure();
-  }
-
-  // Asking the browser for each vertex would take long.
-  measure() {
-    [this.wide, this.high] = [this.canvas.clientWidth, this.canvas.clientHeight];
-  }
-
-  px(x) {
-    return (x - this.x) * this.scale + this.wide / 2;
-  }
-
-  py(y) {
-    return (this.y - y) * this.scale + this.high / 2;
-  }
-
-  place([px, py]) {
-    return [(px - this.wide / 2) / this.scale + this.x, this.y - (py - this.high / 2) / this.scale];
-  }
-
-  // Lowest X and Y, then highest.
-  get seen() {
-    const [[x0, y1], [x1, y0]] = [this.place([0, 0]), this.place([this.wide, this.high])];
-    return [x0, y0, x1, y1];
-  }
-
-  // Whether some of this extent, which begins at a place of the list, is on the canvas.
-  sees(list, at) {
-    return this.px(list[at + 2]) >= -1 && this.px(list[at]) <= this.wide + 1 && this.py(list[at + 1]) >= -1 && this.py(list[at + 3]) <= this.high + 1;
-  }
-
-  fit([x0, y0, x1, y1]) {
-    this.measure();
-    const [w, h] = [x1 - x0, y1 - y0].map((side) => side || Math.max(x1 - x0, y1 - y0) / 10 || 1);
-    Object.assign(this, { x: (x0 + x1) / 2, y: (y0 + y1) / 2 });
-    this.scale = Math.min(Math.max(50, this.wide - 2 * MARGIN) / w, Math.max(50, this.high - 2 * MARGIN) / h);
-  }
-
-  zoom(by, at) {
-    const [x, y] = this.place(at), finest = 1 / (FINEST * Math.max(1e-3, Math.abs(this.x), Math.abs(this.y)));
-    this.scale = Math.min(this.scale * by, finest);
-    const [nowX, nowY] = this.place(at);
-    this.x += x - nowX;
-    this.y += y - nowY;
-  }
-}
+const FINGER = "touch";
 
 export class LayerMap {
-  // `onWindow(ends, pixel)` is told each window that is dragged.
-  constructor(canvas, onWindow) {
-    Object.assign(this, { canvas, onWindow, view: new View(canvas), boxes: true, drawing: false, window: null, marked: null });
+  // `told` has three functions: `window(ends, pixel)` gets each window that is dragged, `pick(blob)` each shape that is clicked, and
+  // `at(text)` the coordinates under the pointer.
+  constructor(canvas, told) {
+    Object.assign(this, { canvas, told, view: new View(canvas), boxes: true, drawing: false, moving: false, window: null, chosen: null });
     this.pointers = new Map();
-    const on = (type, act) => canvas.addEventListener(type, (event) => this.painter && act.call(this, event));
+    const on = (type, act) => canvas.addEventListener(type, (event) => this.painter && act.call(this, event), { passive: false });
     on("pointerdown", this.press);
     on("pointermove", this.move);
     on("pointerup", this.release);
     on("pointercancel", this.release);
+    on("pointerleave", () => this.told.at(""));
+    on("touchstart", this.touch);
+    on("touchmove", this.touch);
     on("wheel", this.wheel);
     on("keydown", this.key);
     new ResizeObserver(() => this.repaint()).observe(canvas);
@@ -74,7 +32,7 @@ export class LayerMap {
 
   show(picture) {
     this.painter = new Painter(picture, this.view);
-    this.marked = null;
+    Object.assign(this, { window: null, chosen: null, before: null });
     this.fit();
   }
 
@@ -88,11 +46,26 @@ export class LayerMap {
     this.repaint();
   }
 
-  // Shows a box and an extent, and looks there.
-  mark(marked) {
-    this.marked = marked;
-    this.view.fit(marked.box ?? marked.extent);
-    this.view.zoom(0.5, this.middle);
+  // Marks a shape by its box and its extent. The view stays, or is moved where it shows nothing of the shape.
+  choose(chosen) {
+    this.chosen = chosen;
+    const whole = chosen.box ?? chosen.extent;
+    if (whole && !this.view.sees(whole, 0)) Object.assign(this.view, { x: (whole[0] + whole[2]) / 2, y: (whole[1] + whole[3]) / 2 });
+    this.repaint();
+  }
+
+  // Looks at the shape alone, and keeps the view from before.
+  closer() {
+    const { box, extent } = this.chosen;
+    if (!box && !extent) return;
+    this.before ??= this.view.kept;
+    this.view.fit(box ?? extent);
+    this.zoom(0.5);
+  }
+
+  back() {
+    Object.assign(this.view, this.before);
+    this.before = null;
     this.repaint();
   }
 
@@ -108,25 +81,32 @@ export class LayerMap {
 
   repaint() {
     if (this.waiting || !this.painter) return;
+    // What tests wait for, too.
+    this.canvas.dataset.painted = "no";
     this.waiting = requestAnimationFrame(() => {
       this.waiting = 0;
       this.view.measure();
-      this.painter.paint(penOf(this.canvas), { ...this, colours: coloursOf(document) });
-      this.tell();
+      const lines = this.painter.paint(penOf(this.canvas), { ...this, picked: this.chosen, colours: coloursOf(document) });
+      this.tell(lines);
+      this.canvas.dataset.painted = "yes";
     });
   }
 
-  // Where the window is on the canvas: left, top, right, bottom.
-  tell() {
-    if (!this.window) return;
-    const { view } = this, [x0, x1, y0, y1] = this.window;
-    this.canvas.dataset.frame = JSON.stringify({ corners: [view.px(x0), view.py(y1), view.px(x1), view.py(y0)], text: this.text });
+  // What is seen, for people who don't see the map. For tests also where the window is on the canvas (left, top, right, bottom), and
+  // where numbers are.
+  tell(lines) {
+    const { view, window, text, chosen } = this, [x0, y0, x1, y1] = view.seen, pixel = 1 / view.scale;
+    const [west, south, east, north] = [x0, y0, x1, y1].map((end) => textAt(end, 10 * pixel));
+    this.canvas.ariaLabel = `Map of the layer, X from ${west} to ${east}, Y from ${south} to ${north}`;
+    const corners = window && [view.px(window[0]), view.py(window[3]), view.px(window[1]), view.py(window[2])];
+    const graticule = [lines.x.map(({ at, text }) => [view.px(at), text]), lines.y.map(({ at, text }) => [view.py(at), text])];
+    this.canvas.dataset.frame = JSON.stringify({ corners, text, graticule, scale: view.scale, picked: chosen?.blob ?? null });
   }
 
   drag(ends) {
     this.window = ordered(ends);
     this.repaint();
-    this.onWindow(this.window, 1 / this.view.scale);
+    this.told.window(this.window, 1 / this.view.scale);
   }
 
   zoom(by, at = this.middle) {
@@ -135,19 +115,37 @@ export class LayerMap {
   }
 
   pan(dx, dy) {
-    this.view.x -= dx / this.view.scale;
-    this.view.y += dy / this.view.scale;
+    this.view.pan(dx, dy);
     this.repaint();
   }
 
+  // Whether a press of this pointer moves the map or the window. One finger scrolls the page, unless a button says otherwise.
+  moves(event) {
+    return event.pointerType !== FINGER || this.drawing || this.moving;
+  }
+
+  // Two fingers on the map are the map's, so that the page doesn't scroll.
+  touch(event) {
+    if (event.touches.length > 1 && event.cancelable) event.preventDefault();
+  }
+
+  // Whether a press draws a window, and whether one finger moves the map.
+  mode(mode) {
+    Object.assign(this, mode);
+    this.canvas.style.touchAction = this.drawing || this.moving ? "none" : "";
+  }
+
   press(event) {
+    const at = [event.offsetX, event.offsetY];
+    this.pointers.set(event.pointerId, at);
+    this.pressed = this.pointers.size > 1 ? null : at;
+    this.held = null;
+    if (!this.moves(event)) return;
     event.preventDefault();
     this.canvas.focus({ preventScroll: true });
     this.canvas.setPointerCapture(event.pointerId);
-    const at = [event.offsetX, event.offsetY];
-    this.pointers.set(event.pointerId, at);
-    if (this.pointers.size > 1) return void (this.held = null);
-    const place = this.view.place(at), near = (event.pointerType === "touch" ? TOUCH_NEAR : NEAR) / this.view.scale;
+    if (this.pointers.size > 1) return;
+    const place = this.view.place(at), near = (event.pointerType === FINGER ? TOUCH_NEAR : NEAR) / this.view.scale;
     if (this.drawing) this.held = { from: place, window: [place[0], place[0], place[1], place[1]], ends: [false, true, false, true] };
     else {
       const ends = this.window && grip(this.window, place, near);
@@ -157,12 +155,21 @@ export class LayerMap {
 
   move(event) {
     const at = [event.offsetX, event.offsetY], last = this.pointers.get(event.pointerId);
+    this.told.at(this.textOf(at));
     if (!last) return this.hover(at);
+    if (this.pressed && Math.hypot(at[0] - this.pressed[0], at[1] - this.pressed[1]) < STILL) return;
+    this.pressed = null;
     this.pointers.set(event.pointerId, at);
     if (this.pointers.size > 1) return this.pinch(event.pointerId, last, at);
+    if (!this.moves(event)) return;
     if (!this.held) return this.pan(at[0] - last[0], at[1] - last[1]);
     const place = this.view.place(at), { from, window, ends } = this.held;
     this.drag(dragged(window, ends, place[0] - from[0], place[1] - from[1]));
+  }
+
+  textOf(at) {
+    const [x, y] = this.view.place(at), pixel = 1 / this.view.scale;
+    return `x = ${textAt(x, pixel)}, y = ${textAt(y, pixel)}`;
   }
 
   hover(at) {
@@ -179,8 +186,20 @@ export class LayerMap {
   }
 
   release(event) {
+    const isClick = event.type === "pointerup" && this.pressed && this.pointers.has(event.pointerId);
     this.pointers.delete(event.pointerId);
     this.held = null;
+    if (isClick && !this.drawing) this.click(event);
+    this.pressed = null;
+  }
+
+  // A click picks the shape there, a click beside all shapes picks none.
+  click(event) {
+    const at = [event.offsetX, event.offsetY], { picture, extents } = this.painter;
+    const reach = (event.pointerType === FINGER ? TOUCH_NEAR : NEAR) / this.view.scale;
+    const found = nearest(picture, extents, this.view.place(at), reach);
+    this.told.at(this.textOf(at));
+    this.told.pick(found < 0 ? null : picture.blobs[found]);
   }
 
   wheel(event) {

@@ -1,16 +1,24 @@
 // The parts of a certified blob, which the map draws: points, lines and rings by how many vertices they have, and the box.
 //
-// The vertices themselves come from the proved module, in the same order. Only certified bytes are walked here.
+// The vertices themselves come from the proved module, in the order of these parts. Only certified bytes are walked here.
 export const POINTS = 0;
 export const LINE = 1;
 export const RING = 2;
-const COLLECTION = 7, EMPTY = 16, EXTENDED = 8, IDS = 4, SIZE = 2, BOX = 1;
+export const COLLECTION = 7;
+export const EMPTY = 16;
+export const EXTENDED = 8;
+export const SIZE = 2;
+export const BOX = 1;
+const IDS = 4;
+// After how many blobs a walk over all of them yields.
+const RUN = 4096;
 
-// A walk over certified bytes, which are never cut.
+const axesOf = (extended) => 2 + (extended & 1) + ((extended >> 1) & 1);
+
+// A walk over certified bytes, which are never cut. It counts the claims of the headers that it passes.
 export class Walk {
   constructor(bytes, at) {
-    this.bytes = bytes;
-    this.at = at;
+    Object.assign(this, { bytes, at, claims: { sizes: 0, boxes: 0, both: 0, ids: 0 } });
   }
 
   unsigned() {
@@ -40,9 +48,23 @@ export class Walk {
     const size = metadata & SIZE ? this.unsigned() : null;
     const body = this.at;
     const zigzag = first >> 4, precision = zigzag & 1 ? -(zigzag + 1) / 2 : zigzag / 2;
-    const axes = 2 + (extended & 1) + ((extended >> 1) & 1);
+    const axes = axesOf(extended);
     const box = metadata & BOX ? this.box(axes, 10 ** precision) : null;
+    this.claims.sizes += size !== null;
+    this.claims.boxes += box !== null;
+    this.claims.both += size !== null && box !== null;
     return { kind: first & 15, axes, box, empty: !!(metadata & EMPTY), ids: !!(metadata & IDS), end: size === null ? null : body + size };
+  }
+
+  // The bytes of the extended dimensions and of the box of a header that has a box.
+  places() {
+    const { bytes } = this, metadata = bytes[this.at + 1], extended = metadata & EXTENDED ? bytes[this.at + 2] : 0;
+    const dimensions = metadata & EXTENDED ? [extended] : [];
+    this.at += 2 + dimensions.length;
+    if (metadata & SIZE) this.skip(1);
+    const from = this.at;
+    this.skip(2 * axesOf(extended));
+    return { dimensions, box: bytes.subarray(from, this.at) };
   }
 
   // The box in X and Y: their lowest, then their highest.
@@ -53,13 +75,25 @@ export class Walk {
   }
 }
 
-// The place behind the blob that begins here. A size of a certified blob is true, so it leads there.
-export function behind(bytes, at) {
+// The place after the blob that begins here. The size of a certified blob is true, so it leads there.
+export function after(bytes, at) {
   const walk = new Walk(bytes, at);
   const header = walk.header();
   if (header.end !== null) return header.end;
   body(walk, header, () => {});
   return walk.at;
+}
+
+// Counts what a certified layer claims, at all depths: sizes, boxes, both at once, and lists of ids. Yields how far it is.
+export function* claimsOf(bytes) {
+  const walk = new Walk(bytes, 0);
+  for (let blobs = 1; walk.at < bytes.length; blobs++) {
+    const header = walk.header(), hasMore = header.kind === COLLECTION || (header.ids && header.kind > 3);
+    if (header.end !== null && !hasMore) walk.at = header.end;
+    else body(walk, header, () => {});
+    if (blobs % RUN === 0) yield [walk.at, bytes.length];
+  }
+  return walk.claims;
 }
 
 // Calls `part(shape, vertices)` for each part of the blob that begins here, and answers its box.
@@ -91,6 +125,7 @@ function rings(walk, axes, part) {
 function members(walk, { kind, axes, ids }, part) {
   const count = walk.unsigned();
   if (ids) walk.skip(count);
+  walk.claims.ids += ids && count > 0;
   if (kind === 4) return points(walk, axes, count, POINTS, part);
   for (let left = count; left > 0; left--) {
     if (kind === 5) points(walk, axes, walk.unsigned(), LINE, part);

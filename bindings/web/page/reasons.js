@@ -1,12 +1,13 @@
 // What is wrong with a refused blob, in its own numbers, and its fields round the place.
-import { AXES, Fields, shown, value } from "./fields.js";
+import { AXES, Fields, shown } from "./fields.js";
+import { decimal, inUnits, many, minus, number } from "./numbers.js";
 
 const SIZE = 6, BOX = 7, IDS = 8;
-// How many fields are shown: of the blob's front, and before and behind the place.
-const FRONT = 6, NEAR = 10;
+// How many fields are shown: the first ones of the blob, and before and after the place.
+const FIRST = 6, NEAR = 10;
 // How many vertices are drawn beside a false box.
 const MOST_SHOWN = 4000;
-// So many bytes before and behind the place all fields are taken, where the others tell nothing of what is wrong.
+// How far from the place all fields are taken, in bytes, where the others tell nothing of what is wrong.
 const BYTES = 400;
 
 // The blob that begins at `start` was refused at `offset`. Says its fields round there, how many lie between, and a detail.
@@ -19,20 +20,20 @@ export function reasons(bytes, start, { offset, kind }) {
   };
   const fields = new Fields(bytes, start, take, look.isFar ? undefined : [offset - BYTES, offset + BYTES]);
   fields.walk();
-  return { ...seen.answer(fields.passed), detail: look.detail(offset), guilty: look.found?.from ?? null, outside: look.outside?.() ?? null, end: fields.at };
+  return { ...seen.answer(fields.passed, bytes), detail: look.detail(offset, bytes.length), guilty: look.found?.from ?? null, outside: look.outside?.() ?? null, end: fields.at };
 }
 
 class Seen {
   constructor(offset) {
-    Object.assign(this, { offset, front: [], before: [], behind: [], left: 0 });
+    Object.assign(this, { offset, first: [], before: [], after: [], left: 0 });
   }
 
   // `guilty` is where the field lies that makes a claim false, once that is known.
   take(field, guilty) {
     if (field.from === guilty) this.last = field;
-    if (this.front.length < FRONT && field.from < this.offset) this.front.push(field);
+    if (this.first.length < FIRST && field.from < this.offset) this.first.push(field);
     else if (field.from < this.offset) this.ring(field);
-    else if (this.behind.length <= NEAR) this.behind.push(field);
+    else if (this.after.length <= NEAR) this.after.push(field);
   }
 
   ring(field) {
@@ -42,22 +43,23 @@ class Seen {
     this.left += NEAR;
   }
 
-  answer(passed) {
-    const near = [...this.before, ...this.behind];
-    const last = this.last && !near.includes(this.last) ? shown(this.last) : null;
-    return { front: this.front.map(shown), left: this.left + passed, near: near.map(shown), last };
+  answer(passed, bytes) {
+    const told = (field) => shown(field, bytes);
+    const near = [...this.before, ...this.after];
+    const last = this.last && !near.includes(this.last) ? told(this.last) : null;
+    return { begins: this.first.map(told), left: this.left + passed, near: near.map(told), last };
   }
 }
 
-// A blob that can't be read on.
+// A blob whose reading ends at a field.
 class Stop {
   take(field) {
-    if (field.stopped) this.field = shown(field);
+    if (field.stopped) this.field = shown(field, new Uint8Array());
   }
 
-  detail(offset) {
-    if (!this.field) return `Byte ${offset} can't be read on from.`;
-    return `The field “${this.field.name}” is due at byte ${offset}: ${this.field.says}.`;
+  detail(offset, length) {
+    const { name, says } = this.field;
+    return offset === length ? `The next field is “${name}”, and the file ends before it.` : `The field “${name}” begins at byte ${number(offset)}: ${says}.`;
   }
 }
 
@@ -68,13 +70,13 @@ class FalseSize {
 
   detail() {
     const { size, end, boxAt, type } = this.of;
-    const apart = size - (end - boxAt);
-    return `The size says that ${size} bytes follow. This ${type} ends after ${end - boxAt}, so it is ${Math.abs(apart)} too ${apart > 0 ? "many" : "few"}.`;
+    const apart = minus(size, end - boxAt), [by, how] = apart > 0 ? [apart, "large"] : [-apart, "small"];
+    return `The size says that ${many(size, "byte")} follow, but this ${type} ends after ${number(end - boxAt)}. So the size is too ${how} by ${number(by)}.`;
   }
 }
 
 class FalseBox {
-  // What makes it false may lie far behind it.
+  // What makes it false may lie far after it.
   isFar = true;
 
   constructor() {
@@ -85,35 +87,38 @@ class FalseBox {
     if (field.from === offset && field.of.boxAt === offset) this.of = field.of;
     if (!this.of || field.axis === undefined || !this.isBelow(field.of)) return;
     if (!this.found) this.judge(field);
-    if (field.axis < 2 && this.xy.length < 2 * MOST_SHOWN) this.xy.push((field.sum + field.number) / 10 ** field.of.precisions[field.axis]);
+    if (field.axis < 2 && this.xy.length < 2 * MOST_SHOWN) this.xy.push(near(field.sum, field.of.precisions[field.axis]));
   }
 
   isBelow(of) {
     return of === this.of || (of.parent !== null && this.isBelow(of.parent));
   }
 
-  judge({ axis, sum, number, vertex, from, of }) {
-    const range = this.of.box[axis];
+  judge({ axis, sum, vertex, from, of }) {
+    const range = this.of.box[axis], [ours, its] = [this.of.precisions[axis], of.precisions[axis]];
     if (!range) return;
-    const at = (sum + number) / 10 ** of.precisions[axis];
-    const [low, high] = range.map((end) => end / 10 ** this.of.precisions[axis]);
-    if (at < low || at > high) this.found = { axis, vertex, from, at: value(sum + number, of.precisions[axis]), range, place: this.xy.length >> 1 };
+    const [at, low, high] = ours === its ? [sum, ...range] : [inUnits(sum, its), ...range.map((end) => inUnits(end, ours))];
+    if (at < low || at > high) this.found = { axis, vertex, from, at: decimal(sum, its), range, place: this.xy.length >> 1 };
   }
 
   // What can be drawn of it: the vertices, the box in X and Y, and which vertex is outside.
   outside() {
     if (!this.found || this.found.axis > 1 || 2 * this.found.place + 1 >= this.xy.length) return null;
-    const [x, y] = this.of.box.map((range, axis) => range.map((end) => end / 10 ** this.of.precisions[axis]));
+    const [x, y] = [0, 1].map((axis) => this.of.box[axis].map((end) => near(end, this.of.precisions[axis])));
     return { xy: Float64Array.from(this.xy), box: [x[0], y[0], x[1], y[1]], vertex: this.found.place };
   }
 
   detail() {
-    if (!this.found) return "A vertex lies outside its box by less than this page can show.";
-    const { axis, vertex, from, at, range } = this.found;
-    const [low, high] = range.map((end) => value(end, this.of.precisions[axis]));
-    return `The box of this ${this.of.type} says that ${AXES[axis]} runs from ${low} to ${high}. Vertex ${vertex}, at byte ${from}, has ${AXES[axis]} = ${at}.`;
+    const { axis, vertex, from, at, range } = this.found, name = AXES[axis];
+    const [low, high, extent] = [...range, minus(range[1], range[0])].map((end) => decimal(end, this.of.precisions[axis]));
+    const has = `Vertex ${number(vertex)}, at byte ${number(from)}, has ${name} = ${at}.`;
+    if (range[1] < range[0]) return `The extent of ${name} in the box of this ${this.of.type} is negative: ${name} begins at ${low}, and its extent is ${extent}. No vertex is in such a box. ${has}`;
+    return `The box of this ${this.of.type} says that ${name} runs from ${low} to ${high}. ${has}`;
   }
 }
+
+// For drawing.
+const near = (number, precision) => Number(number) / 10 ** precision;
 
 class EqualIds {
   isFar = true;
@@ -130,9 +135,8 @@ class EqualIds {
   }
 
   detail() {
-    if (!this.found) return "Two ids of this list are equal.";
     const { id, one, other } = this.found;
-    return `The ids number ${one} and number ${other} of this list, counted from 0, are both ${id}.`;
+    return `In this list, counted from 0, id ${number(one)} and id ${number(other)} are both ${id}.`;
   }
 }
 

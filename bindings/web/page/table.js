@@ -1,10 +1,11 @@
 // The table of all blobs, a page at a time. The worker sorts; a heading is a button.
 import { element } from "./dom.js";
-import { number, TYPES } from "./words.js";
+import { number } from "./numbers.js";
+import { DONE, TYPES } from "./words.js";
 
 const PAGE = 25;
 const yes = (there) => (there ? "yes" : "no");
-const STATES = [["read", "read"], ["hopped", "hopped over"], ["hit", "hit"]];
+const STATES = ["read", "hopped", "hit"];
 // Each column: the worker's name of it, its heading, and how its cells are.
 const COLUMNS = [
   ["blob", "Blob", ({ blob }) => [blob]],
@@ -15,14 +16,14 @@ const COLUMNS = [
   ["count", "Vertices", ({ count }) => [count]],
   ["size", "Size", ({ size }) => yes(size)],
   ["box", "Box", ({ box }) => yes(box)],
-  ["state", "In this scan", ({ state }) => STATES[state]],
+  ["state", "In this scan", ({ state }) => DONE[STATES[state]]],
   ["read", "Bytes read", ({ read }) => [read]],
 ];
 
 export class BlobTable {
-  // `ask(wish)` asks the worker for rows; `look(blob)` shows one on the map.
-  constructor(table, buttons, ask, look) {
-    Object.assign(this, { table, buttons, ask, look });
+  // `ask(wish)` asks the worker for rows, `pick(blob)` picks one, and `caption` says what the table has.
+  constructor(table, caption, buttons, ask, pick) {
+    Object.assign(this, { table, caption, buttons, ask, pick });
     this.clear();
     this.heads = COLUMNS.map(([name, heading, cell]) => this.head(name, heading, cell));
     table.tHead.rows[0].replaceChildren(...this.heads);
@@ -34,7 +35,30 @@ export class BlobTable {
   }
 
   clear() {
-    Object.assign(this, { column: "blob", down: false, from: 0, total: 0 });
+    Object.assign(this, { column: "blob", down: false, from: 0, total: 0, picked: null });
+  }
+
+  get order() {
+    return { column: this.column, down: this.down };
+  }
+
+  // Marks a blob's row, and turns to the page with it.
+  choose(blob, position) {
+    this.picked = blob;
+    if (blob === null) this.mark();
+    else this.turn(Math.floor(position / PAGE) * PAGE);
+  }
+
+  mark() {
+    for (const row of this.table.tBodies[0].rows) {
+      if (Number(row.dataset.blob) === this.picked && this.picked !== null) row.setAttribute("aria-current", "true");
+      else row.removeAttribute("aria-current");
+    }
+  }
+
+  // The row that is marked, where the page of the table has it.
+  get marked() {
+    return this.table.querySelector("tr[aria-current]");
   }
 
   head(name, heading, cell) {
@@ -59,8 +83,7 @@ export class BlobTable {
   }
 
   refresh() {
-    const { column, down, from } = this;
-    this.ask({ column, down, from, count: PAGE });
+    this.ask({ ...this.order, from: this.from, count: PAGE });
   }
 
   show({ rows, total, blobs, wish }) {
@@ -72,7 +95,8 @@ export class BlobTable {
     }
     this.table.tBodies[0].replaceChildren(...rows.map((row) => this.row(row)));
     const few = total < blobs ? ` The table has the first ${number(total)} of ${number(blobs)}.` : "";
-    this.table.caption.textContent = `What each blob's header says, and what the scan did with it. Headings sort; a number shows the blob on the map.${few}`;
+    this.caption.textContent = `What the header of each blob says, and what the scan did with it. A heading sorts; a row selects its shape on the map.${few}`;
+    this.mark();
     this.buttons.pages.textContent = total ? `${number(wish.from + 1)} to ${number(wish.from + rows.length)} of ${number(total)}` : "no blobs";
     this.buttons.first.disabled = this.buttons.back.disabled = wish.from === 0;
     this.buttons.next.disabled = this.buttons.last.disabled = wish.from + PAGE >= total;
@@ -80,20 +104,27 @@ export class BlobTable {
 
   row(values) {
     const row = element("tr");
+    row.dataset.blob = values.blob;
+    row.onclick = () => this.pick(values.blob);
     COLUMNS.forEach(([name, , cell]) => {
       const made = cell(values);
-      if (name === "state") row.append(element("td", made[1], made[0]));
-      else if (name === "blob") row.append(this.looks(values.blob));
+      if (name === "state") row.append(this.done(made, values.state));
+      else if (name === "blob") row.append(this.picks(values.blob));
       else row.append(Array.isArray(made) ? element("td", number(made[0]), "number") : element("td", made));
     });
     return row;
   }
 
-  looks(blob) {
+  done(text, state) {
+    const cell = element("td", text);
+    cell.prepend(element("i", undefined, `mark ${STATES[state]}`));
+    return cell;
+  }
+
+  picks(blob) {
     const cell = element("td", undefined, "number"), button = element("button", number(blob));
     button.type = "button";
-    button.setAttribute("aria-label", `Show blob ${blob} on the map`);
-    button.onclick = () => this.look(blob);
+    button.setAttribute("aria-label", `Select blob ${number(blob)} on the map`);
     cell.append(button);
     return cell;
   }

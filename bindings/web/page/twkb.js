@@ -1,17 +1,21 @@
 // The library over the proved module: the layer's bytes, and what is lent for answers, in the module's own memory.
 //
-// From __heap_base on all memory is the page's. First stand small forms, then the layer, and behind it the room that a call
+// From __heap_base on all memory is the page's. First come small forms, then the layer, and after it the room that a call
 // is lent: for ids, rows, hits or points, one at a time. Numbers in the module's forms have 64 bits; those that are at most
 // the length of a layer have their upper half 0.
+import { BOX, COLLECTION, EXTENDED, SIZE, Walk } from "./parts.js";
+
 const PAGE = 65536;
 // Bytes of each form, as in the module.
 const ROW = 40, HIT = 16, POINT = 32, WINDOW = 136;
-// Places of the small forms behind the base.
+// Places of the small forms after the base.
 const ANSWER = 0, LAYER = 64, WINDOW_AT = 128, TEXT = 384, SMALL = 4096;
 const LONGEST_TEXT = SMALL - TEXT;
 // The least room for ids, in places, and how many bytes a place takes.
 const LEAST_IDS = 1 << 17, ID = 8;
 const UNITS = 1e7;
+// A body of one member, which is an empty point, and the most bytes that a header with it has.
+const EMPTY_MEMBER = [1, 1, 16], MOST_PROBE = 96;
 
 export class NoMemory extends Error {}
 
@@ -47,7 +51,7 @@ export class Library {
     this.look();
   }
 
-  // Room behind the layer, for so many bytes.
+  // Room after the layer, of this many bytes.
   lend(bytes) {
     const at = (this.start + this.length + 15) & ~15;
     this.reserve(at + bytes);
@@ -145,6 +149,14 @@ export class Library {
     return -(((d * 2 ** 32 + c) * 2 ** 64) + (b * 2 ** 32 + a) + 1);
   }
 
+  // The number of 128 bits at a place: a number where that is exact, else a BigInt.
+  exactly(at) {
+    const near = this.units(at);
+    if (Number.isSafeInteger(near)) return near;
+    const view = new DataView(this.memory.buffer);
+    return (view.getBigInt64(at + 8, true) << 64n) | view.getBigUint64(at, true);
+  }
+
   // Scans the chosen blobs for the window that was read last: how many hits, how many bytes read, and the first hits.
   scan(most) {
     const room = most ? this.lend(most * HIT) : this.start;
@@ -157,14 +169,47 @@ export class Library {
     return { hits, read: this.u64(at + 8), first };
   }
 
-  // Puts X and Y of the chosen blobs' vertices into the list, from a place on, and says how many there are.
-  draw(list, from, most) {
+  // Whether the box of the blob that begins here misses the window that was read last. A collection with this box, a size and an
+  // empty member is scanned: the scan reads no more than its header exactly where the box misses.
+  misses(from) {
+    const at = this.lend(MOST_PROBE) - this.start, walk = new Walk(this.bytes, from), { dimensions, box } = walk.places();
+    const first = (this.bytes[from] & 0xf0) | COLLECTION, metadata = SIZE | BOX | (dimensions.length ? EXTENDED : 0);
+    const size = box.length + EMPTY_MEMBER.length;
+    const probe = [first, metadata, ...dimensions, size, ...box, ...EMPTY_MEMBER];
+    this.put(at, probe);
+    this.choose(at, probe.length, 1, 0);
+    return this.scan(0).read < probe.length;
+  }
+
+  // Lends room for the points of the chosen blobs, and answers where they are and how many.
+  points(most) {
     const room = this.lend(most * POINT);
     const count = Number(this.exports.twkb_draw(this.layer, BigInt(room), BigInt(most)));
-    for (let i = 0, at = room; i < Math.min(count, most); i++, at += POINT) {
+    return [room, Math.min(count, most)];
+  }
+
+  // Puts X and Y of the chosen blobs' vertices into the list, from a place on, and says how many there are.
+  draw(list, from, most) {
+    const [room, count] = this.points(most);
+    for (let i = 0, at = room; i < count; i++, at += POINT) {
       list[2 * (from + i)] = this.units(at) / UNITS;
       list[2 * (from + i) + 1] = this.units(at + 16) / UNITS;
     }
-    return Math.min(count, most);
+    return count;
+  }
+
+  // The lowest X and Y of the chosen blobs' vertices, then the highest, in units; null where there is no vertex.
+  extent(most) {
+    const [room, count] = this.points(most);
+    if (!count) return null;
+    const ends = [room, room + 16, room, room + 16].map((at) => this.exactly(at));
+    for (let i = 1, at = room + POINT; i < count; i++, at += POINT) {
+      for (const axis of [0, 1]) {
+        const one = this.exactly(at + 16 * axis);
+        if (one < ends[axis]) ends[axis] = one;
+        if (one > ends[2 + axis]) ends[2 + axis] = one;
+      }
+    }
+    return ends;
   }
 }

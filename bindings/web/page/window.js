@@ -2,8 +2,10 @@
 const MOST_DECIMALS = 7;
 // From here on toFixed writes an exponent.
 const GREATEST_FIXED = 1e21;
+// A window is wider than this share of its distance from 0: doubles end there.
+const FINEST = 1e-11;
 
-// How many decimals a drag gives: about a hundredth of a pixel's width, which is so much on the map.
+// How many decimals a drag gives, where a pixel has this width: they tell about a tenth of a pixel.
 function decimals(pixel) {
   return Math.min(MOST_DECIMALS, Math.max(0, Math.ceil(-Math.log10(pixel)) + 1));
 }
@@ -27,15 +29,15 @@ export function ordered([x0, x1, y0, y1]) {
 
 export const moved = ([x0, x1, y0, y1], dx, dy) => [x0 + dx, x1 + dx, y0 + dy, y1 + dy];
 
-// The same middle, and so many times as wide and high.
+// A window scaled about its middle.
 export function scaled([x0, x1, y0, y1], by) {
   const [x, y, w, h] = [(x0 + x1) / 2, (y0 + y1) / 2, ((x1 - x0) * by) / 2, ((y1 - y0) * by) / 2];
   return [x - w, x + w, y - h, y + h];
 }
 
-// A window in the middle of a part of the map, given by its lowest and highest X and Y.
-export function middle([x0, y0, x1, y1]) {
-  const [w, h] = [(x1 - x0) / 8, (y1 - y0) / 6], [x, y] = [(x0 + x1) / 2, (y0 + y1) / 2];
+// A window on a part of the map, which is given by its lowest and highest X and Y: round its middle, or round another place.
+export function windowIn([x0, y0, x1, y1], [x, y] = [(x0 + x1) / 2, (y0 + y1) / 2]) {
+  const [w, h] = [Math.max((x1 - x0) / 8, FINEST * Math.abs(x)), Math.max((y1 - y0) / 6, FINEST * Math.abs(y))];
   return [x - w, x + w, y - h, y + h];
 }
 

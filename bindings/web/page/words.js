@@ -1,101 +1,93 @@
 // What the page says of each refusal: what is wrong, why it matters, and what to repair. The kinds have the program's names.
-const UNREADABLE = "From this byte on nobody can tell where a shape begins or ends. A reader stops here, or shows shapes that aren't there.";
+const UNREADABLE = "A reader can't tell where the next shape begins. It stops here, or draws shapes that aren't there.";
 
 export const KINDS = {
   1: {
     name: "cut",
     short: "the file ends too early",
-    meaning: "The file ends in the middle of a blob: the next field isn't there, or isn't there whole.",
+    meaning: "The file ends in the middle of a blob: a field is missing, or a part of it.",
     harm: UNREADABLE,
-    repair: "Most often the file wasn't copied or written to its end: get it again and compare lengths. If it is whole, a count in this blob is too large, or the file isn't TWKB.",
+    repair: "Usually the file was not copied or written completely: fetch it again and compare the lengths. If its length is right, a count in this blob is too large, or the file isn't TWKB.",
   },
   2: {
     name: "varint",
     short: "a number is too long",
-    meaning: "A number takes more than the ten bytes, or 64 bits, that TWKB allows.",
+    meaning: "A number has more than ten bytes, or more than 64 bits. TWKB allows neither.",
     harm: UNREADABLE,
     repair: "Bytes were changed or lost before this place, or the file isn't TWKB. Write this blob again from its source.",
   },
   3: {
     name: "type",
     short: "a byte names no type of shape",
-    meaning: "Each shape begins with a byte that names its type, from 1, a point, to 7, a collection. This byte names another one.",
+    meaning: "Each shape begins with a byte that gives its type, from 1 for a point to 7 for a collection. This byte gives another number.",
     harm: UNREADABLE,
-    repair: "At the front of the file: this is another format, such as WKB, compressed data, or blobs with lengths between them. Behind it: bytes were added or lost before this place, such as a line break between blobs. Write the blobs one right after another.",
+    repair: "If this is the first byte, the file is in another format, or a length comes before each blob. If not, bytes were added or lost before this place, such as a line break between two blobs. Write the blobs one after another, with nothing between them.",
   },
   4: {
     name: "depth",
     short: "collections are nested too deep",
-    meaning: "A collection lies inside 63 others. That is as deep as this check follows.",
-    harm: "A reader that follows such a file may run out of memory. Files like this are made to do harm, or by mistake.",
-    repair: "Put the members into one collection, or write them as blobs of their own.",
+    meaning: "A collection lies inside 63 others. The checker follows no deeper.",
+    harm: "A reader that follows such a file may run out of memory. These files come from mistakes, or are made to do harm.",
+    repair: "Put the members into one collection, or write them as separate blobs.",
   },
   5: {
     name: "range",
     short: "a coordinate is too large",
-    meaning: "Coordinates are stored as steps from the one before. Added up, this one leaves the 64 bits that a coordinate has.",
-    harm: "Readers wrap the number around, and show the vertex somewhere else on the map.",
-    repair: "Write the blob again with a lower precision, or repair the step at this byte.",
+    meaning: "Each coordinate is stored as its difference from the one before. Added up, this one needs more than 64 bits.",
+    harm: "Readers let the number wrap around, and draw the vertex in the wrong place.",
+    repair: "Correct the difference at this byte, or write the blob again with a lower precision.",
   },
   6: {
     name: "size",
     short: "a size is wrong",
-    meaning: "In front of its shape this blob, or a member of it, says how many bytes follow. It isn't so many.",
-    harm: "Whoever hops over this shape by its size lands in the middle of another one. All that stands behind may then be lost or read wrongly.",
-    repair: "Write the size again: the number of bytes from behind the size to the end of the shape. Writers go wrong here when a shape is changed after its size was taken.",
+    meaning: "This blob, or a member of it, says how many bytes follow its size. The number is wrong.",
+    harm: "A reader that hops over this shape by its size lands in the middle of another one. It loses or misreads everything after it.",
+    repair: "Write the size again: the number of bytes from the end of the size field to the end of the shape. A usual mistake is to change a shape after its size was taken.",
   },
   7: {
     name: "box",
     short: "a box is too small",
-    meaning: "In front of its shape this blob, or a member of it, says in which box its vertices lie. One of them lies outside.",
-    harm: "Whoever asks for the part of the map where that vertex lies hops over this shape, and never sees it. No error is reported.",
-    repair: "Take the box again from the vertices as they are stored, after they were rounded to the precision: round its lower ends down and its upper ends up.",
+    meaning: "This blob, or a member of it, says which box its vertices lie in. One of them lies outside.",
+    harm: "A reader that wants the part of the map with that vertex hops over this shape and never shows it. Nothing reports an error.",
+    repair: "Make the box again from the vertices as they are stored, after they were rounded to the precision.",
   },
   8: {
     name: "ids",
     short: "two ids are equal",
-    meaning: "Members of a collection may have ids, by which they are looked up. Two of this list are equal.",
-    harm: "Whoever looks a member up by its id may get the other one.",
+    meaning: "Members of a collection may have ids, to look them up by. Two ids in this list are equal.",
+    harm: "A lookup by this id may find the wrong member.",
     repair: "Give each member of this list an id of its own.",
   },
-  9: {
-    name: "loose",
-    short: "a box is larger than it has to be",
-    meaning: "The box is true, and a step of its precision or more larger than its vertices ask for.",
-    harm: "Nothing is hidden. But scans read this blob for windows that only its box meets.",
-    repair: "Take the box from the vertices.",
-  },
+  9: { name: "loose" },
 };
 
 export const TYPES = ["", "point", "linestring", "polygon", "multipoint", "multilinestring", "multipolygon", "geometrycollection"];
 
+// What a scan does with a blob, in the words of legends and tables.
+export const DONE = { hit: "hit", read: "read, no hit", header: "header read on the way", hopped: "hopped over" };
+
 export const STAGES = {
   reading: "Reading the file",
-  certifying: "Checking each claim",
-  explaining: "Looking round the place",
+  certifying: "Checking every claim",
+  claims: "Counting the claims",
+  explaining: "Looking at the place",
   listing: "Listing the blobs",
-  drawing: "Drawing",
+  drawing: "Drawing the map",
   tight: "Looking for loose boxes",
   spreading: "Scanning blob by blob",
 };
 
 // What keeps a layer from being checked.
 export const FAULTS = {
-  memory: "Not checked: the browser gives no memory for this layer.",
-  read: "Not checked: the browser can't read this file. Is it a folder, or was it changed meanwhile?",
-  load: "Not checked: this browser can't run the module.",
+  memory: "Not checked: the browser has no memory left for this layer.",
+  read: "Not checked: the browser can't read this file. It may be a folder, or it changed while it was read.",
+  load: "Not checked: this browser can't run the checker.",
 };
 
 export const WINDOW_ERRORS = {
-  1: "This is no window. Write x=lowest..highest,y=lowest..highest with no spaces, such as x=10..30,y=35..45.",
+  1: "This isn't a window. Write x=lowest..highest,y=lowest..highest with no spaces, such as x=10..30,y=35..45.",
   2: "A lowest end is above its highest end. Exchange them.",
 };
-
-export const number = (n) => n.toLocaleString("en");
-
-const SEVERAL = { vertex: "vertices" };
-
-export const many = (n, word) => `${number(n)} ${n === 1 ? word : (SEVERAL[word] ?? `${word}s`)}`;
 
 // A share of the whole, in percent.
 export function share(part, whole) {

@@ -3,8 +3,9 @@
 // Long work is done in slices, and messages are taken between them. What was asked of an earlier layer, or for an earlier
 // window, is then dropped.
 import { Library, NoMemory } from "./twkb.js";
-import { behind } from "./parts.js";
+import { after, claimsOf } from "./parts.js";
 import { Layer } from "./layer.js";
+import { recognised } from "./fronts.js";
 import { reasons } from "./reasons.js";
 
 const MOST_BYTES = 268435456;
@@ -59,7 +60,7 @@ async function stream(file, stays) {
   if (at !== file.size) throw new Error("the file shrank");
 }
 
-// A stage that is one call: it says no how far.
+// A stage that is one call: nothing tells how far it is.
 async function stage(name) {
   tell({ tell: "progress", stage: name });
   await pause();
@@ -75,31 +76,35 @@ async function open({ file }) {
   await stage("reading");
   await read(file, stays);
   await stage("certifying");
-  const verdict = library.certify();
-  tell({ tell: "verdict", verdict, length: file.size });
-  if (verdict.answer === 1) return refuse(verdict);
+  const verdict = library.certify(), length = file.size;
+  if (verdict.answer === 1) {
+    tell({ tell: "verdict", verdict, length, looksLike: recognised(library.bytes) });
+    return refuse(verdict);
+  }
+  const claims = await inSlices(claimsOf(library.bytes), "claims", stays);
+  tell({ tell: "verdict", verdict, length, claims });
   layer = new Layer(library, verdict);
   await stage("listing");
   layer.list();
   if (!stays()) return;
   const picture = await inSlices(layer.draw(), "drawing", stays);
-  tell({ tell: "picture", picture, rows: layer.rows, vertices: layer.vertices, both: layer.size.some((size, k) => size && layer.box[k]) });
-  await tightness(stays);
+  tell({ tell: "picture", picture, rows: layer.rows, vertices: layer.vertices });
+  await tightness(stays, claims);
   tell({ tell: "done" });
 }
 
-async function tightness(stays) {
+async function tightness(stays, claims) {
   await stage("tight");
   const tight = library.certify(true);
   const loose = tight.answer === 1 ? await inSlices(layer.loose(), "tight", stays) : null;
-  if (stays()) tell({ tell: "tight", tight, loose });
+  if (stays()) tell({ tell: "tight", tight, loose, claims });
 }
 
 async function refuse(verdict) {
   await stage("explaining");
   const { bytes } = library;
   let start = 0;
-  for (let k = 0; k < verdict.blob; k++) start = behind(bytes, start);
+  for (let k = 0; k < verdict.blob; k++) start = after(bytes, start);
   const told = reasons(bytes, start, verdict);
   const first = Math.max(0, (verdict.offset & ~15) - ROUND);
   const around = bytes.slice(first, Math.min(bytes.length, (verdict.offset | 15) + ROUND + 1));
@@ -138,16 +143,16 @@ const ANSWERS = {
   async rows(wish) {
     tell({ tell: "rows", wish, rows: layer.page(wish), total: layer.rows, blobs: layer.blobs });
   },
-  async ends({ blob }) {
-    const [box, extent] = layer.ends(blob);
-    tell({ tell: "ends", blob, box, extent });
+  // What the map and the table show of one blob.
+  async pick({ blob, order }) {
+    tell({ tell: "picked", ...layer.row(blob), ...layer.ends(blob), position: layer.position(blob, order) });
   },
 };
 
 onmessage = async ({ data }) => {
   if (data.ask === "open") run = data.run;
   if (data.run !== run && data.ask !== "load") return;
-  if (!layer && ["scan", "rows", "ends"].includes(data.ask)) return;
+  if (!layer && ["scan", "rows", "pick"].includes(data.ask)) return;
   try {
     await ANSWERS[data.ask](data);
   } catch (error) {
