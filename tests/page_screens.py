@@ -114,6 +114,9 @@ def fingers(page):
     page.run('void $("map").scrollIntoView({ block: "center" })')
     frame = page.run("frame()")
     x, y = frame["x"] + frame["width"] / 2, frame["y"] + frame["height"] / 2
+    page.browser.swipe([(x, y)])
+    page.wait('/^x = /.test($("at").textContent)')
+    count(page.name("a tap tells coordinates"), page.run("frame().corners"), frame["corners"])
     page.browser.fingers([[(x - wide, y + wide), (x + wide, y + wide)] for wide in (20, 30, 40)])
     page.wait(f'frame().scale > 1.3 * {frame["scale"]}')
     count(page.name("two fingers zoom"), page.run("frame().text"), frame["text"])

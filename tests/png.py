@@ -1,11 +1,11 @@
-"""Makes the pictures of browsers small: `shrunk(data)` is the PNG with its 256 commonest colours alone, and packed as well as can be."""
+"""Makes the pictures of browsers small: `shrunk(data)` is the PNG with its 64 commonest colours alone, and packed as well as can be."""
 import collections
 import struct
 import zlib
 
 SIGNATURE = b"\x89PNG\r\n\x1a\n"
 TRUE_COLOUR, WITH_ALPHA, PALETTE = 2, 6, 3
-MOST = 256
+MOST = 64
 
 
 def shrunk(data):

@@ -22,7 +22,8 @@ export class LayerMap {
     on("pointermove", this.move);
     on("pointerup", this.release);
     on("pointercancel", this.release);
-    on("pointerleave", () => this.told.at(""));
+    // A finger leaves after each tap, and the coordinates stay.
+    on("pointerleave", (event) => event.pointerType !== FINGER && this.told.at(""));
     on("touchstart", this.touch);
     on("touchmove", this.touch);
     on("wheel", this.wheel);
