@@ -73,7 +73,7 @@ def zoomed(page):
     def after(act, *words):
         before = page.run('$("map").dataset.frame')
         act(*words)
-        page.wait(f'$("map").dataset.frame !== {json.dumps(before)}')
+        page.wait(f'$("map").dataset.frame !== {json.dumps(before)} && $("map").dataset.painted !== "no"')
         return corners(page)
 
     wide = [at_first[2] - at_first[0]]
