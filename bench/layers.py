@@ -10,21 +10,26 @@ EXAMPLES = {
     "collections": ["coast_collections"],
     "the mix": ["coast_collections", "coast_lines_sized", "coast_z", "points_sized"],
 }
-BARE = "bare lines"
+BARE_POINTS = "bare points"
+BARE_LINES = "bare lines"
+BARE_PARTS = "bare polygons and multilines"
 IDS = "lists with ids"
 LONG = "long lines"
+KINDS = [*EXAMPLES, BARE_POINTS, BARE_LINES, BARE_PARTS, IDS, LONG]
 # A first byte that no blob begins with: a program reads the whole file, and then refuses its first byte.
 NO_BLOB = b"\x0f"
 
 
 def repeated(kind):
     """The bytes that are repeated: whole blobs, so that they stay a layer."""
+    if kind in EXAMPLES:
+        return b"".join(example(name) for name in EXAMPLES[kind])
     if kind == LONG:
         return long_line(random.Random(1), 400_000)
-    if kind in (BARE, IDS):
-        lines = list(lines_of(example("coast_lines_sized")))
-        return bare_lines(lines) if kind == BARE else lists_with_ids(lines)
-    return b"".join(example(name) for name in EXAMPLES[kind])
+    if kind == BARE_POINTS:
+        return bare_points(example("points_sized"))
+    made_of_lines = {BARE_LINES: bare_lines, BARE_PARTS: bare_parts, IDS: lists_with_ids}[kind]
+    return made_of_lines(list(lines_of(example("coast_lines_sized"))))
 
 
 def example(name):
@@ -90,9 +95,40 @@ def lines_of(data):
         yield kind, body, points
 
 
+def bare_points(data):
+    """A layer of points with a size, each without it."""
+    out, place = bytearray(), 0
+    while place < len(data):
+        size, body = number(data, place + 2)
+        out += bytes([data[place], 0]) + data[body : body + size]
+        place = body + size
+    return bytes(out)
+
+
 def bare_lines(lines):
     """The lines with neither size nor box."""
     return b"".join(bytes([kind, 0]) + body for kind, body, _ in lines)
+
+
+def bare_parts(lines):
+    """Three lines each as a polygon of three rings or as a multiline, in turn, with neither size nor box."""
+    out = bytearray()
+    for first in range(0, len(lines) - 2, 3):
+        kind = 3 if first % 2 == 0 else 5
+        parts = parts_of([points for _, _, points in lines[first : first + 3]])
+        out += bytes([lines[first][0] & 0xF0 | kind, 0]) + varint(3) + parts
+    return bytes(out)
+
+
+def parts_of(parts):
+    """Lists of points under one header, whose differences run on from list to list."""
+    body, last = bytearray(), (0, 0)
+    for points in parts:
+        body += varint(len(points))
+        for point in points:
+            body += signed(point[0] - last[0]) + signed(point[1] - last[1])
+            last = point
+    return bytes(body)
 
 
 def lists_with_ids(lines):
@@ -104,14 +140,8 @@ def lists_with_ids(lines):
         for axis in range(2):
             places = [point[axis] for points in three for point in points]
             box += signed(min(places)) + signed(max(places) - min(places))
-        body, last = bytearray(), (0, 0)
-        for points in three:
-            body += varint(len(points))
-            for point in points:
-                body += signed(point[0] - last[0]) + signed(point[1] - last[1])
-                last = point
         ids = b"".join(signed(first + index) for index in range(3))
-        rest = bytes(box) + varint(3) + ids + bytes(body)
+        rest = bytes(box) + varint(3) + ids + parts_of(three)
         out += bytes([lines[first][0] & 0xF0 | 5, 0x07]) + varint(len(rest)) + rest
     return bytes(out)
 

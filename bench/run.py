@@ -179,7 +179,7 @@ def heading():
 def table_of_audits(found, folder, runs):
     """Prints the rows of audits, and gives the times of each kind."""
     kept = {}
-    for kind in (*layers.EXAMPLES, layers.BARE, layers.IDS, layers.LONG):
+    for kind in layers.KINDS:
         layer, _ = layers.write_layer(folder, kind, TIMED)
         kept[kind] = Rounds()
         for _ in range(runs):

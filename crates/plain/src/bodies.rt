@@ -11,14 +11,14 @@ use crate::window::is_held;
 use std::alloc::Global;
 use twkb_head::{DEEPEST, Kind};
 
-/// The blob at the front of the bytes; what stands behind it isn't looked at.
+/// The blob at the front of the bytes. What follows it isn't looked at.
 pub fn read_blob(alloc: Global, bytes: &[u8]) -> Result<Layer, Fault> {
     let mut reader = Reader::new(alloc, bytes, false);
     reader.blob(alloc)?;
     Ok(reader.layer)
 }
 
-/// The same in tight checking.
+/// The blob at the front of the bytes, in tight checking.
 pub fn read_blob_tight(alloc: Global, bytes: &[u8]) -> Result<Layer, Fault> {
     let mut reader = Reader::new(alloc, bytes, true);
     reader.blob(alloc)?;

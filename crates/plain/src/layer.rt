@@ -48,7 +48,7 @@ impl Layer {
         self.work_of(window, false)
     }
 
-    /// The same with a directory, by which no byte of a blob is read whose box misses the window.
+    /// What a scan with a directory reads: as [`Layer::work`], but nothing of a blob whose box misses the window.
     pub fn work_by_directory(&self, window: &Bounds) -> Work {
         self.work_of(window, true)
     }

@@ -61,7 +61,7 @@ near_add k (c ∷ s) (n ∷ p) all few le =
     )
 
 -- the first of many numbers that one move passes
-peel : (r new : Reading) (n : ℕ) (ns : List ℕ) → SpellsAll (passed r new) (n ∷ ns) → IsMoved r new
+pub peel : (r new : Reading) (n : ℕ) (ns : List ℕ) → SpellsAll (passed r new) (n ∷ ns) → IsMoved r new
     → (mid : Reading) × IsMoved r mid × IsMoved mid new × Spells (passed r mid) n × SpellsAll (passed mid new) ns
 peel r new n ns (front, rest, whole, first, all) moved =
     let way = IsMoved-two r new front rest moved whole in (
@@ -132,7 +132,7 @@ one_point (suc axes) (c ∷ s) k (n ∷ ns) more r new few sound many le near sm
     }
 
 -- a move past no bytes
-moved_none : (r new : Reading) → IsSound r → IsMoved r new → passed r new ≡ [] → r ≡ new
+pub moved_none : (r new : Reading) → IsSound r → IsMoved r new → passed r new ≡ [] → r ≡ new
 moved_none r new sound moved none =
     let long : length (passed r new) ≡ new.place - r.place = grind (arith, common_steps, moved.within) in
     let here : r.place ≡ new.place = omega (arith, long, ap length none, moved.ahead) in

@@ -1,5 +1,5 @@
 -- Points as sums, coordinate by coordinate: the loop over axes.
-use Rattle.std.proofs.Common.{◌≡◌, ℕ, zero, suc, ◌+◌, ◌<◌, ◌≤◌, true, List, [], ◌∷◌, ◌++◌, length, drop, set, map, slice_index_or, ℤ, pos, ◌+ℤ◌, Option, Some, None, is_some, option_map, Result, Ok, Err, refl, sym, ap, ap₂, subst, ◌∙◌, arith, length-append}
+use Rattle.std.proofs.Common.{◌≡◌, ℕ, zero, suc, ◌+◌, ◌<◌, ◌≤◌, true, cond, List, [], ◌∷◌, ◌++◌, length, drop, set, map, slice_index_or, ℤ, pos, ◌+ℤ◌, Option, Some, None, is_some, option_map, Result, Ok, Err, refl, sym, ap, ap₂, subst, ◌∙◌, arith, length-append}
 use Rattle.std.proofs.lemmas.Int.{ints}
 use Rattle.twkb_num.specs.Cursor.{Reading, rest}
 use Rattle.twkb_num.specs.Units.{units_of}
@@ -12,7 +12,6 @@ use Rattle.twkb_head.specs.Header.{Header, axes_with, axes_of}
 use Rattle.twkb_head.specs.Head.{m_axis}
 use Rattle.twkb_head.specs.Devices.Plan.{coordinate as coordinate_request, cut_field, judge, done}
 use Rattle.twkb_head.specs.Devices.Reader.{Answer, read_judged, read_field, read, coordinate_at, Fails}
-use Rattle.twkb_head.proofs.BoxNumbers.{z_among, m_among}
 use Rattle.twkb_head.proofs.FieldCuts.{field_takes}
 use Rattle.twkb_head.proofs.Readings.{ok_not_err}
 use Rattle.twkb_head.proofs.Loops.{IsLoop, loop_begins, loop_goes_on, loop_fails, loop_ends}
@@ -22,6 +21,15 @@ use Rattle.twkb_body.specs.Devices.Body.{first_of, behind, add, place, map_from}
 use Rattle.twkb_body.specs.Devices.BodyReader.{point_at}
 use Rattle.twkb_body.specs.Devices.Ranges.{raw_of}
 use Rattle.twkb_body.specs.Devices.Walk.{HaveAxes, lasts_from, IsWalked}
+
+-- Z and M, where they are there, are among the axes
+z_among : (z m : Option ℕ) → is_some z ≡ true → 2 < 2 + cond (is_some z) 1 0 + cond (is_some m) 1 0
+z_among None m e = absurd (cc (e))
+z_among (Some p) m e = omega arith
+
+m_among : (z m : Option ℕ) → is_some m ≡ true → m_axis z < 2 + cond (is_some z) 1 0 + cond (is_some m) 1 0
+m_among z None e = absurd (cc (e))
+m_among z (Some p) e = omega arith
 
 -- points of numbers, at their sums from s on
 abbrev pub placed_from : PointValue → List PointValue → List PointValue

@@ -19,7 +19,7 @@ abbrev pub afters : {A S : Type 0} → (S → A → S) → S → List A → S
 afters after s [] = s
 afters after s (x ∷ xs) = afters after (after s x) xs
 
-sums_are : (s : PointValue) (ps : List PointValue) → afters add s ps ≡ sums s ps
+pub sums_are : (s : PointValue) (ps : List PointValue) → afters add s ps ≡ sums s ps
 sums_are s [] = refl
 sums_are s (p ∷ ps) = sums_are (add s p) ps
 

@@ -1,7 +1,8 @@
 -- A geometry as a value: a tree of headers, with absolute coordinates and the lengths of its parts in bytes.
-use Rattle.std.specs.Prelude.{ℕ, suc, List, [], ◌++◌, map, flat_map, slice_get, ℤ, pos, Option, unwrap_or, option_map}
-use Rattle.twkb_num.specs.Units.{units_of}
+use Rattle.std.specs.Prelude.{ℕ, suc, ◌≤◌, IfSome, List, [], ◌++◌, map, flat_map, slice_get, ℤ, pos, Option, unwrap_or, option_map}
+use Rattle.twkb_num.specs.Units.{units_of, IsPrecision}
 use Rattle.twkb_head.specs.Header.{Header}
+use Rattle.twkb_head.specs.declared.raw.Axes.{Axes}
 use Rattle.twkb_head.specs.Head.{m_axis}
 use Rattle.twkb_head.specs.declared.boxes.Vertex.{Vertex}
 
@@ -63,6 +64,19 @@ vertex_of h point = record {
   y = units_of (coordinate point 1) h.xy;
   z = option_map (λ p. units_of (coordinate point 2) (pos p)) h.z;
   m = option_map (λ p. units_of (coordinate point (m_axis h.z)) (pos p)) h.m;
+}
+
+-- the precisions lie in their ranges
+abbrev pub HavePrecisions : Axes → Type 0
+HavePrecisions axes = IsPrecision axes.xy × IfSome axes.z (λ p. p ≤ 7) × IfSome axes.m (λ p. p ≤ 7)
+
+-- the same by the precisions alone
+abbrev pub vertex_at : Axes → PointValue → Vertex
+vertex_at axes point = record {
+  x = units_of (coordinate point 0) axes.xy;
+  y = units_of (coordinate point 1) axes.xy;
+  z = option_map (λ p. units_of (coordinate point 2) (pos p)) axes.z;
+  m = option_map (λ p. units_of (coordinate point (m_axis axes.z)) (pos p)) axes.m;
 }
 
 unfoldable mutual

@@ -175,7 +175,7 @@ fn reaches(extent: i64, distance: i64) -> bool
     distance.cast_unsigned() <= extent.cast_unsigned()
 }
 
-/// The same in both axes.
+/// Whether a point is within reach in both axes.
 #[inline(always)]
 fn reach_both(bounds: &RawBox, across: i64, up: i64) -> bool
     requires { IsNearBox bounds.now }
@@ -193,7 +193,7 @@ fn is_in_range(range: &RawRange, coordinate: i64) -> bool
     0 <= distance && distance <= i128::from(range.extent)
 }
 
-/// The same of an axis, which a point may not have.
+/// Whether a coordinate is within reach in an axis that a point may lack.
 #[inline(always)]
 fn is_in_axis(is_there: bool, range: &RawRange, coordinate: i64) -> bool
     ensures { result ≡ is_in_axis is_there range.now coordinate }
@@ -218,7 +218,7 @@ fn is_in_further(axes: usize, bounds: &RawBox, point: &[i64; 4]) -> bool
     is_in_axis(2 < axes, &bounds.third, point[2]) && is_in_axis(3 < axes, &bounds.fourth, point[3])
 }
 
-/// The same: nothing is asked where there are no others.
+/// Whether the coordinates in Z and M are within reach, of the axes that there are.
 #[inline(always)]
 fn is_in_others(axes: usize, bounds: &RawBox, point: &[i64; 4]) -> bool
     ensures { result ≡ is_in_further axes bounds.now point.now }

@@ -5,10 +5,10 @@ ghost use Rattle.twkb_head.specs.Devices.Reader.{number_at, signed_at};
 use twkb_head::{Malformed, malformed};
 use twkb_num::Cursor;
 
-/// The unsigned number at the place, or the place and what is wrong there.
+/// Reads the unsigned number at the place, or answers where and why it is malformed.
 ///
-/// On `Ok` the cursor is behind the number. On `Err` the place is as it was, which is the offset of the refusal; its
-/// reason is `Cut` or `Varint`, and the bytes looked at are counted.
+/// On `Ok` the cursor is after the number. On `Err` the place is unmoved, which is the offset of the refusal. Its reason is
+/// `Cut` or `Varint`, and the bytes looked at are counted.
 #[inline(always)]
 pub fn take_number(cursor: &mut Cursor) -> Result<u64, Malformed>
     ensures { number_at cursor.old ≡ (result, cursor.new) }
@@ -19,7 +19,7 @@ pub fn take_number(cursor: &mut Cursor) -> Result<u64, Malformed>
     }
 }
 
-/// The signed number at the place, by zigzag, or the place and what is wrong there; else as [`take_number`].
+/// Reads the signed number at the place, by zigzag, as [`take_number`] reads an unsigned one.
 #[inline(always)]
 pub fn take_signed(cursor: &mut Cursor) -> Result<i64, Malformed>
     ensures { signed_at cursor.old ≡ (result, cursor.new) }

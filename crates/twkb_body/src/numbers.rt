@@ -60,7 +60,7 @@ pub fn take_differences(cursor: &mut Cursor, has_fourth: bool) -> Option<Numbers
     }
 }
 
-/// The same of four axes: two pairs.
+/// The differences of a point of four axes: two pairs.
 #[inline(always)]
 fn take_four(cursor: &mut Cursor) -> Option<Numbers>
     ensures some { IfSome result (λ more. AreDifferences true more cursor.old cursor.new) }
@@ -78,7 +78,7 @@ fn take_four(cursor: &mut Cursor) -> Option<Numbers>
     })
 }
 
-/// The same of three axes: a pair, and a number behind it.
+/// The differences of a point of three axes: a pair, and a number after it.
 #[inline(always)]
 fn take_three(cursor: &mut Cursor) -> Option<Numbers>
     ensures some { IfSome result (λ more. AreDifferences false more cursor.old cursor.new) }

@@ -1,8 +1,8 @@
-//! The quick pass: blobs of the common forms, which it certifies at sight. What it isn't sure of goes to the audit.
+//! The quick pass, which certifies blobs of the common forms by looking ahead. If it gives up, the plain audit reads the blob.
 //!
-//! It is sure of geometries with no empty one among them, whose ids rise, and where each box lies in that of the geometry
-//! above, and what stands below a box has its axes at its precisions. Then a box holds all vertices below it if each box
-//! holds the points of its own geometry, and no extent is handed up.
+//! It certifies geometries of which none is empty, whose ids rise, and each of whose boxes lies in the box above, where what is
+//! below a box has its axes and precisions. Then each box is true if it holds the points of its own geometry, and no extent is
+//! handed up.
 ghost use Rattle.std.specs.Prelude.{◌≡◌, ◌-◌, ◌+◌, ◌≤◌, None, false, true, Some, IfSome, IfNone, IsTrue};
 ghost use Rattle.twkb_num.specs.Units.{IsPrecision};
 ghost use Rattle.twkb_head.specs.BegunHeader.{deepest, is_collection, IsAllowedAt};
@@ -21,8 +21,8 @@ use twkb_head::{
 };
 use twkb_num::Cursor;
 
-/// How many vertices the blob at the place has, if the quick pass is sure of it; it is passed. Else `None`: what was looked
-/// at isn't counted.
+/// Certifies the blob at the place and moves past it: the number of its vertices. If the quick pass gives up, it answers
+/// `None`, and what it looked at isn't counted.
 #[inline(always)]
 pub fn take_at_sight(cursor: &mut Cursor) -> Option<usize>
     ensures some { IfSome result (IsSure (deepest - 1) None cursor.old cursor.new) }
@@ -37,7 +37,7 @@ pub fn take_at_sight(cursor: &mut Cursor) -> Option<usize>
     }
 }
 
-/// The same, but for points with a size alone and lines with nothing.
+/// Certifies a blob of any other form than a point with a size alone or a line with neither size nor box.
 // It isn't inlined, so that a layer of points is read with the cursor in registers. What is copied is put back only where
 // there is no answer: no blob waits for the copy of a cursor of which one field was just written.
 #[inline(never)]
@@ -112,7 +112,7 @@ fn take_sure(cursor: &mut Cursor, depth: u8, above: &Option<Frame>) -> Option<us
     Some(vertices)
 }
 
-/// The same of any geometry that isn't empty, also with an extended dimensions byte.
+/// As [`take_sure`], for any geometry that isn't empty, also one with an extended dimensions byte.
 // It isn't inlined, so that geometries of X and Y alone are read with all in registers.
 #[cycle(take_sure)]
 #[inline(never)]

@@ -85,7 +85,7 @@ impl Range {
         }
     }
 
-    /// The same where the axis has a precision.
+    /// The range in units, if the axis has a precision.
     #[inline(always)]
     pub fn in_units_if(&self, precision: Option<u8>) -> Option<Span>
         requires { IfSome precision (λ p. p ≤ 7) }

@@ -4,7 +4,7 @@ ghost use Rattle.std.specs.Prelude.{◌≡◌};
 use crate::visit::Visit;
 use twkb_head::{Bounds, Vertex};
 
-/// The visitor that looks at no vertex. Points are counted by their trail.
+/// A visitor that looks at no vertex. The trail counts the points.
 #[derive(Drop)]
 pub struct Unboxed;
 

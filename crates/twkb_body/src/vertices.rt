@@ -2,14 +2,14 @@
 ghost use Rattle.std.specs.Prelude.{◌≡◌, ◌≤◌, ◌≤ℤ◌, ◌+◌, ◌*◌, ◌^◌, ◌∷◌, IfNone, IfSome, IsTrue, ◌↔◌, pos, neg_ℤ, option_map};
 ghost use Rattle.twkb_num.specs.Units.{IsPrecision, units_of};
 ghost use Rattle.twkb_head.specs.Header.{axes_with};
-ghost use Rattle.twkb_body.specs.Geometry.{PointValue, vertex_of};
+ghost use Rattle.twkb_body.specs.Geometry.{PointValue, HavePrecisions, vertex_at};
 ghost use Rattle.twkb_body.specs.Devices.Inside.{of_head};
 ghost use Rattle.twkb_body.specs.Devices.Walk.{HasPrecisions, IsRun, shown};
 
 use crate::points::Points;
 use crate::trail::Trail;
 use crate::visit::Visit;
-use twkb_head::{Head, Vertex};
+use twkb_head::{Axes, Head, Vertex};
 use twkb_num::{Cursor, units};
 
 /// A sum this far from zero at most stays within 64 bits for so many short differences, of at most 2^27.
@@ -28,7 +28,7 @@ impl<V: Visit> Points for V {
 
     #[inline(always)]
     fn add(&mut self, head: &Head, point: &[i64; 4]) {
-        self.point(&vertex_at(head, point));
+        self.add_raw(head.precisions(), point);
     }
 
     #[inline(always)]
@@ -57,7 +57,7 @@ fn is_close(sum: i64) -> bool
 }
 
 /// Shows some of the points at the place, and at most so many: those up to the first whose differences take more than four
-/// bytes each, or might end behind the geometry.
+/// bytes each, or up to where the visitor is settled.
 // Both sums are in locals. While differences are short none leaves 64 bits, so none is tested.
 #[inline(always)]
 fn show_flat_run<V: Visit>(
@@ -81,13 +81,15 @@ fn show_flat_run<V: Visit>(
     }
     let mut done = 0;
     for _ in 0..most.min(LONGEST) {
-        let stop = end_of(head, cursor.place(), most - done);
-        let Some((x_more, y_more)) = cursor.svarint_pair_to(stop) else {
+        if visitor.is_settled() {
+            break;
+        }
+        let Some((x_more, y_more)) = cursor.svarint_pair() else {
             break;
         };
         x += x_more;
         y += y_more;
-        visitor.point(&flat_vertex(x, y, head));
+        show_flat(visitor, head, x, y);
         done += 1;
     }
     cursor.place_is_within();
@@ -97,44 +99,28 @@ fn show_flat_run<V: Visit>(
     done
 }
 
-/// Where the geometry ends, by its size, or a place before, since each of the points that are left takes two bytes at least.
+/// A point of X and Y alone.
 #[inline(always)]
-fn end_of(head: &Head, place: usize, left: u64) -> usize
-    ensures sized { IfSome head.now.size (λ size. result ≤ size.after + size.value) }
-    ensures bare { IfNone head.now.size (result ≤ place + left * 2) }
-{
-    match head.size {
-        Some(size) => size.after.saturating_add(size.value as usize),
-        None => place.saturating_add((left as usize).saturating_mul(2)),
-    }
-}
-
-/// The vertex of a point of X and Y alone.
-#[inline(always)]
-fn flat_vertex(x: i64, y: i64, head: &Head) -> Vertex
+fn show_flat<V: Visit>(visitor: &mut V, head: &Head, x: i64, y: i64)
     requires xy { IsPrecision head.now.xy }
     requires flat { axes_with head.now.z head.now.m ≡ 2 }
-    ensures { (others : PointValue) → result ≡ vertex_of (of_head head.now) (x ∷ y ∷ others) }
+    ensures { (others : PointValue) → V.state visitor.new
+        ≡ shown V.step (of_head head.now) (V.state visitor.old) (x ∷ y ∷ others) }
 {
-    Vertex {
-        x: scaled(x, head.xy),
-        y: scaled(y, head.xy),
-        z: None,
-        m: None,
-    }
+    visitor.add_raw(Axes::flat(head.xy), &[x, y, 0, 0]);
 }
 
-/// The vertex of a point, by the precisions of a header.
+/// The vertex that a point in raw integers is, by the precisions of its header.
 #[inline(always)]
-fn vertex_at(head: &Head, point: &[i64; 4]) -> Vertex
-    requires precisions { HasPrecisions head.now }
-    ensures { result ≡ vertex_of (of_head head.now) point.now }
+pub fn vertex_at(axes: Axes, point: &[i64; 4]) -> Vertex
+    requires { HavePrecisions axes }
+    ensures { result ≡ vertex_at axes point.now }
 {
     Vertex {
-        x: scaled(point[0], head.xy),
-        y: scaled(point[1], head.xy),
-        z: coordinate_at(point[2], head.z),
-        m: coordinate_at(point[head.m_axis()], head.m),
+        x: scaled(point[0], axes.xy),
+        y: scaled(point[1], axes.xy),
+        z: coordinate_at(point[2], axes.z),
+        m: coordinate_at(point[axes.m_axis()], axes.m),
     }
 }
 

@@ -33,7 +33,7 @@ pub extern "C" fn twkb_certify(alloc: Global, bytes: &[u8]) -> Verdict
     twkb_call::certify(&alloc, bytes)
 }
 
-/// The same, where a loose box is refused too.
+/// Certifies the bytes as a layer without a loose box.
 #[unsafe(no_mangle)]
 pub extern "C" fn twkb_certify_tight(alloc: Global, bytes: &[u8]) -> Verdict
     ensures says { Says IsTightlyTrue result bytes.now }
@@ -44,7 +44,7 @@ pub extern "C" fn twkb_certify_tight(alloc: Global, bytes: &[u8]) -> Verdict
     twkb_call::certify_tight(&alloc, bytes)
 }
 
-/// Puts a row for each blob into the room, in file order, as many as fit, and says how many blobs there are.
+/// Puts a row for each blob into the room, in file order, as many as fit, and answers how many blobs there are.
 #[unsafe(no_mangle)]
 pub extern "C" fn twkb_list(layer: &Layer, room: &mut [Row]) -> usize
     requires { IsCounted layer.now.bytes.now layer.now.blobs layer.now.vertices }
@@ -54,8 +54,8 @@ pub extern "C" fn twkb_list(layer: &Layer, room: &mut [Row]) -> usize
     twkb_call::list(layer, room)
 }
 
-/// Reads the text of a window. The answer is 0, or 1 where it hasn't the form of one, or 2 where a lower bound is above its
-/// upper one.
+/// Parses a window. The answer is 0, or 1 if the text doesn't have the form of one, or 2 if a lower bound is above its upper
+/// bound.
 #[unsafe(no_mangle)]
 pub extern "C" fn twkb_window_parse(text: &[u8], window: &mut Window) -> u32
     ensures answers { result ≤ 2 }
@@ -68,7 +68,7 @@ pub extern "C" fn twkb_window_parse(text: &[u8], window: &mut Window) -> u32
     twkb_call::parse_window(text, window)
 }
 
-/// Puts the blobs that have a vertex inside the window into the room, in file order, as many as fit.
+/// Finds the blobs that have a vertex inside the window, and puts them into the room in file order, as many as fit.
 #[unsafe(no_mangle)]
 pub extern "C" fn twkb_scan(layer: &Layer, window: &Window, room: &mut [Hit]) -> Scanned
     requires { IsCounted layer.now.bytes.now layer.now.blobs layer.now.vertices }
@@ -81,9 +81,9 @@ pub extern "C" fn twkb_scan(layer: &Layer, window: &Window, room: &mut [Hit]) ->
     twkb_call::scan(layer, window, room)
 }
 
-/// Puts a directory of the layer into the room, and says how many slots it has: at most two for a blob. All of them go in, or
-/// none. With room for two a blob they do. Where none go in, the answer is how many are wanted, which is more than the room
-/// has.
+/// Puts a directory of the layer into the room, and answers how many slots it has: at most two for each blob. It goes in whole
+/// or not at all; two places for each blob always suffice. If it doesn't fit, the answer is how many places are wanted, which is
+/// more than the room has.
 #[unsafe(no_mangle)]
 pub extern "C" fn twkb_directory_build(layer: &Layer, room: &mut [Slot]) -> usize
     requires { IsCounted layer.now.bytes.now layer.now.blobs layer.now.vertices }

@@ -4,9 +4,9 @@ ghost use Rattle.twkb_layer.specs.Layer.{IsCounted};
 
 use twkb_layer::Certified;
 
-/// A certified layer in the caller's storage: its bytes, which it borrows, and what the verdict said of them.
+/// A certified layer in the caller's storage: its bytes, which it borrows, and the two numbers of their verdict.
 ///
-/// The caller answers for it: that the verdict was for these bytes, and that nobody has written them since.
+/// The caller guarantees that the verdict was for these bytes and that nobody has written them since.
 #[repr(C)]
 #[derive(Clone, Copy)]
 pub struct Layer<'a> {
@@ -20,7 +20,7 @@ const SIZE: usize = std::mem::size_of::<Layer>();
 const _: () = prove!(SIZE == 32);
 
 impl<'a> Layer<'a> {
-    /// The layer, of which nothing is read yet.
+    /// The layer, of which nothing was read yet.
     pub(crate) fn certified(&self) -> Certified<'a>
         requires { IsCounted self.now.bytes.now self.now.blobs self.now.vertices }
         ensures { result ≡ record { bytes = self.now.bytes.now; count = 0 } }

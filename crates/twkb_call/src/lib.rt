@@ -1,7 +1,7 @@
-//! The library in a form that crosses to other languages: bytes as slices, what is known of a layer as numbers, and memory
-//! that the caller lends.
+//! The library in a form that other languages can call: bytes as slices, what is known of a layer as numbers, and memory that
+//! the caller lends.
 //!
-//! The static libraries, such as `twkb_c`, export these functions, each over the allocator that is there.
+//! `twkb_c` exports these functions with the allocator of the C library, and `twkb_web` without one.
 #![tactic(auto)]
 
 mod directory;

@@ -9,21 +9,21 @@ ghost use Rattle.twkb_call.specs.Rows.{in_numbers};
 use crate::layer::Layer;
 use twkb_layer::{FromRow, Kind};
 
-/// What a list says of a blob.
+/// A row of a list: one blob.
 #[repr(C)]
 #[derive(Clone, Copy, Debug, PartialEq, Eq)]
 pub struct Row {
     /// Its number, from 0.
     pub blob: usize,
-    /// Where it begins.
+    /// Its offset.
     pub offset: usize,
-    /// How many bytes it takes.
+    /// Its length in bytes.
     pub bytes: usize,
     /// How many vertices it has, at all depths.
     pub vertices: usize,
-    /// Its type, from 1, a point, to 7, a collection.
+    /// Its type, from 1 (point) to 7 (collection).
     pub kind: u8,
-    /// The precision of its X and Y, from -8 to 7.
+    /// The precision of X and Y, from -8 to 7.
     pub precision: i8,
     pub has_size: bool,
     pub has_box: bool,
@@ -67,7 +67,7 @@ fn code_of(kind: Kind) -> u8
     }
 }
 
-/// Puts a row for each blob into the room, in file order, as many as fit, and says how many blobs there are.
+/// Puts a row for each blob into the room, in file order, as many as fit, and answers how many blobs there are.
 pub fn list(layer: &Layer, room: &mut [Row]) -> usize
     requires { IsCounted layer.now.bytes.now layer.now.blobs layer.now.vertices }
     ensures answer { OfLayer layer.now.bytes.now (λ trees. result ≡ length trees) }

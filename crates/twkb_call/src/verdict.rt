@@ -1,4 +1,4 @@
-//! What is found of bytes.
+//! Verdicts on bytes.
 ghost use Rattle.std.specs.Prelude.{◌≡◌, List, ◌⊎◌};
 ghost use Rattle.twkb_body.specs.Claims.{IsTrueClaim};
 ghost use Rattle.twkb_body.specs.Geometry.{Geometry};
@@ -11,21 +11,21 @@ ghost use Rattle.twkb_call.specs.Devices.Verdict.{verdict_on};
 use std::alloc::Allocator;
 use twkb_layer::{Certified, Cursor, Refusal, certify_in, certify_tight_in};
 
-/// What is found of bytes. Numbers that the answer doesn't speak of are 0.
+/// The verdict on bytes. Numbers that don't belong to the answer are 0.
 #[repr(C)]
 #[derive(Clone, Copy, Debug, PartialEq, Eq)]
 pub struct Verdict {
     /// 0 certified, 1 refused, 2 out of memory.
     pub answer: u32,
-    /// Of a refusal: why.
+    /// Of a refusal: the kind.
     pub kind: u32,
-    /// Of a certified layer: how many blobs it has.
+    /// Of a certified layer: the number of blobs.
     pub blobs: usize,
-    /// And how many vertices they have.
+    /// Of a certified layer: the number of vertices.
     pub vertices: usize,
     /// Of a refusal: the number of the blob.
     pub blob: usize,
-    /// And the offset in the bytes.
+    /// Of a refusal: the offset in the bytes.
     pub offset: usize,
 }
 
@@ -46,7 +46,7 @@ pub fn certify<A: Allocator>(alloc: &A, bytes: &[u8]) -> Verdict
     }
 }
 
-/// The same, where a loose box is refused too.
+/// Certifies the bytes as a layer without a loose box.
 pub fn certify_tight<A: Allocator>(alloc: &A, bytes: &[u8]) -> Verdict
     ensures says { Says IsTightlyTrue result bytes.now }
     ensures tight { result.answer ≡ 0 → (trees : List Geometry) × IsTightLayer trees bytes.now }
@@ -59,8 +59,8 @@ pub fn certify_tight<A: Allocator>(alloc: &A, bytes: &[u8]) -> Verdict
     }
 }
 
-/// Certifies them with no memory but room for the ids of a list, which it overwrites. Memory is wanted where a list has more ids
-/// than the room has places, and more than sixteen.
+/// Certifies the bytes as a layer with no memory but room for the ids of a list, which it overwrites. The answer may be out of
+/// memory if a list has more ids than the room has places, and more than sixteen.
 pub fn certify_lent(bytes: &[u8], ids: &mut [i64]) -> Verdict
     ensures says { Says IsTrueClaim result bytes.now }
     ensures complete { (trees : List Geometry) → IsCertifiedLayer trees bytes.now
@@ -72,7 +72,7 @@ pub fn certify_lent(bytes: &[u8], ids: &mut [i64]) -> Verdict
     }
 }
 
-/// The same, where a loose box is refused too.
+/// Certifies the bytes as a layer without a loose box, with lent room as in [`certify_lent`].
 pub fn certify_tight_lent(bytes: &[u8], ids: &mut [i64]) -> Verdict
     ensures says { Says IsTightlyTrue result bytes.now }
     ensures tight { result.answer ≡ 0 → (trees : List Geometry) × IsTightLayer trees bytes.now }

@@ -1,4 +1,4 @@
-//! Windows in a form that crosses to other languages.
+//! Windows in a form for other languages.
 ghost use Rattle.std.specs.Prelude.{◌≡◌, ◌≢◌, ◌≤◌, if◌then◌else◌, true, false};
 ghost use Rattle.twkb_head.specs.declared.boxes.Bounds.{Bounds};
 ghost use Rattle.twkb_layer.specs.WindowText.{IsWindowText, in_order};
@@ -7,7 +7,7 @@ ghost use Rattle.twkb_call.specs.Window.{value_of, span_from, ranges_of};
 
 use twkb_layer::{BadWindow, Span};
 
-/// A number of units in two words, since no number of 128 bits crosses.
+/// A number of units in two words, since no 128-bit number crosses to other languages.
 #[repr(C)]
 #[derive(Clone, Copy, Debug, PartialEq, Eq)]
 pub struct Units {
@@ -24,7 +24,7 @@ pub struct Range {
     pub hi: Units,
 }
 
-/// A window. Where it doesn't bound Z or M nothing is said by that range.
+/// A window. If it doesn't bound Z or M, that range means nothing.
 #[repr(C)]
 #[derive(Clone, Copy, Debug, PartialEq, Eq)]
 pub struct Window {
@@ -117,8 +117,8 @@ impl Window {
     }
 }
 
-/// Reads a window of the form `x=A..B,y=C..D[,z=E..F][,m=G..H]`, exactly. The answer is 0, or 1 where the text hasn't this
-/// form, or 2 where a lower bound is above its upper one. Where it isn't 0, the window stays as it was.
+/// Parses a window of the form `x=A..B,y=C..D[,z=E..F][,m=G..H]`, exactly. The answer is 0, or 1 if the text doesn't have
+/// this form, or 2 if a lower bound is above its upper bound. If it isn't 0, the window stays as it was.
 pub fn parse_window(text: &[u8], window: &mut Window) -> u32
     ensures answers { result ≤ 2 }
     ensures window { result ≡ 0

@@ -253,3 +253,7 @@ module _ (depth : ℕ) (some : 1 ≤ depth) (deep : depth ≤ deepest) (r new : 
   pub head_bytes : (result : Result Head Malformed) → head_at (deepest - depth) r ≡ (result, new) → new.bytes ≡ r.bytes
   head_bytes (Ok head) e = (head_stands head e).1.bytes
   head_bytes (Err m) e = ap (λ (b : Reading). b.bytes) (head_left m e)
+
+-- a header has two bytes at least
+pub header_two : (depth : ℕ) (bytes : List ℕ) → StartsWithHeader depth bytes → 2 ≤ length bytes
+header_two depth bytes s = omega (arith, ap length s.parts, length-append s.front s.behind, ap length s.is.fields)

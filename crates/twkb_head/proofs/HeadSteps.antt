@@ -1,22 +1,33 @@
 -- The steps of a header.
-use Rattle.std.proofs.Common.{◌≡◌, ℕ, List, [], ◌∷◌, ◌++◌, length, Option, Some, None, option_map, is_some, IfSome, Bool, true, false, ◌&&◌, ◌||◌, ℤ, ◌+ℤ◌, Ok, refl, sym, ap, subst, ◌∙◌, arith}
+use Rattle.std.proofs.Common.{◌≡◌, ℕ, ◌+◌, ◌-◌, ◌/◌, ◌%◌, ◌==◌, List, [], ◌∷◌, ◌++◌, length, Option, Some, None, option_map, is_some, IfSome, Bool, true, false, ◌&&◌, ◌||◌, ℤ, ◌+ℤ◌, Result, Ok, Err, refl, sym, ap, subst, ◌∙◌, arith}
 use Rattle.std.proofs.lemmas.List.{append-nil}
-use Rattle.twkb_num.specs.Cursor.{Reading, passed, IsMoved}
+use Rattle.twkb_num.specs.Cursor.{Reading, passed, IsMoved, IsSound}
 use Rattle.twkb_num.specs.Varint.{Spells, SpellsAll, SpellsMany, IsSigned, SpellsTwoSigned, zigzag_value}
 use Rattle.twkb_num.proofs.PairLaws.{IsMoved-two}
-use Rattle.twkb_head.specs.Header.{has_bit, z_in, m_in}
-use Rattle.twkb_head.specs.Devices.Reader.{Reader, viewed, byte_at, number_at, optional_at}
-use Rattle.twkb_head.specs.Devices.HeadReader.{head_with, kind_from_type, range_from, bounds_from, head_at}
+use Rattle.twkb_head.specs.Header.{code_of, has_bit, has_ids, z_in, m_in}
+use Rattle.twkb_head.specs.Devices.Reader.{Answer, Reader, ◌>>=◌, viewed, byte_at, number_at, optional_at}
+use Rattle.twkb_head.specs.Devices.HeadReader.{head_with, kind_from_type, range_from, bounds_from, head_at, rest_at}
+use Rattle.twkb_head.specs.BegunHeader.{deepest}
 use Rattle.twkb_head.specs.declared.kinds.Kind.{Kind}
+use Rattle.twkb_head.specs.declared.kinds.Kind.TheVariants.{Point, LineString, Polygon, MultiPoint, MultiLineString, MultiPolygon, GeometryCollection}
+use Rattle.twkb_head.specs.declared.refusal.Why.{Why}
+use Rattle.twkb_head.specs.Devices.Plan.{kind_of_code, judge_kind}
 use Rattle.twkb_head.specs.declared.boxes.Bounds.{Bounds}
 use Rattle.twkb_head.specs.declared.header.BoxField.{BoxField}
 use Rattle.twkb_head.specs.declared.header.Head.{Head}
 use Rattle.twkb_head.specs.declared.raw.RawBox.{RawBox}
 use Rattle.twkb_head.specs.declared.raw.RawRange.{RawRange}
 use Rattle.twkb_head.specs.declared.raw.RawHead.{RawHead}
-use Rattle.twkb_head.specs.Raw.{ends_of, raw_bounds, whole_head}
-use Rattle.twkb_head.specs.Devices.Raw.{IsRangeIf, AreFieldsOf}
-use Rattle.twkb_head.proofs.Steps.{read_signed}
+use Rattle.twkb_head.specs.declared.raw.Fields.{Fields}
+use Rattle.twkb_head.specs.Raw.{BeginsHead, ends_of, raw_bounds, flat_box, whole_head, head_said}
+use Rattle.twkb_head.specs.Devices.Raw.{IsRangeIf, AreFieldsOf, HasBegun}
+use Rattle.twkb_head.specs.declared.read.Begun.{Begun}
+use Rattle.twkb_head.specs.declared.header.SizeField.{SizeField}
+use Rattle.twkb_head.specs.declared.refusal.Malformed.{Malformed}
+use Rattle.twkb_head.proofs.Heads.{allowed_with}
+use Rattle.twkb_head.proofs.FieldCuts.{ok_is}
+use Rattle.twkb_head.proofs.Readings.{ok_not_err}
+use Rattle.twkb_head.proofs.Steps.{read_byte, read_signed, type_ok, type_refused}
 
 pub head_is : (levels : ℕ) (r a b c d e : Reading) (kind : Kind) (xy : ℤ) (metadata : ℕ) (extended size : Option ℕ) (bounds : Option Bounds)
     → kind_from_type levels r ≡ (Ok (kind, xy), a) → byte_at a ≡ (Ok metadata, b) → optional_at (has_bit metadata 8) byte_at b ≡ (Ok extended, c)
@@ -24,6 +35,79 @@ pub head_is : (levels : ℕ) (r a b c d e : Reading) (kind : Kind) (xy : ℤ) (m
     → head_at levels r ≡ (Ok (head_with kind xy metadata extended size bounds r.place c.place d.place e.place), e)
 unfolding head_at
 head_is levels r a b c d e kind xy metadata extended size bounds h1 h2 h3 h4 h5 = rw (h1, h2, h3, h4, h5) refl
+
+-- the same behind the first two bytes
+pub rest_is : (b c d e : Reading) (kind : Kind) (xy : ℤ) (metadata : ℕ) (extended size : Option ℕ) (bounds : Option Bounds) (start : ℕ)
+    → optional_at (has_bit metadata 8) byte_at b ≡ (Ok extended, c)
+    → optional_at (has_bit metadata 2) number_at c ≡ (Ok size, d) → optional_at (has_bit metadata 1) (bounds_from xy (z_in extended) (m_in extended)) d ≡ (Ok bounds, e)
+    → rest_at kind xy metadata start b ≡ (Ok (head_with kind xy metadata extended size bounds start c.place d.place e.place), e)
+unfolding rest_at
+rest_is b c d e kind xy metadata extended size bounds start h3 h4 h5 = rw (h3, h4, h5) refl
+
+-- a header from its first two bytes and the rest
+pub head_of_rest : (levels : ℕ) (begun : Begun) (r b new : Reading) (answer : Result Head Malformed) → HasBegun levels begun r b
+    → rest_at begun.kind begun.xy begun.metadata begun.start b ≡ (answer, new) → head_at levels r ≡ (answer, new)
+unfolding head_at rest_at
+head_of_rest levels begun r b new answer has e = rw (has.type, has.byte, ← has.start) e
+
+-- the first two bytes, in one move
+module _ (levels first metadata : ℕ) (old new : Reading) (sound : IsSound old) (bytes : passed old new ≡ first ∷ metadata ∷ []) (moved : IsMoved old new) where
+  way : (b : Reading) × IsMoved old b × IsMoved b new × (passed old b ≡ first ∷ []) × (passed b new ≡ metadata ∷ [])
+  way = IsMoved-two old new (first ∷ []) (metadata ∷ []) moved bytes
+
+  pub has_begun : (kind : Kind) (xy : ℤ) (start : ℕ) → kind_of_code (first % 16) ≡ Some kind → judge_kind levels (Some kind) ≡ None → xy ≡ zigzag_value (first / 16) → start ≡ old.place
+      → HasBegun levels (record { kind = kind; xy = xy; metadata = metadata; start = start }) old new
+  has_begun kind xy start code allowed precision at =
+      let type = type_ok levels old way.0 first sound (read_byte old way.0 first way.3 way.1) kind code allowed in
+      record { mid = way.0; type = rw (type, code) (ap (λ (p : ℤ). (Ok (kind, p), way.0)) (sym precision)); byte = read_byte way.0 new metadata way.4 way.2; start = at }
+
+  pub kind_stops : (why : Why) → judge_kind levels (kind_of_code (first % 16)) ≡ Some why → (m : Malformed) × (r : Reading) × (head_at levels old ≡ (Err m, r))
+  unfolding head_at
+  kind_stops why bad =
+      let m : Malformed = record { offset = old.place; why = why } in
+      let back : Reading = record way.0 { place = old.place } in
+      (m, back, rw (type_refused levels old way.0 first sound (read_byte old way.0 first way.3 way.1) why m back bad refl refl refl) refl)
+
+-- of a metadata byte the five lowest bits count
+pub rest_same : (kind : Kind) (xy : ℤ) (m n start : ℕ) (b : Reading) → has_bit m 8 ≡ has_bit n 8 → has_bit m 2 ≡ has_bit n 2 → has_bit m 1 ≡ has_bit n 1 → has_bit m 16 ≡ has_bit n 16 → has_bit m 4 ≡ has_bit n 4
+    → rest_at kind xy m start b ≡ rest_at kind xy n start b
+unfolding rest_at
+rest_same kind xy m n start b e8 e2 e1 e16 e4 = rw (e8, e2, e1, e16, e4) refl
+
+-- A header that may stand at the depth was begun: whatever is read behind its first two bytes is what is read of it from its
+-- start.
+abbrev pub GoesOn : ℕ → Begun → Reading → Reading → Type 0
+GoesOn depth begun before now = (answer : Result Head Malformed) (new : Reading) → rest_at begun.kind begun.xy begun.metadata begun.start now ≡ (answer, new)
+    → head_at (deepest - depth) before ≡ (answer, new)
+
+-- a header that was begun goes on
+named : (n : ℕ) (k : Kind) → n ≡ code_of k → kind_of_code n ≡ Some k
+named n Point e = ap kind_of_code e
+named n LineString e = ap kind_of_code e
+named n Polygon e = ap kind_of_code e
+named n MultiPoint e = ap kind_of_code e
+named n MultiLineString e = ap kind_of_code e
+named n MultiPolygon e = ap kind_of_code e
+named n GeometryCollection e = ap kind_of_code e
+
+bits_same : (m n k : ℕ) → m / k % 2 ≡ n / k % 2 → has_bit m k ≡ has_bit n k
+bits_same m n k e = ap (λ (b : ℕ). b == 1) e
+
+pub begins_goes_on : (begun : Begun) (depth : ℕ) (before now : Reading) → IsSound before → BeginsHead begun depth before now → GoesOn depth begun before now
+begins_goes_on begun depth before now sound begins answer new e =
+    let t = begins.type_byte in
+    let m = begins.metadata in
+    let n = begun.metadata in
+    let levels = deepest - depth in
+    let full : depth + levels ≡ deepest = omega (arith, begins.allowed.0, begins.allowed.1) in
+    let has = has_begun levels t m before now sound begins.bytes begins.moved begun.kind begun.xy begun.start (named (t % 16) begun.kind begins.kind) (allowed_with deepest levels depth begun.kind full begins.allowed) begins.precision begins.start in
+    let eight : m / 8 % 2 ≡ n / 8 % 2 = omega (arith, begins.announced) in
+    let two : m / 2 % 2 ≡ n / 2 % 2 = omega (arith, begins.announced) in
+    let one : m / 1 % 2 ≡ n / 1 % 2 = omega (arith, begins.announced) in
+    let sixteen : m / 16 % 2 ≡ n / 16 % 2 = omega (arith, begins.announced) in
+    let four : m / 4 % 2 ≡ n / 4 % 2 = omega (arith, begins.announced) in
+    head_of_rest levels (record begun { metadata = m }) before now new answer has
+    (rest_same begun.kind begun.xy m n begun.start now (bits_same m n 8 eight) (bits_same m n 2 two) (bits_same m n 1 one) (bits_same m n 16 sixteen) (bits_same m n 4 four) ∙ e)
 
 -- what isn't announced isn't read
 pub not_read : {A : Type 0} (announced : Bool) (f : Reader A) (r : Reading) → announced ≡ false → optional_at announced f r ≡ (Ok None, r)
@@ -91,3 +175,47 @@ pub box_seen : (p q : ℤ) (z y m n : Option ℕ) (offset place : ℕ) → p ≡
     → option_map (λ bounds. (let field : BoxField = record { bounds = bounds; offset = offset } in field)) (option_map (raw_bounds p z m) o) ≡ option_map (λ box. record { bounds = raw_bounds q y n box; offset = place }) o
 box_seen p q z y m n offset place xy_is z_is m_is at None = refl
 box_seen p q z y m n offset place xy_is z_is m_is at (Some box) = λ j. Some (record { bounds = raw_bounds (xy_is j) (z_is j) (m_is j) box; offset = at j })
+
+-- the fields of a header with a size and a box in X and Y, and nothing else
+abbrev pub flat_fields : Begun → SizeField → RawRange → RawRange → ℕ → Fields
+flat_fields begun size x y stop = record {
+  kind = begun.kind;
+  axes = record { xy = begun.xy; z = None; m = None };
+  size = Some size;
+  bounds = Some (flat_box x y);
+  box_place = size.after;
+  ids = has_ids begun.kind 3;
+  empty = false;
+  start = begun.start;
+  stop = stop;
+}
+
+-- a header with a size and a box in X and Y, and nothing else: it stops at a field that is wrong
+pub number_stops : (begun : Begun) (b d : Reading) (m : Malformed) → begun.metadata ≡ 3 → number_at b ≡ (Err m, d) → rest_at begun.kind begun.xy begun.metadata begun.start b ≡ (Err m, d)
+unfolding rest_at
+number_stops begun b d m three e = rw (three, e) refl
+
+pub x_stops : (begun : Begun) (n : ℕ) (b d e : Reading) (m : Malformed) → begun.metadata ≡ 3 → number_at b ≡ (Ok n, d) → range_from d ≡ (Err m, e) → rest_at begun.kind begun.xy begun.metadata begun.start b ≡ (Err m, e)
+unfolding rest_at bounds_from
+x_stops begun n b d e m three number x = rw (three, number, x) refl
+
+pub y_stops : (begun : Begun) (n : ℕ) (x : ℤ × ℤ) (b d e f : Reading) (m : Malformed) → begun.metadata ≡ 3 → number_at b ≡ (Ok n, d) → range_from d ≡ (Ok x, e) → range_from e ≡ (Err m, f) → rest_at begun.kind begun.xy begun.metadata begun.start b ≡ (Err m, f)
+unfolding rest_at bounds_from
+y_stops begun n x b d e f m three number first second = rw (three, number, first, second) refl
+
+-- its fields
+pub flat_read : (begun : Begun) (size : SizeField) (x y : RawRange) (b d e f : Reading) → begun.metadata ≡ 3 → number_at b ≡ (Ok size.value, d) → size.offset ≡ b.place → size.after ≡ d.place
+    → range_from d ≡ (Ok (ends_of x), e) → range_from e ≡ (Ok (ends_of y), f) → rest_at begun.kind begun.xy begun.metadata begun.start b ≡ (Ok (head_said (flat_fields begun size x y f.place)), f)
+unfolding rest_at bounds_from
+flat_read begun size x y b d e f three number offset after first second = rw (three, number, first, second, offset, after) refl
+
+-- its size
+pub size_said : (begun : Begun) (n : ℕ) (b d new : Reading) (head : Head) → begun.metadata ≡ 3 → number_at b ≡ (Ok n, d) → rest_at begun.kind begun.xy begun.metadata begun.start b ≡ (Ok head, new)
+    → head.size ≡ Some (record { value = n; offset = b.place; after = d.place })
+unfolding rest_at
+size_said begun n b d new head three number e = go (bounds_from begun.xy None None d) (rw (three, number) at e)
+  where
+    go : (a : Answer Bounds) → (viewed Some a >>= λ bounds f. (Ok (head_with begun.kind begun.xy 3 None (Some n) bounds begun.start b.place d.place f.place), f)) ≡ (Ok head, new)
+        → head.size ≡ Some (record { value = n; offset = b.place; after = d.place })
+    go (Ok x, f) is = sym (ap (λ (h : Head). h.size) (ok_is {A = Head} {E = Malformed} _ _ (ap (λ (z : Answer Head). z.0) is)))
+    go (Err m, f) is = absurd (ok_not_err head m new f (sym is))

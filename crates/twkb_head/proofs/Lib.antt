@@ -14,5 +14,4 @@ pub mod Loops
 pub mod HeadLaws
 pub mod HeadBack
 pub mod Limits
-pub mod BoxNumbers
 pub mod ShortHeads

@@ -5,4 +5,3 @@ pub mod Reader
 pub mod HeadReader
 pub mod Holds
 pub mod Raw
-pub mod Spelled

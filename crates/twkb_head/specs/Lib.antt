@@ -9,6 +9,5 @@ pub mod Head
 pub mod BegunHeader
 pub mod Refusal
 pub mod Raw
-pub mod Spelled
 pub mod Laws
 pub mod Devices

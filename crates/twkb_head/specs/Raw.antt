@@ -1,16 +1,21 @@
 -- Headers whose boxes are raw numbers.
-use Rattle.std.specs.Prelude.{◌≡◌, ℕ, ◌^◌, ℤ, pos, neg_ℤ, ◌+ℤ◌, ◌≤ℤ◌, false, List, [], ◌∷◌, Option, Some, None, option_map}
+use Rattle.std.specs.Prelude.{◌≡◌, ℕ, ◌/◌, ◌%◌, ◌^◌, ℤ, pos, neg_ℤ, ◌+ℤ◌, ◌≤ℤ◌, false, List, [], ◌∷◌, Option, Some, None, option_map, Result, Ok, Err}
 use Rattle.twkb_head.specs.declared.boxes.Bounds.{Bounds}
 use Rattle.twkb_head.specs.declared.raw.RawRange.{RawRange}
 use Rattle.twkb_head.specs.declared.raw.RawBox.{RawBox}
 use Rattle.twkb_head.specs.declared.raw.RawHead.{RawHead}
-use Rattle.twkb_head.specs.declared.boxed.BegunBox.{BegunBox}
+use Rattle.twkb_head.specs.declared.raw.Fields.{Fields}
 use Rattle.twkb_head.specs.declared.header.Head.{Head}
 use Rattle.twkb_head.specs.declared.header.BoxField.{BoxField}
 use Rattle.twkb_head.specs.declared.kinds.Kind.TheVariants.{Point, LineString}
-use Rattle.twkb_num.specs.Cursor.{Reading, passed, IsMoved}
-use Rattle.twkb_num.specs.Varint.{SpellsTwoSigned}
-use Rattle.twkb_head.specs.Head.{bounds_of, IsHeadAt}
+use Rattle.twkb_num.specs.Cursor.{Reading, rest, passed, IsMoved}
+use Rattle.twkb_num.specs.Varint.{zigzag_value}
+use Rattle.twkb_head.specs.declared.read.Begun.{Begun}
+use Rattle.twkb_head.specs.declared.refusal.Malformed.{Malformed}
+use Rattle.twkb_head.specs.BegunHeader.{IsAllowedAt}
+use Rattle.twkb_head.specs.Header.{code_of}
+use Rattle.twkb_head.specs.Head.{IsHeadAt, bounds_of}
+use Rattle.twkb_head.specs.Refusal.{IsRefusedHead}
 
 -- the least and the greatest number of a range
 abbrev pub ends_of : RawRange → ℤ × ℤ
@@ -34,6 +39,10 @@ pub record HasNearRanges (box : RawBox) : Type 0 where
   pub third : IsNear box.third
   pub fourth : IsNear box.fourth
 
+-- the box of two ranges in X and Y, and none in Z and M
+abbrev pub flat_box : RawRange → RawRange → RawBox
+flat_box x y = record { x = x; y = y; third = record { minimum = pos 0; extent = pos 0 }; fourth = record { minimum = pos 0; extent = pos 0 } }
+
 -- a box of raw numbers in units, by the precisions of its header
 abbrev pub raw_bounds : ℤ → Option ℕ → Option ℕ → RawBox → Bounds
 raw_bounds xy z m box = bounds_of xy z m (ranges_in box)
@@ -45,6 +54,24 @@ box_field raw box = record { bounds = raw_bounds raw.head.xy raw.head.z raw.head
 -- what the header says, with its box
 abbrev pub whole_head : RawHead → Head
 whole_head raw = record raw.head { bounds = option_map (box_field raw) raw.bounds }
+
+-- what the header says whose fields these are
+abbrev pub fields_box : Fields → RawBox → BoxField
+fields_box f box = record { bounds = raw_bounds f.axes.xy f.axes.z f.axes.m box; offset = f.box_place }
+
+abbrev pub head_said : Fields → Head
+head_said f = record {
+  kind = f.kind;
+  xy = f.axes.xy;
+  z = f.axes.z;
+  m = f.axes.m;
+  size = f.size;
+  bounds = option_map (fields_box f) f.bounds;
+  ids = f.ids;
+  empty = f.empty;
+  start = f.start;
+  stop = f.stop;
+}
 
 -- a header says: a point with this size, which counts from a place, and nothing else
 pub record IsSizedPoint (head : Head) (size after : ℕ) : Type 0 where
@@ -66,17 +93,20 @@ pub record IsBareLine (head : Head) : Type 0 where
   pub no_ids : head.ids ≡ false
   pub full : head.empty ≡ false
 
--- the box of two ranges, in X and in Y
-abbrev pub flat_box : RawRange → RawRange → RawBox
-flat_box x y = record { x = x; y = y; third = record { minimum = pos 0; extent = pos 0 }; fourth = record { minimum = pos 0; extent = pos 0 } }
+-- A header that may stand at the depth was begun: its first two bytes were read. Of the metadata byte the five lowest bits
+-- count.
+pub record BeginsHead (begun : Begun) (depth : ℕ) (before now : Reading) : Type 0 where
+  pub type_byte : ℕ
+  pub metadata : ℕ
+  pub bytes : passed before now ≡ type_byte ∷ metadata ∷ []
+  pub moved : IsMoved before now
+  pub kind : type_byte % 16 ≡ code_of begun.kind
+  pub allowed : IsAllowedAt begun.kind depth
+  pub precision : begun.xy ≡ zigzag_value (type_byte / 16)
+  pub announced : metadata % 32 ≡ begun.metadata % 32
+  pub start : begun.start ≡ before.place
 
--- a header says: this size, and a box in X and Y that was begun so, and has this range in Y
-pub record IsBoxed (head : Head) (begun : BegunBox) (y : RawRange) : Type 0 where
-  pub size : head.size ≡ Some begun.size
-  pub offset : ℕ
-  pub bounds : head.bounds ≡ Some (record { bounds = raw_bounds begun.xy None None (flat_box begun.x y); offset = offset })
-
--- A header was read up to the range in X of its box. Whatever range stands behind is that in Y, and ends the header.
-abbrev pub IsBegunBox : BegunBox → Reading → Reading → Type 0
-IsBegunBox begun old new = (y : RawRange) (stop : Reading) → SpellsTwoSigned (passed new stop) y.minimum y.extent → IsMoved new stop
-    → (head : Head) × IsHeadAt head 1 old.place (passed old stop) × IsBoxed head begun y × IsMoved old stop
+-- from its start the header was read, or why it can't be
+abbrev pub ReadsHead : ℕ → Reading → Reading → Result Fields Malformed → Type 0
+ReadsHead depth before new (Ok raw) = IsHeadAt (head_said raw) depth before.place (passed before new) × IsMoved before new
+ReadsHead depth before new (Err m) = IsRefusedHead m depth before.place (rest before)

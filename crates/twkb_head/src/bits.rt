@@ -7,17 +7,17 @@ ghost use Rattle.twkb_head.specs.Header.{has_bit, has_ids, z_in, m_in};
 use crate::kinds::Kind;
 use twkb_num::unzigzag;
 
-/// A bit of the metadata byte, by its value: a box stands in the header (TWKB specification, "Metadata Header"). The
-/// three bits that have no name here mean nothing, and may be set (this project's choice).
+/// A bit of the metadata byte, by its value: the header has a box (TWKB specification, "Metadata Header"). The three bits
+/// without a name here mean nothing and may be set (this project's choice).
 pub const BOX: u8 = 1;
 
-/// A bit of the metadata byte: a size stands in the header.
+/// A bit of the metadata byte: the header has a size.
 pub const SIZE: u8 = 2;
 
-/// A bit of the metadata byte: ids stand in the body, where it has a list.
+/// A bit of the metadata byte: the body has ids, if it has a list.
 pub const IDS: u8 = 4;
 
-/// A bit of the metadata byte: an extended dimensions byte stands in the header.
+/// A bit of the metadata byte: the header has an extended dimensions byte.
 pub const EXTENDED: u8 = 8;
 
 /// A bit of the metadata byte: the geometry is empty, and has no body.
@@ -42,9 +42,8 @@ pub fn precision_of(byte: u8) -> i8
     unzigzag(u64::from(byte / 16)) as i8
 }
 
-/// The precision of Z, where the extended dimensions byte has a Z (TWKB specification, "Extended
-/// Dimensions"). A byte with neither Z nor M is accepted, and the bits of an axis that it lacks mean nothing (this
-/// project's choice).
+/// The precision of Z, if the extended dimensions byte has a Z (TWKB specification, "Extended Dimensions"). A byte with
+/// neither Z nor M is accepted, and the bits of an axis that it lacks mean nothing (this project's choice).
 #[inline(always)]
 pub fn z_of(extended: Option<u8>) -> Option<u8>
     ensures value { result ≡ z_in extended }
@@ -56,7 +55,7 @@ pub fn z_of(extended: Option<u8>) -> Option<u8>
     }
 }
 
-/// The precision of M, where the extended dimensions byte has an M; else as for Z.
+/// The precision of M, if the extended dimensions byte has an M, as [`z_of`] has that of Z.
 #[inline(always)]
 pub fn m_of(extended: Option<u8>) -> Option<u8>
     ensures value { result ≡ m_in extended }
@@ -68,8 +67,8 @@ pub fn m_of(extended: Option<u8>) -> Option<u8>
     }
 }
 
-/// Whether ids stand in the body: an empty geometry has no body, and a point, line or polygon no list of members, so
-/// there the bit means nothing (this project's choice).
+/// Whether the body has ids. An empty geometry has no body, and a point, line or polygon has no list, so for these the bit
+/// means nothing (this project's choice).
 #[inline(always)]
 pub fn ids_of(kind: Kind, metadata: u8) -> bool
     ensures { result ≡ has_ids kind metadata }

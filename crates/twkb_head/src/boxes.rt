@@ -6,11 +6,10 @@ ghost use Rattle.twkb_num.specs.Units.{IsPrecision};
 ghost use Rattle.twkb_head.specs.Head.{span_at};
 ghost use Rattle.twkb_head.specs.Devices.Holds.{IsWithinBoth};
 ghost use Rattle.twkb_head.specs.Holds.{IsWithin, Holds};
-ghost use Rattle.twkb_head.specs.Spelled.{IsSpelled};
 
-use twkb_num::{coordinate_of, units};
+use twkb_num::units;
 
-/// A closed range, in units. Where `lo` is above `hi` it holds nothing.
+/// A closed range, in units. If `lo` is above `hi`, it holds nothing.
 #[derive(Clone, Copy, Debug, PartialEq, Eq)]
 pub struct Span {
     pub lo: i128,
@@ -18,8 +17,8 @@ pub struct Span {
 }
 
 impl Span {
-    /// The range that a box spells by a minimum and a width at a precision. The maximum is their sum as whole numbers
-    /// and may pass 64 bits; a negative width makes a range that holds nothing (this project's choice).
+    /// The range that a box spells by a minimum and a width at a precision. The maximum is their sum as whole numbers, and may
+    /// exceed 64 bits. A negative width gives a range that holds nothing (this project's choice).
     #[inline(always)]
     pub fn spelled(minimum: i64, width: i64, precision: i8) -> Span
         requires { IsPrecision precision }
@@ -29,17 +28,6 @@ impl Span {
             lo: units(i128::from(minimum), precision),
             hi: units(maximum(minimum, width), precision),
         }
-    }
-
-    /// The minimum and the width that spell the range at a precision; there have to be such.
-    pub fn spelling(&self, precision: i8) -> (i64, i64)
-        requires precision { IsPrecision precision }
-        requires spelled { IsSpelled precision self.now }
-        ensures { self.now ≡ span_at precision (result.0, result.0 +ℤ result.1) }
-    {
-        let least = coordinate_of(self.lo, precision);
-        let greatest = coordinate_of(self.hi, precision);
-        (least as i64, (greatest - least) as i64)
     }
 }
 
@@ -70,8 +58,8 @@ pub struct Bounds {
 }
 
 impl Bounds {
-    /// Whether `vertex` is within the range of each axis that both have; an axis that only one has is not compared
-    /// (this project's choice).
+    /// Whether `vertex` is in the range of each axis that both have. An axis that only one of them has isn't compared (this
+    /// project's choice).
     #[inline]
     pub fn holds(&self, vertex: &Vertex) -> bool
         ensures { IsTrue result ↔ Holds self.now vertex.now }
@@ -91,7 +79,7 @@ fn within(span: &Span, value: i128) -> bool
     span.lo <= value && value <= span.hi
 }
 
-/// The same where both are there; else there is nothing to compare.
+/// Whether a coordinate is in a range, if both are there. Otherwise there is nothing to compare.
 #[inline(always)]
 fn within_both(span: Option<Span>, value: Option<i128>) -> bool
     ensures { IsTrue result ↔ IsWithinBoth span value }

@@ -14,8 +14,8 @@ use crate::kinds::{Kind, kind_at};
 use crate::refusal::{Malformed, Why};
 use twkb_num::{Cursor, NumFault};
 
-/// The kind and the precision of X and Y in the type byte at the place, of a geometry that stands at `depth`. Both type
-/// and depth are judged here, before the next byte is read (this project's choice).
+/// Reads the type byte at the place, of a geometry at `depth`: its kind, and the precision of X and Y. Type and depth are
+/// judged here, before the next byte is read (this project's choice).
 #[inline(always)]
 pub fn take_type(cursor: &mut Cursor, depth: u8) -> Result<(Kind, i8), Malformed>
     requires { depth ≤ deepest }
@@ -47,10 +47,10 @@ pub fn take_byte(cursor: &mut Cursor) -> Result<u8, Malformed>
     }
 }
 
-/// The unsigned number at the place, or the place and what is wrong there.
+/// Reads the unsigned number at the place, or answers where and why it is malformed.
 ///
-/// On `Ok` the cursor is behind the number. On `Err` the place is as it was, which is the offset of the refusal; its
-/// reason is `Cut` or `Varint`, and the bytes looked at are counted.
+/// On `Ok` the cursor is after the number. On `Err` the place is unmoved, which is the offset of the refusal. Its reason is
+/// `Cut` or `Varint`, and the bytes looked at are counted.
 #[inline(always)]
 pub fn take_number(cursor: &mut Cursor) -> Result<u64, Malformed>
     ensures { number_at cursor.old ≡ (result, cursor.new) }
@@ -61,7 +61,7 @@ pub fn take_number(cursor: &mut Cursor) -> Result<u64, Malformed>
     }
 }
 
-/// The signed number at the place, by zigzag, or the place and what is wrong there; else as [`take_number`].
+/// Reads the signed number at the place, by zigzag, as [`take_number`] reads an unsigned one.
 #[inline(always)]
 pub fn take_signed(cursor: &mut Cursor) -> Result<i64, Malformed>
     ensures { signed_at cursor.old ≡ (result, cursor.new) }
@@ -72,7 +72,7 @@ pub fn take_signed(cursor: &mut Cursor) -> Result<i64, Malformed>
     }
 }
 
-/// A fault of the number at the place.
+/// The refusal that a fault of the number at the place is.
 #[cold]
 pub fn malformed(cursor: &Cursor, fault: NumFault) -> Malformed
     ensures offset { result.offset ≡ cursor.now.place }

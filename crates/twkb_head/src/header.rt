@@ -1,24 +1,25 @@
-//! What a header says, and where its parts stand.
+//! What a header says, and where its parts are.
 ghost use Rattle.std.specs.Prelude.{◌≡◌, ◌≤◌};
 ghost use Rattle.twkb_head.specs.Head.{m_axis};
 ghost use Rattle.twkb_head.specs.Header.{axes_with};
 
 use crate::boxes::Bounds;
 use crate::kinds::Kind;
+use crate::raw::Axes;
 
-/// A size (TWKB specification, "Size"): the number of bytes from `after` to the end of the geometry, as its
-/// header has it. Whether it is true is not judged here.
+/// A size (TWKB specification, "Size"): the number of bytes from `after` to the end of the geometry, as the header claims it.
+/// Whether it is true isn't judged here.
 #[derive(Clone, Copy, Debug, PartialEq, Eq)]
 pub struct SizeField {
     /// The number itself.
     pub value: u64,
     /// The place of the field's first byte.
     pub offset: usize,
-    /// The first place behind the field, from which the size counts.
+    /// The first place after the field, from which the size counts.
     pub after: usize,
 }
 
-/// A box (TWKB specification, "Bounding Box"), in units. Whether it is true is not judged here.
+/// A box (TWKB specification, "Bounding Box"), in units. Whether it is true isn't judged here.
 #[derive(Clone, Copy, Debug, PartialEq, Eq)]
 pub struct BoxField {
     /// The box itself.
@@ -34,27 +35,27 @@ pub struct Head {
     pub kind: Kind,
     /// The precision of X and Y, from -8 to 7.
     pub xy: i8,
-    /// The precision of Z, from 0 to 7, where there is a Z.
+    /// The precision of Z, from 0 to 7, if there is a Z axis.
     pub z: Option<u8>,
-    /// The precision of M, from 0 to 7, where there is an M.
+    /// The precision of M, from 0 to 7, if there is an M axis.
     pub m: Option<u8>,
-    /// The size, where there is one.
+    /// The size, if there is one.
     pub size: Option<SizeField>,
-    /// The box, where there is one.
+    /// The box, if there is one.
     pub bounds: Option<BoxField>,
-    /// Whether ids stand in the body.
+    /// Whether the body has ids.
     pub ids: bool,
-    /// Whether the geometry is empty and has no body. Its header has the size and the box that it announces all the same
-    /// (this project's choice).
+    /// Whether the geometry is empty and has no body. A size and a box that its header announces are there all the same (this
+    /// project's choice).
     pub empty: bool,
     /// The place of the header's first byte.
     pub start: usize,
-    /// The first place behind the header.
+    /// The first place after the header.
     pub stop: usize,
 }
 
 impl Head {
-    /// How many coordinates a point has: X, Y, and each of Z and M that is there.
+    /// How many coordinates a point has: X, Y, and Z and M if they are there.
     #[inline(always)]
     pub fn axes(&self) -> usize
         ensures some { 1 ≤ result }
@@ -64,7 +65,19 @@ impl Head {
         self.m_axis() + usize::from(self.m.is_some())
     }
 
-    /// The place of M among them: behind X and Y, and behind Z where there is one.
+    /// The precisions of its axes.
+    #[inline(always)]
+    pub fn precisions(&self) -> Axes
+        ensures { result ≡ record { xy = self.now.xy; z = self.now.z; m = self.now.m } }
+    {
+        Axes {
+            xy: self.xy,
+            z: self.z,
+            m: self.m,
+        }
+    }
+
+    /// The place of M among them: after X and Y, and after Z if there is one.
     #[inline(always)]
     pub fn m_axis(&self) -> usize
         ensures value { result ≡ m_axis self.now.z }

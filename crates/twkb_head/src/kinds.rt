@@ -1,4 +1,4 @@
-//! The seven types of a geometry, and how deep each may stand.
+//! The seven types of a geometry, and how deep each may be.
 ghost use Rattle.std.specs.Prelude.{◌≡◌, ◌%◌, ◌≤◌, ◌-◌, IfOk, IfErr};
 ghost use Rattle.twkb_head.specs.BegunHeader.{is_collection, deepest};
 ghost use Rattle.twkb_head.specs.Header.{is_multi};
@@ -26,7 +26,7 @@ pub enum Kind {
 }
 
 impl Kind {
-    /// Whether its body begins with a count, of parts or of members.
+    /// Whether the body is a list, of parts or of members: types 4 to 7.
     #[inline(always)]
     pub fn is_multi(self) -> bool
         ensures { result ≡ is_multi self }
@@ -43,11 +43,11 @@ impl Kind {
     }
 }
 
-/// How deep the deepest geometry may stand, where a blob has depth 1 and a member of a collection one more than the
-/// collection. A collection may stand at most one less deep (this project's choice).
+/// The greatest depth of a geometry. A blob has depth 1, and a member of a collection one more than the collection. A
+/// collection may be at most one level less deep (this project's choice).
 pub const DEEPEST: u8 = 64;
 
-/// The kind that a type byte names, where it may stand at `depth`.
+/// The kind that a type byte names, if it is allowed at `depth`.
 #[inline(always)]
 pub fn kind_at(byte: u8, depth: u8) -> Result<Kind, Why>
     requires { depth ≤ deepest }

@@ -1,20 +1,24 @@
-//! Headers of geometries that have a body, with their boxes in raw numbers: numbers at one precision compare without units.
-ghost use Rattle.std.specs.Prelude.{◌≡◌, ◌-◌, ◌≤◌, ◌^◌, ◌+ℤ◌, ◌≤ℤ◌, pos, neg_ℤ, ℕ, ℤ, Ok, None, Option, false, true, is_some, option_map, IfSome, IfNone, OnSome};
+//! Boxes and headers in raw numbers, which compare without units where they have one precision: [`Fields`] are any header's, and
+//! [`RawHead`] is that of a geometry with a body whose box has no far number, for the quick pass of an audit.
+ghost use Rattle.std.specs.Prelude.{◌≡◌, ◌-◌, ◌≤◌, ◌^◌, ◌+ℤ◌, ◌≤ℤ◌, pos, neg_ℤ, ℕ, ℤ, Ok, None, Option, false, true, is_some, option_map, IfSome, IfNone, OnSome, Err, OnOk, IfErr};
 ghost use Rattle.twkb_num.specs.Cursor.{Reading, passed, IsMoved};
 ghost use Rattle.twkb_num.specs.Units.{IsPrecision};
 ghost use Rattle.twkb_head.specs.BegunHeader.{deepest};
-ghost use Rattle.twkb_head.specs.Raw.{raw_bounds, whole_head, IsSizedPoint, IsBareLine, IsNear, HasNearRanges};
-ghost use Rattle.twkb_head.specs.Devices.Raw.{AreFieldsOf, IsRangeIf};
-ghost use Rattle.twkb_head.specs.Head.{IsHeadAt};
+ghost use Rattle.twkb_head.specs.Raw.{ends_of, ranges_in, flat_box, raw_bounds, whole_head, head_said, IsSizedPoint, IsBareLine, IsNear, HasNearRanges};
+ghost use Rattle.twkb_head.specs.Devices.Raw.{AreFieldsOf, IsRangeIf, ReadsIf, ended, bounded};
+ghost use Rattle.twkb_head.specs.Head.{IsHeadAt, span_at, range_of, m_axis};
 ghost use Rattle.twkb_head.specs.Header.{has_bit, z_in, m_in};
+ghost use Rattle.twkb_head.specs.declared.kinds.Kind.TheVariants.{Point};
 ghost use Rattle.twkb_head.specs.Devices.HeadReader.{range_from, bounds_from, head_at};
 ghost use Rattle.twkb_head.specs.Devices.Reader.{byte_at, optional_at};
 
 use crate::bits::{BOX, EMPTY, EXTENDED, SIZE, has_bit, ids_of, m_of, precision_of, z_of};
+use crate::boxes::{Bounds, Span};
 use crate::fields::{take_byte, take_signed, take_type};
-use crate::header::Head;
+use crate::header::{BoxField, Head, SizeField};
 use crate::kinds::Kind;
 use crate::read::{size_field, take_extended, take_size};
+use crate::refusal::Malformed;
 use twkb_num::Cursor;
 
 /// How far from zero a number of a box may be.
@@ -72,7 +76,8 @@ pub fn read_raw_head(cursor: &mut Cursor, depth: u8) -> Option<RawHead>
     Some(raw)
 }
 
-/// The same, if it has no extended dimensions byte. Else `None`, and the cursor is as it was.
+/// The header at the place, as [`read_raw_head`] reads it, if it has no extended dimensions byte. Else `None`, and the cursor
+/// is as it was.
 // Most layers have no other headers. Here the compiler knows which axes there are.
 #[inline(always)]
 pub fn read_flat_head(cursor: &mut Cursor, depth: u8) -> Option<RawHead>
@@ -103,26 +108,12 @@ pub fn read_sized_point_head(cursor: &mut Cursor) -> Option<u64>
     ensures moved { OnSome result (IsMoved cursor.old cursor.new) }
     ensures none { IfNone result (cursor.new ≡ cursor.old) }
 {
-    let (_, size) = read_point_head(cursor)?;
-    Some(size)
-}
-
-/// The precision of X and Y and the size in such a header.
-#[inline(always)]
-pub fn read_point_head(cursor: &mut Cursor) -> Option<(i8, u64)>
-    ensures ok { IfSome result (λ fields. (head : Head)
-        × IsHeadAt head 1 cursor.old.place (passed cursor.old cursor.new)
-        × IsSizedPoint head fields.1 cursor.new.place × (head.xy ≡ fields.0)) }
-    ensures moved { OnSome result (IsMoved cursor.old cursor.new) }
-    ensures none { IfNone result (cursor.new ≡ cursor.old) }
-    ensures xy { IfSome result (λ fields. IsPrecision fields.0) }
-{
     let word = cursor.word()?;
     if word[0] % 16 != 1 || word[1] % 32 != SIZE || word[2] >= 128 {
         return None;
     }
     cursor.pass(3);
-    Some((precision_of(word[0]), u64::from(word[2])))
+    Some(u64::from(word[2]))
 }
 
 /// A cursor behind the header at the place, if it is that of a line of X and Y with neither a size nor a box.
@@ -169,7 +160,7 @@ fn take_raw_head(cursor: &mut Cursor, depth: u8) -> Option<RawHead>
     take_raw_fields(cursor, start, kind, xy, metadata, extended)
 }
 
-/// The same of a header with no extended dimensions byte.
+/// The fields of a header with no extended dimensions byte, in order.
 #[inline(always)]
 fn take_flat_head(cursor: &mut Cursor, depth: u8) -> Option<RawHead>
     requires { depth ≤ deepest }
@@ -300,7 +291,7 @@ fn take_further_range(cursor: &mut Cursor) -> Option<RawRange>
     Some(RawRange { minimum, extent })
 }
 
-/// The same of X or Y, whose minimum is seldom as short as its extent: there is no path for such.
+/// Minimum and extent of X or Y, of which a minimum is seldom as short as its extent: there is no path for such.
 #[inline(always)]
 fn take_raw_range(cursor: &mut Cursor) -> Option<RawRange>
     ensures read { IfSome result (λ range.
@@ -313,7 +304,7 @@ fn take_raw_range(cursor: &mut Cursor) -> Option<RawRange>
     }
 }
 
-/// The same of numbers that may be long, or at the end of the bytes. `None` where one is farther than 2^61 from zero.
+/// Minimum and extent of any length, also at the end of the bytes. `None` where one is farther than 2^61 from zero.
 #[inline(always)]
 #[tactic(auto, unfolding(crate::specs::Devices::HeadReader::range_from))]
 pub fn take_long_range(cursor: &mut Cursor) -> Option<RawRange>
@@ -349,4 +340,256 @@ fn reaches(number: i64) -> bool
     ensures { result ≡ true → (neg_ℤ (pos (2 ^ 61)) ≤ℤ number) × (number ≤ℤ pos (2 ^ 61)) }
 {
     -FAR <= number && number <= FAR
+}
+
+/// The precisions of a header's axes: X and Y, and Z and M where they are there.
+#[derive(Clone, Copy, Debug, PartialEq, Eq)]
+pub struct Axes {
+    pub xy: i8,
+    pub z: Option<u8>,
+    pub m: Option<u8>,
+}
+
+impl Axes {
+    /// X and Y alone.
+    #[inline(always)]
+    pub fn flat(xy: i8) -> Axes
+        ensures { result ≡ record { xy = xy; z = None; m = None } }
+    {
+        Axes {
+            xy,
+            z: None,
+            m: None,
+        }
+    }
+
+    /// `true` says that there is neither Z nor M.
+    #[inline(always)]
+    pub fn is_flat(&self) -> bool
+        ensures z { result ≡ true → self.now.z ≡ None }
+        ensures m { result ≡ true → self.now.m ≡ None }
+    {
+        self.z.is_none() && self.m.is_none()
+    }
+
+    /// The place of M among the coordinates of a point: behind X and Y, and behind Z where there is one.
+    #[inline(always)]
+    pub fn m_axis(&self) -> usize
+        ensures value { result ≡ m_axis self.now.z }
+        ensures high { result ≤ 3 }
+    {
+        2 + usize::from(self.z.is_some())
+    }
+}
+
+impl RawRange {
+    /// `true` says that both numbers are at most 2^61 from zero, so that sums of two have 64 bits.
+    #[inline(always)]
+    pub fn is_near(&self) -> bool
+        ensures { result ≡ true → IsNear self.now }
+    {
+        reaches(self.minimum) && reaches(self.extent)
+    }
+
+    /// The least number of the range, and the greatest.
+    #[inline(always)]
+    pub fn ends(&self) -> (i64, i64)
+        requires { IsNear self.now }
+        ensures { result ≡ ends_of self.now }
+    {
+        (self.minimum, self.minimum + self.extent)
+    }
+
+    /// The range in units, at a precision.
+    #[inline(always)]
+    pub fn in_units(&self, precision: i8) -> Span
+        requires { IsPrecision precision }
+        ensures { result ≡ span_at precision (ends_of self.now) }
+    {
+        Span::spelled(self.minimum, self.extent, precision)
+    }
+
+    /// The range in units of an axis that may be absent.
+    #[inline(always)]
+    fn in_units_if(&self, precision: Option<u8>) -> Option<Span>
+        requires { IfSome precision (λ p. p ≤ 7) }
+        ensures { result ≡ option_map (λ p. span_at (pos p) (ends_of self.now)) precision }
+    {
+        match precision {
+            Some(precision) => Some(self.in_units(precision as i8)),
+            None => None,
+        }
+    }
+}
+
+impl RawBox {
+    /// The box of two ranges in X and Y, and none in Z and M.
+    #[inline(always)]
+    pub fn flat(x: RawRange, y: RawRange) -> RawBox
+        ensures { result ≡ flat_box x y }
+    {
+        let nothing = RawRange {
+            minimum: 0,
+            extent: 0,
+        };
+        RawBox {
+            x,
+            y,
+            third: nothing,
+            fourth: nothing,
+        }
+    }
+
+    /// `true` says that all its numbers are at most 2^61 from zero, so that sums of two have 64 bits.
+    #[inline(always)]
+    pub fn is_near(&self) -> bool
+        ensures { result ≡ true → HasNearRanges self.now }
+    {
+        self.x.is_near() && self.y.is_near() && self.third.is_near() && self.fourth.is_near()
+    }
+
+    /// The range of M, where there is one.
+    #[inline(always)]
+    pub fn last(&self, z: Option<u8>) -> RawRange
+        ensures { ends_of result ≡ range_of (ranges_in self.now) (m_axis z) }
+    {
+        if z.is_some() { self.fourth } else { self.third }
+    }
+
+    /// The box in units, by the precisions of its header.
+    #[inline(always)]
+    pub fn in_units(&self, axes: Axes) -> Bounds
+        requires xy { IsPrecision axes.xy }
+        requires z_high { IfSome axes.z (λ p. p ≤ 7) }
+        requires m_high { IfSome axes.m (λ p. p ≤ 7) }
+        ensures { result ≡ raw_bounds axes.xy axes.z axes.m self.now }
+    {
+        Bounds {
+            x: self.x.in_units(axes.xy),
+            y: self.y.in_units(axes.xy),
+            z: self.third.in_units_if(axes.z),
+            m: self.last(axes.z).in_units_if(axes.m),
+        }
+    }
+}
+
+/// A header, with its box in raw numbers.
+#[derive(Clone, Copy, Debug, PartialEq, Eq)]
+pub struct Fields {
+    pub kind: Kind,
+    pub axes: Axes,
+    pub size: Option<SizeField>,
+    pub bounds: Option<RawBox>,
+    /// The place of the first byte of the box, where there is one.
+    pub box_place: usize,
+    pub ids: bool,
+    pub empty: bool,
+    pub start: usize,
+    pub stop: usize,
+}
+
+impl Fields {
+    /// `true` says that it is a point of X and Y alone.
+    #[inline(always)]
+    pub fn is_flat_point(&self) -> bool
+        ensures kind { result ≡ true → self.now.kind ≡ Point }
+        ensures z { result ≡ true → self.now.axes.z ≡ None }
+        ensures m { result ≡ true → self.now.axes.m ≡ None }
+    {
+        matches!(self.kind, Kind::Point) && self.axes.is_flat()
+    }
+
+    /// What the header says, with its box in units.
+    #[inline(always)]
+    pub fn whole(&self) -> Head
+        requires xy { IsPrecision self.now.axes.xy }
+        requires z_high { IfSome self.now.axes.z (λ p. p ≤ 7) }
+        requires m_high { IfSome self.now.axes.m (λ p. p ≤ 7) }
+        ensures { result ≡ head_said self.now }
+    {
+        let bounds = match &self.bounds {
+            Some(raw) => Some(BoxField {
+                bounds: raw.in_units(self.axes),
+                offset: self.box_place,
+            }),
+            None => None,
+        };
+        Head {
+            kind: self.kind,
+            xy: self.axes.xy,
+            z: self.axes.z,
+            m: self.axes.m,
+            size: self.size,
+            bounds,
+            ids: self.ids,
+            empty: self.empty,
+            start: self.start,
+            stop: self.stop,
+        }
+    }
+}
+
+/// Minimum and extent of an axis, from one word of eight bytes where they are short.
+#[inline(always)]
+fn take_any_range(cursor: &mut Cursor) -> Result<RawRange, Malformed>
+    ensures { range_from cursor.old ≡ (ended result, cursor.new) }
+{
+    match cursor.svarint_mixed_pair() {
+        Some((minimum, extent)) => Ok(RawRange { minimum, extent }),
+        None => take_slow_range(cursor),
+    }
+}
+
+/// Minimum and extent of an axis, one number after the other.
+#[inline(never)]
+#[tactic(auto, unfolding(crate::specs::Devices::HeadReader::range_from))]
+fn take_slow_range(cursor: &mut Cursor) -> Result<RawRange, Malformed>
+    ensures { range_from cursor.old ≡ (ended result, cursor.new) }
+{
+    let minimum = take_signed(cursor)?;
+    let extent = take_signed(cursor)?;
+    Ok(RawRange { minimum, extent })
+}
+
+/// Minimum and extent of an axis that may be absent, which has zeros.
+#[inline(always)]
+fn take_any_range_if(cursor: &mut Cursor, is_there: bool) -> Result<RawRange, Malformed>
+    ensures { ReadsIf is_there result cursor.old cursor.new }
+{
+    if is_there {
+        take_slow_range(cursor)
+    } else {
+        Ok(RawRange {
+            minimum: 0,
+            extent: 0,
+        })
+    }
+}
+
+/// The box, where it is announced.
+#[inline(always)]
+#[tactic(auto, unfolding(crate::specs::Devices::HeadReader::bounds_from))]
+pub fn take_any_box(
+    cursor: &mut Cursor,
+    announced: bool,
+    has_z: bool,
+    has_m: bool,
+) -> Result<Option<RawBox>, Malformed>
+    ensures { (xy : ℤ) (z m : Option ℕ) → is_some z ≡ has_z → is_some m ≡ has_m
+        → optional_at announced (bounds_from xy z m) cursor.old ≡ (bounded xy z m result, cursor.new) }
+{
+    if announced {
+        let x = take_any_range(cursor)?;
+        let y = take_any_range(cursor)?;
+        let third = take_any_range_if(cursor, has_z | has_m)?;
+        let fourth = take_any_range_if(cursor, has_z & has_m)?;
+        Ok(Some(RawBox {
+            x,
+            y,
+            third,
+            fourth,
+        }))
+    } else {
+        Ok(None)
+    }
 }

@@ -1,19 +1,22 @@
 //! Reading a header.
-ghost use Rattle.std.specs.Prelude.{◌≡◌, ◌≢◌, ◌↔◌, ◌-◌, ◌≤◌, option_map, IfOk, OnOk, IfErr, IfSome, IsOk};
-ghost use Rattle.twkb_num.specs.Cursor.{rest, passed, counted, IsMoved};
+ghost use Rattle.std.specs.Prelude.{◌≡◌, ◌≢◌, ◌↔◌, ℕ, ◌-◌, ◌≤◌, ◌%◌, true, Err, option_map, IfOk, OnOk, IfErr, IfSome, IfNone, IsOk, IsSome};
+ghost use Rattle.twkb_num.specs.Cursor.{Reading, rest, passed, counted, IsMoved, IsSound};
 ghost use Rattle.twkb_num.specs.Units.{IsPrecision};
 ghost use Rattle.twkb_head.specs.BegunHeader.{deepest};
 ghost use Rattle.twkb_head.specs.declared.refusal.Why.TheVariants.{Range};
+ghost use Rattle.twkb_head.specs.declared.kinds.Kind.TheVariants.{Point};
 ghost use Rattle.twkb_head.specs.Head.{StartsWithHeader, IsHeadAt};
 ghost use Rattle.twkb_head.specs.Refusal.{IsRefusedHead, looked_at_until};
 ghost use Rattle.twkb_head.specs.Devices.Reader.{byte_at, number_at, optional_at};
-ghost use Rattle.twkb_head.specs.Devices.HeadReader.{head_at};
+ghost use Rattle.twkb_head.specs.Devices.HeadReader.{head_at, rest_at};
+ghost use Rattle.twkb_head.specs.Devices.Raw.{made_whole, HasBegun};
+ghost use Rattle.twkb_head.specs.Raw.{head_said, BeginsHead, ReadsHead};
 
-use crate::bits::{BOX, EMPTY, EXTENDED, SIZE, has_bit, ids_of, m_of, z_of};
-use crate::boxes::Bounds;
+use crate::bits::{BOX, EMPTY, EXTENDED, SIZE, has_bit, ids_of, m_of, precision_of, z_of};
 use crate::fields::{take_byte, take_number, take_type};
-use crate::header::{BoxField, Head, SizeField};
-use crate::ranges::take_box;
+use crate::header::{Head, SizeField};
+use crate::kinds::{Kind, kind_at};
+use crate::raw::{Axes, Fields, take_any_box};
 use crate::refusal::Malformed;
 use twkb_num::Cursor;
 
@@ -42,9 +45,28 @@ pub fn read_head(cursor: &mut Cursor, depth: u8) -> Result<Head, Malformed>
     ensures no_range { IfErr result (λ m. m.why ≢ Range) }
     ensures still { IfErr result (λ m. cursor.new ≡ counted cursor.old (looked_at_until m cursor.old)) }
 {
+    let raw = read_raw(cursor, depth)?;
+    Ok(raw.whole())
+}
+
+/// The header at the place as [`read_head`] reads it, with its box in raw numbers.
+#[inline(always)]
+pub fn read_raw(cursor: &mut Cursor, depth: u8) -> Result<Fields, Malformed>
+    requires shallowest { 1 ≤ depth }
+    requires deepest { depth ≤ deepest }
+    ensures exact { IsOk result ↔ StartsWithHeader depth (rest cursor.old) }
+    ensures ok { IfOk result (λ raw. IsHeadAt (head_said raw) depth cursor.old.place (passed cursor.old cursor.new)) }
+    ensures moved { OnOk result (IsMoved cursor.old cursor.new) }
+    ensures xy { IfOk result (λ raw. IsPrecision raw.axes.xy) }
+    ensures z_high { IfOk result (λ raw. IfSome raw.axes.z (λ p. p ≤ 7)) }
+    ensures m_high { IfOk result (λ raw. IfSome raw.axes.m (λ p. p ≤ 7)) }
+    ensures refused { IfErr result (λ m. IsRefusedHead m depth cursor.old.place (rest cursor.old)) }
+    ensures no_range { IfErr result (λ m. m.why ≢ Range) }
+    ensures still { IfErr result (λ m. cursor.new ≡ counted cursor.old (looked_at_until m cursor.old)) }
+{
     let start = cursor.place();
     match take_head(cursor, depth) {
-        Ok(head) => Ok(head),
+        Ok(raw) => Ok(raw),
         Err(malformed) => {
             cursor.go_to(start);
             Err(malformed)
@@ -52,36 +74,153 @@ pub fn read_head(cursor: &mut Cursor, depth: u8) -> Result<Head, Malformed>
     }
 }
 
+/// The first two bytes of a header: the kind, the precision of X and Y, and the byte that announces the other fields.
+#[derive(Clone, Copy, Debug, PartialEq, Eq)]
+pub struct Begun {
+    pub kind: Kind,
+    pub xy: i8,
+    pub metadata: u8,
+    /// The place of the first byte.
+    pub start: usize,
+}
+
+impl Begun {
+    /// `true` says that a size and a box in X and Y follow, no other field, and a body.
+    #[inline(always)]
+    pub fn is_flat_boxed(self) -> bool
+        ensures { result ≡ true → self.metadata % 32 ≡ 3 }
+    {
+        self.metadata % 32 == SIZE + BOX
+    }
+
+    /// `true` says that it is a point, and that a size follows, no other field, and a body.
+    #[inline(always)]
+    pub fn is_sized_point(self) -> bool
+        ensures metadata { result ≡ true → self.metadata % 32 ≡ 2 }
+        ensures kind { result ≡ true → self.kind ≡ Point }
+    {
+        self.metadata % 32 == SIZE && matches!(self.kind, Kind::Point)
+    }
+
+    /// This header under another metadata byte, which announces the same fields: the bits from 32 on announce none. Where the
+    /// byte is a constant, the compiler knows which fields there are.
+    #[inline(always)]
+    pub fn announcing(self, metadata: u8) -> Begun
+        requires { self.metadata % 32 ≡ metadata }
+        ensures { result ≡ record self { metadata = metadata } }
+    {
+        Begun {
+            kind: self.kind,
+            xy: self.xy,
+            metadata,
+            start: self.start,
+        }
+    }
+}
+
 /// The fields of the header at the place, in order. A refusal leaves the cursor at the field that is wrong.
 #[inline(always)]
-#[tactic(auto, unfolding(crate::specs::Devices::HeadReader::head_at))]
-fn take_head(cursor: &mut Cursor, depth: u8) -> Result<Head, Malformed>
+fn take_head(cursor: &mut Cursor, depth: u8) -> Result<Fields, Malformed>
     requires { depth ≤ deepest }
-    ensures read { head_at (deepest - depth) cursor.old ≡ (result, cursor.new) }
-    ensures xy { IfOk result (λ head. IsPrecision head.xy) }
-    ensures z_high { IfOk result (λ head. IfSome head.z (λ p. p ≤ 7)) }
-    ensures m_high { IfOk result (λ head. IfSome head.m (λ p. p ≤ 7)) }
+    ensures read { head_at (deepest - depth) cursor.old ≡ (made_whole result, cursor.new) }
+    ensures xy { IfOk result (λ raw. IsPrecision raw.axes.xy) }
+    ensures z_high { IfOk result (λ raw. IfSome raw.axes.z (λ p. p ≤ 7)) }
+    ensures m_high { IfOk result (λ raw. IfSome raw.axes.m (λ p. p ≤ 7)) }
+{
+    let begun = take_begun(cursor, depth)?;
+    take_fields(cursor, begun)
+}
+
+/// The first two bytes of the header at the place.
+#[inline(always)]
+#[tactic(auto, unfolding(crate::specs::Devices::HeadReader::head_at))]
+fn take_begun(cursor: &mut Cursor, depth: u8) -> Result<Begun, Malformed>
+    requires { depth ≤ deepest }
+    ensures ok { IfOk result (λ begun. HasBegun (deepest - depth) begun cursor.old cursor.new) }
+    ensures err { IfErr result (λ m. head_at (deepest - depth) cursor.old ≡ (Err m, cursor.new)) }
+    ensures xy { IfOk result (λ begun. IsPrecision begun.xy) }
 {
     let start = cursor.place();
     let (kind, xy) = take_type(cursor, depth)?;
     let metadata = take_byte(cursor)?;
-    let extended = take_extended(cursor, has_bit(metadata, EXTENDED))?;
+    Ok(Begun {
+        kind,
+        xy,
+        metadata,
+        start,
+    })
+}
+
+/// Reads the first two bytes of the header at the place, of a geometry at `depth`. `None` where no such header stands there. Then
+/// the cursor is after the bytes that were read, two of them or none.
+#[inline(always)]
+pub fn begin_head(cursor: &mut Cursor, depth: u8) -> Option<Begun>
+    requires shallowest { 1 ≤ depth }
+    requires deepest { depth ≤ deepest }
+    ensures some { IfSome result (λ begun. BeginsHead begun depth cursor.old cursor.new) }
+    ensures none { StartsWithHeader depth (rest cursor.old) → IsSome result }
+    ensures moved { IfNone result (IsMoved cursor.old cursor.new) }
+    ensures xy { IfSome result (λ begun. IsPrecision begun.xy) }
+{
+    let start = cursor.place();
+    let (first, metadata) = cursor.two_bytes()?;
+    let Ok(kind) = kind_at(first, depth) else {
+        return None;
+    };
+    Some(Begun {
+        kind,
+        xy: precision_of(first),
+        metadata,
+        start,
+    })
+}
+
+/// Reads the other fields of a header, after its first two bytes. A refusal leaves the cursor at the field that is wrong.
+#[inline(always)]
+pub fn take_rest(cursor: &mut Cursor, begun: Begun) -> Result<Fields, Malformed>
+    requires { IsPrecision begun.xy }
+    ensures read { (depth : ℕ) (before : Reading) → IsSound before → BeginsHead begun depth before cursor.old
+        → ReadsHead depth before cursor.new result }
+    ensures exact { (depth : ℕ) (before : Reading) → IsSound before → BeginsHead begun depth before cursor.old
+        → IsOk result ↔ StartsWithHeader depth (rest before) }
+    ensures xy { IfOk result (λ raw. IsPrecision raw.axes.xy) }
+    ensures z_high { IfOk result (λ raw. IfSome raw.axes.z (λ p. p ≤ 7)) }
+    ensures m_high { IfOk result (λ raw. IfSome raw.axes.m (λ p. p ≤ 7)) }
+{
+    take_fields(cursor, begun)
+}
+
+/// The fields after the first two bytes, in order.
+#[inline(always)]
+#[tactic(auto, unfolding(crate::specs::Devices::HeadReader::rest_at))]
+fn take_fields(cursor: &mut Cursor, begun: Begun) -> Result<Fields, Malformed>
+    requires xy { IsPrecision begun.xy }
+    ensures read { rest_at begun.kind begun.xy begun.metadata begun.start cursor.old ≡ (made_whole result, cursor.new) }
+    ensures xy { IfOk result (λ raw. IsPrecision raw.axes.xy) }
+    ensures z_high { IfOk result (λ raw. IfSome raw.axes.z (λ p. p ≤ 7)) }
+    ensures m_high { IfOk result (λ raw. IfSome raw.axes.m (λ p. p ≤ 7)) }
+{
+    let extended = take_extended(cursor, has_bit(begun.metadata, EXTENDED))?;
     let z = z_of(extended);
     let m = m_of(extended);
     let size_place = cursor.place();
-    let size = take_size(cursor, has_bit(metadata, SIZE))?;
+    let size = take_size(cursor, has_bit(begun.metadata, SIZE))?;
     let box_place = cursor.place();
-    let bounds = take_box(cursor, has_bit(metadata, BOX), xy, z, m)?;
-    Ok(Head {
-        kind,
-        xy,
-        z,
-        m,
+    let bounds = take_any_box(
+        cursor,
+        has_bit(begun.metadata, BOX),
+        z.is_some(),
+        m.is_some(),
+    )?;
+    Ok(Fields {
+        kind: begun.kind,
+        axes: Axes { xy: begun.xy, z, m },
         size: size_field(size, size_place, box_place),
-        bounds: box_field(bounds, box_place),
-        ids: ids_of(kind, metadata),
-        empty: has_bit(metadata, EMPTY),
-        start,
+        bounds,
+        box_place,
+        ids: ids_of(begun.kind, begun.metadata),
+        empty: has_bit(begun.metadata, EMPTY),
+        start: begun.start,
         stop: cursor.place(),
     })
 }
@@ -120,12 +259,4 @@ pub fn size_field(value: Option<u64>, offset: usize, after: usize) -> Option<Siz
         offset,
         after,
     })
-}
-
-/// A box, and where it stands.
-#[inline(always)]
-fn box_field(bounds: Option<Bounds>, offset: usize) -> Option<BoxField>
-    ensures { result ≡ option_map (λ bounds. record { bounds = bounds; offset = offset }) bounds }
-{
-    bounds.map(|bounds| BoxField { bounds, offset })
 }

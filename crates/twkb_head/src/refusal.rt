@@ -1,17 +1,17 @@
-//! Why bytes are malformed, and where. Which malformation is which number is this project's choice.
+//! Why bytes are malformed, and where. The numbers of malformations are this project's choice.
 
 /// Why bytes are malformed.
 #[derive(Clone, Copy, Debug, PartialEq, Eq)]
 pub enum Why {
     /// The bytes end before the field does.
     Cut = 1,
-    /// A varint passes 64 bits.
+    /// A varint exceeds 64 bits.
     Varint = 2,
     /// A type byte names no type.
     Kind = 3,
-    /// A collection stands so deep that its members may not.
+    /// A collection is so deep that its members would be too deep.
     Depth = 4,
-    /// A coordinate, as a sum of differences, passes 64 bits. No header is refused so.
+    /// A coordinate, as a sum of differences, exceeds 64 bits. No header is refused for this.
     Range = 5,
 }
 

@@ -12,12 +12,12 @@ use Rattle.twkb_body.specs.Geometry.{Geometry, vertices}
 use Rattle.twkb_body.specs.Claims.{IsCertified}
 use Rattle.twkb_body.specs.Tight.{HasTightBoxes}
 use Rattle.twkb_body.specs.Audited.{IsAudited, IsRefusedBlob}
-use Rattle.twkb_body.specs.Devices.Tight.{IsTrueBy, IsCertifiedBy}
+use Rattle.twkb_body.specs.Devices.Tight.{IsCertifiedBy}
 use Rattle.twkb_body.proofs.Tightness.{tight_both, both_tight}
 use Rattle.twkb_layer.specs.Layer.{IsLayer, IsCertifiedLayer, IsCounted, vertex_count}
 use Rattle.twkb_layer.specs.Refusal.{Begins, IsRefusedFor}
 use Rattle.twkb_layer.specs.Devices.Refusal.{refusal_of}
-use Rattle.twkb_layer.specs.Devices.Tight.{IsTightlyCounted, IsLayerBy, IsCountedBy}
+use Rattle.twkb_layer.specs.Devices.Tight.{IsTrueBy, IsTightlyCounted, IsLayerBy, IsCountedBy}
 use Rattle.twkb_layer.proofs.Layers.{blob_some, layer_grows, layer_once, layer_short}
 use Rattle.twkb_layer.proofs.VertexCounts.{layer_few}
 

@@ -1,5 +1,5 @@
 -- Slots of a directory, one blob more at a time.
-use Rattle.std.proofs.Common.{◌≡◌, ℕ, ◌+◌, ◌*◌, ◌/◌, ◌%◌, ◌^◌, ◌<◌, ◌≤◌, ◌||◌, nat_le, arith, Bool, true, false, cond, List, [], ◌∷◌, ◌++◌, length, map, take, slice_set, Option, Some, None, is_some, refl, ap, ◌∙◌, append_assoc}
+use Rattle.std.proofs.Common.{◌≡◌, ℕ, ◌+◌, ◌*◌, ◌/◌, ◌%◌, ◌^◌, ◌<◌, ◌≤◌, ◌||◌, nat_le, arith, Bool, true, false, cond, List, [], ◌∷◌, ◌++◌, length, map, take, slice_set, Option, Some, None, is_some, refl, ap, sym, ◌∙◌, append_assoc}
 use Rattle.std.proofs.lemmas.Bool.Decides.{nat_tests}
 use Rattle.std.proofs.lemmas.List.{map-append, take_more_set, length-set}
 use Rattle.twkb_head.specs.declared.boxes.Span.{Span}
@@ -8,9 +8,11 @@ use Rattle.twkb_num.specs.Cursor.{Reading}
 use Rattle.twkb_body.specs.Geometry.{Geometry}
 use Rattle.twkb_layer.specs.Directory.{Entry, IsDirectoryOf, entry_of}
 use Rattle.twkb_layer.specs.Layer.{IsCertifiedLayer}
-use Rattle.twkb_layer.specs.Devices.Collecting.{HasPassed}
+use Rattle.twkb_head.specs.declared.raw.Fields.{Fields}
+use Rattle.twkb_layer.specs.Devices.Collecting.{HasPassed, entry_said}
+use Rattle.twkb_layer.specs.Devices.Slots.{box_z, box_m, passes_a_slot, own_said, said_before}
 use Rattle.twkb_layer.specs.Slots.{Said, Written, slot_says, entry_with, entries_from, entries_of, entries_kept, unboxed}
-use Rattle.twkb_layer.proofs.Keeping.{Collecting, collect_begins, collect_goes_on, collect_ends}
+use Rattle.twkb_layer.proofs.Keeping.{Collecting, collect_begins, collect_goes_on, collect_ends, SaysOf}
 use Rattle.twkb_layer.proofs.Layers.{layer_once, layer_short}
 use Rattle.twkb_layer.proofs.Scanning.{Next}
 
@@ -46,10 +48,10 @@ entries_deep slots said slot place before own is =
 kept-append : (slots more : List Written) → entries_kept (slots ++ more) ≡ entries_of (map slot_says slots ++ map slot_says more)
 kept-append slots more = ap entries_of (map-append slot_says slots more)
 
-pub kept_flat : (slots : List Written) (slot : Written) (said : Said) (place : Entry) → slot_says slot ≡ said → said.beyond ≡ false → said.deep ≡ false → entry_with (unboxed 0) said ≡ place → entries_kept (slots ++ slot ∷ []) ≡ entries_kept slots ++ place ∷ []
+kept_flat : (slots : List Written) (slot : Written) (said : Said) (place : Entry) → slot_says slot ≡ said → said.beyond ≡ false → said.deep ≡ false → entry_with (unboxed 0) said ≡ place → entries_kept (slots ++ slot ∷ []) ≡ entries_kept slots ++ place ∷ []
 kept_flat slots slot said place is own flat e = kept-append slots (slot ∷ []) ∙ (ap (λ (l : Said). entries_of (map slot_says slots ++ l ∷ [])) is ∙ entries_flat (map slot_says slots) said place own flat e)
 
-pub kept_deep : (slots : List Written) (before slot : Written) (beyond said : Said) (place : Entry) → slot_says before ≡ beyond → slot_says slot ≡ said → beyond.beyond ≡ true → said.beyond ≡ false → entry_with beyond said ≡ place
+kept_deep : (slots : List Written) (before slot : Written) (beyond said : Said) (place : Entry) → slot_says before ≡ beyond → slot_says slot ≡ said → beyond.beyond ≡ true → said.beyond ≡ false → entry_with beyond said ≡ place
     → entries_kept (slots ++ before ∷ slot ∷ []) ≡ entries_kept slots ++ place ∷ []
 kept_deep slots before slot beyond said place was is first own e =
     kept-append slots (before ∷ slot ∷ []) ∙ ((λ j. entries_of (map slot_says slots ++ was j ∷ is j ∷ [])) ∙ entries_deep (map slot_says slots) beyond said place first own e)
@@ -57,35 +59,32 @@ kept_deep slots before slot beyond said place was is first own e =
 -- ---- the entry of a blob, by its slots
 
 -- nothing passes a slot
-pub nothing_beyond : (z m : Option Span) (offset : ℕ) → (is_some z || (is_some m || nat_le (2 ^ 57) offset)) ≡ false → (z ≡ None) × (m ≡ None) × (offset < 2 ^ 57)
+nothing_beyond : (z m : Option Span) (offset : ℕ) → (is_some z || (is_some m || nat_le (2 ^ 57) offset)) ≡ false → (z ≡ None) × (m ≡ None) × (offset < 2 ^ 57)
 nothing_beyond None None offset is = (refl, refl, grind (arith, nat_tests))
 nothing_beyond (Some z) m offset is = absurd (cc (is))
 nothing_beyond None (Some m) offset is = absurd (cc (is))
 
--- the slot of a blob whose box has these ranges in X and in Y
-abbrev pub own_slot : ℕ → Bool → Option Span → Option Span → Said
-own_slot offset deep x y = record { beyond = false; deep = deep; offset = offset % 2 ^ 57; first = x; second = y }
+entry_flat : (offset : ℕ) (deep : Bool) (box : Option Bounds) → deep ≡ false → (box_z box ≡ None) × (box_m box ≡ None) × (offset < 2 ^ 57) → entry_with (unboxed 0) (own_said offset deep box) ≡ record { offset = offset; bounds = box }
+entry_flat offset deep None is near = let all : offset % 2 ^ 57 + 0 ≡ offset = omega (arith, near.2) in rw is (λ j. record { offset = all j; bounds = None })
+entry_flat offset deep (Some box) is near =
+    let all : offset % 2 ^ 57 + 0 ≡ offset = omega (arith, near.2) in
+    rw is (λ j. record { offset = all j; bounds = Some (record { x = box.x; y = box.y; z = sym near.0 j; m = sym near.1 j }) })
 
--- the slot before it
-abbrev pub slot_before : ℕ → Option Span → Option Span → Said
-slot_before offset z m = record { beyond = true; deep = false; offset = offset / 2 ^ 57 * 2 ^ 57; first = z; second = m }
+entry_deep : (offset : ℕ) (deep : Bool) (box : Option Bounds) → deep ≡ true → entry_with (said_before offset box) (own_said offset deep box) ≡ record { offset = offset; bounds = box }
+entry_deep offset deep None is = let all : offset % 2 ^ 57 + offset / 2 ^ 57 * 2 ^ 57 ≡ offset = omega arith in rw is (λ j. record { offset = all j; bounds = None })
+entry_deep offset deep (Some box) is = let all : offset % 2 ^ 57 + offset / 2 ^ 57 * 2 ^ 57 ≡ offset = omega arith in rw is (λ j. record { offset = all j; bounds = Some box })
 
-module _ (offset : ℕ) (deep : Bool) (z m : Option Span) where
-  pub deep_unboxed : deep ≡ true → entry_with (slot_before offset z m) (own_slot offset deep None None) ≡ record { offset = offset; bounds = None }
-  deep_unboxed is = let all : offset % 2 ^ 57 + offset / 2 ^ 57 * 2 ^ 57 ≡ offset = omega arith in rw is (λ j. record { offset = all j; bounds = None })
+-- one slot more is the blob's, where nothing passes it; else two are
+module _ (slots : List Written) (offset : ℕ) (deep : Bool) (box : Option Bounds) (passes : deep ≡ passes_a_slot offset box) (slot : Written) (says : slot_says slot ≡ own_said offset deep box) where
+  pub kept_one : deep ≡ false → entries_kept (slots ++ slot ∷ []) ≡ entries_kept slots ++ record { offset = offset; bounds = box } ∷ []
+  kept_one is = kept_flat slots slot (own_said offset deep box) _ says refl is (entry_flat offset deep box is (nothing_beyond (box_z box) (box_m box) offset (sym passes ∙ is)))
 
-  pub deep_boxed : (box : Bounds) → deep ≡ true → z ≡ box.z → m ≡ box.m → entry_with (slot_before offset z m) (own_slot offset deep (Some box.x) (Some box.y)) ≡ record { offset = offset; bounds = Some box }
-  deep_boxed box is z_is m_is =
-      let all : offset % 2 ^ 57 + offset / 2 ^ 57 * 2 ^ 57 ≡ offset = omega arith in
-      rw is (λ j. record { offset = all j; bounds = Some (record { x = box.x; y = box.y; z = z_is j; m = m_is j }) })
+  pub kept_two : (before : Written) → slot_says before ≡ said_before offset box → deep ≡ true → entries_kept (slots ++ before ∷ slot ∷ []) ≡ entries_kept slots ++ record { offset = offset; bounds = box } ∷ []
+  kept_two before was is = kept_deep slots before slot (said_before offset box) (own_said offset deep box) _ was says refl refl (entry_deep offset deep box is)
 
-  pub flat_unboxed : deep ≡ false → offset < 2 ^ 57 → entry_with (unboxed 0) (own_slot offset deep None None) ≡ record { offset = offset; bounds = None }
-  flat_unboxed is near = let all : offset % 2 ^ 57 + 0 ≡ offset = omega (arith, near) in rw is (λ j. record { offset = all j; bounds = None })
-
-  pub flat_boxed : (box : Bounds) → deep ≡ false → offset < 2 ^ 57 → None ≡ box.z → None ≡ box.m → entry_with (unboxed 0) (own_slot offset deep (Some box.x) (Some box.y)) ≡ record { offset = offset; bounds = Some box }
-  flat_boxed box is near z_is m_is =
-      let all : offset % 2 ^ 57 + 0 ≡ offset = omega (arith, near) in
-      rw is (λ j. record { offset = all j; bounds = Some (record { x = box.x; y = box.y; z = z_is j; m = m_is j }) })
+-- the entry of a blob whose header was read
+pub entry_read : (offset : ℕ) (r : Reading) (g : Geometry) (raw : Fields) → offset ≡ r.place → SaysOf raw g → entry_said offset raw ≡ entry_of 0 r.place g
+entry_read offset r g raw at says = (λ j. record { offset = at j; bounds = says.box j })
 
 -- ---- the slots of a blob, put into room
 

@@ -1,25 +1,22 @@
 -- What is kept of each blob, on its way from blob to blob; and what is read of one.
-use Rattle.std.proofs.Common.{◌≡◌, ℕ, ℤ, ◌+◌, ◌-◌, ◌*◌, ◌^◌, ◌<◌, ◌≤◌, Bool, List, [], ◌∷◌, ◌++◌, length, drop, fold, map, slice_set, ◌⊎◌, inl, inr, Option, Some, None, option_map, is_some, refl, ap, subst, sym, ◌∙◌, arith, length-append, length-drop, append_assoc}
+use Rattle.std.proofs.Common.{◌≡◌, ℕ, ℤ, ◌+◌, ◌-◌, ◌^◌, ◌<◌, ◌≤◌, Bool, List, [], ◌∷◌, ◌++◌, length, drop, fold, map, slice_set, ◌⊎◌, inl, inr, Option, Some, None, option_map, is_some, refl, ap, subst, sym, ◌∙◌, arith, length-append, length-drop, append_assoc}
 use Rattle.std.proofs.lemmas.List.{append-nil}
-use Rattle.twkb_num.specs.Cursor.{Reading, added, passed, IsMoved}
+use Rattle.twkb_num.specs.Cursor.{Reading, added}
 use Rattle.twkb_head.specs.declared.header.BoxField.{BoxField}
 use Rattle.twkb_head.specs.declared.header.Head.{Head}
 use Rattle.twkb_head.specs.BegunHeader.{deepest}
-use Rattle.twkb_head.specs.Header.{Header}
-use Rattle.twkb_head.specs.Head.{IsHeadAt, bounds_of}
+use Rattle.twkb_head.specs.declared.raw.Fields.{Fields}
+use Rattle.twkb_head.specs.Head.{bounds_of}
+use Rattle.twkb_head.specs.Raw.{fields_box, head_said}
 use Rattle.twkb_body.specs.Counting.{counts_on, never}
-use Rattle.twkb_body.specs.Encoding.{BlobUnder}
 use Rattle.twkb_body.specs.Geometry.{Geometry, geometry, header_of, vertices}
-use Rattle.twkb_body.specs.Standing.{StandsAt}
+use Rattle.twkb_body.specs.Standing.{StandsAt, head_standing}
 use Rattle.twkb_body.specs.Visit.{walk}
-use Rattle.twkb_body.proofs.HeadStands.{has_head}
-use Rattle.twkb_body.proofs.Orders.{blob_order}
 use Rattle.twkb_body.proofs.VertexCounts.{blob_few}
-use Rattle.twkb_body.proofs.WalkLengths.{walk_all, walk_most, counts_all}
-use Rattle.twkb_layer.specs.Devices.Collecting.{SaysOf, HasPassed}
+use Rattle.twkb_body.proofs.WalkLengths.{walk_all, counts_all}
+use Rattle.twkb_layer.specs.Directory.{box_of}
+use Rattle.twkb_layer.specs.Devices.Collecting.{HasPassed, box_said}
 use Rattle.twkb_layer.specs.Layer.{IsCertifiedLayer, IsCounted, AddsAtMost, size_of, told_from, blob_by_blob}
-use Rattle.twkb_layer.specs.Devices.Layer.{header_size}
-use Rattle.twkb_layer.specs.Devices.Passing.{Nothing, nothing, stays, each}
 use Rattle.twkb_layer.specs.Hits.{filled}
 use Rattle.twkb_layer.specs.Rows.{row_of, rows}
 use Rattle.twkb_layer.specs.declared.row.Row.{Row}
@@ -29,45 +26,32 @@ use Rattle.twkb_layer.proofs.Scanning.{Next, none_left}
 
 -- ---- the header of a blob
 
+-- what a header that was read says of the geometry
+pub record SaysOf (raw : Fields) (g : Geometry) : Type 0 where
+  pub kind : raw.kind ≡ (header_of g).kind
+  pub precision : raw.axes.xy ≡ (header_of g).xy
+  pub sized : is_some raw.size ≡ is_some (header_of g).size
+  pub boxed : is_some raw.bounds ≡ is_some (header_of g).box
+  pub box : box_said raw ≡ box_of g
+
 some_still : {A B : Type 0} (f : A → B) (o : Option A) → is_some (option_map f o) ≡ is_some o
 some_still f None = refl
 some_still f (Some x) = refl
 
--- the box of a header that was read
-some_box : (h : Header) (at : ℕ) (box : Option (List (ℤ × ℤ))) → option_map (λ (f : BoxField). f.bounds) (option_map (λ ranges. record { bounds = bounds_of h.xy h.z h.m ranges; offset = at }) box) ≡ option_map (λ ranges. bounds_of h.xy h.z h.m ranges) box
-some_box h at None = refl
-some_box h at (Some ranges) = refl
+-- the boxes of fields
+boxes_of : {A : Type 0} (field : A → BoxField) (o : Option A) → option_map (λ (f : BoxField). f.bounds) (option_map field o) ≡ option_map (λ (a : A). (field a).bounds) o
+boxes_of field None = refl
+boxes_of field (Some a) = refl
 
--- what a header that was read says
-pub says_of : (g : Geometry) (r a : Reading) (head : Head) → StandsAt g 1 r.bytes r.place → IsHeadAt head 1 r.place (passed r a) → IsMoved r a → SaysOf head g
-says_of (geometry h l ids polygons members) r a head at ha moved =
-    let hd = has_head h l ids polygons members 1 r a head at ha moved in record {
-      kind = ap (λ (x : Head). x.kind) hd.head_is;
-      precision = ap (λ (x : Head). x.xy) hd.head_is;
-      sized = ap (λ (x : Head). is_some x.size) hd.head_is ∙ some_still _ h.size;
-      boxed = ap (λ (x : Head). is_some x.bounds) hd.head_is ∙ some_still _ h.box;
-      box = ap (λ (x : Head). option_map (λ (f : BoxField). f.bounds) x.bounds) hd.head_is ∙ some_box h _ h.box;
-    }
-
--- how many bytes a header that was read took, which are no more than those of the geometry
-pub header_read : (g : Geometry) (r a : Reading) (head : Head) → StandsAt g 1 r.bytes r.place → IsHeadAt head 1 r.place (passed r a) → IsMoved r a
-    → (a.place ≡ r.place + header_size g) × (header_size g ≤ size_of g)
-header_read (geometry h l ids polygons members) r a head at ha moved =
-    let hd = has_head h l ids polygons members 1 r a head at ha moved in (hd.far, omega (arith, hd.whole))
-
--- the same of a geometry that stands somewhere
-pub header_fits : (g : Geometry) (bytes : List ℕ) (place : ℕ) → StandsAt g 1 bytes place → header_size g ≤ size_of g
-unfolding BlobUnder
-header_fits (geometry h l ids polygons members) bytes place at =
-    let starts = at.blob.1 in omega (arith, starts.whole_length, starts.header_length, ap length starts.fields, length-append starts.head at.blob.0)
-
--- back at the start of a geometry whose header was read
-pub back_at : (g : Geometry) (r a b : Reading) (head : Head) (offset : ℕ) → StandsAt g 1 r.bytes r.place → IsHeadAt head 1 r.place (passed r a) → IsMoved r a → offset ≡ r.place → b ≡ record a { place = offset }
-    → b ≡ record { bytes = r.bytes; place = r.place; count = added r.count (header_size g) }
-back_at g r a b head offset at ha moved o is =
-    let far = header_read g r a head at ha moved in
-    let count : a.count ≡ added r.count (header_size g) = moved.count ∙ ap (added r.count) (omega (arith, far.0)) in
-    is ∙ (λ j. record { bytes = moved.bytes j; place = o j; count = count j })
+pub says_of : (g : Geometry) (place : ℕ) (raw : Fields) → head_said raw ≡ head_standing g place → SaysOf raw g
+says_of (geometry h l ids polygons members) place raw is = record {
+  kind = ap (λ (x : Head). x.kind) is;
+  precision = ap (λ (x : Head). x.xy) is;
+  sized = ap (λ (x : Head). is_some x.size) is ∙ some_still _ h.size;
+  boxed = sym (some_still (fields_box raw) raw.bounds) ∙ (ap (λ (x : Head). is_some x.bounds) is ∙ some_still _ h.box);
+  box = sym (boxes_of (fields_box raw) raw.bounds) ∙ (ap (λ (x : Head). option_map (λ (f : BoxField). f.bounds) x.bounds) is
+      ∙ boxes_of (λ (ranges : List (ℤ × ℤ)). record { bounds = bounds_of h.xy h.z h.m ranges; offset = place + l.before + l.size }) h.box);
+}
 
 -- ---- what is read of one blob
 
@@ -82,46 +66,33 @@ vertices_counted g bytes place at small =
     let room : length (drop place bytes) ≡ length at.front + length at.behind = ap length at.there ∙ length-append at.front at.behind in
     counts_all 0 (vertices g) (omega (arith, few, room, small, length-drop place bytes)) ∙ omega arith
 
--- a geometry stands where its header was read
-pub stands_still : (g : Geometry) (r b : Reading) → StandsAt g 1 r.bytes r.place → b ≡ record { bytes = r.bytes; place = r.place; count = added r.count (header_size g) } → StandsAt g 1 b.bytes b.place
-stands_still g r b at is = subst (λ (x : Reading). StandsAt g 1 x.bytes x.place) (sym is) at
+-- no more was read than the geometry
+pub passed_by : (g : Geometry) (old new : Reading) → new.bytes ≡ old.bytes → new.place ≡ old.place + size_of g → (read : ℕ) × (read ≤ size_of g) × (new.count ≡ added old.count read) → HasPassed g old new
+passed_by g old new bytes place (read, few, is) = record { bytes = bytes; place = place; count = record { read = read; few = few; is = is } }
 
--- a header was read, and then no more than the geometry
-pub passed_then : (g : Geometry) (r b new : Reading) (read : ℕ) → StandsAt g 1 r.bytes r.place → b ≡ record { bytes = r.bytes; place = r.place; count = added r.count (header_size g) } → read ≤ size_of g
-    → new ≡ record { bytes = b.bytes; place = b.place + size_of g; count = added b.count read } → HasPassed g r new
-passed_then g r b new read at back few skims = record {
-  bytes = ap (λ (x : Reading). x.bytes) skims ∙ ap (λ (x : Reading). x.bytes) back;
-  place = ap (λ (x : Reading). x.place) skims ∙ ap (λ (x : Reading). x.place + size_of g) back;
-  count = record {
-    read = header_size g + read;
-    few = omega (arith, few, header_fits g r.bytes r.place at);
-    is = ap (λ (x : Reading). x.count) skims ∙ (ap (λ (x : Reading). added x.count read) back ∙ omega arith);
-  };
-}
+pub skimmed_by : (g : Geometry) (old new : Reading) (read : ℕ) → read ≤ size_of g → new ≡ record { bytes = old.bytes; place = old.place + size_of g; count = added old.count read } → HasPassed g old new
+skimmed_by g old new read few is =
+    passed_by g old new (ap (λ (r : Reading). r.bytes) is) (ap (λ (r : Reading). r.place) is) (read, few, ap (λ (r : Reading). r.count) is)
 
 -- a visitor that counts reads no more
 pub counting_few : (g : Geometry) (bytes : List ℕ) (place s : ℕ) → StandsAt g 1 bytes place → walk g ℕ counts_on never s ≤ size_of g
 counting_few g bytes place s at = omega (arith, counted_whole g bytes place s at)
 
--- nor does one that passes by
-pub passing_few : (g : Geometry) (bytes : List ℕ) (place : ℕ) → StandsAt g 1 bytes place → walk g Nothing stays each nothing ≤ size_of g
-passing_few g bytes place at = walk_most Nothing stays each g nothing (blob_order deepest g at.front 1 at.blob).1
-
-rows_equal : (blob : ℕ) (a b c d e f : ℕ) → a ≡ b → c ≡ d → e ≡ f → (head : Head) (g : Geometry) → SaysOf head g → (sized boxed : Bool) → sized ≡ is_some head.size → boxed ≡ is_some head.bounds → (p : ℤ) → p ≡ head.xy
-    → ◌≡◌ {A = Row} (record { blob = blob; offset = a; bytes = c; vertices = e; kind = head.kind; precision = p; has_size = sized; has_box = boxed })
+rows_equal : (blob : ℕ) (a b c d e f : ℕ) → a ≡ b → c ≡ d → e ≡ f → (raw : Fields) (g : Geometry) → SaysOf raw g → (sized boxed : Bool) → sized ≡ is_some raw.size → boxed ≡ is_some raw.bounds → (p : ℤ) → p ≡ raw.axes.xy
+    → ◌≡◌ {A = Row} (record { blob = blob; offset = a; bytes = c; vertices = e; kind = raw.kind; precision = p; has_size = sized; has_box = boxed })
     (record { blob = blob; offset = b; bytes = d; vertices = f; kind = (header_of g).kind; precision = (header_of g).xy; has_size = is_some (header_of g).size; has_box = is_some (header_of g).box })
-rows_equal blob a b c d e f ab cd ef head g says sized boxed s x p q =
+rows_equal blob a b c d e f ab cd ef raw g says sized boxed s x p q =
     (λ j. record { blob = blob; offset = ab j; bytes = cd j; vertices = ef j; kind = says.kind j; precision = (q ∙ says.precision) j; has_size = (s ∙ says.sized) j; has_box = (x ∙ says.boxed) j })
 
 -- what the row says
-pub row_says : (g : Geometry) (r : Reading) (head : Head) (blob offset stop s many : ℕ) (sized boxed : Bool) (p : ℤ) → length r.bytes < 2 ^ 64 → StandsAt g 1 r.bytes r.place → SaysOf head g → offset ≡ r.place
+pub row_says : (g : Geometry) (r : Reading) (raw : Fields) (blob offset stop s many : ℕ) (sized boxed : Bool) (p : ℤ) → length r.bytes < 2 ^ 64 → StandsAt g 1 r.bytes r.place → SaysOf raw g → offset ≡ r.place
     → stop ≡ r.place + size_of g
-    → s ≡ 0 → many ≡ fold counts_on s (vertices g) → sized ≡ is_some head.size → boxed ≡ is_some head.bounds → p ≡ head.xy
-    → ◌≡◌ {A = Row} (record { blob = blob; offset = offset; bytes = stop - offset; vertices = many; kind = head.kind; precision = p; has_size = sized; has_box = boxed }) (row_of blob r.place g)
-row_says g r head blob offset stop s many sized boxed p small at says o ends zero counted si bo pe =
+    → s ≡ 0 → many ≡ fold counts_on s (vertices g) → sized ≡ is_some raw.size → boxed ≡ is_some raw.bounds → p ≡ raw.axes.xy
+    → ◌≡◌ {A = Row} (record { blob = blob; offset = offset; bytes = stop - offset; vertices = many; kind = raw.kind; precision = p; has_size = sized; has_box = boxed }) (row_of blob r.place g)
+row_says g r raw blob offset stop s many sized boxed p small at says o ends zero counted si bo pe =
     let size : stop - offset ≡ size_of g = omega (arith, ends, o) in
     let all : many ≡ length (vertices g) = counted ∙ (ap (λ (n : ℕ). fold counts_on n (vertices g)) zero ∙ vertices_counted g r.bytes r.place at small) in
-    rows_equal blob offset r.place (stop - offset) (size_of g) many (length (vertices g)) o size all head g says sized boxed si bo p pe
+    rows_equal blob offset r.place (stop - offset) (size_of g) many (length (vertices g)) o size all raw g says sized boxed si bo p pe
 
 -- ---- the loop
 -- what is kept, and what is left
@@ -136,7 +107,7 @@ module _ {S : Type 0} (told : ℕ → ℕ → Geometry → S) where
     pub spare_is : length rest ≤ spare
     pub read : ℕ
     pub count_is : count ≡ added count0 read
-    pub read_few : read ≤ 2 * place
+    pub read_few : read ≤ place
     pub within : place ≤ length bytes
 
   pub collect_begins : (bytes : List ℕ) (count0 : ℕ) (trees : List Geometry) (says : List S) (spare : ℕ) → IsCertifiedLayer trees bytes → count0 < 2 ^ 64 → says ≡ [] → length trees ≤ spare → Collecting bytes count0 0 count0 0 says spare
@@ -187,7 +158,7 @@ module _ {S : Type 0} (told : ℕ → ℕ → Geometry → S) where
       let none = none_left s.rest bytes place s.left le in
       sym (s.told_are ∙ (ap (λ ts. says ++ told_from told blob place ts) none ∙ append-nil says)) ∙ ap (blob_by_blob told) (layer_once s.trees trees bytes s.whole.layer h.layer)
 
-  pub collect_adds : (bytes : List ℕ) (count0 place count blob : ℕ) (says : List S) (spare : ℕ) → Collecting bytes count0 place count blob says spare → AddsAtMost (2 * length bytes) count0 count
+  pub collect_adds : (bytes : List ℕ) (count0 place count blob : ℕ) (says : List S) (spare : ℕ) → Collecting bytes count0 place count blob says spare → AddsAtMost (length bytes) count0 count
   collect_adds bytes count0 place count blob says spare s = record { read = s.read; few = omega (arith, s.read_few, s.within); is = s.count_is }
 
 pub adds_nothing : (most count : ℕ) → count < 2 ^ 64 → AddsAtMost most count count

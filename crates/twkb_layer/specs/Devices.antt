@@ -1,9 +1,7 @@
 -- Devices of proofs: contracts of private functions name them, and nothing public does.
 pub mod Layer
-pub mod Lines
 pub mod Refusal
 pub mod Tight
-pub mod Passing
 pub mod Seeking
 pub mod Raw
 pub mod Slots

@@ -1,15 +1,11 @@
 //! What is kept of each blob of a certified layer: the rows of a list, and the slots of a directory.
-ghost use Rattle.std.specs.Prelude.{◌≡◌, ◌+◌, ◌*◌, ◌<◌, ◌≤◌, ◌++◌, ◌∷◌, [], ℕ, List, length, IfSome};
-ghost use Rattle.twkb_num.specs.Cursor.{added};
-ghost use Rattle.twkb_num.specs.Units.{IsPrecision};
-ghost use Rattle.twkb_head.specs.Devices.Spelled.{AreSpelled};
+ghost use Rattle.std.specs.Prelude.{◌≡◌, ◌+◌, ◌<◌, ◌≤◌, ◌++◌, ◌∷◌, [], ℕ, List, length};
 ghost use Rattle.twkb_body.specs.Geometry.{Geometry};
 ghost use Rattle.twkb_body.specs.Standing.{StandsAt};
 ghost use Rattle.twkb_layer.specs.Layer.{IsCertifiedLayer, blob_by_blob, AddsAtMost, OfLayer};
-ghost use Rattle.twkb_layer.specs.Devices.Layer.{header_size, OfBlob};
-ghost use Rattle.twkb_layer.specs.Devices.Collecting.{SaysOf, HasPassed};
+ghost use Rattle.twkb_layer.specs.Devices.Layer.{OfBlob};
+ghost use Rattle.twkb_layer.specs.Devices.Collecting.{HasPassed};
 
-use twkb_head::{Head, read_head};
 use twkb_num::Cursor;
 
 /// What keeps something of each blob of a layer, one after another.
@@ -43,7 +39,7 @@ pub fn collect<K: Keeper>(mut keeper: K, cursor: &mut Cursor) -> K
         × (length trees ≤ K.spare keeper) }
     ensures kept { OfLayer cursor.old.bytes (λ trees. K.says result ≡ blob_by_blob K.of trees) }
     ensures bytes { cursor.new.bytes ≡ cursor.old.bytes }
-    ensures count { AddsAtMost (2 * length cursor.old.bytes) cursor.old.count cursor.new.count }
+    ensures once { AddsAtMost (length cursor.old.bytes) cursor.old.count cursor.new.count }
     ensures grows { cursor.old.count ≤ cursor.new.count }
 {
     cursor.place_is_within();
@@ -54,27 +50,4 @@ pub fn collect<K: Keeper>(mut keeper: K, cursor: &mut Cursor) -> K
         blob += 1;
     }
     keeper
-}
-
-/// The header of the blob at the place, which stays there.
-#[inline(always)]
-pub fn header_at(cursor: &mut Cursor) -> Head
-    requires { (g : Geometry) × StandsAt g 1 cursor.old.bytes cursor.old.place }
-    ensures says { OfBlob cursor.old.bytes cursor.old.place (λ g. SaysOf result g) }
-    ensures xy { IsPrecision result.xy }
-    ensures z_high { IfSome result.z (λ p. p ≤ 7) }
-    ensures m_high { IfSome result.m (λ p. p ≤ 7) }
-    ensures spelled { IfSome result.bounds (λ field. AreSpelled result.xy result.z result.m field.bounds) }
-    ensures cursor { OfBlob cursor.old.bytes cursor.old.place (λ g. cursor.new ≡ record {
-      bytes = cursor.old.bytes;
-      place = cursor.old.place;
-      count = added cursor.old.count (header_size g);
-    }) }
-{
-    let start = cursor.place();
-    let Ok(head) = read_head(cursor, 1) else {
-        unreachable!()
-    };
-    cursor.go_to(start);
-    head
 }

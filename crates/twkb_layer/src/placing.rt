@@ -1,22 +1,19 @@
 //! The slots of a blob, put into memory: into a vector, or into room that a caller lends.
-ghost use Rattle.std.specs.Prelude.{◌≡◌, ◌+◌, ◌*◌, ◌^◌, ◌<◌, ◌≤◌, nat_le, ◌||◌, ◌++◌, ◌∷◌, [], List, length, take, IfSome, is_some, option_map, option_and_then, vec_len, vec_capacity};
-ghost use Rattle.twkb_num.specs.Units.{IsPrecision};
-ghost use Rattle.twkb_head.specs.Devices.Spelled.{AreSpelled};
-ghost use Rattle.twkb_body.specs.Geometry.{Geometry};
+ghost use Rattle.std.specs.Prelude.{◌≡◌, ◌+◌, ◌*◌, ◌<◌, ◌≤◌, ◌++◌, ◌∷◌, [], List, length, take, vec_len, vec_capacity};
+ghost use Rattle.twkb_body.specs.Geometry.{Geometry, HavePrecisions};
 ghost use Rattle.twkb_body.specs.Standing.{StandsAt};
 ghost use Rattle.twkb_layer.specs.Directory.{IsDirectoryOf, entry_of};
 ghost use Rattle.twkb_layer.specs.Layer.{IsCertifiedLayer, AddsAtMost, OfLayer};
-ghost use Rattle.twkb_layer.specs.Devices.Collecting.{HasPassed, entry_said};
+ghost use Rattle.twkb_layer.specs.Devices.Collecting.{HasPassed, box_said, entry_said};
 ghost use Rattle.twkb_layer.specs.Devices.Layer.{OfBlob};
-ghost use Rattle.twkb_layer.specs.Devices.Slots.{with_before};
-ghost use Rattle.twkb_layer.specs.Slots.{Written, entries_kept};
+ghost use Rattle.twkb_layer.specs.Devices.Slots.{own_said, said_before, passes_a_slot};
+ghost use Rattle.twkb_layer.specs.Slots.{entries_kept, slot_says};
 
-use crate::collecting::{Keeper, header_at};
-use crate::passer::Passer;
+use crate::collecting::Keeper;
 use crate::slots::{Kept, REACH, Slot};
 use std::alloc::Allocator;
-use twkb_body::skim;
-use twkb_head::Head;
+use twkb_body::read_and_pass;
+use twkb_head::Fields;
 use twkb_num::Cursor;
 
 impl<A: Allocator> Keeper for Vec<Slot, A> {
@@ -32,12 +29,11 @@ impl<A: Allocator> Keeper for Vec<Slot, A> {
 
     ghost spare = { λ slots. (vec_capacity slots - vec_len slots) / 2 };
 
-    /// The skim hops over all that it can.
+    #[inline(always)]
     fn keep(&mut self, cursor: &mut Cursor, _blob: usize) {
         let offset = cursor.place();
-        let head = header_at(cursor);
-        skim(cursor, &mut Passer);
-        push(self, offset, &head);
+        let raw = read_and_pass(cursor);
+        push(self, offset, &raw);
     }
 }
 
@@ -48,7 +44,7 @@ pub fn put_slots(room: &mut [Slot], cursor: &mut Cursor) -> usize
     ensures directory { IsDirectoryOf (entries_kept (take result room.new)) cursor.old.bytes }
     ensures few { OfLayer cursor.old.bytes (λ trees. result ≤ 2 * length trees) }
     ensures bytes { cursor.new.bytes ≡ cursor.old.bytes }
-    ensures count { AddsAtMost (2 * length cursor.old.bytes) cursor.old.count cursor.new.count }
+    ensures once { AddsAtMost (length cursor.old.bytes) cursor.old.count cursor.new.count }
     ensures grows { cursor.old.count ≤ cursor.new.count }
 {
     cursor.place_is_within();
@@ -61,6 +57,7 @@ pub fn put_slots(room: &mut [Slot], cursor: &mut Cursor) -> usize
 }
 
 /// Puts the slots of the blob at the place behind those that the room has, and moves past it: how many it has then.
+#[inline(always)]
 fn put(room: &mut [Slot], used: usize, cursor: &mut Cursor) -> usize
     requires spare { used + 1 < length room.old }
     requires stands { (g : Geometry) × StandsAt g 1 cursor.old.bytes cursor.old.place }
@@ -71,81 +68,65 @@ fn put(room: &mut [Slot], used: usize, cursor: &mut Cursor) -> usize
     ensures passed { OfBlob cursor.old.bytes cursor.old.place (λ g. HasPassed g cursor.old cursor.new) }
 {
     let offset = cursor.place();
-    let head = header_at(cursor);
-    skim(cursor, &mut Passer);
-    let (before, slot) = slots_of(offset, &head);
+    let raw = read_and_pass(cursor);
+    let deep = passes_a_slot(offset, &raw);
     let mut place = used;
-    if let Some(before) = before {
-        room[place] = before;
+    if deep {
+        room[place] = slot_before(offset, &raw);
         place += 1;
     }
-    room[place] = slot;
+    room[place] = own_slot(offset, deep, &raw);
     place + 1
 }
 
 /// The slots of a blob that begins at the offset with a header that says so, put behind others.
-fn push<A: Allocator>(slots: &mut Vec<Slot, A>, offset: usize, head: &Head)
-    requires xy { IsPrecision head.now.xy }
-    requires z_high { IfSome head.now.z (λ p. p ≤ 7) }
-    requires m_high { IfSome head.now.m (λ p. p ≤ 7) }
-    requires spelled { IfSome head.now.bounds (λ field. AreSpelled head.now.xy head.now.z head.now.m field.bounds) }
+#[inline(always)]
+fn push<A: Allocator>(slots: &mut Vec<Slot, A>, offset: usize, raw: &Fields)
+    requires axes { HavePrecisions raw.now.axes }
     requires spare { vec_len slots.old + 1 < vec_capacity slots.old }
-    ensures says { entries_kept slots.new.items ≡ entries_kept slots.old.items ++ entry_said offset head.now ∷ [] }
+    ensures says { entries_kept slots.new.items ≡ entries_kept slots.old.items ++ entry_said offset raw.now ∷ [] }
     ensures capacity { vec_capacity slots.new ≡ vec_capacity slots.old }
     ensures len { vec_len slots.new ≤ vec_len slots.old + 2 }
 {
-    let (before, slot) = slots_of(offset, head);
-    if let Some(before) = before {
-        slots.push_reserved(before);
+    let deep = passes_a_slot(offset, raw);
+    if deep {
+        slots.push_reserved(slot_before(offset, raw));
     }
-    slots.push_reserved(slot);
-}
-
-/// The slot of a blob that begins at the offset with a header that says so, and the one before it, if it needs one.
-#[inline(always)]
-fn slots_of(offset: usize, head: &Head) -> (Option<Slot>, Slot)
-    requires xy { IsPrecision head.now.xy }
-    requires z_high { IfSome head.now.z (λ p. p ≤ 7) }
-    requires m_high { IfSome head.now.m (λ p. p ≤ 7) }
-    requires spelled { IfSome head.now.bounds (λ field. AreSpelled head.now.xy head.now.z head.now.m field.bounds) }
-    ensures { (slots : List Written)
-        → entries_kept (slots ++ with_before result.0 result.1)
-        ≡ entries_kept slots ++ entry_said offset head.now ∷ [] }
-{
-    let (z, m) = further(head);
-    let deep = passes_a_slot(offset, &z, &m);
-    let before = if deep {
-        Some(Slot::beyond(offset, z, m))
-    } else {
-        None
-    };
-    let slot = match &head.bounds {
-        None => Slot::unboxed(offset % REACH, deep),
-        Some(field) => Slot::boxed(offset % REACH, deep, &field.bounds, head.xy),
-    };
-    (before, slot)
-}
-
-/// What the box of a header has in Z and in M.
-fn further(head: &Head) -> (Kept, Kept)
-    requires z_high { IfSome head.now.z (λ p. p ≤ 7) }
-    requires m_high { IfSome head.now.m (λ p. p ≤ 7) }
-    requires spelled { IfSome head.now.bounds (λ field. AreSpelled head.now.xy head.now.z head.now.m field.bounds) }
-    ensures z { result.0 ≡ option_and_then (λ field. field.bounds.z) head.now.bounds }
-    ensures m { result.1 ≡ option_and_then (λ field. field.bounds.m) head.now.bounds }
-{
-    match &head.bounds {
-        None => (Kept::of(None, None), Kept::of(None, None)),
-        Some(field) => (
-            Kept::of(field.bounds.z, head.z),
-            Kept::of(field.bounds.m, head.m),
-        ),
-    }
+    slots.push_reserved(own_slot(offset, deep, raw));
 }
 
 /// Whether a blob has something that its own slot has no place for.
-fn passes_a_slot(offset: usize, z: &Kept, m: &Kept) -> bool
-    ensures { result ≡ (is_some z.now || (is_some m.now || nat_le (2 ^ 57) offset)) }
+#[inline(always)]
+fn passes_a_slot(offset: usize, raw: &Fields) -> bool
+    ensures { result ≡ passes_a_slot offset (box_said raw.now) }
 {
-    z.is_some() || m.is_some() || offset >= REACH
+    raw.bounds.is_some() && (raw.axes.z.is_some() || raw.axes.m.is_some()) || offset >= REACH
+}
+
+/// The slot of a blob that begins at the offset with a header that says so. It is deep where another one stands before it.
+#[inline(always)]
+fn own_slot(offset: usize, deep: bool, raw: &Fields) -> Slot
+    requires { HavePrecisions raw.now.axes }
+    ensures { slot_says result ≡ own_said offset deep (box_said raw.now) }
+{
+    match &raw.bounds {
+        None => Slot::unboxed(offset % REACH, deep),
+        Some(bounds) => Slot::boxed(offset % REACH, deep, bounds.x, bounds.y, raw.axes.xy),
+    }
+}
+
+/// The slot before it, of what that has no place for.
+#[inline(always)]
+fn slot_before(offset: usize, raw: &Fields) -> Slot
+    requires { HavePrecisions raw.now.axes }
+    ensures { slot_says result ≡ said_before offset (box_said raw.now) }
+{
+    match &raw.bounds {
+        None => Slot::beyond(offset, Kept::nothing(), Kept::nothing()),
+        Some(bounds) => Slot::beyond(
+            offset,
+            Kept::of(bounds.third, raw.axes.z),
+            Kept::of(bounds.last(raw.axes.z), raw.axes.m),
+        ),
+    }
 }

@@ -1,14 +1,20 @@
 //! Windows in raw integers: the numbers as headers and bodies have them, which mean units by a precision.
-ghost use Rattle.std.specs.Prelude.{◌≡◌, ◌<◌, ◌<ℤ◌, ◌*ℤ◌, ◌||◌, ℤ, pos, int_lt};
+ghost use Rattle.std.specs.Prelude.{◌≡◌, ◌<◌, ◌<ℤ◌, ◌*ℤ◌, ◌||◌, ◌∷◌, [], ℤ, pos, int_lt, true};
 ghost use Rattle.std.specs.Int.RustNames.{int_div, int_rem};
 ghost use Rattle.twkb_num.specs.Units.{IsPrecision};
-ghost use Rattle.twkb_layer.specs.Devices.Raw.{IsRawEnds, IsRawWindow};
+ghost use Rattle.twkb_layer.specs.Devices.Raw.{IsRawEnds, IsRawWindow, misses_beyond};
 ghost use Rattle.twkb_layer.specs.Devices.Slots.{IsInner};
 ghost use Rattle.twkb_layer.specs.Slots.{precision_of};
+ghost use Rattle.twkb_layer.specs.Window.{is_inside, box_misses};
+ghost use Rattle.twkb_head.specs.Head.{span_at};
+ghost use Rattle.twkb_head.specs.Raw.{ends_of, raw_bounds, IsNear, HasNearRanges};
+ghost use Rattle.twkb_head.specs.declared.boxes.Bounds.{Bounds};
+ghost use Rattle.twkb_body.specs.Geometry.{HavePrecisions, vertex_at};
 
 use crate::window::Window;
 use std::marker::Model;
-use twkb_body::Span;
+use twkb_body::{Span, vertex_at};
+use twkb_head::{Axes, RawBox, RawRange};
 use twkb_num::units;
 
 /// The ends of a range in raw integers at some precision, as far as 64 bits go.
@@ -79,7 +85,7 @@ impl<'w> Model for RawWindows<'w> {
 }
 
 impl<'w> RawWindows<'w> {
-    /// Of a window: sixty-four divisions, once for a scan, of 64 bits where its ends fit.
+    /// Converts a window: at most 64 divisions, once a scan, of 64 bits if its ends fit.
     pub fn new(window: &'w Window) -> RawWindows<'w>
         ensures { result ≡ window.now }
     {
@@ -105,6 +111,78 @@ impl<'w> RawWindows<'w> {
         self.window
     }
 
+    /// Whether the box misses the window: by raw integers in X and in Y, and elsewhere in units.
+    #[inline(always)]
+    pub fn misses(&self, axes: Axes, b: &RawBox) -> bool
+        requires axes { HavePrecisions axes }
+        requires near { HasNearRanges b.now }
+        ensures { result ≡ box_misses self.now (raw_bounds axes.xy axes.z axes.m b.now) }
+    {
+        let raw = self.at((axes.xy + 8) as usize);
+        raw.misses(b.x.ends(), b.y.ends()) || self.misses_beyond(axes, *b)
+    }
+
+    /// Whether each box that has this range in X misses the window. `false` says nothing.
+    #[inline(always)]
+    pub fn misses_in_x(&self, xy: i8, x: &RawRange) -> bool
+        requires xy { IsPrecision xy }
+        requires near { IsNear x.now }
+        ensures { result ≡ true → (b : Bounds) → b.x ≡ span_at xy (ends_of x.now) → box_misses self.now b ≡ true }
+    {
+        let raw = self.at((xy + 8) as usize);
+        raw.x.misses(x.ends())
+    }
+
+    /// Whether the box misses the window in Z or in M.
+    #[inline(always)]
+    fn misses_beyond(&self, axes: Axes, b: RawBox) -> bool
+        requires { HavePrecisions axes }
+        ensures { result ≡ misses_beyond self.now (raw_bounds axes.xy axes.z axes.m b) }
+    {
+        if axes.is_flat() {
+            return false;
+        }
+        self.misses_beyond_in_units(axes, b)
+    }
+
+    #[inline(never)]
+    fn misses_beyond_in_units(&self, axes: Axes, b: RawBox) -> bool
+        requires { HavePrecisions axes }
+        ensures { result ≡ misses_beyond self.now (raw_bounds axes.xy axes.z axes.m b) }
+    {
+        let bounds = b.in_units(axes);
+        self.window.misses_in_z_or_m(bounds.z, bounds.m)
+    }
+
+    /// Whether a vertex in raw numbers is inside: by these in X and in Y, as long as neither is an end of 64 bits.
+    #[inline(always)]
+    pub fn holds(&self, axes: Axes, point: &[i64; 4]) -> bool
+        requires { HavePrecisions axes }
+        ensures { result ≡ is_inside self.now (vertex_at axes point.now) }
+    {
+        let x = point[0];
+        let y = point[1];
+        if !is_inner(x) || !is_inner(y) {
+            return self.holds_in_units(axes, x, y, point[2], point[3]);
+        }
+        let raw = self.at((axes.xy + 8) as usize);
+        if raw.misses((x, x), (y, y)) {
+            return false;
+        }
+        self.window().is_flat() || self.holds_in_units(axes, x, y, point[2], point[3])
+    }
+
+    /// Whether a vertex is inside, in units.
+    // It takes no array, so that a point which raw integers judge stays in registers.
+    #[inline(never)]
+    fn holds_in_units(&self, axes: Axes, x: i64, y: i64, third: i64, fourth: i64) -> bool
+        requires { HavePrecisions axes }
+        ensures { result ≡ is_inside self.now (vertex_at axes (x ∷ y ∷ third ∷ fourth ∷ [])) }
+    {
+        self.window()
+            .inside(&vertex_at(axes, &[x, y, third, fourth]))
+    }
+
     /// The window at the precision of a code.
     #[inline(always)]
     pub fn at(&self, code: usize) -> RawWindow
@@ -113,6 +191,14 @@ impl<'w> RawWindows<'w> {
     {
         self.raws[code]
     }
+}
+
+/// Whether a number is neither the least nor the greatest of 64 bits.
+#[inline(always)]
+fn is_inner(number: i64) -> bool
+    ensures { result ≡ true → IsInner number }
+{
+    i64::MIN < number && number < i64::MAX
 }
 
 /// The least of the numbers that are no less than `lo` in units, as far as 64 bits go.

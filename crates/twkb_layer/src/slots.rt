@@ -1,8 +1,8 @@
 //! The slots of a directory.
-ghost use Rattle.std.specs.Prelude.{◌≡◌, ◌+◌, ◌*◌, ◌/◌, ◌%◌, ◌^◌, ◌<◌, ◌≤◌, ◌+ℤ◌, ◌==◌, nat_le, ◌||◌, ◌&&◌, ◌++◌, ◌∷◌, [], true, false, Some, None, IfSome, is_some, option_map, option_and_then, vec_len, vec_capacity};
+ghost use Rattle.std.specs.Prelude.{◌≡◌, ◌+◌, ◌*◌, ◌/◌, ◌%◌, ◌^◌, ◌<◌, ◌≤◌, pos, ◌==◌, nat_le, ◌||◌, ◌&&◌, ◌++◌, ◌∷◌, [], true, false, Some, None, IfSome, is_some, option_map, option_and_then, vec_len, vec_capacity};
 ghost use Rattle.twkb_num.specs.Units.{IsPrecision};
-ghost use Rattle.twkb_head.specs.Devices.Spelled.{AreSpelled, IsSpelledIfAny};
-ghost use Rattle.twkb_head.specs.Spelled.{IsSpelled};
+ghost use Rattle.twkb_head.specs.Head.{span_at};
+ghost use Rattle.twkb_head.specs.Raw.{ends_of};
 ghost use Rattle.twkb_layer.specs.Devices.Slots.{AreInner, IsJudged};
 ghost use Rattle.twkb_layer.specs.Slots.{range_in, slot_says, unboxed};
 ghost use Rattle.twkb_layer.specs.Window.{lie_apart_if_both};
@@ -11,18 +11,19 @@ use crate::raw::RawWindows;
 use crate::window::Window;
 use crate::word::{BEYOND, NEAR, UNBOXED, WIDE, Word};
 use std::marker::Model;
-use twkb_body::{Bounds, Span};
+use twkb_body::Span;
+use twkb_head::RawRange;
 use twkb_num::units;
 
-/// How far the offset of a slot goes. What passes that stands in a slot before it, as Z and M do.
+/// The first offset that a slot can't hold. The rest of such an offset goes into a slot before it, as Z and M do.
 pub const REACH: usize = 1 << 57;
 
 /// A slot of a directory.
 ///
-/// A box is kept in raw integers, with its precision, so that a scan compares numbers of 64 bits: by its ends where these are
-/// such numbers, and else by its minima and widths, as its header spells it. So a slot takes 40 bytes, where a `Bounds` in
-/// an `Option` alone takes 176. Z and M, which few layers have, stand in a slot of their own before that of their blob: what a
-/// scan reads of memory is what takes its time.
+/// A box is kept in raw integers with its precision, so that a scan compares numbers of 64 bits. Its ends are kept if all its
+/// numbers are at most 2^61 from zero, and otherwise its minima and widths, as the header spells them. So a slot takes 40 bytes,
+/// and an `Option<Bounds>` alone would take 176. Z and M, which few layers have, go into a slot of their own before that of their
+/// blob, because reading memory is what takes a scan its time.
 #[repr(C)]
 #[derive(Clone, Copy)]
 pub struct Slot {
@@ -96,24 +97,21 @@ impl Slot {
         }
     }
 
-    /// Of a blob with a box.
-    pub(crate) fn boxed(offset: usize, deep: bool, bounds: &Bounds, precision: i8) -> Slot
+    /// Of a blob with a box, by its ranges in X and in Y.
+    #[inline(always)]
+    pub(crate) fn boxed(offset: usize, deep: bool, x: RawRange, y: RawRange, precision: i8) -> Slot
         requires offset { offset < 2 ^ 57 }
         requires precision { IsPrecision precision }
-        requires x_spelled { IsSpelled precision bounds.now.x }
-        requires y_spelled { IsSpelled precision bounds.now.y }
         ensures { slot_says result ≡ record {
           beyond = false;
           deep = deep;
           offset = offset;
-          first = Some bounds.now.x;
-          second = Some bounds.now.y;
+          first = Some (span_at precision (ends_of x));
+          second = Some (span_at precision (ends_of y));
         } }
     {
         let code = (precision + 8) as u64;
-        let x = bounds.x.spelling(precision);
-        let y = bounds.y.spelling(precision);
-        match (inner_ends(x), inner_ends(y)) {
+        match (near_ends(x), near_ends(y)) {
             (Some(first), Some(second)) => Slot {
                 word: Word::new(code, NEAR, deep, offset as u64),
                 first: Pair::of(first),
@@ -121,8 +119,8 @@ impl Slot {
             },
             _ => Slot {
                 word: Word::new(code, WIDE, deep, offset as u64),
-                first: Pair::of(x),
-                second: Pair::of(y),
+                first: Pair::of((x.minimum, x.extent)),
+                second: Pair::of((y.minimum, y.extent)),
             },
         }
     }
@@ -241,25 +239,34 @@ impl Model for Kept {
 }
 
 impl Kept {
-    /// The range of an axis, at its precision.
-    pub fn of(span: Option<Span>, precision: Option<u8>) -> Kept
-        requires high { IfSome precision (λ p. p ≤ 7) }
-        requires spelled { IsSpelledIfAny precision span }
-        ensures { result ≡ span }
+    /// No range.
+    #[inline(always)]
+    pub fn nothing() -> Kept
+        ensures { result ≡ None }
     {
-        match (span, precision) {
-            (Some(span), Some(precision)) => Kept {
+        Kept {
+            code: 0,
+            numbers: (0, 0),
+        }
+    }
+
+    /// The range of an axis, at its precision, where it has one.
+    #[inline(always)]
+    pub fn of(range: RawRange, precision: Option<u8>) -> Kept
+        requires { IfSome precision (λ p. p ≤ 7) }
+        ensures { result ≡ option_map (λ p. span_at (pos p) (ends_of range)) precision }
+    {
+        match precision {
+            Some(precision) => Kept {
                 code: u64::from(precision) + 8,
-                numbers: span.spelling(precision as i8),
+                numbers: (range.minimum, range.extent),
             },
-            _ => Kept {
-                code: 0,
-                numbers: (0, 0),
-            },
+            None => Kept::nothing(),
         }
     }
 
     /// Whether there is a range.
+    #[inline(always)]
     pub fn is_some(&self) -> bool
         ensures { result ≡ is_some self.now }
     {
@@ -285,14 +292,13 @@ fn range_of(form: u64, code: usize, numbers: (i64, i64)) -> Option<Span>
     }
 }
 
-/// The ends of the range that a minimum and a width spell, where both lie between the ends of 64 bits.
-fn inner_ends(numbers: (i64, i64)) -> Option<(i64, i64)>
-    ensures { IfSome result (λ ends. AreInner ends × (ends ≡ (numbers.0, numbers.0 +ℤ numbers.1))) }
+/// The ends of a range, where its numbers are at most 2^61 from zero.
+#[inline(always)]
+fn near_ends(range: RawRange) -> Option<(i64, i64)>
+    ensures { IfSome result (λ ends. AreInner ends × (ends ≡ ends_of range)) }
 {
-    let (least, width) = numbers;
-    let greatest = least.checked_add(width)?;
-    if i64::MIN < least && width >= 0 && greatest < i64::MAX {
-        Some((least, greatest))
+    if range.is_near() {
+        Some(range.ends())
     } else {
         None
     }

@@ -14,11 +14,11 @@ use std::marker::Model;
 /// A place in bytes, and a count of the bytes read, which stays at `u64::MAX` once there.
 ///
 /// What a cursor reads is counted, and no call lowers its count. Two calls look ahead, at bytes that are counted when they
-/// are passed: [`Cursor::word`], and [`Cursor::ahead`], whose cursor may also be dropped. `None` of a call by words promises no
-/// more than that nothing was read.
+/// are passed: [`Cursor::word`], and [`Cursor::ahead`], whose cursor may also be dropped. Audits alone use these. `None` of a
+/// call by words tells one bit, that the numbers at the place are too long for it or too near the end, and counts nothing.
 /// A contract sees it as a `Reading`. Each call takes constant time and space: a varint has at most ten bytes.
 /// Numbers may be read or passed by words of eight bytes (as by [`Cursor::svarint_pair`], [`Cursor::pass_varint`],
-/// [`Cursor::pass_varints`]). Then up to seven bytes behind them are touched too, as a cache line is, and the count is of
+/// [`Cursor::pass_varints`]). Then up to seven bytes after them are touched too, as a cache line is, and the count is of
 /// the bytes that the numbers take.
 #[derive(Drop)]
 pub struct Cursor<'a> {
@@ -162,6 +162,19 @@ impl<'a> Cursor<'a> {
         let byte = *self.bytes.get(self.place)?;
         self.place += 1;
         Some(byte)
+    }
+
+    /// The two bytes at the place, which it moves past. `None` where fewer are left, and the cursor is as it was.
+    #[inline(always)]
+    pub fn two_bytes(&mut self) -> Option<(u8, u8)>
+        ensures some { IfSome result (λ two. passed self.old self.new ≡ two.0 ∷ two.1 ∷ []) }
+        ensures moved { OnSome result (IsMoved self.old self.new) }
+        ensures end { IsNone result ↔ length (rest self.old) < 2 }
+        ensures none { IfNone result (self.new ≡ self.old) }
+    {
+        let two = *self.bytes[self.place..].first_chunk::<2>()?;
+        self.place += 2;
+        Some((two[0], two[1]))
     }
 
     /// The unsigned varint at the place, which it moves past (TWKB specification, "VarInt Encode").

@@ -13,7 +13,7 @@ const SEVEN: u64 = 0x00ff_ffff_ffff_ffff;
 
 const FOUR: u64 = 0xffff_ffff;
 
-/// How many of the eight bytes the varint at their front takes. `None`: none of them ends it.
+/// The length of the varint at the front of the eight bytes, or `None` if none of them ends it.
 #[inline(always)]
 pub fn first_end(bytes: &[u8; 8]) -> Option<usize>
     ensures some { IfSome result (IsFirstEnd bytes.now) }
@@ -27,8 +27,9 @@ pub fn first_end(bytes: &[u8; 8]) -> Option<usize>
     Some((ends.trailing_zeros() / 8) as usize + 1)
 }
 
-/// How many bytes the first so many varints take, where words of eight bytes tell: there is an end in each half of a word, or
-/// in seven bytes of the first. So each takes seven at most. Nothing waits for the length of a varint: ends are counted.
+/// The length of the first `many` varints together, or `None` if words of eight bytes don't tell: each half of a word has to
+/// contain an end, or of the first word seven bytes. So each varint takes at most seven bytes. Ends are counted, and no step
+/// waits for the length of a varint.
 #[inline(always)]
 pub fn length_of(bytes: &[u8], many: u64) -> Option<usize>
     ensures { IfSome result (IsFrontOf bytes.now many) }

@@ -1,15 +1,15 @@
 //! The numbers of TWKB, and the one way to its bytes.
 //!
-//! A [`Cursor`] reads bytes in order and counts each byte that it reads. It hands out no slice of them and can't be
-//! copied, so the crates above see no byte that isn't counted. Over it stand the varints of the format:
+//! A [`Cursor`] reads bytes in order and counts each byte that it reads. It lends no slice of them and can't be cloned, so the
+//! crates above read no byte that isn't counted. Over it are the varints of the format:
 //!
-//! - [`Cursor::uvarint`] and [`Cursor::svarint`] read a number at the place, or say which of two faults stands there
+//! - [`Cursor::uvarint`] and [`Cursor::svarint`] read the number at the cursor's place, or answer one of two faults
 //!   ([`NumFault`]). They are the hot path: numbers of one and of two bytes take no loop.
-//! - [`Cursor::svarint_pair`] reads two signed numbers from one word of eight bytes, where both are short, and
-//!   [`Cursor::pass_varint`] passes a number by its end in such a word, [`Cursor::pass_varints`] many. Where they can't tell
-//!   they answer `None`. [`Cursor::svarint_pair_before`], [`Cursor::svarint_pair_to`] and [`Cursor::pass_pair_before`] look
-//!   at no byte from a place on.
-//! - [`Cursor::ahead`] gives a cursor to look ahead with: what it reads is counted if the caller goes on with it.
+//! - [`Cursor::svarint_pair`] reads two signed numbers from one word of eight bytes, if both are short.
+//!   [`Cursor::pass_varint`] passes one number by its end in such a word, [`Cursor::pass_pair`] two and
+//!   [`Cursor::pass_varints`] many. They answer `None` if a word doesn't tell.
+//! - [`Cursor::ahead`] makes a lookahead cursor. What it reads is counted only if the caller goes on with it. The quick pass of
+//!   an audit uses it, and nothing on the way of a scan.
 //! - [`zigzag`] and [`unzigzag`] map signed numbers to unsigned ones and back.
 //! - [`units`] scales a coordinate of any precision to units of 10^-7, in which boxes and windows are compared.
 //!
@@ -20,8 +20,8 @@
 //! units(100, 2); // 10000000: 1.00 is that many units
 //! ```
 //!
-//! What a number's bytes are is said once, in `specs/Varint.antt` (`Spells`); what a cursor shows to a contract is in
-//! `specs/Cursor.antt`. No call allocates, and every call returns.
+//! `specs/Varint.antt` defines which bytes spell a number (`Spells`), and `specs/Cursor.antt` what contracts see of a cursor.
+//! No call allocates, and every call returns.
 #![tactic(auto)]
 
 mod cursor;

@@ -22,10 +22,10 @@ const POWERS: [i64; 16] = [
     1_000_000_000_000_000,
 ];
 
-/// A coordinate at a precision, which means `coordinate / 10^precision`, in units of 10^-7. It is exact.
+/// Converts a coordinate at a precision, which means `coordinate / 10^precision`, to units of 10^-7, exactly.
 ///
-/// A coordinate has 64 bits; the maximum of a box is a sum of two, so it may be as far as 2^64 from 0.
-/// In units it is then at most 2^64 * 10^15 from 0, which is below 2^127.
+/// A coordinate has 64 bits. The maximum of a box is a sum of two, so it may be as far as 2^64 from 0. In units that is at
+/// most 2^64 * 10^15 from 0, which is below 2^127.
 #[inline]
 pub fn units(coordinate: i128, precision: i8) -> i128
     requires precision { IsPrecision precision }
@@ -36,7 +36,7 @@ pub fn units(coordinate: i128, precision: i8) -> i128
     coordinate * i128::from(units_in_one(precision))
 }
 
-/// The coordinate at a precision that is so many units; there has to be one, of the size that `units` takes.
+/// Converts units back to the coordinate at a precision. There has to be one, of a size that [`units`] takes.
 pub fn coordinate_of(units: i128, precision: i8) -> i128
     requires precision { IsPrecision precision }
     requires exact { IsCoordinate precision units }

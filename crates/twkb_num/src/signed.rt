@@ -2,7 +2,7 @@
 ghost use Rattle.std.specs.Prelude.{◌≡◌, ℕ};
 ghost use Rattle.twkb_num.specs.Varint.{zigzag_value};
 
-/// The unsigned number that means `value`: 0, -1, 1, -2, 2 are 0, 1, 2, 3, 4 (TWKB specification, "ZigZag Encode").
+/// Encodes a signed number as an unsigned one: 0, -1, 1, -2, 2 become 0, 1, 2, 3, 4 (TWKB specification, "ZigZag Encode").
 #[inline]
 pub fn zigzag(value: i64) -> u64
     ensures meaning { zigzag_value result ≡ value }
@@ -15,7 +15,7 @@ pub fn zigzag(value: i64) -> u64
     }
 }
 
-/// What `number` means: 0, 1, 2, 3, 4 mean 0, -1, 1, -2, 2. It undoes [`zigzag`], and is undone by it.
+/// Decodes what [`zigzag`] encodes: 0, 1, 2, 3, 4 become 0, -1, 1, -2, 2. Each of the two undoes the other.
 #[inline(always)]
 pub fn unzigzag(number: u64) -> i64
     ensures { result ≡ zigzag_value number }

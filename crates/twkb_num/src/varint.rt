@@ -3,17 +3,17 @@ ghost use Rattle.std.specs.Prelude.{◌≡◌, ◌+◌, ◌<◌, ◌≤◌, ◌�
 ghost use Rattle.twkb_num.specs.Varint.{Spells, Faults};
 ghost use Rattle.twkb_num.specs.Devices.Varint.{IsBegunBy};
 
-/// Why no number stands at a place.
+/// Why there is no number at a place.
 #[derive(Clone, Copy, Debug, PartialEq, Eq)]
 pub enum NumFault {
     /// The bytes end before the varint does.
     Cut = 1,
-    /// The varint passes 64 bits.
+    /// The varint exceeds 64 bits.
     Long = 2,
 }
 
-/// The number that the front of `bytes` spells, and the length of its spelling. Its first two bytes are known to go on, with
-/// `value` as the sum of their groups.
+/// The number that the front of `bytes` spells, and the length of its spelling. Neither of its first two bytes ends it, and
+/// `value` is the sum of their groups.
 #[inline(always)]
 pub fn decode(bytes: &[u8], value: u64) -> Result<(u64, usize), NumFault>
     requires { IsBegunBy 2 bytes.now value }

@@ -1,5 +1,5 @@
 //! Two varints from the next eight bytes, read as one word.
-ghost use Rattle.std.specs.Prelude.{◌≡◌, ◌-◌, ◌<◌, ◌≤◌, ◌^◌, take, drop, IfSome};
+ghost use Rattle.std.specs.Prelude.{◌≡◌, ◌<◌, ◌≤◌, ◌^◌, take, IfSome};
 ghost use Rattle.twkb_num.specs.Varint.{IsShort, SpellsTwo, SpellsTwoSigned, zigzag_value};
 ghost use Rattle.twkb_num.specs.Devices.Word.{IsFront};
 
@@ -64,7 +64,7 @@ fn short_two(bytes: &[u8; 8]) -> Option<Two>
     None
 }
 
-/// The signed numbers that the front of the eight bytes spells, where each takes at most four bytes. `None` says nothing.
+/// The two signed numbers that the front of the eight bytes spells, if each takes at most four bytes. `None` says nothing.
 // Zigzag is undone where each length is known: behind both, the compiler would put the two numbers into one register.
 #[inline(always)]
 pub fn next_pair(bytes: &[u8; 8]) -> Option<Pair>
@@ -81,7 +81,7 @@ pub fn next_pair(bytes: &[u8; 8]) -> Option<Pair>
     }
 }
 
-/// The same, without a path for short ones.
+/// Reads two numbers as [`next_pair`] does, without a path for two of equal length.
 #[inline(always)]
 pub fn next_mixed_pair(bytes: &[u8; 8]) -> Option<Pair>
     ensures len { IfSome result (λ pair. pair.len ≤ 8) }
@@ -99,7 +99,7 @@ struct Front {
     bits: u32,
 }
 
-/// The same, where each takes at most four bytes.
+/// Two numbers of which each takes at most four bytes, of any lengths.
 #[inline(always)]
 fn mixed_two(bytes: &[u8; 8]) -> Option<Two>
     ensures len { IfSome result (λ two. two.len ≤ 8) }
@@ -134,14 +134,4 @@ fn front_of(low: u32) -> Option<Front>
         + cut / 65536 % 128 * 16384
         + cut / 16777216 % 128 * 2097152;
     Some(Front { value, bits })
-}
-
-/// The last so many of eight bytes, but not all, moved to the front.
-#[inline(always)]
-pub fn last_of(bytes: &[u8; 8], many: u32) -> [u8; 8]
-    requires some { 1 ≤ many }
-    requires few { many < 8 }
-    ensures { take many result ≡ drop (8 - many) bytes.now }
-{
-    (u64::from_le_bytes(*bytes) >> (64 - 8 * many)).to_le_bytes()
 }

@@ -11,14 +11,14 @@ use crate::text::{push_layer_text, push_no_line};
 use std::alloc::{AllocError, Allocator};
 use twkb_layer::{Certified, Cursor, Refusal, certify_in, certify_tight_in};
 
-/// The answer to the question whether a file is a certified layer.
+/// Whether a file is a certified layer.
 #[derive(Clone, Copy, Debug, PartialEq, Eq)]
 pub enum Verdict {
     Yes,
     No,
 }
 
-/// Judges the bytes of a file: the text for them, and the verdict.
+/// Judges the bytes of a file: the text to print, and the verdict.
 pub fn answer<'a, A: Allocator>(
     alloc: &'a A,
     request: &Request,

@@ -1,8 +1,8 @@
-//! The law of the output: the function does nothing, and its contract is the law.
+//! The law of the output. The function does nothing; its contract is the law.
 ghost use Rattle.twkb_tool.specs.Laws.{OneOutput};
 
-/// At most one text and one verdict are the output of a request for given bytes. So where a run put the output, its
-/// text is determined by the bytes that came in.
+/// Given bytes and a request have at most one text and verdict as their output. So the text that a run puts is determined by the
+/// bytes that came in.
 pub fn outputs()
     ensures { OneOutput }
 {}

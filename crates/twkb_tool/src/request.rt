@@ -1,4 +1,4 @@
-//! What is asked for.
+//! What is requested.
 use twkb_layer::Window;
 
 /// What is to be done with the file.
@@ -6,11 +6,11 @@ use twkb_layer::Window;
 pub enum Request {
     /// Certify it, or name its first false claim.
     Check,
-    /// The same, where a box that is larger than its vertices and its precision ask for is false too.
+    /// Certify it as a layer without a loose box, or name what is wrong first.
     CheckTight,
-    /// Say of each blob what it is, where it begins, and how much it has.
+    /// List every blob: offset, length, type, precision, vertex count.
     List,
-    /// For each window, in order, name the blobs that have a vertex inside. There are one to `MAX_WINDOWS`.
+    /// For each window, in order, name the blobs that have a vertex inside. There are 1 to `MAX_WINDOWS` windows.
     Scan(Vec<Window>),
 }
 

@@ -26,7 +26,7 @@ pub enum RunFault {
     /// The source gave one byte more than the limit. Nothing was put.
     #[error("file too large")]
     TooLarge,
-    /// A growth was refused. Nothing was put.
+    /// Memory was refused. Nothing was put.
     #[error("out of memory")]
     Memory,
     /// The sink failed, after it had taken the first `done` bytes of the text.
@@ -34,7 +34,7 @@ pub enum RunFault {
     Write { done: usize },
 }
 
-/// Reads the source to its end, judges its bytes, and puts the text. All memory is taken before the first `put`.
+/// Reads the source to its end, judges its bytes, and puts the text into the sink. All memory is taken before the first `put`.
 pub fn run<S: Source, K: Sink>(
     alloc: Global,
     source: &mut S,
@@ -52,7 +52,7 @@ pub fn run<S: Source, K: Sink>(
     run_in(&alloc, source, sink, request, limit)
 }
 
-/// The same, with all memory from an allocator.
+/// [`run`] with all memory from any allocator.
 pub fn run_in<A: Allocator, S: Source, K: Sink>(
     alloc: &A,
     source: &mut S,

@@ -1,4 +1,4 @@
-//! What the program ends with.
+//! Exit statuses.
 ghost use Rattle.std.specs.Prelude.{◌≡◌};
 ghost use Rattle.twkb_tool.specs.Status.{status_of_host, status_of_run, status_of_usage};
 
@@ -18,7 +18,7 @@ pub enum HostFault {
     File,
 }
 
-/// The status of a run: 0 for yes, 1 for no, 3 where it stopped.
+/// The status of a run: 0 for yes, 1 for no, 3 if it stopped.
 pub fn status_of(outcome: &Result<Verdict, RunFault>) -> u8
     ensures { result ≡ status_of_run outcome.now }
 {
@@ -29,7 +29,7 @@ pub fn status_of(outcome: &Result<Verdict, RunFault>) -> u8
     }
 }
 
-/// The status of words that ask for nothing: 2, or 3 where memory ran out.
+/// The status of a bad command line: 2, or 3 if memory ran out.
 pub fn usage_status(usage: &Usage) -> u8
     ensures { result ≡ status_of_usage usage.now }
 {

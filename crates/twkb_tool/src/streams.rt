@@ -17,8 +17,8 @@ pub struct SourceFailed;
 #[error("the sink failed")]
 pub struct SinkFailed;
 
-/// Gives bytes, a piece at a time. An implementation names whether it tells its bytes; one that does
-/// names those still to come.
+/// Gives bytes, a piece at a time. An implementation says whether it states its bytes. One that does states those still to
+/// come.
 pub trait Source {
     ghost state: { Self → SourceState };
 
@@ -40,8 +40,8 @@ pub trait Source {
         ensures { result ≡ (state self.now).moved };
 }
 
-/// Takes bytes, a piece at a time. An implementation names whether it tells its bytes; one that does
-/// names those that were put.
+/// Takes bytes, a piece at a time. An implementation says whether it states its bytes. One that does states those that were
+/// put.
 pub trait Sink {
     ghost state: { Self → SinkState };
 

@@ -114,7 +114,7 @@ fn push_window<A: Allocator>(
     push_found(out, room, found, read, layer.len())
 }
 
-/// The same for each window, with a directory.
+/// What scans for each window found and read, with a directory.
 fn push_windows<A: Allocator, D: Allocator>(
     out: &mut Vec<u8, A>,
     layer: &mut Certified,
@@ -138,7 +138,7 @@ fn push_windows<A: Allocator, D: Allocator>(
     Ok(())
 }
 
-/// The same for one window.
+/// What a scan for one window found and read, with a directory.
 fn push_window_at<A: Allocator, D: Allocator>(
     out: &mut Vec<u8, A>,
     layer: &mut Certified,

@@ -1,7 +1,7 @@
-//! What the words of a command line ask for.
+//! What a command line requests.
 //!
-//! `clap` judges the words by the command (`command`), and what it found (`found`) is read into a [`Line`], whose windows
-//! are texts of their own (`windows`). What each of these answers is an equation or a relation of `specs/Words.antt`.
+//! `clap` parses the words by the command (`command`). What it found (`found`) becomes a [`Line`], whose windows are parsed from
+//! their texts (`windows`). `specs/Words.antt` defines what each of these answers.
 ghost use Rattle.std.specs.List.{list_all};
 ghost use Rattle.std.specs.Prelude.{◌≡◌, ◌≢◌, List, [], ◌∷◌, map, codes, true, IfOk, IfErr, OnOk, IsErrAnd};
 ghost use Rattle.clap.specs.Words.{Text, fault_of, found_of, rows_of, subcommand_of, subcommand_rows_of};
@@ -23,24 +23,24 @@ use twkb_layer::BadWindow;
 pub use windows::MAX_WINDOWS;
 use windows::windows_of;
 
-/// Why the words ask for nothing. The first of these that is so is answered.
+/// Why a command line requests nothing. The first of these that applies is answered.
 #[derive(Debug, Drop, Error)]
 pub enum Usage {
-    /// `clap` refused them, a wish for help among them; `None` where they parsed and a word is missing.
+    /// `clap` refused the words, or they ask for help. `None` if they parsed and a required word is missing.
     #[error("the words are refused")]
     Words(Option<clap::Error>),
     /// There are more windows than a scan takes.
     #[error("more than {MAX_WINDOWS} windows")]
     TooMany,
-    /// The window of this number, from 1, is the first that can't be read.
+    /// The window of this number, from 1, is the first that doesn't parse.
     #[error("window {number}: {why}")]
     Window { number: usize, why: BadWindow },
-    /// A growth was refused.
+    /// Memory was refused.
     #[error("out of memory")]
     Memory,
 }
 
-/// The line that the words make; the first of them is the program's name.
+/// What the words of a command line request. The first word is the program's name.
 pub fn request_of<S: AsStr>(alloc: Global, words: &[S]) -> Result<Line, Usage>
     ensures refused { fault_of tool_app (map S.text words.now) ≢ []
         → IsErrAnd result (IsRefusalOrMemory (fault_of tool_app (map S.text words.now))) }

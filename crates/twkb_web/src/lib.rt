@@ -22,8 +22,8 @@ ghost use Rattle.twkb_call.specs.Window.{ranges_of};
 
 use twkb_call::{Hit, Layer, Point, Row, Scanned, Verdict, Window};
 
-/// Certifies the bytes as a layer, with room for the ids of a list. Memory is wanted where a list has more ids than the room has
-/// places, and more than sixteen.
+/// Certifies the bytes as a layer, with room for the ids of a list. The answer may be out of memory if a list has more ids than
+/// the room has places, and more than sixteen.
 #[unsafe(no_mangle)]
 pub extern "C" fn twkb_certify(bytes: &[u8], ids: &mut [i64]) -> Verdict
     ensures says { Says IsTrueClaim result bytes.now }
@@ -32,7 +32,7 @@ pub extern "C" fn twkb_certify(bytes: &[u8], ids: &mut [i64]) -> Verdict
     twkb_call::certify_lent(bytes, ids)
 }
 
-/// The same, where a loose box is refused too.
+/// Certifies the bytes as a layer without a loose box.
 #[unsafe(no_mangle)]
 pub extern "C" fn twkb_certify_tight(bytes: &[u8], ids: &mut [i64]) -> Verdict
     ensures says { Says IsTightlyTrue result bytes.now }
@@ -43,7 +43,7 @@ pub extern "C" fn twkb_certify_tight(bytes: &[u8], ids: &mut [i64]) -> Verdict
     twkb_call::certify_tight_lent(bytes, ids)
 }
 
-/// Puts a row for each blob into the room, in file order, as many as fit, and says how many blobs there are.
+/// Puts a row for each blob into the room, in file order, as many as fit, and answers how many blobs there are.
 #[unsafe(no_mangle)]
 pub extern "C" fn twkb_list(layer: &Layer, room: &mut [Row]) -> usize
     requires { IsCounted layer.now.bytes.now layer.now.blobs layer.now.vertices }
@@ -53,8 +53,8 @@ pub extern "C" fn twkb_list(layer: &Layer, room: &mut [Row]) -> usize
     twkb_call::list(layer, room)
 }
 
-/// Reads the text of a window. The answer is 0, or 1 where it hasn't the form of one, or 2 where a lower bound is above its
-/// upper one.
+/// Parses a window. The answer is 0, or 1 if the text doesn't have the form of one, or 2 if a lower bound is above its upper
+/// bound.
 #[unsafe(no_mangle)]
 pub extern "C" fn twkb_window_parse(text: &[u8], window: &mut Window) -> u32
     ensures answers { result ≤ 2 }
@@ -67,7 +67,7 @@ pub extern "C" fn twkb_window_parse(text: &[u8], window: &mut Window) -> u32
     twkb_call::parse_window(text, window)
 }
 
-/// Puts the blobs that have a vertex inside the window into the room, in file order, as many as fit.
+/// Finds the blobs that have a vertex inside the window, and puts them into the room in file order, as many as fit.
 #[unsafe(no_mangle)]
 pub extern "C" fn twkb_scan(layer: &Layer, window: &Window, room: &mut [Hit]) -> Scanned
     requires { IsCounted layer.now.bytes.now layer.now.blobs layer.now.vertices }
@@ -80,7 +80,7 @@ pub extern "C" fn twkb_scan(layer: &Layer, window: &Window, room: &mut [Hit]) ->
     twkb_call::scan(layer, window, room)
 }
 
-/// Puts X and Y of each vertex into the room, in reading order, as many as fit, and says how many vertices there are.
+/// Puts X and Y of each vertex into the room, in reading order, as many as fit, and answers how many vertices there are.
 #[unsafe(no_mangle)]
 pub extern "C" fn twkb_draw(layer: &Layer, room: &mut [Point]) -> usize
     requires { IsCounted layer.now.bytes.now layer.now.blobs layer.now.vertices }

@@ -1,12 +1,20 @@
 -- Devices of proofs: nothing public names them.
 -- What is true once geometries were skimmed.
-use Rattle.std.specs.Prelude.{◌≡◌, ℕ, suc, ◌+◌, ◌<◌, ◌≤◌, cond, Bool, length, fold, Option, Some, None}
-use Rattle.twkb_num.specs.Cursor.{Reading, added}
+use Rattle.std.specs.Prelude.{◌≡◌, ℕ, ℤ, suc, ◌+◌, ◌<◌, ◌≤◌, cond, Bool, false, length, fold, Option, Some, None}
+use Rattle.twkb_num.specs.Cursor.{Reading, added, passed, IsMoved, IsSound}
 use Rattle.twkb_head.specs.BegunHeader.{deepest}
 use Rattle.twkb_head.specs.declared.boxes.Vertex.{Vertex}
 use Rattle.twkb_head.specs.declared.boxes.Bounds.{Bounds}
 use Rattle.twkb_head.specs.declared.header.SizeField.{SizeField}
 use Rattle.twkb_head.specs.declared.header.BoxField.{BoxField}
+use Rattle.twkb_head.specs.declared.header.Head.{Head}
+use Rattle.twkb_head.specs.declared.kinds.Kind.{Kind}
+use Rattle.twkb_head.specs.declared.raw.Axes.{Axes}
+use Rattle.twkb_head.specs.declared.read.Begun.{Begun}
+use Rattle.twkb_head.specs.declared.raw.Fields.{Fields}
+use Rattle.twkb_head.specs.Raw.{head_said, BeginsHead}
+use Rattle.twkb_head.specs.Head.{IsHeadAt}
+use Rattle.twkb_body.specs.Standing.{StandsAt}
 use Rattle.twkb_body.specs.Geometry.{Geometry, Members, none, more, lengths_of, member_count, vertices}
 use Rattle.twkb_body.specs.Devices.Standing.{StandAt}
 use Rattle.twkb_body.specs.Visit.{walk}
@@ -48,3 +56,46 @@ pub record Entered {S : Type 0} (step : S → Vertex → S) (skips : S → Bound
   pub bytes : new.reading.bytes ≡ old.reading.bytes
   pub ahead : old.reading.place < new.reading.place
   pub within : new.reading.place ≤ length new.reading.bytes
+
+-- The first two bytes of a certified geometry were read, which stands before them.
+pub record HasCome (begun : Begun) (now : Reading) (g : Geometry) (depth : ℕ) (before : Reading) : Type 0 where
+  pub stands : StandsAt g depth before.bytes before.place
+  pub sound : IsSound before
+  pub begins : BeginsHead begun 1 before now
+
+-- Its header was read.
+pub record HasRead (raw : Fields) (now : Reading) (g : Geometry) (depth : ℕ) (before : Reading) : Type 0 where
+  pub stands : StandsAt g depth before.bytes before.place
+  pub sound : IsSound before
+  pub at : IsHeadAt (head_said raw) 1 before.place (passed before now)
+  pub moved : IsMoved before now
+
+-- X and Y alone
+abbrev pub flat_axes : ℤ → Axes
+flat_axes xy = record { xy = xy; z = None; m = None }
+
+-- a header of a geometry that isn't empty
+abbrev pub full_head : Kind → Axes → Bool → Option SizeField → Option BoxField → ℕ → ℕ → Head
+full_head kind axes ids size bounds start stop =
+    record { kind = kind; xy = axes.xy; z = axes.z; m = axes.m; size = size; bounds = bounds; ids = ids; empty = false; start = start; stop = stop }
+
+-- Its header was read, and it is neither skipped nor empty.
+pub record IsBehind (skips : Bounds → Bool) (kind : Kind) (axes : Axes) (ids : Bool) (now : Reading) (g : Geometry) (depth : ℕ) (before : Reading) : Type 0 where
+  pub size : Option SizeField
+  pub bounds : Option BoxField
+  pub start : ℕ
+  pub stop : ℕ
+  pub stands : StandsAt g depth before.bytes before.place
+  pub sound : IsSound before
+  pub at : IsHeadAt (full_head kind axes ids size bounds start stop) 1 before.place (passed before now)
+  pub moved : IsMoved before now
+  pub stays : hop_of skips size bounds ≡ None
+
+-- a certified geometry is known to stand before the cursor, where this holds of it
+abbrev pub IsThere : (Geometry → ℕ → Reading → Type 0) → Type 0
+IsThere Stands = (g : Geometry) × (depth : ℕ) × (before : Reading) × Stands g depth before
+
+-- whatever certified geometry that is, one step was made into it
+abbrev pub Enters : {S : Type 0} → (S → Vertex → S) → (S → Bounds → Bool) → (Geometry → ℕ → Reading → Type 0) → S → S → Reading → ℕ → Type 0
+Enters step skips Stands state state' new members = (g : Geometry) (depth : ℕ) (before : Reading) → Stands g depth before
+    → Entered step skips g depth (record { reading = before; state = state }) (record { reading = new; state = state' }) members

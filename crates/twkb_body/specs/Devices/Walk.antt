@@ -1,6 +1,6 @@
 -- Devices of proofs: nothing public names them.
 -- What reading numbers does to the differences under one header, and to what their points are added to.
-use Rattle.std.specs.Prelude.{◌≡◌, ℕ, ◌+◌, ◌≤◌, List, [], ◌∷◌, length, fold, IfSome, Result, Ok}
+use Rattle.std.specs.Prelude.{◌≡◌, ℕ, ◌+◌, ◌≤◌, Bool, true, false, List, [], ◌∷◌, length, fold, IfSome, Result, Ok}
 use Rattle.twkb_num.specs.Cursor.{Reading}
 use Rattle.twkb_num.specs.Units.{IsPrecision}
 use Rattle.twkb_head.specs.declared.boxes.Vertex.{Vertex}
@@ -56,3 +56,32 @@ pub record IsRun {S : Type 0} (step : S → PointValue → S) (axes : ℕ) (old 
   pub many : length numbers ≡ count
   pub read : many_at count add (point_at axes) old.last from ≡ (Ok numbers, to)
   pub walked : IsWalked step axes old new state state' from.place to.place numbers
+
+-- no point changes the state
+abbrev pub IsStill : {S : Type 0} → (S → PointValue → S) → S → Type 0
+IsStill step s = (point : PointValue) → step s point ≡ s
+
+-- The trail is the one that the points lead to, or it is lost, behind a state that no point changes.
+pub record Follows {S : Type 0} (step : S → PointValue → S) (lost : Bool) (trail t : Trail) (s : S) : Type 0 where
+  pub kept : lost ≡ false → trail ≡ t
+  pub still : lost ≡ true → IsStill step s
+
+-- A value is known to stand there.
+pub record IsKnown {A S : Type 0} (each : PointValue → Reader A) (step : S → PointValue → S) (lost : Bool) (trail : Trail) (s : S) (r : Reading) (t : Trail) (x : A) (stop : Reading) : Type 0 where
+  pub read : each t.last r ≡ (Ok x, stop)
+  pub follows : Follows step lost trail t s
+  pub counted : t.points ≤ r.place
+
+-- The points of such a value were shown, and the place is behind it.
+pub record AreShown {A S : Type 0} (points_in : A → List PointValue) (step : S → PointValue → S) (axes : ℕ) (lost : Bool) (trail : Trail) (s s' : S) (r new : Reading) (t : Trail) (x : A) (stop : Reading) : Type 0 where
+  pub there : new ≡ stop
+  pub after : Trail
+  pub walked : IsWalked step axes t after s s' r.place new.place (points_in x)
+  pub follows : Follows step lost trail after s'
+
+abbrev pub StandsThere : {A S : Type 0} → (PointValue → Reader A) → (S → PointValue → S) → Bool → Trail → S → Reading → Type 0
+StandsThere {A} each step lost trail s r = (t : Trail) × (x : A) × (stop : Reading) × IsKnown each step lost trail s r t x stop
+
+abbrev pub ShowsIt : {A S : Type 0} → (PointValue → Reader A) → (A → List PointValue) → (S → PointValue → S) → ℕ → Bool → Bool → Trail → Trail → S → S → Reading → Reading → Type 0
+ShowsIt {A} each points_in step axes lost lost' trail trail' s s' r new =
+    (t : Trail) (x : A) (stop : Reading) → IsKnown each step lost trail s r t x stop → AreShown points_in step axes lost' trail' s s' r new t x stop

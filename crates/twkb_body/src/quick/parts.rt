@@ -119,7 +119,7 @@ pub fn take_boxed(
     }
 }
 
-/// The same of three axes.
+/// A body of three axes, if a box holds its points.
 // This and the next aren't inlined, since a function that would grow very large has nothing inlined.
 #[inline(never)]
 fn take_boxed_three(
@@ -141,7 +141,7 @@ fn take_boxed_three(
     Some(vertices)
 }
 
-/// The same of four axes.
+/// A body of four axes, if a box holds its points.
 #[inline(never)]
 fn take_boxed_four(cursor: &mut Cursor, kind: Kind, has_ids: bool, bounds: &RawBox) -> Option<usize>
     requires { HasNearRanges bounds.now }

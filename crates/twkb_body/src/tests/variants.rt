@@ -1,4 +1,4 @@
-//! All that comes of the worked blobs by a cut or by one changed byte, against a plain reader.
+//! All that comes of this crate's worked blobs by a cut or by one changed byte, against a plain reader.
 use super::*;
 use plain::Fault;
 use std::alloc::Global;

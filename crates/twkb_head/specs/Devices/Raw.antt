@@ -1,18 +1,20 @@
 -- Devices of proofs: nothing public names them.
 -- The fields of a header whose box is raw numbers, as they are read.
-use Rattle.std.specs.Prelude.{◌≡◌, ◌-◌, ℕ, ℤ, pos, Bool, true, false, Option, Ok}
+use Rattle.std.specs.Prelude.{◌≡◌, ℕ, ℤ, pos, Bool, true, false, Option, option_map, Result, Ok, Err}
+use Rattle.twkb_head.specs.declared.refusal.Malformed.{Malformed}
+use Rattle.twkb_head.specs.declared.raw.RawBox.{RawBox}
 use Rattle.twkb_num.specs.Cursor.{Reading}
 use Rattle.twkb_head.specs.declared.boxes.Bounds.{Bounds}
 use Rattle.twkb_head.specs.declared.raw.RawRange.{RawRange}
 use Rattle.twkb_head.specs.declared.raw.RawHead.{RawHead}
+use Rattle.twkb_head.specs.declared.raw.Fields.{Fields}
+use Rattle.twkb_head.specs.declared.read.Begun.{Begun}
 use Rattle.twkb_head.specs.declared.kinds.Kind.{Kind}
 use Rattle.twkb_head.specs.Header.{has_bit, z_in, m_in}
-use Rattle.twkb_head.specs.Devices.HeadReader.{range_from, bounds_from, head_with, head_at}
+use Rattle.twkb_head.specs.Devices.HeadReader.{range_from, bounds_from, head_with, kind_from_type}
 use Rattle.twkb_head.specs.Devices.Reader.{byte_at, number_at, optional_at}
-use Rattle.twkb_head.specs.Raw.{ends_of, whole_head, IsBoxed}
-use Rattle.twkb_head.specs.BegunHeader.{deepest}
+use Rattle.twkb_head.specs.Raw.{ends_of, raw_bounds, whole_head, head_said}
 use Rattle.twkb_head.specs.declared.header.Head.{Head}
-use Rattle.twkb_head.specs.declared.boxed.BegunBox.{BegunBox}
 
 -- the range of an axis that is there was read, or it isn't there, and the range is all zeros
 abbrev pub IsRangeIf : Bool → RawRange → Reading → Reading → Type 0
@@ -31,12 +33,27 @@ pub record AreFieldsOf (raw : RawHead) (start : ℕ) (kind : Kind) (xy : ℤ) (m
   pub box_is : optional_at (has_bit metadata 1) (bounds_from xy (z_in extended) (m_in extended)) box_start ≡ (Ok bounds, new)
   pub head_is : whole_head raw ≡ head_with kind xy metadata extended size bounds start size_start.place box_start.place new.place
 
--- The same up to the range in X of a box: with the one in Y, which is read from there on.
-abbrev pub AreBegunFields : BegunBox → ℕ → Kind → ℤ → ℕ → Reading → Reading → Type 0
-AreBegunFields begun start kind xy metadata old new = (y : RawRange) (stop : Reading) → range_from new ≡ (Ok (ends_of y), stop)
-    → (raw : RawHead) × AreFieldsOf raw start kind xy metadata old stop × IsBoxed (whole_head raw) begun y
+-- what was read, as readers in units have it
+abbrev pub ended : Result RawRange Malformed → Result (ℤ × ℤ) Malformed
+ended (Ok range) = Ok (ends_of range)
+ended (Err m) = Err m
 
--- the same of a whole header
-abbrev pub IsReadTo : BegunBox → Reading → Reading → Type 0
-IsReadTo begun old new = (y : RawRange) (stop : Reading) → range_from new ≡ (Ok (ends_of y), stop)
-    → (head : Head) × (head_at (deepest - 1) old ≡ (Ok head, stop)) × IsBoxed head begun y
+abbrev pub bounded : ℤ → Option ℕ → Option ℕ → Result (Option RawBox) Malformed → Result (Option Bounds) Malformed
+bounded xy z m (Ok box) = Ok (option_map (raw_bounds xy z m) box)
+bounded xy z m (Err w) = Err w
+
+abbrev pub made_whole : Result Fields Malformed → Result Head Malformed
+made_whole (Ok raw) = Ok (head_said raw)
+made_whole (Err m) = Err m
+
+-- the range of an axis that is there was read, or its fault; or it isn't there, and the range is all zeros
+abbrev pub ReadsIf : Bool → Result RawRange Malformed → Reading → Reading → Type 0
+ReadsIf there (Ok range) old new = IsRangeIf there range old new
+ReadsIf there (Err m) old new = (there ≡ true) × (range_from old ≡ (Err m, new))
+
+-- A header was begun, by its first two bytes.
+pub record HasBegun (levels : ℕ) (begun : Begun) (before now : Reading) : Type 0 where
+  pub mid : Reading
+  pub type : kind_from_type levels before ≡ (Ok (begun.kind, begun.xy), mid)
+  pub byte : byte_at mid ≡ (Ok begun.metadata, now)
+  pub start : begun.start ≡ before.place

@@ -1,32 +1,24 @@
 -- Devices of proofs: nothing public names them.
 -- What is read of a blob at its start.
-use Rattle.std.specs.Prelude.{◌≡◌, ℕ, ◌+◌, ◌*◌, Option, is_some, option_map}
+use Rattle.std.specs.Prelude.{◌≡◌, ℕ, ◌+◌, Option, option_map}
 use Rattle.twkb_num.specs.Cursor.{Reading}
 use Rattle.twkb_head.specs.declared.boxes.Bounds.{Bounds}
-use Rattle.twkb_head.specs.declared.header.BoxField.{BoxField}
-use Rattle.twkb_head.specs.declared.header.Head.{Head}
-use Rattle.twkb_body.specs.Geometry.{Geometry, header_of}
-use Rattle.twkb_layer.specs.Directory.{Entry, box_of}
+use Rattle.twkb_head.specs.declared.raw.Fields.{Fields}
+use Rattle.twkb_head.specs.Raw.{raw_bounds}
+use Rattle.twkb_body.specs.Geometry.{Geometry}
+use Rattle.twkb_layer.specs.Directory.{Entry}
 use Rattle.twkb_layer.specs.Layer.{size_of, AddsAtMost}
 
--- the box that a header has
-abbrev pub box_said : Head → Option Bounds
-box_said head = option_map (λ (field : BoxField). field.bounds) head.bounds
+-- the box that a header has, in units
+abbrev pub box_said : Fields → Option Bounds
+box_said raw = option_map (raw_bounds raw.axes.xy raw.axes.z raw.axes.m) raw.bounds
 
 -- the entry of a blob that begins at the offset with the header
-abbrev pub entry_said : ℕ → Head → Entry
-entry_said offset head = record { offset = offset; bounds = box_said head }
+abbrev pub entry_said : ℕ → Fields → Entry
+entry_said offset raw = record { offset = offset; bounds = box_said raw }
 
--- what a header that was read says of the geometry
-pub record SaysOf (head : Head) (g : Geometry) : Type 0 where
-  pub kind : head.kind ≡ (header_of g).kind
-  pub precision : head.xy ≡ (header_of g).xy
-  pub sized : is_some head.size ≡ is_some (header_of g).size
-  pub boxed : is_some head.bounds ≡ is_some (header_of g).box
-  pub box : box_said head ≡ box_of g
-
--- The cursor is past the geometry, of which no byte was read more than twice.
+-- The cursor is past the geometry, of which no byte was read twice.
 pub record HasPassed (g : Geometry) (old new : Reading) : Type 0 where
   pub bytes : new.bytes ≡ old.bytes
   pub place : new.place ≡ old.place + size_of g
-  pub count : AddsAtMost (2 * size_of g) old.count new.count
+  pub count : AddsAtMost (size_of g) old.count new.count

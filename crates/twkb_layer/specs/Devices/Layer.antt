@@ -1,16 +1,12 @@
 -- Devices of proofs: nothing public names them.
--- Blobs of a certified layer: their headers' sizes, what holds of one at a place, and where a scan goes on behind it.
+-- Blobs of a certified layer: what holds of one at a place, and where a scan goes on behind it.
 use Rattle.std.specs.Prelude.{ℕ, ◌+◌, List}
 use Rattle.twkb_num.specs.Cursor.{Reading, added}
 use Rattle.twkb_head.specs.declared.boxes.Bounds.{Bounds}
-use Rattle.twkb_body.specs.Geometry.{Geometry, lengths_of}
+use Rattle.twkb_body.specs.Geometry.{Geometry}
 use Rattle.twkb_body.specs.Standing.{StandsAt}
 use Rattle.twkb_layer.specs.Hits.{cost}
 use Rattle.twkb_layer.specs.Layer.{size_of}
-
--- how many its header takes
-abbrev pub header_size : Geometry → ℕ
-header_size tree = (lengths_of tree).header
 
 -- what holds of a certified blob at a place
 abbrev pub OfBlob : List ℕ → ℕ → (Geometry → Type 0) → Type 0

@@ -1,15 +1,10 @@
 -- Devices of proofs: nothing public names them.
 -- Windows in raw integers: the numbers as headers and bodies have them, which mean units by a precision.
-use Rattle.std.specs.Prelude.{◌≡◌, ℕ, ◌<◌, ℤ, int_lt, true, None, List, get_or, length}
+use Rattle.std.specs.Prelude.{◌≡◌, ℕ, ◌<◌, ℤ, int_lt, ◌||◌, Bool, List, get_or, length}
 use Rattle.twkb_num.specs.Units.{units_of}
-use Rattle.twkb_num.specs.Cursor.{Reading, passed, IsMoved}
-use Rattle.twkb_num.specs.Varint.{SpellsTwoSigned}
 use Rattle.twkb_head.specs.declared.boxes.Span.{Span}
 use Rattle.twkb_head.specs.declared.boxes.Bounds.{Bounds}
-use Rattle.twkb_head.specs.declared.boxed.BegunBox.{BegunBox}
-use Rattle.twkb_head.specs.declared.raw.RawRange.{RawRange}
-use Rattle.twkb_head.specs.Raw.{raw_bounds, flat_box}
-use Rattle.twkb_layer.specs.Window.{box_misses}
+use Rattle.twkb_layer.specs.Window.{lie_apart_if_both}
 use Rattle.twkb_layer.specs.Devices.Slots.{IsInner}
 use Rattle.twkb_layer.specs.Slots.{precision_of}
 use Rattle.twkb_layer.specs.declared.raw.RawEnds.{RawEnds}
@@ -31,9 +26,6 @@ pub record AreRawWindows (window : Bounds) (raws : List RawWindow) : Type 0 wher
   pub all : length raws ≡ 16
   pub each : (code : ℕ) → code < 16 → (nowhere : RawWindow) → IsRawWindow (precision_of code) window (get_or raws code nowhere)
 
--- a range in Y was passed, and with it a box that was begun misses the window
-pub record HasMissed (window : Bounds) (begun : BegunBox) (old new : Reading) : Type 0 where
-  pub y : RawRange
-  pub spelled : SpellsTwoSigned (passed old new) y.minimum y.extent
-  pub moved : IsMoved old new
-  pub missed : box_misses window (raw_bounds begun.xy None None (flat_box begun.x y)) ≡ true
+-- a box misses the window in Z or in M
+abbrev pub misses_beyond : Bounds → Bounds → Bool
+misses_beyond w box = lie_apart_if_both box.z w.z || lie_apart_if_both box.m w.m

@@ -1,6 +1,6 @@
 -- Devices of proofs: nothing public names them.
 -- What slots keep, and the slots of a blob.
-use Rattle.std.specs.Prelude.{◌≡◌, ◌-◌, ◌^◌, ℤ, pos, neg_ℤ, ◌<ℤ◌, ◌||◌, Bool, List, [], ◌∷◌, Option, Some, None}
+use Rattle.std.specs.Prelude.{◌≡◌, ℕ, ◌-◌, ◌*◌, ◌/◌, ◌%◌, ◌^◌, nat_le, ℤ, pos, neg_ℤ, ◌<ℤ◌, ◌||◌, Bool, true, false, Option, Some, is_some, option_map, option_and_then}
 use Rattle.twkb_head.specs.declared.boxes.Span.{Span}
 use Rattle.twkb_head.specs.declared.boxes.Bounds.{Bounds}
 use Rattle.twkb_layer.specs.Slots.{Said, Written, unpacked}
@@ -34,7 +34,27 @@ pub record IsJudged (window : Bounds) (slot : Said) (misses : Bool) : Type 0 whe
   pub second : slot.second ≡ Some y
   pub answer : misses ≡ (lie_apart x window.x || lie_apart y window.y)
 
--- a slot, and the one before it, if there is one
-abbrev pub with_before : Option Written → Written → List Written
-with_before None slot = slot ∷ []
-with_before (Some before) slot = before ∷ slot ∷ []
+-- what a box has in Z, and in M
+abbrev pub box_z : Option Bounds → Option Span
+box_z box = option_and_then (λ (b : Bounds). b.z) box
+
+abbrev pub box_m : Option Bounds → Option Span
+box_m box = option_and_then (λ (b : Bounds). b.m) box
+
+-- the slot of a blob with this offset and box has no place for all of it
+abbrev pub passes_a_slot : ℕ → Option Bounds → Bool
+passes_a_slot offset box = is_some (box_z box) || (is_some (box_m box) || nat_le (2 ^ 57) offset)
+
+-- what that slot says
+abbrev pub own_said : ℕ → Bool → Option Bounds → Said
+own_said offset deep box = record {
+  beyond = false;
+  deep = deep;
+  offset = offset % 2 ^ 57;
+  first = option_map (λ (b : Bounds). b.x) box;
+  second = option_map (λ (b : Bounds). b.y) box;
+}
+
+-- what the slot before it says
+abbrev pub said_before : ℕ → Option Bounds → Said
+said_before offset box = record { beyond = true; deep = false; offset = offset / 2 ^ 57 * 2 ^ 57; first = box_z box; second = box_m box }

@@ -1,15 +1,15 @@
 //! Two signed numbers at a cursor's place, read or passed together.
-ghost use Rattle.std.specs.Prelude.{◌≡◌, ◌+◌, ◌-◌, ◌<◌, ◌≤◌, length, take, IfSome, IfNone, OnSome};
-ghost use Rattle.twkb_num.specs.Cursor.{rest, passed, IsMoved};
+ghost use Rattle.std.specs.Prelude.{◌≡◌, IfSome, IfNone, OnSome};
+ghost use Rattle.twkb_num.specs.Cursor.{passed, IsMoved};
 ghost use Rattle.twkb_num.specs.Varint.{SpellsMany, SpellsTwoSigned, IsShort};
 
 use super::Cursor;
 use crate::ends::length_of;
-use crate::word::{Pair, last_of, next_mixed_pair, next_pair};
+use crate::word::{next_mixed_pair, next_pair};
 
 impl<'a> Cursor<'a> {
-    /// The two signed varints at the place, which it moves past, where each takes at most four bytes and eight bytes are
-    /// left. Else `None`: nothing was read, and two reads in turn say what stands there.
+    /// Reads the two signed varints at the place, if each takes at most four bytes and eight bytes are left. Otherwise it answers
+    /// `None` and has read nothing; read the two one after the other then.
     #[inline(always)]
     pub fn svarint_pair(&mut self) -> Option<(i64, i64)>
         ensures some { IfSome result (λ pair. SpellsTwoSigned (passed self.old self.new) pair.0 pair.1) }
@@ -22,7 +22,7 @@ impl<'a> Cursor<'a> {
         Some((pair.first, pair.second))
     }
 
-    /// The same, for numbers of which few are short.
+    /// Reads two signed varints as [`Cursor::svarint_pair`] does. It is faster if the two are rarely of equal length.
     #[inline(always)]
     pub fn svarint_mixed_pair(&mut self) -> Option<(i64, i64)>
         ensures some { IfSome result (λ pair. SpellsTwoSigned (passed self.old self.new) pair.0 pair.1) }
@@ -35,88 +35,16 @@ impl<'a> Cursor<'a> {
         Some((both.first, both.second))
     }
 
-    /// The same, where eight bytes are left before `stop`: no byte from there on is looked at.
+    /// Moves past the two varints at the place without decoding them, if both end in the next eight bytes. Otherwise it answers
+    /// `None`, and the cursor is as it was.
     #[inline(always)]
-    pub fn svarint_pair_before(&mut self, stop: usize) -> Option<(i64, i64)>
-        ensures some { IfSome result (λ pair. SpellsTwoSigned (passed self.old self.new) pair.0 pair.1) }
-        ensures short { IfSome result (λ pair. IsShort pair.0 × IsShort pair.1) }
-        ensures moved { OnSome result (IsMoved self.old self.new) }
-        ensures within { OnSome result (self.old.place + 8 ≤ stop) }
-        ensures none { IfNone result (self.new ≡ self.old) }
-    {
-        if stop.saturating_sub(self.place) < 8 {
-            return None;
-        }
-        self.svarint_mixed_pair()
-    }
-
-    /// Past the two varints at the place, without asking for their numbers, where eight bytes are left before `stop` and both
-    /// end among them: no byte from there on is looked at. Else `None`, and the cursor is as it was.
-    #[inline(always)]
-    pub fn pass_pair_before(&mut self, stop: usize) -> Option<()>
+    pub fn pass_pair(&mut self) -> Option<()>
         ensures some { OnSome result (SpellsMany (passed self.old self.new) 2) }
         ensures moved { OnSome result (IsMoved self.old self.new) }
-        ensures within { OnSome result (self.old.place + 8 ≤ stop) }
         ensures none { IfNone result (self.new ≡ self.old) }
     {
-        let left = stop.saturating_sub(self.place);
-        if left < 8 {
-            return None;
-        }
         let both = length_of(self.bytes[self.place..].first_chunk::<8>()?, 2)?;
         self.place += both;
         Some(())
-    }
-
-    /// The same, where both end at `stop` or before: no byte from there on is looked at. Where fewer than eight bytes are left
-    /// before it, they are taken from the word that ends there.
-    #[inline(always)]
-    pub fn svarint_pair_to(&mut self, stop: usize) -> Option<(i64, i64)>
-        ensures some { IfSome result (λ pair. SpellsTwoSigned (passed self.old self.new) pair.0 pair.1) }
-        ensures short { IfSome result (λ pair. IsShort pair.0 × IsShort pair.1) }
-        ensures moved { OnSome result (IsMoved self.old self.new) }
-        ensures within { OnSome result (self.new.place ≤ stop) }
-        ensures none { IfNone result (self.new ≡ self.old) }
-    {
-        let left = stop.saturating_sub(self.place);
-        let Pair { first, second, len } = if left < 8 {
-            self.last_pair(stop, left)?
-        } else {
-            self.first_pair()?
-        };
-        self.place += len;
-        Some((first, second))
-    }
-
-    // The two numbers of the next eight bytes.
-    #[inline(always)]
-    fn first_pair(&self) -> Option<Pair>
-        ensures within { IfSome result (λ pair. pair.len ≤ length (rest self.now)) }
-        ensures len { IfSome result (λ pair. pair.len ≤ 8) }
-        ensures some { IfSome result (λ pair. SpellsTwoSigned (take pair.len (rest self.now)) pair.first pair.second) }
-        ensures short { IfSome result (λ pair. IsShort pair.first × IsShort pair.second) }
-    {
-        next_pair(self.bytes[self.place..].first_chunk::<8>()?)
-    }
-
-    // The same of the bytes before `stop`, of which so few are left.
-    #[inline(always)]
-    fn last_pair(&self, stop: usize, left: usize) -> Option<Pair>
-        requires left { left ≡ stop - self.now.place }
-        requires few { left < 8 }
-        ensures within { IfSome result (λ pair. pair.len ≤ length (rest self.now)) }
-        ensures len { IfSome result (λ pair. pair.len ≤ left) }
-        ensures some { IfSome result (λ pair. SpellsTwoSigned (take pair.len (rest self.now)) pair.first pair.second) }
-        ensures short { IfSome result (λ pair. IsShort pair.first × IsShort pair.second) }
-    {
-        if left == 0 || stop < 8 || stop > self.len() {
-            return None;
-        }
-        let word = self.bytes[stop - 8..].first_chunk::<8>()?;
-        let pair = next_pair(&last_of(word, left as u32))?;
-        if pair.len > left {
-            return None;
-        }
-        Some(pair)
     }
 }

@@ -295,30 +295,6 @@ fn pair_like_two_reads(rt: &impl Abort, bytes: &[u8], is_read: bool) {
     equal(rt, pairs.read_count(), reads.read_count());
 }
 
-// A pair is read where eight bytes are left before the stop, and among all bytes.
-#[test]
-fn no_pair_passes_the_stop(rt: HostRuntime) {
-    let bytes = [2, 4, 0x80, 0x01, 0x80, 0x01, 0, 0, 0, 0];
-    // By the place: what is read there, and where it ends.
-    let table = [(0, (1, 2), 2), (1, (2, 64), 4), (2, (64, 64), 6)];
-    for (start, pair, end) in table {
-        for stop in 0..12 {
-            let mut cursor = Cursor::new(&bytes);
-            cursor.go_to(start);
-            let is_read = stop >= 8usize.saturating_add(start);
-            let answer = cursor.svarint_pair_before(stop);
-            equal(&rt, answer, if is_read { Some(pair) } else { None });
-            let passed = if is_read { end } else { start };
-            equal(&rt, cursor.place(), passed);
-            equal(
-                &rt,
-                cursor.read_count(),
-                passed.saturating_sub(start) as u64,
-            );
-        }
-    }
-}
-
 // Behind one byte a varint of so many bytes more than one, and behind it another.
 fn two_varints(first_more: usize, second_more: usize) -> [u8; 18] {
     let mut bytes = [0x01; 18];
@@ -332,39 +308,42 @@ fn two_varints(first_more: usize, second_more: usize) -> [u8; 18] {
     bytes
 }
 
-// Varints of one to seven bytes, with seven bytes up to the stop, eight and nine.
+// Varints of one to seven bytes, with seven bytes left, eight and nine.
 #[test]
-fn pairs_are_passed_before_a_stop(rt: HostRuntime) {
+fn pairs_are_passed_by_their_ends(rt: HostRuntime) {
     for first_more in 0..7usize {
         for second_more in 0..7usize {
             let bytes = two_varints(first_more, second_more);
             let many = first_more.saturating_add(second_more).saturating_add(2);
             let passed = if many <= 8 { Some(many) } else { None };
-            passes_a_pair(&rt, &bytes, 8, None);
-            passes_a_pair(&rt, &bytes, 9, passed);
-            passes_a_pair(&rt, &bytes, 10, passed);
+            passes_a_pair(&rt, &bytes[..8], None);
+            passes_a_pair(&rt, &bytes[..9], passed);
+            passes_a_pair(&rt, &bytes[..10], passed);
         }
     }
 }
 
 // The pair at place 1 takes so many bytes, or the cursor stays as it is.
-fn passes_a_pair(rt: &impl Abort, bytes: &[u8], stop: usize, passed: Option<usize>) {
+fn passes_a_pair(rt: &impl Abort, bytes: &[u8], passed: Option<usize>) {
     let mut cursor = Cursor::new(bytes);
     assert!(rt; cursor.byte().is_some());
-    equal(
-        rt,
-        cursor.pass_pair_before(stop).is_some(),
-        passed.is_some(),
-    );
+    equal(rt, cursor.pass_pair().is_some(), passed.is_some());
     let place = passed.unwrap_or(0).saturating_add(1);
     equal(rt, cursor.place(), place);
     equal(rt, cursor.read_count(), place as u64);
 }
 
 #[test]
-fn pairs_are_passed_where_eight_bytes_are_left(rt: HostRuntime) {
-    let bytes = [0x01; 9];
-    passes_a_pair(&rt, &bytes[..8], 20, None);
-    passes_a_pair(&rt, &bytes, 20, Some(2));
-    passes_a_pair(&rt, &bytes, 0, None);
+fn two_bytes_are_read_together(rt: HostRuntime) {
+    let bytes = [0x12, 0x83, 0x09];
+    let mut cursor = Cursor::new(&bytes);
+    equal(&rt, cursor.two_bytes(), Some((0x12, 0x83)));
+    equal(&rt, cursor.place(), 2);
+    equal(&rt, cursor.read_count(), 2);
+    equal(&rt, cursor.two_bytes(), None);
+    equal(&rt, cursor.place(), 2);
+    equal(&rt, cursor.read_count(), 2);
+    equal(&rt, cursor.byte(), Some(0x09));
+    equal(&rt, cursor.two_bytes(), None);
+    equal(&rt, cursor.read_count(), 3);
 }

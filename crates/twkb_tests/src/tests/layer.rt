@@ -15,6 +15,7 @@ mod lines;
 mod lists;
 mod long_lists;
 mod memory;
+mod northernmost;
 mod plain_scans;
 mod random;
 mod scans;

@@ -1,4 +1,4 @@
-//! A source over std's `Read` and a sink over std's `Write`, which tell no bytes.
+//! A source over std's `Read` and a sink over std's `Write`, which don't state their bytes.
 
 mod reader;
 mod writer;

@@ -1,4 +1,4 @@
-//! A source and a sink over memory, which tell their bytes and can be told to fail.
+//! A source and a sink over memory, which state their bytes and can be told to fail.
 ghost use Rattle.std.specs.Prelude.{◌≡◌};
 ghost use Rattle.twkb_tool.specs.Memory.{is_failing, number_after};
 

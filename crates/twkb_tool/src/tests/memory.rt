@@ -1,4 +1,5 @@
-//! Allocations that are refused, each in turn.
+//! Allocations of a run that are refused, each in turn. Those of reading words go through `clap`, which takes `Global` alone:
+//! `tests/refuse_allocations.py` refuses them to the built program.
 ghost use Rattle.twkb_tool.specs.Words.{HoldsWindows};
 
 use super::{TWO_BLOBS, TWO_WINDOWS, TWO_WINDOWS_TEXT, equal, scan_for};

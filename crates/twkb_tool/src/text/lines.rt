@@ -64,7 +64,7 @@ pub fn push_hit_line<A: Allocator>(out: &mut Vec<u8, A>, hit: &Hit) -> Result<()
     push_text(out, "\n")
 }
 
-/// The line behind the hits of a window: how many there are, and how many bytes were read, of how many.
+/// The line after the hits of a window: how many there are, and how many bytes of how many were read.
 #[tactic(auto, unfolding(crate::specs::Output::end_line))]
 pub fn push_end_line<A: Allocator>(
     out: &mut Vec<u8, A>,

@@ -1,5 +1,5 @@
 -- The run goes on by one point, whose differences are short.
-use Rattle.std.proofs.Common.{◌≡◌, ◌+◌, ◌<◌, ◌^◌, pos, ◌+ℤ◌, length, drop, slice_index_or, refl, ap, ◌∙◌, arith}
+use Rattle.std.proofs.Common.{◌≡◌, ◌+◌, ◌<◌, ◌^◌, pos, ◌+ℤ◌, length, drop, slice_index_or, refl, ap, arith}
 use Rattle.std.proofs.lemmas.Int.{ints}
 use mir.Val.{to_z, of_z}
 use Rattle.std.specs.Int.{w64}
@@ -27,6 +27,6 @@ loop-preserved g c =
     let x_is : to_z w64 (of_z w64 (to_z w64 c.loop.x-bits +ℤ to_z w64 (of_z w64 c.in-Some.x_more))) ≡ to_z w64 c.loop.x-bits +ℤ c.in-Some.x_more = omega (arith, ints, l.near_x.0, l.near_x.1, short.0.0, short.0.1, few) in
     let y_is : to_z w64 (of_z w64 (to_z w64 c.loop.y-bits +ℤ to_z w64 (of_z w64 c.in-Some.y_more))) ≡ to_z w64 c.loop.y-bits +ℤ c.in-Some.y_more = omega (arith, ints, l.near_y.0, l.near_y.1, short.1.0, short.1.1, few) in
     record {
-      short = short_goes_on (shown g.V.Visit.step (of_head c.args.head.now)) c.args.trail.now (g.V.Visit.state c.args.visitor.now) c.args.cursor.now _ _ c.in-Some.x_more c.in-Some.y_more _ _ _ _ _ _ c.loop.counter few c.in-Some.ensures.some short.0 short.1 c.in-Some.ensures.moved x_is y_is (c.point.ensures ∙ ap (g.V.Visit.step (g.V.Visit.state c.loop.visitor)) (c.flat_vertex.ensures (drop 2 c.args.trail.now.last))) l;
+      short = short_goes_on (shown g.V.Visit.step (of_head c.args.head.now)) c.args.trail.now (g.V.Visit.state c.args.visitor.now) c.args.cursor.now _ _ c.in-Some.x_more c.in-Some.y_more _ _ _ _ _ _ c.loop.counter few c.in-Some.ensures.some short.0 short.1 c.in-Some.ensures.moved x_is y_is (c.show_flat.ensures (drop 2 c.args.trail.now.last)) l;
       counted = ap (λ k. k + 1) c.loop.invariant.counted;
     }

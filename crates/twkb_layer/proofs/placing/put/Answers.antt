@@ -1,24 +1,26 @@
 -- One slot or two stand behind those that were there, and say the blob's entry.
-use Rattle.std.proofs.Common.{ap, arith, sym, take, ◌++◌, ◌∷◌, [], ◌∙◌}
-use Rattle.twkb_layer.specs.Devices.Slots.{with_before}
+use Rattle.std.proofs.Common.{ap, arith, take, ◌++◌, ◌∷◌, [], ◌∙◌}
+use Rattle.twkb_layer.specs.Directory.{Entry}
+use Rattle.twkb_layer.specs.Devices.Collecting.{box_said}
 use Rattle.twkb_layer.specs.Slots.{entries_kept}
-use Rattle.twkb_layer.proofs.Entries.{room_one, room_two}
-use Rattle.twkb_layer.proofs.Keeping.{stands_still, passed_then, passing_few}
+use Rattle.twkb_layer.proofs.Entries.{kept_one, kept_two, entry_read, room_one, room_two}
+use Rattle.twkb_layer.proofs.Keeping.{says_of, passed_by}
 use Rattle.twkb_layer.proofs.placing.put.Goals as goal
-use Rattle.twkb_layer.proofs.placing.put.Goals.{in-Some, in_default}
+use Rattle.twkb_layer.proofs.placing.put.Goals.{then-deep, else-deep}
 
 pub returns-clause-says : goal.returns-clause-says
 returns-clause-says c = λ g at.
     let room = c.args.room.now in
     let used = c.args.used in
-    let slot = c.slots_of-before.result.1 in
-    let says = c.slots_of-before.ensures (take used room) ∙ (λ j. entries_kept (take used room) ++ record { offset = c.place-offset.ensures.value j; bounds = (c.header_at-head.ensures.says g at).box j } ∷ []) in
-    elim c.match-before.branch [
-      | in-Some w ↦ rw (w.room-is, w.place-is) (ap entries_kept (room_two room used _ slot c.requires.spare) ∙ (ap (λ before. entries_kept (take used room ++ with_before before slot)) (sym w.in-Some.is) ∙ says))
-      | in_default w ↦ rw (w.room-is, w.place-is) (ap entries_kept (room_one room used slot (omega (arith, c.requires.spare))) ∙ (ap (λ before. entries_kept (take used room ++ with_before before slot)) (sym w.in_default.is) ∙ says))
+    let raw = c.read_and_pass-raw.result in
+    let box = box_said raw in
+    let deep = c.passes_a_slot-deep in
+    let offset = c.place-offset.result in
+    let is = ap (λ (e : Entry). entries_kept (take used room) ++ e ∷ []) (entry_read offset c.args.cursor.now g raw c.place-offset.ensures.value (says_of g c.args.cursor.now.place raw (c.read_and_pass-raw.ensures.header g at))) in
+    elim c.if-deep.branch [
+      | then-deep w ↦ rw (w.room-is, w.place-is) (ap entries_kept (room_two room used _ c.own_slot.result c.requires.spare) ∙ (kept_two (take used room) offset deep.result box deep.ensures _ c.own_slot.ensures _ w.slot_before.ensures w.if-deep.true ∙ is))
+      | else-deep w ↦ rw (w.room-is, w.place-is) (ap entries_kept (room_one room used c.own_slot.result (omega (arith, c.requires.spare))) ∙ (kept_one (take used room) offset deep.result box deep.ensures _ c.own_slot.ensures w.if-deep.false ∙ is))
     ]
 
 pub returns-clause-passed : goal.returns-clause-passed
-returns-clause-passed c = λ g at.
-    let back = c.header_at-head.ensures.cursor g at in
-    passed_then g c.args.cursor.now _ _ _ at back (passing_few g _ _ at) (c.skim.ensures.cursor g (stands_still g c.args.cursor.now _ at back))
+returns-clause-passed c = λ g at. passed_by g c.args.cursor.now _ c.read_and_pass-raw.ensures.bytes (c.read_and_pass-raw.ensures.place g at) (c.read_and_pass-raw.ensures.count g at)

@@ -57,8 +57,8 @@ returns-clause-directory c =
 pub returns-clause-few : goal.returns-clause-few
 returns-clause-few c = slots_few _ _ _ _ _ _ c.loop-room.invariant.going
 
-pub returns-clause-count : goal.returns-clause-count
-returns-clause-count c = collect_adds _ _ _ _ _ _ _ _ c.loop-room.invariant.going.on
+pub returns-clause-once : goal.returns-clause-once
+returns-clause-once c = collect_adds _ _ _ _ _ _ _ _ c.loop-room.invariant.going.on
 
 pub returns-clause-grows : goal.returns-clause-grows
 returns-clause-grows c = omega (arith, c.loop-room.invariant.going.on.count_is, c.place_is_within.ensures.count_fits)

@@ -38,8 +38,8 @@ returns-else-place-len-clause-room g c =
     let inv = c.loop-blob.invariant in
     put_ends g.R.FromRow.of _ _ _ _ _ _ _ inv.going (inl (omega (arith, c.if-place-len.false, c.place.ensures.value, c.len.ensures, ap length inv.bytes)))
 
-pub returns-else-place-len-clause-count : goal.returns-else-place-len-clause-count
-returns-else-place-len-clause-count g c = collect_adds _ _ _ _ _ _ _ _ c.loop-blob.invariant.going.on
+pub returns-else-place-len-clause-once : goal.returns-else-place-len-clause-once
+returns-else-place-len-clause-once g c = collect_adds _ _ _ _ _ _ _ _ c.loop-blob.invariant.going.on
 
 pub returns-else-place-len-clause-grows : goal.returns-else-place-len-clause-grows
 returns-else-place-len-clause-grows g c = omega (arith, c.loop-blob.invariant.going.on.count_is, c.place_is_within.ensures.count_fits)
@@ -47,8 +47,8 @@ returns-else-place-len-clause-grows g c = omega (arith, c.loop-blob.invariant.go
 pub returns-after-loop-blob-clause-room : goal.returns-after-loop-blob-clause-room
 returns-after-loop-blob-clause-room g c = put_ends g.R.FromRow.of _ _ _ _ _ _ _ c.loop-blob.invariant.going (inr (omega (arith, c.loop-blob-test.false, c.loop-blob.auto.room)))
 
-pub returns-after-loop-blob-clause-count : goal.returns-after-loop-blob-clause-count
-returns-after-loop-blob-clause-count g c = collect_adds _ _ _ _ _ _ _ _ c.loop-blob.invariant.going.on
+pub returns-after-loop-blob-clause-once : goal.returns-after-loop-blob-clause-once
+returns-after-loop-blob-clause-once g c = collect_adds _ _ _ _ _ _ _ _ c.loop-blob.invariant.going.on
 
 pub returns-after-loop-blob-clause-grows : goal.returns-after-loop-blob-clause-grows
 returns-after-loop-blob-clause-grows g c = omega (arith, c.loop-blob.invariant.going.on.count_is, c.place_is_within.ensures.count_fits)

@@ -42,85 +42,73 @@ fn raw_heads_have_raw_boxes(rt: HostRuntime) {
     equal(&rt, cursor.read_count(), 7);
 }
 
+// A line with a size and a box in X and Y, and bits that mean nothing: with these it is read as without.
 #[test]
-fn boxes_are_begun_up_to_y(rt: HostRuntime) {
-    // The box of a line, with and without eight bytes behind each of its pairs that the size has.
-    for size in [9, 5] {
+fn what_is_announced_is_read(rt: HostRuntime) {
+    for metadata in [0x03, 0x23, 0xE3] {
         let bytes = [
-            0x12, 0x03, size, 0x02, 0x08, 0x02, 0x07, 0x02, 0x02, 0x02, 0x08, 0x08, 0x00,
+            0x12, metadata, 0x09, 0x02, 0x08, 0x02, 0x07, 0x02, 0x02, 0x02, 0x08, 0x08,
         ];
-        let expected = BegunBox {
-            xy: -1,
-            size: SizeField {
-                value: u64::from(size),
+        let expected = Fields {
+            kind: Kind::LineString,
+            axes: Axes {
+                xy: -1,
+                z: None,
+                m: None,
+            },
+            size: Some(SizeField {
+                value: 9,
                 offset: 2,
                 after: 3,
-            },
-            x: range(1, 4),
+            }),
+            bounds: Some(RawBox {
+                x: range(1, 4),
+                y: range(1, -4),
+                third: range(0, 0),
+                fourth: range(0, 0),
+            }),
+            box_place: 3,
+            ids: false,
+            empty: false,
+            start: 0,
+            stop: 7,
         };
         let mut cursor = Cursor::new(&bytes);
-        equal(&rt, read_begun_box(&mut cursor), Some(expected));
-        equal(&rt, cursor.read_count(), 5);
-        let stop = 3 + usize::from(size);
-        equal(
-            &rt,
-            read_range_before(&mut cursor, stop),
-            Some(range(1, -4)),
-        );
+        equal(&rt, flat_fields(&mut cursor), Some(expected));
         equal(&rt, cursor.place(), 7);
         equal(&rt, cursor.read_count(), 7);
+        equal(&rt, read_raw(&mut Cursor::new(&bytes), 1), Ok(expected));
     }
 }
 
-// Numbers of one byte to five, with seven bytes to eleven up to the stop.
-#[test]
-fn ranges_are_passed_as_they_are_read(rt: HostRuntime) {
-    for minimum_more in 0..5usize {
-        for extent_more in 0..5usize {
-            let mut bytes = [0x01; 16];
-            for byte in bytes.iter_mut().take(minimum_more) {
-                *byte = 0x81;
-            }
-            let extent = minimum_more.saturating_add(1);
-            for byte in bytes.iter_mut().skip(extent).take(extent_more) {
-                *byte = 0x81;
-            }
-            let many = extent.saturating_add(extent_more).saturating_add(1);
-            for stop in 7..=11 {
-                passes_a_range(&rt, &bytes, stop, many);
-            }
-        }
+// The header at the place, if it has a size and a box in X and Y, and nothing else.
+fn flat_fields(cursor: &mut Cursor) -> Option<Fields> {
+    let begun = begin_head(cursor, 1)?;
+    if !begun.is_flat_boxed() {
+        return None;
     }
-}
-
-// The range at the front takes so many bytes.
-fn passes_a_range(rt: &impl Abort, bytes: &[u8], stop: usize, many: usize) {
-    let mut reads = Cursor::new(bytes);
-    let mut passes = Cursor::new(bytes);
-    assert!(rt; read_range_before(&mut reads, stop).is_some());
-    equal(rt, pass_range_before(&mut passes, stop), Some(()));
-    equal(rt, [reads.place(), passes.place()], [many, many]);
-    equal(
-        rt,
-        [reads.read_count(), passes.read_count()],
-        [many as u64, many as u64],
-    );
+    take_rest(cursor, begun.announcing(3)).ok()
 }
 
 #[test]
-fn ranges_end_with_the_bytes(rt: HostRuntime) {
-    let bytes = [0x81, 0x81, 0x01, 0x81, 0x01];
-    passes_a_range(&rt, &bytes, 5, 5);
-    for stop in 0..5 {
-        let cut = &bytes[..stop];
-        equal(&rt, read_range_before(&mut Cursor::new(cut), 5), None);
-        equal(&rt, pass_range_before(&mut Cursor::new(cut), 5), None);
+fn headers_have_two_bytes(rt: HostRuntime) {
+    // Cut before and after the first byte, no kind, a collection at the deepest level, and one above it.
+    let table: [(&[u8], u8, bool); 5] = [
+        (&[], 1, false),
+        (&[0x01], 1, false),
+        (&[0x08, 0x00], 1, false),
+        (&[0x07, 0x00], DEEPEST, false),
+        (&[0x07, 0x00], DEEPEST - 1, true),
+    ];
+    for (bytes, depth, begun) in table {
+        let answer = begin_head(&mut Cursor::new(bytes), depth);
+        equal(&rt, (answer.is_some(), bytes), (begun, bytes));
     }
 }
 
 #[test]
-fn no_other_boxes_are_begun(rt: HostRuntime) {
-    // No size, no box, an extended dimensions byte, empty, and a number of 2^62.
+fn other_headers_are_not_flat(rt: HostRuntime) {
+    // No size, no box, an extended dimensions byte, empty.
     let table = [
         [
             0x12, 0x01, 0x02, 0x08, 0x02, 0x07, 0x02, 0x02, 0x02, 0x08, 0x08, 0x00, 0x00, 0x00,
@@ -134,12 +122,9 @@ fn no_other_boxes_are_begun(rt: HostRuntime) {
         [
             0x12, 0x13, 0x04, 0x02, 0x08, 0x02, 0x07, 0x00, 0x00, 0x00, 0x00, 0x00, 0x00, 0x00,
         ],
-        [
-            0x12, 0x03, 0x0B, 0x80, 0x80, 0x80, 0x80, 0x80, 0x80, 0x80, 0x80, 0x80, 0x01, 0x00,
-        ],
     ];
     for bytes in table {
-        equal(&rt, read_begun_box(&mut Cursor::new(&bytes)), None);
+        equal(&rt, flat_fields(&mut Cursor::new(&bytes)), None);
     }
 }
 

@@ -1,4 +1,6 @@
 //! Where a file is malformed at an offset, what stands before that is begun, and no more: cut there, it is cut short.
+//!
+//! This is a part of what `tests/cuts.py` does with all worked files, over the library for other languages.
 use super::depths::deepest;
 use super::equal;
 use super::layers::{BOX_OF_A_MEMBER, EQUAL_IDS_BEFORE_A_SIZE, LONG_COORDINATE, SUM_PAST_64_BITS};
@@ -13,8 +15,8 @@ use std::process::Abort;
 use std::test::Fail;
 use twkb_layer::{Cursor, Refusal, certify};
 
-// The worked files of one blob, and those that are refused.
-const FILES: [&[u8]; 20] = [
+// Files of one blob.
+const BLOBS: [&[u8]; 17] = [
     &PUBLISHED_LINE,
     &BOXED_LINE,
     &COARSE_POINT,
@@ -30,12 +32,12 @@ const FILES: [&[u8]; 20] = [
     &Z_IN_THE_BOX_ALONE,
     &SEVENTEEN_IDS,
     &FALLING_IDS,
-    &MANY_IDS_ANNOUNCED,
-    &LONG_COORDINATE,
-    &SUM_PAST_64_BITS,
     &BOX_OF_A_MEMBER,
     &EQUAL_IDS_BEFORE_A_SIZE,
 ];
+
+// Files that are malformed: in what comes of these alone a varint or a sum passes 64 bits.
+const MALFORMED: [&[u8]; 3] = [&MANY_IDS_ANNOUNCED, &LONG_COORDINATE, &SUM_PAST_64_BITS];
 
 // How many files were tried, how many of them the plain reader calls malformed, how many were cut, by the kind that was
 // named, and how many of these ended with a blob.
@@ -113,6 +115,27 @@ fn judge_variants(
 }
 
 #[test]
+fn a_blob_that_is_cut_is_refused_as_cut(rt: HostRuntime) -> Result<(), Fail> {
+    let deepest = deepest(rt.alloc())?;
+    is_cut_everywhere(&rt, rt.alloc(), &deepest);
+    for &blob in &BLOBS {
+        is_cut_everywhere(&rt, rt.alloc(), blob);
+    }
+    Ok(())
+}
+
+// The bytes cut after each of them but the last are refused as cut, in blob 0.
+fn is_cut_everywhere(rt: &impl Abort, alloc: Global, bytes: &[u8]) {
+    for length in 1..bytes.len() {
+        let front = bytes.get(..length).expect(rt, "the length is in the file");
+        match malformation(certify(alloc, Cursor::new(front)).err()) {
+            Some((blob, _, kind)) => equal(rt, (blob, kind, front), (0, 1, front)),
+            None => panic!(rt; "not refused: {front:?}"),
+        }
+    }
+}
+
+#[test]
 fn what_stands_before_a_malformation_is_cut_short(rt: HostRuntime) -> Result<(), Fail> {
     let mut met = Met {
         tried: 0,
@@ -121,9 +144,11 @@ fn what_stands_before_a_malformation_is_cut_short(rt: HostRuntime) -> Result<(),
         ended: 0,
     };
     let mut variants = 0usize;
-    for &file in &FILES {
-        variants = variants.saturating_add(file.len().saturating_mul(256));
-        judge_variants(&rt, rt.alloc(), file, 255, &mut met)?;
+    for files in [BLOBS.as_slice(), MALFORMED.as_slice()] {
+        for &file in files {
+            variants = variants.saturating_add(file.len().saturating_mul(256));
+            judge_variants(&rt, rt.alloc(), file, 255, &mut met)?;
+        }
     }
     // In the deepest blob a collection may stand too deep. Its bytes are set to the kinds, since there are so many.
     let deepest = deepest(rt.alloc())?;

@@ -127,6 +127,6 @@ fn blobs_behind_those_that_fit_stay_unread(rt: HostRuntime) {
     let before = layer.read_count();
     let mut one = [NOTHING];
     layer.list_into(&mut one);
-    // The line has twelve bytes, of which the seven of its header are read twice.
-    equal(&rt, layer.read_count().saturating_sub(before), 19);
+    // The line has twelve bytes, each of which is read once.
+    equal(&rt, layer.read_count().saturating_sub(before), 12);
 }

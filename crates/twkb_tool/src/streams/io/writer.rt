@@ -1,10 +1,10 @@
-//! A sink over std's `Write`, which tells no bytes.
+//! A sink over std's `Write`, which doesn't state its bytes.
 ghost use Rattle.std.specs.Prelude.{◌≡◌, false};
 
 use crate::streams::{Sink, SinkFailed};
 use std::io::Write;
 
-/// A sink over a writer. An interrupted call, and one that takes no byte of some, is a failure.
+/// A sink over a writer. An interrupted call is a failure, and so is one that takes none of the bytes it is given.
 #[derive(Drop)]
 pub struct ToWriter<W> {
     writer: W,

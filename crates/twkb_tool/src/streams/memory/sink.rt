@@ -9,7 +9,7 @@ use crate::streams::{Sink, SinkFailed};
 use std::alloc::{AllocError, Allocator, Global};
 use std::marker::Model;
 
-/// A sink over memory that was reserved when it was made.
+/// A sink over memory that is reserved when the sink is made.
 #[derive(Drop)]
 pub struct MemSink<A: Allocator> {
     bytes: Vec<u8, A>,
@@ -40,8 +40,8 @@ impl<A: Allocator> Model for MemSink<A> {
 }
 
 impl<A: Allocator> MemSink<A> {
-    /// A sink with room for so many bytes, which takes at most `step` at a call. Calls of `put` and `flush`
-    /// are numbered together from 1; call `fail_at` alone fails, beside a `put` for which no room is left.
+    /// A sink with room for `room` bytes, which takes at most `step` bytes a call. Calls of `put` and `flush` are numbered
+    /// together from 1. Only call `fail_at` fails, and any `put` for which no room is left.
     pub fn new_in(
         alloc: A,
         room: usize,
@@ -69,7 +69,7 @@ impl<A: Allocator> MemSink<A> {
         })
     }
 
-    /// What was put.
+    /// The bytes that were put.
     pub fn bytes(&self) -> &[u8]
         ensures { result.now ≡ self.now.state.bytes }
     {
@@ -78,7 +78,7 @@ impl<A: Allocator> MemSink<A> {
 }
 
 impl MemSink<Global> {
-    /// The same, on the heap.
+    /// [`new_in`](MemSink::new_in) with memory from the heap.
     pub fn new(
         alloc: Global,
         room: usize,

@@ -1,25 +1,20 @@
--- The header says the fields of the row, and the skim behind it the vertices.
-use Rattle.std.proofs.Common.{◌∙◌, arith}
+-- The header says the fields of the row, and the skim the vertices.
+use Rattle.std.proofs.Common.{ap, ◌∙◌, arith}
 use Rattle.std.proofs.lemmas.Int.{to_z-of_z}
-use Rattle.twkb_layer.proofs.Keeping.{stands_still, passed_then, counting_few, row_says}
+use Rattle.twkb_layer.proofs.Keeping.{says_of, skimmed_by, counting_few, row_says}
 use Rattle.twkb_layer.proofs.row.Row.read.Goals as goal
 
 pub overflow_sub-result : goal.overflow_sub-result
 overflow_sub-result c =
-    let g = c.requires.0 in
-    let back = c.header_at-head.ensures.cursor g c.requires.1 in
-    let past = passed_then g c.args.cursor.now _ _ _ c.requires.1 back (counting_few g _ _ _ c.requires.1) (c.skim.ensures.cursor g (stands_still g c.args.cursor.now _ c.requires.1 back)) in
-    omega (arith, c.place-offset.ensures.value, c.place.ensures.value, past.place)
+    let past = c.read_and_skim-raw.ensures.cursor c.requires.0 c.requires.1 in
+    omega (arith, c.place-offset.ensures.value, c.place.ensures.value, ap (λ r. r.place) past)
 
 pub returns-clause-says : goal.returns-clause-says
 returns-clause-says c = λ g at.
-    let back = c.header_at-head.ensures.cursor g at in
-    let again = stands_still g c.args.cursor.now _ at back in
-    let past = passed_then g c.args.cursor.now _ _ _ at back (counting_few g _ _ _ at) (c.skim.ensures.cursor g again) in
-    row_says g c.args.cursor.now c.header_at-head.result c.args.blob _ _ _ _ _ _ _ c.place-offset.ensures.sound.length_fits at (c.header_at-head.ensures.says g at) c.place-offset.ensures.value
-    (c.place.ensures.value ∙ past.place) c.new-summary.ensures (c.vertices.ensures ∙ c.skim.ensures.visitor g again) c.is_some.ensures c.is_some-2.ensures (search to_z-of_z)
+    let past = c.read_and_skim-raw.ensures.cursor g at in
+    let says = says_of g c.args.cursor.now.place c.read_and_skim-raw.result (c.read_and_skim-raw.ensures.header g at) in
+    row_says g c.args.cursor.now c.read_and_skim-raw.result c.args.blob _ _ _ _ _ _ _ c.place-offset.ensures.sound.length_fits at says c.place-offset.ensures.value
+    (c.place.ensures.value ∙ ap (λ r. r.place) past) c.new-summary.ensures (c.vertices.ensures ∙ c.read_and_skim-raw.ensures.visitor g at) c.is_some.ensures c.is_some-2.ensures (search to_z-of_z)
 
 pub returns-clause-passed : goal.returns-clause-passed
-returns-clause-passed c = λ g at.
-    let back = c.header_at-head.ensures.cursor g at in
-    passed_then g c.args.cursor.now _ _ _ at back (counting_few g _ _ _ at) (c.skim.ensures.cursor g (stands_still g c.args.cursor.now _ at back))
+returns-clause-passed c = λ g at. skimmed_by g c.args.cursor.now _ _ (counting_few g _ _ _ at) (c.read_and_skim-raw.ensures.cursor g at)

@@ -1,0 +1,116 @@
+-- Behind the first two bytes of a certified geometry.
+use Rattle.std.proofs.Common.{◌≡◌, ℕ, ◌+◌, ◌%◌, ◌<◌, ◌^◌, Bool, false, cond, Option, Some, None, refl, sym, ap, subst, Ok, Err, arith}
+use Rattle.twkb_num.specs.Cursor.{Reading, passed, IsMoved}
+use Rattle.twkb_head.specs.declared.raw.Fields.{Fields}
+use Rattle.twkb_head.specs.declared.read.Begun.{Begun}
+use Rattle.twkb_head.specs.declared.refusal.Malformed.{Malformed}
+use Rattle.twkb_head.specs.declared.raw.RawRange.{RawRange}
+use Rattle.twkb_head.specs.declared.header.Head.{Head}
+use Rattle.twkb_head.specs.declared.header.SizeField.{SizeField}
+use Rattle.twkb_head.specs.declared.header.BoxField.{BoxField}
+use Rattle.twkb_head.specs.declared.raw.Axes.{Axes}
+use Rattle.twkb_head.specs.declared.kinds.Kind.{Kind}
+use Rattle.twkb_head.specs.declared.kinds.Kind.TheVariants.{Point, LineString, Polygon, MultiPoint, MultiLineString, MultiPolygon, GeometryCollection}
+use Rattle.twkb_head.specs.Header.{has_ids}
+use Rattle.twkb_head.specs.declared.boxes.Bounds.{Bounds}
+use Rattle.twkb_head.specs.Head.{IsHeadAt}
+use Rattle.twkb_head.specs.Raw.{BeginsHead, ReadsHead, head_said, raw_bounds, flat_box, ends_of}
+use Rattle.twkb_head.specs.Devices.Reader.{Answer, number_at}
+use Rattle.twkb_head.specs.Devices.HeadReader.{rest_at, range_from}
+use Rattle.twkb_head.proofs.HeadLaws.{head_ok, head_moved, head_exact}
+use Rattle.twkb_head.proofs.HeadSteps.{begins_goes_on, flat_fields, number_stops, x_stops, y_stops, flat_read, size_said}
+use Rattle.twkb_body.specs.Geometry.{Geometry}
+use Rattle.twkb_body.specs.Devices.Skimmed.{HasCome, HasRead, IsBehind, hop_of, flat_axes, full_head}
+use Rattle.twkb_body.proofs.HeadStands.{header_starts, hop_fits}
+
+-- the same header under another metadata byte, which announces the same
+pub announced_same : (begun other : Begun) (depth m : ℕ) (before now : Reading) → begun.metadata % 32 ≡ m → other ≡ record begun { metadata = m } → BeginsHead begun depth before now → BeginsHead other depth before now
+announced_same begun other depth m before now same is begins = subst (λ (b : Begun). BeginsHead b depth before now) (sym is) (record {
+  type_byte = begins.type_byte;
+  metadata = begins.metadata;
+  bytes = begins.bytes;
+  moved = begins.moved;
+  kind = begins.kind;
+  allowed = begins.allowed;
+  precision = begins.precision;
+  announced = omega (arith, begins.announced, same);
+  start = begins.start;
+})
+
+module _ (begun : Begun) (g : Geometry) (depth : ℕ) (before now new : Reading) (come : HasCome begun now g depth before) where
+  head_there : (head : Head) → rest_at begun.kind begun.xy begun.metadata begun.start now ≡ (Ok head, new) → IsHeadAt head 1 before.place (passed before new) × IsMoved before new
+  head_there head e =
+      let goes = begins_goes_on begun 1 before now come.sound come.begins (Ok head) new e in
+      (head_ok 1 (omega arith) (omega arith) before new come.sound (Ok head) goes, head_moved 1 (omega arith) (omega arith) before new come.sound (Ok head) goes)
+
+  -- the rest of its header is read
+  pub rest_read : (raw : Fields) → ReadsHead 1 before new (Ok raw) → HasRead raw new g depth before
+  rest_read raw (at, moved) = record { stands = come.stands; sound = come.sound; at = at; moved = moved }
+
+  -- and nothing is wrong there
+  rest_stands : (m : Malformed) → rest_at begun.kind begun.xy begun.metadata begun.start now ≡ (Err m, new) → ⊥
+  rest_stands m e = let no = (head_exact 1 (omega arith) (omega arith) before new come.sound (Err m) (begins_goes_on begun 1 before now come.sound come.begins (Err m) new e)).1 (header_starts g depth before come.stands) in cc (no)
+
+  -- its size leads to a place that fits its type
+  size_fits_by : (n : ℕ) (d : Reading) → begun.metadata ≡ 3 → number_at now ≡ (Ok n, d) → (head : Head) → rest_at begun.kind begun.xy begun.metadata begun.start now ≡ (Ok head, new) → d.place + n < 2 ^ 64
+  size_fits_by n d three number head e =
+      let fits = hop_fits g depth before new head come.sound come.stands (head_there head e).0 (head_there head e).1 in
+      rw (size_said begun n now d new head three number e) at fits
+
+-- a geometry with a size and a box in X and Y
+module _ (begun : Begun) (g : Geometry) (depth : ℕ) (before now : Reading) (come : HasCome begun now g depth before) (three : begun.metadata ≡ 3) where
+  pub size_stands : (m : Malformed) (d : Reading) → number_at now ≡ (Err m, d) → ⊥
+  size_stands m d e = rest_stands begun g depth before now d come m (number_stops begun now d m three e)
+
+  pub size_fits : (n : ℕ) (d : Reading) → number_at now ≡ (Ok n, d) → d.place + n < 2 ^ 64
+  size_fits n d number = go (rest_at begun.kind begun.xy begun.metadata begun.start now) refl
+    where
+      go : (a : Answer Head) → rest_at begun.kind begun.xy begun.metadata begun.start now ≡ a → d.place + n < 2 ^ 64
+      go (Ok head, new) e = size_fits_by begun g depth before now new come n d three number head e
+      go (Err m, new) e = absurd (rest_stands begun g depth before now new come m e)
+
+  pub x_stands : (n : ℕ) (d : Reading) → number_at now ≡ (Ok n, d) → (m : Malformed) (e : Reading) → range_from d ≡ (Err m, e) → ⊥
+  x_stands n d number m e x = rest_stands begun g depth before now e come m (x_stops begun n now d e m three number x)
+
+  pub y_stands : (n : ℕ) (d : Reading) → number_at now ≡ (Ok n, d) → (x : RawRange) (e : Reading) → range_from d ≡ (Ok (ends_of x), e) → (m : Malformed) (f : Reading) → range_from e ≡ (Err m, f) → ⊥
+  y_stands n d number x e first m f second = rest_stands begun g depth before now f come m (y_stops begun n (ends_of x) now d e f m three number first second)
+
+  pub box_read : (n : ℕ) (d : Reading) → number_at now ≡ (Ok n, d) → (x y : RawRange) (e f : Reading) → range_from d ≡ (Ok (ends_of x), e) → range_from e ≡ (Ok (ends_of y), f)
+      → HasRead (flat_fields begun (record { value = n; offset = now.place; after = d.place }) x y f.place) f g depth before
+  box_read n d number x y e f first second =
+      let size : SizeField = record { value = n; offset = now.place; after = d.place } in
+      rest_read begun g depth before now f come (flat_fields begun size x y f.place) (head_there begun g depth before now f come (head_said (flat_fields begun size x y f.place)) (flat_read begun size x y now d e f three number refl refl first second))
+
+-- such a geometry is hopped over where its box is skipped, and only there
+pub flat_hop : (passes : Bounds → Bool) (begun : Begun) (size : SizeField) (x y : RawRange) (stop : ℕ) (b : Bool) → passes (raw_bounds begun.xy None None (flat_box x y)) ≡ b
+    → hop_of passes (head_said (flat_fields begun size x y stop)).size (head_said (flat_fields begun size x y stop)).bounds ≡ cond b (Some (size.after + size.value)) None
+flat_hop passes begun size x y stop b e = ap (λ (b : Bool). cond b (Some (size.after + size.value)) None) e
+
+-- it announces no ids
+no_ids : (kind : Kind) → has_ids kind 3 ≡ false
+no_ids Point = refl
+no_ids LineString = refl
+no_ids Polygon = refl
+no_ids MultiPoint = refl
+no_ids MultiLineString = refl
+no_ids MultiPolygon = refl
+no_ids GeometryCollection = refl
+
+-- behind its header, where its box isn't skipped
+pub flat_behind : (passes : Bounds → Bool) (begun : Begun) (g : Geometry) (depth : ℕ) (before now : Reading) (size : SizeField) (x y : RawRange) (axes : Axes)
+    → HasRead (flat_fields begun size x y now.place) now g depth before → axes ≡ flat_axes begun.xy → passes (raw_bounds begun.xy None None (flat_box x y)) ≡ false → IsBehind passes begun.kind axes false now g depth before
+flat_behind passes begun g depth before now size x y axes read is stays =
+    let raw = flat_fields begun size x y now.place in
+    let bounds : Option BoxField = Some (record { bounds = raw_bounds begun.xy None None (flat_box x y); offset = size.after }) in
+    let same : head_said raw ≡ full_head begun.kind axes false (Some size) bounds begun.start now.place = λ j. record (head_said raw) { xy = (sym is j).xy; z = (sym is j).z; m = (sym is j).m; ids = no_ids begun.kind j } in
+    record {
+      size = Some size;
+      bounds = bounds;
+      start = begun.start;
+      stop = now.place;
+      stands = read.stands;
+      sound = read.sound;
+      at = subst (λ (h : Head). IsHeadAt h 1 before.place (passed before now)) same read.at;
+      moved = read.moved;
+      stays = flat_hop passes begun size x y now.place false stays;
+    }

@@ -1,0 +1,58 @@
+-- A certified geometry whose header was read: what that says of it, and where its size leads.
+use Rattle.std.proofs.Common.{◌≡◌, ℕ, ◌+◌, ◌^◌, ◌<◌, ◌≤◌, true, List, Option, Some, None, option_map, ap, sym, ◌∙◌, arith, length}
+use Rattle.twkb_num.specs.Cursor.{Reading, added}
+use Rattle.twkb_head.specs.declared.boxes.Vertex.{Vertex}
+use Rattle.twkb_head.specs.declared.boxes.Bounds.{Bounds}
+use Rattle.twkb_head.specs.declared.header.Head.{Head}
+use Rattle.twkb_head.specs.declared.header.SizeField.{SizeField}
+use Rattle.twkb_head.specs.declared.raw.Fields.{Fields}
+use Rattle.twkb_head.specs.BegunHeader.{deepest}
+use Rattle.twkb_head.specs.Head.{head_of}
+use Rattle.twkb_head.specs.Raw.{head_said}
+use Rattle.twkb_body.specs.Geometry.{Geometry, geometry, lengths_of}
+use Rattle.twkb_body.specs.Standing.{StandsAt, head_standing}
+use Rattle.twkb_body.specs.Visit.{walk}
+use Rattle.twkb_body.specs.Devices.Skimmed.{HasRead}
+use Rattle.twkb_body.proofs.Entering.{size_leads}
+use Rattle.twkb_body.proofs.HeadStands.{has_head}
+use Rattle.twkb_body.proofs.Orders.{blob_order}
+use Rattle.twkb_body.proofs.WalkLengths.{walk_most}
+
+-- what it says
+pub head_stands : (g : Geometry) (depth : ℕ) (before now : Reading) (raw : Fields) → HasRead raw now g depth before → head_said raw ≡ head_standing g before.place
+head_stands (geometry h l ids polygons members) depth before now raw read =
+    let hd = has_head h l ids polygons members depth before now (head_said raw) read.stands read.at read.moved in
+    hd.head_is ∙ ap (head_of h before.place (before.place + l.before) (before.place + l.before + l.size)) hd.far
+
+-- where its size leads: to its end, behind the header
+pub record IsSizedEnd (g : Geometry) (before now : Reading) (size : SizeField) : Type 0 where
+  pub stop : size.after + size.value ≡ before.place + (lengths_of g).whole
+  pub within : before.place + (lengths_of g).whole ≤ length now.bytes
+  pub fits : size.after + size.value < 2 ^ 64
+  pub read : ℕ
+  pub few : read ≤ (lengths_of g).whole
+  pub count : now.count ≡ added before.count read
+
+sized : (n : Option ℕ) (offset after : ℕ) (size : SizeField) → option_map (λ value. record { value = value; offset = offset; after = after }) n ≡ Some size → (n ≡ Some size.value) × (after ≡ size.after)
+sized None offset after size e = absurd (cc (e))
+sized (Some n) offset after size e =
+    let same : ◌≡◌ {A = SizeField} (record { value = n; offset = offset; after = after }) size = cc (e) in
+    (ap (λ (s : SizeField). Some s.value) same, ap (λ (s : SizeField). s.after) same)
+
+pub sized_end : (g : Geometry) (depth : ℕ) (before now : Reading) (raw : Fields) (size : SizeField) → HasRead raw now g depth before → raw.size ≡ Some size → IsSizedEnd g before now size
+sized_end (geometry h l ids polygons members) depth before now raw size read is =
+    let hd = has_head h l ids polygons members depth before now (head_said raw) read.stands read.at read.moved in
+    let s = sized h.size (before.place + l.before) (before.place + l.before + l.size) size (ap (λ (x : Head). x.size) (sym hd.head_is) ∙ is) in
+    let leads = size_leads h l ids polygons members depth before.bytes before.place size.value read.stands s.0 in
+    record {
+      stop = omega (arith, leads.0, s.1);
+      within = omega (arith, leads.1, ap length read.moved.bytes);
+      fits = omega (arith, leads.0, leads.1, s.1, read.sound.length_fits);
+      read = l.header;
+      few = omega (arith, hd.whole);
+      count = read.moved.count ∙ ap (added before.count) (omega (arith, hd.far));
+    }
+
+-- a visitor that has nothing to see reads no more than the geometry
+pub passing_few : (g : Geometry) (bytes : List ℕ) (place : ℕ) → StandsAt g 1 bytes place → walk g (Unit {0}) (λ (s : Unit {0}) (v : Vertex). s) (λ (s : Unit {0}) (b : Bounds). true) tt ≤ (lengths_of g).whole
+passing_few g bytes place at = walk_most (Unit {0}) (λ s v. s) (λ s b. true) g tt (blob_order deepest g at.front 1 at.blob).1

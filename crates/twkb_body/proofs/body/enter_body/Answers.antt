@@ -1,0 +1,42 @@
+-- The body is read whole, or opened.
+use Rattle.std.proofs.Common.{◌≡◌, ℤ, None, Ok, refl, sym, subst, arith}
+use Rattle.std.proofs.lemmas.Int.{ints}
+use mir.Val.{to_z, of_z}
+use Rattle.std.specs.Int.{w8}
+use Rattle.twkb_num.specs.Cursor.{Reading}
+use Rattle.twkb_body.specs.Devices.Body.{Body}
+use Rattle.twkb_body.specs.Devices.Inside.{shape_behind, shown_all}
+use Rattle.twkb_head.proofs.Readings.{no_failure}
+use Rattle.twkb_body.specs.Devices.Skimmed.{full_head}
+use Rattle.twkb_body.proofs.HeadStands.{shape_stands, list_stands, enter_shape, enter_list}
+use Rattle.twkb_body.proofs.body.enter_body.Goals as goal
+
+pub unreachable-requires : goal.unreachable-requires
+unreachable-requires g c =
+    let b = c.requires.behind in
+    let h = full_head c.args.kind c.args.axes c.args.ids b.3.size b.3.bounds b.3.start b.3.stop in
+    let t = list_stands b.0 b.1 b.2 _ h b.3.sound b.3.stands b.3.at b.3.moved refl (sym c.if-is_collection.ensures) in
+    no_failure _ t.0 t.1 _ c.in_default.field-0 t.2 c.in_default.ensures
+
+pub returns-then-is_collection : goal.returns-then-is_collection
+returns-then-is_collection g c = λ t depth before b.
+    let h = full_head c.args.kind c.args.axes c.args.ids b.size b.bounds b.start b.stop in
+    let list = c.in-Ok.ensures in
+    enter_list g.V.Visit.step g.V.Visit.passes _ t depth before _ _ h list.0 _ b.sound b.stands b.at b.moved b.stays refl (sym c.if-is_collection.ensures) list.1 list.2
+
+pub visit_shape-requires-clause-stands : goal.visit_shape-requires-clause-stands
+visit_shape-requires-clause-stands g c =
+    let b = c.requires.behind in
+    let h = full_head c.args.kind c.args.axes c.args.ids b.3.size b.3.bounds b.3.start b.3.stop in
+    let fits : to_z w8 (of_z w8 c.args.axes.xy) ≡ c.args.axes.xy = omega (arith, ints) in
+    let t = shape_stands b.0 b.1 b.2 c.args.cursor.now h b.3.sound b.3.stands b.3.at b.3.moved refl (sym c.if-is_collection.ensures) in
+    subst (λ (x : ℤ). (body : Body) × (stop : Reading) × (shape_behind (full_head c.args.kind (record c.args.axes { xy = x }) c.args.ids None None 0 0) c.args.cursor.now ≡ (Ok body, stop))) (sym fits) t
+
+pub returns : goal.returns
+returns g c = λ t depth before b.
+    let h = full_head c.args.kind c.args.axes c.args.ids b.size b.bounds b.start b.stop in
+    let fits : to_z w8 (of_z w8 c.args.axes.xy) ≡ c.args.axes.xy = omega (arith, ints) in
+    enter_shape g.V.Visit.step g.V.Visit.passes _ t depth before _ _ h _ b.sound b.stands b.at b.moved b.stays refl (sym c.if-is_collection.ensures)
+    (subst (λ (x : ℤ). (body : Body) (stop : Reading) → shape_behind (full_head c.args.kind (record c.args.axes { xy = x }) c.args.ids None None 0 0) c.args.cursor.now ≡ (Ok body, stop)
+    → (c.visit_shape.new.cursor ≡ stop) × (g.V.Visit.state c.visit_shape.new.visitor ≡ shown_all g.V.Visit.step (full_head c.args.kind (record c.args.axes { xy = x }) c.args.ids None None 0 0) body (g.V.Visit.state c.args.visitor.now))) fits
+    (λ body stop e. (c.visit_shape.ensures.cursor body stop e, c.visit_shape.ensures.visitor body stop e)))

@@ -1,0 +1,12 @@
+-- Both ranges are near, and zeros are.
+use Rattle.std.proofs.Common.{pos, subst, sym, arith}
+use Rattle.std.proofs.lemmas.Int.{ints}
+use Rattle.twkb_head.specs.Raw.{IsNear, HasNearRanges}
+use Rattle.twkb_body.proofs.step.skips_flat.Goals as goal
+
+none_near : IsNear (record { minimum = pos 0; extent = pos 0 })
+none_near = record { low = omega (arith, ints); high = omega (arith, ints); least = omega (arith, ints); greatest = omega (arith, ints) }
+
+pub skips_raw-requires-clause-near : goal.skips_raw-requires-clause-near
+skips_raw-requires-clause-near g c =
+    subst HasNearRanges (sym c.flat-then-near.ensures) (record { x = c.requires.x_near c.if-near.true; y = c.requires.y_near c.if-near.true; third = none_near; fourth = none_near })

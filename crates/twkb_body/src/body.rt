@@ -1,0 +1,137 @@
+//! The body of a certified geometry that a step of a skim doesn't hop over: its points are shown, or its list of members is
+//! opened.
+ghost use Rattle.std.specs.Prelude.{◌≡◌, None};
+ghost use Rattle.twkb_head.specs.declared.kinds.Kind.TheVariants.{Point, LineString};
+ghost use Rattle.twkb_num.specs.Units.{IsPrecision};
+ghost use Rattle.twkb_body.specs.Geometry.{HavePrecisions};
+ghost use Rattle.twkb_body.specs.Devices.Skimmed.{IsBehind, IsThere, Enters, flat_axes};
+
+use crate::lists::pass_list;
+use crate::shape::visit_shape;
+use crate::visit::Visit;
+use twkb_head::{Axes, Head, Kind};
+use twkb_num::Cursor;
+
+/// Enters the body of a point of X and Y alone: both numbers are taken from one word of eight bytes where they are short.
+#[inline(always)]
+pub fn enter_point<V: Visit>(cursor: &mut Cursor, axes: Axes, ids: bool, visitor: &mut V) -> u64
+    requires axes { HavePrecisions axes }
+    requires z { axes.z ≡ None }
+    requires m { axes.m ≡ None }
+    requires behind { IsThere (IsBehind (V.passes (V.state visitor.old)) Point axes ids cursor.old) }
+    ensures { Enters V.step V.passes (IsBehind (V.passes (V.state visitor.old)) Point axes ids cursor.old)
+        (V.state visitor.old) (V.state visitor.new) cursor.new result }
+{
+    match cursor.svarint_pair() {
+        Some((x, y)) => {
+            visitor.add_raw(axes, &[x, y, 0, 0]);
+            0
+        }
+        None => enter_deep_body(cursor, Kind::Point, axes, ids, visitor),
+    }
+}
+
+/// Enters a body of X and Y alone.
+#[inline(always)]
+pub fn enter_flat<V: Visit>(
+    cursor: &mut Cursor,
+    kind: Kind,
+    axes: Axes,
+    ids: bool,
+    visitor: &mut V,
+) -> u64
+    requires axes { HavePrecisions axes }
+    requires z { axes.z ≡ None }
+    requires m { axes.m ≡ None }
+    requires behind { IsThere (IsBehind (V.passes (V.state visitor.old)) kind axes ids cursor.old) }
+    ensures { Enters V.step V.passes (IsBehind (V.passes (V.state visitor.old)) kind axes ids cursor.old)
+        (V.state visitor.old) (V.state visitor.new) cursor.new result }
+{
+    match kind {
+        Kind::LineString => enter_line(cursor, axes.xy, ids, visitor),
+        _ => enter_flat_body(cursor, kind, axes.xy, ids, visitor),
+    }
+}
+
+// The functions that aren't inlined are copies of one, each for the kinds and axes that the compiler knows there.
+
+/// Enters a line of X and Y alone.
+#[inline(never)]
+fn enter_line<V: Visit>(cursor: &mut Cursor, xy: i8, ids: bool, visitor: &mut V) -> u64
+    requires xy { IsPrecision xy }
+    requires behind { IsThere (IsBehind (V.passes (V.state visitor.old)) LineString (flat_axes xy) ids cursor.old) }
+    ensures { Enters V.step V.passes (IsBehind (V.passes (V.state visitor.old)) LineString (flat_axes xy) ids cursor.old)
+        (V.state visitor.old) (V.state visitor.new) cursor.new result }
+{
+    enter_body(cursor, Kind::LineString, Axes::flat(xy), ids, visitor)
+}
+
+/// Enters a body of another kind, of X and Y alone.
+#[inline(never)]
+fn enter_flat_body<V: Visit>(
+    cursor: &mut Cursor,
+    kind: Kind,
+    xy: i8,
+    ids: bool,
+    visitor: &mut V,
+) -> u64
+    requires xy { IsPrecision xy }
+    requires behind { IsThere (IsBehind (V.passes (V.state visitor.old)) kind (flat_axes xy) ids cursor.old) }
+    ensures { Enters V.step V.passes (IsBehind (V.passes (V.state visitor.old)) kind (flat_axes xy) ids cursor.old)
+        (V.state visitor.old) (V.state visitor.new) cursor.new result }
+{
+    enter_body(cursor, kind, Axes::flat(xy), ids, visitor)
+}
+
+/// Enters a body of any axes.
+#[inline(never)]
+pub fn enter_deep_body<V: Visit>(
+    cursor: &mut Cursor,
+    kind: Kind,
+    axes: Axes,
+    ids: bool,
+    visitor: &mut V,
+) -> u64
+    requires axes { HavePrecisions axes }
+    requires behind { IsThere (IsBehind (V.passes (V.state visitor.old)) kind axes ids cursor.old) }
+    ensures { Enters V.step V.passes (IsBehind (V.passes (V.state visitor.old)) kind axes ids cursor.old)
+        (V.state visitor.old) (V.state visitor.new) cursor.new result }
+{
+    enter_body(cursor, kind, axes, ids, visitor)
+}
+
+/// Enters the body of a geometry that isn't empty: shows its points, or opens its list of members.
+#[inline(always)]
+fn enter_body<V: Visit>(
+    cursor: &mut Cursor,
+    kind: Kind,
+    axes: Axes,
+    ids: bool,
+    visitor: &mut V,
+) -> u64
+    requires axes { HavePrecisions axes }
+    requires behind { IsThere (IsBehind (V.passes (V.state visitor.old)) kind axes ids cursor.old) }
+    ensures { Enters V.step V.passes (IsBehind (V.passes (V.state visitor.old)) kind axes ids cursor.old)
+        (V.state visitor.old) (V.state visitor.new) cursor.new result }
+{
+    let head = Head {
+        kind,
+        xy: axes.xy,
+        z: axes.z,
+        m: axes.m,
+        size: None,
+        bounds: None,
+        ids,
+        empty: false,
+        start: 0,
+        stop: 0,
+    };
+    if kind.is_collection() {
+        let Ok(count) = pass_list(cursor, ids) else {
+            unreachable!()
+        };
+        return count;
+    }
+    visit_shape(cursor, &head, visitor);
+    0
+}

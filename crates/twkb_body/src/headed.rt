@@ -1,0 +1,110 @@
+//! Certified blobs whose headers are handed back: each header is read once.
+ghost use Rattle.std.specs.Prelude.{◌≡◌, ℕ, ◌+◌, ◌≤◌, fold};
+ghost use Rattle.twkb_num.specs.Cursor.{Reading, added};
+ghost use Rattle.twkb_num.specs.Units.{IsPrecision};
+ghost use Rattle.twkb_head.specs.Raw.{head_said};
+ghost use Rattle.twkb_body.specs.Geometry.{Geometry, HavePrecisions, lengths_of, vertices};
+ghost use Rattle.twkb_body.specs.Standing.{StandsAt, head_standing};
+ghost use Rattle.twkb_body.specs.Devices.Skimmed.{HasCome, HasRead, skimmed};
+ghost use Rattle.twkb_body.specs.Visit.{walk};
+
+use crate::passer::Passer;
+use crate::skimming::skim_members;
+use crate::step::enter_headed;
+use crate::visit::Visit;
+use twkb_head::{Begun, Fields, begin_head, take_rest};
+use twkb_num::Cursor;
+
+/// Shows the vertices of the certified blob at the place to a visitor, as [`skim`](crate::skim) does, and answers its header.
+#[inline(always)]
+pub fn read_and_skim<V: Visit>(cursor: &mut Cursor, visitor: &mut V) -> Fields
+    requires { (g : Geometry) × StandsAt g 1 cursor.old.bytes cursor.old.place }
+    ensures header { (g : Geometry) → StandsAt g 1 cursor.old.bytes cursor.old.place
+        → head_said result ≡ head_standing g cursor.old.place }
+    ensures axes { HavePrecisions result.axes }
+    ensures cursor { (g : Geometry) → StandsAt g 1 cursor.old.bytes cursor.old.place → cursor.new ≡ record {
+      bytes = cursor.old.bytes;
+      place = cursor.old.place + (lengths_of g).whole;
+      count = added cursor.old.count (walk g V.State V.step V.passes (V.state visitor.old));
+    } }
+    ensures visitor { (g : Geometry) → StandsAt g 1 cursor.old.bytes cursor.old.place
+        → V.state visitor.new ≡ fold V.step (V.state visitor.old) (vertices g) }
+{
+    let raw = take_header(cursor);
+    skim_behind(cursor, raw, visitor);
+    raw
+}
+
+/// Moves past the certified blob at the place, and answers its header. A blob with a size is passed by that, any other by the
+/// ends of its numbers and the sizes and boxes of its members. No byte is counted twice.
+#[inline(always)]
+pub fn read_and_pass(cursor: &mut Cursor) -> Fields
+    requires { (g : Geometry) × StandsAt g 1 cursor.old.bytes cursor.old.place }
+    ensures header { (g : Geometry) → StandsAt g 1 cursor.old.bytes cursor.old.place
+        → head_said result ≡ head_standing g cursor.old.place }
+    ensures axes { HavePrecisions result.axes }
+    ensures bytes { cursor.new.bytes ≡ cursor.old.bytes }
+    ensures place { (g : Geometry) → StandsAt g 1 cursor.old.bytes cursor.old.place
+        → cursor.new.place ≡ cursor.old.place + (lengths_of g).whole }
+    ensures count { (g : Geometry) → StandsAt g 1 cursor.old.bytes cursor.old.place
+        → (read : ℕ) × (read ≤ (lengths_of g).whole) × (cursor.new.count ≡ added cursor.old.count read) }
+{
+    let raw = take_header(cursor);
+    match raw.size {
+        Some(size) => cursor.go_to(size.after + size.value as usize),
+        None => skim_behind(cursor, raw, &mut Passer),
+    }
+    raw
+}
+
+/// The header at the place of a certified blob.
+#[inline(always)]
+fn take_header(cursor: &mut Cursor) -> Fields
+    requires { (g : Geometry) × StandsAt g 1 cursor.old.bytes cursor.old.place }
+    ensures read { (g : Geometry) → StandsAt g 1 cursor.old.bytes cursor.old.place
+        → HasRead result cursor.new g 1 cursor.old }
+    ensures axes { HavePrecisions result.axes }
+{
+    cursor.place_is_within();
+    let Some(begun) = begin_head(cursor, 1) else {
+        unreachable!()
+    };
+    // Most headers are of these two kinds: here the compiler knows which fields there are.
+    if begun.is_flat_boxed() {
+        return finish_header(cursor, begun.announcing(3));
+    }
+    if begun.is_sized_point() {
+        return finish_header(cursor, begun.announcing(2));
+    }
+    finish_header(cursor, begun)
+}
+
+/// The header whose first two bytes were read.
+#[inline(always)]
+fn finish_header(cursor: &mut Cursor, begun: Begun) -> Fields
+    requires xy { IsPrecision begun.xy }
+    requires come { (g : Geometry) × (before : Reading) × HasCome begun cursor.old g 1 before }
+    ensures read { (g : Geometry) (before : Reading) → HasCome begun cursor.old g 1 before
+        → HasRead result cursor.new g 1 before }
+    ensures axes { HavePrecisions result.axes }
+{
+    let Ok(raw) = take_rest(cursor, begun) else {
+        unreachable!()
+    };
+    raw
+}
+
+/// The rest of a blob behind its header.
+#[inline(always)]
+fn skim_behind<V: Visit>(cursor: &mut Cursor, raw: Fields, visitor: &mut V)
+    requires axes { HavePrecisions raw.axes }
+    requires read { (g : Geometry) × (before : Reading) × HasRead raw cursor.old g 1 before }
+    ensures { (g : Geometry) (before : Reading) → HasRead raw cursor.old g 1 before →
+        record { reading = cursor.new; state = V.state visitor.new }
+        ≡ skimmed V.step V.passes g (record { reading = before; state = V.state visitor.old }) }
+{
+    let members = enter_headed(cursor, raw, visitor);
+    if members > 0 {
+        skim_members(cursor, visitor, members);
+    }
+}

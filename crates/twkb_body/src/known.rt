@@ -1,0 +1,57 @@
+//! Ranges of a box that are known to stand at the place.
+ghost use Rattle.std.specs.Prelude.{◌≡◌, ◌≢◌, ◌+ℤ◌, Ok, Err, true};
+ghost use Rattle.twkb_num.specs.Cursor.{Reading};
+ghost use Rattle.twkb_head.specs.Raw.{ends_of, IsNear};
+ghost use Rattle.twkb_head.specs.declared.raw.RawRange.{RawRange};
+ghost use Rattle.twkb_head.specs.declared.refusal.Malformed.{Malformed};
+ghost use Rattle.twkb_head.specs.Devices.HeadReader.{range_from};
+
+use crate::fields::take_signed;
+use twkb_head::RawRange;
+use twkb_num::Cursor;
+
+/// Reads minimum and extent of an axis, and says whether both are known to be near zero.
+// Numbers of at most four bytes are. So the compiler knows it where they are read from one word.
+#[inline(always)]
+pub fn known_range(cursor: &mut Cursor) -> (RawRange, bool)
+    requires { (m : Malformed) (new : Reading) → range_from cursor.old ≢ (Err m, new) }
+    ensures read { range_from cursor.old ≡ (Ok (ends_of result.0), cursor.new) }
+    ensures near { result.1 ≡ true → IsNear result.0 }
+{
+    match cursor.svarint_mixed_pair() {
+        Some((minimum, extent)) => (RawRange { minimum, extent }, true),
+        None => {
+            let range = slow_range(cursor);
+            (range, range.is_near())
+        }
+    }
+}
+
+/// Moves past minimum and extent of an axis: by their ends, where both show in the next eight bytes.
+#[inline(always)]
+pub fn pass_range(cursor: &mut Cursor)
+    requires { (m : Malformed) (new : Reading) → range_from cursor.old ≢ (Err m, new) }
+    ensures { (range : RawRange) × (range_from cursor.old ≡ (Ok (ends_of range), cursor.new)) }
+{
+    match cursor.pass_pair() {
+        Some(()) => {}
+        None => {
+            slow_range(cursor);
+        }
+    }
+}
+
+/// Reads minimum and extent of an axis, one number after the other.
+#[inline(never)]
+fn slow_range(cursor: &mut Cursor) -> RawRange
+    requires { (m : Malformed) (new : Reading) → range_from cursor.old ≢ (Err m, new) }
+    ensures { range_from cursor.old ≡ (Ok (ends_of result), cursor.new) }
+{
+    let Ok(minimum) = take_signed(cursor) else {
+        unreachable!()
+    };
+    let Ok(extent) = take_signed(cursor) else {
+        unreachable!()
+    };
+    RawRange { minimum, extent }
+}

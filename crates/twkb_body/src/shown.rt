@@ -1,0 +1,190 @@
+//! The parts of a body that is known to stand at the place, shown to a visitor: point by point up to where it is settled, and
+//! from there on passed by the ends of their numbers.
+//!
+//! `lost` says that the trail isn't kept up any more. That is so after points were passed, which only happens where no point
+//! can change the visitor's state.
+ghost use Rattle.std.specs.Prelude.{◌≡◌, ◌<◌, ◌≤◌, [], ◌∷◌, List, Ok, flat_map};
+ghost use Rattle.twkb_num.specs.Cursor.{Reading};
+ghost use Rattle.twkb_head.specs.Devices.Reader.{many_at};
+ghost use Rattle.twkb_body.specs.Devices.Body.{add, ring_sums};
+ghost use Rattle.twkb_body.specs.Devices.BodyReader.{point_at, ring_at, polygon_at, part_at};
+ghost use Rattle.twkb_body.specs.Devices.Inside.{of_head};
+ghost use Rattle.twkb_body.specs.Devices.Walk.{IsWalk, IsRun, IsStill, HasPrecisions, StandsThere, ShowsIt, shown};
+ghost use Rattle.twkb_body.specs.Geometry.{PointValue, Ring, PolygonValue, points_of};
+ghost use Rattle.twkb_head.specs.Header.{axes_with};
+
+use crate::fields::take_number;
+use crate::points::Points;
+use crate::settled::pass_known;
+use crate::trail::{Trail, take_point};
+use crate::visit::Visit;
+use twkb_head::{Head, Kind};
+use twkb_num::Cursor;
+
+/// Shows `count` points, or fewer where the visitor is settled before. It answers how many it showed.
+#[inline(always)]
+fn show_some<V: Visit>(
+    cursor: &mut Cursor,
+    head: &Head,
+    axes: usize,
+    count: u64,
+    trail: &mut Trail,
+    visitor: &mut V,
+) -> u64
+    requires walk { IsWalk head.now axes trail.old cursor.old }
+    requires known { (points : List PointValue) × (stop : Reading)
+        × (many_at count add (point_at axes) trail.old.last cursor.old ≡ (Ok points, stop)) }
+    ensures few { result ≤ count }
+    ensures run { IsRun (shown V.step (of_head head.now)) axes trail.old trail.new
+        (V.state visitor.old) (V.state visitor.new) cursor.old cursor.new result }
+    ensures still { result < count → IsStill (shown V.step (of_head head.now)) (V.state visitor.new) }
+{
+    let mut done = 0;
+    while done < count && !visitor.is_settled() {
+        let run = visitor.take_run(cursor, head, axes, count - done, trail);
+        done += run;
+        if run == 0 {
+            let Ok(()) = take_point(cursor, head, axes, trail, visitor) else {
+                unreachable!()
+            };
+            done += 1;
+        }
+    }
+    done
+}
+
+/// Shows `count` parts.
+#[inline(always)]
+pub fn show_parts<V: Visit>(
+    cursor: &mut Cursor,
+    head: &Head,
+    axes: usize,
+    count: u64,
+    lost: &mut bool,
+    trail: &mut Trail,
+    visitor: &mut V,
+)
+    requires precisions { HasPrecisions head.now }
+    requires axes { axes ≡ axes_with head.now.z head.now.m }
+    requires known { StandsThere (many_at count ring_sums (part_at head.now.kind axes)) (shown V.step (of_head head.now))
+        lost.old trail.old (V.state visitor.old) cursor.old }
+    ensures { ShowsIt (many_at count ring_sums (part_at head.now.kind axes)) (points_of) (shown V.step (of_head head.now)) axes
+        lost.old lost.new trail.old trail.new (V.state visitor.old) (V.state visitor.new) cursor.old cursor.new }
+{
+    for _ in 0..count {
+        show_part(cursor, head, axes, lost, trail, visitor);
+    }
+}
+
+/// Shows one part: a point, a line or a polygon, by the kind.
+#[inline(always)]
+fn show_part<V: Visit>(
+    cursor: &mut Cursor,
+    head: &Head,
+    axes: usize,
+    lost: &mut bool,
+    trail: &mut Trail,
+    visitor: &mut V,
+)
+    requires precisions { HasPrecisions head.now }
+    requires axes { axes ≡ axes_with head.now.z head.now.m }
+    requires known { StandsThere (part_at head.now.kind axes) (shown V.step (of_head head.now))
+        lost.old trail.old (V.state visitor.old) cursor.old }
+    ensures { ShowsIt (part_at head.now.kind axes) (λ part. flat_map (λ ring. ring) part) (shown V.step (of_head head.now)) axes
+        lost.old lost.new trail.old trail.new (V.state visitor.old) (V.state visitor.new) cursor.old cursor.new }
+{
+    match head.kind {
+        Kind::Point | Kind::MultiPoint => show_point(cursor, head, axes, lost, trail, visitor),
+        Kind::LineString | Kind::MultiLineString => {
+            show_ring(cursor, head, axes, lost, trail, visitor)
+        }
+        Kind::Polygon | Kind::MultiPolygon => {
+            show_polygon(cursor, head, axes, lost, trail, visitor)
+        }
+        Kind::GeometryCollection => {}
+    }
+}
+
+/// Shows the rings of a polygon.
+#[inline(always)]
+fn show_polygon<V: Visit>(
+    cursor: &mut Cursor,
+    head: &Head,
+    axes: usize,
+    lost: &mut bool,
+    trail: &mut Trail,
+    visitor: &mut V,
+)
+    requires precisions { HasPrecisions head.now }
+    requires axes { axes ≡ axes_with head.now.z head.now.m }
+    requires known { StandsThere (polygon_at axes) (shown V.step (of_head head.now))
+        lost.old trail.old (V.state visitor.old) cursor.old }
+    ensures { ShowsIt (polygon_at axes) (λ polygon. flat_map (λ ring. ring) polygon) (shown V.step (of_head head.now)) axes
+        lost.old lost.new trail.old trail.new (V.state visitor.old) (V.state visitor.new) cursor.old cursor.new }
+{
+    let Ok(count) = take_number(cursor) else {
+        unreachable!()
+    };
+    for _ in 0..count {
+        show_ring(cursor, head, axes, lost, trail, visitor);
+    }
+}
+
+/// Shows the points of a ring or of a line.
+#[inline(always)]
+fn show_ring<V: Visit>(
+    cursor: &mut Cursor,
+    head: &Head,
+    axes: usize,
+    lost: &mut bool,
+    trail: &mut Trail,
+    visitor: &mut V,
+)
+    requires precisions { HasPrecisions head.now }
+    requires axes { axes ≡ axes_with head.now.z head.now.m }
+    requires known { StandsThere (ring_at axes) (shown V.step (of_head head.now))
+        lost.old trail.old (V.state visitor.old) cursor.old }
+    ensures { ShowsIt (ring_at axes) (λ ring. ring) (shown V.step (of_head head.now)) axes
+        lost.old lost.new trail.old trail.new (V.state visitor.old) (V.state visitor.new) cursor.old cursor.new }
+{
+    let Ok(count) = take_number(cursor) else {
+        unreachable!()
+    };
+    if *lost {
+        return pass_known(cursor, axes, count);
+    }
+    let done = show_some(cursor, head, axes, count, trail, visitor);
+    if done < count {
+        *lost = true;
+        pass_known(cursor, axes, count - done);
+    }
+}
+
+/// Shows one point.
+#[inline(always)]
+fn show_point<V: Visit>(
+    cursor: &mut Cursor,
+    head: &Head,
+    axes: usize,
+    lost: &mut bool,
+    trail: &mut Trail,
+    visitor: &mut V,
+)
+    requires precisions { HasPrecisions head.now }
+    requires axes { axes ≡ axes_with head.now.z head.now.m }
+    requires known { StandsThere (point_at axes) (shown V.step (of_head head.now))
+        lost.old trail.old (V.state visitor.old) cursor.old }
+    ensures { ShowsIt (point_at axes) (λ point. point ∷ []) (shown V.step (of_head head.now)) axes
+        lost.old lost.new trail.old trail.new (V.state visitor.old) (V.state visitor.new) cursor.old cursor.new }
+{
+    if *lost {
+        return pass_known(cursor, axes, 1);
+    }
+    if visitor.is_settled() {
+        *lost = true;
+        return pass_known(cursor, axes, 1);
+    }
+    let Ok(()) = take_point(cursor, head, axes, trail, visitor) else {
+        unreachable!()
+    };
+}

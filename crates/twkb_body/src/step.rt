@@ -1,0 +1,185 @@
+//! One step of a skim: past the header of a certified geometry, which is then hopped over, read whole or opened.
+ghost use Rattle.std.specs.Prelude.{◌≡◌, ℕ, ◌+◌, ◌<◌, ◌^◌, true, None, IfSome};
+ghost use Rattle.twkb_num.specs.Units.{IsPrecision};
+ghost use Rattle.twkb_body.specs.Geometry.{Geometry, HavePrecisions};
+ghost use Rattle.twkb_body.specs.Devices.Skimmed.{hop_of, Entered, HasCome, HasRead, IsThere, Enters};
+ghost use Rattle.twkb_head.specs.Raw.{head_said, flat_box, raw_bounds, IsNear};
+ghost use Rattle.twkb_body.specs.Standing.{StandsAt};
+
+use crate::body::{enter_deep_body, enter_flat, enter_point};
+use crate::fields::take_number;
+use crate::known::{known_range, pass_range};
+use crate::visit::Visit;
+use twkb_head::{Axes, Begun, Fields, Kind, RawBox, RawRange, begin_head, take_rest};
+use twkb_num::Cursor;
+
+/// Reads a header and then the points after it, or the list of members up to the first, or jumps over all of them. It answers
+/// how many members follow.
+#[inline(always)]
+pub fn enter<V: Visit>(cursor: &mut Cursor, visitor: &mut V) -> u64
+    requires { (g : Geometry) × (depth : ℕ) × StandsAt g depth cursor.old.bytes cursor.old.place }
+    ensures { (g : Geometry) (depth : ℕ) → StandsAt g depth cursor.old.bytes cursor.old.place →
+        Entered V.step V.passes g depth (record { reading = cursor.old; state = V.state visitor.old })
+        (record { reading = cursor.new; state = V.state visitor.new }) result }
+{
+    cursor.place_is_within();
+    // A certified geometry stands at a depth where it may, so a header that may stand at depth 1 is all that is asked.
+    let Some(begun) = begin_head(cursor, 1) else {
+        unreachable!()
+    };
+    // In these two branches the compiler knows which fields there are. Most boxes and most points go through them.
+    if begun.is_flat_boxed() {
+        return enter_boxed(cursor, begun.announcing(3), visitor);
+    }
+    if begun.is_sized_point() {
+        return enter_begun(cursor, begun.announcing(2), visitor);
+    }
+    enter_apart(
+        cursor,
+        begun.kind,
+        begun.xy,
+        begun.metadata,
+        begun.start,
+        visitor,
+    )
+}
+
+/// Enters a geometry whose header begins with these fields.
+// It isn't inlined, and takes no struct, so that a step which hops writes none to memory.
+#[inline(never)]
+fn enter_apart<V: Visit>(
+    cursor: &mut Cursor,
+    kind: Kind,
+    xy: i8,
+    metadata: u8,
+    start: usize,
+    visitor: &mut V,
+) -> u64
+    requires xy { IsPrecision xy }
+    requires come { IsThere (HasCome (record { kind = kind; xy = xy; metadata = metadata; start = start }) cursor.old) }
+    ensures { Enters V.step V.passes (HasCome (record { kind = kind; xy = xy; metadata = metadata; start = start }) cursor.old)
+        (V.state visitor.old) (V.state visitor.new) cursor.new result }
+{
+    let begun = Begun {
+        kind,
+        xy,
+        metadata,
+        start,
+    };
+    enter_begun(cursor, begun, visitor)
+}
+
+/// Enters a geometry whose first two bytes were read.
+#[inline(always)]
+fn enter_begun<V: Visit>(cursor: &mut Cursor, begun: Begun, visitor: &mut V) -> u64
+    requires xy { IsPrecision begun.xy }
+    requires come { IsThere (HasCome begun cursor.old) }
+    ensures { Enters V.step V.passes (HasCome begun cursor.old) (V.state visitor.old) (V.state visitor.new) cursor.new result }
+{
+    let Ok(raw) = take_rest(cursor, begun) else {
+        unreachable!()
+    };
+    enter_headed(cursor, raw, visitor)
+}
+
+/// Enters a geometry whose header was read.
+#[inline(always)]
+pub fn enter_headed<V: Visit>(cursor: &mut Cursor, raw: Fields, visitor: &mut V) -> u64
+    requires axes { HavePrecisions raw.axes }
+    requires come { IsThere (HasRead raw cursor.old) }
+    ensures { Enters V.step V.passes (HasRead raw cursor.old) (V.state visitor.old) (V.state visitor.new) cursor.new result }
+{
+    if let Some(stop) = hop(&raw, visitor) {
+        cursor.go_to(stop);
+        return 0;
+    }
+    if raw.empty {
+        return 0;
+    }
+    if raw.is_flat_point() {
+        return enter_point(cursor, raw.axes, raw.ids, visitor);
+    }
+    if raw.axes.is_flat() {
+        return enter_flat(cursor, raw.kind, raw.axes, raw.ids, visitor);
+    }
+    enter_deep_body(cursor, raw.kind, raw.axes, raw.ids, visitor)
+}
+
+/// The end of the geometry, if it has a size and a box that the visitor skips.
+#[inline(always)]
+fn hop<V: Visit>(raw: &Fields, visitor: &V) -> Option<usize>
+    requires axes { HavePrecisions raw.now.axes }
+    requires fits { IfSome raw.now.size (λ size. size.after + size.value < 2 ^ 64) }
+    ensures { result ≡ hop_of (V.passes (V.state visitor.now)) (head_said raw.now).size (head_said raw.now).bounds }
+{
+    match (raw.size, &raw.bounds) {
+        (Some(size), Some(bounds)) if skips(visitor, raw.axes, bounds) => {
+            Some(size.after + size.value as usize)
+        }
+        _ => None,
+    }
+}
+
+/// Whether the visitor skips a box: asked in raw numbers where they are near zero, and in units elsewhere.
+#[inline(always)]
+fn skips<V: Visit>(visitor: &V, axes: Axes, b: &RawBox) -> bool
+    requires { HavePrecisions axes }
+    ensures { result ≡ V.passes (V.state visitor.now) (raw_bounds axes.xy axes.z axes.m b.now) }
+{
+    if b.is_near() {
+        visitor.skips_raw(axes, b)
+    } else {
+        visitor.skips(&b.in_units(axes))
+    }
+}
+
+/// Enters a geometry that has a size and a box in X and Y, and no other field. Where the range in X tells that it is skipped,
+/// the range in Y is passed by the ends of its numbers.
+#[inline(always)]
+fn enter_boxed<V: Visit>(cursor: &mut Cursor, begun: Begun, visitor: &mut V) -> u64
+    requires xy { IsPrecision begun.xy }
+    requires boxed { begun.metadata ≡ 3 }
+    requires come { IsThere (HasCome begun cursor.old) }
+    ensures { Enters V.step V.passes (HasCome begun cursor.old) (V.state visitor.old) (V.state visitor.new) cursor.new result }
+{
+    let Ok(size) = take_number(cursor) else {
+        unreachable!()
+    };
+    let stop = cursor.place() + size as usize;
+    let (x, x_near) = known_range(cursor);
+    if x_near && visitor.skips_by_x(begun.xy, &x) {
+        pass_range(cursor);
+        cursor.go_to(stop);
+        return 0;
+    }
+    let (y, y_near) = known_range(cursor);
+    if skips_flat(visitor, begun.xy, x, y, x_near && y_near) {
+        cursor.go_to(stop);
+        return 0;
+    }
+    enter_flat(cursor, begun.kind, Axes::flat(begun.xy), false, visitor)
+}
+
+/// Whether the visitor skips a box in X and Y, whose numbers may be known to be near zero.
+#[inline(always)]
+fn skips_flat<V: Visit>(visitor: &V, xy: i8, x: RawRange, y: RawRange, near: bool) -> bool
+    requires xy { IsPrecision xy }
+    requires x_near { near ≡ true → IsNear x }
+    requires y_near { near ≡ true → IsNear y }
+    ensures { result ≡ V.passes (V.state visitor.now) (raw_bounds xy None None (flat_box x y)) }
+{
+    if near {
+        visitor.skips_raw(Axes::flat(xy), &RawBox::flat(x, y))
+    } else {
+        skips_far(visitor, xy, x, y)
+    }
+}
+
+/// Whether the visitor skips a box in X and Y of any numbers.
+#[inline(never)]
+fn skips_far<V: Visit>(visitor: &V, xy: i8, x: RawRange, y: RawRange) -> bool
+    requires { IsPrecision xy }
+    ensures { result ≡ V.passes (V.state visitor.now) (raw_bounds xy None None (flat_box x y)) }
+{
+    visitor.skips(&RawBox::flat(x, y).in_units(Axes::flat(xy)))
+}

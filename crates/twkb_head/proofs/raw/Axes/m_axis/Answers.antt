@@ -1,0 +1,6 @@
+-- M comes behind Z where there is Z.
+use Rattle.std.proofs.Common.{rules}
+use Rattle.twkb_head.proofs.raw.Axes.m_axis.Goals as goal
+
+pub returns-clause-value : goal.returns-clause-value
+returns-clause-value c = search rules

@@ -1,0 +1,71 @@
+-- Boxes and points judged by raw integers.
+use Rattle.std.proofs.Common.{◌≡◌, ℕ, ℤ, pos, int_lt, ◌||◌, ◌&&◌, Bool, not, true, false, [], ◌∷◌, Option, Some, None, option_map, refl, sym, ◌∙◌, arith}
+use Rattle.std.proofs.lemmas.Int.{ints}
+use Rattle.twkb_num.specs.Units.{units_of}
+use Rattle.twkb_head.specs.Head.{span_at, m_axis}
+use Rattle.twkb_head.specs.declared.raw.Axes.{Axes}
+use Rattle.twkb_body.specs.Geometry.{PointValue, coordinate, vertex_at}
+use Rattle.twkb_head.specs.Raw.{ends_of, IsNear}
+use Rattle.twkb_head.specs.declared.raw.RawRange.{RawRange}
+use Rattle.twkb_head.specs.declared.boxes.Bounds.{Bounds}
+use Rattle.twkb_head.specs.declared.boxes.Span.{Span}
+use Rattle.twkb_layer.specs.declared.raw.RawWindow.{RawWindow}
+use Rattle.twkb_layer.specs.Devices.Raw.{IsRawWindow}
+use Rattle.twkb_layer.specs.Devices.Slots.{IsInner, AreInner}
+use Rattle.twkb_layer.specs.Window.{in_span, in_bound, lie_apart}
+use Rattle.twkb_layer.proofs.Raws.{misses_raw}
+
+-- the ends of a range of numbers that aren't far from zero
+pub inner : (range : RawRange) → IsNear range → AreInner (ends_of range)
+inner range near = record {
+  first = record { low = omega (arith, ints, near.low); high = omega (arith, ints, near.high) };
+  second = record { low = omega (arith, ints, near.low, near.least); high = omega (arith, ints, near.high, near.greatest) };
+}
+
+pub or_true : (a b c d : Bool) → a ≡ (b || c) → a ≡ true → (b || (c || d)) ≡ true
+or_true a true c d same h = refl
+or_true a false true d same h = refl
+or_true a false false d same h = absurd (cc (same, h))
+
+pub or_false : (a b c d : Bool) → a ≡ (b || c) → a ≡ false → (b || (c || d)) ≡ d
+or_false a true c d same h = absurd (cc (same, h))
+or_false a false true d same h = absurd (cc (same, h))
+or_false a false false d same h = refl
+
+-- a value is in a range where the range of it alone doesn't lie apart
+in_or_apart : (range : Span) (v : ℤ) → in_span range v ≡ not (lie_apart (record { lo = v; hi = v }) range)
+in_or_apart range v = grind (arith, ints)
+
+join : (a b c : Bool) → (not (a || b) && c) ≡ (not a && (not b && c))
+join true b c = refl
+join false b c = refl
+
+-- a point is in range in X and in Y where the range of it alone doesn't miss the window
+pub point_judged : (p : ℤ) (w : Bounds) (raw : RawWindow) (x y x_bits y_bits : ℤ) (misses rest : Bool) → x_bits ≡ x → y_bits ≡ y → IsRawWindow p w raw → IsInner x → IsInner y
+    → misses ≡ ((int_lt x_bits raw.x.least || int_lt raw.x.greatest x_bits) || (int_lt y_bits raw.y.least || int_lt raw.y.greatest y_bits))
+    → (not misses && rest) ≡ (in_span w.x (units_of x p) && (in_span w.y (units_of y p) && rest))
+point_judged p w raw x y x_bits y_bits misses rest x_is y_is is x_inner y_inner missed =
+    let bits = missed ∙ (λ j. (int_lt (x_is j) raw.x.least || int_lt raw.x.greatest (x_is j)) || (int_lt (y_is j) raw.y.least || int_lt raw.y.greatest (y_is j))) in
+    let same = bits ∙ misses_raw p w raw is (x, x) (y, y) (record { first = x_inner; second = x_inner }) (record { first = y_inner; second = y_inner }) in
+    (λ j. not (same j) && rest) ∙ join (lie_apart (span_at p (x, x)) w.x) (lie_apart (span_at p (y, y)) w.y) rest
+    ∙ (λ j. sym (in_or_apart w.x (units_of x p)) j && (sym (in_or_apart w.y (units_of y p)) j && rest))
+
+-- a window that bounds neither Z nor M holds whatever stands there
+pub flat_holds : (z m : Option Span) (v u : Option ℤ) → (in_bound z None && in_bound m None) ≡ true → (in_bound z v && in_bound m u) ≡ true
+flat_holds None None v u e = refl
+flat_holds None (Some s) v u e = absurd (cc (e))
+flat_holds (Some s) m v u e = absurd (cc (e))
+
+-- a point is known by its four coordinates
+pub four_coordinates : (axes : Axes) (point : PointValue) (x y third fourth : ℤ) → coordinate point 0 ≡ x → coordinate point 1 ≡ y → coordinate point 2 ≡ third → coordinate point 3 ≡ fourth
+    → vertex_at axes point ≡ vertex_at axes (x ∷ y ∷ third ∷ fourth ∷ [])
+four_coordinates axes point x y third fourth a b c d = λ j. record {
+  x = units_of (a j) axes.xy;
+  y = units_of (b j) axes.xy;
+  z = option_map (λ p. units_of (c j) (pos p)) axes.z;
+  m = option_map (λ p. units_of (last axes.z j) (pos p)) axes.m;
+}
+  where
+    last : (z : Option ℕ) → coordinate point (m_axis z) ≡ coordinate (x ∷ y ∷ third ∷ fourth ∷ []) (m_axis z)
+    last None = c
+    last (Some p) = d

@@ -1,0 +1,15 @@
+-- Two ends in a word are the ends of two varints.
+use Rattle.std.proofs.Common.{◌≡◌, ◌+◌, take, slice_range, arith}
+use Rattle.twkb_num.specs.Varint.{SpellsMany}
+use Rattle.twkb_num.proofs.CursorLemmas.{take-chunk}
+use Rattle.twkb_num.proofs.cursor.Cursor.pass_pair.Goals as goal
+
+pub returns-clause-some : goal.returns-clause-some
+returns-clause-some c =
+    let bytes = c.self.inside.bytes.now in
+    let place = c.self.inside.place in
+    let both = c.in_ok-both.both in
+    let chunk = c.in_ok-first_chunk.ensures.cases in
+    let same : take both c.in_ok-first_chunk.field-0.now ≡ slice_range bytes place (place + both) = take-chunk bytes _ place 8 both chunk.same chunk.enough (omega (arith, c.in_ok-both.ensures.within)) in
+    let spells : SpellsMany (slice_range bytes place (place + both)) 2 = rw (← same) c.in_ok-both.ensures.spells in
+    rw (← c.self.view_is) spells
