@@ -52,6 +52,10 @@ class Driven:
         self.wait("isSettled()")
         return self.run("verdict()")
 
+    def rows(self):
+        """Waits for the rows of the table, which come after all else."""
+        self.wait('$("list").tBodies[0].rows.length > 0')
+
     def scan(self, window):
         return self.run(f"scanned({json.dumps(window)})")
 

@@ -32,7 +32,7 @@ window.scanned = async (text) => {
   return { printed: $("printed").textContent, wrong: $("wrong").textContent, sums: rowsOf("sums") };
 };
 
-// All pages of the table, as the program prints a list.
+// All pages of the table, as the program prints a list. The page says collection where the program has the format's longer name.
 window.listed = async () => {
   const lines = [], begins = (number) => $("pages").textContent.startsWith(`${number.toLocaleString("en")} to`);
   $("first").click();
@@ -40,12 +40,19 @@ window.listed = async () => {
   for (;;) {
     const rows = [...$("list").tBodies[0].rows].map((row) => [...row.cells].map((cell) => cell.textContent.replaceAll(",", "")));
     for (const [blob, offset, bytes, type, precision, vertices, size, box] of rows) {
-      lines.push(`blob=${blob} offset=${offset} bytes=${bytes} type=${type} precision=${precision} vertices=${vertices} size=${size} box=${box}`);
+      const named = type.replace(/^collection$/, "geometrycollection");
+      lines.push(`blob=${blob} offset=${offset} bytes=${bytes} type=${named} precision=${precision} vertices=${vertices} size=${size} box=${box}`);
     }
-    if ($("next").disabled) return lines;
+    if ($("next").ariaDisabled === "true") return lines;
     $("next").click();
     while (!begins(lines.length + 1)) await pause();
   }
+};
+
+// Counts how often a text is written.
+window.countWrites = (at) => {
+  at.dataset.writes = 0;
+  new MutationObserver(() => at.dataset.writes++).observe(at, { childList: true, characterData: true, subtree: true });
 };
 
 // Where the map is, and the window on it.
@@ -106,7 +113,7 @@ const contrast = (one, other) => {
 // Texts whose contrast with their ground is below that of the accessibility guidelines.
 window.faint = () => {
   const hasText = (at) => [...at.childNodes].some((node) => node.nodeType === Node.TEXT_NODE && node.data.trim());
-  const all = [...document.querySelectorAll("body *:not(script, :disabled)")].filter((at) => at.checkVisibility() && hasText(at));
+  const all = [...document.querySelectorAll("body *:not(script, [aria-disabled=true])")].filter((at) => at.checkVisibility() && hasText(at));
   const isFaint = (at) => contrast(ground(at), seen(ground(at), getComputedStyle(at).color)) < 4.5;
   return all.filter(isFaint).map((at) => at.outerHTML.slice(0, 80));
 };

@@ -5,8 +5,8 @@ usage: tests/page.py [PROGRAM] [--page PAGE] [--picture] [--screens] [BROWSER..]
 
 The small layers of cases.tsv are dropped on the page, and the examples chosen as files. What the page says has to be what the
 program prints. Then come windows that are dragged, large files, files that are no layers, both colours, and what people with
-keyboards and screen readers need. Last, page_screens.py and page_answers.py try the page on screens of three widths, in both
-colours; with --screens they alone do. Pictures of it go to build/page. With --picture the one that README shows is written too;
+keyboards and screen readers need. Last, page_screens.py, page_answers.py and page_focus.py try the page on screens of three widths,
+in both colours; with --screens they alone do. Pictures of it go to build/page. With --picture the one that README shows is written too;
 with --page that page is taken as it is. A browser that this machine lacks is named in one line, with what brings it, and its tests
 are left out. Prints each difference, and last a line `N passed, M failed`; the status is 1 where any failed.
 """
@@ -23,6 +23,7 @@ from browsers import BROWSERS, Failed
 from driven import PICTURES, Driven
 from harness import TOP, count, counts, table, written
 from page_answers import ANSWERS, printed
+from page_focus import FOCUS
 from page_moves import LINES, dragged, zoomed
 from page_screens import SCREENS, WIDTHS, WORLD, pictures
 from png import shrunk
@@ -128,7 +129,8 @@ def no_layers(page):
     os.truncate(path, LARGEST_FILE + 1)
     page.choose(path)
     page.wait("isSettled()")
-    count(page.name("a file that is too large"), "268,435,457 bytes" in page.run('$("verdict").textContent'), True)
+    wanted = "Not checked: large.twkb has 268,435,457 bytes. This page reads files of up to 268,435,456 bytes (256 MiB)."
+    count(page.name("a file that is too large"), page.run('$("verdict").textContent'), wanted)
 
 
 def loose(page):
@@ -248,7 +250,7 @@ def screens(Browser, page, program, folder):
                 start = time.monotonic()
                 browser.size(width, height)
                 driven = Driven(browser, page, program, folder, f"{width} px, {'dark' if dark else 'light'}")
-                for part in (*SCREENS, *ANSWERS):
+                for part in (*SCREENS, *ANSWERS, *FOCUS):
                     tried(part, driven)
                 pictures(driven, f"{width}-{'dark' if dark else 'light'}")
                 print(f"{driven.name('screens')}, {time.monotonic() - start:.0f} s", flush=True)

@@ -60,13 +60,17 @@ def nothing_claimed(page):
     has(page, "sizes alone, tight", page.run('$("tight").textContent'), "No box", lacks=["Tight"])
     has(page, "no claims", said(page, 3 * POINT), "Nothing is claimed", "None of the 3 blobs has a size or a box", lacks=[every])
     has(page, "one blob, no claims", said(page, POINT), "Nothing is claimed", "a scan reads all of it", lacks=[every])
-    has(page, "an empty file", said(page, b""), "an empty file", "no blobs", lacks=[every, "Tight"])
+    wanted = ["This file is empty", "nothing to check", "Was it written completely?", "ok blobs=0 vertices=0"]
+    has(page, "an empty file", said(page, b""), *wanted, lacks=[every, "Certified"])
+    count(page.name("an empty file has no colour"), page.run('$("verdict").className'), "")
     count(page.name("an empty file has no map"), page.run('$("certified").checkVisibility()'), False)
     has(page, "ids alone", said(page, bytes.fromhex("040402020400000202")), every, "1 list of ids", "a box or a size")
     for name, layer in (("collections", example("coast_collections.twkb")), ("lines", example("coast_lines_sized.twkb"))):
         heads = [one.head for blob in plain.blobs_of(layer) for one in within(blob)]
         sizes, boxes = (sum(part(head) is not None for head in heads) for part in (lambda head: head.size, lambda head: head.box))
-        has(page, name, said(page, layer), every, f"{sizes:,} sizes and {boxes:,} boxes", lacks=["None of"])
+        members = "Members of collections are counted too."
+        told = (members, "None of") if name == "collections" else ("", members)
+        has(page, name, said(page, layer), every, f"{sizes:,} sizes and {boxes:,} boxes", told[0], lacks=["None of", told[1]])
         has(page, f"{name}, tight", page.run('$("tight").textContent'), f"Tight: all {boxes:,} boxes")
 
 
@@ -96,10 +100,14 @@ def exact(page):
     has(page, "depth", fields, "1 member", "07", lacks=["…", "1 members"])
     ids = bytes([4, 4, 2]) + 2 * signed(GREATEST) + bytes(4)
     page.drop("ids.twkb", ids)
-    has(page, "large ids", page.run('$("detail").textContent'), f"are both {GREATEST}")
+    has(page, "large ids", page.run('$("detail").textContent'), "positions 0 and 1 of this list", f"are both {GREATEST}")
+    page.drop("short.twkb", bytes([1, 2, 1, 2, 4]))
+    has(page, "a size of 1", page.run('$("detail").textContent'), "The size says 1 byte follows, but this point ends after 2.")
     low = 2**60
     page.drop("loose.twkb", bytes([1, 1]) + signed(low) + signed(3) + bytes([0, 0]) + signed(low + 1) + bytes([0]))
     cells = page.run('rowsOf("loosest")[0]')
+    heads = page.run('$("loosest").tHead.textContent')
+    has(page, "a loose box: its headings", heads, "Reaches beyond by", lacks=["Larger"])
     has(page, "a loose box", " ".join(cells), f"{low} to {low + 3}", f"{low + 1} to {low + 1}", "up to 2")
 
 
@@ -119,7 +127,7 @@ def directories(page):
         before = layer
         path = written(page.folder, "layer.twkb", layer)
         alone, twice = (printed(page.program, "scan", path, *windows).splitlines()[-1] for windows in ([window], [window, window]))
-        got = page.scan(window)["sums"][-1]
+        got = next(row for row in page.scan(window)["sums"] if row[0] == WHOLE_SHARE)
         blobs, ranges = plain.blobs_of(layer), plain.window_of(window)
         met = sum(not blob.head.misses(ranges) for blob in blobs)
         reads = [int(line.split("read=")[1].split()[0]) for line in (alone, twice)]
@@ -155,12 +163,15 @@ def formats(page):
     for name, data, what, how in tried:
         text = said(page, data, "other.bin")
         if "Refused" in text:
-            has(page, name, text, f"This looks like {what}", how)
+            has(page, name, text, f"This looks like {what}", ", not TWKB.", how)
+            repair = page.run('[$("repair").textContent, $("bytes").checkVisibility()]')
+            count(page.name(f"{name}: its repair"), (how in repair[0], repair[1]), (True, False))
         else:
             count(page.name(f"{name} is refused"), text, "Refused")
     with open(os.path.join(TOP, "docs", "hops.svg"), "rb") as file:
         has(page, "a picture", said(page, file.read(), "hops.svg"), "This looks like XML")
     has(page, "a broken layer is none of these", said(page, lines[:-1]), "Refused", lacks=["looks like"])
+    count(page.name("a broken layer: its bytes"), page.run('$("bytes").checkVisibility() && $("fields").checkVisibility()'), True)
     for row in table("cases.tsv"):
         if row[4].startswith("no "):
             has(page, f"{row[0]} is none of these", said(page, bytes.fromhex(row[2])), lacks=["looks like"])
@@ -178,4 +189,80 @@ def letters(page):
     count(page.name("letters beside the bytes"), (len(shown), got), (len(wanted), wanted))
 
 
-ANSWERS = [nothing_claimed, exact, directories, formats]
+def shares(page):
+    """Only nothing is 0 %, and only all is 100 %."""
+    body = varint(20000) + bytes(40000)
+    box = bytes([0, 0, 0, 0])
+    page.drop("long.twkb", bytes([2, 3]) + varint(len(box) + len(body)) + box + body)
+    page.scan("x=5..6,y=5..6")
+    shown = page.run('[$("scanned"), $("shared")].map((at) => at.textContent).join(" ").replaceAll("\\u00a0", " ")')
+    has(page, "a header of a long blob", shown, "(< 0.1 %)", "(> 99 %)", "hit or not: 0 %", lacks=["0.0 %", "100 %"])
+
+
+def windows(page):
+    """The sentence names its window, and stays that of the last one where the text is none."""
+    page.drop("lines.twkb", example("coast_lines_sized.twkb"))
+    page.scan("x=10..30,y=35..45")
+    kept = page.run('$("scanned").textContent')
+    has(page, "a window", kept, "In x=10..30,y=35..45 the scan found")
+    wrong = page.scan("x=1")["wrong"]
+    has(page, "a wrong window", wrong, "This isn't a window.", "The results below are of the last window.")
+    count(page.name("a wrong window: the results"), page.run('$("scanned").textContent'), kept)
+    has(page, "a window upside down", page.scan("x=1..0,y=0..1")["wrong"], "A lowest value is greater than its highest. Swap them.")
+    page.scan("x=0..1,y=89..90")
+    has(page, "no hit", page.run('$("scanned").textContent'), "No blob has a vertex in x=0..1,y=89..90. The scan read ")
+
+
+def places(page):
+    """Where a file is wrong, and how long it is."""
+    wrong = "blob number 0 (counted from 0) is wrong at offset"
+    has(page, "a cut", said(page, bytes.fromhex("010002")), f"{wrong} 3, where the file ends.")
+    has(page, "a box", said(page, bytes.fromhex("020309020602080202020808")), f"{wrong} 3 (the file has 12 bytes).")
+
+
+def lacking_axes(page):
+    """A window with an axis that the layer lacks finds nothing, and the page says why."""
+    ranges = "x=-180..180,y=-90..90"
+    tried = [
+        ("coast_lines_sized.twkb", ",z=0..1", "This layer has no Z. The scan"),
+        ("coast_lines_sized.twkb", ",z=0..1,m=0..1", "This layer has no Z and no M. The scan"),
+        ("coast_z.twkb", ",z=900..901,m=0..1", ".."),
+    ]
+    for name, more, wanted in tried:
+        page.drop(name, example(name))
+        page.scan(ranges + more)
+        lacks = ["has no"] if wanted == ".." else []
+        has(page, f"{name}, {more}", page.run('$("scanned").textContent'), wanted, lacks=lacks)
+
+
+def one_name(page):
+    """A type has one name in the table, of a picked blob and among fields."""
+    layer = example("coast_collections.twkb")
+    page.drop("collections.twkb", layer)
+    page.rows()
+    shown = page.run('$("list").tBodies[0].rows[0].cells[3].textContent')
+    page.run('$("list").tBodies[0].rows[0].cells[3].click()')
+    page.wait("document.documentElement.dataset.pick === 'done'")
+    has(page, "a picked collection", page.run('$("pickedtext").textContent'), f": {shown}, ")
+    page.drop("cut.twkb", layer[:-1])
+    has(page, "fields of a collection", page.run('$("fields").textContent'), f"{shown}, precision", lacks=["geometrycollection"])
+
+
+def spoken(page):
+    """The pages of the table are told again only where they are others."""
+    page.drop("lines.twkb", example("coast_lines_sized.twkb"))
+    page.rows()
+    page.run('countWrites($("pages"))')
+    page.scan("x=10..30,y=35..45")
+    page.run('$("last").click()')
+    page.wait("document.documentElement.dataset.pick !== 'working' && $('last').ariaDisabled === 'true'")
+    count(page.name("how often the pages of the table are told"), page.run('$("pages").dataset.writes'), "1")
+
+
+def steps(page):
+    """A coordinate's step has the units of its value."""
+    page.drop("steps.twkb", bytes([0x22, 0, 3]) + signed(-845) + signed(5) + signed(3) + signed(-12) + b"\x80")
+    has(page, "steps", page.run('$("fields").textContent'), "-84.2 (+0.3)", "-0.7 (-1.2)")
+
+
+ANSWERS = [nothing_claimed, exact, directories, formats, shares, windows, steps, places, lacking_axes, one_name, spoken]

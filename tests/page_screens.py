@@ -42,7 +42,7 @@ def footer(page):
     with open(os.path.join(TOP, "VERSION"), encoding="utf-8") as file:
         version = file.read().strip()
     head = subprocess.run(["git", "-C", TOP, "rev-parse", "HEAD"], stdout=subprocess.PIPE, text=True).stdout
-    has(page, "the footer", text, f"Dozhemik {version}, commit ", "proof", "docs/BINDINGS.md", "repository")
+    has(page, "the footer", text, f"Dozhemik {version}, commit ", "“Proved” here means", "docs/BINDINGS.md", "repository")
     commit = re.search(r"commit ([0-9a-f]{12}|unknown)\b", text)
     count(page.name(f"the commit: {commit and commit[1]}"), bool(commit) and (commit[1] == "unknown") == (not head), True)
     count(page.name("the footer has no link"), page.run('document.querySelectorAll("a").length'), 0)
@@ -60,11 +60,23 @@ def taps(page):
         if page.run('$("refused").hidden'):
             hits = int(page.run('$("printed").textContent.match(/hits=(\\d+)/)[1]'))
             count(page.name(f"example {number}: {hits} hits in the first window"), hits > 0, True)
+    scrolled(page)
     page.drop("point.twkb", bytes.fromhex("01000204"))
     count(page.name("another file: no example is marked"), page.run('examples().some((at) => at.ariaPressed === "true")'), False)
     for name, layer in (("a point", "01000204"), ("a far point", "0100FEFFFFFFFFFFFFFFFF0100")):
         page.drop("point.twkb", bytes.fromhex(layer))
         count(page.name(f"{name}: a hit in the first window"), page.run('$("printed").textContent.match(/hits=\\d+/)[0]'), "hits=1")
+
+
+def scrolled(page):
+    """The verdict comes into view from below it too."""
+    lines = example("coast_lines_sized.twkb")
+    for name, layer in (("certified", lines), ("refused", lines[:-1]), ("a point", bytes.fromhex("01000204"))):
+        page.drop("lines.twkb", lines)
+        page.run("scrollTo(0, 1500)")
+        page.drop("layer.twkb", layer)
+        page.run("new Promise((resume) => setTimeout(() => resume(null), 100))")
+        count(page.name(f"{name}, from below: the verdict is in view"), page.run('isInView($("verdict"))'), True)
 
 
 def known(page):
@@ -136,9 +148,14 @@ def shares(page):
     page.drop(WORLD, example(WORLD))
     page.scan("x=10..30,y=35..45")
     rows = page.run('rowsOf("sums")')
+    total = rows.pop(3)
+    whole = [str(sum(int(row[i].replace(",", "")) for row in rows[:3])) for i in range(1, 5)]
+    count(page.name("what was read is summed up before what was not"), [cell.replace(",", "") for cell in total], ["read in all", *whole])
     legend = page.run('[...document.querySelectorAll("#stripkeys li")].map((at) => at.textContent)')
-    count(page.name("the words of table and legend"), ([row[0] for row in rows[:-1]], legend), (DONE, DONE))
+    count(page.name("the words of table and legend"), ([row[0] for row in rows], legend), (DONE, DONE))
     parts = page.run('[...document.querySelectorAll("#shares > [data-share]")].map((at) => at.getBoundingClientRect().width)')
+    named = page.run('[...document.querySelectorAll("#shared li")].map((at) => at.textContent.split(":")[0])')
+    count(page.name("the words of the bar"), named, ["blobs read, hit or not", *DONE[2:]])
     numbers = [[int(cell.replace(",", "")) for cell in row[1:]] for row in rows]
     bytes_of = [numbers[0][1] + numbers[1][1], numbers[2][1], numbers[3][1]]
     wanted = [one / sum(bytes_of) for one in bytes_of]
@@ -206,7 +223,7 @@ def by_row(page):
     """A row marks its shape, the map comes into view and keeps its view; a closer look has a way back."""
     before = page.run("frame().corners")
     page.run('$("last").click()')
-    page.wait('$("next").disabled')
+    page.wait('$("next").ariaDisabled === "true"')
     number = page.run('Number($("list").tBodies[0].rows[1].cells[0].textContent.replaceAll(",", ""))')
     page.run('$("list").tBodies[0].rows[1].cells[3].click()')
     page.wait(f"frame().picked === {number} && document.documentElement.dataset.pick === 'done'")

@@ -3,12 +3,12 @@ import { $, element } from "./dom.js";
 import { many, number } from "./numbers.js";
 import { DONE, KINDS, line, share } from "./words.js";
 
-// The places of the sums that the worker tells, in the order of legends and tables.
-const ORDER = [["hit", 2], ["read", 0], ["header", 3], ["hopped", 1]];
+// The places of the sums that the worker tells, in the order of the table: what was read is summed up before what was not.
+const READ = [["hit", 2], ["read", 0], ["header", 3]], HOPPED = 1;
 
 export function showVerdict(told, name) {
   const { verdict } = told, box = $("verdict");
-  box.className = verdict.answer === 0 ? "ok" : "no";
+  box.className = verdict.answer !== 0 ? "no" : verdict.blobs ? "ok" : "";
   const [title, ...sentences] = verdict.answer === 0 ? certified(told, name) : refused(told, name);
   const first = element("p"), printed = element("p");
   first.append(element("strong", title));
@@ -25,7 +25,7 @@ function withCode(text) {
 
 function certified({ verdict, length, claims }, name) {
   const { blobs, vertices } = verdict;
-  if (!blobs) return ["Certified: an empty file.", `${name} has no bytes, so it has no blobs, and nothing is claimed.`];
+  if (!blobs) return ["This file is empty: there is nothing to check.", `${name} has no bytes. Was it written completely?`];
   const made = [["size", claims.sizes], ["box", claims.boxes], ["list of ids", claims.ids]].filter(([, count]) => count);
   const words = made.map(([word, count]) => many(count, word));
   const holds = `${name} has ${many(blobs, "blob")} with ${many(vertices, "vertex")}, in ${many(length, "byte")}.`;
@@ -33,7 +33,8 @@ function certified({ verdict, length, claims }, name) {
   const claimed = `${words.slice(0, -1).join(", ")}${words.length > 1 ? " and " : ""}${words.at(-1)}`;
   const missing = ["a box", "a size"].filter((_, i) => ![claims.boxes, claims.sizes][i]).join(" or ");
   const rest = claims.both ? [] : [lacks(blobs, missing || "both a size and a box")];
-  return ["Certified: every claim is true.", `${holds} It claims ${claimed}.`, ...rest];
+  const more = Math.max(claims.sizes, claims.boxes) > blobs ? " Members of collections are counted too." : "";
+  return ["Certified: every claim is true.", `${holds} It claims ${claimed}.${more}`, ...rest];
 }
 
 function lacks(blobs, what) {
@@ -43,10 +44,12 @@ function lacks(blobs, what) {
 
 function refused({ verdict, length, looksLike }, name) {
   const { kind, blob, offset } = verdict;
-  const where = `In ${name}, blob number ${number(blob)} (counted from 0) is wrong at byte ${number(offset)} of ${number(length)}.`;
-  const looks = looksLike ? [`This looks like ${looksLike.what}${looksLike.how ? `: ${looksLike.how}` : "."}`] : [];
-  return [`Refused: ${KINDS[kind].short}.`, ...looks, where];
+  const ends = offset < length ? ` (the file has ${many(length, "byte")})` : ", where the file ends";
+  const where = `In ${name}, blob number ${number(blob)} (counted from 0) is wrong at offset ${number(offset)}${ends}.`;
+  return [`Refused: ${KINDS[kind].short}.`, ...(looksLike ? [looks(looksLike)] : []), where];
 }
+
+const looks = ({ what, how }) => `This looks like ${what}, not TWKB.${how && ` ${how}`}`;
 
 export function showFault(text) {
   const box = $("verdict");
@@ -55,16 +58,22 @@ export function showFault(text) {
   box.firstChild.append(element("strong", text));
 }
 
-export function showReasons({ verdict, detail }) {
+// A file of another format has nothing to repair, and its bytes say little.
+export function showReasons({ verdict, detail, looksLike }) {
   const words = KINDS[verdict.kind];
   for (const part of ["meaning", "harm", "repair"]) $(part).textContent = words[part];
   $("detail").textContent = detail;
+  if (looksLike) $("repair").replaceChildren(...withCode(looks(looksLike)).childNodes);
+  $("bytewise").open = !looksLike;
 }
 
-export function showScan({ hits, read, first, length, text }) {
-  const saved = length - read;
-  const most = saved ? ` It hopped over ${many(saved, "byte")} (${share(saved, length)}), which need not be fetched or unpacked.` : " It could hop over nothing.";
-  $("scanned").textContent = `For this window the scan found ${many(hits, "blob")}, and read ${number(read)} of ${many(length, "byte")} (${share(read, length)}).${most}`;
+export function showScan({ hits, read, first, length, text }, claims) {
+  const saved = length - read, lacking = ["Z", "M"].filter((axis) => text.includes(`${axis.toLowerCase()}=`) && !claims[axis]);
+  const why = lacking.length ? ` This layer has no ${lacking.join(" and no ")}.` : "";
+  const found = hits ? `In \`${text}\` the scan found ${many(hits, "blob")}, and` : `No blob has a vertex in \`${text}\`.${why} The scan`;
+  const most = saved ? `It hopped over ${many(saved, "byte")} (${share(saved, length)}), which need not be fetched or unpacked.` : "It could not skip anything.";
+  const says = `${found} read ${number(read)} of ${many(length, "byte")} (${share(read, length)}). ${most}`;
+  $("scanned").replaceChildren(...withCode(says).childNodes);
   const lines = first.map(([blob, offset]) => `hit blob=${blob} offset=${offset}`);
   if (first.length < hits) lines.push(`.. and ${many(hits - first.length, "more hit")}`);
   $("printed").textContent = [...lines, `hits=${hits} read=${read} of=${length}`].join("\n");
@@ -72,11 +81,12 @@ export function showScan({ hits, read, first, length, text }) {
 }
 
 export function showSums({ sums, all }, rows) {
-  const made = ORDER.map(([name, place]) => sumRow(element("th", DONE[name]), sums[place], name));
+  const made = READ.map(([name, place]) => sumRow(element("th", DONE[name]), sums[place], name));
   const read = (what) => sums[2][what] + sums[0][what] + sums[3][what];
   const names = ["blobs", "bytes", "directoryBlobs", "directoryBytes"];
   const whole = Object.fromEntries(names.map((what) => [what, read(what)]));
-  $("sums").tBodies[0].replaceChildren(...made, sumRow(element("th", "read in all"), whole));
+  const rest = sumRow(element("th", DONE.hopped), sums[HOPPED], "hopped");
+  $("sums").tBodies[0].replaceChildren(...made, sumRow(element("th", "read in all"), whole), rest);
   showShares(sums);
   const few = `Blob by blob only the first ${number(rows)} are shown. The sentence at the top counts all of them.`;
   $("directory").textContent = all ? saves(whole) : few;
@@ -100,7 +110,7 @@ function sumRow(head, { blobs, bytes, directoryBlobs, directoryBytes }, name) {
 // The bar: what was read of blobs, what was read of headers on the way, and what was hopped over.
 function showShares(sums) {
   const bytes = { read: sums[2].bytes + sums[0].bytes, header: sums[3].bytes, hopped: sums[1].bytes };
-  const all = bytes.read + bytes.header + bytes.hopped, words = { ...DONE, read: "read" };
+  const all = bytes.read + bytes.header + bytes.hopped, words = { ...DONE, read: "blobs read, hit or not" };
   for (const [name, count] of Object.entries(bytes)) {
     const part = document.querySelector(`#shares [data-share=${name}]`), says = `${words[name]}: ${share(count, all)}`;
     part.style.flexGrow = all ? count / all : 0;
@@ -141,5 +151,5 @@ function looseRow({ blob, box, extent, beyond }, look) {
 export function showSample({ every, blobs, vertices }, rows, all) {
   const some = every > 1 && rows > 1 ? `one blob in ${number(every)}, ${number(blobs.length)} of ${number(rows)}` : `the first ${number(vertices)} of ${number(all)} vertices`;
   const isWhole = vertices === all;
-  $("sample").textContent = isWhole ? `${many(blobs.length, "blob")}, ${many(vertices, "vertex")} drawn.` : `This layer has more than the map can show. It draws ${some}. Hits and bytes are counted over all.`;
+  $("sample").textContent = isWhole ? `${many(blobs.length, "blob")}, ${many(vertices, "vertex")} drawn.` : `This layer has more than the map can show. The map draws ${some}. Hits and bytes are counted over all.`;
 }

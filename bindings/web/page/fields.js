@@ -1,7 +1,7 @@
 // The fields of a blob by their names, as far as they can be read: for people who look at bytes.
 //
 // Any bytes may be walked here. A field that the bytes cut short, or that can't follow where it is, ends the walk.
-import { decimal, many, number, plus, spelled, unzigzag } from "./numbers.js";
+import { decimal, many, plus, spelled, unzigzag } from "./numbers.js";
 
 const TYPES = ["", "point", "linestring", "polygon", "multipoint", "multilinestring", "multipolygon", "collection"];
 const PARTS = ["", "", "point", "ring", "point", "line", "polygon", "member"];
@@ -184,7 +184,7 @@ export class Fields {
       const name = () => `${this.placed(place)}${AXES[axis]}`;
       const step = unzigzag(this.varint(name, of)), sum = plus(before, step);
       if (typeof sum === "bigint" && (sum < LEAST || sum > GREATEST)) this.stop(from, name, () => beyond(sum, precision), of);
-      const says = () => decimal(sum, precision) + (vertex ? ` (${step < 0 ? "" : "+"}${number(step)})` : "");
+      const says = () => decimal(sum, precision) + (vertex ? ` (${step < 0 ? "" : "+"}${decimal(step, precision)})` : "");
       of.sums[axis] = sum;
       this.tell(from, name, says, of, { axis, vertex, sum });
     }

@@ -1,6 +1,6 @@
 // What a file is that isn't TWKB: the usual formats by how they begin, and what makes TWKB of each.
 const LOOKED_AT = 96, LEAST_DIGITS = 8;
-const FROM_POSTGIS = "ST_AsTWKB in PostGIS writes TWKB.";
+const FROM_POSTGIS = "PostGIS can write TWKB with ST_AsTWKB.";
 const UNPACK = (command) => `\`${command}\` unpacks it.`;
 
 // What the file begins with, in hexadecimal, what that is, and what helps.
@@ -26,7 +26,7 @@ export function recognised(bytes) {
   const hex = [...front.subarray(0, 16)].map((byte) => byte.toString(16).padStart(2, "0")).join("");
   const found = SIGNATURES.find(([begins]) => hex.startsWith(begins));
   if (found) return { what: found[1], how: found[2] };
-  if (isWkb(front, 0)) return { what: "WKB", how: "Write it by ST_AsTWKB where now ST_AsBinary or a column of type geometry is read." };
+  if (isWkb(front, 0)) return { what: "WKB", how: "Export it with ST_AsTWKB instead of ST_AsBinary or the bare geometry column." };
   const isText = front.length > 0 && front.every((byte) => (byte >= 32 && byte < 127) || (byte >= 9 && byte <= 13));
   return isText ? ofText(new TextDecoder().decode(front), front.length === bytes.length) : null;
 }
@@ -39,17 +39,17 @@ function ofText(text, isWhole) {
   if (WORDS.test(begins)) return { what: "WKT", how: "ST_AsTWKB(ST_GeomFromText(..)) in PostGIS makes TWKB of it." };
   if (begins.startsWith("<")) return { what: "XML or HTML", how: FROM_POSTGIS };
   if (/^[A-Za-z\d+/\s]+=*\s*$/.test(text) && /[A-Z]/.test(text) && /\d/.test(text) && !text.trim().includes(" ")) {
-    return { what: "base64 text", how: "`base64 -d` makes bytes of it." };
+    return { what: "base64 text", how: "Convert it to bytes with `base64 -d`." };
   }
   return { what: "text", how: FROM_POSTGIS };
 }
 
 function ofDigits(text, digits) {
   const inside = Uint8Array.from(digits.match(/../g) ?? [], (two) => parseInt(two, 16));
-  if (isWkb(inside, 0)) return { what: "hexadecimal text of WKB", how: "Write `encode(ST_AsTWKB(..), 'hex')` in its place, and `xxd -r -p` makes bytes of it." };
+  if (isWkb(inside, 0)) return { what: "hexadecimal text of WKB", how: "Write `encode(ST_AsTWKB(..), 'hex')` in its place, and convert it to bytes with `xxd -r -p`." };
   const isEscaped = text.trimStart().startsWith("\\x");
-  const how = isEscaped ? "`sed 's/^\\\\x//' | xxd -r -p` makes bytes of it." : "`xxd -r -p` makes bytes of it.";
-  return { what: "hexadecimal text", how };
+  const command = isEscaped ? "sed 's/^\\\\x//' | xxd -r -p" : "xxd -r -p";
+  return { what: "hexadecimal text", how: `Convert it to bytes with \`${command}\`.` };
 }
 
 // WKB begins with the order of its bytes and a type of four bytes. So may TWKB, so the first coordinate has to be plausible too.

@@ -17,7 +17,7 @@ const STRIP_LINES = 4, STEP = 1.5;
 // On a narrow screen a line has fewer bytes, and explanations are folded.
 const NARROW = 640, WIDE_LINE = 16, NARROW_LINE = 8;
 const NO_PLACE = "Point at the map, or tap it, for coordinates.";
-const state = { run: 0, scan: 0, shown: 0, name: "", rows: 0, strip: null, refused: null, scanning: false, next: null };
+const state = { run: 0, scan: 0, shown: 0, name: "", rows: 0, strip: null, refused: null, scanning: false, next: null, claims: null };
 // What tests wait for: that the page has answered all that it was asked.
 const settle = (what, where) => (document.documentElement.dataset[what] = where);
 
@@ -46,6 +46,10 @@ function open(file) {
   $("verdict").className = "";
   $("verdict").textContent = `Checking ${file.name}.`;
   $("wrong").textContent = "";
+  $("about").open = false;
+  $("at").textContent = NO_PLACE;
+  $("pen").setAttribute("aria-pressed", "false");
+  map.mode({ drawing: false });
   table.clear();
   ask({ ask: "open", file });
 }
@@ -71,7 +75,10 @@ function pick(blob, toMap) {
   settle("pick", "working");
   if (blob === null) unpick();
   else ask({ ask: "pick", blob, order: table.order });
-  if (!toMap) return;
+  if (toMap) lookAtMap();
+}
+
+function lookAtMap() {
   $("map").focus({ preventScroll: true });
   $("map").scrollIntoView({ block: "center" });
 }
@@ -130,13 +137,14 @@ const TOLD = {
   },
   progress,
   large({ length }) {
-    failed(`Not checked: ${state.name} has ${many(length, "byte")}. The most that is read is 268,435,456.`);
+    failed(`Not checked: ${state.name} has ${many(length, "byte")}. This page reads files of up to 268,435,456 bytes (256 MiB).`);
   },
   failed({ what, why }) {
     failed(FAULTS[what] ?? `Not checked: something went wrong (${why}).`);
   },
   verdict(told) {
     answers.showVerdict(told, state.name);
+    state.claims = told.claims;
     toVerdict();
   },
   refused(told) {
@@ -166,10 +174,11 @@ const TOLD = {
   },
   done() {
     finished();
+    toVerdictAgain();
     settle("state", "done");
   },
   window({ answer }) {
-    $("wrong").textContent = WINDOW_ERRORS[answer];
+    $("wrong").textContent = `${WINDOW_ERRORS[answer]} The results below are of the last window.`;
     $("text").setAttribute("aria-invalid", "true");
     settle("scan", "wrong");
     scanned();
@@ -177,7 +186,7 @@ const TOLD = {
   scanned(told) {
     $("wrong").textContent = "";
     $("text").removeAttribute("aria-invalid");
-    answers.showScan(told);
+    answers.showScan(told, state.claims);
     state.shown = told.number;
     if (state.next === null && told.text === $("text").value.trim()) map.setWindow(told.ends, told.text);
     scanned();
@@ -252,7 +261,7 @@ function wireMap() {
     table.marked?.scrollIntoView({ block: "center" });
     table.marked?.querySelector("button").focus({ preventScroll: true });
   };
-  $("tomap").onclick = () => $("map").scrollIntoView({ block: "center" });
+  $("tomap").onclick = lookAtMap;
   $("closer").onclick = () => {
     map.closer();
     $("before").hidden = !map.before;
@@ -262,7 +271,11 @@ function wireMap() {
     $("before").hidden = true;
     $("closer").focus();
   };
-  $("unpick").onclick = () => pick(null, false);
+  // The button goes, so the focus has to go somewhere.
+  $("unpick").onclick = () => {
+    pick(null, false);
+    $("map").focus({ preventScroll: true });
+  };
 }
 
 function wire() {

@@ -15,10 +15,10 @@ const RUN = 4096;
 
 const axesOf = (extended) => 2 + (extended & 1) + ((extended >> 1) & 1);
 
-// A walk over certified bytes, which are never cut. It counts the claims of the headers that it passes.
+// A walk over certified bytes, which are never cut. It counts the claims of the headers that it passes, and those with Z and with M.
 export class Walk {
   constructor(bytes, at) {
-    Object.assign(this, { bytes, at, claims: { sizes: 0, boxes: 0, both: 0, ids: 0 } });
+    Object.assign(this, { bytes, at, claims: { sizes: 0, boxes: 0, both: 0, ids: 0, Z: 0, M: 0 } });
   }
 
   unsigned() {
@@ -53,6 +53,8 @@ export class Walk {
     this.claims.sizes += size !== null;
     this.claims.boxes += box !== null;
     this.claims.both += size !== null && box !== null;
+    this.claims.Z += extended & 1;
+    this.claims.M += (extended >> 1) & 1;
     return { kind: first & 15, axes, box, empty: !!(metadata & EMPTY), ids: !!(metadata & IDS), end: size === null ? null : body + size };
   }
 
@@ -84,7 +86,8 @@ export function after(bytes, at) {
   return walk.at;
 }
 
-// Counts what a certified layer claims, at all depths: sizes, boxes, both at once, and lists of ids. Yields how far it is.
+// Counts what a certified layer claims, at all depths: sizes, boxes, both at once, and lists of ids; and headers with Z and with M.
+// Yields how far it is.
 export function* claimsOf(bytes) {
   const walk = new Walk(bytes, 0);
   for (let blobs = 1; walk.at < bytes.length; blobs++) {

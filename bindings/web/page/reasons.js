@@ -71,7 +71,7 @@ class FalseSize {
   detail() {
     const { size, end, boxAt, type } = this.of;
     const apart = minus(size, end - boxAt), [by, how] = apart > 0 ? [apart, "large"] : [-apart, "small"];
-    return `The size says that ${many(size, "byte")} follow, but this ${type} ends after ${number(end - boxAt)}. So the size is too ${how} by ${number(by)}.`;
+    return `The size says ${many(size, "byte")} ${size === 1 ? "follows" : "follow"}, but this ${type} ends after ${number(end - boxAt)}. So the size is too ${how} by ${number(by)}.`;
   }
 }
 
@@ -136,7 +136,7 @@ class EqualIds {
 
   detail() {
     const { id, one, other } = this.found;
-    return `In this list, counted from 0, id ${number(one)} and id ${number(other)} are both ${id}.`;
+    return `The ids at positions ${number(one)} and ${number(other)} of this list (counted from 0) are both ${id}.`;
   }
 }
 

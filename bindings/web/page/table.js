@@ -27,15 +27,22 @@ export class BlobTable {
     this.clear();
     this.heads = COLUMNS.map(([name, heading, cell]) => this.head(name, heading, cell));
     table.tHead.rows[0].replaceChildren(...this.heads);
-    const turn = (to) => () => this.turn(to());
-    buttons.first.onclick = turn(() => 0);
-    buttons.back.onclick = turn(() => this.from - PAGE);
-    buttons.next.onclick = turn(() => this.from + PAGE);
-    buttons.last.onclick = turn(() => Math.floor((this.total - 1) / PAGE) * PAGE);
+    this.turns("first", () => 0);
+    this.turns("back", () => this.from - PAGE);
+    this.turns("next", () => this.from + PAGE);
+    this.turns("last", () => Math.floor((this.total - 1) / PAGE) * PAGE);
   }
 
+  // A button that leads nowhere keeps the focus, which one that is disabled would lose.
+  turns(name, to) {
+    this.buttons[name].onclick = () => this.buttons[name].ariaDisabled !== "true" && this.turn(to());
+  }
+
+  // The rows of the layer before go at once.
   clear() {
     Object.assign(this, { column: "blob", down: false, from: 0, total: 0, picked: null });
+    this.table.tBodies[0].replaceChildren();
+    this.buttons.pages.textContent = "";
   }
 
   get order() {
@@ -97,9 +104,11 @@ export class BlobTable {
     const few = total < blobs ? ` The table has the first ${number(total)} of ${number(blobs)}.` : "";
     this.caption.textContent = `What the header of each blob says, and what the scan did with it. A heading sorts; a row selects its shape on the map.${few}`;
     this.mark();
-    this.buttons.pages.textContent = total ? `${number(wish.from + 1)} to ${number(wish.from + rows.length)} of ${number(total)}` : "no blobs";
-    this.buttons.first.disabled = this.buttons.back.disabled = wish.from === 0;
-    this.buttons.next.disabled = this.buttons.last.disabled = wish.from + PAGE >= total;
+    const pages = total ? `${number(wish.from + 1)} to ${number(wish.from + rows.length)} of ${number(total)}` : "no blobs";
+    // A screen reader says each text that is written, and all scans ask for rows.
+    if (this.buttons.pages.textContent !== pages) this.buttons.pages.textContent = pages;
+    const off = { first: wish.from === 0, back: wish.from === 0, next: wish.from + PAGE >= total, last: wish.from + PAGE >= total };
+    for (const [name, is] of Object.entries(off)) this.buttons[name].setAttribute("aria-disabled", String(is));
   }
 
   row(values) {

@@ -61,7 +61,7 @@ export const KINDS = {
   9: { name: "loose" },
 };
 
-export const TYPES = ["", "point", "linestring", "polygon", "multipoint", "multilinestring", "multipolygon", "geometrycollection"];
+export const TYPES = ["", "point", "linestring", "polygon", "multipoint", "multilinestring", "multipolygon", "collection"];
 
 // What a scan does with a blob, in the words of legends and tables.
 export const DONE = { hit: "hit", read: "read, no hit", header: "header read on the way", hopped: "hopped over" };
@@ -86,14 +86,15 @@ export const FAULTS = {
 
 export const WINDOW_ERRORS = {
   1: "This isn't a window. Write x=lowest..highest,y=lowest..highest with no spaces, such as x=10..30,y=35..45.",
-  2: "A lowest end is above its highest end. Exchange them.",
+  2: "A lowest value is greater than its highest. Swap them.",
 };
 
-// A share of the whole, in percent.
+// A share of the whole, in percent. Only nothing is 0 %, and only all is 100 %.
 export function share(part, whole) {
-  if (!whole) return "0\u00a0%";
-  const percent = (100 * part) / whole;
-  return `${percent >= 10 || percent === 0 ? percent.toFixed(0) : percent.toFixed(1)}\u00a0%`;
+  const percent = whole ? (100 * part) / whole : 0;
+  if (part && percent < 0.05) return "<\u00a00.1\u00a0%";
+  if (part < whole && percent >= 99.5) return ">\u00a099\u00a0%";
+  return `${percent >= 9.95 || percent === 0 ? percent.toFixed(0) : percent.toFixed(1)}\u00a0%`;
 }
 
 // The line that the program prints of a verdict.

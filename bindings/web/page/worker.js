@@ -78,8 +78,9 @@ async function open({ file }) {
   await stage("certifying");
   const verdict = library.certify(), length = file.size;
   if (verdict.answer === 1) {
-    tell({ tell: "verdict", verdict, length, looksLike: recognised(library.bytes) });
-    return refuse(verdict);
+    const looksLike = recognised(library.bytes);
+    tell({ tell: "verdict", verdict, length, looksLike });
+    return refuse(verdict, looksLike);
   }
   const claims = await inSlices(claimsOf(library.bytes), "claims", stays);
   tell({ tell: "verdict", verdict, length, claims });
@@ -100,7 +101,7 @@ async function tightness(stays, claims) {
   if (stays()) tell({ tell: "tight", tight, loose, claims });
 }
 
-async function refuse(verdict) {
+async function refuse(verdict, looksLike) {
   await stage("explaining");
   const { bytes } = library;
   let start = 0;
@@ -108,7 +109,7 @@ async function refuse(verdict) {
   const told = reasons(bytes, start, verdict);
   const first = Math.max(0, (verdict.offset & ~15) - ROUND);
   const around = bytes.slice(first, Math.min(bytes.length, (verdict.offset | 15) + ROUND + 1));
-  tell({ tell: "refused", ...told, verdict, start, first, around, length: bytes.length });
+  tell({ tell: "refused", ...told, verdict, looksLike, start, first, around, length: bytes.length });
   tell({ tell: "done" });
 }
 
