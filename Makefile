@@ -9,6 +9,8 @@ FILE = examples/coast_lines_sized.twkb
 # What the program stands on, each behind what it stands on itself.
 LIBRARIES = refusing twkb_num twkb_head plain random_layers twkb_body twkb_layer
 PREFIX = /usr/local
+# How long `make fuzz` looks. It takes a seed of the clock where none is given by SEED=..
+SECONDS = 600
 INTO = $(DESTDIR)$(PREFIX)
 MANUALS = share/man/man1
 BASH = share/bash-completion/completions
@@ -16,29 +18,30 @@ ZSH = share/zsh/site-functions
 
 .PHONY: help kit libraries library build install uninstall install-library uninstall-library dist
 .PHONY: try demo test test-program test-languages bindings web page
-.PHONY: bench callers picture trusted refusals apart twins stack clean
+.PHONY: bench callers picture trusted refusals fuzz apart twins stack clean
 
 help:
-	@echo 'make try        check an example, or FILE=.., by the program before any proof (less than a minute)'
+	@echo 'make try        check an example, or FILE=.., with a program that is not proved (less than a minute)'
 	@echo 'make build      prove and build the program: $(PROGRAM) (some minutes the first time)'
-	@echo 'make install    put the program, its manual page and completions below $(PREFIX), or PREFIX=..'
-	@echo 'make uninstall  take them away'
-	@echo 'make demo       build, and check, list and scan layers that PostGIS wrote'
-	@echo 'make test       run the merge gate, and test the program that it built from end to end'
+	@echo 'make install    install the program, its manual page and completions below $(PREFIX), or PREFIX=..'
+	@echo 'make uninstall  remove them'
+	@echo 'make demo       build, and check, list and scan layers written by PostGIS'
+	@echo 'make test       run the merge gate: every proof from nothing, and every test'
 	@echo 'make library    prove and build the library for C, Rust and Python: build/bindings'
-	@echo 'make install-library    put it, its header and its pkg-config file below $(PREFIX), or PREFIX=..'
-	@echo 'make uninstall-library  take them away'
-	@echo 'make bindings   build the library, and test what calls it'
+	@echo 'make install-library    install it, its header and its pkg-config file below $(PREFIX), or PREFIX=..'
+	@echo 'make uninstall-library  remove them'
+	@echo 'make bindings   build the library, and test calls from C, Rust and Python'
 	@echo 'make web        build the module for web pages, and compare it with the library (needs wasm-opt and node)'
 	@echo 'make page       build the page that checks a layer in a browser: $(PAGE) (needs wasm-opt)'
 	@echo 'make dist       pack what `make build library page` built: build/dozhemik-VERSION-x86_64-linux.tar.gz'
 	@echo 'make bench      build, and compare with plain Rust on 40 MB (needs rustc; valgrind counts instructions)'
 	@echo 'make callers    build, and compare calls from C, Rust and Python with the program on 40 MB'
-	@echo 'make picture    build, and draw how much of a layer scans read: docs/hops.svg'
+	@echo 'make picture    build, and draw how many bytes of a layer scans read: docs/hops.svg'
 	@echo 'make trusted    print how many lines of definitions have to be believed, crate by crate'
-	@echo 'make refusals   build, and refuse each call of the program for memory in turn (needs cc)'
-	@echo 'make apart      have the prover refuse the wrong bodies that the gate leaves out'
-	@echo 'make twins      check the twins of the wrong bodies, which mean what the source means'
+	@echo 'make refusals   build, and refuse each memory request of the program in turn (needs gcc)'
+	@echo 'make fuzz       build, and compare with a plain reader on random layers: SECONDS=.. SEED=.. (needs gcc)'
+	@echo 'make apart      check that the prover rejects the wrong bodies that the gate leaves out'
+	@echo 'make twins      check that the prover accepts the twins of the wrong bodies'
 	@echo 'make stack      build, and measure how much stack the deepest collections take (gdb tells more)'
 	@echo 'make clean      remove what was built'
 
@@ -105,6 +108,7 @@ test: kit
 	python3 tests/looks_ahead.py
 	python3 tests/trusted.py --strict
 	python3 tests/trusted_cases.py
+	python3 tests/borders.py
 	@mkdir -p build
 # rt ci would put back the libraries of earlier commands, which may be of older sources: so they go before.
 	rm -rf crates/*/out/rlib
@@ -119,6 +123,7 @@ test: kit
 unexport MAKEFLAGS
 test-program:
 	python3 tests/run.py $(PROGRAM)
+	python3 tests/refuse_allocations.py $(PROGRAM)
 	python3 tests/install.py
 	python3 tests/scripts.py $(PROGRAM)
 	python3 tests/publish.py $(PROGRAM)
@@ -126,13 +131,14 @@ test-program:
 
 test-languages:
 	python3 tests/bindings.py $(PROGRAM)
+	python3 tests/cuts.py
 	python3 tests/versions.py
 	python3 tests/web.py
 	python3 tests/page.py $(PROGRAM)
 	python3 tests/release.py $(PROGRAM)
 
 # What other languages call stands on one library more.
-library bindings web page callers: LIBRARIES += twkb_call
+library bindings web page callers fuzz: LIBRARIES += twkb_call
 
 library: libraries
 	bindings/build.sh
@@ -161,9 +167,13 @@ picture: build
 trusted:
 	@python3 tests/trusted.py
 
-# Each call of the whole program for memory in turn. It needs a C compiler, so the gate leaves it out.
+# Each call of the whole program for memory in turn, those of reading the words too. The gate has it, as part of test-program.
 refusals: build
 	python3 tests/refuse_allocations.py $(PROGRAM)
+
+# The program, and the C library under the sanitizers, on layers made at random, for as long as is wanted: not at the gate.
+fuzz: build library
+	python3 tests/fuzz.py $(PROGRAM) $(SECONDS) $(SEED)
 
 # Both take some checks of each crate, so the gate leaves them out.
 apart: kit

@@ -4,9 +4,8 @@
 usage: tests/apart.py [CRATE ..]   (each crate where none is named; the kit's rt in PATH)
 
 They are crates/CRATE/must-fail-apart/NAME.edit, in the form of those in must-fail/. Those of different functions are tried in
-one check, on a copy of the crate and of those below it, over what earlier checks kept. A wrong body is refused where its own
-function isn't proved, and not only since one that it calls isn't: what a function promises stays, so its proof doesn't look at
-another's body. Else it is tried alone. The repository isn't changed. Prints a line for each, and last `N passed, M failed`; the
+one check, on a copy of the crate and of those below it, over what earlier checks kept. A wrong body counts as refused only if its own
+function fails to prove: contracts stay as they are, so a proof depends on no other function's body. Otherwise it is tried alone. The repository isn't changed. Prints a line for each, and last `N passed, M failed`; the
 status is 1 where any failed, or where there is none.
 """
 import sys

@@ -121,9 +121,20 @@ def trait_item(crate, name, lines, near):
     """A trait: what it asks of its members, and their contracts."""
     item = Item(crate, name, "trait")
     item.near = near
-    for line in re.split(r"(?<=;)\n", dedent(lines)):
-        item.clauses += ghosts(line.splitlines())
+    for member in members(dedent(lines).splitlines()):
+        item.clauses += ghosts(member)
     return item
+
+
+def members(lines):
+    """The members of a trait, one after another, and the clauses and bodies of those that have some."""
+    found, depth = [], 0
+    for line in lines:
+        found.append(line)
+        depth += line.count("{") - line.count("}")
+        if depth == 0 and line.endswith((";", "}")):
+            yield found
+            found = []
 
 
 def impl_items(crate, lines, near, public, traits):

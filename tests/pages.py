@@ -1,10 +1,12 @@
 #!/usr/bin/env python3
-"""The parts of pages that are written by a script. In docs/DEFINITIONS.md: how many lines have to be believed, and the table of
-all definitions that public contracts reach. In docs/GATE.md: how many wrong bodies there are, and how large the crates are. And
-the links of all pages that lead to a contract or a definition by its name.
+"""The parts of pages that a script writes, and the links of all pages.
 
-pages.py [--write]: says which page isn't as the crates are, and which links lead to a file that lacks the name. Before that it
-writes the pages, if it is asked to."""
+In docs/DEFINITIONS.md: how many lines have to be believed, and the table of all definitions that public contracts use. In
+docs/GATE.md: how many wrong bodies there are, and how large the crates are. In README.md: the table of times, which are those of
+docs/SPEED.md. README has a greatest size, and two pages the headline.
+
+pages.py [--write]: names each page that isn't up to date, each link whose file lacks the name that it is of, and each link to a
+file, or to a heading of one, that isn't there. With --write it first writes the parts of the pages."""
 import os
 import re
 import sys
@@ -13,8 +15,22 @@ from definitions import TOP, files, uncommented
 from sizes import NAMES, all_sizes
 from trusted import QUESTIONS, Reach, answers
 
-# A link to a file of code or of definitions, whose text is names.
+# Where pages are. A folder that is left out is one of what was built.
+FOLDERS = ("", "docs", "examples", os.path.join("bindings", "python"))
+# The pages that have the headline, word for word.
+HEADLINED = ("README.md", os.path.join("docs", "PROVED.md"))
+HEADLINE = (
+    "**If `certify` accepts a file, the file is a sequence of TWKB blobs of this profile in which every size is the exact length that"
+    " follows it, every box holds every vertex of its geometry and the ids within each list are distinct; and for every window the skip"
+    " scan of that file reports exactly those blobs that have a vertex inside the window, in file order.**"
+)
+# The most lines and bytes that README may have.
+MOST = {"README.md": (150, 9_000)}
+# A link, and one to a file of code or of definitions, whose text is names.
+ANY_LINK = re.compile(r"(?<!!)\[[^\]]*\]\(([^)\s]+)\)|!\[[^\]]*\]\(([^)\s]+)\)")
 LINK = re.compile(r"\[(`[^\]]*`)\]\(([^)]*crates/[^)]*\.(?:antt|rt))\)")
+# A line of the walk in docs/ARCHITECTURE.md: a function, and its file below crates/.
+WALKED = re.compile(r"^ *(\w+) +(\w+/src/[\w/]+\.rt)", re.MULTILINE)
 MARKS = "<!-- {} by tests/pages.py -->", "<!-- end of {} -->"
 
 
@@ -86,8 +102,30 @@ def sizes(reach):
     return "\n".join(rows)
 
 
+# A step of README's table: its name there, and in docs/SPEED.md, with the layer that is told behind it there, if it is; and how many
+# bytes of examples/coast_lines_sized.twkb it reads, as tests/run.py has the program print it.
+STEPS = (
+    ("certify", "the mix", "", "84,045"),
+    ("scan for `x=10..30,y=35..45`", "hop scan, 20 by 10 degrees", "the mix", "24,857"),
+    ("scan with a directory for `x=10..30,y=85..89`, no hit", "directory scan that hits nothing", "the mix", "0"),
+)
+
+
+def speed(reach):
+    """The table of README, out of the tables of docs/SPEED.md."""
+    text = open(os.path.join(reach.top, "docs", "SPEED.md"), encoding="utf-8").read()
+    rows = ["| Step | ms for 40 MB | Plain Rust, ms | Bytes read of the 84,045 in the demo's layer |", "|---|---|---|---|"]
+    for name, step, layer, read in STEPS:
+        start = f"| {step} | {layer} |" if layer else f"| {step} |"
+        row = next(line for line in text.splitlines() if line.startswith(start))
+        ours, _, plain = row[len(start) :].split(" | ")[:3]
+        rows.append(f"| {name} | {ours.strip()} | {plain} | {read} |")
+    return "\n".join(rows)
+
+
 # Each page with the parts of it that are written, and what writes them.
 PAGES = (
+    ("README.md", (("speed", speed),)),
     (os.path.join("docs", "DEFINITIONS.md"), (("numbers", numbers), ("table", table))),
     (os.path.join("docs", "GATE.md"), (("bodies", bodies), ("sizes", sizes))),
 )
@@ -105,6 +143,13 @@ def written(text, parts, reach):
 
 def stale(reach):
     """A line for each page that isn't as it would be written."""
+    for page in HEADLINED:
+        if HEADLINE not in re.sub(r"\s+", " ", open(os.path.join(reach.top, page), encoding="utf-8").read()):
+            yield f"{page} lacks the headline, word for word"
+    for page, (lines, size) in MOST.items():
+        text = open(os.path.join(reach.top, page), encoding="utf-8").read()
+        if text.count("\n") > lines or len(text.encode()) > size:
+            yield f"{page} has {text.count(chr(10))} lines and {len(text.encode())} bytes, more than {lines} or {size}"
     for page, parts in PAGES:
         text = open(os.path.join(reach.top, page), encoding="utf-8").read()
         missing = [mark.format(name) for name, _ in parts for mark in MARKS if mark.format(name) not in text]
@@ -123,13 +168,53 @@ def write(reach):
             open(path, "w", encoding="utf-8").write(written(text, parts, reach))
 
 
+def pages_of(top):
+    """The pages, by their paths in the repository."""
+    for folder in FOLDERS:
+        for name in sorted(os.listdir(os.path.join(top, folder))):
+            if name.endswith(".md"):
+                yield os.path.join(folder, name)
+
+
+def text_of(top, page):
+    """The text of a page, without what stands in blocks of code."""
+    text = open(os.path.join(top, page), encoding="utf-8").read()
+    return re.sub(r"^```.*?^```$", "", text, flags=re.MULTILINE | re.DOTALL)
+
+
 def linked(top):
     """The links with names for their text: the page, the names, and the path of the file."""
-    for page in ("README.md", *sorted(os.path.join("docs", name) for name in os.listdir(os.path.join(top, "docs")))):
-        if page.endswith(".md"):
-            text = open(os.path.join(top, page), encoding="utf-8").read()
-            for names, target in LINK.findall(text):
-                yield page, re.findall(r"`([^`]+)`", names), os.path.normpath(os.path.join(top, os.path.dirname(page), target))
+    for page in pages_of(top):
+        for names, target in LINK.findall(text_of(top, page)):
+            yield page, re.findall(r"`([^`]+)`", names), os.path.normpath(os.path.join(top, os.path.dirname(page), target))
+
+
+def anchors(top, page):
+    """What the headings of a page are linked by."""
+    headings = re.findall(r"^#+ (.*)$", text_of(top, page), re.MULTILINE)
+    return {re.sub(r"[^\w\- ]", "", heading.lower()).replace(" ", "-") for heading in headings}
+
+
+def walked(top):
+    """A line for each function of the walk that its file lacks."""
+    text = open(os.path.join(top, "docs", "ARCHITECTURE.md"), encoding="utf-8").read()
+    for name, path in WALKED.findall(text):
+        if not has(os.path.join(top, "crates", path), name):
+            yield f"docs/ARCHITECTURE.md has {name} in {path}, which lacks it"
+
+
+def broken(top):
+    """A line for each link to a file, or to a heading of a page, that isn't there."""
+    for page in pages_of(top):
+        for targets in ANY_LINK.findall(text_of(top, page)):
+            target, _, anchor = (targets[0] or targets[1]).partition("#")
+            if re.match(r"\w+:", target):
+                continue
+            path = os.path.normpath(os.path.join(os.path.dirname(page), target)) if target else page
+            if not os.path.exists(os.path.join(top, path)):
+                yield f"{page} links {target}, which isn't there"
+            elif anchor and path.endswith(".md") and anchor not in anchors(top, path):
+                yield f"{page} links {target}#{anchor}, and no heading there has this name"
 
 
 def has(path, name):
@@ -142,11 +227,13 @@ def has(path, name):
 
 
 def astray(top=TOP):
-    """A line for each name that the file behind its link lacks."""
+    """A line for each name that the file of its link lacks, and for each link that leads nowhere."""
     for page, names, path in linked(top):
         for name in names:
             if not has(path, name):
                 yield f"{page} links {name} to {os.path.relpath(path, top)}, which lacks it"
+    yield from walked(top)
+    yield from broken(top)
 
 
 def main():

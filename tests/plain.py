@@ -1,7 +1,7 @@
 """A plain second program, by the rules of docs/FORMAT.md, to compare the program with.
 
 `check(bytes)`, `check(bytes, tight=True)`, `rows(bytes)` and `scan(bytes, windows)` are the lines that `check`, `check
---tight`, `list` and `scan` have to print. It is
+--tight`, `list` and `scan` have to print. `is_blob(bytes)` says whether bytes are one blob, whatever it claims. It is
 short rather than fast: a geometry is read into a tree, and its claims are listed and judged afterwards; a scan looks at
 every vertex for its hits, and adds up for what it reads.
 """
@@ -184,6 +184,16 @@ class Geometry:
         if self.head.kind == COLLECTION and not self.head.metadata & 16:
             return self.inside - self.start + sum(member.read_of(window) for member in self.members)
         return self.stop - self.start
+
+
+def is_blob(data):
+    """Whether the bytes are one blob, be its claims true or false."""
+    reader = Reader(data)
+    try:
+        Geometry(reader, 1, [])
+    except Malformed:
+        return False
+    return reader.place == len(data)
 
 
 @functools.lru_cache(maxsize=2)

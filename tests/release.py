@@ -32,11 +32,12 @@ AUTHOR = ["-c", "user.name=tests", "-c", "user.email=tests@localhost", "-c", "co
 NEEDS = {"git": "apt-get install git", "rt": "the Rattle kit"}
 # What a release has to hold, beside the crate for Rust and the texts of licences.
 WANTED = [
-    "README.md CHANGELOG.md NOTICES.md PROVED.md SHA256SUMS VERSION install.sh dozhemik.html".split(),
+    "README.md CHANGELOG.md CONTRIBUTING.md NOTICES.md PROVED.md SHA256SUMS VERSION install.sh dozhemik.html".split(),
     "bin/twkb_tool share/man/man1/twkb_tool.1 share/zsh/site-functions/_twkb_tool".split(),
     "share/bash-completion/completions/twkb_tool include/twkb.h".split(),
     "lib/libtwkb.a lib/libtwkb.so lib/libtwkb.so.0 lib/pkgconfig/twkb.pc".split(),
     "rust/Cargo.toml rust/build.rs rust/src/lib.rs docs/USAGE.md docs/BINDINGS.md docs/FORMAT.md".split(),
+    "docs/PROVED.md docs/TESTED.md docs/GATE.md docs/page.png".split(),
     "examples/README.md examples/coast_z.twkb examples/scripts/publish_layer.sh".split(),
     "notices/clap-LICENSE-MIT notices/itoa-LICENSE notices/smallvec-LICENSE-MIT notices/thiserror-LICENSE".split(),
 ]
@@ -88,6 +89,12 @@ def build_into(clone, program):
     sources = subprocess.run([os.path.join(clone, "tools", "sources.sh")], check=True, capture_output=True).stdout
     for name in PROVED:
         written(os.path.join(clone, "build"), f"{name}.sources", sources)
+    make_page(clone)
+
+
+def make_page(clone):
+    """The page, whose footer names the commit of the clone."""
+    module = os.path.join(clone, "build", "web", os.path.basename(MODULE))
     maker = os.path.join(clone, "bindings", "web", "make_page.py")
     subprocess.run([sys.executable, maker, module, os.path.join(clone, "build", "dozhemik.html")], check=True, stdout=subprocess.DEVNULL)
 
@@ -189,6 +196,7 @@ def refusals(clone, program, folder):
     for name in BUILT:
         os.utime(os.path.join(clone, "build", "bindings", name))
     others(clone, refused)
+    make_page(clone)
     count("and then it is packed", dist(clone)[0], 0)
 
 

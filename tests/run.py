@@ -3,11 +3,12 @@
 
 usage: tests/run.py [PROGRAM]   (build/twkb_tool where it is left out)
 
-Runs on small layers are rows of cases.tsv: a name, the words after the program's name, of which FILE is the layer,
-the layer in hexadecimal, the status and the standard output. Each of these layers is also cut after each byte, and
-has each byte changed in some ways, of a long one the last 64; the program is then compared with plain.py, which also lists and scans the examples.
-How many blobs of these have a vertex in a window was asked of PostGIS (postgis.tsv). What needs more than a layer is below.
-Prints each difference, and last a line `N passed, M failed`; the status is 1 where any failed.
+Runs on small layers are rows of cases.tsv: a name, the words after the program's name, of which FILE is the layer, the layer in
+hexadecimal, the status and the standard output. Then the program is compared with plain.py: on what comes of these layers by a
+cut before one of their last 64 bytes, or by one of these set to one of up to seven other values (changed.py; cuts.py has all
+values, over the library), and on lists and scans of the examples. How many blobs of the examples have a vertex in a window was
+asked of PostGIS (postgis.tsv). What needs more than a layer is below. Prints each difference, and last a line `N passed, M
+failed`; the status is 1 where any failed.
 """
 import os
 import resource
@@ -105,7 +106,7 @@ def scans(program, name, data, windows):
 
 
 def wider_boxes(program, folder):
-    """Layers whose boxes are true and a degree too large: certified, loose, and scanned to the same hits."""
+    """Layers whose boxes are true and a degree too large: certified, loose, and scanned for eight windows to the same hits."""
     for name, blobs, vertices in EXAMPLES[1:]:
         with open(example(name), "rb") as file:
             data = widened(file.read(), 10**7)

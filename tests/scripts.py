@@ -151,7 +151,8 @@ def rule_for_make(folder, path):
     for name, data in (("Makefile", re.sub("^    ", "", rule, flags=re.MULTILINE).encode()), ("good.twkb", GOOD), ("bad.twkb", BAD)):
         written(place, name, data)
     environment = os.environ | {"PATH": f"{path}:{os.environ['PATH']}"}
-    done = subprocess.run(["make", "-k", "good.certified", "bad.certified"], cwd=place, capture_output=True, text=True, env=environment)
+    words = ["make", "--no-print-directory", "-k", "good.certified", "bad.certified"]
+    done = subprocess.run(words, cwd=place, capture_output=True, text=True, env=environment)
     count("make, a refused layer", (done.returncode, done.stdout.splitlines()[:1]), (2, [LAYERS["deep/size.twkb"][2]]))
     count("make, what is left", sorted(os.listdir(place)), ["Makefile", "bad.twkb", "good.certified", "good.twkb"])
     with open(os.path.join(place, "good.certified")) as told:

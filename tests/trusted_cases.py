@@ -6,8 +6,8 @@ import tempfile
 
 from trusted import HEAD, Reach, headless, misplaced, too_long
 
-ROOT = "mod code;\npub use code::{Bag, says};\n"
-CODE = """ghost use Rattle.made.specs.Plain.{{IsSaid, Shown}};
+ROOT = "mod code;\npub use code::{Bag, Shows, says};\n"
+CODE = """ghost use Rattle.made.specs.Plain.{{IsSaid, IsSeen, Shown}};
 ghost use Rattle.made.specs.Devices.Steps.{{IsStep, IsTurn}};
 
 pub struct Bag {{
@@ -18,6 +18,17 @@ impl Model for Bag {{
     ghost Value = {{ Shown }};
 
     ghost view = {{ λ b. record {{ size = IsStep b.size }} }};
+}}
+
+// A member that stands after one with a body.
+pub trait Shows {{
+    fn shown(&self) -> usize
+        ensures {{ result ≡ 0 }}
+    {{
+        0
+    }}
+
+    ghost sound: {{ IsSeen 0 }};
 }}
 
 #[inline]
@@ -43,6 +54,10 @@ IsSaid n = IsSmall n
 -- a number is small
 abbrev pub IsSmall : ℕ → Type 0
 IsSmall n = n ≤ 9
+
+-- a number is seen
+abbrev pub IsSeen : ℕ → Type 0
+IsSeen n = n ≤ 1
 
 -- what is seen of a bag
 pub record Shown : Type 0 where

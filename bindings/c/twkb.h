@@ -1,22 +1,22 @@
 /* Layers of TWKB geometries for C: certified once, then scanned and listed, by the proved library.
  *
- * What a layer is, when it is certified, and what scans and lists answer is said in the repository's README. Written
- * by hand beside crates/twkb_c/src/lib.rt, whose contracts say what each call answers. layout.c keeps sizes and places
- * alike.
+ * docs/FORMAT.md of the repository says what a layer is and when it is certified, docs/PROVED.md what is proved. The header
+ * is written by hand beside crates/twkb_c/src/lib.rt, whose contracts say what each call answers; layout.c checks sizes and
+ * offsets of the structs.
  *
- * What the caller owes at each call, which nothing checks:
- * - a pointer to bytes, rows, hits or slots is good for as many as the number behind it says, and isn't NULL, also where
- *   that number is 0; a pointer to a layer or a window is good for one, and all are aligned as C aligns them;
- * - no more than 2^63 - 1 bytes are meant by one pointer and its number;
- * - nobody writes the bytes, the layer, the slots or the window while the call runs, and what is written overlaps
- *   nothing else. Room that is written needs no first value;
+ * What the caller guarantees at each call, which nothing checks:
+ * - a pointer to bytes, rows, hits or slots is valid for as many as the number after it says, and isn't NULL, even if that
+ *   number is 0; a pointer to a layer or a window is valid for one; all are aligned as C aligns them;
+ * - a pointer and its number span at most 2^63 - 1 bytes;
+ * - nobody writes the bytes, the layer, the slots or the window while the call runs, and memory that the call writes
+ *   overlaps nothing else. It needn't be initialized;
  * - a window has each field set, and its flags are 0 or 1;
- * - a layer is made of a verdict TWKB_CERTIFIED and of the very bytes that it was given for, and nobody has written
- *   them since. A layer or slots made in any other way may make a call read where it must not;
- * - malloc, realloc and free are of one allocator, and no call is made by a signal handler.
+ * - a layer is made from a verdict TWKB_CERTIFIED and the very bytes that it is about, and nobody has written them since. A
+ *   layer or slots made in any other way may make a call read out of bounds;
+ * - malloc, realloc and free are of one allocator, and no call is made from a signal handler.
  *
- * In return a call ends, keeps no pointer, has no state, and may run in many threads at once. Certifying takes memory
- * by malloc only for a list of more than sixteen ids, and frees it; no other call takes any. The code wants a processor
+ * In return a call returns, keeps no pointer, has no state, and may run in many threads at once. Certifying takes memory
+ * by malloc only for a list of more than sixteen ids, and frees it; no other call takes memory. The code needs a processor
  * of x86-64-v2. */
 #ifndef TWKB_H
 #define TWKB_H
@@ -35,8 +35,8 @@ extern "C" {
 #define TWKB_VERSION_MINOR 0
 #define TWKB_VERSION_PATCH 0
 
-/* The version of the library that is linked or loaded, which may be another than the header's: a text that stays. This one
- * function isn't proved. It is C, and returns a constant. */
+/* The version of the library that is linked or loaded, which may differ from the header's: a constant text. This one function
+ * isn't proved; it is C. */
 const char *twkb_version(void);
 
 /* What a verdict answers. */
@@ -55,21 +55,21 @@ enum {
     TWKB_LOOSE = 9
 };
 
-/* What is found of bytes. Numbers that the answer doesn't speak of are 0. */
+/* The verdict on bytes. Numbers that don't belong to the answer are 0. */
 struct twkb_verdict {
     uint32_t answer;
-    uint32_t kind;   /* of a refusal: why */
-    size_t blobs;    /* of a certified layer: how many blobs it has */
-    size_t vertices; /* and how many vertices they have */
+    uint32_t kind;   /* of a refusal: its kind */
+    size_t blobs;    /* of a certified layer: how many blobs */
+    size_t vertices; /* of a certified layer: how many vertices */
     size_t blob;     /* of a refusal: the number of the first blob that is wrong, from 0 */
-    size_t offset;   /* and the offset of what is wrong in the bytes */
+    size_t offset;   /* of a refusal: the offset of what is wrong in it */
 };
 
-/* Certifies the bytes as a layer: every size is the number of bytes behind it, every box holds the vertices below it,
- * and the ids of each list differ. TWKB_NO_MEMORY only where a list of more than sixteen ids finds no memory. */
+/* Certifies the bytes as a layer: every size is the number of bytes after it, every box holds the vertices below it,
+ * and the ids of each list differ. TWKB_NO_MEMORY only if a list of more than sixteen ids finds no memory. */
 struct twkb_verdict twkb_certify(const uint8_t *bytes, size_t len);
 
-/* Certifies as twkb_certify does, and refuses loose boxes too, which scans would hop over too seldom. */
+/* Certifies as twkb_certify does, and also refuses loose boxes, which scans would rarely hop over. */
 struct twkb_verdict twkb_certify_tight(const uint8_t *bytes, size_t len);
 
 /* A certified layer, in storage of the caller. It borrows its bytes. */
@@ -80,34 +80,34 @@ struct twkb_layer {
     size_t vertices;
 };
 
-/* What a list says of a blob. */
+/* A row of a list: one blob. */
 struct twkb_row {
     size_t blob;       /* its number, from 0 */
-    size_t offset;     /* where it begins */
-    size_t bytes;      /* how many bytes it takes */
+    size_t offset;     /* its offset */
+    size_t bytes;      /* its length in bytes */
     size_t vertices;   /* how many vertices it has, at all depths */
-    uint8_t kind;      /* its type, from 1, a point, to 7, a collection */
+    uint8_t kind;      /* its type, from 1 (point) to 7 (collection) */
     int8_t precision;  /* of X and Y, from -8 to 7 */
     bool has_size;
     bool has_box;
 };
 
-/* Writes a row for each blob, in order, as many as fit. Answers how many blobs there are. */
+/* Writes a row for each blob, in order, as many as fit. Returns how many blobs there are. */
 size_t twkb_list(const struct twkb_layer *layer, struct twkb_row *rows, size_t room);
 
-/* A number of units, of which ten million are one: high * 2^64 + low. */
+/* A number of units of 10^-7: high * 2^64 + low. */
 struct twkb_units {
     uint64_t low;
     int64_t high;
 };
 
-/* A range, both ends included. One whose lo is above its hi holds nothing. */
+/* A range, both ends included. If lo is above hi, it holds nothing. */
 struct twkb_span {
     struct twkb_units lo;
     struct twkb_units hi;
 };
 
-/* A window. Where it doesn't bound Z or M, nothing is said by that range. */
+/* A window. If it doesn't bound Z or M, that range means nothing. */
 struct twkb_window {
     struct twkb_span x;
     struct twkb_span y;
@@ -117,20 +117,20 @@ struct twkb_window {
     bool has_m;
 };
 
-/* What reading a window's text answers. */
+/* What parsing a window returns. */
 enum { TWKB_WINDOW = 0, TWKB_BAD_FORM = 1, TWKB_BAD_ORDER = 2 };
 
-/* Reads a window of the form x=A..B,y=C..D[,z=E..F][,m=G..H], with decimals of up to seven places, exactly. On an
- * answer other than TWKB_WINDOW the window stays as it was. TWKB_BAD_ORDER is of a lower bound above its upper one. */
+/* Parses a window of the form x=A..B,y=C..D[,z=E..F][,m=G..H], with up to seven decimals, exactly. Unless it returns
+ * TWKB_WINDOW, the window stays as it was. TWKB_BAD_ORDER means a lower bound above its upper bound. */
 uint32_t twkb_window_parse(const uint8_t *text, size_t len, struct twkb_window *window);
 
 /* A blob with a vertex inside a window. */
 struct twkb_hit {
     size_t blob;   /* its number, from 0 */
-    size_t offset; /* where it begins */
+    size_t offset; /* its offset */
 };
 
-/* What a scan answers: how many blobs have a vertex inside, and how many bytes it read. */
+/* The answer of a scan: how many blobs have a vertex inside, and how many bytes it read. */
 struct twkb_scanned {
     size_t hits;
     uint64_t bytes_read;
@@ -140,15 +140,16 @@ struct twkb_scanned {
 struct twkb_scanned twkb_scan(const struct twkb_layer *layer, const struct twkb_window *window,
                               struct twkb_hit *hits, size_t room);
 
-/* What a directory keeps of a blob, or of what its next slot has no place for. Its numbers mean nothing to callers. */
+/* A slot of a directory, of which a blob has one or two. Its numbers mean nothing to callers. */
 struct twkb_slot {
     uint64_t word;
     int64_t first[2];
     int64_t second[2];
 };
 
-/* Writes a directory of the layer, and answers how many slots it has: at most two for each blob. All of them are written, or
- * none. With room for two for each blob they are. Else the answer may be how many are wanted, which is more than the room. */
+/* Writes a directory of the layer, and returns how many slots it has: at most two for each blob. It is written whole or not
+ * at all; two slots for each blob always suffice. If it doesn't fit, the result is how many slots are wanted, which is more
+ * than the room has. */
 size_t twkb_directory_build(const struct twkb_layer *layer, struct twkb_slot *slots, size_t room);
 
 /* Scans as twkb_scan does, and reads nothing of a blob whose box misses the window. The slots are those that

@@ -1,6 +1,6 @@
 """Certifies layers of TWKB geometries, lists them and scans them for windows, by the proved library libtwkb.so.
 
-A layer is the bytes of TWKB blobs, one after another. It is certified where each size is the number of bytes behind it,
+A layer is the bytes of TWKB blobs, one after another. It is certified if each size is the number of bytes after it,
 each box holds the vertices below it, and the ids of each list differ. Only then is it listed and scanned:
 
     from dozhemik import Refused, certify
@@ -17,9 +17,9 @@ each box holds the vertices below it, and the ids of each list differ. Only then
         for hit in scan:
             print(hit.blob, hit.offset)
 
-What a call answers is proved of the library. This package is not: it passes the bytes, and makes Python's values of the
-answers. It loads the file that the environment variable TWKB_LIBRARY names, or libtwkb.so beside its modules, or else
-libtwkb.so.0 where the system keeps its libraries.
+The library's answers are proved. This package isn't: it passes the bytes, and turns the answers into Python values. It
+loads the file that the environment variable TWKB_LIBRARY names, or libtwkb.so beside its modules, or else the system's
+libtwkb.so.0.
 """
 from ._layer import Directory, Hit, Layer, Refused, Row, Scan, certify
 from ._window import BadWindow, Coordinate, Range, Window

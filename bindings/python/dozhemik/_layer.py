@@ -22,10 +22,10 @@ _FIRST_ROOM = 4096
 
 
 class Refused(ValueError):
-    """Bytes that are no certified layer: the first blob that is wrong, the offset of what is wrong in it, and its kind.
+    """Bytes that aren't a certified layer: the first blob that is wrong, the offset of what is wrong in it, and its kind.
 
-    A kind is "cut", "varint", "type", "depth", "range", "size", "box" or "ids", and where tight boxes were wanted also
-    "loose". docs/USAGE.md says what each asks for.
+    A kind is "cut", "varint", "type", "depth", "range", "size", "box" or "ids", and with tight=True also
+    "loose". docs/USAGE.md says what to repair for each.
     """
 
     def __init__(self, blob: int, offset: int, kind: str) -> None:
@@ -37,7 +37,7 @@ class Refused(ValueError):
 
 
 class Row(NamedTuple):
-    """What a list says of a blob: its number from 0, where it begins, its bytes, and its vertices at all depths."""
+    """A row of a list: the number of a blob from 0, its offset, its length, and its vertex count at all depths."""
 
     blob: int
     offset: int
@@ -55,7 +55,7 @@ class Row(NamedTuple):
 
 
 class Hit(NamedTuple):
-    """A blob with a vertex inside a window: its number from 0, and where it begins."""
+    """A blob with a vertex inside a window: its number from 0, and its offset."""
 
     blob: int
     offset: int
@@ -65,7 +65,7 @@ class Hit(NamedTuple):
 
 
 class Scan(Sequence[Hit]):
-    """The hits of a window in the order of the layer, and how many of its bytes were read for them."""
+    """The hits of a window in the order of the layer, and how many of the layer's bytes were read to find them."""
 
     __slots__ = ("_hits", "bytes_read")
 
@@ -91,7 +91,7 @@ class Scan(Sequence[Hit]):
 class Layer:
     """A certified layer, which holds its bytes. Made by `certify` alone. Any number of threads may use it at once.
 
-    `close` lets the bytes go, and so does the end of a `with`. Then every use but `close` raises ValueError.
+    `close` releases the bytes, and so does the end of a `with`. After that every use but `close` raises ValueError.
     """
 
     __slots__ = ("_held",)
@@ -158,7 +158,7 @@ class Layer:
         return _scan(self._open, _window(window, x, y, z, m))
 
     def directory(self) -> "Directory":
-        """A directory, by which scans read nothing of a blob whose box misses. It takes 80 bytes for each blob."""
+        """A directory, whose scans read nothing of a blob whose box misses. It takes 80 bytes for each blob."""
         layer = self._open
         slots = (_library.Slot * (2 * layer.blobs))()
         count = library.twkb_directory_build(ctypes.byref(layer), slots, len(slots))
@@ -167,7 +167,7 @@ class Layer:
         return made
 
     def close(self) -> None:
-        """Lets the bytes go. A second time does nothing."""
+        """Releases the bytes. A second call does nothing."""
         self._held = None
 
     def __enter__(self) -> "Layer":
@@ -185,7 +185,7 @@ class Layer:
 class Directory:
     """The offsets and boxes of a layer's blobs. Made by `Layer.directory` alone.
 
-    Any number of threads may use it at once. It holds its layer. Where that is closed, a scan raises ValueError.
+    Any number of threads may use it at once. It holds its layer. If that is closed, a scan raises ValueError.
     """
 
     __slots__ = ("_count", "_layer", "_slots")
@@ -214,7 +214,7 @@ class Directory:
         z: Optional[Range] = None,
         m: Optional[Range] = None,
     ) -> Scan:
-        """What `Layer.scan` finds. It reads nothing of a blob whose box misses the window."""
+        """Finds what `Layer.scan` finds. It reads nothing of a blob whose box misses the window."""
         return _scan(self._layer._open, _window(window, x, y, z, m), self)
 
     def __repr__(self) -> str:
@@ -222,7 +222,7 @@ class Directory:
 
 
 def certify(data: bytes, *, tight: bool = False) -> Layer:
-    """The layer of these bytes. Raises Refused where they are none, under `tight` also where a box is loose."""
+    """Certifies bytes as a layer. Raises Refused if they aren't one, and with `tight` also if a box is loose."""
     # A subclass may lie about its length. What isn't bytes may change while the library reads it.
     if type(data) is not bytes:
         raise TypeError(f"a layer is made of bytes, which nobody can change, not of {type(data).__name__}")

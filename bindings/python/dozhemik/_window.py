@@ -15,15 +15,15 @@ _WHOLE_DIGITS, _DECIMALS = 27, 7
 
 
 class BadWindow(ValueError):
-    """A window, or a coordinate of one, that can't be read exactly. Its text says why in one line."""
+    """A window, or a coordinate of one, that can't be represented exactly. Its text says why in one line."""
 
 
 class Window:
-    """A range of X and of Y, and of Z and M where they are bounded, both ends included.
+    """A range of X and of Y, and of Z and M if they are bounded, both ends included.
 
     A float stands for the shortest decimal text that gives it, as `repr` writes it: 0.1 is a tenth. Nothing is rounded.
     A number that takes more than seven decimals is refused. So is one of more than 27 digits before the point, a NaN
-    and an infinity. Round such a number before, to the side that is meant.
+    and an infinity. Round such a number first, to the side that you mean.
     """
 
     __slots__ = ("_struct", "_text")

@@ -6,10 +6,9 @@ use std::collections::TryReserveError;
 use std::fmt;
 use std::mem::MaybeUninit;
 
-/// The offsets and boxes of a layer's blobs, by which scans read nothing of a blob whose box misses the window.
+/// The offsets and boxes of a layer's blobs. Its scans read nothing of a blob whose box misses the window.
 ///
-/// [`Layer::directory`] makes it. It keeps its layer with it, and so can't be used with another one, nor outlive the
-/// bytes:
+/// [`Layer::directory`] makes it. It holds its layer, so it can't be used with another one or outlive the bytes:
 ///
 /// ```compile_fail,E0597
 /// # use dozhemik::Layer;
@@ -40,12 +39,12 @@ impl<'a> Directory<'a> {
         Ok(Directory { layer, slots })
     }
 
-    /// The layer that it is a directory of.
+    /// The layer of this directory.
     pub const fn layer(&self) -> Layer<'a> {
         self.layer
     }
 
-    /// What [`Layer::scan`] finds, with fewer bytes read where boxes miss the window.
+    /// Finds what [`Layer::scan`] finds, and reads nothing of a blob whose box misses the window.
     ///
     /// ```
     /// # use dozhemik::{Hit, Layer};

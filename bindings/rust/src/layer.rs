@@ -5,10 +5,10 @@ use std::collections::TryReserveError;
 use std::fmt;
 use std::mem::{size_of, MaybeUninit};
 
-/// Bytes that are a certified layer. It borrows them, and is as small as a slice and two numbers.
+/// A certified layer. It borrows its bytes, and is as small as a slice and two numbers.
 ///
-/// A layer is only made of bytes that were certified, and the borrow keeps them as they were: so each of its answers is
-/// of what was certified. It may be copied, and used by many threads at once. A program that keeps its layers for as
+/// A layer is only made from bytes that were certified, and the borrow keeps them unchanged, so each answer is about
+/// what was certified. It may be copied, and used by many threads at once. A program that keeps its layers for as
 /// long as it runs may give their bytes away: `Layer::certify(Vec::leak(bytes))` is a `Layer<'static>`.
 ///
 /// It can't outlive its bytes:
@@ -22,7 +22,7 @@ use std::mem::{size_of, MaybeUninit};
 /// layer.list().unwrap();
 /// ```
 ///
-/// While it is used, nobody writes them:
+/// While the layer is used, nobody can write its bytes:
 ///
 /// ```compile_fail,E0506
 /// # use dozhemik::Layer;
@@ -41,23 +41,23 @@ pub struct Layer<'a> {
 }
 
 impl<'a> Layer<'a> {
-    /// Certifies bytes as a layer: every size is the number of bytes behind it, every box holds the vertices below it,
+    /// Certifies bytes as a layer: every size is the number of bytes after it, every box holds the vertices below it,
     /// and the ids of each list differ.
     ///
     /// # Errors
     ///
     /// [`CertifyError::Refused`] names the first blob that is malformed or has a false claim, the offset and the kind.
-    /// [`CertifyError::NoMemory`] comes only where a list of more than sixteen ids finds no memory.
+    /// [`CertifyError::NoMemory`] is returned only if a list of more than sixteen ids finds no memory.
     pub fn certify(bytes: &'a [u8]) -> Result<Layer<'a>, CertifyError> {
         // Sound: a slice's pointer is good for its length and isn't null, and nobody writes what is borrowed.
         let verdict = unsafe { ffi::twkb_certify(bytes.as_ptr(), bytes.len()) };
         Layer::judged(bytes, verdict)
     }
 
-    /// Certifies as [`certify`](Layer::certify) does, and refuses boxes that are true and larger than they have to be,
-    /// too.
+    /// Certifies as [`certify`](Layer::certify) does, and also refuses boxes that are true and larger than they have to
+    /// be.
     ///
-    /// Over a loose box scans hop too seldom, and what they find is the same.
+    /// Scans rarely hop over a loose box. What they find doesn't change.
     ///
     /// # Errors
     ///
@@ -91,7 +91,7 @@ impl<'a> Layer<'a> {
         self.blobs
     }
 
-    /// How many vertices they have, at all depths.
+    /// How many vertices the blobs have, at all depths.
     pub const fn vertices(&self) -> usize {
         self.vertices
     }
@@ -127,8 +127,7 @@ impl<'a> Layer<'a> {
     /// # }
     /// ```
     ///
-    /// It first takes room for as many hits as fit in the memory of the layer itself. Where there are more, it scans
-    /// again.
+    /// It first takes as much memory for hits as the layer itself has bytes. If there are more hits, it scans again.
     ///
     /// # Errors
     ///
@@ -137,7 +136,7 @@ impl<'a> Layer<'a> {
         scan_growing(self, |room| self.scan_spare(window, room))
     }
 
-    /// A directory, by which scans read nothing of a blob whose box misses the window.
+    /// A directory, whose scans read nothing of a blob whose box misses the window.
     ///
     /// # Errors
     ///
@@ -208,7 +207,7 @@ where
     }
 }
 
-/// The same hits in memory of their own size.
+/// The hits, moved to memory of their own size.
 fn fitted(hits: Vec<Hit>) -> Result<Vec<Hit>, TryReserveError> {
     if hits.len() == hits.capacity() {
         return Ok(hits);

@@ -1,14 +1,13 @@
 //! Layers of TWKB geometries: certified once, then scanned and listed, by a proved library.
 //!
 //! TWKB (Tiny Well-Known Binary) is the compact integer encoding of geometries, and a layer is a run of its blobs. A
-//! blob may have a size and a box, by which a scan hops over it where a window misses it. [`Layer::certify`] reads a
-//! layer whole and tells whether each size is true, each box holds the vertices below it, and the ids of each list
-//! differ. Else it names the first claim that is false by its blob, its offset and its kind. A certified layer is then
-//! [listed](Layer::list), and [scanned](Layer::scan) for the blobs that have a vertex inside a [`Window`].
+//! blob may have a size and a bounding box, and a scan hops over it if the box misses the window. [`Layer::certify`] reads a
+//! layer whole and says whether each size is true, each box holds the vertices below it, and the ids of each list
+//! differ. Otherwise it names the first blob that is wrong, and in it the offset and the kind of what is wrong. A certified
+//! layer is then [listed](Layer::list), and [scanned](Layer::scan) for the blobs that have a vertex inside a [`Window`].
 //!
-//! What certifying, listing, scanning and the reading of a window's text answer is proved, in Rattle, and linked as
-//! `libtwkb.a`. What this crate adds is trusted: one `extern` block, and types that keep what the library asks of its
-//! callers.
+//! Certifying, listing, scanning and the parsing of windows are proved, in Rattle, and linked as `libtwkb.a`. What this
+//! crate adds is trusted: one `extern` block, and types that guarantee what the library requires of its callers.
 //!
 //! # Example
 //!
@@ -44,14 +43,14 @@
 //!
 //! # Memory and time
 //!
-//! Certifying takes time in proportion to the bytes, and takes memory only for a list of more than sixteen ids, while
-//! it reads it. A scan reads of each blob its header, and the rest of those that it can't hop over.
-//! For many windows a [`Directory`] takes 80 bytes a blob, and its scans read nothing of a blob whose box misses the
-//! window. [`Layer::scan_into`] takes no memory at all. Where memory is refused, a call answers so, and never aborts.
+//! Certifying takes time in proportion to the bytes, and memory only for a list of more than sixteen ids, while it reads
+//! it. A scan reads the header of each blob, and the rest of those that it can't hop over. For many windows a
+//! [`Directory`] takes 80 bytes a blob, and its scans read nothing of a blob whose box misses the window.
+//! [`Layer::scan_into`] takes no memory at all. If memory is refused, a call returns an error and never aborts.
 //!
 //! # Building
 //!
-//! The environment variable `TWKB_LIB` names the folder of `libtwkb.a`, which `make bindings` makes in the repository.
+//! The environment variable `TWKB_LIB` names the folder of `libtwkb.a`, which `make library` builds in the repository.
 //! It is code for x86-64 with the instructions of x86-64-v2.
 #![warn(missing_docs, missing_debug_implementations, unreachable_pub, rust_2018_idioms)]
 #![deny(unsafe_op_in_unsafe_fn)]

@@ -1,20 +1,20 @@
-//! Why bytes are no certified layer.
+//! Why bytes aren't a certified layer.
 
 use std::error::Error;
 use std::fmt;
 
-/// Why [`Layer::certify`](crate::Layer::certify) gives no layer.
+/// Why [`Layer::certify`](crate::Layer::certify) returns no layer.
 #[derive(Clone, Copy, Debug, PartialEq, Eq, Hash)]
 pub enum CertifyError {
-    /// The bytes are no certified layer.
+    /// The bytes aren't a certified layer.
     Refused(Refusal),
-    /// A list of more than sixteen ids found no memory, so that nothing is said of the bytes.
+    /// A list of more than sixteen ids found no memory. Nothing is known of the bytes.
     NoMemory,
 }
 
-/// What is wrong in bytes that are refused: their first blob that is malformed or has a false claim, and where.
+/// The first blob that is malformed or has a false claim, and where and why.
 ///
-/// Bytes have one refusal at most. The blobs before it are a certified layer.
+/// Given bytes have at most one refusal. The blobs before it are a certified layer.
 #[derive(Clone, Copy, Debug, PartialEq, Eq, Hash)]
 pub struct Refusal {
     /// The number of the blob, from 0.
@@ -30,7 +30,7 @@ pub struct Refusal {
 pub enum RefusalKind {
     /// The bytes end within the blob.
     Cut,
-    /// A number is longer than numbers may be.
+    /// A number exceeds 64 bits.
     Varint,
     /// No geometry has this type.
     Type,
@@ -38,7 +38,7 @@ pub enum RefusalKind {
     Depth,
     /// A coordinate doesn't fit 64 bits.
     Range,
-    /// A size isn't the number of bytes behind it.
+    /// A size isn't the number of bytes after it.
     Size,
     /// A box doesn't hold a vertex below it.
     Box,

@@ -2,21 +2,21 @@
 
 use std::fmt;
 
-/// What a [list](crate::Layer::list) says of a blob.
+/// A row of a [list](crate::Layer::list): one blob.
 #[repr(C)]
 #[derive(Clone, Copy, Debug, PartialEq, Eq, Hash)]
 pub struct Row {
     /// Its number, from 0.
     pub blob: usize,
-    /// Where it begins.
+    /// Its offset.
     pub offset: usize,
-    /// How many bytes it takes.
+    /// Its length in bytes.
     pub bytes: usize,
     /// How many vertices it has, at all depths.
     pub vertices: usize,
     /// Its type.
     pub kind: Kind,
-    /// The precision of its X and Y, from -8 to 7: how many decimals they have.
+    /// The precision of X and Y, from -8 to 7: how many decimals they have.
     pub precision: i8,
     /// Whether it has a size.
     pub has_size: bool,

@@ -6,7 +6,7 @@
 pub struct Hit {
     /// Its number, from 0.
     pub blob: usize,
-    /// Where it begins.
+    /// Its offset.
     pub offset: usize,
 }
 

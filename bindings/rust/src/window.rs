@@ -32,7 +32,7 @@ impl Span {
     ///
     /// # Errors
     ///
-    /// [`BadWindow::Order`], where the lower end is above the upper one.
+    /// [`BadWindow::Order`], if the lower end is above the upper one.
     pub const fn from_units(units: RangeInclusive<i128>) -> Result<Span, BadWindow> {
         let (lo, hi) = (*units.start(), *units.end());
         if lo > hi {
@@ -51,8 +51,8 @@ impl Span {
     ///
     /// # Errors
     ///
-    /// [`BadWindow::NotFinite`], [`BadWindow::TooLarge`] and [`BadWindow::MoreThanSevenDecimals`], where an end can't
-    /// be written so. [`BadWindow::Order`], where the lower end is above the upper one.
+    /// [`BadWindow::NotFinite`], [`BadWindow::TooLarge`] and [`BadWindow::MoreThanSevenDecimals`], if an end can't be
+    /// written so. [`BadWindow::Order`], if the lower end is above the upper one.
     pub fn from_coordinates(coordinates: RangeInclusive<f64>) -> Result<Span, BadWindow> {
         let mut text = Text::new();
         text.push("x=");
@@ -84,10 +84,9 @@ impl Span {
 
 /// A window: a range for X and one for Y, and perhaps for Z and for M.
 ///
-/// A vertex is inside where it has each axis that the window bounds, with a value in its range. A window is made of
-/// [spans](Span), or of a text of the form `x=A..B,y=C..D[,z=E..F][,m=G..H]`, by [`str::parse`]. Each number of such a
-/// text is one to 27 digits, with a minus before them or not, and perhaps a point and one to seven digits behind them.
-/// The text is read exactly.
+/// A vertex is inside if it has each axis that the window bounds, with a value in its range. A window is made from
+/// [spans](Span), or from a text of the form `x=A..B,y=C..D[,z=E..F][,m=G..H]` by [`str::parse`]. A number of such a text
+/// is an optional minus, 1 to 27 digits, and optionally a point and 1 to 7 digits. The text is parsed exactly.
 ///
 /// ```
 /// # use dozhemik::{BadWindow, Span, Window};
@@ -107,18 +106,18 @@ pub struct Window {
 }
 
 impl Window {
-    /// The window of two ranges.
+    /// A window of these ranges in X and Y.
     pub const fn new(x: Span, y: Span) -> Window {
         Window { x, y, z: None, m: None }
     }
 
-    /// The same window with a range for Z.
+    /// This window with a range for Z.
     #[must_use]
     pub const fn with_z(self, z: Span) -> Window {
         Window { z: Some(z), ..self }
     }
 
-    /// The same window with a range for M.
+    /// This window with a range for M.
     #[must_use]
     pub const fn with_m(self, m: Span) -> Window {
         Window { m: Some(m), ..self }
@@ -134,12 +133,12 @@ impl Window {
         self.y
     }
 
-    /// The range for Z, where it is bounded.
+    /// The range for Z, if it is bounded.
     pub const fn z(&self) -> Option<Span> {
         self.z
     }
 
-    /// The range for M, where it is bounded.
+    /// The range for M, if it is bounded.
     pub const fn m(&self) -> Option<Span> {
         self.m
     }
@@ -169,7 +168,7 @@ impl Window {
 impl FromStr for Window {
     type Err = BadWindow;
 
-    /// Reads a window's text.
+    /// Parses a window.
     ///
     /// # Errors
     ///
@@ -180,10 +179,10 @@ impl FromStr for Window {
     }
 }
 
-/// Why there is no such window.
+/// Why a text or coordinates give no window.
 #[derive(Clone, Copy, Debug, PartialEq, Eq, Hash)]
 pub enum BadWindow {
-    /// The text hasn't the form of a window.
+    /// The text doesn't have the form of a window.
     Form,
     /// A lower bound is above its upper one.
     Order,
@@ -191,7 +190,7 @@ pub enum BadWindow {
     NotFinite,
     /// A coordinate has more than 27 digits before the point.
     TooLarge,
-    /// The shortest decimal text of a coordinate has more than seven digits behind the point.
+    /// The shortest decimal text of a coordinate has more than seven digits after the point.
     MoreThanSevenDecimals,
 }
 
