@@ -73,7 +73,7 @@ put lib/libtwkb.a build/bindings/libtwkb.a
 put lib/libtwkb.so.0 build/bindings/libtwkb.so
 ln -s libtwkb.so.0 "$to/lib/libtwkb.so"
 put lib/pkgconfig/twkb.pc bindings/c/twkb.pc
-put ./ README.md CHANGELOG.md NOTICES.md VERSION tools/install.sh build/dozhemik.html
+put ./ README.md CHANGELOG.md CONTRIBUTING.md NOTICES.md VERSION tools/install.sh build/dozhemik.html
 put docs/ docs/*.md docs/*.svg docs/*.png
 put examples/ examples/README.md examples/*.twkb examples/*.sh examples/*.py
 put examples/scripts/ examples/scripts/*.sh examples/scripts/*.py
@@ -93,14 +93,14 @@ Dozhemik $version, of the commit \`$commit\`, by the kit \`$kit\`.
 
 | Here | What it is |
 |---|---|
-| \`bin/twkb_tool\` | built by this kit out of crates that it has proved: it builds no others |
-| \`lib/libtwkb.a\`, \`lib/libtwkb.so.0\`, and the library in the wheel | the same, but for \`twkb_version()\`, which is C, and three functions of the kit that call the C library |
-| the module inside \`dozhemik.html\` | the same, and then made smaller and of 32 bits by \`wasm-opt\` |
-| all else | not proved: the header, the package for Python, the crate for Rust, the rest of the page, the scripts |
+| \`bin/twkb_tool\` | built by this kit from crates that it has proved; it builds no others |
+| \`lib/libtwkb.a\`, \`lib/libtwkb.so.0\`, and the library in the wheel | built in the same way, except \`twkb_version()\`, which is C, and three functions of the kit that call the C library |
+| the module inside \`dozhemik.html\` | built in the same way, and then lowered to 32 bits and made smaller by \`wasm-opt\` |
+| everything else | not proved: the header, the package for Python, the crate for Rust, the rest of the page, the scripts |
 
-What is proved of these, what is only tested and what is trusted is said in \`README.md\`, and for callers and for the page in
-\`docs/BINDINGS.md\`. With the kit and a checkout of the commit, \`make test\` proves and tests all of it again.
-\`SHA256SUMS\` has a sum of each file: \`sha256sum --check SHA256SUMS\`, as \`install.sh\` does.
+\`docs/PROVED.md\` says what is proved of these, \`docs/TESTED.md\` what is only tested, \`README.md\` what is trusted, and
+\`docs/BINDINGS.md\` all this for callers and for the page. With the kit and a checkout of the commit, \`make test\` proves and tests
+all of it again. \`SHA256SUMS\` has a sum of each file: \`sha256sum --check SHA256SUMS\`, as \`install.sh\` does.
 TEXT
 
 chmod -R u=rwX,go=rX "$to"
