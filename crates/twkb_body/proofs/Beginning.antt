@@ -114,3 +114,35 @@ flat_behind passes begun g depth before now size x y axes read is stays =
       moved = read.moved;
       stays = flat_hop passes begun size x y now.place false stays;
     }
+
+-- a header with a size and nothing else: it stops at a size that is wrong
+sized_stops : (begun : Begun) (b d : Reading) (m : Malformed) → begun.metadata ≡ 2 → number_at b ≡ (Err m, d) → rest_at begun.kind begun.xy begun.metadata begun.start b ≡ (Err m, d)
+unfolding rest_at
+sized_stops begun b d m two e = rw (two, e) refl
+
+-- its fields, where it is that of a point
+sized_read : (begun : Begun) (n : ℕ) (b d : Reading) → begun.kind ≡ Point → begun.metadata ≡ 2 → number_at b ≡ (Ok n, d)
+    → rest_at begun.kind begun.xy begun.metadata begun.start b ≡ (Ok (full_head Point (flat_axes begun.xy) false (Some (record { value = n; offset = b.place; after = d.place })) None begun.start d.place), d)
+unfolding rest_at
+sized_read begun n b d point two number = rw (point, two, number) refl
+
+-- a point with a size and nothing else
+module _ (begun : Begun) (g : Geometry) (depth : ℕ) (before now : Reading) (come : HasCome begun now g depth before) (two : begun.metadata ≡ 2) where
+  pub sized_stands : (m : Malformed) (d : Reading) → number_at now ≡ (Err m, d) → ⊥
+  sized_stands m d e = rest_stands begun g depth before now d come m (sized_stops begun now d m two e)
+
+  pub sized_behind : (passes : Bounds → Bool) (n : ℕ) (d : Reading) (axes : Axes) → begun.kind ≡ Point → number_at now ≡ (Ok n, d) → axes ≡ flat_axes begun.xy → IsBehind passes Point axes false d g depth before
+  sized_behind passes n d axes point number is =
+      let size : Option SizeField = Some (record { value = n; offset = now.place; after = d.place }) in
+      let there = head_there begun g depth before now d come (full_head Point (flat_axes begun.xy) false size None begun.start d.place) (sized_read begun n now d point two number) in
+      record {
+        size = size;
+        bounds = None;
+        start = begun.start;
+        stop = d.place;
+        stands = come.stands;
+        sound = come.sound;
+        at = subst (λ (a : Axes). IsHeadAt (full_head Point a false size None begun.start d.place) 1 before.place (passed before d)) (sym is) there.0;
+        moved = there.1;
+        stays = refl;
+      }

@@ -106,7 +106,8 @@ fn show_part<V: Visit>(
 }
 
 /// Shows the rings of a polygon.
-#[inline(always)]
+// It isn't inlined: `show_part` with both would be too large to be inlined itself, and few geometries are polygons.
+#[inline(never)]
 fn show_polygon<V: Visit>(
     cursor: &mut Cursor,
     head: &Head,

@@ -1,6 +1,7 @@
 //! One step of a skim: past the header of a certified geometry, which is then hopped over, read whole or opened.
 ghost use Rattle.std.specs.Prelude.{◌≡◌, ℕ, ◌+◌, ◌<◌, ◌^◌, true, None, IfSome};
 ghost use Rattle.twkb_num.specs.Units.{IsPrecision};
+ghost use Rattle.twkb_head.specs.declared.kinds.Kind.TheVariants.{Point};
 ghost use Rattle.twkb_body.specs.Geometry.{Geometry, HavePrecisions};
 ghost use Rattle.twkb_body.specs.Devices.Skimmed.{hop_of, Entered, HasCome, HasRead, IsThere, Enters};
 ghost use Rattle.twkb_head.specs.Raw.{head_said, flat_box, raw_bounds, IsNear};
@@ -27,12 +28,12 @@ pub fn enter<V: Visit>(cursor: &mut Cursor, visitor: &mut V) -> u64
     let Some(begun) = begin_head(cursor, 1) else {
         unreachable!()
     };
-    // In these two branches the compiler knows which fields there are. Most boxes and most points go through them.
+    // Most boxes and most points go through these two branches, which know the fields.
     if begun.is_flat_boxed() {
         return enter_boxed(cursor, begun.announcing(3), visitor);
     }
     if begun.is_sized_point() {
-        return enter_begun(cursor, begun.announcing(2), visitor);
+        return enter_sized_point(cursor, begun.announcing(2), visitor);
     }
     enter_apart(
         cursor,
@@ -80,6 +81,21 @@ fn enter_begun<V: Visit>(cursor: &mut Cursor, begun: Begun, visitor: &mut V) -> 
         unreachable!()
     };
     enter_headed(cursor, raw, visitor)
+}
+
+/// Enters a point that has a size, and no other field.
+#[inline(always)]
+fn enter_sized_point<V: Visit>(cursor: &mut Cursor, begun: Begun, visitor: &mut V) -> u64
+    requires xy { IsPrecision begun.xy }
+    requires kind { begun.kind ≡ Point }
+    requires sized { begun.metadata ≡ 2 }
+    requires come { IsThere (HasCome begun cursor.old) }
+    ensures { Enters V.step V.passes (HasCome begun cursor.old) (V.state visitor.old) (V.state visitor.new) cursor.new result }
+{
+    let Ok(_size) = take_number(cursor) else {
+        unreachable!()
+    };
+    enter_point(cursor, Axes::flat(begun.xy), false, visitor)
 }
 
 /// Enters a geometry whose header was read.

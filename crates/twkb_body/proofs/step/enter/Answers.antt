@@ -16,11 +16,11 @@ enter_boxed-requires-clause-come g c = (c.requires.0, c.requires.1, c.args.curso
 pub returns-then-is_flat_boxed : goal.returns-then-is_flat_boxed
 returns-then-is_flat_boxed g c = λ t depth at. c.enter_boxed.ensures t depth c.args.cursor.now (record { stands = at; sound = c.place_is_within.ensures; begins = announced_same c.in-Some.begun c.announcing.result 1 3 c.args.cursor.now c.begin_head.new.cursor (c.is_flat_boxed.ensures c.if-is_flat_boxed.true) c.announcing.ensures c.in-Some.ensures.some })
 
-pub enter_begun-requires-clause-come : goal.enter_begun-requires-clause-come
-enter_begun-requires-clause-come g c = (c.requires.0, c.requires.1, c.args.cursor.now, record { stands = c.requires.2; sound = c.place_is_within.ensures; begins = announced_same c.in-Some.begun c.announcing-then-is_sized_point.result 1 2 c.args.cursor.now c.begin_head.new.cursor (c.is_sized_point.ensures.metadata c.if-is_sized_point.true) c.announcing-then-is_sized_point.ensures c.in-Some.ensures.some })
+pub enter_sized_point-requires-clause-come : goal.enter_sized_point-requires-clause-come
+enter_sized_point-requires-clause-come g c = (c.requires.0, c.requires.1, c.args.cursor.now, record { stands = c.requires.2; sound = c.place_is_within.ensures; begins = announced_same c.in-Some.begun c.announcing-then-is_sized_point.result 1 2 c.args.cursor.now c.begin_head.new.cursor (c.is_sized_point.ensures.metadata c.if-is_sized_point.true) c.announcing-then-is_sized_point.ensures c.in-Some.ensures.some })
 
 pub returns-then-is_sized_point : goal.returns-then-is_sized_point
-returns-then-is_sized_point g c = λ t depth at. c.enter_begun.ensures t depth c.args.cursor.now (record { stands = at; sound = c.place_is_within.ensures; begins = announced_same c.in-Some.begun c.announcing-then-is_sized_point.result 1 2 c.args.cursor.now c.begin_head.new.cursor (c.is_sized_point.ensures.metadata c.if-is_sized_point.true) c.announcing-then-is_sized_point.ensures c.in-Some.ensures.some })
+returns-then-is_sized_point g c = λ t depth at. c.enter_sized_point.ensures t depth c.args.cursor.now (record { stands = at; sound = c.place_is_within.ensures; begins = announced_same c.in-Some.begun c.announcing-then-is_sized_point.result 1 2 c.args.cursor.now c.begin_head.new.cursor (c.is_sized_point.ensures.metadata c.if-is_sized_point.true) c.announcing-then-is_sized_point.ensures c.in-Some.ensures.some })
 
 pub enter_apart-requires-clause-come : goal.enter_apart-requires-clause-come
 enter_apart-requires-clause-come g c =
