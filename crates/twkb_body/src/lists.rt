@@ -46,7 +46,8 @@ pub fn take_list<R: IdRoom>(
 }
 
 /// The count of a list, and past its ids, where they are announced.
-#[inline(always)]
+// It isn't inlined: what goes on after it would be too large to be inlined itself.
+#[inline(never)]
 #[tactic(auto, unfolding(crate::specs::Devices::BodyReader::list_at))]
 pub fn pass_list(cursor: &mut Cursor, has_ids: bool) -> Result<u64, Malformed>
     ensures { Reads (list_at has_ids cursor.old) (λ list count. count ≡ (list.0).0) result cursor.new }

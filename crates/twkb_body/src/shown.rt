@@ -162,7 +162,7 @@ fn show_ring<V: Visit>(
 }
 
 /// Shows one point.
-#[inline(always)]
+#[inline(never)]
 fn show_point<V: Visit>(
     cursor: &mut Cursor,
     head: &Head,
