@@ -1,5 +1,5 @@
 -- A certified geometry whose header was read: what that says of it, and where its size leads.
-use Rattle.std.proofs.Common.{◌≡◌, ℕ, ◌+◌, ◌^◌, ◌<◌, ◌≤◌, true, List, Option, Some, None, option_map, ap, sym, ◌∙◌, arith, length}
+use Rattle.std.proofs.Common.{◌≡◌, ℕ, ◌+◌, ◌^◌, ◌<◌, ◌≤◌, true, List, Bool, cond, Option, Some, None, is_some, option_map, refl, ap, sym, ◌∙◌, arith, length}
 use Rattle.twkb_num.specs.Cursor.{Reading, added}
 use Rattle.twkb_head.specs.declared.boxes.Vertex.{Vertex}
 use Rattle.twkb_head.specs.declared.boxes.Bounds.{Bounds}
@@ -11,7 +11,7 @@ use Rattle.twkb_head.specs.Head.{head_of}
 use Rattle.twkb_head.specs.Raw.{head_said}
 use Rattle.twkb_body.specs.Geometry.{Geometry, geometry, lengths_of}
 use Rattle.twkb_body.specs.Standing.{StandsAt, head_standing}
-use Rattle.twkb_body.specs.Visit.{walk}
+use Rattle.twkb_body.specs.Visit.{walk, bytes_to_pass}
 use Rattle.twkb_body.specs.Devices.Skimmed.{HasRead}
 use Rattle.twkb_body.proofs.Entering.{size_leads}
 use Rattle.twkb_body.proofs.HeadStands.{has_head}
@@ -29,9 +29,8 @@ pub record IsSizedEnd (g : Geometry) (before now : Reading) (size : SizeField) :
   pub stop : size.after + size.value ≡ before.place + (lengths_of g).whole
   pub within : before.place + (lengths_of g).whole ≤ length now.bytes
   pub fits : size.after + size.value < 2 ^ 64
-  pub read : ℕ
-  pub few : read ≤ (lengths_of g).whole
-  pub count : now.count ≡ added before.count read
+  pub few : bytes_to_pass g ≤ (lengths_of g).whole
+  pub count : now.count ≡ added before.count (bytes_to_pass g)
 
 sized : (n : Option ℕ) (offset after : ℕ) (size : SizeField) → option_map (λ value. record { value = value; offset = offset; after = after }) n ≡ Some size → (n ≡ Some size.value) × (after ≡ size.after)
 sized None offset after size e = absurd (cc (e))
@@ -44,15 +43,27 @@ sized_end (geometry h l ids polygons members) depth before now raw size read is 
     let hd = has_head h l ids polygons members depth before now (head_said raw) read.stands read.at read.moved in
     let s = sized h.size (before.place + l.before) (before.place + l.before + l.size) size (ap (λ (x : Head). x.size) (sym hd.head_is) ∙ is) in
     let leads = size_leads h l ids polygons members depth before.bytes before.place size.value read.stands s.0 in
+    let header : bytes_to_pass (geometry h l ids polygons members) ≡ l.header = ap (λ (n : Option ℕ). cond (is_some n) l.header (walk (geometry h l ids polygons members) (Unit {0}) (λ s v. s) (λ s box. true) tt)) s.0 in
     record {
       stop = omega (arith, leads.0, s.1);
       within = omega (arith, leads.1, ap length read.moved.bytes);
       fits = omega (arith, leads.0, leads.1, s.1, read.sound.length_fits);
-      read = l.header;
-      few = omega (arith, hd.whole);
-      count = read.moved.count ∙ ap (added before.count) (omega (arith, hd.far));
+      few = omega (arith, header, hd.whole);
+      count = read.moved.count ∙ ap (added before.count) (omega (arith, header, hd.far));
     }
+
+unsized : (n : Option ℕ) (offset after : ℕ) → option_map (λ value. (let size : SizeField = record { value = value; offset = offset; after = after } in size)) n ≡ None → n ≡ None
+unsized None offset after e = refl
+unsized (Some n) offset after e = absurd (cc (e))
 
 -- a visitor that has nothing to see reads no more than the geometry
 pub passing_few : (g : Geometry) (bytes : List ℕ) (place : ℕ) → StandsAt g 1 bytes place → walk g (Unit {0}) (λ (s : Unit {0}) (v : Vertex). s) (λ (s : Unit {0}) (b : Bounds). true) tt ≤ (lengths_of g).whole
 passing_few g bytes place at = walk_most (Unit {0}) (λ s v. s) (λ s b. true) g tt (blob_order deepest g at.front 1 at.blob).1
+
+-- what passing a geometry reads where it has no size
+pub unsized_reads : (g : Geometry) (depth : ℕ) (before now : Reading) (raw : Fields) → HasRead raw now g depth before → raw.size ≡ None
+    → bytes_to_pass g ≡ walk g (Unit {0}) (λ (s : Unit {0}) (v : Vertex). s) (λ (s : Unit {0}) (b : Bounds). true) tt
+unsized_reads (geometry h l ids polygons members) depth before now raw read is =
+    let hd = has_head h l ids polygons members depth before now (head_said raw) read.stands read.at read.moved in
+    let none = unsized h.size (before.place + l.before) (before.place + l.before + l.size) (ap (λ (x : Head). x.size) (sym hd.head_is) ∙ is) in
+    ap (λ (n : Option ℕ). cond (is_some n) l.header (walk (geometry h l ids polygons members) (Unit {0}) (λ s v. s) (λ s b. true) tt)) none

@@ -1,4 +1,4 @@
-//! Certified blobs whose headers are handed back: each header is read once.
+//! Certified blobs whose headers are handed back, each read once.
 ghost use Rattle.std.specs.Prelude.{◌≡◌, ℕ, ◌+◌, ◌≤◌, fold};
 ghost use Rattle.twkb_num.specs.Cursor.{Reading, added};
 ghost use Rattle.twkb_num.specs.Units.{IsPrecision};
@@ -6,7 +6,7 @@ ghost use Rattle.twkb_head.specs.Raw.{head_said};
 ghost use Rattle.twkb_body.specs.Geometry.{Geometry, HavePrecisions, lengths_of, vertices};
 ghost use Rattle.twkb_body.specs.Standing.{StandsAt, head_standing};
 ghost use Rattle.twkb_body.specs.Devices.Skimmed.{HasCome, HasRead, skimmed};
-ghost use Rattle.twkb_body.specs.Visit.{walk};
+ghost use Rattle.twkb_body.specs.Visit.{walk, bytes_to_pass};
 
 use crate::passer::Passer;
 use crate::skimming::skim_members;
@@ -35,8 +35,10 @@ pub fn read_and_skim<V: Visit>(cursor: &mut Cursor, visitor: &mut V) -> Fields
     raw
 }
 
-/// Moves past the certified blob at the place, and answers its header. A blob with a size is passed by that, any other by the
-/// ends of its numbers and the sizes and boxes of its members. No byte is counted twice.
+/// Moves past the certified blob at the place, and answers its header.
+///
+/// Of a blob with a size it reads the header, once, and nothing else. Any other is passed by the ends of its numbers, and its
+/// members by their sizes where they have boxes too.
 #[inline(always)]
 pub fn read_and_pass(cursor: &mut Cursor) -> Fields
     requires { (g : Geometry) × StandsAt g 1 cursor.old.bytes cursor.old.place }
@@ -47,7 +49,9 @@ pub fn read_and_pass(cursor: &mut Cursor) -> Fields
     ensures place { (g : Geometry) → StandsAt g 1 cursor.old.bytes cursor.old.place
         → cursor.new.place ≡ cursor.old.place + (lengths_of g).whole }
     ensures count { (g : Geometry) → StandsAt g 1 cursor.old.bytes cursor.old.place
-        → (read : ℕ) × (read ≤ (lengths_of g).whole) × (cursor.new.count ≡ added cursor.old.count read) }
+        → cursor.new.count ≡ added cursor.old.count (bytes_to_pass g) }
+    ensures once { (g : Geometry) → StandsAt g 1 cursor.old.bytes cursor.old.place
+        → bytes_to_pass g ≤ (lengths_of g).whole }
 {
     let raw = take_header(cursor);
     match raw.size {

@@ -1,5 +1,5 @@
 //! The slots of a blob, put into memory: into a vector, or into room that a caller lends.
-ghost use Rattle.std.specs.Prelude.{◌≡◌, ◌+◌, ◌*◌, ◌<◌, ◌≤◌, ◌++◌, ◌∷◌, [], List, length, take, vec_len, vec_capacity};
+ghost use Rattle.std.specs.Prelude.{◌≡◌, ◌+◌, ◌*◌, ◌<◌, ◌≤◌, ◌++◌, ◌∷◌, [], List, length, take, drop, vec_len, vec_capacity};
 ghost use Rattle.twkb_body.specs.Geometry.{Geometry, HavePrecisions};
 ghost use Rattle.twkb_body.specs.Standing.{StandsAt};
 ghost use Rattle.twkb_layer.specs.Directory.{IsDirectoryOf, entry_of};
@@ -43,6 +43,7 @@ pub fn put_slots(room: &mut [Slot], cursor: &mut Cursor) -> usize
         × (2 * length trees ≤ length room.old) }
     ensures directory { IsDirectoryOf (entries_kept (take result room.new)) cursor.old.bytes }
     ensures few { OfLayer cursor.old.bytes (λ trees. result ≤ 2 * length trees) }
+    ensures rest { drop result room.new ≡ drop result room.old }
     ensures bytes { cursor.new.bytes ≡ cursor.old.bytes }
     ensures once { AddsAtMost (length cursor.old.bytes) cursor.old.count cursor.new.count }
     ensures grows { cursor.old.count ≤ cursor.new.count }
@@ -64,7 +65,9 @@ fn put(room: &mut [Slot], used: usize, cursor: &mut Cursor) -> usize
     ensures says { OfBlob cursor.old.bytes cursor.old.place (λ g.
         entries_kept (take result room.new) ≡ entries_kept (take used room.old) ++ entry_of 0 cursor.old.place g ∷ []) }
     ensures few { result ≤ used + 2 }
+    ensures more { used ≤ result }
     ensures room { length room.new ≡ length room.old }
+    ensures rest { drop result room.new ≡ drop result room.old }
     ensures passed { OfBlob cursor.old.bytes cursor.old.place (λ g. HasPassed g cursor.old cursor.new) }
 {
     let offset = cursor.place();

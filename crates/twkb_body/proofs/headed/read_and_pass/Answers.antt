@@ -1,7 +1,8 @@
 -- The header was read, and its size leads to the blob's end; else the blob is skimmed by a visitor that has nothing to see.
-use Rattle.std.proofs.Common.{ap, ◌∙◌, arith}
+use Rattle.std.proofs.Common.{ap, sym, ◌∙◌, arith}
+use Rattle.twkb_num.specs.Cursor.{added}
 use Rattle.twkb_body.specs.Devices.Skimmed.{Config}
-use Rattle.twkb_body.proofs.Headers.{head_stands, sized_end, passing_few}
+use Rattle.twkb_body.proofs.Headers.{head_stands, sized_end, unsized_reads, passing_few}
 use Rattle.twkb_body.proofs.headed.read_and_pass.Goals as goal
 
 pub overflow_add-size : goal.overflow_add-size
@@ -31,7 +32,11 @@ returns-in-Some-clause-place c = λ g at.
 pub returns-in-Some-clause-count : goal.returns-in-Some-clause-count
 returns-in-Some-clause-count c = λ g at.
     let e = sized_end g 1 c.args.cursor.now _ c.take_header-raw.result c.in-Some.size (c.take_header-raw.ensures.read g at) c.in-Some.is in
-    (e.read, e.few, ap (λ r. r.count) c.go_to.ensures ∙ e.count)
+    ap (λ r. r.count) c.go_to.ensures ∙ e.count
+
+pub returns-in-Some-clause-once : goal.returns-in-Some-clause-once
+returns-in-Some-clause-once c = λ g at.
+    (sized_end g 1 c.args.cursor.now _ c.take_header-raw.result c.in-Some.size (c.take_header-raw.ensures.read g at) c.in-Some.is).few
 
 pub returns-in-None-clause-header : goal.returns-in-None-clause-header
 returns-in-None-clause-header c = λ g at. head_stands g 1 c.args.cursor.now _ c.take_header-raw.result (c.take_header-raw.ensures.read g at)
@@ -44,4 +49,10 @@ returns-in-None-clause-place c = λ g at. ap (λ (d : Config (Unit {0})). d.read
 
 pub returns-in-None-clause-count : goal.returns-in-None-clause-count
 returns-in-None-clause-count c = λ g at.
-    (_, passing_few g _ _ at, ap (λ (d : Config (Unit {0})). d.reading.count) (c.skim_behind.ensures g c.args.cursor.now (c.take_header-raw.ensures.read g at)))
+    ap (λ (d : Config (Unit {0})). d.reading.count) (c.skim_behind.ensures g c.args.cursor.now (c.take_header-raw.ensures.read g at))
+    ∙ ap (added c.args.cursor.now.count) (sym (unsized_reads g 1 c.args.cursor.now _ c.take_header-raw.result (c.take_header-raw.ensures.read g at) c.in-None.is))
+
+pub returns-in-None-clause-once : goal.returns-in-None-clause-once
+returns-in-None-clause-once c = λ g at.
+    let reads = unsized_reads g 1 c.args.cursor.now _ c.take_header-raw.result (c.take_header-raw.ensures.read g at) c.in-None.is in
+    omega (arith, reads, passing_few g _ _ at)

@@ -1,5 +1,7 @@
 -- One slot or two stand behind those that were there, and say the blob's entry.
-use Rattle.std.proofs.Common.{ap, arith, take, ◌++◌, ◌∷◌, [], ◌∙◌}
+use Rattle.std.proofs.Common.{ap, arith, take, ◌+◌, ◌++◌, ◌∷◌, [], ◌∙◌}
+use Rattle.std.proofs.Math.ListN.{set}
+use Rattle.std.proofs.lemmas.List.{drop-set-lt}
 use Rattle.twkb_layer.specs.Directory.{Entry}
 use Rattle.twkb_layer.specs.Devices.Collecting.{box_said}
 use Rattle.twkb_layer.specs.Slots.{entries_kept}
@@ -23,4 +25,13 @@ returns-clause-says c = λ g at.
     ]
 
 pub returns-clause-passed : goal.returns-clause-passed
-returns-clause-passed c = λ g at. passed_by g c.args.cursor.now _ c.read_and_pass-raw.ensures.bytes (c.read_and_pass-raw.ensures.place g at) (c.read_and_pass-raw.ensures.count g at)
+returns-clause-passed c = λ g at. passed_by g c.args.cursor.now _ c.read_and_pass-raw.ensures.bytes (c.read_and_pass-raw.ensures.place g at) (_, c.read_and_pass-raw.ensures.once g at, c.read_and_pass-raw.ensures.count g at)
+
+pub returns-clause-rest : goal.returns-clause-rest
+returns-clause-rest c =
+    let room = c.args.room.now in
+    let used = c.args.used in
+    elim c.if-deep.branch [
+      | then-deep w ↦ rw (w.room-is, w.place-is) (drop-set-lt (used + 1 + 1) (set room used w.slot_before.result) (used + 1) c.own_slot.result (omega arith) ∙ drop-set-lt (used + 1 + 1) room used w.slot_before.result (omega arith))
+      | else-deep w ↦ rw (w.room-is, w.place-is) (drop-set-lt (used + 1) room used c.own_slot.result (omega arith))
+    ]

@@ -7,3 +7,6 @@ put_slots-requires c = search rules
 
 pub returns-clause-kept : goal.returns-clause-kept
 returns-clause-kept c = search rules
+
+pub returns-clause-rest : goal.returns-clause-rest
+returns-clause-rest c = search rules

@@ -12,4 +12,4 @@ returns-clause-says g c = λ tree at.
     c.push.ensures.says ∙ ap (λ (e : Entry). entries_kept c.args.self.now.items ++ e ∷ []) (entry_read c.place-offset.result c.args.cursor.now tree raw c.place-offset.ensures.value (says_of tree c.args.cursor.now.place raw (c.read_and_pass-raw.ensures.header tree at)))
 
 pub returns-clause-passed : goal.returns-clause-passed
-returns-clause-passed g c = λ tree at. passed_by tree c.args.cursor.now _ c.read_and_pass-raw.ensures.bytes (c.read_and_pass-raw.ensures.place tree at) (c.read_and_pass-raw.ensures.count tree at)
+returns-clause-passed g c = λ tree at. passed_by tree c.args.cursor.now _ c.read_and_pass-raw.ensures.bytes (c.read_and_pass-raw.ensures.place tree at) (_, c.read_and_pass-raw.ensures.once tree at, c.read_and_pass-raw.ensures.count tree at)
