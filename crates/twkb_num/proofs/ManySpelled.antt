@@ -269,21 +269,13 @@ module _ (bytes : List ℕ) (many left done low : ℕ) (l : IsEndsLoop bytes man
           let at : suc size - 1 ≡ size = omega arith in
           ap (begun_then (begun_to l.begun word size)) (sym (ap (ended word) at) ∙ last)
 
-  -- the numbers of the word are passed
-  ends_pass : (here : ℕ) → here ≡ ends_to word 8 → here < left → IsPassed (take (done + 8) bytes) (many - (left - here)) (begun_to l.begun word 8)
-  ends_pass here here_is fewer =
-      let count : many - left + ends_to word 8 ≡ many - (left - here) = omega (arith, here_is, fewer, l.few) in
-      subst (λ (n : ℕ). IsPassed (take (done + 8) bytes) n (begun_to l.begun word 8)) count (passed_in 8 (omega arith))
-
-  -- the loop stops where no end is in the last four of them
-  pub word_stops : (here size : ℕ) → here ≡ ends_to word 8 → here < left → IsLastEnd (take (done + 8) bytes) size → IsFrontOf bytes (many - (left - here)) size
-  word_stops here size here_is fewer last = ends_stop bytes (many - (left - here)) (begun_to l.begun word 8) (done + 8) size (ends_pass here here_is fewer) reaches last
-
   -- all numbers of the word, and on to the next
   pub ends_go_on : (here : ℕ) → here ≡ ends_to word 8 → here < left → ends_to word 4 < ends_to word 8 → IsEndsLoop bytes many (left - here) (done + 8) (2 ^ 32 - 1)
   ends_go_on here here_is fewer high = record {
     begun = begun_to l.begun word 8;
-    passed = ends_pass here here_is fewer;
+    passed =
+        let count : many - left + ends_to word 8 ≡ many - (left - here) = omega (arith, here_is, fewer, l.few) in
+        subst (λ (n : ℕ). IsPassed (take (done + 8) bytes) n (begun_to l.begun word 8)) count (passed_in 8 (omega arith));
     below = inr (refl, let since : begun_to l.begun word 8 < 4 = begun_since l.begun word 4 8 4 refl high in omega (arith, since));
     within = reaches;
     few = omega (arith, fewer, l.few);

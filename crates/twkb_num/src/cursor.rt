@@ -19,7 +19,7 @@ use std::marker::Model;
 /// Numbers may be read or passed by words of eight bytes (as by [`Cursor::svarint_pair`], [`Cursor::pass_varint`],
 /// [`Cursor::pass_varints`]). Then up to seven bytes after them are touched too, as a cache line is, and the count is of
 /// the bytes that the numbers take. `None` of such a call tells one bit of bytes that aren't counted: the numbers at the place
-/// are too long for it, or too near the end. [`Cursor::pass_varints`] tells it of the place where it stops.
+/// are too long for it, or too near the end. [`Cursor::pass_varints`] tells this bit of the place where it stops.
 ///
 /// A contract sees it as a `Reading`. Each call takes constant space. It also takes constant time, since a varint has at most
 /// ten bytes; only [`Cursor::pass_varints`] takes time for each byte that it passes.
@@ -287,11 +287,11 @@ impl<'a> Cursor<'a> {
     }
 
     /// Passes varints, `many` at most, without asking for their numbers, and answers how many it passed. Their ends are counted
-    /// in words of eight bytes. It stops after the last varint that the words tell: where fewer than eight bytes are left, or
-    /// half a word has no end. So each varint that it passes takes at most seven bytes.
+    /// in words of eight bytes. Where fewer bytes are left, or half a word has no end, it stops after the last varint that ends
+    /// before. So each varint that it passes takes at most seven bytes.
     ///
-    /// All bytes that it passes are counted. An answer less than `many` tells one bit of the bytes after them, which aren't
-    /// counted: the varint at the place takes five bytes or more, or fewer than eleven bytes are left.
+    /// All bytes that it passes are counted. An answer less than `many` tells one bit of the next eleven bytes, which aren't
+    /// counted: four of them, one after another, end no varint, or fewer than eleven are left.
     #[inline(always)]
     pub fn pass_varints(&mut self, many: u64) -> u64
         ensures few { result ≤ many }

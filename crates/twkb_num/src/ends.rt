@@ -46,9 +46,9 @@ pub struct Run {
     pub size: usize,
 }
 
-/// The first varints, `many` at most, as far as words of eight bytes tell: each half of a word has to contain an end, or of the
-/// first word seven bytes. So each varint takes at most seven bytes. Ends are counted, and no step waits for the length of a
-/// varint.
+/// The first varints, `many` at most, up to the first word of eight bytes that doesn't tell where they end: each half of a word
+/// has to contain an end, or of the first word seven bytes. So each varint takes at most seven bytes. Ends are counted, and no
+/// step waits for the length of a varint.
 #[inline(always)]
 pub fn run_of(bytes: &[u8], many: u64) -> Run
     ensures few { result.many ≤ many }
@@ -72,11 +72,11 @@ pub fn run_of(bytes: &[u8], many: u64) -> Run
                 size: done + end_of(word, left),
             };
         }
-        left -= here;
-        done += 8;
         if !has_high_end(word) {
             break;
         }
+        left -= here;
+        done += 8;
         low = FOUR;
     }
     Run {
@@ -85,7 +85,7 @@ pub fn run_of(bytes: &[u8], many: u64) -> Run
     }
 }
 
-/// How many bytes there are up to the last end: at most seven are after it.
+/// How many bytes there are up to the last end.
 #[cold]
 #[inline(never)]
 fn last_end(bytes: &[u8]) -> usize

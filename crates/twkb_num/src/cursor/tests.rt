@@ -189,7 +189,7 @@ fn passes_many_as_it_reads(rt: &impl Abort, bytes: &[u8], many: u64) {
     passes(rt, bytes, many, many, reads.place());
 }
 
-// Of the varints so many are passed, up to the place, and the bytes before it are counted.
+// A number of varints is passed, up to the place, and the bytes before it are counted.
 fn passes(rt: &impl Abort, bytes: &[u8], many: u64, passed: u64, place: usize) {
     let mut cursor = Cursor::new(bytes);
     equal(rt, cursor.pass_varints(many), passed);
@@ -197,50 +197,49 @@ fn passes(rt: &impl Abort, bytes: &[u8], many: u64, passed: u64, place: usize) {
     equal(rt, cursor.read_count(), place as u64);
 }
 
-// Varints of one byte, a longer one behind them, and more of one byte. It is passed if four bytes of a word have an end, or of
-// the first word seven bytes. Else the place is before it.
+// Varints of one byte, a longer one after them, and more of one byte. The long one is passed if each half of a word has an end,
+// or of the first word the first seven bytes and the last four. Else the place is after the last end before the word.
 #[test]
 fn many_varints_are_passed_up_to_a_long_one(rt: HostRuntime) {
     let table = [
         // In the first word.
-        (0, 7, true),
-        (0, 8, false),
-        (0, 10, false),
-        (3, 5, true),
-        (3, 9, false),
-        (4, 4, true),
-        (4, 5, false),
+        (0, 7, None),
+        (0, 8, Some(0)),
+        (0, 10, Some(0)),
+        (3, 5, None),
+        (3, 9, Some(0)),
+        (4, 4, None),
+        (4, 5, Some(0)),
         // At the border of the first two words.
-        (5, 7, true),
-        (5, 8, false),
-        (6, 5, true),
-        (6, 6, true),
-        (6, 7, false),
-        (7, 5, true),
-        (7, 6, false),
-        (7, 7, false),
+        (5, 7, None),
+        (5, 8, Some(5)),
+        (6, 5, None),
+        (6, 6, None),
+        (6, 7, Some(6)),
+        (7, 5, None),
+        (7, 6, Some(7)),
+        (7, 7, Some(7)),
         // In the second word, and at its border.
-        (8, 4, true),
-        (8, 5, false),
-        (11, 5, true),
-        (12, 5, false),
-        (14, 6, true),
-        (14, 7, false),
+        (8, 4, None),
+        (8, 5, Some(8)),
+        (11, 5, None),
+        (12, 5, Some(8)),
+        (14, 6, None),
+        (14, 7, Some(14)),
     ];
-    for (before, length, is_passed) in table {
+    for (before, length, stop) in table {
         let mut bytes = [0x01; 40];
         for byte in bytes.iter_mut().skip(before).take(length - 1) {
             *byte = 0x81;
         }
-        let short = before as u64;
-        for many in 0..=short {
-            passes(&rt, &bytes, many, many, many as usize);
+        for many in 0..=before {
+            passes(&rt, &bytes, many as u64, many as u64, many);
         }
-        for more in 1..=5u64 {
-            if is_passed {
-                passes(&rt, &bytes, short + more, short + more, before + length + more as usize - 1);
-            } else {
-                passes(&rt, &bytes, short + more, short, before);
+        for more in 0..5usize {
+            let many = (before + 1 + more) as u64;
+            match stop {
+                None => passes(&rt, &bytes, many, many, before + length + more),
+                Some(place) => passes(&rt, &bytes, many, place as u64, place),
             }
         }
     }
@@ -259,7 +258,7 @@ fn many_varints_are_passed_by_whole_words(rt: HostRuntime) {
     }
 }
 
-// The last varint of a word goes on, and fewer than eight bytes are left behind the word.
+// The last varint of a word goes on, and fewer than eight bytes are left after the word.
 #[test]
 fn a_varint_that_a_word_cuts_is_left(rt: HostRuntime) {
     for cut in 1..=3usize {

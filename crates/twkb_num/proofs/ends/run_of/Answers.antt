@@ -1,8 +1,7 @@
 -- A word with enough ends is the last, one with fewer takes the loop on, and where a word doesn't tell the last end is sought.
 use Rattle.std.proofs.Common.{◌≡◌, ◌-◌, length, take, drop, ap, ◌∙◌, arith, refl}
-use Rattle.twkb_num.proofs.ManySpelled.{rest_is, ends_here, ends_go_on, loop_stops, word_stops}
+use Rattle.twkb_num.proofs.ManySpelled.{rest_is, ends_here, ends_go_on, loop_stops}
 use Rattle.twkb_num.proofs.ends.run_of.Goals as goal
-use Rattle.twkb_num.proofs.ends.run_of.Goals.{else-loop-left-test, then-loop-left-test+in_default, then-loop-left-test+in-Some+then-not-has_end_below, then-loop-left-test+in-Some+else-not-has_end_below+else-left-here+then-not-has_high_end}
 
 pub returns-then-left-here-clause-front : goal.returns-then-left-here-clause-front
 returns-then-left-here-clause-front c =
@@ -25,19 +24,5 @@ loop-left-preserved c =
 
 pub returns-clause-front : goal.returns-clause-front
 returns-clause-front c =
-    let bytes = c.args.bytes.now in
-    let many = c.args.many in
     let l = c.loop-left in
-    let size = c.last_end.result in
-    let last = c.last_end.ensures in
-    let rest : take (length bytes - l.done) (drop l.done bytes) ≡ drop l.done bytes = rest_is bytes l.done in
-    elim c.loop-left-test.branch [
-      | else-loop-left-test w ↦ rw w.left-is (loop_stops bytes many l.left l.done l.low size l.invariant (rw w.done-is at last))
-      | then-loop-left-test+in_default w ↦ rw w.left-is (loop_stops bytes many l.left l.done l.low size l.invariant (rw w.done-is at last))
-      | then-loop-left-test+in-Some+then-not-has_end_below w ↦ rw w.left-is (loop_stops bytes many l.left l.done l.low size l.invariant (rw w.done-is at last))
-      | then-loop-left-test+in-Some+else-not-has_end_below+else-left-here+then-not-has_high_end w ↦
-          let chunk = w.in-Some.ensures.cases in
-          rw w.left-is (word_stops bytes many l.left l.done l.low l.invariant w.in-Some.word.now (chunk.same ∙ ap (take 8) rest) (rw rest at chunk.enough)
-          (λ e. (w.if-not-has_end_below.ensures.seven e).0 refl) (λ e. (w.if-not-has_end_below.ensures.four e).0 refl)
-          w.count_of_ends-here.result size w.count_of_ends-here.ensures (omega (arith, w.if-left-here.false)) (rw w.done-is at last))
-    ]
+    loop_stops c.args.bytes.now c.args.many l.left l.done l.low c.last_end.result l.invariant c.last_end.ensures
