@@ -1,4 +1,4 @@
--- Points that are known to be read are passed as numbers: by their ends, or one by one.
+-- Points that are known to be read are passed as numbers: by their ends, or a number by itself.
 use Rattle.std.proofs.Common.{◌≡◌, ℕ, zero, suc, ◌+◌, ◌-◌, ◌*◌, ◌^◌, ◌<◌, ◌≤◌, Bool, true, false, List, [], ◌∷◌, ◌++◌, length, length-append, fold, ℤ, ◌+ℤ◌, Ok, Err, refl, ap, sym, subst, ◌∙◌, arith}
 use Rattle.twkb_num.specs.Cursor.{Reading, passed, IsMoved, IsSound}
 use Rattle.twkb_num.specs.Varint.{SpellsAll, SpellsMany, zigzag_value}
@@ -115,36 +115,36 @@ points_numbers axes (suc count) s r stop ps e = go (λ x q t xs is. points_numbe
     go more (Err m, q) is e = absurd (ok_not_err ps m stop q (sym e))
     go more (Ok x, q) is e = others more x q (point_numbers axes s r q x is) (Others x q) refl e
 
--- behind those that were passed by their ends the others lead on
-pub points_rest : (axes count done : ℕ) (s : PointValue) (r mid stop : Reading) (ps : List PointValue) → IsSound r → done ≤ count * axes → SpellsMany (passed r mid) done → IsMoved r mid → many_at count add (point_at axes) s r ≡ (Ok ps, stop) → NumbersLead (count * axes - done) mid stop
-points_rest axes count done s r mid stop ps sound few spells moved e =
-    let spelled = subst (λ (n : ℕ). NumbersLead n r mid) spells.count (spelled_lead spells.numbers r mid sound spells.spelled moved) in
-    numbers_rest done (count * axes) r mid stop few spelled (points_numbers axes count s r stop ps e)
+-- numbers that are passed by their ends lead on
+run_leads : (done : ℕ) (r mid : Reading) → IsSound r → SpellsMany (passed r mid) done → IsMoved r mid → NumbersLead done r mid
+run_leads done r mid sound spells moved = subst (λ (n : ℕ). NumbersLead n r mid) spells.count (spelled_lead spells.numbers r mid sound spells.spelled moved)
 
--- ---- numbers that are passed one by one
+-- and behind them the others
+pub points_rest : (axes count done : ℕ) (s : PointValue) (r mid stop : Reading) (ps : List PointValue) → IsSound r → done ≤ count * axes → SpellsMany (passed r mid) done → IsMoved r mid → many_at count add (point_at axes) s r ≡ (Ok ps, stop) → NumbersLead (count * axes - done) mid stop
+points_rest axes count done s r mid stop ps sound few spells moved e = numbers_rest done (count * axes) r mid stop few (run_leads done r mid sound spells moved) (points_numbers axes count s r stop ps e)
+
+-- ---- numbers that are passed in a loop
 abbrev pub IsPassing : ℕ → Reading → ℕ → Reading → Type 0
-IsPassing count from i r = (stop : Reading) → NumbersLead count from stop → NumbersLead (count - i) r stop
+IsPassing many from left r = (stop : Reading) → NumbersLead many from stop → NumbersLead left r stop
 
 -- a number more is there
-passing_next : (count i : ℕ) (r stop : Reading) → i < count → NumbersLead (count - i) r stop → (z : ℤ) × (mid : Reading) × (signed_at r ≡ (Ok z, mid)) × NumbersLead (count - (i + 1)) mid stop
-passing_next count i r stop lt l = let next : count - i ≡ suc (count - (i + 1)) = omega (arith, lt) in subst (λ (n : ℕ). NumbersLead n r stop) next l
+passing_next : (left : ℕ) (r stop : Reading) → 0 < left → NumbersLead left r stop → (z : ℤ) × (mid : Reading) × (signed_at r ≡ (Ok z, mid)) × NumbersLead (left - 1) mid stop
+passing_next zero r stop some l = absurd (omega (arith, some))
+passing_next (suc n) r stop some (z, mid, one, others) = let less : suc n - 1 ≡ n = omega arith in (z, mid, one, rw less others)
 
-pub passing_begins : (count : ℕ) (from : Reading) → IsPassing count from 0 from
-passing_begins count from stop l = let all : count - 0 ≡ count = omega arith in rw all l
-
-pub passing_reads : (count i : ℕ) (from r stop new : Reading) (m : Malformed) → i < count → NumbersLead count from stop → signed_at r ≡ (Err m, new) → IsPassing count from i r → ⊥
-passing_reads count i from r stop new m lt known fault l =
-    let n = passing_next count i r stop lt (l stop known) in
+pub passing_reads : (many left : ℕ) (from r stop new : Reading) (m : Malformed) → 0 < left → NumbersLead many from stop → signed_at r ≡ (Err m, new) → IsPassing many from left r → ⊥
+passing_reads many left from r stop new m some known fault l =
+    let n = passing_next left r stop some (l stop known) in
     ok_not_err n.0 m n.1 new (sym n.2 ∙ fault)
 
-pub passing_goes_on : (count i : ℕ) (from r new : Reading) (z : ℤ) → i < count → signed_at r ≡ (Ok z, new) → IsPassing count from i r → IsPassing count from (i + 1) new
-passing_goes_on count i from r new z lt one l stop known =
-    let n = passing_next count i r stop lt (l stop known) in
-    let same : n.1 ≡ new = (one_answer (signed_at r) n.0 z n.1 new n.2 one).1 in
-    subst (λ (q : Reading). NumbersLead (count - (i + 1)) q stop) same n.3
+pub passing_goes_on : (many left done : ℕ) (from r mid new : Reading) (z : ℤ) → 0 < left → signed_at r ≡ (Ok z, mid) → IsSound mid → done ≤ left - 1 → SpellsMany (passed mid new) done → IsMoved mid new → IsPassing many from left r → IsPassing many from (left - 1 - done) new
+passing_goes_on many left done from r mid new z some one sound few spells moved l stop known =
+    let n = passing_next left r stop some (l stop known) in
+    let same : n.1 ≡ mid = (one_answer (signed_at r) n.0 z n.1 mid n.2 one).1 in
+    numbers_rest done (left - 1) mid new stop few (run_leads done mid new sound spells moved) (subst (λ (q : Reading). NumbersLead (left - 1) q stop) same n.3)
 
-pub passing_ends : (count i : ℕ) (from r : Reading) → i ≡ count → IsPassing count from i r → (stop : Reading) → NumbersLead count from stop → r ≡ stop
-passing_ends count i from r end l stop known = let none : count - i ≡ 0 = omega (arith, end) in subst (λ (n : ℕ). NumbersLead n r stop) none (l stop known)
+pub passing_ends : (many left : ℕ) (from r : Reading) → left ≡ 0 → IsPassing many from left r → (stop : Reading) → NumbersLead many from stop → r ≡ stop
+passing_ends many left from r none l stop known = subst (λ (n : ℕ). NumbersLead n r stop) none (l stop known)
 
 -- ---- a value that is read one part after another, and passed so
 module _ {A S : Type 0} (after : S → A → S) (each : S → Reader A) (count : ℕ) where

@@ -9,7 +9,7 @@ ghost use Rattle.twkb_body.specs.Geometry.{PointValue};
 use crate::fields::take_signed;
 use twkb_num::Cursor;
 
-/// Moves past `count` points: by words of eight bytes as far as they tell, and then number by number.
+/// Moves past `count` points: by words of eight bytes, and past a number by itself where they don't tell.
 #[inline(always)]
 pub fn pass_known(cursor: &mut Cursor, axes: usize, count: u64)
     requires known { (s : PointValue) × (points : List PointValue) × (stop : Reading)
@@ -22,19 +22,23 @@ pub fn pass_known(cursor: &mut Cursor, axes: usize, count: u64)
     let many = count * axes as u64;
     let done = cursor.pass_varints(many);
     if done < many {
-        pass_each(cursor, many - done);
+        pass_rest(cursor, many - done);
     }
 }
 
-/// Moves past numbers, one by one.
+/// Moves past numbers of which words don't tell the first: past this one by itself, and past more by words.
 #[inline(never)]
-fn pass_each(cursor: &mut Cursor, many: u64)
+fn pass_rest(cursor: &mut Cursor, many: u64)
     requires known { (stop : Reading) × NumbersLead many cursor.old stop }
     ensures { (stop : Reading) → NumbersLead many cursor.old stop → cursor.new ≡ stop }
 {
-    for _ in 0..many {
+    let mut left = many;
+    while 0 < left {
         let Ok(_number) = take_signed(cursor) else {
             unreachable!()
         };
+        cursor.place_is_within();
+        left -= 1;
+        left -= cursor.pass_varints(left);
     }
 }

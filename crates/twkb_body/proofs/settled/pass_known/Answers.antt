@@ -9,8 +9,8 @@ overflow_mul-many c =
     let k = c.requires.known in
     omega (arith, points_fit c.args.axes c.args.count k.0 c.args.cursor.now k.2 k.1 c.place_is_within.ensures k.3)
 
-pub pass_each-requires : goal.pass_each-requires
-pass_each-requires c =
+pub pass_rest-requires : goal.pass_rest-requires
+pass_rest-requires c =
     let k = c.requires.known in
     let run = c.pass_varints-done.ensures in
     record { known = (k.2, points_rest c.args.axes c.args.count c.pass_varints-done.result k.0 c.args.cursor.now c.pass_varints-done.new.self k.2 k.1 c.place_is_within.ensures run.few run.passed run.moved k.3) }
@@ -18,7 +18,7 @@ pass_each-requires c =
 pub returns-then-done-many : goal.returns-then-done-many
 returns-then-done-many c = λ s points stop e.
     let run = c.pass_varints-done.ensures in
-    c.pass_each.ensures stop (points_rest c.args.axes c.args.count c.pass_varints-done.result s c.args.cursor.now c.pass_varints-done.new.self stop points c.place_is_within.ensures run.few run.passed run.moved e)
+    c.pass_rest.ensures stop (points_rest c.args.axes c.args.count c.pass_varints-done.result s c.args.cursor.now c.pass_varints-done.new.self stop points c.place_is_within.ensures run.few run.passed run.moved e)
 
 pub returns-else-done-many : goal.returns-else-done-many
 returns-else-done-many c = λ s points stop e.
