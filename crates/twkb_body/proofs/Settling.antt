@@ -1,91 +1,150 @@
--- Points that are known to be read are passed by the ends of their numbers: both ways come to one place.
-use Rattle.std.proofs.Common.{◌≡◌, ℕ, zero, suc, ◌+◌, ◌-◌, ◌*◌, ◌<◌, ◌≤◌, Bool, true, false, List, [], ◌∷◌, ◌++◌, length, length-append, fold, ℤ, ◌+ℤ◌, Ok, Err, refl, ap, sym, subst, ◌∙◌, arith}
+-- Points that are known to be read are passed as numbers: by their ends, or a number by itself.
+use Rattle.std.proofs.Common.{◌≡◌, ℕ, zero, suc, ◌+◌, ◌-◌, ◌*◌, ◌^◌, ◌<◌, ◌≤◌, Bool, true, false, List, [], ◌∷◌, ◌++◌, length, length-append, fold, ℤ, ◌+ℤ◌, Ok, Err, refl, ap, sym, subst, ◌∙◌, arith}
 use Rattle.twkb_num.specs.Cursor.{Reading, passed, IsMoved, IsSound}
-use Rattle.twkb_num.specs.Varint.{Spells, SpellsAll, zigzag_value}
+use Rattle.twkb_num.specs.Varint.{SpellsAll, SpellsMany, zigzag_value}
 use Rattle.twkb_num.proofs.CursorLemmas.{IsMoved-here, IsMoved-after, IsSound-moved}
 use Rattle.twkb_head.specs.Devices.Plan.{fits}
 use Rattle.twkb_head.specs.Devices.Reader.{Answer, Reader, ◌>>=◌, viewed, many_at, coordinate_at, signed_at, Fails}
 use Rattle.twkb_head.specs.declared.refusal.Malformed.{Malformed}
 use Rattle.twkb_head.specs.declared.refusal.Why.TheVariants.{Range}
-use Rattle.twkb_head.proofs.Loops.{IsLoop, loop_begins, loop_goes_on, loop_fails, loop_ends, behind_front}
+use Rattle.twkb_head.proofs.Loops.{IsLoop, loop_begins, loop_fails, loop_ends, behind_front}
 use Rattle.twkb_head.proofs.Readings.{ok_not_err, one_answer, no_failure}
-use Rattle.twkb_head.proofs.Steps.{read_signed, coordinate_ok, coordinate_no_signed, coordinate_refused}
+use Rattle.twkb_head.proofs.Steps.{read_signed, signed_moved, coordinate_ok, coordinate_no_signed, coordinate_refused}
 use Rattle.twkb_body.specs.declared.trail.Trail.{Trail}
 use Rattle.twkb_body.specs.Geometry.{PointValue}
 use Rattle.twkb_body.specs.Devices.Body.{first_of, behind, add, sums}
-use Rattle.twkb_body.specs.Devices.BodyReader.{point_at}
+use Rattle.twkb_body.specs.Devices.BodyReader.{point_at, NumbersLead}
 use Rattle.twkb_body.specs.Devices.Walk.{HaveAxes, lasts_from, IsWalked, IsRun, IsStill, AreShown}
 use Rattle.twkb_body.proofs.BareRuns.{peel, moved_none}
 use Rattle.twkb_body.proofs.Coordinates.{coordinate_ahead}
 use Rattle.twkb_body.proofs.Runs.{afters, sums_are, values_of, goes_far}
 use Rattle.twkb_body.proofs.Walks.{walked_then}
 
--- a number that is spelled there ends a coordinate that is read
-coordinate_end : (c : ℤ) (n : ℕ) (r mid stop : Reading) (x : ℤ) → Spells (passed r mid) n → IsMoved r mid → coordinate_at c r ≡ (Ok x, stop) → mid ≡ stop
-coordinate_end c n r mid stop x spells moved e = go (fits (c +ℤ zigzag_value n)) refl
-  where
-    signed : signed_at r ≡ (Ok (zigzag_value n), mid)
-    signed = read_signed r mid (zigzag_value n) (n, spells, refl) moved
+-- ---- numbers, one after another
+-- a coordinate that is read has a number
+signed_reads : (c z : ℤ) (m : Malformed) (r mid new : Reading) → coordinate_at c r ≡ (Ok z, mid) → signed_at r ≡ (Err m, new) → ⊥
+signed_reads c z m r mid new e fault = ok_not_err z m mid new (sym e ∙ coordinate_no_signed c r new m fault)
 
-    go : (b : Bool) → fits (c +ℤ zigzag_value n) ≡ b → mid ≡ stop
-    go true fit = (one_answer (coordinate_at c r) (zigzag_value n) x mid stop (coordinate_ok c r mid (zigzag_value n) fit signed) e).1
+signed_end : (c z n : ℤ) (r mid new : Reading) → coordinate_at c r ≡ (Ok z, mid) → signed_at r ≡ (Ok n, new) → new ≡ mid
+signed_end c z n r mid new e signed = go (fits (c +ℤ n)) refl
+  where
+    go : (b : Bool) → fits (c +ℤ n) ≡ b → new ≡ mid
+    go true fit = (one_answer (coordinate_at c r) n z new mid (coordinate_ok c r new n fit signed) e).1
     go false fit =
         let m : Malformed = record { offset = r.place; why = Range } in
-        let back : Reading = record mid { place = r.place } in
-        absurd (ok_not_err x m stop back (sym e ∙ coordinate_refused c r mid (zigzag_value n) m back fit refl refl refl signed))
+        let back : Reading = record new { place = r.place } in
+        absurd (ok_not_err z m mid back (sym e ∙ coordinate_refused c r new n m back fit refl refl refl signed))
 
--- what is left of the numbers behind a point
-record IsLeft (more : ℕ) (r mid new : Reading) : Type 0 where
-  rest : List ℕ
-  left : length rest ≡ more
-  spelled : SpellsAll (passed mid new) rest
-  there : IsMoved r mid
-  on : IsMoved mid new
+coordinate_signed : (c z : ℤ) (r mid : Reading) → coordinate_at c r ≡ (Ok z, mid) → (n : ℤ) × (signed_at r ≡ (Ok n, mid))
+coordinate_signed c z r mid e = go (signed_at r) refl
+  where
+    go : (a : Answer ℤ) → signed_at r ≡ a → (n : ℤ) × (signed_at r ≡ (Ok n, mid))
+    go (Err m, q) is = absurd (signed_reads c z m r mid q e is)
+    go (Ok n, q) is = (n, is ∙ ap (λ (y : Reading). (Ok n, y)) (signed_end c z n r mid q e is))
 
-point_end : (axes : ℕ) (s : PointValue) (ns : List ℕ) (more : ℕ) (r mid new : Reading) (p : PointValue) → IsSound r → length ns ≡ axes + more → SpellsAll (passed r new) ns → IsMoved r new
-    → point_at axes s r ≡ (Ok p, mid) → IsLeft more r mid new
-point_end zero s ns more r mid new p sound many spelled moved e =
-    let here : r ≡ mid = ap (λ (a : Answer PointValue). a.1) e in
-    subst (λ (q : Reading). IsLeft more r q new) here (record { rest = ns; left = omega (arith, many); spelled = spelled; there = IsMoved-here r sound; on = moved })
-point_end (suc axes) s [] more r mid new p sound many spelled moved e = absurd (omega (arith, many))
-point_end (suc axes) s (n ∷ ns) more r mid new p sound many spelled moved e =
-    let (next, there, on, first, others) = peel r new n ns spelled moved in
-    go (λ t cs is. point_end axes (behind s) ns more next t new cs (IsSound-moved r next sound there) (omega (arith, many)) others on is) (coordinate_at (first_of s) r) refl e there first
+-- some numbers and then some more
+NumbersLead-append : (n m : ℕ) (r mid stop : Reading) → NumbersLead n r mid → NumbersLead m mid stop → NumbersLead (n + m) r stop
+NumbersLead-append zero m r mid stop here more =
+    let same : 0 + m ≡ m = omega arith in
+    rw same (subst (λ (q : Reading). NumbersLead m q stop) (sym here) more)
+NumbersLead-append (suc n) m r mid stop (z, q, one, others) more =
+    let next : suc n + m ≡ suc (n + m) = omega arith in
+    rw next (z, q, one, NumbersLead-append n m q mid stop others more)
+
+-- behind the first numbers the others lead on
+numbers_rest : (n m : ℕ) (r mid stop : Reading) → n ≤ m → NumbersLead n r mid → NumbersLead m r stop → NumbersLead (m - n) mid stop
+numbers_rest zero m r mid stop le here all =
+    let same : m - 0 ≡ m = omega arith in
+    rw same (subst (λ (q : Reading). NumbersLead m q stop) here all)
+numbers_rest (suc n) zero r mid stop le some all = absurd (omega (arith, le))
+numbers_rest (suc n) (suc m) r mid stop le (z, q, one, others) (y, t, first, rest) =
+    let less : suc m - suc n ≡ m - n = omega arith in
+    let same : q ≡ t = (one_answer (signed_at r) z y q t one first).1 in
+    rw less (numbers_rest n m q mid stop (omega (arith, le)) others (subst (λ (p : Reading). NumbersLead m p stop) (sym same) rest))
+
+-- numbers that are spelled are read
+spelled_lead : (ns : List ℕ) (r new : Reading) → IsSound r → SpellsAll (passed r new) ns → IsMoved r new → NumbersLead (length ns) r new
+spelled_lead [] r new sound spelled moved = moved_none r new sound moved spelled
+spelled_lead (n ∷ ns) r new sound spelled moved =
+    let (mid, there, on, first, others) = peel r new n ns spelled moved in
+    (zigzag_value n, mid, read_signed r mid (zigzag_value n) (n, first, refl) there, spelled_lead ns mid new (IsSound-moved r mid sound there) others on)
+
+-- they move ahead
+numbers_moved : (n : ℕ) (r stop : Reading) → IsSound r → NumbersLead n r stop → IsMoved r stop
+numbers_moved zero r stop sound here = subst (IsMoved r) here (IsMoved-here r sound)
+numbers_moved (suc n) r stop sound (z, mid, one, others) =
+    let there = signed_moved r mid z sound one in
+    IsMoved-after r mid stop there (numbers_moved n mid stop (IsSound-moved r mid sound there) others)
+
+-- the numbers of a point
+point_numbers : (axes : ℕ) (s : PointValue) (r mid : Reading) (p : PointValue) → point_at axes s r ≡ (Ok p, mid) → NumbersLead axes r mid
+point_numbers zero s r mid p e = ap (λ (a : Answer PointValue). a.1) e
+point_numbers (suc axes) s r mid p e = go (λ q t cs is. point_numbers axes (behind s) q t cs is) (coordinate_at (first_of s) r) refl e
   where
     Others : Reader PointValue
     Others = many_at axes (λ (s : PointValue) (z : ℤ). behind s) (λ s. coordinate_at (first_of s)) (behind s)
 
-    behind_it : {next : Reading} → ((t : Reading) (cs : PointValue) → Others next ≡ (Ok cs, t) → IsLeft more next t new) → IsMoved r next → (z : ℤ) (b : Answer PointValue) → Others next ≡ b → viewed (λ cs. z ∷ cs) b ≡ (Ok p, mid) → IsLeft more r mid new
-    behind_it others there z (Err m, t) is e = absurd (ok_not_err p m mid t (sym e))
-    behind_it {next} others there z (Ok cs, t) is e =
+    others : ((q t : Reading) (cs : PointValue) → Others q ≡ (Ok cs, t) → NumbersLead axes q t) → (z n : ℤ) (q : Reading) → signed_at r ≡ (Ok n, q) → (b : Answer PointValue) → Others q ≡ b → viewed (λ cs. z ∷ cs) b ≡ (Ok p, mid) → NumbersLead (suc axes) r mid
+    others more z n q one (Err m, t) is e = absurd (ok_not_err p m mid t (sym e))
+    others more z n q one (Ok cs, t) is e =
         let at : t ≡ mid = ap (λ (a : Answer PointValue). a.1) e in
-        let left = others t cs is in
-        subst (λ (q : Reading). IsLeft more r q new) at (record { rest = left.rest; left = left.left; spelled = left.spelled; there = IsMoved-after r next t there left.there; on = left.on })
+        (n, q, one, subst (NumbersLead axes q) at (more q t cs is))
 
-    go : {next : Reading} → ((t : Reading) (cs : PointValue) → Others next ≡ (Ok cs, t) → IsLeft more next t new) → (a : Answer ℤ) → coordinate_at (first_of s) r ≡ a → (a >>= λ z q. viewed (λ cs. z ∷ cs) (Others q)) ≡ (Ok p, mid)
-        → IsMoved r next → Spells (passed r next) n → IsLeft more r mid new
-    go others (Err m, q) is e there first = absurd (ok_not_err p m mid q (sym e))
-    go {next} others (Ok z, q) is e there first =
-        let here = coordinate_end (first_of s) n r next q z first there is in
-        behind_it others there z (Others q) (ap Others here) e
+    go : ((q t : Reading) (cs : PointValue) → Others q ≡ (Ok cs, t) → NumbersLead axes q t) → (a : Answer ℤ) → coordinate_at (first_of s) r ≡ a → (a >>= λ z q. viewed (λ cs. z ∷ cs) (Others q)) ≡ (Ok p, mid) → NumbersLead (suc axes) r mid
+    go more (Err m, q) is e = absurd (ok_not_err p m mid q (sym e))
+    go more (Ok z, q) is e = let one = coordinate_signed (first_of s) z r q is in others more z one.0 q one.1 (Others q) refl e
 
--- so many points that are read end where the ends of their numbers are
-pub points_end : (axes count : ℕ) (s : PointValue) (ns : List ℕ) (r stop new : Reading) (ps : List PointValue) → IsSound r → length ns ≡ count * axes → SpellsAll (passed r new) ns → IsMoved r new
-    → many_at count add (point_at axes) s r ≡ (Ok ps, stop) → new ≡ stop
-points_end axes zero s (n ∷ ns) r stop new ps sound many spelled moved e = absurd (omega (arith, many))
-points_end axes zero s [] r stop new ps sound many spelled moved e = sym (moved_none r new sound moved spelled) ∙ ap (λ (a : Answer (List PointValue)). a.1) e
-points_end axes (suc count) s ns r stop new ps sound many spelled moved e =
-    go (λ x q t xs left is. points_end axes count (add s x) left.rest q t new xs (IsSound-moved r q sound left.there) left.left left.spelled left.on is) (point_at axes s r) refl e
+-- and of many points
+points_numbers : (axes count : ℕ) (s : PointValue) (r stop : Reading) (ps : List PointValue) → many_at count add (point_at axes) s r ≡ (Ok ps, stop) → NumbersLead (count * axes) r stop
+points_numbers axes zero s r stop ps e = let none : 0 * axes ≡ 0 = omega arith in rw none (ap (λ (a : Answer (List PointValue)). a.1) e)
+points_numbers axes (suc count) s r stop ps e = go (λ x q t xs is. points_numbers axes count (add s x) q t xs is) (point_at axes s r) refl e
   where
-    behind_it : ((x : PointValue) (q t : Reading) (xs : List PointValue) → IsLeft (count * axes) r q new → many_at count add (point_at axes) (add s x) q ≡ (Ok xs, t) → new ≡ t) → (x : PointValue) (q : Reading) → IsLeft (count * axes) r q new → (b : Answer (List PointValue)) → many_at count add (point_at axes) (add s x) q ≡ b → viewed (λ xs. x ∷ xs) b ≡ (Ok ps, stop) → new ≡ stop
-    behind_it further x q left (Err m, t) is e = absurd (ok_not_err ps m stop t (sym e))
-    behind_it further x q left (Ok xs, t) is e = further x q t xs left is ∙ ap (λ (a : Answer (List PointValue)). a.1) e
+    Others : PointValue → Reader (List PointValue)
+    Others x = many_at count add (point_at axes) (add s x)
 
-    go : ((x : PointValue) (q t : Reading) (xs : List PointValue) → IsLeft (count * axes) r q new → many_at count add (point_at axes) (add s x) q ≡ (Ok xs, t) → new ≡ t) → (a : Answer PointValue) → point_at axes s r ≡ a → (a >>= λ x q. viewed (λ xs. x ∷ xs) (many_at count add (point_at axes) (add s x) q)) ≡ (Ok ps, stop) → new ≡ stop
-    go further (Err m, q) is e = absurd (ok_not_err ps m stop q (sym e))
-    go further (Ok x, q) is e =
-        let left = point_end axes s ns (count * axes) r q new x sound (omega (arith, many)) spelled moved is in
-        behind_it further x q left (many_at count add (point_at axes) (add s x) q) refl e
+    all : suc count * axes ≡ axes + count * axes
+    all = omega arith
+
+    others : ((x : PointValue) (q t : Reading) (xs : List PointValue) → Others x q ≡ (Ok xs, t) → NumbersLead (count * axes) q t) → (x : PointValue) (q : Reading) → NumbersLead axes r q → (b : Answer (List PointValue)) → Others x q ≡ b → viewed (λ xs. x ∷ xs) b ≡ (Ok ps, stop) → NumbersLead (suc count * axes) r stop
+    others more x q one (Err m, t) is e = absurd (ok_not_err ps m stop t (sym e))
+    others more x q one (Ok xs, t) is e =
+        let at : t ≡ stop = ap (λ (a : Answer (List PointValue)). a.1) e in
+        rw all (NumbersLead-append axes (count * axes) r q stop one (subst (NumbersLead (count * axes) q) at (more x q t xs is)))
+
+    go : ((x : PointValue) (q t : Reading) (xs : List PointValue) → Others x q ≡ (Ok xs, t) → NumbersLead (count * axes) q t) → (a : Answer PointValue) → point_at axes s r ≡ a → (a >>= λ x q. viewed (λ xs. x ∷ xs) (Others x q)) ≡ (Ok ps, stop) → NumbersLead (suc count * axes) r stop
+    go more (Err m, q) is e = absurd (ok_not_err ps m stop q (sym e))
+    go more (Ok x, q) is e = others more x q (point_numbers axes s r q x is) (Others x q) refl e
+
+-- numbers that are passed by their ends lead on
+run_leads : (done : ℕ) (r mid : Reading) → IsSound r → SpellsMany (passed r mid) done → IsMoved r mid → NumbersLead done r mid
+run_leads done r mid sound spells moved = subst (λ (n : ℕ). NumbersLead n r mid) spells.count (spelled_lead spells.numbers r mid sound spells.spelled moved)
+
+-- and behind them the others
+pub points_rest : (axes count done : ℕ) (s : PointValue) (r mid stop : Reading) (ps : List PointValue) → IsSound r → done ≤ count * axes → SpellsMany (passed r mid) done → IsMoved r mid → many_at count add (point_at axes) s r ≡ (Ok ps, stop) → NumbersLead (count * axes - done) mid stop
+points_rest axes count done s r mid stop ps sound few spells moved e = numbers_rest done (count * axes) r mid stop few (run_leads done r mid sound spells moved) (points_numbers axes count s r stop ps e)
+
+-- ---- numbers that are passed in a loop
+abbrev pub IsPassing : ℕ → Reading → ℕ → Reading → Type 0
+IsPassing many from left r = (stop : Reading) → NumbersLead many from stop → NumbersLead left r stop
+
+-- a number more is there
+passing_next : (left : ℕ) (r stop : Reading) → 0 < left → NumbersLead left r stop → (z : ℤ) × (mid : Reading) × (signed_at r ≡ (Ok z, mid)) × NumbersLead (left - 1) mid stop
+passing_next zero r stop some l = absurd (omega (arith, some))
+passing_next (suc n) r stop some (z, mid, one, others) = let less : suc n - 1 ≡ n = omega arith in (z, mid, one, rw less others)
+
+pub passing_reads : (many left : ℕ) (from r stop new : Reading) (m : Malformed) → 0 < left → NumbersLead many from stop → signed_at r ≡ (Err m, new) → IsPassing many from left r → ⊥
+passing_reads many left from r stop new m some known fault l =
+    let n = passing_next left r stop some (l stop known) in
+    ok_not_err n.0 m n.1 new (sym n.2 ∙ fault)
+
+pub passing_goes_on : (many left done : ℕ) (from r mid new : Reading) (z : ℤ) → 0 < left → signed_at r ≡ (Ok z, mid) → IsSound mid → done ≤ left - 1 → SpellsMany (passed mid new) done → IsMoved mid new → IsPassing many from left r → IsPassing many from (left - 1 - done) new
+passing_goes_on many left done from r mid new z some one sound few spells moved l stop known =
+    let n = passing_next left r stop some (l stop known) in
+    let same : n.1 ≡ mid = (one_answer (signed_at r) n.0 z n.1 mid n.2 one).1 in
+    numbers_rest done (left - 1) mid new stop few (run_leads done mid new sound spells moved) (subst (λ (q : Reading). NumbersLead (left - 1) q stop) same n.3)
+
+pub passing_ends : (many left : ℕ) (from r : Reading) → left ≡ 0 → IsPassing many from left r → (stop : Reading) → NumbersLead many from stop → r ≡ stop
+passing_ends many left from r none l stop known = subst (λ (n : ℕ). NumbersLead n r stop) none (l stop known)
 
 -- ---- a value that is read one part after another, and passed so
 module _ {A S : Type 0} (after : S → A → S) (each : S → Reader A) (count : ℕ) where
@@ -108,44 +167,6 @@ module _ {A S : Type 0} (after : S → A → S) (each : S → Reader A) (count :
       go (Ok ys, q) is e =
           let there : q ≡ stop = ap (λ (a : Answer (List A)). a.1) e in
           (ys, is ∙ ap (λ (z : Reading). (Ok ys, z)) there, ap values_of e)
-
-  abbrev pub IsPassing : Reading → ℕ → Reading → Type 0
-  IsPassing from i r = (s : S) (xs : List A) (stop : Reading) → many_at count after each s from ≡ (Ok xs, stop) → (front : List A) × (t : S) × IsLoop after each count (many_at count after each s from) front i t r
-
-  pub passing_begins : (from : Reading) → IsPassing from 0 from
-  passing_begins from s xs stop e = ([], s, loop_begins after each count (many_at count after each s from) s from refl)
-
-  pub passing_next : (from r stop : Reading) (i : ℕ) (s : S) (xs : List A) → many_at count after each s from ≡ (Ok xs, stop) → i < count → IsPassing from i r → (t : S) × (x : A) × (mid : Reading) × (each t r ≡ (Ok x, mid))
-  passing_next from r stop i s xs e lt l =
-      let (front, t, loop) = l s xs stop e in
-      let n = next_read (many_at count after each s from) front i t r stop xs e lt loop in
-      (t, n.0, n.1, n.2)
-
-  pub passing_goes_on : (from r new : Reading) (i : ℕ) → i < count → ((t : S) (x : A) (mid : Reading) → each t r ≡ (Ok x, mid) → new ≡ mid) → IsPassing from i r → IsPassing from (i + 1) new
-  passing_goes_on from r new i lt passes l s xs stop e =
-      let (front, t, loop) = l s xs stop e in
-      let n = next_read (many_at count after each s from) front i t r stop xs e lt loop in
-      let here = passes t n.0 n.1 n.2 in
-      (front ++ n.0 ∷ [], after t n.0, loop_goes_on after each count (many_at count after each s from) front i t r new n.0 lt (n.2 ∙ ap (λ (q : Reading). (Ok n.0, q)) (sym here)) loop)
-
-  pub passing_ends : (from r : Reading) (i : ℕ) → i ≡ count → IsPassing from i r → (s : S) (xs : List A) (stop : Reading) → many_at count after each s from ≡ (Ok xs, stop) → r ≡ stop
-  passing_ends from r i end l s xs stop e =
-      let (front, t, loop) = l s xs stop e in
-      (one_answer (many_at count after each s from) front xs r stop (loop_ends after each count (many_at count after each s from) front i t r (omega (arith, end)) loop) e).1
-
--- a coordinate that is read has a number
-pub signed_reads : (c z : ℤ) (m : Malformed) (r mid new : Reading) → coordinate_at c r ≡ (Ok z, mid) → signed_at r ≡ (Err m, new) → ⊥
-signed_reads c z m r mid new e fault = ok_not_err z m mid new (sym e ∙ coordinate_no_signed c r new m fault)
-
-pub signed_end : (c z n : ℤ) (r mid new : Reading) → coordinate_at c r ≡ (Ok z, mid) → signed_at r ≡ (Ok n, new) → new ≡ mid
-signed_end c z n r mid new e signed = go (fits (c +ℤ n)) refl
-  where
-    go : (b : Bool) → fits (c +ℤ n) ≡ b → new ≡ mid
-    go true fit = (one_answer (coordinate_at c r) n z new mid (coordinate_ok c r new n fit signed) e).1
-    go false fit =
-        let m : Malformed = record { offset = r.place; why = Range } in
-        let back : Reading = record new { place = r.place } in
-        absurd (ok_not_err z m mid back (sym e ∙ coordinate_refused c r new n m back fit refl refl refl signed))
 
 -- ---- points that are read
 record IsPoint (axes : ℕ) (r mid : Reading) (p : PointValue) : Type 0 where
@@ -199,6 +220,28 @@ points_are axes (suc count) s r stop ps some e = go (λ x q xs is. points_are ax
     go : ((x : PointValue) (q : Reading) (xs : List PointValue) → Others x q ≡ (Ok xs, stop) → ArePoints axes q stop xs) → (a : Answer PointValue) → point_at axes s r ≡ a → (a >>= λ x q. viewed (λ xs. x ∷ xs) (Others x q)) ≡ (Ok ps, stop) → ArePoints axes r stop ps
     go more (Err m, q) is e = absurd (ok_not_err ps m stop q (sym e))
     go more (Ok x, q) is e = others more x q (point_is axes s r q x is) (Others x q) refl e
+
+-- each number takes a byte at least
+points_long : (axes count : ℕ) (s : PointValue) (r stop : Reading) (ps : List PointValue) → many_at count add (point_at axes) s r ≡ (Ok ps, stop) → count * axes + r.place ≤ stop.place
+points_long axes zero s r stop ps e = let here : r.place ≡ stop.place = ap (λ (a : Answer (List PointValue)). a.1.place) e in omega (arith, here)
+points_long axes (suc count) s r stop ps e = go (λ x q t xs is. points_long axes count (add s x) q t xs is) (point_at axes s r) refl e
+  where
+    Others : PointValue → Reader (List PointValue)
+    Others x = many_at count add (point_at axes) (add s x)
+
+    others : ((x : PointValue) (q t : Reading) (xs : List PointValue) → Others x q ≡ (Ok xs, t) → count * axes + q.place ≤ t.place) → (x : PointValue) (q : Reading) → IsPoint axes r q x → (b : Answer (List PointValue)) → Others x q ≡ b → viewed (λ xs. x ∷ xs) b ≡ (Ok ps, stop) → suc count * axes + r.place ≤ stop.place
+    others more x q one (Err m, t) is e = absurd (ok_not_err ps m stop t (sym e))
+    others more x q one (Ok xs, t) is e = let at : t.place ≡ stop.place = ap (λ (a : Answer (List PointValue)). a.1.place) e in omega (arith, one.ahead, more x q t xs is, at)
+
+    go : ((x : PointValue) (q t : Reading) (xs : List PointValue) → Others x q ≡ (Ok xs, t) → count * axes + q.place ≤ t.place) → (a : Answer PointValue) → point_at axes s r ≡ a → (a >>= λ x q. viewed (λ xs. x ∷ xs) (Others x q)) ≡ (Ok ps, stop) → suc count * axes + r.place ≤ stop.place
+    go more (Err m, q) is e = absurd (ok_not_err ps m stop q (sym e))
+    go more (Ok x, q) is e = others more x q (point_is axes s r q x is) (Others x q) refl e
+
+-- so there are fewer than 2^64
+pub points_fit : (axes count : ℕ) (s : PointValue) (r stop : Reading) (ps : List PointValue) → IsSound r → many_at count add (point_at axes) s r ≡ (Ok ps, stop) → count * axes < 2 ^ 64
+points_fit axes count s r stop ps sound e =
+    let moved = numbers_moved (count * axes) r stop sound (points_numbers axes count s r stop ps e) in
+    omega (arith, points_long axes count s r stop ps e, moved.within, sound.length_fits)
 
 -- ---- a state that no point changes
 module _ {S : Type 0} (step : S → PointValue → S) (axes : ℕ) where

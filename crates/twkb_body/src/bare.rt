@@ -94,6 +94,9 @@ fn pass_points(cursor: &mut Cursor, axes: usize, count: u64, before: u64) -> Opt
     if MOST - before < count {
         return None;
     }
-    cursor.pass_varints(count * axes as u64)?;
+    let many = count * axes as u64;
+    if cursor.pass_varints(many) < many {
+        return None;
+    }
     Some(before + count)
 }

@@ -2,13 +2,13 @@
 use Rattle.std.proofs.Common.{◌≡◌, ℕ, zero, suc, ◌+◌, ◌-◌, ◌^◌, ◌<◌, ◌≤◌, List, [], ◌∷◌, ◌++◌, length, take, drop, slice_index, refl, sym, ap, subst, ◌∙◌, ◌⊎◌, inl, inr, arith, length-append, length-take, length-drop}
 use Rattle.std.proofs.Math.ListN.{get_or-append}
 use Rattle.std.proofs.Math.Nat.{pow-le-pow_right}
-use Rattle.std.proofs.Math.Seq.{get_or-append_seam, take-add}
+use Rattle.std.proofs.Math.Seq.{get_or-append_seam, get_or-append_right, take-add, take-append_seam, take-length}
 use Rattle.std.proofs.lemmas.Bool.{cases_lt}
 use Rattle.std.proofs.lemmas.Grind.{common_steps}
 use Rattle.std.proofs.lemmas.List.Elements.{All-nil, All-cons, All-append}
 use Rattle.std.proofs.lemmas.List.{take_more, append-nil, append_assoc, take-take}
 use Rattle.twkb_num.specs.Varint.{Spells, SpellsAll, sum_of_groups, SpellsMany}
-use Rattle.twkb_num.specs.Devices.Ends.{ended, ends_to, IsEnd, IsFrontOf}
+use Rattle.twkb_num.specs.Devices.Ends.{ended, ends_to, IsEnd, IsLastEnd, IsFrontOf}
 use Rattle.twkb_num.proofs.VarintLemmas.{sum_of_groups-lt}
 use Rattle.twkb_num.proofs.NthEnds.{ended_once}
 
@@ -66,11 +66,12 @@ pub record IsPassed (bytes : List ℕ) (many begun : ℕ) : Type 0 where
   pub last : List ℕ
   pub whole : bytes ≡ front ++ last
   pub spells : SpellsMany front many
+  pub ends : 1 ≤ length front → slice_index front (length front - 1) < 128
   pub goes_on : (k : ℕ) → k < length last → 128 ≤ slice_index last k
   pub long : length last ≡ begun
 
 pub passed_none : IsPassed [] 0 0
-passed_none = record { front = []; last = []; whole = refl; spells = record { numbers = []; count = refl; small = All-nil (λ n. n < 2 ^ 49); spelled = refl }; goes_on = λ k h. absurd (omega (arith, h)); long = refl }
+passed_none = record { front = []; last = []; whole = refl; spells = record { numbers = []; count = refl; small = All-nil (λ n. n < 2 ^ 49); spelled = refl }; ends = λ some. absurd (omega (arith, some)); goes_on = λ k h. absurd (omega (arith, h)); long = refl }
 
 -- a byte more that goes on
 passed_on : (bytes : List ℕ) (many begun b : ℕ) → 128 ≤ b → IsPassed bytes many begun → IsPassed (bytes ++ b ∷ []) many (begun + 1)
@@ -79,6 +80,7 @@ passed_on bytes many begun b more p = record {
   last = p.last ++ b ∷ [];
   whole = ap (λ (bs : List ℕ). bs ++ b ∷ []) p.whole ∙ append_assoc p.front p.last (b ∷ []);
   spells = p.spells;
+  ends = p.ends;
   goes_on = λ k h. elim (cases_lt k (length p.last)) [
     | inl before ↦ omega (arith, p.goes_on k before, get_or-append p.last (b ∷ []) 0 k before)
     | inr behind ↦
@@ -114,6 +116,12 @@ small_spelled last b few on end =
       small,
     )
 
+-- the last byte of two parts and a byte more
+last_below : (front last : List ℕ) (b : ℕ) → b < 128 → slice_index (front ++ (last ++ b ∷ [])) (length (front ++ (last ++ b ∷ [])) - 1) < 128
+last_below front last b end =
+    let at : length (front ++ (last ++ b ∷ [])) - 1 ≡ length (front ++ last) = omega (arith, length-append front (last ++ b ∷ []), length-append last (b ∷ []), length-append front last) in
+    rw at (rw (← append_assoc front last (b ∷ [])) (omega (arith, end, get_or-append_seam (front ++ last) b [] 0)))
+
 -- a byte more that is an end, behind six at most
 passed_end : (bytes : List ℕ) (many begun b : ℕ) → b < 128 → begun ≤ 6 → IsPassed bytes many begun → IsPassed (bytes ++ b ∷ []) (many + 1) 0
 passed_end bytes many begun b end few p =
@@ -129,6 +137,7 @@ passed_end bytes many begun b end few p =
         small = All-append (λ n. n < 2 ^ 49) p.spells.numbers (n ∷ []) p.spells.small (All-cons (λ n. n < 2 ^ 49) n [] small (All-nil (λ n. n < 2 ^ 49)));
         spelled = SpellsAll-push p.front (p.last ++ b ∷ []) p.spells.numbers n p.spells.spelled spells;
       };
+      ends = λ some. last_below p.front p.last b end;
       goes_on = λ k h. absurd (omega (arith, h));
       long = refl;
     }
@@ -165,7 +174,6 @@ pub record IsEndsLoop (bytes : List ℕ) (many left done low : ℕ) : Type 0 whe
   pub below : IsLow low begun
   pub within : done ≤ length bytes
   pub few : left ≤ many
-  pub some : 1 ≤ many → 1 ≤ left
 
 -- what goes on in no byte is whole
 closed : (bytes : List ℕ) (many begun : ℕ) → begun ≡ 0 → IsPassed bytes many begun → SpellsMany bytes many
@@ -186,12 +194,42 @@ ends_begin bytes many = record {
   below = inl (refl, refl);
   within = omega arith;
   few = omega arith;
-  some = λ h. h;
 }
 
-pub ends_end : (bytes : List ℕ) (many left done low : ℕ) → left ≡ 0 → IsEndsLoop bytes many left done low → IsFrontOf bytes many 0
-ends_end bytes zero left done low none l = record { within = omega arith; spells = closed [] 0 0 refl passed_none }
-ends_end bytes (suc many) left done low none l = absurd (omega (arith, none, l.some (omega arith)))
+-- up to the last end they spell the numbers
+last_spells : (bytes : List ℕ) (many begun size : ℕ) → IsPassed bytes many begun → IsLastEnd bytes size → SpellsMany (take size bytes) many
+last_spells bytes many begun size p l = subst (λ (bs : List ℕ). SpellsMany bs many) (sym (ap (take size) p.whole ∙ ap (λ (n : ℕ). take n (p.front ++ p.last)) size_is ∙ take-append_seam p.front p.last)) p.spells
+  where
+    long : length bytes ≡ length p.front + length p.last
+    long = ap length p.whole ∙ length-append p.front p.last
+
+    before : (k : ℕ) → k < length p.front → slice_index bytes k ≡ slice_index p.front k
+    before k h = ap (λ (bs : List ℕ). slice_index bs k) p.whole ∙ get_or-append p.front p.last 0 k h
+
+    behind : (k : ℕ) → length p.front ≤ k → slice_index bytes k ≡ slice_index p.last (k - length p.front)
+    behind k h = ap (λ (bs : List ℕ). slice_index bs k) p.whole ∙ get_or-append_right p.front p.last k 0 h
+
+    size_is : size ≡ length p.front
+    size_is = elim (cases_lt size (length p.front)) [
+      | inl less ↦ let k : ℕ = length p.front - 1 in absurd (omega (arith, less, long, p.ends (omega (arith, less)), before k (omega (arith, less)), l.goes_on k (omega (arith, less)) (omega (arith, less, long))))
+      | inr more ↦
+          elim (cases_lt (length p.front) size) [
+            | inl over ↦ let k : ℕ = size - 1 in absurd (omega (arith, over, long, l.within, l.ends (omega (arith, over)), behind k (omega (arith, over)), p.goes_on (k - length p.front) (omega (arith, over, long, l.within))))
+            | inr same ↦ omega (arith, more, same)
+          ]
+    ]
+
+-- where a word doesn't tell, the bytes up to the last end are a front
+ends_stop : (bytes : List ℕ) (many begun done size : ℕ) → IsPassed (take done bytes) many begun → done ≤ length bytes → IsLastEnd (take done bytes) size → IsFrontOf bytes many size
+ends_stop bytes many begun done size p within l =
+    let few : size ≤ done = omega (arith, l.within, length-take done bytes, within) in
+    record {
+      within = omega (arith, few, within);
+      spells = subst (λ (bs : List ℕ). SpellsMany bs many) (take-take size done bytes few) (last_spells (take done bytes) many begun size p l);
+    }
+
+pub loop_stops : (bytes : List ℕ) (many left done low size : ℕ) → IsEndsLoop bytes many left done low → IsLastEnd (take done bytes) size → IsFrontOf bytes (many - left) size
+loop_stops bytes many left done low size l last = ends_stop bytes (many - left) l.begun done size l.passed l.within last
 
 module _ (bytes : List ℕ) (many left done low : ℕ) (l : IsEndsLoop bytes many left done low) (word : List ℕ) (is : word ≡ take 8 (drop done bytes)) (enough : 8 ≤ length (drop done bytes))
     (seven : low ≡ 2 ^ 56 - 1 → 1 ≤ ends_to word 7) (four : low ≡ 2 ^ 32 - 1 → 1 ≤ ends_to word 4) where
@@ -241,5 +279,12 @@ module _ (bytes : List ℕ) (many left done low : ℕ) (l : IsEndsLoop bytes man
     below = inr (refl, let since : begun_to l.begun word 8 < 4 = begun_since l.begun word 4 8 4 refl high in omega (arith, since));
     within = reaches;
     few = omega (arith, fewer, l.few);
-    some = λ h. omega (arith, fewer);
   }
+
+-- the end of the second number in a word
+pub two_ends : (word : List ℕ) (size : ℕ) → length word ≡ 8 → 2 ≤ ends_to word 8 → IsEnd word 2 size → IsFrontOf word 2 size
+two_ends word size eight both end =
+    let all : word ≡ take 8 word = sym (ap (λ (n : ℕ). take n word) (sym eight) ∙ take-length word) in
+    let early : 1 ≤ ends_to word 7 = omega (arith, both, ended_once word 7) in
+    let here : 0 + size ≡ size = omega arith in
+    subst (IsFrontOf word 2) here (ends_here word 2 2 0 (2 ^ 56 - 1) (ends_begin word 2) word all (omega (arith, eight)) (λ e. early) (λ e. absurd (omega (arith, e))) size end)

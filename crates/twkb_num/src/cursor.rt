@@ -6,7 +6,7 @@ ghost use Rattle.twkb_num.specs.Varint.{SpellsMany, Spells, IsSigned, Faults, Is
 ghost use Rattle.twkb_num.specs.declared.varint.NumFault.TheVariants.{Cut};
 ghost use Rattle.twkb_num.specs.Devices.Varint.{IsBegunBy};
 
-use crate::ends::{first_end, length_of};
+use crate::ends::{first_end, run_of};
 use crate::signed::unzigzag;
 use crate::varint::{NumFault, decode};
 use std::marker::Model;
@@ -14,12 +14,15 @@ use std::marker::Model;
 /// A place in bytes, and a count of the bytes read, which stays at `u64::MAX` once there.
 ///
 /// What a cursor reads is counted, and no call lowers its count. Two calls look ahead, at bytes that are counted when they
-/// are passed: [`Cursor::word`], and [`Cursor::ahead`], whose cursor may also be dropped. Audits alone use these. `None` of a
-/// call by words tells one bit, that the numbers at the place are too long for it or too near the end, and counts nothing.
-/// A contract sees it as a `Reading`. Each call takes constant time and space: a varint has at most ten bytes.
+/// are passed: [`Cursor::word`], and [`Cursor::ahead`], whose cursor may also be dropped. Audits alone use these.
+///
 /// Numbers may be read or passed by words of eight bytes (as by [`Cursor::svarint_pair`], [`Cursor::pass_varint`],
 /// [`Cursor::pass_varints`]). Then up to seven bytes after them are touched too, as a cache line is, and the count is of
-/// the bytes that the numbers take.
+/// the bytes that the numbers take. `None` of such a call tells one bit of bytes that aren't counted: the numbers at the place
+/// are too long for it, or too near the end. [`Cursor::pass_varints`] tells this bit of the place where it stops.
+///
+/// A contract sees it as a `Reading`. Each call takes constant space. It also takes constant time, since a varint has at most
+/// ten bytes; only [`Cursor::pass_varints`] takes time for each byte that it passes.
 #[derive(Drop)]
 pub struct Cursor<'a> {
     bytes: &'a [u8],
@@ -271,7 +274,7 @@ impl<'a> Cursor<'a> {
     }
 
     /// Past the varint at the place, without asking for its number. Its end is found in one word of eight bytes; where fewer
-    /// are left, or it takes more, `None`, and the cursor is as it was.
+    /// are left, or it takes more, `None`, and the cursor is as it was. `None` tells this one bit of bytes that aren't counted.
     #[inline(always)]
     pub fn pass_varint(&mut self) -> Option<()>
         ensures some { OnSome result ((n : ℕ) × Spells (passed self.old self.new) n) }
@@ -283,18 +286,21 @@ impl<'a> Cursor<'a> {
         Some(())
     }
 
-    /// Past so many varints, without asking for their numbers. Their ends are counted in words of eight bytes; where fewer are
-    /// left, or half a word has no end, as with varints of five bytes, `None`, and the cursor is as it was. The first varint
-    /// may take seven bytes.
+    /// Passes varints, `many` at most, without asking for their numbers, and answers how many it passed. Their ends are counted
+    /// in words of eight bytes. Where fewer bytes are left, or half a word has no end, it stops after the last varint that ends
+    /// before. So each varint that it passes takes at most seven bytes.
+    ///
+    /// All bytes that it passes are counted. An answer less than `many` tells one bit of the next eleven bytes, which aren't
+    /// counted: four of them, one after another, end no varint, or fewer than eleven are left.
     #[inline(always)]
-    pub fn pass_varints(&mut self, many: u64) -> Option<()>
-        ensures some { OnSome result (SpellsMany (passed self.old self.new) many) }
-        ensures moved { OnSome result (IsMoved self.old self.new) }
-        ensures none { IfNone result (self.new ≡ self.old) }
+    pub fn pass_varints(&mut self, many: u64) -> u64
+        ensures few { result ≤ many }
+        ensures passed { SpellsMany (passed self.old self.new) result }
+        ensures moved { IsMoved self.old self.new }
     {
-        let size = length_of(&self.bytes[self.place..], many)?;
-        self.place += size;
-        Some(())
+        let run = run_of(&self.bytes[self.place..], many);
+        self.place += run.size;
+        run.many
     }
 
     // How many bytes the varint at the place takes, where eight bytes are left and it takes no more.

@@ -1,6 +1,6 @@
 //! Where varints end, found in words of eight bytes.
 ghost use Rattle.std.specs.Prelude.{◌≡◌, ◌↔◌, ◌+◌, ◌*◌, ◌-◌, ◌≤◌, ◌<◌, ◌^◌, ℕ, slice_index, IsTrue, IfSome, IfNone};
-ghost use Rattle.twkb_num.specs.Devices.Ends.{IsFirstEnd, ended, ends_to, eight_bytes, IsEnd, IsFrontOf};
+ghost use Rattle.twkb_num.specs.Devices.Ends.{IsFirstEnd, ended, ends_to, eight_bytes, IsEnd, IsLastEnd, IsFrontOf};
 
 /// The top bit of each byte of a word, which is set where a varint goes on.
 const TOPS: u64 = 0x8080_8080_8080_8080;
@@ -27,34 +27,75 @@ pub fn first_end(bytes: &[u8; 8]) -> Option<usize>
     Some((ends.trailing_zeros() / 8) as usize + 1)
 }
 
-/// The length of the first `many` varints together, or `None` if words of eight bytes don't tell: each half of a word has to
-/// contain an end, or of the first word seven bytes. So each varint takes at most seven bytes. Ends are counted, and no step
-/// waits for the length of a varint.
+/// The length of the first two varints together, if both end in the eight bytes.
 #[inline(always)]
-pub fn length_of(bytes: &[u8], many: u64) -> Option<usize>
-    ensures { IfSome result (IsFrontOf bytes.now many) }
+pub fn second_end(bytes: &[u8; 8]) -> Option<usize>
+    ensures few { IfSome result (λ size. size ≤ 8) }
+    ensures front { IfSome result (IsFrontOf bytes.now 2) }
+{
+    if count_of_ends(bytes) < 2 {
+        return None;
+    }
+    Some(end_of(bytes, 2))
+}
+
+/// Varints at the front of bytes: how many, and how many bytes they take.
+#[derive(Clone, Copy)]
+pub struct Run {
+    pub many: u64,
+    pub size: usize,
+}
+
+/// The first varints, `many` at most, up to the first word of eight bytes that doesn't tell where they end: each half of a word
+/// has to contain an end, or of the first word seven bytes. So each varint takes at most seven bytes. Ends are counted, and no
+/// step waits for the length of a varint.
+#[inline(always)]
+pub fn run_of(bytes: &[u8], many: u64) -> Run
+    ensures few { result.many ≤ many }
+    ensures front { IsFrontOf bytes.now result.many result.size }
 {
     let mut left = many;
     let mut done = 0;
     // Of the varint that goes on from the word before at most three bytes are passed.
     let mut low = SEVEN;
     while 0 < left {
-        let word = bytes[done..].first_chunk::<8>()?;
+        let Some(word) = bytes[done..].first_chunk::<8>() else {
+            break;
+        };
         if !has_end_below(word, low) {
-            return None;
+            break;
         }
         let here = count_of_ends(word);
         if left <= here {
-            return Some(done + end_of(word, left));
+            return Run {
+                many,
+                size: done + end_of(word, left),
+            };
         }
         if !has_high_end(word) {
-            return None;
+            break;
         }
         left -= here;
         done += 8;
         low = FOUR;
     }
-    Some(0)
+    Run {
+        many: many - left,
+        size: last_end(&bytes[..done]),
+    }
+}
+
+/// How many bytes there are up to the last end.
+#[cold]
+#[inline(never)]
+fn last_end(bytes: &[u8]) -> usize
+    ensures { IsLastEnd bytes.now result }
+{
+    let mut size = bytes.len();
+    while 0 < size && 128 <= bytes[size - 1] {
+        size -= 1;
+    }
+    size
 }
 
 /// The tops of the bytes that end a varint.

@@ -6,8 +6,8 @@
 //! - [`Cursor::uvarint`] and [`Cursor::svarint`] read the number at the cursor's place, or answer one of two faults
 //!   ([`NumFault`]). They are the hot path: numbers of one and of two bytes take no loop.
 //! - [`Cursor::svarint_pair`] reads two signed numbers from one word of eight bytes, if both are short.
-//!   [`Cursor::pass_varint`] passes one number by its end in such a word, [`Cursor::pass_pair`] two and
-//!   [`Cursor::pass_varints`] many. They answer `None` if a word doesn't tell.
+//!   [`Cursor::pass_varint`] passes one number by its end in such a word and [`Cursor::pass_pair`] two. They answer `None` if a
+//!   word doesn't tell. [`Cursor::pass_varints`] passes many, and answers how many words told.
 //! - [`Cursor::ahead`] makes a lookahead cursor. What it reads is counted only if the caller goes on with it. The quick pass of
 //!   an audit uses it, and nothing on the way of a scan.
 //! - [`zigzag`] and [`unzigzag`] map signed numbers to unsigned ones and back.

@@ -35,6 +35,12 @@ pub record IsEnd (bytes : List ℕ) (n many : ℕ) : Type 0 where
   pub ends : ended bytes (many - 1) ≡ 1
   pub count : ends_to bytes many ≡ n
 
+-- this is how many bytes there are up to the last that ends a varint, or 0 if none does
+pub record IsLastEnd (bytes : List ℕ) (size : ℕ) : Type 0 where
+  pub within : size ≤ length bytes
+  pub ends : 1 ≤ size → slice_index bytes (size - 1) < 128
+  pub goes_on : (k : ℕ) → size ≤ k → k < length bytes → 128 ≤ slice_index bytes k
+
 -- so many bytes from the front spell so many numbers
 pub record IsFrontOf (bytes : List ℕ) (many size : ℕ) : Type 0 where
   pub within : size ≤ length bytes

@@ -4,7 +4,7 @@ ghost use Rattle.twkb_num.specs.Cursor.{passed, IsMoved};
 ghost use Rattle.twkb_num.specs.Varint.{SpellsMany, SpellsTwoSigned, IsShort};
 
 use super::Cursor;
-use crate::ends::length_of;
+use crate::ends::second_end;
 use crate::word::{next_mixed_pair, next_pair};
 
 impl<'a> Cursor<'a> {
@@ -43,7 +43,7 @@ impl<'a> Cursor<'a> {
         ensures moved { OnSome result (IsMoved self.old self.new) }
         ensures none { IfNone result (self.new ≡ self.old) }
     {
-        let both = length_of(self.bytes[self.place..].first_chunk::<8>()?, 2)?;
+        let both = second_end(self.bytes[self.place..].first_chunk::<8>()?)?;
         self.place += both;
         Some(())
     }

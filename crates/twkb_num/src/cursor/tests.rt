@@ -186,51 +186,90 @@ fn passes_many_as_it_reads(rt: &impl Abort, bytes: &[u8], many: u64) {
     for _ in 0..many {
         assert!(rt; reads.uvarint().is_ok());
     }
-    let mut passes = Cursor::new(bytes);
-    equal(rt, passes.pass_varints(many), Some(()));
-    equal(rt, passes.place(), reads.place());
-    equal(rt, passes.read_count(), reads.read_count());
+    passes(rt, bytes, many, many, reads.place());
 }
 
-// The fourth takes more and more bytes, in the first word and the second: all four of a half word go on.
+// A number of varints is passed, up to the place, and the bytes before it are counted.
+fn passes(rt: &impl Abort, bytes: &[u8], many: u64, passed: u64, place: usize) {
+    let mut cursor = Cursor::new(bytes);
+    equal(rt, cursor.pass_varints(many), passed);
+    equal(rt, cursor.place(), place);
+    equal(rt, cursor.read_count(), place as u64);
+}
+
+// Varints of one byte, a longer one after them, and more of one byte. The long one is passed if each half of a word has an end,
+// or of the first word the first seven bytes and the last four. Else the place is after the last end before the word.
 #[test]
-fn no_varint_goes_on_through_half_a_word(rt: HostRuntime) {
-    for length in [3, 4, 9, 10] {
-        let mut bytes = [0x01; 24];
-        for byte in bytes.iter_mut().skip(3).take(length - 1) {
+fn many_varints_are_passed_up_to_a_long_one(rt: HostRuntime) {
+    let table = [
+        // In the first word.
+        (0, 7, None),
+        (0, 8, Some(0)),
+        (0, 10, Some(0)),
+        (3, 5, None),
+        (3, 9, Some(0)),
+        (4, 4, None),
+        (4, 5, Some(0)),
+        // At the border of the first two words.
+        (5, 7, None),
+        (5, 8, Some(5)),
+        (6, 5, None),
+        (6, 6, None),
+        (6, 7, Some(6)),
+        (7, 5, None),
+        (7, 6, Some(7)),
+        (7, 7, Some(7)),
+        // In the second word, and at its border.
+        (8, 4, None),
+        (8, 5, Some(8)),
+        (11, 5, None),
+        (12, 5, Some(8)),
+        (14, 6, None),
+        (14, 7, Some(14)),
+    ];
+    for (before, length, stop) in table {
+        let mut bytes = [0x01; 40];
+        for byte in bytes.iter_mut().skip(before).take(length - 1) {
             *byte = 0x81;
         }
-        for many in 0..6u64 {
-            if length <= 4 {
-                passes_many_as_it_reads(&rt, &bytes, many);
-            } else if 4 <= many {
-                is_left(&rt, &bytes, many);
+        for many in 0..=before {
+            passes(&rt, &bytes, many as u64, many as u64, many);
+        }
+        for more in 0..5usize {
+            let many = (before + 1 + more) as u64;
+            match stop {
+                None => passes(&rt, &bytes, many, many, before + length + more),
+                Some(place) => passes(&rt, &bytes, many, place as u64, place),
             }
         }
     }
-}
-
-// Nothing is passed, and nothing is counted.
-fn is_left(rt: &impl Abort, bytes: &[u8], many: u64) {
-    let mut cursor = Cursor::new(bytes);
-    equal(rt, cursor.pass_varints(many), None);
-    equal(rt, cursor.place(), 0);
-    equal(rt, cursor.read_count(), 0);
 }
 
 #[test]
 fn many_varints_are_passed_by_whole_words(rt: HostRuntime) {
     let bytes = [0x01; 17];
     for left in 0..=17usize {
-        for many in 0..=17u64 {
-            // The last of them stands in a word that is left whole.
-            let words = (many + 7) / 8;
-            if 8 * words <= left as u64 {
-                passes_many_as_it_reads(&rt, &bytes[..left], many);
-            } else {
-                is_left(&rt, &bytes[..left], many);
-            }
+        let whole = left / 8 * 8;
+        for many in 0..=17usize {
+            let passed = many.min(whole);
+            passes(&rt, &bytes[..left], many as u64, passed as u64, passed);
         }
+        passes(&rt, &bytes[..left], u64::MAX, whole as u64, whole);
+    }
+}
+
+// The last varint of a word goes on, and fewer than eight bytes are left after the word.
+#[test]
+fn a_varint_that_a_word_cuts_is_left(rt: HostRuntime) {
+    for cut in 1..=3usize {
+        let mut bytes = [0x01; 15];
+        for byte in bytes.iter_mut().skip(8 - cut).take(cut) {
+            *byte = 0x81;
+        }
+        let whole = 8 - cut;
+        passes(&rt, &bytes, whole as u64, whole as u64, whole);
+        passes(&rt, &bytes, whole as u64 + 1, whole as u64, whole);
+        passes(&rt, &bytes, u64::MAX, whole as u64, whole);
     }
 }
 

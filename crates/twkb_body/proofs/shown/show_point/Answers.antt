@@ -9,20 +9,20 @@ use Rattle.twkb_body.specs.Devices.Walk.{IsWalked, AreShown, shown}
 use Rattle.twkb_body.proofs.Showing.{one_known, point_passed, axes_some}
 use Rattle.twkb_body.proofs.shown.show_point.Goals as goal
 
-pub pass_known-requires-clause-known : goal.pass_known-requires-clause-known
-pass_known-requires-clause-known g c =
+pub pass_known-requires : goal.pass_known-requires
+pass_known-requires g c =
     let (t, x, stop, known) = c.requires.known in
-    (t.last, x ∷ [], stop, one_known c.args.axes t.last x c.args.cursor.now stop known.read)
+    record { known = (t.last, x ∷ [], stop, one_known c.args.axes t.last x c.args.cursor.now stop known.read) }
 
 pub returns-then-lost : goal.returns-then-lost
 returns-then-lost g c = λ t x stop k.
     subst (λ (b : Bool). AreShown (λ (p : PointValue). p ∷ []) (shown g.V.Visit.step (of_head c.args.head.now)) c.args.axes b c.args.trail.now (g.V.Visit.state c.args.visitor.now) (g.V.Visit.state c.args.visitor.now) c.args.cursor.now c.pass_known.new.cursor t x stop) (sym c.if-lost.true)
     (point_passed (shown g.V.Visit.step (of_head c.args.head.now)) c.args.axes c.args.trail.now (g.V.Visit.state c.args.visitor.now) c.args.cursor.now c.pass_known.new.cursor t x stop (omega (arith, c.requires.axes, axes_some c.args.head.now.z c.args.head.now.m)) k.read (k.follows.still c.if-lost.true) c.pass_known.ensures)
 
-pub pass_known-requires-then-is_settled-clause-known : goal.pass_known-requires-then-is_settled-clause-known
-pass_known-requires-then-is_settled-clause-known g c =
+pub pass_known-requires-then-is_settled : goal.pass_known-requires-then-is_settled
+pass_known-requires-then-is_settled g c =
     let (t, x, stop, known) = c.requires.known in
-    (t.last, x ∷ [], stop, one_known c.args.axes t.last x c.args.cursor.now stop known.read)
+    record { known = (t.last, x ∷ [], stop, one_known c.args.axes t.last x c.args.cursor.now stop known.read) }
 
 pub returns-then-is_settled : goal.returns-then-is_settled
 returns-then-is_settled g c = λ t x stop k.

@@ -32,12 +32,12 @@ show_some-done-requires-clause-known g c =
     let (t, x, stop, known) = counted_stands (shown g.V.Visit.step (of_head c.args.head.now)) c.args.axes c.in-Ok.count (λ (n : ℕ) (s : PointValue). many_at n add (point_at c.args.axes) s) (λ (ring : List PointValue). ring) c.args.cursor.now c.take_number.new.cursor c.in-Ok.ensures c.args.lost.now c.args.trail.now (g.V.Visit.state c.args.visitor.now) c.requires.known in
     (x, stop, subst (λ (u : Trail). many_at c.in-Ok.count add (point_at c.args.axes) u.last c.take_number.new.cursor ≡ (Ok x, stop)) (sym (known.follows.kept c.if-lost.false)) known.read)
 
-pub pass_known-requires-then-done-count-clause-known : goal.pass_known-requires-then-done-count-clause-known
-pass_known-requires-then-done-count-clause-known g c =
+pub pass_known-requires-then-done-count : goal.pass_known-requires-then-done-count
+pass_known-requires-then-done-count g c =
     let (t, x, stop, known) = counted_stands (shown g.V.Visit.step (of_head c.args.head.now)) c.args.axes c.in-Ok.count (λ (n : ℕ) (s : PointValue). many_at n add (point_at c.args.axes) s) (λ (ring : List PointValue). ring) c.args.cursor.now c.take_number.new.cursor c.in-Ok.ensures c.args.lost.now c.args.trail.now (g.V.Visit.state c.args.visitor.now) c.requires.known in
     let read = subst (λ (u : Trail). many_at c.in-Ok.count add (point_at c.args.axes) u.last c.take_number.new.cursor ≡ (Ok x, stop)) (sym (known.follows.kept c.if-lost.false)) known.read in
     let rest = run_rest (shown g.V.Visit.step (of_head c.args.head.now)) c.args.axes c.in-Ok.count c.args.trail.now c.show_some-done.new.trail (g.V.Visit.state c.args.visitor.now) (g.V.Visit.state c.show_some-done.new.visitor) c.take_number.new.cursor c.show_some-done.new.cursor stop c.show_some-done.result x read c.show_some-done.ensures.few c.show_some-done.ensures.run in
-    (c.show_some-done.new.trail.last, rest.0, stop, rest.1)
+    record { known = (c.show_some-done.new.trail.last, rest.0, stop, rest.1) }
 
 pub returns-then-done-count : goal.returns-then-done-count
 returns-then-done-count g c =

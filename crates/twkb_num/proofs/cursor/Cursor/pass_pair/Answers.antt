@@ -10,6 +10,6 @@ returns-clause-some c =
     let place = c.self.inside.place in
     let both = c.in_ok-both.both in
     let chunk = c.in_ok-first_chunk.ensures.cases in
-    let same : take both c.in_ok-first_chunk.field-0.now ≡ slice_range bytes place (place + both) = take-chunk bytes _ place 8 both chunk.same chunk.enough (omega (arith, c.in_ok-both.ensures.within)) in
-    let spells : SpellsMany (slice_range bytes place (place + both)) 2 = rw (← same) c.in_ok-both.ensures.spells in
+    let same : take both c.in_ok-first_chunk.field-0.now ≡ slice_range bytes place (place + both) = take-chunk bytes _ place 8 both chunk.same chunk.enough (omega (arith, c.in_ok-both.ensures.few)) in
+    let spells : SpellsMany (slice_range bytes place (place + both)) 2 = rw (← same) c.in_ok-both.ensures.front.spells in
     rw (← c.self.view_is) spells

@@ -1,6 +1,6 @@
 -- The bytes before hold all ends but those left, and what a varint has in them is known.
 use Rattle.twkb_num.proofs.ManySpelled.{IsEndsLoop}
-use Rattle.twkb_num.proofs.ends.length_of.Given as goal
+use Rattle.twkb_num.proofs.ends.run_of.Given as goal
 
 abbrev pub invariant-loop-left : goal.invariant-loop-left
 invariant-loop-left l = IsEndsLoop l.fn.bytes l.fn.many l.left l.done l.low
