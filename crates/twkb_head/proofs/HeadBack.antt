@@ -7,9 +7,9 @@ use Rattle.twkb_head.specs.BegunHeader.{Field, type_field, byte_field, number_fi
 use Rattle.twkb_head.specs.Head.{IsHeadAt}
 use Rattle.twkb_head.specs.Refusal.{IsWrongField, IsRefusedHead}
 use Rattle.twkb_head.proofs.Spelling.{Fault, fault, run}
-use Rattle.twkb_head.specs.Devices.Plan.{cut_byte, judge_kind, kind_of_code}
-use Rattle.twkb_head.specs.Devices.HeadPlan.{HeadValue, head_plan}
-use Rattle.twkb_head.specs.Devices.Reader.{Answer, read, Fails}
+use Rattle.twkb_head.specs.Shared.Plan.{cut_byte, judge_kind, kind_of_code}
+use Rattle.twkb_head.specs.Shared.HeadPlan.{HeadValue, head_plan}
+use Rattle.twkb_head.specs.Shared.Reader.{Answer, read, Fails}
 use Rattle.twkb_num.proofs.CursorLemmas.{rest-passed}
 use Rattle.twkb_head.specs.declared.kinds.Kind.{Kind as KindOf}
 use Rattle.twkb_head.specs.declared.kinds.Kind.TheVariants.{Point, LineString, Polygon, MultiPoint, MultiLineString, MultiPolygon, GeometryCollection}

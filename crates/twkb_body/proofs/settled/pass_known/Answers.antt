@@ -1,7 +1,7 @@
 -- The ends of the numbers lead to where the points end.
 use Rattle.std.proofs.Common.{ap, ◌∙◌}
 use Rattle.twkb_num.specs.Cursor.{Reading}
-use Rattle.twkb_head.specs.Devices.Reader.{many_at}
+use Rattle.twkb_head.specs.Shared.Reader.{many_at}
 use Rattle.twkb_body.specs.Devices.Body.{add}
 use Rattle.twkb_body.specs.Devices.BodyReader.{point_at}
 use Rattle.twkb_body.proofs.Settling.{points_end}

@@ -1,6 +1,6 @@
 -- A coordinate more is passed as it is read.
 use Rattle.std.proofs.Common.{ℤ, arith}
-use Rattle.twkb_head.specs.Devices.Reader.{coordinate_at}
+use Rattle.twkb_head.specs.Shared.Reader.{coordinate_at}
 use Rattle.twkb_body.specs.Geometry.{PointValue}
 use Rattle.twkb_body.specs.Devices.Body.{first_of, behind}
 use Rattle.twkb_body.proofs.Settling.{passing_begins, passing_next, passing_goes_on, passing_ends, signed_reads, signed_end}

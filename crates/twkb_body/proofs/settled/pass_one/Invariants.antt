@@ -1,6 +1,6 @@
 -- Coordinates were passed as they are read.
 use Rattle.std.proofs.Common.{ℤ}
-use Rattle.twkb_head.specs.Devices.Reader.{coordinate_at}
+use Rattle.twkb_head.specs.Shared.Reader.{coordinate_at}
 use Rattle.twkb_body.specs.Geometry.{PointValue}
 use Rattle.twkb_body.specs.Devices.Body.{first_of, behind}
 use Rattle.twkb_body.proofs.Settling.{IsPassing}
