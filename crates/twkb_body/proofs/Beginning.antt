@@ -10,8 +10,8 @@ use Rattle.twkb_head.specs.declared.header.SizeField.{SizeField}
 use Rattle.twkb_head.specs.declared.header.BoxField.{BoxField}
 use Rattle.twkb_head.specs.declared.raw.Axes.{Axes}
 use Rattle.twkb_head.specs.declared.kinds.Kind.{Kind}
-use Rattle.twkb_head.specs.declared.kinds.Kind.TheVariants.{Point, LineString, Polygon, MultiPoint, MultiLineString, MultiPolygon, GeometryCollection}
-use Rattle.twkb_head.specs.Header.{has_ids}
+use Rattle.std.proofs.Math.Bool.{and-false}
+use Rattle.twkb_head.specs.Header.{has_ids, is_multi}
 use Rattle.twkb_head.specs.declared.boxes.Bounds.{Bounds}
 use Rattle.twkb_head.specs.declared.boxes.Vertex.{Vertex}
 use Rattle.twkb_head.specs.Head.{IsHeadAt}
@@ -90,13 +90,7 @@ flat_hop passes begun size x y stop b e = ap (λ (b : Bool). cond b (Some (size.
 
 -- it announces no ids
 no_ids : (kind : Kind) → has_ids kind 3 ≡ false
-no_ids Point = refl
-no_ids LineString = refl
-no_ids Polygon = refl
-no_ids MultiPoint = refl
-no_ids MultiLineString = refl
-no_ids MultiPolygon = refl
-no_ids GeometryCollection = refl
+no_ids kind = and-false (is_multi kind)
 
 -- behind its header, where its box isn't skipped
 pub flat_behind : (passes : Bounds → Bool) (begun : Begun) (g : Geometry) (depth : ℕ) (before now : Reading) (size : SizeField) (x y : RawRange) (axes : Axes)
