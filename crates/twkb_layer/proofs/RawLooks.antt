@@ -5,8 +5,9 @@ use Rattle.twkb_num.specs.Units.{units_of}
 use Rattle.twkb_head.specs.Head.{span_at, m_axis}
 use Rattle.twkb_head.specs.declared.raw.Axes.{Axes}
 use Rattle.twkb_body.specs.Geometry.{PointValue, coordinate, vertex_at}
-use Rattle.twkb_head.specs.Raw.{ends_of, IsNear}
+use Rattle.twkb_head.specs.Raw.{ends_of, IsNear, HasNearRanges}
 use Rattle.twkb_head.specs.declared.raw.RawRange.{RawRange}
+use Rattle.twkb_head.specs.declared.raw.RawBox.{RawBox}
 use Rattle.twkb_head.specs.declared.boxes.Bounds.{Bounds}
 use Rattle.twkb_head.specs.declared.boxes.Span.{Span}
 use Rattle.twkb_layer.specs.declared.raw.RawWindow.{RawWindow}
@@ -21,6 +22,13 @@ inner range near = record {
   first = record { low = omega (arith, ints, near.low); high = omega (arith, ints, near.high) };
   second = record { low = omega (arith, ints, near.low, near.least); high = omega (arith, ints, near.high, near.greatest) };
 }
+
+-- a box of such ranges lies apart in X or in Y where its raw ends do
+pub box_judged : (xy : ℤ) (w : Bounds) (raw : RawWindow) (box : RawBox) (p : ℤ) (misses : Bool) → IsRawWindow p w raw → HasNearRanges box → p ≡ xy
+    → misses ≡ ((int_lt (ends_of box.x).1 raw.x.least || int_lt raw.x.greatest (ends_of box.x).0) || (int_lt (ends_of box.y).1 raw.y.least || int_lt raw.y.greatest (ends_of box.y).0))
+    → misses ≡ (lie_apart (span_at xy (ends_of box.x)) w.x || lie_apart (span_at xy (ends_of box.y)) w.y)
+box_judged xy w raw box p misses is near p_is missed =
+    missed ∙ misses_raw xy w raw (subst (λ (q : ℤ). IsRawWindow q w raw) p_is is) (ends_of box.x) (ends_of box.y) (inner box.x near.x) (inner box.y near.y)
 
 pub or_true : (a b c d : Bool) → a ≡ (b || c) → a ≡ true → (b || (c || d)) ≡ true
 or_true a true c d same h = refl
