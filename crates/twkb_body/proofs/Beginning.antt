@@ -112,8 +112,8 @@ flat_behind passes begun g depth before now size x y axes read is stays =
     }
 
 -- a visitor judges the box of such a geometry, whose ranges were read, by the precision as the code holds it
-module _ {S : Type 0} (step : S → Vertex → S) (passes : S → Bounds → Bool) (s : S) (begun : Begun) (g : Geometry) (depth : ℕ) (before now : Reading) (come : HasCome begun now g depth before) (three : begun.metadata ≡ 3)
-    (n : ℕ) (d : Reading) (number : number_at now ≡ (Ok n, d)) (x y : RawRange) (e f : Reading) (first : range_from d ≡ (Ok (ends_of x), e)) (second : range_from e ≡ (Ok (ends_of y), f)) (xy : ℤ) (fits : xy ≡ begun.xy) where
+module _ {S : Type 0} (step : S → Vertex → S) (passes : S → Bounds → Bool) (s : S) {begun : Begun} {g : Geometry} {depth : ℕ} {before now : Reading} (come : HasCome begun now g depth before) (three : begun.metadata ≡ 3)
+    {n : ℕ} {d : Reading} (number : number_at now ≡ (Ok n, d)) (x y : RawRange) {e f : Reading} (first : range_from d ≡ (Ok (ends_of x), e)) (second : range_from e ≡ (Ok (ends_of y), f)) (xy : ℤ) (fits : xy ≡ begun.xy) where
   abbrev size : SizeField
   size = record { value = n; offset = now.place; after = d.place }
 

@@ -35,27 +35,37 @@ pub go_to-requires : goal.go_to-requires
 go_to-requires g c =
     let (t, depth, before, come) = c.requires.come in
     let (y, e) = c.pass_range.ensures in
-    box_hop_within g.V.Visit.step g.V.Visit.passes (g.V.Visit.state c.args.visitor.now) c.args.begun t depth before c.args.cursor.now come c.requires.boxed c.in-Ok.size c.take_number.new.cursor c.in-Ok.ensures c.known_range-x_near.result.0 y c.known_range-x_near.new.cursor c.pass_range.new.cursor c.known_range-x_near.ensures.read e (to_z w8 (of_z w8 c.args.begun.xy)) (omega (arith, ints)) (c.skips_by_x.ensures c.if-skips_by_x.true _ refl) _ c.place.ensures.value
+    box_hop_within g.V.Visit.step g.V.Visit.passes (g.V.Visit.state c.args.visitor.now) come c.requires.boxed c.in-Ok.ensures c.known_range-x_near.result.0 y c.known_range-x_near.ensures.read e
+    (to_z w8 (of_z w8 c.args.begun.xy)) (omega (arith, ints)) (c.skips_by_x.ensures c.if-skips_by_x.true _ refl) _ c.place.ensures.value
 
 pub returns-then-skips_by_x : goal.returns-then-skips_by_x
 returns-then-skips_by_x g c = λ t depth before come.
     let (y, e) = c.pass_range.ensures in
-    box_hop_enters g.V.Visit.step g.V.Visit.passes (g.V.Visit.state c.args.visitor.now) c.args.begun t depth before c.args.cursor.now come c.requires.boxed c.in-Ok.size c.take_number.new.cursor c.in-Ok.ensures c.known_range-x_near.result.0 y c.known_range-x_near.new.cursor c.pass_range.new.cursor c.known_range-x_near.ensures.read e (to_z w8 (of_z w8 c.args.begun.xy)) (omega (arith, ints)) (c.skips_by_x.ensures c.if-skips_by_x.true _ refl) _ c.place.ensures.value g.met.V.Visit.sound _ c.go_to.ensures
+    box_hop_enters g.V.Visit.step g.V.Visit.passes (g.V.Visit.state c.args.visitor.now) come c.requires.boxed c.in-Ok.ensures c.known_range-x_near.result.0 y c.known_range-x_near.ensures.read e
+    (to_z w8 (of_z w8 c.args.begun.xy)) (omega (arith, ints)) (c.skips_by_x.ensures c.if-skips_by_x.true _ refl) _ c.place.ensures.value g.met.V.Visit.sound _ c.go_to.ensures
 
 pub go_to-requires-then-skips_flat : goal.go_to-requires-then-skips_flat
 go_to-requires-then-skips_flat g c =
     let (t, depth, before, come) = c.requires.come in
-    box_hop_within g.V.Visit.step g.V.Visit.passes (g.V.Visit.state c.args.visitor.now) c.args.begun t depth before c.args.cursor.now come c.requires.boxed c.in-Ok.size c.take_number.new.cursor c.in-Ok.ensures c.known_range-x_near.result.0 c.known_range-y_near.result.0 c.known_range-x_near.new.cursor c.known_range-y_near.new.cursor c.known_range-x_near.ensures.read c.known_range-y_near.ensures.read (to_z w8 (of_z w8 c.args.begun.xy)) (omega (arith, ints)) (sym c.skips_flat.ensures ∙ c.if-skips_flat.true) _ c.place.ensures.value
+    box_hop_within g.V.Visit.step g.V.Visit.passes (g.V.Visit.state c.args.visitor.now) come c.requires.boxed c.in-Ok.ensures c.known_range-x_near.result.0 c.known_range-y_near.result.0 c.known_range-x_near.ensures.read c.known_range-y_near.ensures.read
+    (to_z w8 (of_z w8 c.args.begun.xy)) (omega (arith, ints)) (sym c.skips_flat.ensures ∙ c.if-skips_flat.true) _ c.place.ensures.value
 
 pub returns-then-skips_flat : goal.returns-then-skips_flat
 returns-then-skips_flat g c = λ t depth before come.
-    box_hop_enters g.V.Visit.step g.V.Visit.passes (g.V.Visit.state c.args.visitor.now) c.args.begun t depth before c.args.cursor.now come c.requires.boxed c.in-Ok.size c.take_number.new.cursor c.in-Ok.ensures c.known_range-x_near.result.0 c.known_range-y_near.result.0 c.known_range-x_near.new.cursor c.known_range-y_near.new.cursor c.known_range-x_near.ensures.read c.known_range-y_near.ensures.read (to_z w8 (of_z w8 c.args.begun.xy)) (omega (arith, ints)) (sym c.skips_flat.ensures ∙ c.if-skips_flat.true) _ c.place.ensures.value g.met.V.Visit.sound _ c.go_to-then-skips_flat.ensures
+    box_hop_enters g.V.Visit.step g.V.Visit.passes (g.V.Visit.state c.args.visitor.now) come c.requires.boxed c.in-Ok.ensures c.known_range-x_near.result.0 c.known_range-y_near.result.0 c.known_range-x_near.ensures.read c.known_range-y_near.ensures.read
+    (to_z w8 (of_z w8 c.args.begun.xy)) (omega (arith, ints)) (sym c.skips_flat.ensures ∙ c.if-skips_flat.true) _ c.place.ensures.value g.met.V.Visit.sound _ c.go_to-then-skips_flat.ensures
 
 pub enter_flat-requires-clause-behind : goal.enter_flat-requires-clause-behind
 enter_flat-requires-clause-behind g c =
-    let (t, depth, before, come) = c.requires.come in
-    (t, depth, before, box_behind g.V.Visit.step g.V.Visit.passes (g.V.Visit.state c.args.visitor.now) c.args.begun t depth before c.args.cursor.now come c.requires.boxed c.in-Ok.size c.take_number.new.cursor c.in-Ok.ensures c.known_range-x_near.result.0 c.known_range-y_near.result.0 c.known_range-x_near.new.cursor c.known_range-y_near.new.cursor c.known_range-x_near.ensures.read c.known_range-y_near.ensures.read (to_z w8 (of_z w8 c.args.begun.xy)) (omega (arith, ints)) (sym c.skips_flat.ensures ∙ c.if-skips_flat.false) _ c.flat.ensures)
+    let (t, depth, before, come) = c.requires.come in (
+      t,
+      depth,
+      before,
+      box_behind g.V.Visit.step g.V.Visit.passes (g.V.Visit.state c.args.visitor.now) come c.requires.boxed c.in-Ok.ensures c.known_range-x_near.result.0 c.known_range-y_near.result.0 c.known_range-x_near.ensures.read c.known_range-y_near.ensures.read
+          (to_z w8 (of_z w8 c.args.begun.xy)) (omega (arith, ints)) (sym c.skips_flat.ensures ∙ c.if-skips_flat.false) _ c.flat.ensures,
+    )
 
 pub returns : goal.returns
 returns g c = λ t depth before come.
-    c.enter_flat.ensures t depth before (box_behind g.V.Visit.step g.V.Visit.passes (g.V.Visit.state c.args.visitor.now) c.args.begun t depth before c.args.cursor.now come c.requires.boxed c.in-Ok.size c.take_number.new.cursor c.in-Ok.ensures c.known_range-x_near.result.0 c.known_range-y_near.result.0 c.known_range-x_near.new.cursor c.known_range-y_near.new.cursor c.known_range-x_near.ensures.read c.known_range-y_near.ensures.read (to_z w8 (of_z w8 c.args.begun.xy)) (omega (arith, ints)) (sym c.skips_flat.ensures ∙ c.if-skips_flat.false) _ c.flat.ensures)
+    c.enter_flat.ensures t depth before (box_behind g.V.Visit.step g.V.Visit.passes (g.V.Visit.state c.args.visitor.now) come c.requires.boxed c.in-Ok.ensures c.known_range-x_near.result.0 c.known_range-y_near.result.0 c.known_range-x_near.ensures.read c.known_range-y_near.ensures.read
+    (to_z w8 (of_z w8 c.args.begun.xy)) (omega (arith, ints)) (sym c.skips_flat.ensures ∙ c.if-skips_flat.false) _ c.flat.ensures)
