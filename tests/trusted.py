@@ -4,9 +4,9 @@
 trusted.py [--strict]: computes them from the public items of each crate, prints their lines crate by crate and for what a
 reader may want to believe, and fails where a definition stands in the wrong place: where a public contract reaches a
 device, or what private contracts of several crates share; where no public contract reaches what stands in `specs/` beside
-these; where no contract at all names a device, which then belongs to `proofs/`; where code or definitions name a device of
-another crate; or where no other crate needs what is shared. Strictly it fails too where docs/DEFINITIONS.md or docs/GATE.md isn't as pages.py
-writes it, or a link of a page leads to a file that lacks the name."""
+these; where no contract at all names a device, which then belongs to `proofs/`; where code or definitions name a device
+of another crate; or where what is shared names a device, or no other crate needs it. Strictly it fails too where
+docs/DEFINITIONS.md or docs/GATE.md isn't as pages.py writes it, or a link of a page leads to a file that lacks the name."""
 import os
 import re
 import sys
@@ -112,6 +112,9 @@ def misplaced(reach):
             yield f"{key} is a device that no contract reaches: it belongs to proofs/"
         elif definition.is_shared and key not in elsewhere[definition.crate]:
             yield f"{key} is shared, and no contract of another crate reaches it: it belongs to specs/{DEVICES}/"
+        for used in sorted(definition.uses if definition.is_shared else ()):
+            if reach.definitions[used].is_device:
+                yield f"{key} is shared and names the device {used}"
 
 
 def borrowed(reach):

@@ -86,6 +86,7 @@ use Rattle.made.specs.Plain.{IsSmall}
 abbrev pub IsLeap : ℕ → Type 0
 IsLeap n = IsSmall n
 """
+STEPPING = SHARED.replace("Plain.{IsSmall}", "Devices.Steps.{IsStep}").replace("IsSmall n", "IsStep n")
 LEAPS = {"shared": SHARED, "upper": ("Shared.Leaps", "IsLeap")}
 EXTRA = "\n-- a number is large\nabbrev pub IsLarge : ℕ → Type 0\nIsLarge n = 9 ≤ n\n"
 GROUP = "\nunfoldable mutual\n  -- a number is a turn\n  pub IsTurn : ℕ → Type 0\n  IsTurn n = IsSmall n\n"
@@ -105,6 +106,7 @@ CASES = (
     ("another crate names a device", {"upper": ("Devices.Steps", "IsStep")}, ["upper/src/lib.rt names a device of made"]),
     ("definitions of another crate name a device", {"upper_plain": USES}, ["upper/specs/Plain.antt names a device of made"]),
     ("no other crate names what is shared", {"shared": SHARED}, ["Shared.Leaps.IsLeap is shared, and no contract of another"]),
+    ("what is shared names a device", {**LEAPS, "shared": STEPPING}, ["Shared.Leaps.IsLeap is shared and names the device"]),
     ("a public contract reaches what is shared", {**LEAPS, "plain": LEAPING}, ["says is public and reaches the shared"]),
     ("a shared file doesn't say so", {**LEAPS, "shared": SHARED.replace(SHARED_HEAD, "-- Leaps.")}, ["doesn't begin with"]),
     ("there is more to read than may be", {"most": 5}, ["takes 6 lines of definitions, more than 5"]),

@@ -23,9 +23,9 @@
 //!
 //! The definitions: `specs/Header.antt` says which bytes are a header (`IsHeader`), `specs/BegunHeader.antt` how a header that is
 //! begun may go on, `specs/Head.antt` and `specs/Refusal.antt` what the answers of `read_head` mean. [`laws`] has what holds of
-//! these alone. Only contracts of private functions name what is in `specs/Shared/`, here and in the crates above, and in
-//! `specs/Devices/`, here alone: reading as a plan of fields (`Plan`, `HeadPlan`), and as the code does it, one field after another
-//! (`Reader`, `HeadReader`).
+//! these alone. Contracts of private functions also name `specs/Shared/`, here and in the crates above, and `specs/Devices/`, here
+//! alone: reading as a plan of fields (`Plan`, `HeadPlan`), and as the code does it, one field after another (`Reader`,
+//! `HeadReader`).
 #![tactic(auto)]
 
 mod bits;
