@@ -79,13 +79,13 @@ four_coordinates axes point x y third fourth a b c d = λ j. record {
     last (Some p) = d
 
 -- a vertex is inside where its numbers in X and in Y, of which none is an end of 64 bits, don't miss the window, and it is inside in Z and in M
-pub point_inside : (axes : Axes) (w : Bounds) (raw : RawWindow) (point : PointValue) (p x y x_bits y_bits : ℤ) (misses : Bool) → IsRawWindow p w raw → IsInner x → IsInner y
+pub point_inside : (axes : Axes) (w : Bounds) (raw : RawWindow) (point : PointValue) (p x_bits y_bits : ℤ) (misses : Bool) → IsRawWindow p w raw → IsInner (coordinate point 0) → IsInner (coordinate point 1)
     → misses ≡ ((int_lt x_bits raw.x.least || int_lt raw.x.greatest x_bits) || (int_lt y_bits raw.y.least || int_lt raw.y.greatest y_bits))
-    → p ≡ axes.xy → x ≡ coordinate point 0 → y ≡ coordinate point 1 → x_bits ≡ coordinate point 0 → y_bits ≡ coordinate point 1
+    → p ≡ axes.xy → x_bits ≡ coordinate point 0 → y_bits ≡ coordinate point 1
     → (not misses && (in_bound w.z (vertex_at axes point).z && in_bound w.m (vertex_at axes point).m)) ≡ is_inside w (vertex_at axes point)
-point_inside axes w raw point p x y x_bits y_bits misses is x_inner y_inner missed p_is x_is y_is x_bits_are y_bits_are =
-    point_judged axes.xy w raw (coordinate point 0) (coordinate point 1) x_bits y_bits misses _ x_bits_are y_bits_are (subst (λ (q : ℤ). IsRawWindow q w raw) p_is is)
-    (subst IsInner x_is x_inner) (subst IsInner y_is y_inner) missed
+point_inside axes w raw point p x_bits y_bits misses is x_inner y_inner missed p_is x_is y_is =
+    point_judged axes.xy w raw (coordinate point 0) (coordinate point 1) x_bits y_bits misses _ x_is y_is (subst (λ (q : ℤ). IsRawWindow q w raw) p_is is)
+    x_inner y_inner missed
 
 -- what is answered of a vertex of four numbers, these being the coordinates of the point
 pub inside_by_four : (axes : Axes) (w : Bounds) (point : PointValue) (x y third fourth : ℤ) (answer : Bool) → answer ≡ is_inside w (vertex_at axes (x ∷ y ∷ third ∷ fourth ∷ []))
