@@ -109,6 +109,7 @@ test: kit
 	python3 tests/trusted.py --strict
 	python3 tests/trusted_cases.py
 	python3 tests/borders.py
+	python3 tests/edits_apply.py
 	@mkdir -p build
 # rt ci would put back the libraries of earlier commands, which may be of older sources: so they go before.
 	rm -rf crates/*/out/rlib

@@ -17,7 +17,8 @@ LABEL = re.compile(r"^\s+(?:pub )?(\S+) :(?: |$)")
 START = re.compile(r"(abbrev|unfoldable|pub (record|data)|record|data|pub [^\s]+ :|[^\s]+ :)( |$)")
 GROUP = re.compile(r"(unfoldable )?mutual$")
 ABOVE = re.compile(r"\s*(--(?! ----)|infix|(unfoldable )?mutual$)")
-DEVICES = "Devices"
+# The folders of `specs/` whose definitions only private contracts name: of one crate, and of several.
+DEVICES, SHARED = "Devices", "Shared"
 HOLE = "◌"
 
 
@@ -41,6 +42,14 @@ class Definition:
     @property
     def is_device(self):
         return f".specs.{DEVICES}." in self.module + "."
+
+    @property
+    def is_shared(self):
+        return f".specs.{SHARED}." in self.module + "."
+
+    @property
+    def is_private(self):
+        return self.is_device or self.is_shared
 
     @property
     def count(self):
@@ -143,12 +152,12 @@ def constructors(lines):
     return {match.group(1) for match in map(LABEL.match, lines[1:]) if match}
 
 
-def files(top, crate, folder):
-    """The files of a folder of a crate, by their names."""
+def files(top, crate, folder, ending=".antt"):
+    """The files of a folder of a crate with this ending, by their names."""
     for place, folders, names in os.walk(os.path.join(top, "crates", crate, folder)):
         folders.sort()
         for name in sorted(names):
-            if name.endswith(".antt"):
+            if name.endswith(ending):
                 yield os.path.join(place, name)
 
 

@@ -9,7 +9,7 @@ import sys
 TOP = os.path.dirname(os.path.dirname(os.path.abspath(__file__)))
 # The calls that look ahead, by their names alone, and where each may stand.
 QUICK = {f"crates/twkb_body/src/{name}.rt" for name in ("boxed", "numbers", "quick", "quick/parts")}
-CURSOR, HEADS = "crates/twkb_num/src/cursor.rt", "crates/twkb_head/src/raw.rt"
+CURSOR, HEADS = "crates/twkb_num/src/cursor.rt", "crates/twkb_head/src/quick.rt"
 READERS = {HEADS, "crates/twkb_head/src/lib.rt", "crates/twkb_body/src/quick.rt"}
 ALLOWED = {
     r"(?:\.|::)\s*ahead\b": {HEADS, *QUICK},

@@ -78,7 +78,7 @@ def numbers(reach):
     found = answers(reach)
     rows = [f"- **{letter}**: {name} takes {reach.lines(found[letter])} lines." for letter, name, *_ in QUESTIONS]
     public = reach.lines(reach.public())
-    devices = reach.lines(key for key, one in reach.definitions.items() if one.is_device)
+    devices = reach.lines(key for key, one in reach.definitions.items() if one.is_private)
     rows.append(f"- All public contracts together take {public} lines.")
     rows.append(f"- The devices are {devices} lines more, which nobody has to read.")
     return "\n".join(rows)

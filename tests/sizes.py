@@ -2,7 +2,7 @@
 the gate and apart from it, and of their twins. Empty lines count."""
 import os
 
-from definitions import CRATES, DEVICES, TOP
+from definitions import CRATES, DEVICES, SHARED, TOP
 
 NAMES = ("Source", "Tests", "Definitions", "Devices", "Proofs", "Wrong bodies", "Apart", "Twins")
 
@@ -27,8 +27,8 @@ def is_test(parts):
 
 
 def is_device(parts):
-    """Whether it is a file of devices, or the list of them."""
-    return parts[0] in (DEVICES, f"{DEVICES}.antt")
+    """Whether it is a file of devices, of one crate or shared between several, or the list of them."""
+    return parts[0].removesuffix(".antt") in (DEVICES, SHARED)
 
 
 def sizes(folder):

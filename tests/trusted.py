@@ -3,16 +3,22 @@
 
 trusted.py [--strict]: computes them from the public items of each crate, prints their lines crate by crate and for what a
 reader may want to believe, and fails where a definition stands in the wrong place: where a public contract reaches a
-device, where no public contract reaches what stands in `specs/` beside the devices, or where no contract at all names a
-device, which then belongs to `proofs/`. Strictly it fails too where docs/DEFINITIONS.md or docs/GATE.md isn't as pages.py
-writes it, or a link of a page leads to a file that lacks the name."""
+device, or what private contracts of several crates share; where no public contract reaches what stands in `specs/` beside
+these; where no contract at all names a device, which then belongs to `proofs/`; where code or definitions name a device
+of another crate; or where what is shared names a device, or no other crate needs it. Strictly it fails too where
+docs/DEFINITIONS.md or docs/GATE.md isn't as pages.py writes it, or a link of a page leads to a file that lacks the name."""
 import os
+import re
 import sys
 
 from contracts import cited, read_public
-from definitions import CRATES, DEVICES, TOP, files, named, read_all
+from definitions import CRATES, DEVICES, SHARED, TOP, files, named, read_all
 
+# The first line of each file of devices, and of each file that crates share.
 HEAD = "-- Devices of proofs: nothing public names them."
+SHARED_HEAD = "-- Shared between crates: private contracts alone name them, here and in crates above."
+# How code and definitions name the devices of a crate.
+DEVICE_OF = re.compile(rf"\b(\w+)(?:\.|::)specs(?:\.|::){DEVICES}\b")
 # What a reader may want to believe: a letter, its name, a public item and which of its clauses, or all and the types of its
 # signature; and the most lines that it may take.
 YES = ("certified", "complete")
@@ -80,9 +86,9 @@ class Reach:
         """All that public items reach."""
         return set().union(*(self.of_item(item) for item in self.items))
 
-    def in_contracts(self):
-        """All that contracts reach, the private ones among them."""
-        crates = sorted(os.listdir(os.path.join(self.top, "crates")))
+    def in_contracts(self, but=None):
+        """All that contracts reach, the private ones among them: those of all crates, or of all but one."""
+        crates = sorted(set(os.listdir(os.path.join(self.top, "crates"))) - {but})
         return self.all_from(self.keys(set().union(*(cited(self.top, crate) for crate in crates))))
 
     def lines(self, keys):
@@ -93,22 +99,40 @@ class Reach:
 def misplaced(reach):
     """What stands where it shouldn't: a line for each."""
     public, contracts = reach.public(), reach.in_contracts()
+    sharing = {one.crate for one in reach.definitions.values() if one.is_shared}
+    elsewhere = {crate: reach.in_contracts(but=crate) for crate in sharing}
     for item in reach.items:
-        for key in sorted(key for key in reach.of_item(item) if reach.definitions[key].is_device):
-            yield f"{item.crate}: {item.name} is public and reaches the device {key}"
+        for key in sorted(key for key in reach.of_item(item) if reach.definitions[key].is_private):
+            kind = "device" if reach.definitions[key].is_device else "shared definition"
+            yield f"{item.crate}: {item.name} is public and reaches the {kind} {key}"
     for key, definition in reach.definitions.items():
-        if not definition.is_device and key not in public:
+        if not definition.is_private and key not in public:
             yield f"{key} stands in specs/, and no public contract reaches it"
         elif definition.is_device and key not in contracts:
             yield f"{key} is a device that no contract reaches: it belongs to proofs/"
+        elif definition.is_shared and key not in elsewhere[definition.crate]:
+            yield f"{key} is shared, and no contract of another crate reaches it: it belongs to specs/{DEVICES}/"
+        for used in sorted(definition.uses if definition.is_shared else ()):
+            if reach.definitions[used].is_device:
+                yield f"{key} is shared and names the device {used}"
+
+
+def borrowed(reach):
+    """The files of code and of definitions that name a device of another crate."""
+    for crate in sorted(os.listdir(os.path.join(reach.top, "crates"))):
+        for path in (*files(reach.top, crate, "src", ".rt"), *files(reach.top, crate, "specs")):
+            owners = set(DEVICE_OF.findall(open(path, encoding="utf-8").read())) - {crate, "crate"}
+            for owner in sorted(owners):
+                yield f"{os.path.relpath(path, reach.top)} names a device of {owner}: it belongs to specs/{SHARED}/ there"
 
 
 def headless(reach):
-    """The files of devices that don't say so at their head."""
+    """The files of devices, and of what crates share, that don't say so at their head."""
     for crate in reach.crates:
-        for path in files(reach.top, crate, os.path.join("specs", DEVICES)):
-            if open(path, encoding="utf-8").readline().strip() != HEAD:
-                yield f"{os.path.relpath(path, reach.top)} doesn't begin with {HEAD!r}"
+        for folder, head in ((DEVICES, HEAD), (SHARED, SHARED_HEAD)):
+            for path in files(reach.top, crate, os.path.join("specs", folder)):
+                if open(path, encoding="utf-8").readline().strip() != head:
+                    yield f"{os.path.relpath(path, reach.top)} doesn't begin with {head!r}"
 
 
 def answers(reach, questions=QUESTIONS):
@@ -131,7 +155,7 @@ def counts(reach):
     rows = [("crate", "public", "devices")]
     for crate in reach.crates:
         own = [key for key, one in reach.definitions.items() if one.crate == crate]
-        devices = [key for key in own if reach.definitions[key].is_device]
+        devices = [key for key in own if reach.definitions[key].is_private]
         rows.append((crate, reach.lines(set(own) & public), reach.lines(devices)))
     rows.append(("all", sum(row[1] for row in rows[1:]), sum(row[2] for row in rows[1:])))
     rows += [(name, reach.lines(found[letter]), "") for letter, name, *_ in QUESTIONS]
@@ -142,7 +166,7 @@ def main():
     reach = Reach()
     for name, lines, devices in counts(reach):
         print(f"{name:<20}{lines:>8}{devices:>10}".rstrip())
-    wrong = [*misplaced(reach), *headless(reach), *too_long(reach)]
+    wrong = [*misplaced(reach), *borrowed(reach), *headless(reach), *too_long(reach)]
     if "--strict" in sys.argv:
         import pages
 

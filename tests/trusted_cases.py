@@ -4,7 +4,7 @@ import os
 import sys
 import tempfile
 
-from trusted import HEAD, Reach, headless, misplaced, too_long
+from trusted import HEAD, SHARED_HEAD, Reach, borrowed, headless, misplaced, too_long
 
 ROOT = "mod code;\npub use code::{Bag, Shows, says};\n"
 CODE = """ghost use Rattle.made.specs.Plain.{{IsSaid, IsSeen, Shown}};
@@ -70,9 +70,28 @@ use Rattle.made.specs.Plain.{IsSmall}
 abbrev pub IsStep : ℕ → Type 0
 IsStep n = IsSmall n
 """
+# A crate above, of whose private contract a definition of this one is part.
+UPPER = """ghost use Rattle.made.specs.{module}.{{{name}}};
+
+fn above(n: usize) -> usize
+    ensures {{ {name} result }}
+{{
+    n
+}}
+"""
+SHARED = SHARED_HEAD + """
+use Rattle.made.specs.Plain.{IsSmall}
+
+-- a number is a leap
+abbrev pub IsLeap : ℕ → Type 0
+IsLeap n = IsSmall n
+"""
+STEPPING = SHARED.replace("Plain.{IsSmall}", "Devices.Steps.{IsStep}").replace("IsSmall n", "IsStep n")
+LEAPS = {"shared": SHARED, "upper": ("Shared.Leaps", "IsLeap")}
 EXTRA = "\n-- a number is large\nabbrev pub IsLarge : ℕ → Type 0\nIsLarge n = 9 ≤ n\n"
 GROUP = "\nunfoldable mutual\n  -- a number is a turn\n  pub IsTurn : ℕ → Type 0\n  IsTurn n = IsSmall n\n"
 USES = PLAIN.replace("n ≤ 9", "IsStep n").replace("ℕ}\n", "ℕ}\nuse Rattle.made.specs.Devices.Steps.{IsStep}\n")
+LEAPING = PLAIN.replace("n ≤ 9", "IsLeap n").replace("ℕ}\n", "ℕ}\nuse Rattle.made.specs.Shared.Leaps.{IsLeap}\n")
 REACHED = "says is public and reaches the device"
 # A name, the parts that differ, and what has to be found.
 CASES = (
@@ -83,28 +102,41 @@ CASES = (
     ("no contract names a device", {"steps": STEPS + EXTRA}, ["Devices.Steps.IsLarge is a device that no contract reaches"]),
     ("a definition names a device", {"plain": USES}, [REACHED]),
     ("a file of devices doesn't say so", {"steps": STEPS.replace(HEAD, "-- Steps.")}, ["doesn't begin with"]),
+    ("another crate names what is shared", LEAPS, []),
+    ("another crate names a device", {"upper": ("Devices.Steps", "IsStep")}, ["upper/src/lib.rt names a device of made"]),
+    ("definitions of another crate name a device", {"upper_plain": USES}, ["upper/specs/Plain.antt names a device of made"]),
+    ("no other crate names what is shared", {"shared": SHARED}, ["Shared.Leaps.IsLeap is shared, and no contract of another"]),
+    ("what is shared names a device", {**LEAPS, "shared": STEPPING}, ["Shared.Leaps.IsLeap is shared and names the device"]),
+    ("a public contract reaches what is shared", {**LEAPS, "plain": LEAPING}, ["says is public and reaches the shared"]),
+    ("a shared file doesn't say so", {**LEAPS, "shared": SHARED.replace(SHARED_HEAD, "-- Leaps.")}, ["doesn't begin with"]),
     ("there is more to read than may be", {"most": 5}, ["takes 6 lines of definitions, more than 5"]),
 )
 
 
-def write(top, name, text):
-    """A file of the made-up crate."""
-    path = os.path.join(top, "crates", "made", name)
+def write(top, name, text, crate="made"):
+    """A file of a made-up crate."""
+    path = os.path.join(top, "crates", crate, name)
     os.makedirs(os.path.dirname(path), exist_ok=True)
     with open(path, "w", encoding="utf-8") as file:
         file.write(text)
 
 
-def found(public="IsSaid", private="IsStep", plain=PLAIN, steps=STEPS, most=6):
-    """What is found to be wrong of a crate with these parts."""
+def found(public="IsSaid", private="IsStep", plain=PLAIN, steps=STEPS, most=6, shared=None, upper=None, upper_plain=None):
+    """What is found to be wrong of a crate with these parts, and of one above it."""
     with tempfile.TemporaryDirectory() as top:
         write(top, "src/lib.rt", ROOT)
         write(top, "src/code.rt", CODE.format(public=public, private=private))
         write(top, "specs/Plain.antt", plain)
         write(top, "specs/Devices/Steps.antt", steps)
+        if shared:
+            write(top, "specs/Shared/Leaps.antt", shared)
+        if upper:
+            write(top, "src/lib.rt", UPPER.format(module=upper[0], name=upper[1]), "upper")
+        if upper_plain:
+            write(top, "specs/Plain.antt", upper_plain, "upper")
         reach = Reach(top, ("made",))
         questions = (("Q", "a saying", "made", "says", ("said",), most),) if public == "IsSaid" and plain == PLAIN else ()
-        return [*misplaced(reach), *headless(reach), *too_long(reach, questions)]
+        return [*misplaced(reach), *borrowed(reach), *headless(reach), *too_long(reach, questions)]
 
 
 def main():

@@ -10,7 +10,7 @@ use Rattle.twkb_num.proofs.CursorLemmas.{IsMoved-here, IsMoved-after, IsSound-mo
 use Rattle.twkb_num.proofs.PairLaws.{IsMoved-two}
 use Rattle.twkb_head.specs.declared.kinds.Kind.{Kind}
 use Rattle.twkb_head.specs.Header.{is_multi}
-use Rattle.twkb_head.specs.Devices.Reader.{Answer, Reader, ◌>>=◌, viewed, number_at, many_at, coordinate_at}
+use Rattle.twkb_head.specs.Shared.Reader.{Answer, Reader, ◌>>=◌, viewed, number_at, many_at, coordinate_at}
 use Rattle.twkb_head.proofs.Readings.{ok_not_err}
 use Rattle.twkb_head.proofs.Steps.{read_signed, coordinate_ok, fits_true}
 use Rattle.twkb_body.specs.declared.trail.Trail.{Trail}

@@ -1,6 +1,7 @@
 -- Behind the first two bytes of a certified geometry.
-use Rattle.std.proofs.Common.{◌≡◌, ℕ, ◌+◌, ◌%◌, ◌<◌, ◌^◌, Bool, false, cond, Option, Some, None, refl, sym, ap, subst, Ok, Err, arith}
+use Rattle.std.proofs.Common.{◌≡◌, ℕ, ◌+◌, ◌%◌, ◌<◌, ◌≤◌, ◌^◌, ℤ, Bool, true, false, cond, length, Option, Some, None, refl, sym, ap, ◌∙◌, subst, Ok, Err, arith}
 use Rattle.twkb_num.specs.Cursor.{Reading, passed, IsMoved}
+use Rattle.twkb_head.specs.declared.kinds.Kind.TheVariants.{Point}
 use Rattle.twkb_head.specs.declared.raw.Fields.{Fields}
 use Rattle.twkb_head.specs.declared.read.Begun.{Begun}
 use Rattle.twkb_head.specs.declared.refusal.Malformed.{Malformed}
@@ -10,18 +11,20 @@ use Rattle.twkb_head.specs.declared.header.SizeField.{SizeField}
 use Rattle.twkb_head.specs.declared.header.BoxField.{BoxField}
 use Rattle.twkb_head.specs.declared.raw.Axes.{Axes}
 use Rattle.twkb_head.specs.declared.kinds.Kind.{Kind}
-use Rattle.twkb_head.specs.declared.kinds.Kind.TheVariants.{Point, LineString, Polygon, MultiPoint, MultiLineString, MultiPolygon, GeometryCollection}
-use Rattle.twkb_head.specs.Header.{has_ids}
+use Rattle.std.proofs.Math.Bool.{and-false}
+use Rattle.twkb_head.specs.Header.{has_ids, is_multi}
 use Rattle.twkb_head.specs.declared.boxes.Bounds.{Bounds}
+use Rattle.twkb_head.specs.declared.boxes.Vertex.{Vertex}
 use Rattle.twkb_head.specs.Head.{IsHeadAt}
 use Rattle.twkb_head.specs.Raw.{BeginsHead, ReadsHead, head_said, raw_bounds, flat_box, ends_of}
-use Rattle.twkb_head.specs.Devices.Reader.{Answer, number_at}
-use Rattle.twkb_head.specs.Devices.HeadReader.{rest_at, range_from}
+use Rattle.twkb_head.specs.Shared.Reader.{Answer, number_at, range_from}
+use Rattle.twkb_head.specs.Devices.HeadReader.{rest_at}
 use Rattle.twkb_head.proofs.HeadLaws.{head_ok, head_moved, head_exact}
 use Rattle.twkb_head.proofs.HeadSteps.{begins_goes_on, flat_fields, number_stops, x_stops, y_stops, flat_read, size_said}
 use Rattle.twkb_body.specs.Geometry.{Geometry}
-use Rattle.twkb_body.specs.Devices.Skimmed.{HasCome, HasRead, IsBehind, hop_of, flat_axes, full_head}
-use Rattle.twkb_body.proofs.HeadStands.{header_starts, hop_fits}
+use Rattle.twkb_body.specs.Visit.{SkipsSoundly}
+use Rattle.twkb_body.specs.Devices.Skimmed.{HasCome, HasRead, IsBehind, Entered, hop_of, flat_axes, full_head}
+use Rattle.twkb_body.proofs.HeadStands.{header_starts, hop_fits, hop_within, enter_hops}
 
 -- the same header under another metadata byte, which announces the same
 pub announced_same : (begun other : Begun) (depth m : ℕ) (before now : Reading) → begun.metadata % 32 ≡ m → other ≡ record begun { metadata = m } → BeginsHead begun depth before now → BeginsHead other depth before now
@@ -88,13 +91,7 @@ flat_hop passes begun size x y stop b e = ap (λ (b : Bool). cond b (Some (size.
 
 -- it announces no ids
 no_ids : (kind : Kind) → has_ids kind 3 ≡ false
-no_ids Point = refl
-no_ids LineString = refl
-no_ids Polygon = refl
-no_ids MultiPoint = refl
-no_ids MultiLineString = refl
-no_ids MultiPolygon = refl
-no_ids GeometryCollection = refl
+no_ids kind = and-false (is_multi kind)
 
 -- behind its header, where its box isn't skipped
 pub flat_behind : (passes : Bounds → Bool) (begun : Begun) (g : Geometry) (depth : ℕ) (before now : Reading) (size : SizeField) (x y : RawRange) (axes : Axes)
@@ -146,3 +143,31 @@ module _ (begun : Begun) (g : Geometry) (depth : ℕ) (before now : Reading) (co
         moved = there.1;
         stays = refl;
       }
+
+-- a visitor judges the box of such a geometry, whose ranges were read, by the precision as the code holds it
+module _ {S : Type 0} (step : S → Vertex → S) (passes : S → Bounds → Bool) (s : S) {begun : Begun} {g : Geometry} {depth : ℕ} {before now : Reading} (come : HasCome begun now g depth before) (three : begun.metadata ≡ 3)
+    {n : ℕ} {d : Reading} (number : number_at now ≡ (Ok n, d)) (x y : RawRange) {e f : Reading} (first : range_from d ≡ (Ok (ends_of x), e)) (second : range_from e ≡ (Ok (ends_of y), f)) (xy : ℤ) (fits : xy ≡ begun.xy) where
+  abbrev size : SizeField
+  size = record { value = n; offset = now.place; after = d.place }
+
+  read : HasRead (flat_fields begun size x y f.place) f g depth before
+  read = box_read begun g depth before now come three n d number x y e f first second
+
+  judged : (b : Bool) → passes s (raw_bounds xy None None (flat_box x y)) ≡ b → passes s (raw_bounds begun.xy None None (flat_box x y)) ≡ b
+  judged b is = ap (λ (p : ℤ). passes s (raw_bounds p None None (flat_box x y))) (sym fits) ∙ is
+
+  module _ (skipped : passes s (raw_bounds xy None None (flat_box x y)) ≡ true) (place : ℕ) (at : place ≡ d.place) where
+    hops : hop_of (passes s) (head_said (flat_fields begun size x y f.place)).size (head_said (flat_fields begun size x y f.place)).bounds ≡ Some (place + n)
+    hops = flat_hop (passes s) begun size x y f.place true (judged true skipped) ∙ ap (λ (p : ℕ). Some (p + n)) (sym at)
+
+    -- it is skipped: its end is within the bytes
+    pub box_hop_within : place + n ≤ length f.bytes
+    box_hop_within = hop_within step passes s g depth before f (head_said (flat_fields begun size x y f.place)) (place + n) read.stands read.at read.moved hops
+
+    -- and there it is left
+    pub box_hop_enters : SkipsSoundly step passes → (new : Reading) → new ≡ record f { place = place + n } → Entered step passes g depth (record { reading = before; state = s }) (record { reading = new; state = s }) 0
+    box_hop_enters sound new is = enter_hops step passes s sound g depth before f new (head_said (flat_fields begun size x y f.place)) (place + n) read.stands read.at read.moved hops is
+
+  -- it isn't skipped: its body is behind
+  pub box_behind : passes s (raw_bounds xy None None (flat_box x y)) ≡ false → (axes : Axes) → axes ≡ flat_axes xy → IsBehind (passes s) begun.kind axes false f g depth before
+  box_behind stays axes is = flat_behind (passes s) begun g depth before f size x y axes read (is ∙ ap flat_axes fits) (judged false stays)

@@ -7,7 +7,7 @@ use Rattle.twkb_head.specs.declared.refusal.Why.{Why}
 use Rattle.twkb_head.specs.declared.refusal.Why.TheVariants.{Cut, Varint, Kind as BadKind, Depth, Range}
 use Rattle.twkb_num.specs.Varint.{IsCut, IsLong}
 use Rattle.twkb_head.specs.BegunHeader.{Field, type_field, byte_field, number_field, coordinate_field, IsField, deepest}
-use Rattle.twkb_head.specs.Devices.Plan.{Request, type_byte, byte, number, coordinate, field_of, judge, judge_kind, kind_of_code, cut_byte, cut_field}
+use Rattle.twkb_head.specs.Shared.Plan.{Request, type_byte, byte, number, coordinate, field_of, judge, judge_kind, kind_of_code, cut_byte, cut_field}
 use Rattle.twkb_head.proofs.Spelling.{Fault, fault}
 use Rattle.twkb_head.proofs.FieldCuts.{ok_is, err_is, byte_fails, number_fails, cut_off, too_long}
 use Rattle.twkb_head.proofs.Heads.{no_kind, code_kind, kind_code}

@@ -4,7 +4,7 @@ use Rattle.twkb_num.specs.Varint.{Spells, IsSigned}
 use Rattle.twkb_head.specs.Parts.{Times, Announced}
 use Rattle.twkb_head.specs.Header.{Header, axes_of, is_multi}
 use Rattle.twkb_head.specs.BegunHeader.{is_collection, Field, number_field, IsFewer}
-use Rattle.twkb_head.specs.Devices.Plan.{Plan, bind}
+use Rattle.twkb_head.specs.Shared.Plan.{Plan, bind}
 use Rattle.twkb_head.proofs.Combinators.{PlanLaws, restated, Chain, chained, BegunChain, behind_again, Made, Measured, bind_laws, done_laws, measure_laws, optional_laws, AreAll}
 use Rattle.twkb_head.proofs.Leaves.{IsDue, IsNumber, number_laws, signeds_laws}
 use Rattle.twkb_body.specs.Geometry.{Lengths, PointValue, PolygonValue, points_of, member_count, none, Members as MemberTrees}

@@ -10,8 +10,8 @@ use Rattle.twkb_head.specs.declared.refusal.Why.{Why}
 use Rattle.twkb_head.specs.BegunHeader.{coordinate_field, IsField}
 use Rattle.twkb_head.specs.Header.{Header, axes_with, axes_of}
 use Rattle.twkb_head.specs.Head.{m_axis}
-use Rattle.twkb_head.specs.Devices.Plan.{coordinate as coordinate_request, cut_field, judge, done}
-use Rattle.twkb_head.specs.Devices.Reader.{Answer, read_judged, read_field, read, coordinate_at, Fails}
+use Rattle.twkb_head.specs.Shared.Plan.{coordinate as coordinate_request, cut_field, judge, done}
+use Rattle.twkb_head.specs.Shared.Reader.{Answer, read_judged, read_field, read, coordinate_at, Fails}
 use Rattle.twkb_head.proofs.FieldCuts.{field_takes}
 use Rattle.twkb_head.proofs.Readings.{ok_not_err}
 use Rattle.twkb_head.proofs.Loops.{IsLoop, loop_begins, loop_goes_on, loop_fails, loop_ends}

@@ -5,7 +5,7 @@ use mir.Val.{SFits}
 use Rattle.std.specs.Int.{w64}
 use Rattle.twkb_num.specs.Cursor.{Reading, passed, IsMoved}
 use Rattle.twkb_num.specs.Varint.{SpellsTwoSigned}
-use Rattle.twkb_head.specs.Devices.Reader.{Answer, ◌>>=◌, viewed, many_at, coordinate_at}
+use Rattle.twkb_head.specs.Shared.Reader.{Answer, ◌>>=◌, viewed, many_at, coordinate_at}
 use Rattle.twkb_body.specs.declared.trail.Trail.{Trail}
 use Rattle.twkb_body.specs.Geometry.{PointValue}
 use Rattle.twkb_body.specs.Devices.Body.{first_of, behind}

@@ -5,8 +5,8 @@ use Rattle.twkb_head.specs.declared.kinds.Kind.TheVariants.{Point, LineString, P
 use Rattle.twkb_head.specs.Parts.{Sequence, Times}
 use Rattle.twkb_head.specs.Header.{Header, IsHeader}
 use Rattle.twkb_head.specs.BegunHeader.{IsAllowedUnder, is_collection, Field, IsBegunHeader}
-use Rattle.twkb_head.specs.Devices.Plan.{Plan, done}
-use Rattle.twkb_head.specs.Devices.HeadPlan.{HeadValue}
+use Rattle.twkb_head.specs.Shared.Plan.{Plan, done}
+use Rattle.twkb_head.specs.Shared.HeadPlan.{HeadValue}
 use Rattle.twkb_head.proofs.Combinators.{PlanLaws, restated, Chain, chained, BegunChain, behind_again, Made, Measured, bind_laws_behind, done_laws, measure_laws, BegunTimes, free, times_laws}
 use Rattle.twkb_head.proofs.Heads.{IsAllowedWith, allowed_at, allowed_with, IsHead, head_laws}
 use Rattle.twkb_body.specs.Geometry.{Geometry, Members, geometry, none, more, member_count, Lengths}

@@ -5,8 +5,8 @@ use Rattle.twkb_head.specs.declared.kinds.Kind.TheVariants.{Point, LineString, P
 use Rattle.twkb_head.specs.Header.{Header, axes_of, is_multi}
 use Rattle.twkb_head.specs.BegunHeader.{is_collection, deepest}
 use Rattle.twkb_head.proofs.Spelling.{Fault, run}
-use Rattle.twkb_head.specs.Devices.Plan.{Plan, done, bind, many, measure, optional, number_plan, signeds_plan, coordinate_plan}
-use Rattle.twkb_head.specs.Devices.HeadPlan.{HeadValue, head_plan}
+use Rattle.twkb_head.specs.Shared.Plan.{Plan, done, bind, many, measure, optional, number_plan, signeds_plan, coordinate_plan}
+use Rattle.twkb_head.specs.Shared.HeadPlan.{HeadValue, head_plan}
 use Rattle.twkb_body.specs.Geometry.{Geometry, Members, none, PointValue, Ring, PolygonValue}
 use Rattle.twkb_body.specs.Devices.Body.{Body, ListHead, add, behind, first_of, geometry_from, members_body, members_of, no_body, part_body, parts_body, ring_sums, sums, zeros}
 

@@ -8,8 +8,8 @@ use Rattle.twkb_num.specs.Cursor.{Reading, rest, IsSound}
 use Rattle.twkb_num.specs.Varint.{IsSigned}
 use Rattle.twkb_head.specs.declared.refusal.Malformed.{Malformed}
 use Rattle.twkb_head.specs.Parts.{Then, Sequence, Times}
-use Rattle.twkb_head.specs.Devices.Plan.{signeds_plan}
-use Rattle.twkb_head.specs.Devices.Reader.{signed_at, signeds_at, Fails}
+use Rattle.twkb_head.specs.Shared.Plan.{signeds_plan}
+use Rattle.twkb_head.specs.Shared.Reader.{signed_at, signeds_at, Fails}
 use Rattle.twkb_head.proofs.Plans.{run_takes}
 use Rattle.twkb_head.proofs.Leaves.{signeds_laws}
 use Rattle.twkb_head.proofs.Readings.{read_ok}

@@ -5,7 +5,7 @@ use Rattle.std.specs.Int.{w64}
 use Rattle.twkb_num.specs.Cursor.{Reading, passed, IsMoved}
 use Rattle.twkb_num.specs.Varint.{IsSigned, SpellsTwoSigned}
 use Rattle.twkb_num.proofs.PairLaws.{IsMoved-two}
-use Rattle.twkb_head.specs.Devices.Reader.{coordinate_at}
+use Rattle.twkb_head.specs.Shared.Reader.{coordinate_at}
 use Rattle.twkb_head.proofs.Steps.{read_signed, coordinate_ok, fits_true}
 
 -- two numbers that one move passes are read as two coordinates, where their sums fit

@@ -5,7 +5,7 @@ use Rattle.twkb_head.specs.declared.kinds.Kind.TheVariants.{Point, LineString, P
 use Rattle.twkb_num.specs.Varint.{Spells, IsSigned}
 use Rattle.twkb_head.specs.Parts.{Sequence, Counted}
 use Rattle.twkb_head.specs.BegunHeader.{is_collection, Field, number_field, coordinate_field}
-use Rattle.twkb_head.specs.Devices.Plan.{Plan, bind, many, number_plan}
+use Rattle.twkb_head.specs.Shared.Plan.{Plan, bind, many, number_plan}
 use Rattle.twkb_head.proofs.Combinators.{PlanLaws, restated, Chain, chained, BegunChain, bind_laws, done_laws, FitAll, after_all, AreAll, BegunMany, many_laws}
 use Rattle.twkb_head.proofs.Leaves.{IsDue, IsNumber, number_laws, coordinate_laws, fewer, fewer_back}
 use Rattle.twkb_body.specs.Geometry.{PointValue, Ring}

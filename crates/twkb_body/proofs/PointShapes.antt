@@ -8,7 +8,7 @@ use Rattle.twkb_num.specs.Varint.{SpellsTwoSigned, IsShort}
 use Rattle.twkb_head.specs.declared.header.Head.{Head}
 use Rattle.twkb_head.specs.declared.kinds.Kind.TheVariants.{Point}
 use Rattle.twkb_head.specs.Header.{is_multi}
-use Rattle.twkb_head.specs.Devices.Reader.{Answer, viewed, coordinate_at}
+use Rattle.twkb_head.specs.Shared.Reader.{Answer, viewed, coordinate_at}
 use Rattle.twkb_body.specs.Geometry.{PointValue}
 use Rattle.twkb_body.specs.Devices.Body.{Body, part_body, zeros}
 use Rattle.twkb_body.specs.Devices.BodyReader.{point_at, shape_at}

@@ -2,7 +2,7 @@
 use Rattle.std.proofs.Common.{◌≡◌, ℕ, zero, suc, ◌+◌, List, [], ◌∷◌, ◌++◌, ℤ, pos, Ok, Err, refl, sym, ap, ◌∙◌, arith}
 use Rattle.twkb_num.specs.Cursor.{Reading}
 use Rattle.twkb_head.specs.declared.refusal.Malformed.{Malformed}
-use Rattle.twkb_head.specs.Devices.Reader.{Answer, Reader, ◌>>=◌, viewed, many_at}
+use Rattle.twkb_head.specs.Shared.Reader.{Answer, Reader, ◌>>=◌, viewed, many_at}
 use Rattle.twkb_head.proofs.FieldCuts.{ok_is}
 use Rattle.twkb_head.proofs.Readings.{ok_not_err}
 

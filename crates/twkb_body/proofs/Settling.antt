@@ -3,8 +3,8 @@ use Rattle.std.proofs.Common.{◌≡◌, ℕ, zero, suc, ◌+◌, ◌-◌, ◌*�
 use Rattle.twkb_num.specs.Cursor.{Reading, passed, IsMoved, IsSound}
 use Rattle.twkb_num.specs.Varint.{SpellsAll, SpellsMany, zigzag_value}
 use Rattle.twkb_num.proofs.CursorLemmas.{IsMoved-here, IsMoved-after, IsSound-moved}
-use Rattle.twkb_head.specs.Devices.Plan.{fits}
-use Rattle.twkb_head.specs.Devices.Reader.{Answer, Reader, ◌>>=◌, viewed, many_at, coordinate_at, signed_at, Fails}
+use Rattle.twkb_head.specs.Shared.Plan.{fits}
+use Rattle.twkb_head.specs.Shared.Reader.{Answer, Reader, ◌>>=◌, viewed, many_at, coordinate_at, signed_at, Fails}
 use Rattle.twkb_head.specs.declared.refusal.Malformed.{Malformed}
 use Rattle.twkb_head.specs.declared.refusal.Why.TheVariants.{Range}
 use Rattle.twkb_head.proofs.Loops.{IsLoop, loop_begins, loop_fails, loop_ends, behind_front}

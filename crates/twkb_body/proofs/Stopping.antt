@@ -3,9 +3,9 @@ use Rattle.std.proofs.Common.{◌≡◌, List, ◌++◌, ℕ, Ok}
 use Rattle.twkb_num.specs.Cursor.{Reading, rest, IsMoved, IsSound}
 use Rattle.twkb_num.specs.Varint.{Spells}
 use Rattle.twkb_head.specs.declared.refusal.Malformed.{Malformed}
-use Rattle.twkb_head.specs.Devices.Plan.{Plan, number_plan}
+use Rattle.twkb_head.specs.Shared.Plan.{Plan, number_plan}
 use Rattle.twkb_head.proofs.Spelling.{Spelled}
-use Rattle.twkb_head.specs.Devices.Reader.{Answer, read, number_at, Fails}
+use Rattle.twkb_head.specs.Shared.Reader.{Answer, read, number_at, Fails}
 use Rattle.twkb_head.proofs.Plans.{run_takes}
 use Rattle.twkb_head.proofs.Leaves.{number_laws}
 use Rattle.twkb_head.proofs.Readings.{read_ok}

@@ -3,7 +3,7 @@ use Rattle.std.proofs.Common.{◌≡◌, ℕ, zero, suc, true, List, [], ◌∷�
 use Rattle.std.proofs.lemmas.Bool.{ltb-true, lt-ltb}
 use Rattle.std.proofs.lemmas.Int.{ints}
 use Rattle.std.proofs.lemmas.Grind.{flat_map-append}
-use Rattle.twkb_head.specs.Devices.Plan.{fits}
+use Rattle.twkb_head.specs.Shared.Plan.{fits}
 use Rattle.twkb_head.proofs.Combinators.{FitAll, after_all}
 use Rattle.twkb_body.specs.Geometry.{PointValue, Ring, PolygonValue, points_of, coordinate}
 use Rattle.twkb_body.specs.Begun.{SumsFit}

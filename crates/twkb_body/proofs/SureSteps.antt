@@ -22,10 +22,10 @@ use Rattle.twkb_num.specs.Varint.{Spells, zigzag_value}
 use Rattle.twkb_head.specs.declared.kinds.Kind.{Kind}
 use Rattle.twkb_head.specs.declared.kinds.Kind.TheVariants.{Point}
 use Rattle.twkb_head.specs.Header.{Header, axes_of, axes_with, is_multi}
-use Rattle.twkb_head.specs.Devices.Plan.{fits}
+use Rattle.twkb_head.specs.Shared.Plan.{fits}
 use Rattle.twkb_head.proofs.Steps.{read_signed, coordinate_ok}
 use Rattle.twkb_head.specs.Holds.{IsWithin, Holds}
-use Rattle.twkb_head.specs.Devices.Reader.{Answer, ◌>>=◌, viewed, many_at, coordinate_at}
+use Rattle.twkb_head.specs.Shared.Reader.{Answer, ◌>>=◌, viewed, many_at, coordinate_at}
 use Rattle.twkb_head.proofs.HeadBack.{head_value}
 use Rattle.twkb_body.specs.declared.frame.Frame.{Frame}
 use Rattle.twkb_body.specs.declared.inside.Inside.{Inside}

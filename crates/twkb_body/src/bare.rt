@@ -2,7 +2,7 @@
 //! while numbers are short and points are few.
 ghost use Rattle.std.specs.Prelude.{◌≡◌, ◌≤◌, ◌^◌, IfSome, flat_map, ℕ, List};
 ghost use Rattle.twkb_num.specs.Cursor.{IsSound};
-ghost use Rattle.twkb_head.specs.Devices.Reader.{many_at};
+ghost use Rattle.twkb_head.specs.Shared.Reader.{many_at};
 ghost use Rattle.twkb_body.specs.Devices.Bare.{Leads};
 ghost use Rattle.twkb_body.specs.Devices.Body.{add, ring_sums};
 ghost use Rattle.twkb_body.specs.Devices.BodyReader.{point_at, ring_at, polygon_at, part_at};

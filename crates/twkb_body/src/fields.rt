@@ -1,6 +1,6 @@
 //! The numbers of a body, each read by itself, as those of a header are.
 ghost use Rattle.std.specs.Prelude.{◌≡◌};
-ghost use Rattle.twkb_head.specs.Devices.Reader.{number_at, signed_at};
+ghost use Rattle.twkb_head.specs.Shared.Reader.{number_at, signed_at};
 
 use twkb_head::{Malformed, malformed};
 use twkb_num::Cursor;

@@ -4,7 +4,7 @@ ghost use Rattle.twkb_num.specs.Cursor.{Reading};
 ghost use Rattle.twkb_head.specs.Raw.{ends_of, IsNear};
 ghost use Rattle.twkb_head.specs.declared.raw.RawRange.{RawRange};
 ghost use Rattle.twkb_head.specs.declared.refusal.Malformed.{Malformed};
-ghost use Rattle.twkb_head.specs.Devices.HeadReader.{range_from};
+ghost use Rattle.twkb_head.specs.Shared.Reader.{range_from};
 
 use crate::fields::take_signed;
 use twkb_head::RawRange;

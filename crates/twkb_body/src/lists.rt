@@ -1,7 +1,7 @@
 //! The count of a list, and its ids: judged by an audit, passed by a skim.
 ghost use Rattle.std.specs.Prelude.{◌≡◌, ◌↔◌, ◌≢◌, ◌+◌, ◌≤◌, ◌<ℤ◌, ℕ, ℤ, List as ListOf, IsTrue, AllPairs, OnSome, Ok};
 ghost use Rattle.twkb_num.specs.Cursor.{rest};
-ghost use Rattle.twkb_head.specs.Devices.Reader.{signeds_at, Reads};
+ghost use Rattle.twkb_head.specs.Shared.Reader.{signeds_at, Reads};
 ghost use Rattle.twkb_body.specs.Devices.Stops.{ReadsOrStops, ReadsList};
 ghost use Rattle.twkb_body.specs.Devices.BodyReader.{list_at};
 ghost use Rattle.twkb_body.specs.Devices.IdLists.{HasManyIds};

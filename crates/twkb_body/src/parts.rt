@@ -1,7 +1,7 @@
 //! The parts of a body that is no collection's: points, lines and polygons. An audit and a skim read them alike, and differ
 //! in what they add the points to.
 ghost use Rattle.std.specs.Prelude.{◌≡◌, flat_map};
-ghost use Rattle.twkb_head.specs.Devices.Reader.{many_at};
+ghost use Rattle.twkb_head.specs.Shared.Reader.{many_at};
 ghost use Rattle.twkb_body.specs.Devices.Body.{ring_sums};
 ghost use Rattle.twkb_body.specs.Devices.BodyReader.{ring_at, polygon_at, part_at};
 ghost use Rattle.twkb_body.specs.Geometry.{points_of};

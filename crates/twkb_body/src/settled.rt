@@ -1,7 +1,7 @@
 //! Points that are known to stand at the place, passed by the ends of their numbers. No coordinate is computed.
 ghost use Rattle.std.specs.Prelude.{◌≡◌, List, Ok};
 ghost use Rattle.twkb_num.specs.Cursor.{Reading};
-ghost use Rattle.twkb_head.specs.Devices.Reader.{many_at};
+ghost use Rattle.twkb_head.specs.Shared.Reader.{many_at};
 ghost use Rattle.twkb_body.specs.Devices.Body.{add};
 ghost use Rattle.twkb_body.specs.Devices.BodyReader.{point_at, NumbersLead};
 ghost use Rattle.twkb_body.specs.Geometry.{PointValue};

@@ -5,7 +5,7 @@
 //! can change the visitor's state.
 ghost use Rattle.std.specs.Prelude.{◌≡◌, ◌<◌, ◌≤◌, [], ◌∷◌, List, Ok, flat_map};
 ghost use Rattle.twkb_num.specs.Cursor.{Reading};
-ghost use Rattle.twkb_head.specs.Devices.Reader.{many_at};
+ghost use Rattle.twkb_head.specs.Shared.Reader.{many_at};
 ghost use Rattle.twkb_body.specs.Devices.Body.{add, ring_sums};
 ghost use Rattle.twkb_body.specs.Devices.BodyReader.{point_at, ring_at, polygon_at, part_at};
 ghost use Rattle.twkb_body.specs.Devices.Inside.{of_head};

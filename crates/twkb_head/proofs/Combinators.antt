@@ -4,7 +4,7 @@ use Rattle.std.proofs.Common.{◌≡◌, ℕ, zero, suc, ◌+◌, ◌<◌, Bool,
 use Rattle.std.proofs.lemmas.List.{append-nil}
 use Rattle.twkb_head.specs.Parts.{Then, Sequence, Times, Announced}
 use Rattle.twkb_head.specs.BegunHeader.{Field}
-use Rattle.twkb_head.specs.Devices.Plan.{Plan, done, ask, bind, many, measure, optional}
+use Rattle.twkb_head.specs.Shared.Plan.{Plan, done, ask, bind, many, measure, optional}
 use Rattle.twkb_head.proofs.Spelling.{Spelled, Stops}
 
 -- What is spelled by a plan, and where bytes stop in it, each in words of the format and back.

@@ -8,7 +8,7 @@ use Rattle.twkb_head.specs.declared.refusal.Why.{Why}
 use Rattle.twkb_head.specs.declared.refusal.Why.TheVariants.{Cut, Varint}
 use Rattle.twkb_num.specs.Varint.{Spells, IsCut as IsCutOff, IsLong}
 use Rattle.twkb_head.specs.BegunHeader.{Field, type_field, byte_field, number_field, coordinate_field, IsField}
-use Rattle.twkb_head.specs.Devices.Plan.{cut_varint, cut_byte, cut_field, push_byte}
+use Rattle.twkb_head.specs.Shared.Plan.{cut_varint, cut_byte, cut_field, push_byte}
 use Rattle.twkb_num.proofs.SpellingForms.{varint_value, IsVarintForm, Spells-form, Spells-value, form_spells}
 
 pub ok_is : {A E : Type 0} (x y : A) → let z : Result A E = Ok x in z ≡ Ok y → x ≡ y

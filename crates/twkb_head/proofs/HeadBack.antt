@@ -7,12 +7,12 @@ use Rattle.twkb_head.specs.BegunHeader.{Field, type_field, byte_field, number_fi
 use Rattle.twkb_head.specs.Head.{IsHeadAt}
 use Rattle.twkb_head.specs.Refusal.{IsWrongField, IsRefusedHead}
 use Rattle.twkb_head.proofs.Spelling.{Fault, fault, run}
-use Rattle.twkb_head.specs.Devices.Plan.{cut_byte, judge_kind, kind_of_code}
-use Rattle.twkb_head.specs.Devices.HeadPlan.{HeadValue, head_plan}
-use Rattle.twkb_head.specs.Devices.Reader.{Answer, read, Fails}
+use Rattle.twkb_head.specs.Shared.Plan.{cut_byte, judge_kind, kind_of_code}
+use Rattle.twkb_head.specs.Shared.HeadPlan.{HeadValue, head_plan}
+use Rattle.twkb_head.specs.Shared.Reader.{Answer, read, Fails}
 use Rattle.twkb_num.proofs.CursorLemmas.{rest-passed}
 use Rattle.twkb_head.specs.declared.kinds.Kind.{Kind as KindOf}
-use Rattle.twkb_head.specs.declared.kinds.Kind.TheVariants.{Point, LineString, Polygon, MultiPoint, MultiLineString, MultiPolygon, GeometryCollection}
+use Rattle.twkb_head.specs.declared.kinds.Kind.TheVariants.{GeometryCollection}
 use Rattle.std.proofs.lemmas.List.{append_cancel_right}
 use Rattle.twkb_head.specs.declared.refusal.Why.{Why}
 use Rattle.twkb_head.specs.declared.refusal.Why.TheVariants.{Cut, Varint, Kind, Depth, Range}
@@ -39,13 +39,7 @@ value_of h a ih = record { header = h; before = 2 + length ih.extended_bytes; si
 
 -- with a level below it each kind may stand
 shallow : (kind : KindOf) → IsAllowedWith 1 kind
-shallow Point = refl
-shallow LineString = refl
-shallow Polygon = refl
-shallow MultiPoint = refl
-shallow MultiLineString = refl
-shallow MultiPolygon = refl
-shallow GeometryCollection = refl
+shallow kind = refl
 
 header_runs : (h : Header) (a x : List ℕ) (ih : IsHeader h a) → run (head_plan 1) (a ++ x) ≡ Ok (value_of h a ih, x)
 header_runs h a x ih = run_again (head_plan 1) (value_of h a ih) a x ((head_laws 2 1 1 refl (omega arith)).spelled_back (value_of h a ih) a (record { header = ih; allowed = shallow h.kind; before = refl; size = refl }))

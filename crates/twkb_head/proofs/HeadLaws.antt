@@ -8,10 +8,10 @@ use Rattle.twkb_head.specs.Header.{Header, IsHeader}
 use Rattle.twkb_head.specs.BegunHeader.{Field, type_field, byte_field, number_field, coordinate_field, IsField, IsBegunHeader, type_due, metadata_due, extended_due, size_due, box_due, IsAllowedAt, deepest}
 use Rattle.twkb_head.specs.Head.{head_of, StartsWithHeader, IsHeadAt}
 use Rattle.twkb_head.specs.Refusal.{IsWrongField, IsRefusedHead, looked_at_field, looked_at_until}
-use Rattle.twkb_head.specs.Devices.Plan.{Request, type_byte, byte, number, coordinate, field_of, cut_field, judge, judge_kind, kind_of_code}
+use Rattle.twkb_head.specs.Shared.Plan.{Request, type_byte, byte, number, coordinate, field_of, cut_field, judge, judge_kind, kind_of_code}
 use Rattle.twkb_head.proofs.Spelling.{Fault, fault, run}
-use Rattle.twkb_head.specs.Devices.HeadPlan.{HeadValue, head_plan}
-use Rattle.twkb_head.specs.Devices.Reader.{Answer, read}
+use Rattle.twkb_head.specs.Shared.HeadPlan.{HeadValue, head_plan}
+use Rattle.twkb_head.specs.Shared.Reader.{Answer, read}
 use Rattle.twkb_head.specs.Devices.HeadReader.{head_at}
 use Rattle.twkb_num.proofs.CursorLemmas.{rest-passed}
 use Rattle.twkb_head.specs.declared.kinds.Kind.{Kind as KindOf}

@@ -1,17 +1,17 @@
 -- The steps of a header.
-use Rattle.std.proofs.Common.{◌≡◌, ℕ, ◌+◌, ◌-◌, ◌/◌, ◌%◌, ◌==◌, List, [], ◌∷◌, ◌++◌, length, Option, Some, None, option_map, is_some, IfSome, Bool, true, false, ◌&&◌, ◌||◌, ℤ, ◌+ℤ◌, Result, Ok, Err, refl, sym, ap, subst, ◌∙◌, arith}
+use Rattle.std.proofs.Common.{◌≡◌, ℕ, ◌+◌, ◌-◌, ◌/◌, ◌%◌, ◌==◌, List, [], ◌∷◌, ◌++◌, length, Option, Some, None, option_map, is_some, IfSome, Bool, true, false, ◌&&◌, ◌||◌, ℤ, ◌+ℤ◌, Result, Ok, Err, refl, sym, ap, ap₂, subst, ◌∙◌, arith}
 use Rattle.std.proofs.lemmas.List.{append-nil}
 use Rattle.twkb_num.specs.Cursor.{Reading, passed, IsMoved, IsSound}
 use Rattle.twkb_num.specs.Varint.{Spells, SpellsAll, SpellsMany, IsSigned, SpellsTwoSigned, zigzag_value}
 use Rattle.twkb_num.proofs.PairLaws.{IsMoved-two}
 use Rattle.twkb_head.specs.Header.{code_of, has_bit, has_ids, z_in, m_in}
-use Rattle.twkb_head.specs.Devices.Reader.{Answer, Reader, ◌>>=◌, viewed, byte_at, number_at, optional_at}
-use Rattle.twkb_head.specs.Devices.HeadReader.{head_with, kind_from_type, range_from, bounds_from, head_at, rest_at}
+use Rattle.twkb_head.specs.Shared.Reader.{Answer, Reader, ◌>>=◌, viewed, number_at, optional_at, range_from}
+use Rattle.twkb_head.specs.Devices.HeadReader.{byte_at, head_with, kind_from_type, bounds_from, head_at, rest_at}
 use Rattle.twkb_head.specs.BegunHeader.{deepest}
 use Rattle.twkb_head.specs.declared.kinds.Kind.{Kind}
 use Rattle.twkb_head.specs.declared.kinds.Kind.TheVariants.{Point, LineString, Polygon, MultiPoint, MultiLineString, MultiPolygon, GeometryCollection}
 use Rattle.twkb_head.specs.declared.refusal.Why.{Why}
-use Rattle.twkb_head.specs.Devices.Plan.{kind_of_code, judge_kind}
+use Rattle.twkb_head.specs.Shared.Plan.{kind_of_code, judge_kind}
 use Rattle.twkb_head.specs.declared.boxes.Bounds.{Bounds}
 use Rattle.twkb_head.specs.declared.header.BoxField.{BoxField}
 use Rattle.twkb_head.specs.declared.header.Head.{Head}
@@ -135,6 +135,10 @@ pair_range minimum extent old new spells moved =
     let first : IsSigned minimum (passed old way.0) = (spells.0, rw way.3 two.first, spells.3) in
     let second : IsSigned extent (passed way.0 new) = (spells.1, rw way.4 two.second, spells.4) in
     rw (read_signed old way.0 minimum first way.1, read_signed way.0 new extent second way.2) refl
+
+-- and as the code holds them
+pub pair_range_held : (minimum extent low more : ℤ) (old new : Reading) → low ≡ minimum → more ≡ extent → SpellsTwoSigned (passed old new) minimum extent → IsMoved old new → range_from old ≡ (Ok (low, low +ℤ more), new)
+pair_range_held minimum extent low more old new low_is more_is spells moved = pair_range minimum extent old new spells moved ∙ ap₂ (λ (a b : ℤ). (Ok (a, a +ℤ b), new)) (sym low_is) (sym more_is)
 
 -- two numbers, one behind another, as a range
 pub two_spelled : (bytes : List ℕ) → SpellsMany bytes 2 → (range : RawRange) × SpellsTwoSigned bytes range.minimum range.extent

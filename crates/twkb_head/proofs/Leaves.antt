@@ -6,7 +6,7 @@ use Rattle.twkb_num.specs.Varint.{Spells, sum_of_groups, zigzag_value, IsSigned}
 use Rattle.twkb_head.specs.Parts.{Sequence, Times}
 use Rattle.twkb_head.specs.Header.{IsByte}
 use Rattle.twkb_head.specs.BegunHeader.{Field, byte_field, number_field, coordinate_field, IsFewer}
-use Rattle.twkb_head.specs.Devices.Plan.{Request, byte, number, coordinate, field_of, fits, done, ask, byte_plan, number_plan, signed_plan, signeds_plan, coordinate_plan}
+use Rattle.twkb_head.specs.Shared.Plan.{Request, byte, number, coordinate, field_of, fits, done, ask, byte_plan, number_plan, signed_plan, signeds_plan, coordinate_plan}
 use Rattle.twkb_head.proofs.Spelling.{IsGood, Spelled, Stops}
 use Rattle.twkb_head.proofs.Combinators.{PlanLaws, restated, BegunMany, times_laws, free, FitAll}
 

@@ -2,7 +2,7 @@
 use Rattle.std.proofs.Common.{◌≡◌, ℕ, suc, ◌+◌, ◌-◌, ◌<◌, ◌≤◌, List, [], ◌∷◌, ◌++◌, Result, Ok, Err, refl, sym, ap, ◌∙◌, append_assoc, arith}
 use Rattle.std.proofs.lemmas.List.{append-nil}
 use Rattle.twkb_num.specs.Cursor.{Reading}
-use Rattle.twkb_head.specs.Devices.Reader.{Answer, Reader, ◌>>=◌, viewed, many_at, Fails, Reads}
+use Rattle.twkb_head.specs.Shared.Reader.{Answer, Reader, ◌>>=◌, viewed, many_at, Fails, Reads}
 use Rattle.twkb_head.specs.declared.refusal.Malformed.{Malformed}
 
 -- values in front of those that are read

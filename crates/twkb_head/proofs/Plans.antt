@@ -4,7 +4,7 @@ use Rattle.std.proofs.lemmas.List.{append-nil}
 use Rattle.twkb_head.specs.declared.refusal.Why.{Why}
 use Rattle.twkb_head.specs.declared.refusal.Why.TheVariants.{Cut}
 use Rattle.twkb_head.specs.BegunHeader.{Field, IsField}
-use Rattle.twkb_head.specs.Devices.Plan.{Request, field_of, cut_field, judge, Plan, done, ask}
+use Rattle.twkb_head.specs.Shared.Plan.{Request, field_of, cut_field, judge, Plan, done, ask}
 use Rattle.twkb_head.proofs.Spelling.{Fault, fault, run, IsGood, Spelled, Stops}
 use Rattle.twkb_head.proofs.FieldCuts.{field_again, field_takes, field_once, field_cuts, field_some, ok_is}
 

@@ -5,9 +5,9 @@ use Rattle.std.proofs.lemmas.Grind.{common_steps}
 use Rattle.twkb_num.specs.Cursor.{Reading, rest, added, counted, IsMoved, IsSound}
 use Rattle.twkb_num.specs.Varint.{IsCut, IsLong}
 use Rattle.twkb_head.specs.BegunHeader.{Field, type_field, byte_field, number_field, coordinate_field, IsField}
-use Rattle.twkb_head.specs.Devices.Plan.{Request, type_byte, byte, number, coordinate, field_of, cut_varint, cut_byte, cut_field, kind_of_code, judge_kind, judge, Plan, done, ask, bind}
+use Rattle.twkb_head.specs.Shared.Plan.{Request, type_byte, byte, number, coordinate, field_of, cut_varint, cut_byte, cut_field, kind_of_code, judge_kind, judge, Plan, done, ask, bind}
 use Rattle.twkb_head.proofs.Spelling.{Fault, fault, judged, step, run}
-use Rattle.twkb_head.specs.Devices.Reader.{Answer, ◌>>=◌, past, looked_in, read_judged, read_field, read, Fails}
+use Rattle.twkb_head.specs.Shared.Reader.{Answer, ◌>>=◌, past, looked_in, read_judged, read_field, read, Fails}
 use Rattle.twkb_num.proofs.CursorLemmas.{IsMoved-here, IsMoved-after, IsSound-moved}
 use Rattle.twkb_head.specs.declared.kinds.Kind.{Kind as KindOf}
 use Rattle.twkb_head.specs.declared.kinds.Kind.TheVariants.{GeometryCollection}

@@ -2,7 +2,7 @@
 use Rattle.std.specs.Prelude.{◌≡◌, ℕ, List, [], ◌++◌, Option, Some, None, Result, Ok, Err, ◌⊎◌}
 use Rattle.twkb_head.specs.declared.refusal.Why.{Why}
 use Rattle.twkb_head.specs.BegunHeader.{Field, IsField}
-use Rattle.twkb_head.specs.Devices.Plan.{Plan, Request, ask, cut_field, done, field_of, judge}
+use Rattle.twkb_head.specs.Shared.Plan.{Plan, Request, ask, cut_field, done, field_of, judge}
 
 -- why reading stopped, at which kind of field, and the bytes from there on
 pub data Fault : Type 0 where

@@ -7,9 +7,10 @@ use Rattle.std.proofs.lemmas.Grind.{common_steps}
 use Rattle.std.proofs.lemmas.List.{append_cancel_right}
 use Rattle.twkb_num.specs.Cursor.{Reading, rest, passed, added, counted, IsMoved, IsSound}
 use Rattle.twkb_num.specs.Varint.{Spells, Faults, sum_of_groups, looked_at, zigzag_value, IsSigned}
-use Rattle.twkb_head.specs.Devices.Plan.{Request, field_of, Plan, done, ask, byte, number, cut_field, cut_byte, cut_varint, kind_of_code, judge_kind, type_byte, coordinate, fits, byte_plan, signed_plan}
+use Rattle.twkb_head.specs.Shared.Plan.{Request, field_of, Plan, done, ask, byte, number, cut_field, cut_byte, cut_varint, kind_of_code, judge_kind, type_byte, coordinate, fits, byte_plan, signed_plan}
 use Rattle.twkb_head.proofs.Spelling.{IsGood}
-use Rattle.twkb_head.specs.Devices.Reader.{Answer, past, looked_in, read_field, read, type_at, byte_at, number_at, signed_at, coordinate_at}
+use Rattle.twkb_head.specs.Shared.Reader.{Answer, past, looked_in, read_field, read, number_at, signed_at, coordinate_at}
+use Rattle.twkb_head.specs.Devices.HeadReader.{type_at, byte_at}
 use Rattle.twkb_head.specs.Refusal.{why_of}
 use Rattle.twkb_num.proofs.CursorLemmas.{rest-passed}
 use Rattle.twkb_num.specs.declared.varint.NumFault.{NumFault}

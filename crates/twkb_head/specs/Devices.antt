@@ -1,7 +1,4 @@
 -- Devices of proofs: contracts of private functions name them, and nothing public does.
-pub mod Plan
-pub mod HeadPlan
-pub mod Reader
 pub mod HeadReader
 pub mod Holds
 pub mod Raw

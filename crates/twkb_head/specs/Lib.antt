@@ -10,4 +10,5 @@ pub mod BegunHeader
 pub mod Refusal
 pub mod Raw
 pub mod Laws
+pub mod Shared
 pub mod Devices

@@ -5,8 +5,8 @@
 ghost use Rattle.std.specs.Prelude.{◌≡◌, ◌≤◌, ◌-◌, IfOk};
 ghost use Rattle.twkb_num.specs.Units.{IsPrecision};
 ghost use Rattle.twkb_head.specs.BegunHeader.{deepest};
-ghost use Rattle.twkb_head.specs.Devices.Reader.{byte_at, number_at, signed_at};
-ghost use Rattle.twkb_head.specs.Devices.HeadReader.{kind_from_type};
+ghost use Rattle.twkb_head.specs.Devices.HeadReader.{byte_at, kind_from_type};
+ghost use Rattle.twkb_head.specs.Shared.Reader.{number_at, signed_at};
 ghost use Rattle.twkb_head.specs.Refusal.{why_of};
 
 use crate::bits::precision_of;

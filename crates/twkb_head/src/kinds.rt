@@ -2,7 +2,7 @@
 ghost use Rattle.std.specs.Prelude.{◌≡◌, ◌%◌, ◌≤◌, ◌-◌, IfOk, IfErr};
 ghost use Rattle.twkb_head.specs.BegunHeader.{is_collection, deepest};
 ghost use Rattle.twkb_head.specs.Header.{is_multi};
-ghost use Rattle.twkb_head.specs.Devices.Plan.{kind_of_code, judge_kind};
+ghost use Rattle.twkb_head.specs.Shared.Plan.{kind_of_code, judge_kind};
 
 use crate::refusal::Why;
 

@@ -23,8 +23,9 @@
 //!
 //! The definitions: `specs/Header.antt` says which bytes are a header (`IsHeader`), `specs/BegunHeader.antt` how a header that is
 //! begun may go on, `specs/Head.antt` and `specs/Refusal.antt` what the answers of `read_head` mean. [`laws`] has what holds of
-//! these alone. `specs/Devices/` is for proofs only: reading as a plan of fields (`Plan`, `HeadPlan`), and as the code does it,
-//! one field after another (`Reader`, `HeadReader`).
+//! these alone. Contracts of private functions also name `specs/Shared/`, here and in the crates above, and `specs/Devices/`, here
+//! alone: reading as a plan of fields (`Plan`, `HeadPlan`), and as the code does it, one field after another (`Reader`,
+//! `HeadReader`).
 #![tactic(auto)]
 
 mod bits;
@@ -33,6 +34,8 @@ mod fields;
 mod header;
 mod kinds;
 pub mod laws;
+mod quick;
+mod ranges;
 mod raw;
 mod read;
 mod refusal;
@@ -41,10 +44,8 @@ pub use boxes::{Bounds, Span, Vertex};
 pub use fields::malformed;
 pub use header::{BoxField, Head, SizeField};
 pub use kinds::{DEEPEST, Kind};
-pub use raw::{
-    Axes, Fields, RawBox, RawHead, RawRange, behind_bare_line_head, read_flat_head, read_raw_head,
-    read_sized_point_head,
-};
+pub use quick::{behind_bare_line_head, read_flat_head, read_raw_head, read_sized_point_head};
+pub use raw::{Axes, Fields, RawBox, RawHead, RawRange};
 pub use read::{Begun, begin_head, read_head, read_raw, take_rest};
 pub use refusal::{Malformed, Why};
 pub use twkb_num::{Cursor, NumFault};

@@ -7,8 +7,8 @@ ghost use Rattle.twkb_head.specs.declared.refusal.Why.TheVariants.{Range};
 ghost use Rattle.twkb_head.specs.declared.kinds.Kind.TheVariants.{Point};
 ghost use Rattle.twkb_head.specs.Head.{StartsWithHeader, IsHeadAt};
 ghost use Rattle.twkb_head.specs.Refusal.{IsRefusedHead, looked_at_until};
-ghost use Rattle.twkb_head.specs.Devices.Reader.{byte_at, number_at, optional_at};
-ghost use Rattle.twkb_head.specs.Devices.HeadReader.{head_at, rest_at};
+ghost use Rattle.twkb_head.specs.Devices.HeadReader.{byte_at, head_at, rest_at};
+ghost use Rattle.twkb_head.specs.Shared.Reader.{number_at, optional_at};
 ghost use Rattle.twkb_head.specs.Devices.Raw.{made_whole, HasBegun};
 ghost use Rattle.twkb_head.specs.Raw.{head_said, BeginsHead, ReadsHead};
 
@@ -16,7 +16,8 @@ use crate::bits::{BOX, EMPTY, EXTENDED, SIZE, has_bit, ids_of, m_of, precision_o
 use crate::fields::{take_byte, take_number, take_type};
 use crate::header::{Head, SizeField};
 use crate::kinds::{Kind, kind_at};
-use crate::raw::{Axes, Fields, take_any_box};
+use crate::ranges::take_any_box;
+use crate::raw::{Axes, Fields};
 use crate::refusal::Malformed;
 use twkb_num::Cursor;
 

@@ -1,18 +1,19 @@
 -- Boxes and points judged by raw integers.
-use Rattle.std.proofs.Common.{◌≡◌, ℕ, ℤ, pos, int_lt, ◌||◌, ◌&&◌, Bool, not, true, false, [], ◌∷◌, Option, Some, None, option_map, refl, sym, ◌∙◌, arith}
+use Rattle.std.proofs.Common.{◌≡◌, ℕ, ℤ, pos, int_lt, ◌||◌, ◌&&◌, Bool, not, true, false, [], ◌∷◌, Option, Some, None, option_map, refl, ap, sym, subst, ◌∙◌, arith}
 use Rattle.std.proofs.lemmas.Int.{ints}
 use Rattle.twkb_num.specs.Units.{units_of}
 use Rattle.twkb_head.specs.Head.{span_at, m_axis}
 use Rattle.twkb_head.specs.declared.raw.Axes.{Axes}
 use Rattle.twkb_body.specs.Geometry.{PointValue, coordinate, vertex_at}
-use Rattle.twkb_head.specs.Raw.{ends_of, IsNear}
+use Rattle.twkb_head.specs.Raw.{ends_of, IsNear, HasNearRanges}
 use Rattle.twkb_head.specs.declared.raw.RawRange.{RawRange}
+use Rattle.twkb_head.specs.declared.raw.RawBox.{RawBox}
 use Rattle.twkb_head.specs.declared.boxes.Bounds.{Bounds}
 use Rattle.twkb_head.specs.declared.boxes.Span.{Span}
 use Rattle.twkb_layer.specs.declared.raw.RawWindow.{RawWindow}
 use Rattle.twkb_layer.specs.Devices.Raw.{IsRawWindow}
 use Rattle.twkb_layer.specs.Devices.Slots.{IsInner, AreInner}
-use Rattle.twkb_layer.specs.Window.{in_span, in_bound, lie_apart}
+use Rattle.twkb_layer.specs.Window.{in_span, in_bound, is_inside, lie_apart}
 use Rattle.twkb_layer.proofs.Raws.{misses_raw}
 
 -- the ends of a range of numbers that aren't far from zero
@@ -21,6 +22,13 @@ inner range near = record {
   first = record { low = omega (arith, ints, near.low); high = omega (arith, ints, near.high) };
   second = record { low = omega (arith, ints, near.low, near.least); high = omega (arith, ints, near.high, near.greatest) };
 }
+
+-- a box of such ranges lies apart in X or in Y where its raw ends do
+pub box_judged : (xy : ℤ) (w : Bounds) (raw : RawWindow) (box : RawBox) (p : ℤ) (misses : Bool) → IsRawWindow p w raw → HasNearRanges box → p ≡ xy
+    → misses ≡ ((int_lt (ends_of box.x).1 raw.x.least || int_lt raw.x.greatest (ends_of box.x).0) || (int_lt (ends_of box.y).1 raw.y.least || int_lt raw.y.greatest (ends_of box.y).0))
+    → misses ≡ (lie_apart (span_at xy (ends_of box.x)) w.x || lie_apart (span_at xy (ends_of box.y)) w.y)
+box_judged xy w raw box p misses is near p_is missed =
+    missed ∙ misses_raw xy w raw (subst (λ (q : ℤ). IsRawWindow q w raw) p_is is) (ends_of box.x) (ends_of box.y) (inner box.x near.x) (inner box.y near.y)
 
 pub or_true : (a b c d : Bool) → a ≡ (b || c) → a ≡ true → (b || (c || d)) ≡ true
 or_true a true c d same h = refl
@@ -41,7 +49,7 @@ join true b c = refl
 join false b c = refl
 
 -- a point is in range in X and in Y where the range of it alone doesn't miss the window
-pub point_judged : (p : ℤ) (w : Bounds) (raw : RawWindow) (x y x_bits y_bits : ℤ) (misses rest : Bool) → x_bits ≡ x → y_bits ≡ y → IsRawWindow p w raw → IsInner x → IsInner y
+point_judged : (p : ℤ) (w : Bounds) (raw : RawWindow) (x y x_bits y_bits : ℤ) (misses rest : Bool) → x_bits ≡ x → y_bits ≡ y → IsRawWindow p w raw → IsInner x → IsInner y
     → misses ≡ ((int_lt x_bits raw.x.least || int_lt raw.x.greatest x_bits) || (int_lt y_bits raw.y.least || int_lt raw.y.greatest y_bits))
     → (not misses && rest) ≡ (in_span w.x (units_of x p) && (in_span w.y (units_of y p) && rest))
 point_judged p w raw x y x_bits y_bits misses rest x_is y_is is x_inner y_inner missed =
@@ -57,7 +65,7 @@ flat_holds None (Some s) v u e = absurd (cc (e))
 flat_holds (Some s) m v u e = absurd (cc (e))
 
 -- a point is known by its four coordinates
-pub four_coordinates : (axes : Axes) (point : PointValue) (x y third fourth : ℤ) → coordinate point 0 ≡ x → coordinate point 1 ≡ y → coordinate point 2 ≡ third → coordinate point 3 ≡ fourth
+four_coordinates : (axes : Axes) (point : PointValue) (x y third fourth : ℤ) → coordinate point 0 ≡ x → coordinate point 1 ≡ y → coordinate point 2 ≡ third → coordinate point 3 ≡ fourth
     → vertex_at axes point ≡ vertex_at axes (x ∷ y ∷ third ∷ fourth ∷ [])
 four_coordinates axes point x y third fourth a b c d = λ j. record {
   x = units_of (a j) axes.xy;
@@ -69,3 +77,17 @@ four_coordinates axes point x y third fourth a b c d = λ j. record {
     last : (z : Option ℕ) → coordinate point (m_axis z) ≡ coordinate (x ∷ y ∷ third ∷ fourth ∷ []) (m_axis z)
     last None = c
     last (Some p) = d
+
+-- a vertex is inside where its numbers in X and in Y, of which none is an end of 64 bits, don't miss the window, and it is inside in Z and in M
+pub point_inside : (axes : Axes) (w : Bounds) (raw : RawWindow) (point : PointValue) (p x_bits y_bits : ℤ) (misses : Bool) → IsRawWindow p w raw → IsInner (coordinate point 0) → IsInner (coordinate point 1)
+    → misses ≡ ((int_lt x_bits raw.x.least || int_lt raw.x.greatest x_bits) || (int_lt y_bits raw.y.least || int_lt raw.y.greatest y_bits))
+    → p ≡ axes.xy → x_bits ≡ coordinate point 0 → y_bits ≡ coordinate point 1
+    → (not misses && (in_bound w.z (vertex_at axes point).z && in_bound w.m (vertex_at axes point).m)) ≡ is_inside w (vertex_at axes point)
+point_inside axes w raw point p x_bits y_bits misses is x_inner y_inner missed p_is x_is y_is =
+    point_judged axes.xy w raw (coordinate point 0) (coordinate point 1) x_bits y_bits misses _ x_is y_is (subst (λ (q : ℤ). IsRawWindow q w raw) p_is is)
+    x_inner y_inner missed
+
+-- what is answered of a vertex of four numbers, these being the coordinates of the point
+pub inside_by_four : (axes : Axes) (w : Bounds) (point : PointValue) (x y third fourth : ℤ) (answer : Bool) → answer ≡ is_inside w (vertex_at axes (x ∷ y ∷ third ∷ fourth ∷ []))
+    → coordinate point 0 ≡ x → coordinate point 1 ≡ y → coordinate point 2 ≡ third → coordinate point 3 ≡ fourth → answer ≡ is_inside w (vertex_at axes point)
+inside_by_four axes w point x y third fourth answer is a b c d = is ∙ ap (is_inside w) (sym (four_coordinates axes point x y third fourth a b c d))

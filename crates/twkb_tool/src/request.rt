@@ -1,7 +1,7 @@
-//! What is requested.
+//! [`Request`], what the command line asks the program to do with a file.
 use twkb_layer::Window;
 
-/// What is to be done with the file.
+/// What the program is asked to do with the file.
 #[derive(Drop)]
 pub enum Request {
     /// Certify it, or name its first false claim.
@@ -14,7 +14,7 @@ pub enum Request {
     Scan(Vec<Window>),
 }
 
-/// The file, and what is to be done with it.
+/// A command line: the file, and what the program is asked to do with it.
 #[derive(Drop)]
 pub struct Line {
     pub path: String,

@@ -2,7 +2,7 @@
 -- Bodies that no box asks for, whose numbers are passed by their ends.
 use Rattle.std.specs.Prelude.{◌≡◌, ℕ, ◌*◌, ◌^◌, ◌≤◌, List, length, All, ℤ, pos, neg_ℤ, ◌≤ℤ◌, Ok}
 use Rattle.twkb_num.specs.Cursor.{Reading}
-use Rattle.twkb_head.specs.Devices.Reader.{Reader}
+use Rattle.twkb_head.specs.Shared.Reader.{Reader}
 use Rattle.twkb_body.specs.declared.trail.Trail.{Trail}
 use Rattle.twkb_body.specs.Geometry.{PointValue}
 use Rattle.twkb_body.specs.Devices.Walk.{IsWalked}

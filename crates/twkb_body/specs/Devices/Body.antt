@@ -1,7 +1,7 @@
 -- Devices of proofs: nothing public names them.
 -- The body of a geometry as it is read: the sums of its numbers, and what it comes to.
 use Rattle.std.specs.Prelude.{ℕ, ◌+◌, List, [], ◌∷◌, ℤ, pos, ◌+ℤ◌, Option, None}
-use Rattle.twkb_head.specs.Devices.HeadPlan.{HeadValue}
+use Rattle.twkb_head.specs.Shared.HeadPlan.{HeadValue}
 use Rattle.twkb_body.specs.Geometry.{Geometry, Members, geometry, none, more, PointValue, PolygonValue}
 
 -- the first coordinate

@@ -6,8 +6,8 @@ use Rattle.twkb_head.specs.declared.kinds.Kind.{Kind}
 use Rattle.twkb_head.specs.declared.kinds.Kind.TheVariants.{Point, LineString, Polygon, MultiPoint, MultiLineString, MultiPolygon, GeometryCollection}
 use Rattle.twkb_head.specs.Header.{Header, axes_of, is_multi}
 use Rattle.twkb_head.specs.BegunHeader.{is_collection}
-use Rattle.twkb_head.specs.Devices.HeadPlan.{HeadValue, head_plan}
-use Rattle.twkb_head.specs.Devices.Reader.{Answer, Reader, ◌>>=◌, viewed, read, number_at, signed_at, coordinate_at, optional_at, many_at, signeds_at}
+use Rattle.twkb_head.specs.Shared.HeadPlan.{HeadValue, head_plan}
+use Rattle.twkb_head.specs.Shared.Reader.{Answer, Reader, ◌>>=◌, viewed, read, number_at, signed_at, coordinate_at, optional_at, many_at, signeds_at}
 use Rattle.twkb_body.specs.Geometry.{Geometry, Members, none, PointValue, Ring, PolygonValue}
 use Rattle.twkb_body.specs.Devices.Body.{first_of, behind, add, sums, ring_sums, zeros, ListHead, Body, parts_body, members_body, part_body, no_body, geometry_from, members_of}
 

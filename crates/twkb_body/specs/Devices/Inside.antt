@@ -5,7 +5,7 @@ use Rattle.twkb_head.specs.declared.header.Head.{Head}
 use Rattle.twkb_head.specs.declared.header.BoxField.{BoxField}
 use Rattle.twkb_head.specs.declared.boxes.Vertex.{Vertex}
 use Rattle.twkb_head.specs.Header.{Header, is_multi}
-use Rattle.twkb_head.specs.Devices.Reader.{Reader}
+use Rattle.twkb_head.specs.Shared.Reader.{Reader}
 use Rattle.twkb_body.specs.declared.inside.Inside.{Inside}
 use Rattle.twkb_body.specs.declared.seen.Seen.{Seen}
 use Rattle.twkb_body.specs.Geometry.{vertex_of, points_of}

@@ -4,7 +4,7 @@ use Rattle.std.specs.Prelude.{◌≡◌, ◌≢◌, ◌↔◌, ℕ, ◌+◌, ◌
 use Rattle.twkb_num.specs.Cursor.{Reading, rest}
 use Rattle.twkb_head.specs.declared.header.Head.{Head}
 use Rattle.twkb_head.specs.BegunHeader.{deepest}
-use Rattle.twkb_head.specs.Devices.Reader.{Answer, Fails, many_at, signeds_at}
+use Rattle.twkb_head.specs.Shared.Reader.{Answer, Fails, many_at, signeds_at}
 use Rattle.twkb_body.specs.Geometry.{Geometry, vertices}
 use Rattle.twkb_body.specs.Audited.{HasLongList}
 use Rattle.twkb_body.specs.Extent.{reach_of}

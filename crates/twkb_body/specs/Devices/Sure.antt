@@ -12,7 +12,7 @@ use Rattle.twkb_head.specs.BegunHeader.{is_collection}
 use Rattle.twkb_head.specs.Raw.{raw_bounds, HasNearRanges}
 use Rattle.twkb_head.specs.Header.{Header, is_multi}
 use Rattle.twkb_head.specs.Holds.{Holds}
-use Rattle.twkb_head.specs.Devices.Reader.{many_at}
+use Rattle.twkb_head.specs.Shared.Reader.{many_at}
 use Rattle.twkb_body.specs.declared.trail.Trail.{Trail}
 use Rattle.twkb_body.specs.declared.found.Found.{Found}
 use Rattle.twkb_body.specs.declared.frame.Frame.{Frame}

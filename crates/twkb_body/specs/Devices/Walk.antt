@@ -7,7 +7,7 @@ use Rattle.twkb_head.specs.declared.boxes.Vertex.{Vertex}
 use Rattle.twkb_head.specs.declared.header.Head.{Head}
 use Rattle.twkb_head.specs.Header.{Header, axes_with}
 use Rattle.twkb_head.specs.declared.refusal.Malformed.{Malformed}
-use Rattle.twkb_head.specs.Devices.Reader.{Reader, Reads, many_at}
+use Rattle.twkb_head.specs.Shared.Reader.{Reader, Reads, many_at}
 use Rattle.twkb_body.specs.declared.trail.Trail.{Trail}
 use Rattle.twkb_body.specs.Geometry.{PointValue, vertex_of}
 use Rattle.twkb_body.specs.Devices.Body.{add, sums, map_from}

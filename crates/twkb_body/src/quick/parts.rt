@@ -18,9 +18,9 @@ use crate::fields::take_number;
 use crate::further::{BoxedFour, BoxedThree};
 use crate::lists::take_rising;
 use crate::parts::take_parts;
+use crate::passer::Passer;
 use crate::points::Points;
 use crate::trail::Trail;
-use crate::unboxed::Unboxed;
 use twkb_head::{Head, Kind, RawBox};
 use twkb_num::Cursor;
 
@@ -71,7 +71,7 @@ fn take_summed_parts(cursor: &mut Cursor, kind: Kind, has_ids: bool, axes: usize
     ensures { IfSome result (AddsParts unchanged kind has_ids axes cursor.old cursor.new tt tt) }
 {
     let head = head_of(kind, has_ids, axes);
-    take_parts_of(cursor, &head, axes, &mut Unboxed)
+    take_parts_of(cursor, &head, axes, &mut Passer)
 }
 
 /// A header of so many axes that says nothing else.

@@ -1,6 +1,6 @@
 -- Devices of proofs: nothing public names them.
 -- Headers read from a cursor as the code does it, one field after another.
-use Rattle.std.specs.Prelude.{ℕ, ◌/◌, ℤ, pos, ◌+ℤ◌, Option, option_map, Some, None, Ok}
+use Rattle.std.specs.Prelude.{ℕ, ◌/◌, ℤ, pos, Option, option_map, Some, None, Ok}
 use Rattle.twkb_num.specs.Varint.{zigzag_value}
 use Rattle.twkb_head.specs.declared.kinds.Kind.{Kind}
 use Rattle.twkb_head.specs.declared.boxes.Span.{Span}
@@ -8,16 +8,21 @@ use Rattle.twkb_head.specs.declared.boxes.Bounds.{Bounds}
 use Rattle.twkb_head.specs.declared.header.Head.{Head}
 use Rattle.twkb_head.specs.Header.{has_bit, has_ids, z_in, m_in}
 use Rattle.twkb_head.specs.Head.{span_at}
-use Rattle.twkb_head.specs.Devices.HeadPlan.{kind_from}
-use Rattle.twkb_head.specs.Devices.Reader.{Reader, ◌>>=◌, viewed, type_at, byte_at, number_at, signed_at, optional_at}
+use Rattle.twkb_head.specs.Shared.HeadPlan.{kind_from}
+use Rattle.twkb_head.specs.Shared.Plan.{type_plan, byte_plan}
+use Rattle.twkb_head.specs.Shared.Reader.{Reader, ◌>>=◌, viewed, read, number_at, optional_at, range_from}
 
--- the kind and the precision of X and Y in a type byte with so many levels below it
+-- a type byte, with this many levels below it
+unfoldable pub type_at : ℕ → Reader ℕ
+type_at levels = read (type_plan levels)
+
+-- a byte
+unfoldable pub byte_at : Reader ℕ
+byte_at = read byte_plan
+
+-- the kind and the precision of X and Y in a type byte, with this many levels below it
 abbrev pub kind_from_type : ℕ → Reader (Kind × ℤ)
 kind_from_type levels r = viewed (λ t. (kind_from t, zigzag_value (t / 16))) (type_at levels r)
-
--- the range of one axis
-unfoldable pub range_from : Reader (ℤ × ℤ)
-range_from r = signed_at r >>= λ low a. viewed (λ width. (low, low +ℤ width)) (signed_at a)
 
 -- the range of an axis, where it has a precision, in units
 abbrev pub axis_from : Option ℕ → Reader (Option Span)

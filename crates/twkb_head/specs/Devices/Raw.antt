@@ -11,8 +11,8 @@ use Rattle.twkb_head.specs.declared.raw.Fields.{Fields}
 use Rattle.twkb_head.specs.declared.read.Begun.{Begun}
 use Rattle.twkb_head.specs.declared.kinds.Kind.{Kind}
 use Rattle.twkb_head.specs.Header.{has_bit, z_in, m_in}
-use Rattle.twkb_head.specs.Devices.HeadReader.{range_from, bounds_from, head_with, kind_from_type}
-use Rattle.twkb_head.specs.Devices.Reader.{byte_at, number_at, optional_at}
+use Rattle.twkb_head.specs.Shared.Reader.{range_from, number_at, optional_at}
+use Rattle.twkb_head.specs.Devices.HeadReader.{bounds_from, head_with, kind_from_type, byte_at}
 use Rattle.twkb_head.specs.Raw.{ends_of, raw_bounds, whole_head, head_said}
 use Rattle.twkb_head.specs.declared.header.Head.{Head}
 

@@ -1,8 +1,7 @@
 -- Devices of proofs: nothing public names them.
 -- The visitor that seeks a vertex inside a window, and the proof of its law.
-use Rattle.std.specs.Prelude.{Bool, true, refl, ◌≡◌, ℤ, ◌&&◌, ◌||◌, false, Option, Some, None}
+use Rattle.std.specs.Prelude.{Bool, true, refl, ◌≡◌, ℤ, ◌&&◌, ◌||◌, false, Option, Some, None, IfSome}
 use Rattle.twkb_head.specs.declared.boxes.Vertex.{Vertex}
-use Rattle.twkb_head.specs.Devices.Holds.{IsWithinBoth}
 use Rattle.twkb_head.specs.declared.boxes.Bounds.{Bounds}
 use Rattle.twkb_body.specs.Visit.{SkipsSoundly}
 use Rattle.std.proofs.Common.{arith, ap, ◌⊎◌, inl, inr}
@@ -42,7 +41,7 @@ no_right false b e = refl
 span_outside : (box range : Span) (v : ℤ) → lie_apart box range ≡ true → IsWithin box v → in_span range v ≡ false
 span_outside box range v e h = grind (arith, ints, e, h.0, h.1)
 
-bound_outside : (box range : Option Span) (v : Option ℤ) → lie_apart_if_both box range ≡ true → IsWithinBoth box v → in_bound range v ≡ false
+bound_outside : (box range : Option Span) (v : Option ℤ) → lie_apart_if_both box range ≡ true → IfSome box (λ s. IfSome v (IsWithin s)) → in_bound range v ≡ false
 bound_outside None range v e h = absurd (cc (e))
 bound_outside (Some box) None v e h = absurd (cc (e))
 bound_outside (Some box) (Some range) None e h = refl

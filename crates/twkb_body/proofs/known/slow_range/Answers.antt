@@ -5,8 +5,7 @@ use mir.Val.{to_z, of_z}
 use Rattle.std.specs.Int.{w64}
 use Rattle.twkb_num.specs.Cursor.{Reading}
 use Rattle.twkb_head.specs.declared.refusal.Malformed.{Malformed}
-use Rattle.twkb_head.specs.Devices.Reader.{signed_at}
-use Rattle.twkb_head.specs.Devices.HeadReader.{range_from}
+use Rattle.twkb_head.specs.Shared.Reader.{signed_at, range_from}
 use Rattle.twkb_body.proofs.known.slow_range.Goals as goal
 
 first_stops : (m : Malformed) (r a : Reading) → signed_at r ≡ (Err m, a) → range_from r ≡ (Err m, a)

@@ -1,6 +1,6 @@
 -- A list with ids and one without are read as the reader reads them.
 use Rattle.std.proofs.lemmas.Result.{err_from_is_err_and}
-use Rattle.twkb_head.specs.Devices.Reader.{signeds_at}
+use Rattle.twkb_head.specs.Shared.Reader.{signeds_at}
 use Rattle.twkb_num.specs.Cursor.{rest}
 use Rattle.twkb_body.specs.Devices.BodyReader.{list_at}
 use Rattle.twkb_body.specs.Devices.IdLists.{HasManyIds, HasManyIdsAfterCount}

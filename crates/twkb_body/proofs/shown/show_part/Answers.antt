@@ -1,7 +1,7 @@
 -- A part is what its kind has.
 use Rattle.std.proofs.Common.{[], ◌∷◌, refl, sym, subst}
 use Rattle.std.proofs.lemmas.List.{append-nil}
-use Rattle.twkb_head.specs.Devices.Reader.{Reader}
+use Rattle.twkb_head.specs.Shared.Reader.{Reader}
 use Rattle.twkb_body.specs.Geometry.{PointValue, Ring, PolygonValue}
 use Rattle.twkb_body.specs.Devices.BodyReader.{point_at, ring_at}
 use Rattle.twkb_body.specs.Devices.Inside.{of_head}

@@ -1,6 +1,6 @@
 -- One ring more is shown.
 use Rattle.std.proofs.Common.{ℕ, arith}
-use Rattle.twkb_head.specs.Devices.Reader.{many_at}
+use Rattle.twkb_head.specs.Shared.Reader.{many_at}
 use Rattle.twkb_body.specs.Geometry.{PointValue}
 use Rattle.twkb_body.specs.Devices.Body.{sums}
 use Rattle.twkb_body.specs.Devices.BodyReader.{ring_at}

@@ -1,6 +1,6 @@
 -- Points are shown up to where the visitor is settled, and the others are passed.
 use Rattle.std.proofs.Common.{◌≡◌, ℕ, Bool, true, List, Ok, ap, sym, subst, arith}
-use Rattle.twkb_head.specs.Devices.Reader.{many_at}
+use Rattle.twkb_head.specs.Shared.Reader.{many_at}
 use Rattle.twkb_body.specs.declared.trail.Trail.{Trail}
 use Rattle.twkb_body.specs.Geometry.{PointValue}
 use Rattle.twkb_body.specs.Devices.Body.{add}

@@ -3,7 +3,7 @@ use Rattle.std.proofs.Common.{◌-◌, Ok, sym, ap, ◌∙◌}
 use Rattle.twkb_head.specs.BegunHeader.{deepest}
 use Rattle.twkb_head.specs.Devices.HeadReader.{head_at}
 use Rattle.twkb_head.proofs.HeadLaws.{head_ok, head_moved}
-use Rattle.twkb_head.proofs.raw.read_flat_head.Goals as goal
+use Rattle.twkb_head.proofs.quick.read_flat_head.Goals as goal
 
 pub returns-clause-ok : goal.returns-clause-ok
 returns-clause-ok c =

@@ -1,9 +1,9 @@
 -- Two ranges, and perhaps two more, are a box.
 use Rattle.std.proofs.Common.{Bool, Some, sym, ap, ◌∙◌}
 use Rattle.twkb_head.specs.Devices.HeadReader.{bounds_from}
-use Rattle.twkb_head.specs.Devices.Reader.{viewed, optional_at}
+use Rattle.twkb_head.specs.Shared.Reader.{viewed, optional_at}
 use Rattle.twkb_head.proofs.HeadSteps.{box_read}
-use Rattle.twkb_head.proofs.raw.take_raw_box.Goals as goal
+use Rattle.twkb_head.proofs.ranges.take_raw_box.Goals as goal
 
 pub returns-in_ok-fourth-clause-read : goal.returns-in_ok-fourth-clause-read
 returns-in_ok-fourth-clause-read c = λ xy z m z_is m_is.

@@ -1,17 +1,18 @@
--- Devices of proofs: nothing public names them.
--- Reading from a cursor as code does it, one field after another, up to the first that is wrong.
-use Rattle.std.specs.Prelude.{◌≡◌, ℕ, zero, suc, ◌+◌, Bool, true, false, List, [], ◌∷◌, length, ℤ, pos, Option, Some, None, Result, Ok, Err}
+-- Shared between crates: private contracts alone name them, here and in crates above.
+-- Readers: a reader takes a cursor's reading, and gives the value that starts there, or the fault of the first field that is
+-- wrong, and the reading after it.
+use Rattle.std.specs.Prelude.{◌≡◌, ℕ, zero, suc, ◌+◌, Bool, true, false, List, [], ◌∷◌, length, ℤ, pos, ◌+ℤ◌, Option, Some, None, Result, Ok, Err}
 use Rattle.twkb_num.specs.Cursor.{Reading, rest, added, counted}
 use Rattle.twkb_head.specs.declared.refusal.Why.{Why}
 use Rattle.twkb_head.specs.declared.refusal.Why.TheVariants.{Varint}
 use Rattle.twkb_head.specs.declared.refusal.Malformed.{Malformed}
-use Rattle.twkb_head.specs.Devices.Plan.{Request, field_of, cut_field, judge, Plan, done, ask, type_plan, byte_plan, number_plan, signed_plan, coordinate_plan}
+use Rattle.twkb_head.specs.Shared.Plan.{Request, field_of, cut_field, judge, Plan, done, ask, number_plan, signed_plan, coordinate_plan}
 
--- what a read answers, and the reading that it leaves
+-- an answer: a value or a fault, and the reading after it
 abbrev pub Answer : Type 0 → Type 0
 Answer A = Result A Malformed × Reading
 
--- what reads from a place on
+-- a reader: what it answers of a reading
 abbrev pub Reader : Type 0 → Type 0
 Reader A = Reading → Answer A
 
@@ -21,7 +22,7 @@ abbrev pub ◌>>=◌ : {A B : Type 0} → Answer A → (A → Reader B) → Answ
 (Ok x, r) >>= k = k x r
 (Err m, r) >>= k = (Err m, r)
 
--- the same answer, seen by f
+-- an answer with f applied to its value
 abbrev pub viewed : {A B : Type 0} → (A → B) → Answer A → Answer B
 viewed f (Ok x, r) = (Ok (f x), r)
 viewed f (Err m, r) = (Err m, r)
@@ -39,7 +40,7 @@ abbrev pub looked_in : Why → List ℕ → ℕ
 looked_in Varint bytes = 10
 looked_in _ bytes = length bytes
 
--- goes on behind a field of n bytes that was judged
+-- goes on after a field of n bytes that was judged
 abbrev pub read_judged : {A : Type 0} → Option Why → ℕ → Reader A → Reader A
 read_judged None n k r = k (past n r)
 read_judged (Some w) n k r = refused_at w n r
@@ -54,43 +55,43 @@ abbrev pub read : {A : Type 0} → Plan A → Reader A
 read (done x) r = (Ok x, r)
 read (ask q next) r = read_field q (cut_field (field_of q) (rest r)) (λ front. read (next front)) r
 
--- the reads of one field
-unfoldable pub type_at : ℕ → Reader ℕ
-type_at levels = read (type_plan levels)
-
-unfoldable pub byte_at : Reader ℕ
-byte_at = read byte_plan
-
+-- a number
 unfoldable pub number_at : Reader ℕ
 number_at = read number_plan
 
+-- a signed number
 unfoldable pub signed_at : Reader ℤ
 signed_at = read signed_plan
 
+-- a coordinate, by the one before it
 unfoldable pub coordinate_at : ℤ → Reader ℤ
 coordinate_at before = read (coordinate_plan before)
 
--- a read that is made where it is announced
+-- a value that is read where it is announced
 abbrev pub optional_at : {A : Type 0} → Bool → Reader A → Reader (Option A)
 optional_at false f r = (Ok None, r)
 optional_at true f r = viewed Some (f r)
 
--- n reads, one after another, each in the state that those before it leave
+-- n values, one after another, each in the state that those before it leave
 abbrev pub many_at : {A S : Type 0} → ℕ → (S → A → S) → (S → Reader A) → S → Reader (List A)
 many_at zero after f s r = (Ok [], r)
 many_at (suc n) after f s r = f s r >>= λ x r. viewed (λ xs. x ∷ xs) (many_at n after f (after s x) r)
+
+-- the range of one axis: its minimum, and the sum of that and its width
+unfoldable pub range_from : Reader (ℤ × ℤ)
+range_from r = signed_at r >>= λ low a. viewed (λ width. (low, low +ℤ width)) (signed_at a)
 
 -- n signed numbers
 abbrev pub signeds_at : ℕ → Reader (List ℤ)
 signeds_at n = many_at n (λ s z. s) (λ s. signed_at) (pos 0)
 
--- the reading fails so; the code may have moved the cursor since, within the same bytes
+-- a reader fails with m; the code may have moved the cursor since, in the bytes of that reading
 pub record Fails {A : Type 0} (answer : Answer A) (m : Malformed) (new : Reading) : Type 0 where
   pub left : Reading
   pub is : answer ≡ (Err m, left)
   pub bytes : new.bytes ≡ left.bytes
 
--- how a read in code is the reader's: on Ok the reader gives some value, and the code's is made of it
+-- code reads as the reader does: on Ok the reader gives a value that the code's is made of, and on Err it fails
 abbrev pub Reads : {A B : Type 0} → Answer A → (A → B → Type 0) → Result B Malformed → Reading → Type 0
 Reads {A} answer Gives (Ok y) new = (x : A) × (answer ≡ (Ok x, new)) × Gives x y
 Reads answer Gives (Err m) new = Fails answer m new

@@ -5,9 +5,9 @@ use mir.Val.{to_z, of_z}
 use Rattle.std.specs.Int.{w8}
 use Rattle.twkb_head.specs.BegunHeader.{deepest}
 use Rattle.twkb_head.specs.Header.{has_bit}
-use Rattle.twkb_head.specs.Devices.Reader.{byte_at}
+use Rattle.twkb_head.specs.Devices.HeadReader.{byte_at}
 use Rattle.twkb_head.proofs.HeadSteps.{not_read, fields_make_head}
-use Rattle.twkb_head.proofs.raw.take_flat_head.Goals as goal
+use Rattle.twkb_head.proofs.quick.take_flat_head.Goals as goal
 
 pub returns-clause-read : goal.returns-clause-read
 returns-clause-read c =

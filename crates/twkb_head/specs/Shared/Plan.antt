@@ -1,6 +1,5 @@
--- Devices of proofs: nothing public names them.
--- Reading as a plan of fields. A plan says what is asked for next, and how reading goes on from the
--- bytes of that field.
+-- Shared between crates: private contracts alone name them, here and in crates above.
+-- Plans: a plan of fields says what is asked for next, and how reading goes on from the bytes of that field.
 use Rattle.std.specs.Prelude.{ℕ, zero, suc, ◌+◌, ◌%◌, ◌^◌, nat_lt, cond, Bool, true, false, List, [], ◌∷◌, length, slice_index, ℤ, pos, negsuc, ◌+ℤ◌, Option, Some, None, Result, Ok, Err}
 use Rattle.twkb_num.specs.Varint.{sum_of_groups, zigzag_value}
 use Rattle.twkb_head.specs.declared.kinds.Kind.{Kind}
@@ -9,8 +8,8 @@ use Rattle.twkb_head.specs.declared.refusal.Why.{Why}
 use Rattle.twkb_head.specs.declared.refusal.Why.TheVariants.{Cut, Varint, Kind as BadKind, Depth, Range}
 use Rattle.twkb_head.specs.BegunHeader.{Field, type_field, byte_field, number_field, coordinate_field}
 
--- what is asked for: a type byte with so many levels below it, a byte, a number, or a coordinate as the difference to the
--- one before
+-- what is asked for: a type byte with a number of levels below it, a byte, a number, or a coordinate as the difference to
+-- the one before
 pub data Request : Type 0 where
   type_byte : ℕ → Request
   byte : Request
@@ -24,23 +23,23 @@ field_of byte = byte_field
 field_of number = number_field
 field_of (coordinate c) = coordinate_field
 
--- a byte more in front of what was cut off
+-- a result with one byte more in front of what was cut off
 abbrev pub push_byte : ℕ → Result (List ℕ × List ℕ) Why → Result (List ℕ × List ℕ) Why
 push_byte b (Ok x) = Ok (b ∷ x.0, x.1)
 push_byte b (Err w) = Err w
 
--- a varint at the front, of at most one byte more than room, and what is behind it
+-- a varint at the front, of at most one byte more than room, and what is after it
 abbrev pub cut_varint : ℕ → List ℕ → Result (List ℕ × List ℕ) Why
 cut_varint room [] = Err Cut
 cut_varint zero (b ∷ bs) = cond (nat_lt b 2) (Ok (b ∷ [], bs)) (Err Varint)
 cut_varint (suc room) (b ∷ bs) = cond (nat_lt b 128) (Ok (b ∷ [], bs)) (push_byte b (cut_varint room bs))
 
--- a byte at the front, and what is behind it
+-- a byte at the front, and what is after it
 abbrev pub cut_byte : List ℕ → Result (List ℕ × List ℕ) Why
 cut_byte [] = Err Cut
 cut_byte (b ∷ bs) = Ok (b ∷ [], bs)
 
--- a field of the kind at the front, and what is behind it
+-- a field of the kind at the front, and what is after it
 abbrev pub cut_field : Field → List ℕ → Result (List ℕ × List ℕ) Why
 cut_field type_field bytes = cut_byte bytes
 cut_field byte_field bytes = cut_byte bytes
@@ -58,7 +57,7 @@ kind_of_code (suc (suc (suc (suc (suc (suc zero)))))) = Some MultiPolygon
 kind_of_code (suc (suc (suc (suc (suc (suc (suc zero))))))) = Some GeometryCollection
 kind_of_code _ = None
 
--- what is wrong with a kind that has so many levels below it
+-- what is wrong with a kind that has this many levels below it
 abbrev pub judge_kind : ℕ → Option Kind → Option Why
 judge_kind levels None = Some BadKind
 judge_kind zero (Some GeometryCollection) = Some Depth
@@ -102,21 +101,26 @@ abbrev pub optional : {A : Type 0} → Bool → Plan A → Plan (Option A)
 optional false plan = done None
 optional true plan = bind plan (λ x. done (Some x))
 
--- the plans of one field, and of n signed numbers
+-- a type byte, with this many levels below it
 abbrev pub type_plan : ℕ → Plan ℕ
 type_plan levels = ask (type_byte levels) (λ field. done (slice_index field 0))
 
+-- a byte
 abbrev pub byte_plan : Plan ℕ
 byte_plan = ask byte (λ field. done (slice_index field 0))
 
+-- a number
 abbrev pub number_plan : Plan ℕ
 number_plan = ask number (λ field. done (sum_of_groups 0 field))
 
+-- a signed number
 abbrev pub signed_plan : Plan ℤ
 signed_plan = ask number (λ field. done (zigzag_value (sum_of_groups 0 field)))
 
+-- n signed numbers
 abbrev pub signeds_plan : ℕ → Plan (List ℤ)
 signeds_plan n = many n (λ s z. s) (λ s. signed_plan) (pos 0)
 
+-- a coordinate, by the one before it: its difference to that
 abbrev pub coordinate_plan : ℤ → Plan ℤ
 coordinate_plan before = ask (coordinate before) (λ field. done (zigzag_value (sum_of_groups 0 field)))

@@ -5,7 +5,7 @@ use mir.Val.{to_z, of_z}
 use Rattle.std.specs.Int.{w8}
 use Rattle.twkb_head.specs.BegunHeader.{deepest}
 use Rattle.twkb_head.proofs.HeadSteps.{fields_make_head}
-use Rattle.twkb_head.proofs.raw.take_raw_head.Goals as goal
+use Rattle.twkb_head.proofs.quick.take_raw_head.Goals as goal
 
 pub returns-clause-read : goal.returns-clause-read
 returns-clause-read c =

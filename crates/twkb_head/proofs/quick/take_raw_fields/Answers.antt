@@ -5,7 +5,7 @@ use mir.Val.{to_z, of_z}
 use Rattle.std.specs.Int.{w8}
 use Rattle.twkb_head.specs.Header.{z_in, m_in}
 use Rattle.twkb_head.proofs.HeadSteps.{box_seen}
-use Rattle.twkb_head.proofs.raw.take_raw_fields.Goals as goal
+use Rattle.twkb_head.proofs.quick.take_raw_fields.Goals as goal
 
 pub returns-clause-fields : goal.returns-clause-fields
 returns-clause-fields c = λ before e.

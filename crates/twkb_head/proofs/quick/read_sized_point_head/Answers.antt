@@ -4,7 +4,7 @@ use Rattle.twkb_num.specs.Cursor.{passed, rest}
 use Rattle.twkb_head.specs.Raw.{IsSizedPoint}
 use Rattle.twkb_head.specs.Head.{IsHeadAt}
 use Rattle.twkb_head.proofs.ShortHeads.{three, sized_point_stands}
-use Rattle.twkb_head.proofs.raw.read_sized_point_head.Goals as goal
+use Rattle.twkb_head.proofs.quick.read_sized_point_head.Goals as goal
 
 pub returns-clause-ok : goal.returns-clause-ok
 returns-clause-ok c =

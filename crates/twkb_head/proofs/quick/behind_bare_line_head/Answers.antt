@@ -3,7 +3,7 @@ use Rattle.std.proofs.Common.{◌≡◌, [], ◌∷◌, slice_index, take, sym, 
 use Rattle.twkb_num.specs.Cursor.{Reading, passed, rest}
 use Rattle.twkb_head.specs.Head.{IsHeadAt}
 use Rattle.twkb_head.proofs.ShortHeads.{two, bare_line_stands}
-use Rattle.twkb_head.proofs.raw.behind_bare_line_head.Goals as goal
+use Rattle.twkb_head.proofs.quick.behind_bare_line_head.Goals as goal
 
 pub returns-clause-ok : goal.returns-clause-ok
 returns-clause-ok c =
