@@ -102,24 +102,25 @@ def sizes(reach):
     return "\n".join(rows)
 
 
-# A step of README's table: its name there, and in docs/SPEED.md, with the layer that is told behind it there, if it is; and how many
-# bytes of examples/coast_lines_sized.twkb it reads, as tests/run.py has the program print it.
+# A step of README's table: its name there; its name in docs/SPEED.md, and the layer in the next column there, if there is that column;
+# and whether README has the times of the two programs in Rust. These have no directory.
 STEPS = (
-    ("certify", "the mix", "", "84,045"),
-    ("scan for `x=10..30,y=35..45`", "hop scan, 20 by 10 degrees", "the mix", "24,857"),
-    ("scan with a directory for `x=10..30,y=85..89`, no hit", "directory scan that hits nothing", "the mix", "0"),
+    ("certify", "the mix", "", True),
+    ("scan for `x=10..30,y=35..45`", "hop scan, 20 by 10 degrees", "the mix", True),
+    ("make a directory, once", "building a directory", "the mix", False),
+    ("scan with it for `x=10..30,y=85..89`, no hit", "directory scan that hits nothing", "the mix", False),
 )
 
 
 def speed(reach):
     """The table of README, out of the tables of docs/SPEED.md."""
     text = open(os.path.join(reach.top, "docs", "SPEED.md"), encoding="utf-8").read()
-    rows = ["| Step | ms for 40 MB | Plain Rust, ms | Bytes read of the 84,045 in the demo's layer |", "|---|---|---|---|"]
-    for name, step, layer, read in STEPS:
+    rows = ["| Step, one thread, 40 MB | Dozhemik, ms | Fastest Rust, ms | Plain Rust, ms |", "|---|---|---|---|"]
+    for name, step, layer, has_rivals in STEPS:
         start = f"| {step} | {layer} |" if layer else f"| {step} |"
         row = next(line for line in text.splitlines() if line.startswith(start))
-        ours, _, plain = row[len(start) :].split(" | ")[:3]
-        rows.append(f"| {name} | {ours.strip()} | {plain} | {read} |")
+        ours, fast, plain = row[len(start) :].split(" | ")[:3]
+        rows.append(f"| {name} | {ours.strip()} | {fast if has_rivals else ''} | {plain if has_rivals else ''} |")
     return "\n".join(rows)
 
 
