@@ -204,9 +204,9 @@ def walked(top):
             yield f"docs/ARCHITECTURE.md has {name} in {path}, which lacks it"
 
 
-def broken(top):
-    """A line for each link to a file, or to a heading of a page, that isn't there."""
-    for page in pages_of(top):
+def broken(top, pages=None):
+    """A line for each link to a file, or to a heading of a page, that isn't there: in all pages, or in these."""
+    for page in pages or pages_of(top):
         for targets in ANY_LINK.findall(text_of(top, page)):
             target, _, anchor = (targets[0] or targets[1]).partition("#")
             if re.match(r"\w+:", target):
