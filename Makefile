@@ -6,7 +6,7 @@ PAGE = build/dozhemik.html
 LIBRARY = build/bindings/libtwkb.so
 # The layer that `make try` checks.
 FILE = examples/coast_lines_sized.twkb
-# What the program stands on, each behind what it stands on itself.
+# The libraries that the program uses, each after those that it uses itself.
 LIBRARIES = refusing twkb_num twkb_head plain random_layers twkb_body twkb_layer
 PREFIX = /usr/local
 # How long `make fuzz` looks. It takes a seed of the clock where none is given by SEED=..
@@ -102,7 +102,7 @@ dist: kit
 demo: build
 	@examples/demo.sh $(PROGRAM)
 
-# The tests run the program that rt ci builds, and stand on its libraries, so that all is proved once. Its last line comes last.
+# The tests run the program that rt ci builds, and use its libraries, so that all is proved once. Its last line comes last.
 test: SHELL = bash
 test: kit
 	python3 tests/looks_ahead.py
@@ -138,7 +138,7 @@ test-languages:
 	$(ALONE) tests/page.py $(PROGRAM)
 	$(ALONE) tests/release.py $(PROGRAM)
 
-# What other languages call stands on one library more.
+# What other languages call needs one library more.
 library bindings web page callers fuzz: LIBRARIES += twkb_call
 
 library: libraries
