@@ -5,7 +5,7 @@ trusted.py [--strict]: computes them from the public items of each crate, prints
 reader may want to believe, and fails where a definition stands in the wrong place: where a public contract reaches a
 device, where no public contract reaches what stands in `specs/` beside the devices, or where no contract at all names a
 device, which then belongs to `proofs/`. Strictly it fails too where docs/DEFINITIONS.md or docs/GATE.md isn't as pages.py
-writes it, or a link of a page leads to a file that lacks the name."""
+writes it, a link of a page leads to a file that lacks the name, or a function lacks a clause that a page cites of it."""
 import os
 import sys
 

@@ -86,7 +86,7 @@ for crate in clap itoa smallvec thiserror; do
     done
 done
 SOURCE_DATE_EPOCH=$seconds python3 tools/wheel.py build/bindings/libtwkb.so "$to" > "$work/wheel"
-python3 tools/pages.py "$to"
+python3 tools/release_pages.py "$to"
 cat > "$to/PROVENANCE.md" <<TEXT
 # What was proved
 

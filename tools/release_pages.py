@@ -1,7 +1,7 @@
 #!/usr/bin/env python3
 """Makes the pages of a release complete in themselves: a link to a file that the release lacks becomes its text.
 
-usage: tools/pages.py FOLDER   (each .md file below the folder is rewritten in place)
+usage: tools/release_pages.py FOLDER   (each .md file below the folder is rewritten in place)
 """
 import os
 import re
