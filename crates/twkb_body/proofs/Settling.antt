@@ -77,7 +77,7 @@ numbers_moved (suc n) r stop sound (z, mid, one, others) =
     IsMoved-after r mid stop there (numbers_moved n mid stop (IsSound-moved r mid sound there) others)
 
 -- the numbers of a point
-point_numbers : (axes : ℕ) (s : PointValue) (r mid : Reading) (p : PointValue) → point_at axes s r ≡ (Ok p, mid) → NumbersLead axes r mid
+pub point_numbers : (axes : ℕ) (s : PointValue) (r mid : Reading) (p : PointValue) → point_at axes s r ≡ (Ok p, mid) → NumbersLead axes r mid
 point_numbers zero s r mid p e = ap (λ (a : Answer PointValue). a.1) e
 point_numbers (suc axes) s r mid p e = go (λ q t cs is. point_numbers axes (behind s) q t cs is) (coordinate_at (first_of s) r) refl e
   where
@@ -321,14 +321,17 @@ module _ {S : Type 0} (step : S → PointValue → S) (axes : ℕ) where
       }
 
   -- all of them passed
-  pub all_passed : (count : ℕ) (start trail : Trail) (s : S) (from new stop : Reading) (ps : List PointValue) → 1 ≤ axes → many_at count add (point_at axes) start.last from ≡ (Ok ps, stop) → IsStill step s
-      → ((p : PointValue) (points : List PointValue) (end : Reading) → many_at count add (point_at axes) p from ≡ (Ok points, end) → new ≡ end)
+  pub all_there : (count : ℕ) (start trail : Trail) (s : S) (from new stop : Reading) (ps : List PointValue) → 1 ≤ axes → many_at count add (point_at axes) start.last from ≡ (Ok ps, stop) → IsStill step s → new ≡ stop
       → AreShown (λ (points : List PointValue). points) step axes true trail s s from new start ps stop
-  all_passed count start trail s from new stop ps some e still passes =
-      let there = passes start.last ps stop e in
+  all_there count start trail s from new stop ps some e still there =
       record {
         there = there;
         after = record { last = sums start.last ps; points = start.points + length ps };
         walked = subst (λ (q : Reading). IsWalked step axes start (record { last = sums start.last ps; points = start.points + length ps }) s s from.place q.place ps) (sym there) (still_walked count start s from stop ps some e still);
         follows = record { kept = λ keeps. absurd (cc (keeps)); still = λ lost. still };
       }
+
+  pub all_passed : (count : ℕ) (start trail : Trail) (s : S) (from new stop : Reading) (ps : List PointValue) → 1 ≤ axes → many_at count add (point_at axes) start.last from ≡ (Ok ps, stop) → IsStill step s
+      → ((p : PointValue) (points : List PointValue) (end : Reading) → many_at count add (point_at axes) p from ≡ (Ok points, end) → new ≡ end)
+      → AreShown (λ (points : List PointValue). points) step axes true trail s s from new start ps stop
+  all_passed count start trail s from new stop ps some e still passes = all_there count start trail s from new stop ps some e still (passes start.last ps stop e)

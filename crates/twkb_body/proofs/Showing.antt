@@ -12,7 +12,7 @@ use Rattle.twkb_head.specs.declared.kinds.Kind.{Kind}
 use Rattle.twkb_head.specs.declared.kinds.Kind.TheVariants.{Point, LineString, Polygon, MultiPoint, MultiLineString, MultiPolygon}
 use Rattle.twkb_body.specs.Devices.BodyReader.{point_at, ring_at, polygon_at, part_at}
 use Rattle.twkb_body.specs.Devices.Walk.{IsWalked, IsStill, Follows, IsKnown, AreShown, StandsThere, ShowsIt}
-use Rattle.twkb_body.proofs.Settling.{next_read, all_passed}
+use Rattle.twkb_body.proofs.Settling.{next_read, all_there}
 use Rattle.twkb_body.proofs.Walks.{number_ahead, walked_from, IsWalkLoop, walk_begins, walk_goes_on, walk_ends}
 
 module _ {A S : Type 0} (step : S → PointValue → S) (axes : ℕ) (after : PointValue → A → PointValue) (each : PointValue → Reader A) (points_in : A → List PointValue)
@@ -124,14 +124,13 @@ axes_some (Some p) None = omega arith
 axes_some (Some p) (Some q) = omega arith
 
 -- a point is one of many
-pub one_known : (axes : ℕ) (s p : PointValue) (r stop : Reading) → point_at axes s r ≡ (Ok p, stop) → many_at 1 add (point_at axes) s r ≡ (Ok (p ∷ []), stop)
+one_known : (axes : ℕ) (s p : PointValue) (r stop : Reading) → point_at axes s r ≡ (Ok p, stop) → many_at 1 add (point_at axes) s r ≡ (Ok (p ∷ []), stop)
 one_known axes s p r stop e = ap (λ (a : Answer PointValue). a >>= λ x q. viewed (λ xs. x ∷ xs) (many_at 0 add (point_at axes) (add s x) q)) e
 
-pub point_passed : {S : Type 0} (step : S → PointValue → S) (axes : ℕ) (trail : Trail) (s : S) (from new : Reading) (t : Trail) (x : PointValue) (stop : Reading) → 1 ≤ axes → point_at axes t.last from ≡ (Ok x, stop) → IsStill step s
-    → ((p : PointValue) (points : List PointValue) (end : Reading) → many_at 1 add (point_at axes) p from ≡ (Ok points, end) → new ≡ end)
+pub point_passed : {S : Type 0} (step : S → PointValue → S) (axes : ℕ) (trail : Trail) (s : S) (from new : Reading) (t : Trail) (x : PointValue) (stop : Reading) → 1 ≤ axes → point_at axes t.last from ≡ (Ok x, stop) → IsStill step s → new ≡ stop
     → AreShown (λ (p : PointValue). p ∷ []) step axes true trail s s from new t x stop
-point_passed step axes trail s from new t x stop some e still passes =
-    let a = all_passed step axes 1 t trail s from new stop (x ∷ []) some (one_known axes t.last x from stop e) still passes in
+point_passed step axes trail s from new t x stop some e still there =
+    let a = all_there step axes 1 t trail s from new stop (x ∷ []) some (one_known axes t.last x from stop e) still there in
     record { there = a.there; after = a.after; walked = a.walked; follows = a.follows }
 
 -- ---- the parts of a kind

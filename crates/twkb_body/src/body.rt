@@ -1,7 +1,8 @@
 //! The body of a certified geometry that a step of a skim doesn't hop over: its points are shown, or its list of members is
 //! opened.
-ghost use Rattle.std.specs.Prelude.{◌≡◌, None};
+ghost use Rattle.std.specs.Prelude.{◌≡◌, true, None};
 ghost use Rattle.twkb_head.specs.declared.kinds.Kind.TheVariants.{Point, LineString};
+ghost use Rattle.twkb_head.specs.BegunHeader.{is_collection};
 ghost use Rattle.twkb_num.specs.Units.{IsPrecision};
 ghost use Rattle.twkb_body.specs.Geometry.{HavePrecisions};
 ghost use Rattle.twkb_body.specs.Devices.Skimmed.{IsBehind, IsThere, Enters, flat_axes};
@@ -49,6 +50,7 @@ pub fn enter_flat<V: Visit>(
 {
     match kind {
         Kind::LineString => enter_line(cursor, axes.xy, ids, visitor),
+        Kind::GeometryCollection => enter_list(cursor, kind, axes, ids, visitor),
         _ => enter_flat_body(cursor, kind, axes.xy, ids, visitor),
     }
 }
@@ -127,11 +129,28 @@ fn enter_body<V: Visit>(
         stop: 0,
     };
     if kind.is_collection() {
-        let Ok(count) = pass_list(cursor, ids) else {
-            unreachable!()
-        };
-        return count;
+        return enter_list(cursor, kind, axes, ids, visitor);
     }
     visit_shape(cursor, &head, visitor);
     0
+}
+
+/// Opens the list of members of a collection.
+#[inline(always)]
+fn enter_list<V: Visit>(
+    cursor: &mut Cursor,
+    _kind: Kind,
+    _axes: Axes,
+    ids: bool,
+    _visitor: &V,
+) -> u64
+    requires list { is_collection _kind ≡ true }
+    requires behind { IsThere (IsBehind (V.passes (V.state _visitor.now)) _kind _axes ids cursor.old) }
+    ensures { Enters V.step V.passes (IsBehind (V.passes (V.state _visitor.now)) _kind _axes ids cursor.old)
+        (V.state _visitor.now) (V.state _visitor.now) cursor.new result }
+{
+    let Ok(count) = pass_list(cursor, ids) else {
+        unreachable!()
+    };
+    count
 }

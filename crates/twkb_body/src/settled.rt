@@ -26,6 +26,18 @@ pub fn pass_known(cursor: &mut Cursor, axes: usize, count: u64)
     }
 }
 
+/// Moves past one point.
+// It counts no ends in words, so that what shows a point stays small enough to be inlined.
+#[inline(always)]
+pub fn pass_point(cursor: &mut Cursor, axes: usize)
+    requires known { (s : PointValue) × (point : PointValue) × (stop : Reading)
+        × (point_at axes s cursor.old ≡ (Ok point, stop)) }
+    ensures { (s : PointValue) (point : PointValue) (stop : Reading)
+        → point_at axes s cursor.old ≡ (Ok point, stop) → cursor.new ≡ stop }
+{
+    pass_rest(cursor, axes as u64);
+}
+
 /// Moves past numbers of which words don't tell the first: past this one by itself, and past more by words.
 #[inline(never)]
 fn pass_rest(cursor: &mut Cursor, many: u64)

@@ -15,7 +15,7 @@ ghost use Rattle.twkb_head.specs.Header.{axes_with};
 
 use crate::fields::take_number;
 use crate::points::Points;
-use crate::settled::pass_known;
+use crate::settled::{pass_known, pass_point};
 use crate::trail::{Trail, take_point};
 use crate::visit::Visit;
 use twkb_head::{Head, Kind};
@@ -162,7 +162,7 @@ fn show_ring<V: Visit>(
 }
 
 /// Shows one point.
-#[inline(never)]
+#[inline(always)]
 fn show_point<V: Visit>(
     cursor: &mut Cursor,
     head: &Head,
@@ -179,11 +179,11 @@ fn show_point<V: Visit>(
         lost.old lost.new trail.old trail.new (V.state visitor.old) (V.state visitor.new) cursor.old cursor.new }
 {
     if *lost {
-        return pass_known(cursor, axes, 1);
+        return pass_point(cursor, axes);
     }
     if visitor.is_settled() {
         *lost = true;
-        return pass_known(cursor, axes, 1);
+        return pass_point(cursor, axes);
     }
     let Ok(()) = take_point(cursor, head, axes, trail, visitor) else {
         unreachable!()

@@ -199,37 +199,38 @@ fn passes(rt: &impl Abort, bytes: &[u8], many: u64, passed: u64, place: usize) {
 
 // Varints of one byte, a longer one after them, and more of one byte. The long one is passed if each half of a word has an end,
 // or of the first word the first seven bytes and the last four. Else the place is after the last end before the word.
+// A row has the number of short varints, of the bytes of the long one that go on, and where it stops.
 #[test]
 fn many_varints_are_passed_up_to_a_long_one(rt: HostRuntime) {
     let table = [
         // In the first word.
-        (0, 7, None),
-        (0, 8, Some(0)),
-        (0, 10, Some(0)),
-        (3, 5, None),
-        (3, 9, Some(0)),
-        (4, 4, None),
-        (4, 5, Some(0)),
+        (0, 6, None),
+        (0, 7, Some(0)),
+        (0, 9, Some(0)),
+        (3, 4, None),
+        (3, 8, Some(0)),
+        (4, 3, None),
+        (4, 4, Some(0)),
         // At the border of the first two words.
-        (5, 7, None),
-        (5, 8, Some(5)),
+        (5, 6, None),
+        (5, 7, Some(5)),
+        (6, 4, None),
         (6, 5, None),
-        (6, 6, None),
-        (6, 7, Some(6)),
-        (7, 5, None),
+        (6, 6, Some(6)),
+        (7, 4, None),
+        (7, 5, Some(7)),
         (7, 6, Some(7)),
-        (7, 7, Some(7)),
         // In the second word, and at its border.
-        (8, 4, None),
-        (8, 5, Some(8)),
-        (11, 5, None),
-        (12, 5, Some(8)),
-        (14, 6, None),
-        (14, 7, Some(14)),
+        (8, 3, None),
+        (8, 4, Some(8)),
+        (11, 4, None),
+        (12, 4, Some(8)),
+        (14, 5, None),
+        (14, 6, Some(14)),
     ];
-    for (before, length, stop) in table {
+    for (before, goes_on, stop) in table {
         let mut bytes = [0x01; 40];
-        for byte in bytes.iter_mut().skip(before).take(length - 1) {
+        for byte in bytes.iter_mut().skip(before).take(goes_on) {
             *byte = 0x81;
         }
         for many in 0..=before {
@@ -238,7 +239,7 @@ fn many_varints_are_passed_up_to_a_long_one(rt: HostRuntime) {
         for more in 0..5usize {
             let many = (before + 1 + more) as u64;
             match stop {
-                None => passes(&rt, &bytes, many, many, before + length + more),
+                None => passes(&rt, &bytes, many, many, before + goes_on + 1 + more),
                 Some(place) => passes(&rt, &bytes, many, place as u64, place),
             }
         }

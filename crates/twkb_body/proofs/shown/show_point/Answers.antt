@@ -6,27 +6,27 @@ use Rattle.twkb_body.specs.Geometry.{PointValue, vertex_of}
 use Rattle.twkb_body.specs.Devices.BodyReader.{point_at}
 use Rattle.twkb_body.specs.Devices.Inside.{of_head}
 use Rattle.twkb_body.specs.Devices.Walk.{IsWalked, AreShown, shown}
-use Rattle.twkb_body.proofs.Showing.{one_known, point_passed, axes_some}
+use Rattle.twkb_body.proofs.Showing.{point_passed, axes_some}
 use Rattle.twkb_body.proofs.shown.show_point.Goals as goal
 
-pub pass_known-requires : goal.pass_known-requires
-pass_known-requires g c =
+pub pass_point-requires : goal.pass_point-requires
+pass_point-requires g c =
     let (t, x, stop, known) = c.requires.known in
-    record { known = (t.last, x ∷ [], stop, one_known c.args.axes t.last x c.args.cursor.now stop known.read) }
+    record { known = (t.last, x, stop, known.read) }
 
 pub returns-then-lost : goal.returns-then-lost
 returns-then-lost g c = λ t x stop k.
-    subst (λ (b : Bool). AreShown (λ (p : PointValue). p ∷ []) (shown g.V.Visit.step (of_head c.args.head.now)) c.args.axes b c.args.trail.now (g.V.Visit.state c.args.visitor.now) (g.V.Visit.state c.args.visitor.now) c.args.cursor.now c.pass_known.new.cursor t x stop) (sym c.if-lost.true)
-    (point_passed (shown g.V.Visit.step (of_head c.args.head.now)) c.args.axes c.args.trail.now (g.V.Visit.state c.args.visitor.now) c.args.cursor.now c.pass_known.new.cursor t x stop (omega (arith, c.requires.axes, axes_some c.args.head.now.z c.args.head.now.m)) k.read (k.follows.still c.if-lost.true) c.pass_known.ensures)
+    subst (λ (b : Bool). AreShown (λ (p : PointValue). p ∷ []) (shown g.V.Visit.step (of_head c.args.head.now)) c.args.axes b c.args.trail.now (g.V.Visit.state c.args.visitor.now) (g.V.Visit.state c.args.visitor.now) c.args.cursor.now c.pass_point.new.cursor t x stop) (sym c.if-lost.true)
+    (point_passed (shown g.V.Visit.step (of_head c.args.head.now)) c.args.axes c.args.trail.now (g.V.Visit.state c.args.visitor.now) c.args.cursor.now c.pass_point.new.cursor t x stop (omega (arith, c.requires.axes, axes_some c.args.head.now.z c.args.head.now.m)) k.read (k.follows.still c.if-lost.true) (c.pass_point.ensures t.last x stop k.read))
 
-pub pass_known-requires-then-is_settled : goal.pass_known-requires-then-is_settled
-pass_known-requires-then-is_settled g c =
+pub pass_point-requires-then-is_settled : goal.pass_point-requires-then-is_settled
+pass_point-requires-then-is_settled g c =
     let (t, x, stop, known) = c.requires.known in
-    record { known = (t.last, x ∷ [], stop, one_known c.args.axes t.last x c.args.cursor.now stop known.read) }
+    record { known = (t.last, x, stop, known.read) }
 
 pub returns-then-is_settled : goal.returns-then-is_settled
 returns-then-is_settled g c = λ t x stop k.
-    point_passed (shown g.V.Visit.step (of_head c.args.head.now)) c.args.axes c.args.trail.now (g.V.Visit.state c.args.visitor.now) c.args.cursor.now c.pass_known-then-is_settled.new.cursor t x stop (omega (arith, c.requires.axes, axes_some c.args.head.now.z c.args.head.now.m)) k.read (λ p. c.if-is_settled.ensures refl (vertex_of (of_head c.args.head.now) p)) c.pass_known-then-is_settled.ensures
+    point_passed (shown g.V.Visit.step (of_head c.args.head.now)) c.args.axes c.args.trail.now (g.V.Visit.state c.args.visitor.now) c.args.cursor.now c.pass_point-then-is_settled.new.cursor t x stop (omega (arith, c.requires.axes, axes_some c.args.head.now.z c.args.head.now.m)) k.read (λ p. c.if-is_settled.ensures refl (vertex_of (of_head c.args.head.now) p)) (c.pass_point-then-is_settled.ensures t.last x stop k.read)
 
 pub take_point-requires : goal.take_point-requires
 take_point-requires g c =
