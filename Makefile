@@ -6,7 +6,7 @@ PAGE = build/dozhemik.html
 LIBRARY = build/bindings/libtwkb.so
 # The layer that `make try` checks.
 FILE = examples/coast_lines_sized.twkb
-# What the program stands on, each behind what it stands on itself.
+# The libraries that the program uses, each after those that it uses itself.
 LIBRARIES = refusing twkb_num twkb_head plain random_layers twkb_body twkb_layer
 PREFIX = /usr/local
 # How long `make fuzz` looks. It takes a seed of the clock where none is given by SEED=..
@@ -102,7 +102,7 @@ dist: kit
 demo: build
 	@examples/demo.sh $(PROGRAM)
 
-# The tests run the program that rt ci builds, and stand on its libraries, so that all is proved once. Its last line comes last.
+# The tests run the program that rt ci builds, and use its libraries, so that all is proved once. Its last line comes last.
 test: SHELL = bash
 test: kit
 	python3 tests/looks_ahead.py
@@ -120,25 +120,26 @@ test: kit
 	@$(MAKE) --no-print-directory --jobs=2 --output-sync=target test-program test-languages
 	@tail -n 1 build/ci.log
 
-# Both stand on what is built already. A make that they call has jobs of its own.
-unexport MAKEFLAGS
+# Both need what `make test` has built by then. A make that one of these tests calls has jobs of its own, so the flags of this make are
+# kept from it.
+ALONE = env -u MAKEFLAGS python3
 test-program:
-	python3 tests/run.py $(PROGRAM)
-	python3 tests/refuse_allocations.py $(PROGRAM)
-	python3 tests/install.py
-	python3 tests/scripts.py $(PROGRAM)
-	python3 tests/publish.py $(PROGRAM)
-	python3 tests/first_answer.py
+	$(ALONE) tests/run.py $(PROGRAM)
+	$(ALONE) tests/refuse_allocations.py $(PROGRAM)
+	$(ALONE) tests/install.py
+	$(ALONE) tests/scripts.py $(PROGRAM)
+	$(ALONE) tests/publish.py $(PROGRAM)
+	$(ALONE) tests/first_answer.py
 
 test-languages:
-	python3 tests/bindings.py $(PROGRAM)
-	python3 tests/cuts.py
-	python3 tests/versions.py
-	python3 tests/web.py
-	python3 tests/page.py $(PROGRAM)
-	python3 tests/release.py $(PROGRAM)
+	$(ALONE) tests/bindings.py $(PROGRAM)
+	$(ALONE) tests/cuts.py
+	$(ALONE) tests/versions.py
+	$(ALONE) tests/web.py
+	$(ALONE) tests/page.py $(PROGRAM)
+	$(ALONE) tests/release.py $(PROGRAM)
 
-# What other languages call stands on one library more.
+# What other languages call needs one library more.
 library bindings web page callers fuzz: LIBRARIES += twkb_call
 
 library: libraries

@@ -5,7 +5,7 @@ usage: dask_layers.py [--scheduler ADDRESS | --workers N] [--tight] FOLDER [WIND
 
 A layer is a task, and no state goes from task to task. So a task whose worker is lost is run again by another worker, and
 each layer is answered once. Writes what `twkb_tool check` prints of a layer, or `twkb_tool scan` for each window alone,
-with the file's name and a tab before each line. The layers stand in the order in which they are done. One line of
+with the file's name and a tab before each line. The layers are in the order in which they are done. One line of
 progress goes to standard error. The status is 0 where all are certified, 1 where some are refused, 2 for bad words, and
 3 where some weren't judged, or there is no layer at all: standard error says why.
 

@@ -18,15 +18,32 @@ import time
 from harness import TOP, count, counts, written
 
 LIBRARIES = ["refusing", "twkb_num", "twkb_head", "plain", "random_layers", "twkb_body", "twkb_layer"]
-# A line for each call: when it began and ended, where, and its words. FAILS names a crate that isn't proved, SLOW one that takes long.
+# A line for each crate that is begun, and for each that ended: the crate and its words. BESIDE has pairs ONE:OTHER, where ONE waits for
+# OTHER to be begun. HELD names crates that wait for a file, FAILS one that isn't proved, and SLOW one that goes on until it is stopped.
+# What waits in vain for half a minute fails.
 RT = """#!/bin/sh
 crate=$(basename "$PWD")
-began=$(date +%s.%N)
-[ "$crate" != "${SLOW-}" ] || sleep 30
-sleep 0.4
+awaits() {
+    for _ in $(seq 300); do
+        [ ! -e "$MARKS/$1" ] || return 0
+        sleep 0.1
+    done
+    echo "$crate waits in vain for $1"
+    exit 1
+}
+echo "begun $crate $*" >> "$CALLS"
+echo $$ > "$MARKS/writing-$crate"
+mv "$MARKS/writing-$crate" "$MARKS/$crate"
+for pair in ${BESIDE-}; do
+    [ "${pair%:*}" != "$crate" ] || awaits "${pair#*:}"
+done
+for held in ${HELD-}; do
+    [ "$held" != "$crate" ] || awaits "go-$crate"
+done
+[ "$crate" != "${SLOW-}" ] || exec sleep 1000
 echo "$crate says something"
 [ "$1" != run ] || { mkdir -p out && echo built > out/twkb_tool; }
-echo "$began $(date +%s.%N) $crate $*" >> "$CALLS"
+echo "ended $crate $*" >> "$CALLS"
 [ "$crate" != "${FAILS-}" ]
 """
 
@@ -44,30 +61,42 @@ def copied(folder):
     return folder
 
 
+def fresh(folder, **environment):
+    """An environment with the stand-in, and the folder of its marks. Nothing is called or marked yet."""
+    calls, marks = os.path.join(folder, "calls"), os.path.join(folder, "marks")
+    written(folder, "calls", b"")
+    shutil.rmtree(marks, ignore_errors=True)
+    os.mkdir(marks)
+    return os.environ | {"PATH": f"{folder}/bin:{os.environ['PATH']}", "CALLS": calls, "MARKS": marks, **environment}, marks
+
+
 def make(folder, *words, **environment):
-    calls = os.path.join(folder, "calls")
-    if os.path.exists(calls):
-        os.remove(calls)
-    environment = os.environ | {"PATH": f"{folder}/bin:{os.environ['PATH']}", "CALLS": calls, **environment}
+    """What make says, and for each call of the stand-in whether it began or ended, the crate, and its words."""
+    environment, _ = fresh(folder, **environment)
     done = subprocess.run(["make", "--no-print-directory", *words], cwd=folder, capture_output=True, text=True, env=environment)
-    rows = []
-    if os.path.exists(calls):
-        with open(calls) as told:
-            rows = [row.rstrip("\n").split(" ", 3) for row in told]
-    return done, [(float(began), float(ended), crate, words) for began, ended, crate, words in rows]
+    with open(os.path.join(folder, "calls")) as told:
+        return done, [tuple(row.rstrip("\n").split(" ", 2)) for row in told]
 
 
 def tried(folder):
     """An example, or a file by its name from where make was called, is checked, and it is said that nothing is proved."""
     done, calls = make(folder, "try")
     example = os.path.join(folder, "examples", "coast_lines_sized.twkb")
-    count("make try", (done.returncode, [call[2:] for call in calls]), (0, [("twkb_tool", f"try -- check {example}")]))
+    count("make try", (done.returncode, calls[:1], len(calls)), (0, [("begun", "twkb_tool", f"try -- check {example}")], 2))
     count("make try says so", "othing is proved" in done.stdout, True)
     layer = written(folder, "a layer.twkb", b"")
     done, calls = make(folder, "try", "FILE=a layer.twkb")
-    count("make try FILE=", (done.returncode, [call[3] for call in calls]), (0, [f"try -- check {layer}"]))
+    count("make try FILE=", (done.returncode, [call[2] for call in calls[:1]]), (0, [f"try -- check {layer}"]))
     done, calls = make(folder, "try", "FILE=missing.twkb")
     count("make try, a missing file", (done.returncode, calls, "missing.twkb" in done.stderr), (2, [], True))
+
+
+def dry(folder):
+    """make -n proves, tests and installs nothing."""
+    for target in ("build", "install", "install-library", "test"):
+        done, calls = make(folder, "-n", target, f"PREFIX={folder}/prefix")
+        count(f"make -n {target}", (done.returncode, done.stderr, calls), (0, "", []))
+    count("what make -n leaves", [name for name in ("build", "prefix") if os.path.exists(os.path.join(folder, name))], [])
 
 
 def stands_on():
@@ -77,17 +106,17 @@ def stands_on():
 
 
 def proved(folder):
-    """Each crate is proved once, behind what it stands on; and those that have nothing to do with one another at once."""
-    done, calls = make(folder, "build")
-    count("make build", (done.returncode, done.stderr), (0, ""))
-    words = {crate: words for _, _, crate, words in calls}
+    """Each crate is proved once, after those that it uses; and those that have nothing to do with one another at once."""
+    beside = (("refusing", "twkb_num"), ("plain", "random_layers"))
+    pairs = " ".join(f"{one}:{other} {other}:{one}" for one, other in beside)
+    done, calls = make(folder, "build", BESIDE=pairs)
+    count("make build, where some wait for one another", (done.returncode, done.stderr), (0, ""))
+    words = {crate: words for what, crate, words in calls if what == "begun"}
     wanted = dict.fromkeys(LIBRARIES, "lib") | {"twkb_tool": "run -- check /dev/null"}
-    count("what is proved, and by which command", (words, len(calls)), (wanted, len(wanted)))
-    times = {crate: (began, ended) for began, ended, crate, _ in calls}
-    early = [(one, other) for one in times for other in stands_on()[one] if other in times and times[one][0] < times[other][1]]
+    count("what is proved, and by which command", (words, len(calls)), (wanted, 2 * len(wanted)))
+    begun, ended = ({crate: at for at, (what, crate, _) in enumerate(calls) if what == wanted} for wanted in ("begun", "ended"))
+    early = [(one, other) for one in begun for other in stands_on()[one] if other in ended and begun[one] < ended[other]]
     count("what is begun too early", early, [])
-    for one, other in (("refusing", "twkb_num"), ("plain", "random_layers")):
-        count(f"{one} beside {other}", times[one][0] < times[other][1] and times[other][0] < times[one][1], True)
     first, *_ = done.stdout.splitlines()
     count("how long it takes, said first", bool(re.search(r"some \d+ minutes", first)), True)
     count("the program is put in its place", os.path.exists(os.path.join(folder, "build", "twkb_tool")), True)
@@ -97,56 +126,82 @@ def proved(folder):
 
 
 def side_by_side(folder, *words, **environment):
-    environment = os.environ | {"PATH": f"{folder}/bin:{os.environ['PATH']}", "CALLS": f"{folder}/calls", **environment}
+    """A run of tools/prove.py, and the folder of the stand-in's marks."""
+    environment, marks = fresh(folder, **environment)
     words = [os.path.join(folder, "tools", "prove.py"), *words]
-    return subprocess.Popen(words, cwd=folder, stdout=subprocess.PIPE, stderr=subprocess.PIPE, text=True, env=environment)
+    return subprocess.Popen(words, cwd=folder, stdout=subprocess.PIPE, stderr=subprocess.PIPE, text=True, env=environment), marks
 
 
 def told(folder):
-    """A line each so often says how far it is, here each half second in place of each minute."""
-    run = side_by_side(folder, "--every", "0.5", *LIBRARIES)
-    out, _ = run.communicate(timeout=60)
-    lines = [row for row in out.splitlines() if re.fullmatch(r"\d+ min: \d of 7 proved, at work on \w+( and \w+)*", row)]
-    count("lines of progress", (run.returncode, len(lines) >= 3), (0, True))
-    done = [int(row.split(": ")[1].split(" ")[0]) for row in lines]
-    count("they go on", (done, done[0] < done[-1]), (sorted(done), True))
+    """A line each so often says how far it is, as long as a crate is being proved."""
+    held = ["twkb_num", "twkb_layer"]
+    run, marks = side_by_side(folder, "--every", "0.1", *LIBRARIES, HELD=" ".join(held))
+    lines = []
+    for row in run.stdout:
+        match = re.fullmatch(r"\d+ min: (\d) of 7 proved, at work on (\w+(?: and \w+)*)", row.rstrip("\n"))
+        if match:
+            lines.append(int(match[1]))
+            for crate in set(held) & set(match[2].split(" and ")):
+                written(marks, f"go-{crate}", b"")
+    _, error = run.communicate()
+    count("lines of progress", (run.returncode, error, len(lines) >= 2), (0, "", True))
+    count("they go on", (lines, lines[:1] < lines[-1:]), (sorted(lines), True))
+
+
+def process(marks, crate):
+    """The stand-in's process for a crate, once it is begun."""
+    path = os.path.join(marks, crate)
+    for _ in range(300):
+        if os.path.exists(path):
+            with open(path) as mark:
+                return int(mark.read())
+        time.sleep(0.1)
+    return None
+
+
+def is_gone(number):
+    """Whether there is no such process. One that is left over is ended here."""
+    try:
+        os.kill(number, signal.SIGKILL)
+    except ProcessLookupError:
+        return True
+    return False
 
 
 def fails(folder):
     """A crate that isn't proved is named with what was said of it, what runs beside it is stopped, and nothing more is begun."""
-    begun = time.monotonic()
-    run = side_by_side(folder, *LIBRARIES, FAILS="plain", SLOW="random_layers")
-    out, error = run.communicate(timeout=60)
+    run, marks = side_by_side(folder, *LIBRARIES, FAILS="plain", SLOW="random_layers", BESIDE="plain:random_layers")
+    slow = process(marks, "random_layers")
+    out, error = run.communicate()
+    count("the slow one is begun and stopped", (slow is not None, slow is None or is_gone(slow)), (True, True))
     count("a crate that fails", (run.returncode, error), (1, "plain says something\nprove.py: plain isn't proved\n"))
     count("what isn't begun", [crate for crate in LIBRARIES if f"proving {crate}," in out], LIBRARIES[:5])
-    count("the slow one is stopped", time.monotonic() - begun < 20, True)
     done, _ = make(folder, "build", FAILS="twkb_num")
     count("make, a crate that fails", (done.returncode, "prove.py: twkb_num isn't proved" in done.stderr), (2, True))
 
 
 def stopped(folder):
     """Where it is stopped, so is what it began."""
-    run = side_by_side(folder, "twkb_num", SLOW="twkb_num")
-    run.stdout.readline()
-    time.sleep(0.2)
+    run, marks = side_by_side(folder, "twkb_num", SLOW="twkb_num")
+    slow = process(marks, "twkb_num")
     run.send_signal(signal.SIGTERM)
-    count("stopped", run.wait(timeout=20), 128 + signal.SIGTERM)
     run.communicate()
+    count("stopped", (run.returncode, slow is not None, slow is None or is_gone(slow)), (128 + signal.SIGTERM, True, True))
     with open(os.path.join(folder, "build", "twkb_num.log")) as log:
-        count("and nothing is said behind that", log.read(), "")
+        count("and nothing is said after that", log.read(), "")
 
 
 def words_refused(folder):
     for words, said in (([], "CRATE"), (["twkb_nmu"], "crates.txt has no twkb_nmu")):
-        run = side_by_side(folder, *words)
-        out, error = run.communicate(timeout=60)
+        run, _ = side_by_side(folder, *words)
+        out, error = run.communicate()
         count(f"words: {words}", (run.returncode, out, said in error), (2, "", True))
 
 
 def main():
     with tempfile.TemporaryDirectory() as folder:
         copied(folder)
-        for part in (tried, proved, told, fails, stopped, words_refused):
+        for part in (tried, dry, proved, told, fails, stopped, words_refused):
             part(folder)
     print(f"{counts['passed']} passed, {counts['failed']} failed")
     return int(counts["failed"] > 0)

@@ -126,7 +126,7 @@ const coloursOf = (at) => {
   return all.filter((colour) => !/^rgba\(.*, 0\)$/.test(colour));
 };
 
-// Marks, frames and borders with less contrast than 3 to what they are on. With no mark at all there is something to find.
+// Marks, frames and borders with less contrast than 3 to what they are on. That no mark is visible is found too.
 window.faintMarks = () => {
   const marks = [...document.querySelectorAll(".legend i, .mark, td.hit, td.read, td.hopped")].filter((at) => at.checkVisibility());
   const framed = [...document.querySelectorAll("button, .button, input:not([type]), #drop, #verdict")].filter((at) => at.checkVisibility());
@@ -136,7 +136,7 @@ window.faintMarks = () => {
     return colours.some((one) => contrast(under, seen(under, one)) < 3);
   };
   const found = [...marks.filter((at) => faint(at, coloursOf(at))), ...framed.filter((at) => faint(at, [edge(at)]))];
-  return found.map((at) => at.outerHTML.slice(0, 60));
+  return [...(marks.length ? [] : ["no marks"]), ...found.map((at) => at.outerHTML.slice(0, 60))];
 };
 
 // Colours that whole pixels of a canvas have, but for its ground, with less contrast than 3 to it; and how many others there are.

@@ -5,8 +5,9 @@ In docs/DEFINITIONS.md: how many lines have to be believed, and the table of all
 docs/GATE.md: how many wrong bodies there are, and how large the crates are. In README.md: the table of times, which are those of
 docs/SPEED.md. README has a greatest size, and two pages the headline.
 
-pages.py [--write]: names each page that isn't up to date, each link whose file lacks the name that it is of, and each link to a
-file, or to a heading of one, that isn't there. With --write it first writes the parts of the pages."""
+pages.py [--write]: names each page that isn't up to date, each link whose file lacks the name that it is of, each function that lacks
+a clause that a table cites of it, and each link to a file, or to a heading of one, that isn't there. With --write it first writes the
+parts of the pages."""
 import os
 import re
 import sys
@@ -29,6 +30,9 @@ MOST = {"README.md": (150, 9_000)}
 # A link, and one to a file of code or of definitions, whose text is names.
 ANY_LINK = re.compile(r"(?<!!)\[[^\]]*\]\(([^)\s]+)\)|!\[[^\]]*\]\(([^)\s]+)\)")
 LINK = re.compile(r"\[(`[^\]]*`)\]\(([^)]*crates/[^)]*\.(?:antt|rt))\)")
+# What a cell of a table cites: functions, some of them linked, and clauses of each of them; and a link or a name of these.
+CITED = re.compile(r"((?:\[`[^\]]*`\]\([^)]*\.rt\)|`[\w:]+`|, | and )+): (`\w+`(?:, `\w+`)*)")
+CITED_NAMES = re.compile(r"\[(`[^\]]*`)\]\(([^)]*)\)|(`[\w:]+`)")
 # A line of the walk in docs/ARCHITECTURE.md: a function, and its file below crates/.
 WALKED = re.compile(r"^ *(\w+) +(\w+/src/[\w/]+\.rt)", re.MULTILINE)
 MARKS = "<!-- {} by tests/pages.py -->", "<!-- end of {} -->"
@@ -102,24 +106,25 @@ def sizes(reach):
     return "\n".join(rows)
 
 
-# A step of README's table: its name there, and in docs/SPEED.md, with the layer that is told behind it there, if it is; and how many
-# bytes of examples/coast_lines_sized.twkb it reads, as tests/run.py has the program print it.
+# A step of README's table: its name there; its name in docs/SPEED.md, and the layer in the next column there, if there is that column;
+# and whether README has the times of the two programs in Rust. These have no directory.
 STEPS = (
-    ("certify", "the mix", "", "84,045"),
-    ("scan for `x=10..30,y=35..45`", "hop scan, 20 by 10 degrees", "the mix", "24,857"),
-    ("scan with a directory for `x=10..30,y=85..89`, no hit", "directory scan that hits nothing", "the mix", "0"),
+    ("certify", "the mix", "", True),
+    ("scan for `x=10..30,y=35..45`", "hop scan, 20 by 10 degrees", "the mix", True),
+    ("make a directory, once", "building a directory", "the mix", False),
+    ("scan with it for `x=10..30,y=85..89`, no hit", "directory scan that hits nothing", "the mix", False),
 )
 
 
 def speed(reach):
     """The table of README, out of the tables of docs/SPEED.md."""
     text = open(os.path.join(reach.top, "docs", "SPEED.md"), encoding="utf-8").read()
-    rows = ["| Step | ms for 40 MB | Plain Rust, ms | Bytes read of the 84,045 in the demo's layer |", "|---|---|---|---|"]
-    for name, step, layer, read in STEPS:
+    rows = ["| Step, one thread, 40 MB | Dozhemik, ms | Fastest Rust, ms | Plain Rust, ms |", "|---|---|---|---|"]
+    for name, step, layer, has_rivals in STEPS:
         start = f"| {step} | {layer} |" if layer else f"| {step} |"
         row = next(line for line in text.splitlines() if line.startswith(start))
-        ours, _, plain = row[len(start) :].split(" | ")[:3]
-        rows.append(f"| {name} | {ours.strip()} | {plain} | {read} |")
+        ours, fast, plain = row[len(start) :].split(" | ")[:3]
+        rows.append(f"| {name} | {ours.strip()} | {fast if has_rivals else ''} | {plain if has_rivals else ''} |")
     return "\n".join(rows)
 
 
@@ -195,6 +200,35 @@ def anchors(top, page):
     return {re.sub(r"[^\w\- ]", "", heading.lower()).replace(" ", "-") for heading in headings}
 
 
+def clauses(path, function):
+    """The names of the clauses of a function in a file of code, or None where it has no such function."""
+    found = re.search(rf"\bfn {function}\b.*?\n *(?:\{{|.*;)\n", open(path, encoding="utf-8").read(), re.DOTALL)
+    return found and set(re.findall(r"^ *(?:requires|ensures) (\w+) \{", found.group(), re.MULTILINE))
+
+
+def cites(cell):
+    """Each function of which a cell cites clauses: the link to its file, which may be that of one before it, its name, the clauses."""
+    target = None
+    for part in cell.split("; "):
+        match = CITED.match(part.strip())
+        for names, link, name in CITED_NAMES.findall(match[1]) if match else ():
+            target = link or target
+            for function in re.findall(r"`(?:\w+::)*(\w+)`", names or name):
+                if target:
+                    yield target, function, re.findall(r"`(\w+)`", match[2])
+
+
+def miscited(top):
+    """A line for each function that lacks a clause that a table cites of it."""
+    for page in pages_of(top):
+        cells = (cell for row in re.findall(r"^\|.*\|$", text_of(top, page), re.MULTILINE) for cell in row.split(" | "))
+        for target, function, names in (found for cell in cells for found in cites(cell.strip("| "))):
+            has_clauses = clauses(os.path.normpath(os.path.join(top, os.path.dirname(page), target)), function)
+            missing = has_clauses is not None and [name for name in names if name not in has_clauses]
+            if missing:
+                yield f"{page} cites {', '.join(missing)} of {function}, which lacks it"
+
+
 def walked(top):
     """A line for each function of the walk that its file lacks."""
     text = open(os.path.join(top, "docs", "ARCHITECTURE.md"), encoding="utf-8").read()
@@ -203,9 +237,9 @@ def walked(top):
             yield f"docs/ARCHITECTURE.md has {name} in {path}, which lacks it"
 
 
-def broken(top):
-    """A line for each link to a file, or to a heading of a page, that isn't there."""
-    for page in pages_of(top):
+def broken(top, pages=None):
+    """A line for each link to a file, or to a heading of a page, that isn't there: in all pages, or in these."""
+    for page in pages or pages_of(top):
         for targets in ANY_LINK.findall(text_of(top, page)):
             target, _, anchor = (targets[0] or targets[1]).partition("#")
             if re.match(r"\w+:", target):
@@ -232,6 +266,7 @@ def astray(top=TOP):
         for name in names:
             if not has(path, name):
                 yield f"{page} links {name} to {os.path.relpath(path, top)}, which lacks it"
+    yield from miscited(top)
     yield from walked(top)
     yield from broken(top)
 

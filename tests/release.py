@@ -23,6 +23,7 @@ import time
 import machines
 from harness import TOP, count, counts, run, written
 from packages import crate, links, machine, packages
+from pages import broken
 
 MODULE = os.path.join(TOP, "build", "web", "twkb_web.wasm")
 BUILT = ("libtwkb.a", "libtwkb.so", "libtwkb.so.0")
@@ -32,7 +33,7 @@ AUTHOR = ["-c", "user.name=tests", "-c", "user.email=tests@localhost", "-c", "co
 NEEDS = {"git": "apt-get install git", "rt": "the Rattle kit"}
 # What a release has to hold, beside the crate for Rust and the texts of licences.
 WANTED = [
-    "README.md CHANGELOG.md CONTRIBUTING.md NOTICES.md PROVED.md SHA256SUMS VERSION install.sh dozhemik.html".split(),
+    "README.md CHANGELOG.md CONTRIBUTING.md NOTICES.md PROVENANCE.md SHA256SUMS VERSION install.sh dozhemik.html".split(),
     "bin/twkb_tool share/man/man1/twkb_tool.1 share/zsh/site-functions/_twkb_tool".split(),
     "share/bash-completion/completions/twkb_tool include/twkb.h".split(),
     "lib/libtwkb.a lib/libtwkb.so lib/libtwkb.so.0 lib/pkgconfig/twkb.pc".split(),
@@ -163,13 +164,21 @@ def sums(release):
 def notes(release, clone, version):
     """The note says the version, the commit and the kit; the notices name the licence of the examples, and README that there is none."""
     kit = subprocess.run(["rt", "version"], capture_output=True, text=True).stdout.strip()
-    note = text_of(release, "PROVED.md")
+    note = text_of(release, "PROVENANCE.md")
     for what in (version, git("rev-parse", "HEAD", cwd=clone).strip(), kit):
-        count(f"PROVED.md has {what}", f"{what}" in note, True)
+        count(f"PROVENANCE.md has {what}", f"{what}" in note, True)
     for name in ("NOTICES.md", os.path.join("examples", "README.md")):
         count(f"{name} names the LGPL", "GNU Lesser General Public License" in text_of(release, name), True)
     said = re.sub(r"\s+", " ", text_of(release, "README.md"))
     count("README says that no licence is chosen", "No licence has been chosen" in said, True)
+
+
+def pages_linked(release):
+    """Each link of a page leads to a file, or to a heading, of the release; and no two pages have one name."""
+    found = [os.path.relpath(os.path.join(at, name), release) for at, _, names in os.walk(release) for name in names if name.endswith(".md")]
+    count("links that lead nowhere", list(broken(release, sorted(found))), [])
+    names = [os.path.basename(page) for page in found if os.path.basename(page) != "README.md"]
+    count("pages of one name", sorted({name for name in names if names.count(name) > 1}), [])
 
 
 def refusals(clone, program, folder):
@@ -278,6 +287,7 @@ def main():
             release = unpacked(archive, folder)
             sums(release)
             notes(release, clone, version)
+            pages_linked(release)
             prefix = installs(release, clone, folder)
             links("installed", prefix, asked.program, folder)
             links("unpacked", release, asked.program, folder)

@@ -3,10 +3,11 @@
 
 trusted.py [--strict]: computes them from the public items of each crate, prints their lines crate by crate and for what a
 reader may want to believe, and fails where a definition stands in the wrong place: where a public contract reaches a
-device, or what private contracts of several crates share; where no public contract reaches what stands in `specs/` beside
+device, or what private contracts of several crates share; where no public contract reaches what is in `specs/` beside
 these; where no contract at all names a device, which then belongs to `proofs/`; where code or definitions name a device
 of another crate; or where what is shared names a device, or no other crate needs it. Strictly it fails too where
-docs/DEFINITIONS.md or docs/GATE.md isn't as pages.py writes it, or a link of a page leads to a file that lacks the name."""
+docs/DEFINITIONS.md or docs/GATE.md isn't as pages.py writes it, a link of a page leads to a file that lacks the name, or
+a function lacks a clause that a page cites of it."""
 import os
 import re
 import sys

@@ -1,9 +1,10 @@
 #!/usr/bin/env python3
-"""Made-up crates, of which trusted.py has to find what is wrong, and nothing else."""
+"""Made-up crates, of which trusted.py has to find what is wrong, and a made-up page, of which pages.py has to; and nothing else."""
 import os
 import sys
 import tempfile
 
+from pages import FOLDERS, miscited
 from trusted import HEAD, SHARED_HEAD, Reach, borrowed, headless, misplaced, too_long
 
 ROOT = "mod code;\npub use code::{Bag, Shows, says};\n"
@@ -112,6 +113,13 @@ CASES = (
     ("there is more to read than may be", {"most": 5}, ["takes 6 lines of definitions, more than 5"]),
 )
 
+# What a page cites, and what has to be found.
+CITED = (
+    ("[`says`](../crates/made/src/code.rt): `said`", []),
+    ("[`says`](../crates/made/src/code.rt): `said`, `seen`", ["docs/PAGE.md cites seen of says, which lacks it"]),
+    ("[`says`](../crates/made/src/code.rt): `said`; `step`: `said`", ["docs/PAGE.md cites said of step, which lacks it"]),
+)
+
 
 def write(top, name, text, crate="made"):
     """A file of a made-up crate."""
@@ -139,14 +147,30 @@ def found(public="IsSaid", private="IsStep", plain=PLAIN, steps=STEPS, most=6, s
         return [*misplaced(reach), *borrowed(reach), *headless(reach), *too_long(reach, questions)]
 
 
+def found_of(cell):
+    """What is found to be wrong of a page whose table has this cell."""
+    with tempfile.TemporaryDirectory() as top:
+        write(top, "src/code.rt", CODE.format(public="IsSaid", private="IsStep"))
+        for folder in FOLDERS:
+            os.makedirs(os.path.join(top, folder), exist_ok=True)
+        with open(os.path.join(top, "docs", "PAGE.md"), "w", encoding="utf-8") as page:
+            page.write(f"| What | Contracts |\n|---|---|\n| it says so | {cell} |\n")
+        return list(miscited(top))
+
+
 def main():
     failed = 0
+    for cell, wanted in CITED:
+        lines = found_of(cell)
+        if lines != wanted:
+            failed += 1
+            print(f"{cell}: {lines}", file=sys.stderr)
     for name, parts, wanted in CASES:
         lines = found(**parts)
         if len(lines) != len(wanted) or not all(any(part in line for line in lines) for part in wanted):
             failed += 1
             print(f"{name}: {lines}", file=sys.stderr)
-    print(f"{len(CASES) - failed} passed, {failed} failed")
+    print(f"{len(CASES) + len(CITED) - failed} passed, {failed} failed")
     return 1 if failed else 0
 
 

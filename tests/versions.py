@@ -49,7 +49,7 @@ def text_of(path):
 def stated(version):
     for path, form in STATED.items():
         count(path, set(re.findall(form, text_of(path), re.MULTILINE)), {version})
-    count("CHANGELOG.md: the newest", re.findall(r"^## (.*)$", text_of("CHANGELOG.md"), re.MULTILINE)[:1], [version])
+    count("CHANGELOG.md: the newest", re.findall(r"^## (.*) - \d{4}-\d\d-\d\d$", text_of("CHANGELOG.md"), re.MULTILINE)[:1], [version])
 
 
 def of_the_library(version, folder):

@@ -86,7 +86,8 @@ for crate in clap itoa smallvec thiserror; do
     done
 done
 SOURCE_DATE_EPOCH=$seconds python3 tools/wheel.py build/bindings/libtwkb.so "$to" > "$work/wheel"
-cat > "$to/PROVED.md" <<TEXT
+python3 tools/release_pages.py "$to"
+cat > "$to/PROVENANCE.md" <<TEXT
 # What was proved
 
 Dozhemik $version, of the commit \`$commit\`, by the kit \`$kit\`.
@@ -100,7 +101,8 @@ Dozhemik $version, of the commit \`$commit\`, by the kit \`$kit\`.
 
 \`docs/PROVED.md\` says what is proved of these, \`docs/TESTED.md\` what is only tested, \`README.md\` what is trusted, and
 \`docs/BINDINGS.md\` all this for callers and for the page. With the kit and a checkout of the commit, \`make test\` proves and tests
-all of it again. \`SHA256SUMS\` has a sum of each file: \`sha256sum --check SHA256SUMS\`, as \`install.sh\` does.
+all of it again. The pages link only files that are here: where a page of the checkout links another file, its name is plain text.
+\`SHA256SUMS\` has a sum of each file: \`sha256sum --check SHA256SUMS\`, as \`install.sh\` does.
 TEXT
 
 chmod -R u=rwX,go=rX "$to"

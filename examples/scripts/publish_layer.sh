@@ -6,7 +6,7 @@
 # is the new layer, 1 where twkb_tool refuses it, 2 for bad words, and 3 where it isn't known what was written: the query failed,
 # or what it gave isn't what it says. Then, too, standard error says why.
 set -euo pipefail
-# Digits behind the point of X and Y, of Z and of M.
+# Decimals of X and Y, of Z and of M.
 precisions='4, 0, 0'
 
 if [[ $# -lt 2 || $# -gt 3 || ! $1 =~ ^[A-Za-z_][A-Za-z0-9_]*(\.[A-Za-z_][A-Za-z0-9_]*)?$ ]]; then
@@ -24,7 +24,7 @@ unpublished() {
 part=$(mktemp -d -- "$(dirname -- "$file")/.publish.XXXXXX") || unpublished "there is no place beside it"
 trap 'rm -rf -- "$part"' EXIT
 
-# The numbers of rows come first, and see the same rows as the query behind them.
+# The numbers of rows come first. In this transaction both queries see one state of the table.
 psql -X -q -At -v ON_ERROR_STOP=1 \
     -c 'begin transaction isolation level repeatable read, read only' \
     -c "select count(geom), count(*) - count(geom) from $table" \
