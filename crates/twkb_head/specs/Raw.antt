@@ -8,14 +8,14 @@ use Rattle.twkb_head.specs.declared.raw.Fields.{Fields}
 use Rattle.twkb_head.specs.declared.header.Head.{Head}
 use Rattle.twkb_head.specs.declared.header.BoxField.{BoxField}
 use Rattle.twkb_head.specs.declared.kinds.Kind.TheVariants.{Point, LineString}
-use Rattle.twkb_num.specs.Cursor.{Reading, rest, passed, IsMoved}
+use Rattle.twkb_num.specs.Cursor.{Reading, rest, passed, added, IsMoved}
 use Rattle.twkb_num.specs.Varint.{zigzag_value}
 use Rattle.twkb_head.specs.declared.read.Begun.{Begun}
 use Rattle.twkb_head.specs.declared.refusal.Malformed.{Malformed}
 use Rattle.twkb_head.specs.BegunHeader.{IsAllowedAt}
 use Rattle.twkb_head.specs.Header.{code_of}
 use Rattle.twkb_head.specs.Head.{IsHeadAt, bounds_of}
-use Rattle.twkb_head.specs.Refusal.{IsRefusedHead}
+use Rattle.twkb_head.specs.Refusal.{IsRefusedHead, looked_at_until}
 
 -- the least and the greatest number of a range
 abbrev pub ends_of : RawRange → ℤ × ℤ
@@ -106,7 +106,8 @@ pub record BeginsHead (begun : Begun) (depth : ℕ) (before now : Reading) : Typ
   pub announced : metadata % 32 ≡ begun.metadata % 32
   pub start : begun.start ≡ before.place
 
--- from its start the header was read, or why it can't be
+-- From its start the header was read; or a field can't follow, and the cursor is at that field, with the bytes looked at counted.
 abbrev pub ReadsHead : ℕ → Reading → Reading → Result Fields Malformed → Type 0
 ReadsHead depth before new (Ok raw) = IsHeadAt (head_said raw) depth before.place (passed before new) × IsMoved before new
 ReadsHead depth before new (Err m) = IsRefusedHead m depth before.place (rest before)
+    × (new ≡ record { bytes = before.bytes; place = m.offset; count = added before.count (looked_at_until m before) })

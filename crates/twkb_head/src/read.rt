@@ -176,7 +176,8 @@ pub fn begin_head(cursor: &mut Cursor, depth: u8) -> Option<Begun>
     })
 }
 
-/// Reads the other fields of a header, after its first two bytes. A refusal leaves the cursor at the field that is wrong.
+/// Reads the other fields of a header, after its first two bytes. A refusal leaves the cursor at the field that is wrong, and
+/// the bytes looked at are counted.
 #[inline(always)]
 pub fn take_rest(cursor: &mut Cursor, begun: Begun) -> Result<Fields, Malformed>
     requires { IsPrecision begun.xy }

@@ -8,7 +8,7 @@ use Rattle.twkb_head.specs.Head.{StartsWithHeader}
 use Rattle.twkb_head.specs.Raw.{head_said, ReadsHead}
 use Rattle.twkb_head.specs.Devices.HeadReader.{head_at}
 use Rattle.twkb_head.specs.Devices.Raw.{made_whole}
-use Rattle.twkb_head.proofs.HeadLaws.{head_ok, head_moved, head_exact, head_err}
+use Rattle.twkb_head.proofs.HeadLaws.{head_ok, head_moved, head_exact, head_err, head_left}
 use Rattle.twkb_head.proofs.HeadSteps.{begins_goes_on}
 use Rattle.twkb_head.proofs.read.take_rest.Goals as goal
 
@@ -18,7 +18,7 @@ answers depth before new sound least most (Ok raw) e = (
   (head_ok depth least most before new sound (Ok (head_said raw)) e, head_moved depth least most before new sound (Ok (head_said raw)) e),
   head_exact depth least most before new sound (Ok (head_said raw)) e,
 )
-answers depth before new sound least most (Err m) e = (head_err depth least most before new sound (Err m) e, head_exact depth least most before new sound (Err m) e)
+answers depth before new sound least most (Err m) e = ((head_err depth least most before new sound (Err m) e, head_left depth least most before new sound m e), head_exact depth least most before new sound (Err m) e)
 
 pub returns-clause-read : goal.returns-clause-read
 returns-clause-read c = λ depth before sound begins.
