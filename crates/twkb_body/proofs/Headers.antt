@@ -1,5 +1,5 @@
 -- A certified geometry whose header was read: what that says of it, and where its size leads.
-use Rattle.std.proofs.Common.{◌≡◌, ℕ, ◌+◌, ◌^◌, ◌<◌, ◌≤◌, true, List, Bool, cond, Option, Some, None, is_some, option_map, refl, ap, sym, ◌∙◌, arith, length}
+use Rattle.std.proofs.Common.{◌≡◌, ℕ, ◌+◌, ◌^◌, ◌<◌, ◌≤◌, true, List, cond, Option, Some, None, is_some, option_map, refl, ap, sym, ◌∙◌, arith, length}
 use Rattle.twkb_num.specs.Cursor.{Reading, added}
 use Rattle.twkb_head.specs.declared.boxes.Vertex.{Vertex}
 use Rattle.twkb_head.specs.declared.boxes.Bounds.{Bounds}

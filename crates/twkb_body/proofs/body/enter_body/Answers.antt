@@ -6,9 +6,8 @@ use Rattle.std.specs.Int.{w8}
 use Rattle.twkb_num.specs.Cursor.{Reading}
 use Rattle.twkb_body.specs.Devices.Body.{Body}
 use Rattle.twkb_body.specs.Devices.Inside.{shape_behind, shown_all}
-use Rattle.twkb_head.proofs.Readings.{no_failure}
 use Rattle.twkb_body.specs.Devices.Skimmed.{full_head}
-use Rattle.twkb_body.proofs.HeadStands.{shape_stands, list_stands, enter_shape, enter_list}
+use Rattle.twkb_body.proofs.HeadStands.{shape_stands, enter_shape}
 use Rattle.twkb_body.proofs.body.enter_body.Goals as goal
 
 pub enter_list-requires-clause-list : goal.enter_list-requires-clause-list

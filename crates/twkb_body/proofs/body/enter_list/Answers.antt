@@ -17,4 +17,3 @@ returns g c = λ t depth before b.
     let h = full_head c.args._kind c.args._axes c.args.ids b.size b.bounds b.start b.stop in
     let list = c.in-Ok.ensures in
     enter_list g.V.Visit.step g.V.Visit.passes _ t depth before _ _ h list.0 _ b.sound b.stands b.at b.moved b.stays refl c.requires.list list.1 list.2
-

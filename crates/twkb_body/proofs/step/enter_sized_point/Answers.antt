@@ -1,5 +1,5 @@
 -- The size is read, and the point's numbers are next.
-use Rattle.std.proofs.Common.{◌≡◌, ℤ, ap, ◌∙◌, arith}
+use Rattle.std.proofs.Common.{◌≡◌, ap, ◌∙◌, arith}
 use Rattle.std.proofs.lemmas.Int.{ints}
 use mir.Val.{to_z, of_z}
 use Rattle.std.specs.Int.{w8}

@@ -1,7 +1,5 @@
 -- Two ends in a word are those of the first two varints.
-use Rattle.std.proofs.Common.{◌≡◌, ◌≤◌, ◌+◌, ◌^◌, length, take, drop, refl, sym, ap, ◌∙◌, arith}
-use Rattle.std.proofs.lemmas.Grind.{common_steps}
-use Rattle.twkb_num.specs.Devices.Ends.{ends_to}
+use Rattle.std.proofs.Common.{◌≡◌, length, arith}
 use Rattle.twkb_num.proofs.ManySpelled.{two_ends}
 use Rattle.twkb_num.proofs.ends.second_end.Goals as goal
 
