@@ -10,7 +10,7 @@ use Rattle.twkb_body.specs.Encoding.{Blob, BlobsUnder, IsPoint, IsRing, IsPart, 
 use Rattle.twkb_head.specs.declared.kinds.Kind.{Kind}
 use Rattle.twkb_head.specs.declared.kinds.Kind.TheVariants.{Point, LineString, Polygon, MultiPoint, MultiLineString, MultiPolygon, GeometryCollection}
 
--- Every number, with those of its axis before it, has a sum that lies in 64 bits.
+-- For every number, the sum of the numbers of its axis up to it fits 64 bits.
 abbrev pub SumsFit : List PointValue → Type 0
 SumsFit numbers = (i axis : ℕ) (point : PointValue) (z : ℤ) → slice_get numbers i ≡ Some point
     → slice_get point axis ≡ Some z → FitsSigned w64 (total axis (take (suc i) numbers))
@@ -20,8 +20,8 @@ abbrev pub IsBegunPoint : ℕ → List PointValue → List ℕ → Field → Typ
 IsBegunPoint axes points p due =
     (numbers : List ℤ) × (points ≡ numbers ∷ []) × IsFewer axes numbers p × (due ≡ coordinate_field)
 
--- A count is due; or ids are; or fewer members than the count are whole, and one is begun.
--- The points are those whose numbers stand in p, the last perhaps in part.
+-- A count is due; or ids are; or fewer members than the count are whole, and one is begun. The points are those whose
+-- numbers are in p, the last perhaps in part.
 pub data IsBegunList {A : Type 0} (ids : Bool) (Whole : A → List ℕ → Type 0) (points_in : A → List PointValue)
     (Begun : List PointValue → List ℕ → Field → Type 0) (points : List PointValue) (p : List ℕ) (due : Field)
     : Type 0 where
@@ -57,8 +57,8 @@ IsBegunNumbers false h = IsBegunPart h.kind (axes_of h)
 IsBegunNumbers true h =
     IsBegunList h.ids (IsPart h.kind (axes_of h)) (flat_map (λ ring. ring)) (IsBegunPart h.kind (axes_of h))
 
--- A geometry begun at a depth, where the deepest may stand at the limit, and what kind of field is due after it: its
--- header is begun; or its numbers; or its list of members, up to the ids; or one of its members.
+-- A geometry begun at a depth, under a limit of depth, and the kind of the field due next: its header is begun; or its
+-- numbers; or its list of members, up to the ids; or one of its members.
 pub data IsBegunUnder (limit : ℕ) : ℕ → List ℕ → Field → Type 0 where
   header_begun : (depth : ℕ) (p : List ℕ) (due : Field) → IsBegunHeader limit depth p due
       → IsBegunUnder limit depth p due
@@ -77,7 +77,7 @@ pub data IsBegunUnder (limit : ℕ) : ℕ → List ℕ → Field → Type 0 wher
       → BlobsUnder limit gs wholes (suc depth) → IsBegunUnder limit (suc depth) rest due
       → p ≡ head ++ (count ++ (id_list ++ (wholes ++ rest))) → IsBegunUnder limit depth p due
 
--- the same under the limit of this project
+-- `IsBegunUnder` with this project's limit
 abbrev pub IsBegun : ℕ → List ℕ → Field → Type 0
 IsBegun = IsBegunUnder deepest
 

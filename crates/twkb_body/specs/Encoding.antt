@@ -78,7 +78,7 @@ pub record IsShape (h : Header) (l : Lengths) (ids : Option (List ℤ)) (polygon
   pub spelled : IsNumbers (is_multi h.kind) h l ids numbers bytes
   pub accumulated : Accumulates (points_of polygons) (points_of numbers)
 
--- the body: nothing where the geometry is empty, the members of a collection, which stand as Each says, or a shape
+-- the body: nothing if the geometry is empty, the members of a collection, encoded as Each says, or a shape
 abbrev pub IsBody : Bool → Bool → Header → Lengths → Option (List ℤ) → List PolygonValue → ℕ → (List ℕ → Type 0)
     → List ℕ → Type 0
 IsBody true collection h l ids polygons n Each bytes = (bytes ≡ []) × (polygons ≡ []) × (n ≡ 0) × IsNoList l ids
@@ -96,7 +96,7 @@ pub record IsHeaderThenBody (h : Header) (l : Lengths) (bytes body : List ℕ) :
   pub whole_length : l.whole ≡ length bytes
 
 unfoldable mutual
-  -- The bytes are the geometry's, which stands at the depth, where the deepest may stand at the limit; its size is free
+  -- The bytes encode the geometry at this depth, under a limit of depth; its size field may hold any number
   pub BlobUnder : ℕ → Geometry → List ℕ → ℕ → Type 0
   BlobUnder limit (geometry h l ids polygons members) bytes depth =
       (body : List ℕ) × IsHeaderThenBody h l bytes body × IsAllowedUnder limit h.kind depth
@@ -109,10 +109,10 @@ unfoldable mutual
   BlobsUnder limit (more g gs) bytes depth =
       Then (λ front. BlobUnder limit g front depth) (λ rest. BlobsUnder limit gs rest depth) bytes
 
--- the same under the limit of this project
+-- `BlobUnder` with this project's limit
 abbrev pub Blob : Geometry → List ℕ → ℕ → Type 0
 Blob = BlobUnder deepest
 
--- one blob after another
+-- `BlobsUnder` with this project's limit
 abbrev pub Blobs : Members → List ℕ → ℕ → Type 0
 Blobs = BlobsUnder deepest

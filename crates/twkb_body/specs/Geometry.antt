@@ -16,8 +16,8 @@ Ring = List PointValue
 abbrev pub PolygonValue : Type 0
 PolygonValue = List Ring
 
--- How many bytes the parts take: what stands before size and box, the size field, the whole header,
--- the count of members, that count with the ids, and the whole geometry.
+-- How many bytes the parts take: those before size and box, the size field, the whole header, the count of members,
+-- that count with the ids, and the whole geometry.
 pub record Lengths : Type 0 where
   pub before : ℕ
   pub size : ℕ
@@ -70,7 +70,7 @@ vertex_of h point = record {
 abbrev pub HavePrecisions : Axes → Type 0
 HavePrecisions axes = IsPrecision axes.xy × IfSome axes.z (λ p. p ≤ 7) × IfSome axes.m (λ p. p ≤ 7)
 
--- the same by the precisions alone
+-- like `vertex_of`, by the precisions alone instead of a header
 abbrev pub vertex_at : Axes → PointValue → Vertex
 vertex_at axes point = record {
   x = units_of (coordinate point 0) axes.xy;

@@ -18,11 +18,11 @@ use Rattle.twkb_body.specs.Counting.{counts_on}
 abbrev pub OneDue : Type 0
 OneDue = (p : List ℕ) (a b : Field) → IsBegun 1 p a → IsBegun 1 p b → a ≡ b
 
--- none is due after a whole blob
+-- no field is due after a whole blob
 abbrev pub NoneDue : Type 0
 NoneDue = (p : List ℕ) (g : Geometry) (due : Field) → Blob g p 1 → IsBegun 1 p due → ⊥
 
--- What is viable goes on, behind a begun prefix, by one field of the kind that is due, and is viable there.
+-- Viable bytes that go on after a begun prefix go on by one field of the kind that is due, and are viable up to its end.
 abbrev pub GoesOn : Type 0
 GoesOn = (p rest : List ℕ) (due : Field) → IsBegun 1 p due → IsViable (p ++ rest) → rest ≢ []
     → (front : List ℕ) × (behind : List ℕ) × (rest ≡ front ++ behind) × IsField due front × IsViable (p ++ front)
@@ -31,20 +31,20 @@ GoesOn = (p rest : List ℕ) (due : Field) → IsBegun 1 p due → IsViable (p +
 abbrev pub LongListsAreBegun : Type 0
 LongListsAreBegun = (p : List ℕ) → EndsInIds 17 1 p → (due : Field) × IsBegun 1 p due
 
--- bytes that begin a geometry up to the seventeenth id of a list are at least so many
+-- bytes that begin a geometry up to the seventeenth id of a list have at least this length
 abbrev pub LongListsAreLong : ℕ → Type 0
 LongListsAreLong least = (bytes : List ℕ) → HasLongList 1 bytes → least ≤ length bytes
 
--- of given bytes at most one front is a blob, of one tree
+-- at most one prefix of given bytes is a blob, of one tree
 abbrev pub OneBlob : Type 0
 OneBlob = (g h : Geometry) (a b x y : List ℕ) → Blob g a 1 → Blob h b 1 → a ++ x ≡ b ++ y → (g ≡ h) × (a ≡ b) × (x ≡ y)
 
--- where the deepest may stand deeper, a blob stays one
+-- a blob under one limit of depth is a blob under any greater limit
 abbrev pub StaysBlob : Type 0
 StaysBlob = (low high : ℕ) (g : Geometry) (bytes : List ℕ) (depth : ℕ) → low ≤ high
     → BlobUnder low g bytes depth → BlobUnder high g bytes depth
 
--- the claims of a blob stand by rising offset
+-- the claims of a blob are in the order of their offsets
 abbrev pub RisingClaims : Type 0
 RisingClaims = (g : Geometry) (bytes : List ℕ) (start : ℕ) → Blob g bytes 1
     → AllPairs (λ c d. offset_of c ≤ offset_of d) (claims g start)
@@ -54,7 +54,7 @@ abbrev pub TightClaimsAreBoth : Type 0
 TightClaimsAreBoth = (g : Geometry) (start : ℕ) → All IsTightlyTrue (claims g start)
     ↔ (IsCertified g × HasTightBoxes g)
 
--- the reach of two lists of vertices is that of both
+-- the reach of two lists of vertices together is `both` of their reaches
 abbrev pub ExtentsJoin : Type 0
 ExtentsJoin = (vs ws : List Vertex) → reach_of (vs ++ ws) ≡ both (reach_of vs) (reach_of ws)
 

@@ -1,4 +1,4 @@
--- Where no blob stands, and why.
+-- Where there is no blob, and why.
 use Rattle.std.specs.Prelude.{◌≡◌, ℕ, ◌+◌, ◌%◌, ◌≤◌, List, [], ◌∷◌, ◌++◌, length, ◌⊎◌}
 use Rattle.twkb_num.specs.Varint.{Spells, IsCut, IsLong}
 use Rattle.twkb_head.specs.BegunHeader.{Field, type_field, byte_field, number_field, coordinate_field}
@@ -10,11 +10,11 @@ use Rattle.twkb_head.specs.declared.refusal.Why.{Why}
 use Rattle.twkb_head.specs.declared.refusal.Why.TheVariants.{Cut, Varint, Kind, Depth, Range}
 use Rattle.twkb_head.specs.declared.refusal.Malformed.{Malformed}
 
--- no front of the bytes is a blob
+-- no prefix of the bytes is a blob
 abbrev pub BeginsWithNoBlob : List ℕ → Type 0
 BeginsWithNoBlob bytes = (g : Geometry) (front behind : List ℕ) → bytes ≡ front ++ behind → Blob g front 1 → ⊥
 
--- what is wrong with the field of this kind that stands at f, after p
+-- how the field of this kind that begins at f, after p, is wrong
 abbrev pub IsWrong : Why → Field → List ℕ → List ℕ → Type 0
 IsWrong Cut type_field p f = f ≡ []
 IsWrong Cut byte_field p f = f ≡ []
@@ -28,7 +28,7 @@ IsWrong Range coordinate_field p f =
     (front behind : List ℕ) × (n : ℕ) × (f ≡ front ++ behind) × Spells front n × (IsViable (p ++ front) → ⊥)
 IsWrong _ _ p f = ⊥
 
--- a kind of field is due after p, and the one that stands at f is wrong
+-- a kind of field is due after p, and the one that begins at f is wrong
 abbrev pub IsFaultAt : Why → List ℕ → List ℕ → Type 0
 IsFaultAt why p f = (due : Field) × IsBegun 1 p due × IsWrong why due p f
 

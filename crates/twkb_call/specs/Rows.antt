@@ -3,7 +3,7 @@ use Rattle.twkb_head.specs.Header.{code_of}
 use Rattle.twkb_layer.specs.declared.row.Row as layer
 use Rattle.twkb_call.specs.declared.rows.Row.{Row}
 
--- what is made of a row
+-- a row as numbers and flags
 abbrev pub in_numbers : layer.Row → Row
 in_numbers row = record {
   blob = row.blob;

@@ -9,15 +9,15 @@ use Rattle.twkb_call.specs.declared.verdict.Verdict.{Verdict}
 abbrev pub yes : (blobs vertices : ℕ) → Verdict
 yes blobs vertices = record { answer = 0; kind = 0; blobs = blobs; vertices = vertices; blob = 0; offset = 0 }
 
--- on bytes that are refused
+-- the verdict on bytes that are refused
 abbrev pub no : (blob offset kind : ℕ) → Verdict
 no blob offset kind = record { answer = 1; kind = kind; blobs = 0; vertices = 0; blob = blob; offset = offset }
 
--- and where a list of ids wants more memory than there is
+-- the verdict if a list of ids wants more memory than there is
 abbrev pub no_memory : Verdict
 no_memory = record { answer = 2; kind = 0; blobs = 0; vertices = 0; blob = 0; offset = 0 }
 
--- It is one of the three, and true, in the check that takes these claims for true.
+-- The verdict is one of these three, and true, in the check that takes these claims for true.
 abbrev pub Says : (Claim → Type 0) → Verdict → List ℕ → Type 0
 Says IsTrue v bytes =
     ((v ≡ yes v.blobs v.vertices) × IsCounted bytes v.blobs v.vertices)

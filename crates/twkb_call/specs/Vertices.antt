@@ -5,7 +5,7 @@ use Rattle.twkb_head.specs.declared.boxes.Vertex.{Vertex}
 use Rattle.twkb_call.specs.declared.window.Units.{Units}
 use Rattle.twkb_call.specs.declared.drawing.Point.{Point}
 
--- the two words of a number: how often it has 2^64, and what is left
+-- a number as two words: the quotient and the remainder by 2^64
 abbrev pub words_of : ℤ → Units
 words_of n = record { low = unsigned_abs (int_rem_euclid n (pos (2 ^ 64))); high = int_div_euclid n (pos (2 ^ 64)) }
 

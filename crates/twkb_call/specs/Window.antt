@@ -14,7 +14,7 @@ value_of u = u.high *ℤ pos (2 ^ 64) +ℤ pos u.low
 abbrev pub span_from : Range → Span
 span_from r = record { lo = value_of r.lo; hi = value_of r.hi }
 
--- the window that is meant: of Z and M only where it says so
+-- the ranges of a window: of Z and M only if its flags say so
 abbrev pub ranges_of : Window → Bounds
 ranges_of w = record {
   x = span_from w.x;

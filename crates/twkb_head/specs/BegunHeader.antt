@@ -11,16 +11,16 @@ abbrev pub is_collection : Kind → Bool
 is_collection GeometryCollection = true
 is_collection _ = false
 
--- A kind may stand at a depth, where nothing may stand deeper than the limit: a blob has depth 1, a member of a
+-- A kind is allowed at a depth, where no geometry may be deeper than the limit: a blob has depth 1, a member of a
 -- collection one more than the collection, so a collection has to leave a depth for its members.
 abbrev pub IsAllowedUnder : ℕ → Kind → ℕ → Type 0
 IsAllowedUnder limit kind depth = (1 ≤ depth) × (depth + (if is_collection kind then 1 else 0) ≤ limit)
 
--- how deep a geometry may stand: the limit of this project, whose number the definitions write here alone
+-- the greatest depth of a geometry: this project's limit, whose number the definitions state only here
 abbrev pub deepest : ℕ
 deepest = 64
 
--- a kind may stand at a depth under that limit
+-- a kind is allowed at a depth under this project's limit
 abbrev pub IsAllowedAt : Kind → ℕ → Type 0
 IsAllowedAt = IsAllowedUnder deepest
 
@@ -38,7 +38,7 @@ IsField byte_field bytes = (b : ℕ) × (bytes ≡ b ∷ [])
 IsField number_field bytes = (n : ℕ) × Spells bytes n
 IsField coordinate_field bytes = (n : ℕ) × Spells bytes n
 
--- a type byte of a kind that may stand at the depth
+-- a type byte of a kind that is allowed at the depth under the limit
 pub record IsStart (limit depth type_byte : ℕ) : Type 0 where
   pub kind : Kind
   pub code : type_byte % 16 ≡ code_of kind

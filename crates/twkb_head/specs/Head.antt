@@ -1,4 +1,4 @@
--- What a header in code says of the header that stands in bytes.
+-- What a header in code says of the header in the bytes.
 use Rattle.std.specs.Prelude.{◌≡◌, ℕ, ◌+◌, if◌then◌else◌, is_some, List, ◌++◌, length, slice_get, ℤ, pos, Option, unwrap_or, option_map}
 use Rattle.twkb_num.specs.Units.{units_of}
 use Rattle.twkb_head.specs.declared.boxes.Span.{Span}
@@ -15,7 +15,7 @@ span_at p range = record { lo = units_of range.0 p; hi = units_of range.1 p }
 abbrev pub range_of : List (ℤ × ℤ) → ℕ → ℤ × ℤ
 range_of ranges axis = unwrap_or (slice_get ranges axis) (pos 0, pos 0)
 
--- the place of M among the axes: behind X and Y, and behind Z where there is one
+-- the index of M among the axes: after X and Y, and after Z if there is one
 abbrev pub m_axis : Option ℕ → ℕ
 m_axis z = 2 + (if is_some z then 1 else 0)
 
@@ -28,7 +28,7 @@ bounds_of xy z m ranges = record {
   m = option_map (λ p. span_at (pos p) (range_of ranges (m_axis z))) m;
 }
 
--- the code's form of a header that stands at start, with its size at size_place, its box at box_place, its end at stop
+-- the code's form of a header that begins at start, with its size at size_place, its box at box_place, its end at stop
 abbrev pub head_of : Header → ℕ → ℕ → ℕ → ℕ → Head
 head_of h start size_place box_place stop = record {
   kind = h.kind;
@@ -43,7 +43,7 @@ head_of h start size_place box_place stop = record {
   stop = stop;
 }
 
--- the bytes, the first of which is at start, are a header that may stand at the depth, and this is what it says
+-- the bytes, the first of which is at start, are a header that is allowed at the depth, and this is the code's form of it
 pub record IsHeadAt (head : Head) (depth start : ℕ) (bytes : List ℕ) : Type 0 where
   pub header : Header
   pub is : IsHeader header bytes
@@ -51,7 +51,7 @@ pub record IsHeadAt (head : Head) (depth start : ℕ) (bytes : List ℕ) : Type 
   pub fields : head ≡ head_of header start (start + 2 + length is.extended_bytes)
       (start + 2 + length is.extended_bytes + length is.size_bytes) (start + length bytes)
 
--- a header that may stand at the depth stands at the front of the bytes
+-- the bytes begin with a header that is allowed at the depth
 pub record StartsWithHeader (depth : ℕ) (bytes : List ℕ) : Type 0 where
   pub header : Header
   pub front : List ℕ

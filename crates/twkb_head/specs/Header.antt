@@ -8,7 +8,7 @@ use Rattle.twkb_head.specs.declared.kinds.Kind.TheVariants.{Point, LineString, P
 use Rattle.twkb_head.specs.Parts.{Then, Times, Announced}
 
 -- What a header says: the kind, the precisions of X and Y, of Z and of M, the size number, the box with a minimum and a
--- maximum for each axis in the order X, Y, Z, M, whether ids stand in the body, and whether there is no body.
+-- maximum for each axis in the order X, Y, Z, M, whether the body has ids, and whether there is no body.
 pub record Header : Type 0 where
   pub kind : Kind
   pub xy : ℤ
@@ -29,7 +29,7 @@ code_of MultiLineString = 5
 code_of MultiPolygon = 6
 code_of GeometryCollection = 7
 
--- the kinds that have a list of members: all behind the polygon
+-- the kinds that have a list of members: types 4 to 7
 abbrev pub is_multi : Kind → Bool
 is_multi kind = nat_lt 3 (code_of kind)
 
@@ -57,11 +57,11 @@ z_in extended = option_and_then (λ e. if has_bit e 1 then Some (e / 4 % 8) else
 abbrev pub m_in : Option ℕ → Option ℕ
 m_in extended = option_and_then (λ e. if has_bit e 2 then Some (e / 32) else None) extended
 
--- the range of a box in an axis: the minimum, and behind it the maximum less the minimum
+-- the range of a box in an axis: the minimum, and then the width (maximum minus minimum)
 abbrev pub IsRange : ℤ × ℤ → List ℕ → Type 0
 IsRange range = Then (IsSigned range.0) (IsSigned (range.1 -ℤ range.0))
 
--- whether ids stand in the body: the geometry isn't empty, it has a list of members, and the metadata byte says so
+-- whether the body has ids: the geometry isn't empty, it has a list of members, and the metadata byte says so
 abbrev pub has_ids : Kind → ℕ → Bool
 has_ids kind metadata = not (has_bit metadata 16) && (is_multi kind && has_bit metadata 4)
 

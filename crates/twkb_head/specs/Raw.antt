@@ -25,14 +25,14 @@ ends_of range = (range.minimum, range.minimum +ℤ range.extent)
 abbrev pub ranges_in : RawBox → List (ℤ × ℤ)
 ranges_in box = ends_of box.x ∷ ends_of box.y ∷ ends_of box.third ∷ ends_of box.fourth ∷ []
 
--- a range of numbers that are at most 2 ^ 61 from zero: so its greatest has 64 bits too, and there are numbers beyond
+-- a raw range whose minimum and width are at most 2^61 from zero, so that its maximum and numbers beyond it fit 64 bits
 pub record IsNear (range : RawRange) : Type 0 where
   pub low : neg_ℤ (pos (2 ^ 61)) ≤ℤ range.minimum
   pub high : range.minimum ≤ℤ pos (2 ^ 61)
   pub least : neg_ℤ (pos (2 ^ 61)) ≤ℤ range.extent
   pub greatest : range.extent ≤ℤ pos (2 ^ 61)
 
--- the same of all ranges of a box
+-- each range of a box is near (`IsNear`)
 pub record HasNearRanges (box : RawBox) : Type 0 where
   pub x : IsNear box.x
   pub y : IsNear box.y
@@ -47,18 +47,19 @@ flat_box x y = record { x = x; y = y; third = record { minimum = pos 0; extent =
 abbrev pub raw_bounds : ℤ → Option ℕ → Option ℕ → RawBox → Bounds
 raw_bounds xy z m box = bounds_of xy z m (ranges_in box)
 
--- its field with this box
+-- the box field of a raw header, with this box in units
 abbrev pub box_field : RawHead → RawBox → BoxField
 box_field raw box = record { bounds = raw_bounds raw.head.xy raw.head.z raw.head.m box; offset = raw.box_place }
 
--- what the header says, with its box
+-- the `head` of a raw header, with its box in units
 abbrev pub whole_head : RawHead → Head
 whole_head raw = record raw.head { bounds = option_map (box_field raw) raw.bounds }
 
--- what the header says whose fields these are
+-- the box field of a header with these fields, with this box in units
 abbrev pub fields_box : Fields → RawBox → BoxField
 fields_box f box = record { bounds = raw_bounds f.axes.xy f.axes.z f.axes.m box; offset = f.box_place }
 
+-- the header of these fields, with its box in units
 abbrev pub head_said : Fields → Head
 head_said f = record {
   kind = f.kind;
@@ -73,7 +74,7 @@ head_said f = record {
   stop = f.stop;
 }
 
--- a header says: a point with this size, which counts from a place, and nothing else
+-- a header says: a point with this size, counted from the place `after`, and nothing else
 pub record IsSizedPoint (head : Head) (size after : ℕ) : Type 0 where
   pub kind : head.kind ≡ Point
   pub z : head.z ≡ None
@@ -93,8 +94,8 @@ pub record IsBareLine (head : Head) : Type 0 where
   pub no_ids : head.ids ≡ false
   pub full : head.empty ≡ false
 
--- A header that may stand at the depth was begun: its first two bytes were read. Of the metadata byte the five lowest bits
--- count.
+-- A header that is allowed at the depth was begun: its first two bytes were read. Of the metadata byte the five lowest
+-- bits count.
 pub record BeginsHead (begun : Begun) (depth : ℕ) (before now : Reading) : Type 0 where
   pub type_byte : ℕ
   pub metadata : ℕ

@@ -1,4 +1,4 @@
--- Why no header stands at a place: the first field that can't follow, and how many bytes showed it.
+-- Why no header begins at a place: the first field that can't follow, and how many bytes showed it.
 use Rattle.std.specs.Prelude.{◌≡◌, ℕ, ◌+◌, ◌-◌, ◌%◌, ◌≤◌, List, [], ◌∷◌, ◌++◌, length, drop, ◌⊎◌}
 use Rattle.twkb_num.specs.Cursor.{Reading}
 use Rattle.twkb_num.specs.declared.varint.NumFault.{NumFault}
@@ -10,12 +10,12 @@ use Rattle.twkb_head.specs.declared.refusal.Why.TheVariants.{Cut, Varint, Kind, 
 use Rattle.twkb_head.specs.declared.refusal.Malformed.{Malformed}
 use Rattle.twkb_head.specs.BegunHeader.{Field, type_field, byte_field, number_field, IsAllowedUnder, IsBegunHeader, deepest}
 
--- the first of the bytes is such a byte
+-- there is a first byte, and P holds of it
 abbrev pub StartsWith : List ℕ → (ℕ → Type 0) → Type 0
 StartsWith f P = (b : ℕ) × (behind : List ℕ) × (f ≡ b ∷ behind) × P b
 
--- a field of this kind is due where the bytes f stand, and they are wrong in this way: the end cuts the field short, a
--- number passes 64 bits, the type byte names no type, or a collection stands too deep
+-- a field of this kind is due where the bytes f begin, and it is wrong in this way: the end cuts the field short, a
+-- number passes 64 bits, the type byte names no type, or a collection is too deep
 abbrev pub IsWrongField : ℕ → ℕ → Why → Field → List ℕ → Type 0
 IsWrongField limit depth Cut type_field f = f ≡ []
 IsWrongField limit depth Cut byte_field f = f ≡ []

@@ -10,14 +10,14 @@ use Rattle.twkb_body.specs.Claims.{IsCertified}
 abbrev pub size_of : Geometry → ℕ
 size_of tree = (lengths_of tree).whole
 
--- The bytes are these blobs, one after another, where the deepest geometry may stand at the limit. Each is cut off by
--- its own length, so that no cut has to be named: `Laws` says that any cuts that give blobs are these.
+-- The bytes are these blobs, one after another, under a limit of depth. Each is cut off by its own length, so that no
+-- cut has to be named: `Laws` says that any cuts that give blobs are these.
 abbrev pub IsLayerUnder : ℕ → List Geometry → List ℕ → Type 0
 IsLayerUnder limit [] bytes = bytes ≡ []
 IsLayerUnder limit (tree ∷ trees) bytes =
     BlobUnder limit tree (take (size_of tree) bytes) 1 × IsLayerUnder limit trees (drop (size_of tree) bytes)
 
--- the same under the limit of this project
+-- `IsLayerUnder` with this project's limit
 abbrev pub IsLayer : List Geometry → List ℕ → Type 0
 IsLayer = IsLayerUnder deepest
 
@@ -26,7 +26,7 @@ pub record IsCertifiedLayerUnder (limit : ℕ) (trees : List Geometry) (bytes : 
   pub layer : IsLayerUnder limit trees bytes
   pub certified : All IsCertified trees
 
--- the same under the limit of this project
+-- `IsCertifiedLayerUnder` with this project's limit
 abbrev pub IsCertifiedLayer : List Geometry → List ℕ → Type 0
 IsCertifiedLayer = IsCertifiedLayerUnder deepest
 
@@ -34,11 +34,11 @@ IsCertifiedLayer = IsCertifiedLayerUnder deepest
 abbrev pub OfLayer : List ℕ → (List Geometry → Type 0) → Type 0
 OfLayer bytes P = (trees : List Geometry) → IsCertifiedLayer trees bytes → P trees
 
--- how many vertices its blobs have
+-- how many vertices the blobs of a layer have
 abbrev pub vertex_count : List Geometry → ℕ
 vertex_count trees = sum_by (λ tree. length (vertices tree)) trees
 
--- the bytes are a certified layer of so many blobs and vertices
+-- the bytes are a certified layer with these numbers of blobs and vertices
 pub record IsCounted (bytes : List ℕ) (blobs vertices : ℕ) : Type 0 where
   pub trees : List Geometry
   pub layer : IsCertifiedLayer trees bytes
@@ -51,7 +51,7 @@ told_from says blob offset [] = []
 told_from says blob offset (tree ∷ trees) =
     says blob offset tree ∷ told_from says (blob + 1) (offset + size_of tree) trees
 
--- the same of all blobs of a layer
+-- `told_from` for a whole layer, from blob 0 at offset 0
 abbrev pub blob_by_blob : {A : Type 0} → (ℕ → ℕ → Geometry → A) → List Geometry → List A
 blob_by_blob says trees = told_from says 0 0 trees
 
@@ -61,7 +61,7 @@ pub record AddsAtMost (most old new : ℕ) : Type 0 where
   pub few : read ≤ most
   pub is : new ≡ added old read
 
--- A certified layer as callers see it: its bytes, and how many were read of them. Its trees are those of its bytes.
+-- A certified layer as callers see it: its bytes, and how many of them were read. Its trees are the trees of these bytes.
 pub record Layer : Type 0 where
   pub bytes : List ℕ
   pub count : ℕ

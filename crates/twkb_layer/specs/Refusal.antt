@@ -24,13 +24,14 @@ pub record Begins (IsTrue : Claim → Type 0) (before : List Geometry) (start : 
   pub layer : IsLayer before (take start bytes)
   pub all_true : All (λ tree. All IsTrue (claims tree 0)) before
 
--- no blob stands at start, and the first field that can't follow is at the offset
+-- no blob begins at start, and the first field that can't follow is at the offset
 abbrev pub IsBadField : ℕ → ℕ → ℕ → List ℕ → Type 0
 IsBadField start offset kind bytes =
     (why : Why) × (kind ≡ number_of_why why) × IsMalformed (record { offset = offset; why = why }) start bytes
 
--- The check refuses the layer at this blob, at an offset in the file and for this kind: behind blobs that it accepts,
--- which end before the file does, stands a blob, with its first false claim there, or none, with its first wrong field.
+-- The check refuses the layer at this blob, at an offset in the file and for this kind: it accepts the blobs before,
+-- which end before the file does; next comes a blob whose first false claim is at the offset, or no blob, and the first
+-- wrong field is at the offset.
 pub record IsRefusal (IsTrue : Claim → Type 0) (bytes : List ℕ) (blob offset kind : ℕ) : Type 0 where
   pub before : List Geometry
   pub start : ℕ
@@ -39,19 +40,19 @@ pub record IsRefusal (IsTrue : Claim → Type 0) (bytes : List ℕ) (blob offset
   pub reason : IsFalseClaim IsTrue start offset kind (drop start bytes)
       ⊎ IsBadField start offset kind (drop start bytes)
 
--- behind blobs that it accepts a blob is begun up to the seventeenth id of a list
+-- after blobs that the check accepts, a blob is begun up to the seventeenth id of a list
 pub record WantsMemory (IsTrue : Claim → Type 0) (bytes : List ℕ) : Type 0 where
   pub before : List Geometry
   pub start : ℕ
   pub begins : Begins IsTrue before start bytes
   pub list : HasLongList 1 (drop start bytes)
 
--- why it refuses the bytes
+-- why the check refuses the bytes
 abbrev pub IsRefusedFor : (Claim → Type 0) → Refusal → List ℕ → Type 0
 IsRefusedFor IsTrue (No blob offset kind) bytes = IsRefusal IsTrue bytes blob offset kind
 IsRefusedFor IsTrue Memory bytes = WantsMemory IsTrue bytes
 
--- a kind that is named is one of so many
+-- a kind that is named is a number from 1 to this one
 abbrev pub NamesKind : ℕ → Refusal → Type 0
 NamesKind most (No blob offset kind) = (1 ≤ kind) × (kind ≤ most)
 NamesKind most Memory = Unit {0}

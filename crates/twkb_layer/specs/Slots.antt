@@ -26,7 +26,7 @@ pub record Said : Type 0 where
   pub beyond : Bool
   -- whether the slot before says more of its blob
   pub deep : Bool
-  -- where the blob begins, or how far the next slot's begins behind what that one says
+  -- the offset of the blob, or what is added to the offset that the next slot says
   pub offset : ℕ
   pub first : Option Span
   pub second : Option Span
@@ -38,17 +38,17 @@ pub record Packed : Type 0 where
   pub deep : Bool
   pub rest : ℕ
 
--- these parts from the lowest bit on
+-- the parts of a word, from the lowest bit on
 abbrev pub unpacked : ℕ → Packed
 unpacked word = record { code = word % 16; form = (word / 16) % 4; deep = (word / 64) % 2 == 1; rest = word / 128 }
 
--- what stands in a slot's memory: a word, and two pairs of numbers
+-- the contents of a slot's memory: a word, and two pairs of numbers
 pub record Written : Type 0 where
   pub word : ℕ
   pub first : ℤ × ℤ
   pub second : ℤ × ℤ
 
--- what it says, by its form; seven bits of the word in form 3 say what passes an offset of 57 bits
+-- what a slot says, by its form; in form 3, seven bits of the word are those of an offset above its lowest 57
 abbrev pub says_by : Packed → ℤ × ℤ → ℤ × ℤ → Said
 says_by word first second = record {
   beyond = word.form == 3;
@@ -58,20 +58,20 @@ says_by word first second = record {
   second = range_in word.form (if word.form == 3 then word.rest % 16 else word.code) second;
 }
 
--- what a slot says, as it stands in memory
+-- what a slot says, by the contents of its memory
 abbrev pub slot_says : Written → Said
 slot_says slot = says_by (unpacked slot.word) slot.first slot.second
 
--- what is said of a blob without a box
+-- what a slot says of a blob without a box
 abbrev pub unboxed : ℕ → Said
 unboxed offset = record { beyond = false; deep = false; offset = offset; first = None; second = None }
 
--- the box of these ranges, or none where X or Y is missing
+-- the box of these ranges, or none if X or Y is missing
 abbrev pub boxed : Option Span → Option Span → Option Span → Option Span → Option Bounds
 boxed (Some x) (Some y) z m = Some (record { x = x; y = y; z = z; m = m })
 boxed _ _ _ _ = None
 
--- the entry of a slot's blob. If the slot is deep, Z, M and the rest of the offset are from the last slot that says such.
+-- the entry of a slot's blob. If the slot is deep, Z, M and the rest of the offset are from the last slot that says them.
 abbrev pub entry_with : Said → Said → Entry
 entry_with beyond slot = record {
   offset = slot.offset + cond slot.deep beyond.offset 0;
@@ -83,10 +83,10 @@ abbrev pub entries_from : Said → List Said → List Entry
 entries_from beyond [] = []
 entries_from beyond (slot ∷ slots) = cond slot.beyond (entries_from slot slots) (entry_with beyond slot ∷ entries_from beyond slots)
 
--- the same from the first slot on, before which nothing was said
+-- `entries_from` the first slot on, before which nothing was said
 abbrev pub entries_of : List Said → List Entry
 entries_of slots = entries_from (unboxed 0) slots
 
--- the same of slots as they stand in memory
+-- `entries_of` the slots in memory
 abbrev pub entries_kept : List Written → List Entry
 entries_kept slots = entries_of (map slot_says slots)

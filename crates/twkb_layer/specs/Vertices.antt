@@ -5,7 +5,7 @@ use Rattle.twkb_head.specs.declared.boxes.Vertex.{Vertex}
 use Rattle.twkb_body.specs.Geometry.{Geometry, vertices}
 use Rattle.twkb_body.specs.Visit.{walk}
 
--- those of its blobs, in reading order
+-- the vertices of the layer's blobs, in reading order
 abbrev pub all_vertices : List Geometry → List Vertex
 all_vertices trees = flat_map vertices trees
 

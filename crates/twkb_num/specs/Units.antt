@@ -9,6 +9,6 @@ IsPrecision p = (neg_ℤ (pos 8) ≤ℤ p) × (p ≤ℤ pos 7)
 abbrev pub units_of : ℤ → ℤ → ℤ
 units_of c p = c *ℤ pos (10 ^ unsigned_abs (pos 7 -ℤ p))
 
--- a coordinate at a precision, or the maximum of a box, is so many units
+-- this number of units is a coordinate at the precision, or the maximum of a box
 abbrev pub IsCoordinate : ℤ → ℤ → Type 0
 IsCoordinate p units = (c : ℤ) × (neg_ℤ (pos (2 ^ 64)) ≤ℤ c) × (c ≤ℤ pos (2 ^ 64)) × (units ≡ units_of c p)

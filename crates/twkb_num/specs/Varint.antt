@@ -28,7 +28,7 @@ pub record IsLong (bytes : List ℕ) : Type 0 where
   pub goes_on : (k : ℕ) → k < 9 → 128 ≤ slice_index bytes k
   pub top : 1 < slice_index bytes 9
 
--- when each fault stands at the front of the bytes
+-- the bytes begin with this fault
 abbrev pub Faults : NumFault → List ℕ → Type 0
 Faults Cut bytes = IsCut bytes
 Faults Long bytes = IsLong bytes
@@ -46,7 +46,7 @@ zigzag_value n = if n % 2 == 0 then pos (n / 2) else neg_ℤ (pos ((n + 1) / 2))
 abbrev pub IsSigned : ℤ → List ℕ → Type 0
 IsSigned z bytes = (n : ℕ) × Spells bytes n × (zigzag_value n ≡ z)
 
--- the bytes are a spelling of n, and behind it one of m
+-- the bytes are a spelling of n followed by one of m
 pub record SpellsTwo (bytes : List ℕ) (n m : ℕ) : Type 0 where
   pub front : List ℕ
   pub behind : List ℕ
@@ -54,11 +54,11 @@ pub record SpellsTwo (bytes : List ℕ) (n m : ℕ) : Type 0 where
   pub first : Spells front n
   pub second : Spells behind m
 
--- the bytes spell a number that means x by zigzag, and behind it one that means y
+-- the bytes spell a number that means x by zigzag, and then one that means y
 abbrev pub SpellsTwoSigned : List ℕ → ℤ → ℤ → Type 0
 SpellsTwoSigned bytes x y = (n m : ℕ) × SpellsTwo bytes n m × (zigzag_value n ≡ x) × (zigzag_value m ≡ y)
 
--- the bytes spell these numbers, one behind another
+-- the bytes spell these numbers, one after another
 abbrev pub SpellsAll : List ℕ → List ℕ → Type 0
 SpellsAll bytes [] = bytes ≡ []
 SpellsAll bytes (n ∷ ns) = (front behind : List ℕ) × (bytes ≡ front ++ behind) × Spells front n × SpellsAll behind ns
@@ -67,7 +67,7 @@ SpellsAll bytes (n ∷ ns) = (front behind : List ℕ) × (bytes ≡ front ++ be
 abbrev pub IsShort : ℤ → Type 0
 IsShort z = (neg_ℤ (pos (2 ^ 27)) ≤ℤ z) × (z <ℤ pos (2 ^ 27))
 
--- The bytes spell so many numbers, one behind another, each below 2^49.
+-- The bytes spell this many numbers, one after another, each below 2^49.
 pub record SpellsMany (bytes : List ℕ) (many : ℕ) : Type 0 where
   pub numbers : List ℕ
   pub count : length numbers ≡ many

@@ -13,15 +13,15 @@ abbrev pub number_after : Option ℕ → Option ℕ
 number_after None = None
 number_after (Some n) = if nat_lt n (2 ^ 64 - 1) then Some (n + 1) else None
 
--- a source: what every source shows, the most bytes of a call, the number of the next call, and that
--- of the call that fails
+-- a source: what every source shows, the most bytes of a call, the number of the next call, and the number of the call that fails
 pub record MemSourceState : Type 0 where
   pub state : SourceState
   pub step : ℕ
   pub next : Option ℕ
   pub fail_at : Option ℕ
 
--- a sink: what every sink shows, the room that is left, and the same
+-- a sink: what every sink shows, the room left, the most bytes of a call, the number of the next call, and the number
+-- of the call that fails
 pub record MemSinkState : Type 0 where
   pub state : SinkState
   pub room : ℕ
@@ -29,6 +29,6 @@ pub record MemSinkState : Type 0 where
   pub next : Option ℕ
   pub fail_at : Option ℕ
 
--- a put of so many bytes fails: it is the call that fails, or there are bytes and no room
+-- a put of this many bytes fails: it is the call that fails, or there are bytes and no room
 abbrev pub puts_fail : MemSinkState → ℕ → Bool
 puts_fail sink n = is_failing sink.next sink.fail_at || (sink.room == 0 && nat_lt 0 n)

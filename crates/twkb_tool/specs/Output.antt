@@ -72,19 +72,19 @@ row_line row = codes "blob=" ++ decimal row.blob ++ codes " offset=" ++ decimal 
 unfoldable pub hit_line : Hit → List ℕ
 hit_line hit = codes "hit blob=" ++ decimal hit.blob ++ codes " offset=" ++ decimal hit.offset ++ codes "\n"
 
--- the line behind the hits of a window: how many there are, and how many bytes were read, of how many
+-- the line after the hits of a window: how many there are, and how many bytes were read, of how many
 unfoldable pub end_line : ℕ → ℕ → ℕ → List ℕ
 end_line found read len =
     codes "hits=" ++ decimal found ++ codes " read=" ++ decimal read ++ codes " of=" ++ decimal len ++ codes "\n"
 
--- ---- the text for a certified layer of so many bytes
+-- ---- the text for a certified layer of this length
 
--- the lines of a window, where this is how many bytes are read of each blob
+-- the lines of a window, where `reads` is how many bytes are read of each blob
 abbrev pub window_text : (Bounds → Geometry → ℕ) → List Geometry → ℕ → Bounds → List ℕ
 window_text reads trees len w =
     flat_map hit_line (hits trees w) ++ end_line (length (hits trees w)) (sum_by (reads w) trees) len
 
--- one window is looked for blob after blob, more of them with a directory
+-- how many bytes are read of a blob: one window is looked for blob after blob, more of them with a directory
 abbrev pub reading : List Bounds → Bounds → Geometry → ℕ
 reading (window ∷ []) = cost
 reading windows = directory_cost
@@ -93,7 +93,7 @@ reading windows = directory_cost
 abbrev pub scan_text : List Bounds → List Geometry → ℕ → List ℕ
 scan_text windows trees len = flat_map (window_text (reading windows) trees len) windows
 
--- the text for what is asked for
+-- the text for the request
 abbrev pub layer_text : Request → List Geometry → ℕ → List ℕ
 layer_text Check trees len = ok_line (length trees) (vertex_count trees)
 layer_text CheckTight trees len = ok_line (length trees) (vertex_count trees)
@@ -112,13 +112,13 @@ abbrev pub IsTrueFor : Request → Claim → Type 0
 IsTrueFor CheckTight = IsTightlyTrue
 IsTrueFor _ = IsTrueClaim
 
--- the bytes are such a layer, and this is its text
+-- the bytes are a layer that is accepted, and this is its text
 pub record IsLayerText (request : Request) (bytes text : List ℕ) : Type 0 where
   pub trees : List Geometry
   pub layer : IsAccepted request trees bytes
   pub text_is : text ≡ layer_text request trees (length bytes)
 
--- the bytes are none, and this is the line that says why
+-- the bytes are no layer that is accepted, and this is the line that says why
 pub record IsNoLine (request : Request) (bytes text : List ℕ) : Type 0 where
   pub blob : ℕ
   pub offset : ℕ

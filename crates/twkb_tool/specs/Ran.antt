@@ -9,7 +9,7 @@ use Rattle.twkb_tool.specs.declared.run.RunFault.TheVariants.{Read, TooLarge, Me
 
 -- ---- reading
 
--- the source gave these bytes, at most so many, has none to come, and its last call did not fail
+-- the source gave these bytes, at most this many, has none to come, and its last call did not fail
 pub record GivesAll (limit : ℕ) (s t : SourceState) (given : List ℕ) : Type 0 where
   pub gives : Gives s t given
   pub ends : IsTrue s.tells → t.rest ≡ []

@@ -33,7 +33,7 @@ window_rule = record (new_rule (codes "WINDOW")) {
   range = Some (record { start_inclusive = 1; end_inclusive = usize_max });
 }
 
--- a subcommand of this name, and a file behind it
+-- a subcommand of this name that takes a file
 abbrev pub file_app : Text → App
 file_app name = with_rule (new_app name) file_rule
 
@@ -49,7 +49,7 @@ scan_app = with_rule (file_app (codes "scan")) window_rule
 abbrev pub bare_app : App
 bare_app = on_top (λ s. record s { subcommand_required = true }) (new_app (codes "twkb_tool"))
 
--- the whole command: `twkb_tool` with each of these behind it
+-- the whole command: `twkb_tool` with its subcommands
 unfoldable pub tool_app : App
 tool_app =
     let listing = with_subcommand (with_subcommand bare_app check_app.top) (file_app (codes "list")).top in
@@ -121,7 +121,7 @@ abbrev pub LacksWord : Text → List Row → Type 0
 LacksWord name rows = ((name ≢ codes "check") × (name ≢ codes "list") × (name ≢ codes "scan"))
     ⊎ ((name ≡ codes "scan") × ((windows_in rows ≡ None) ⊎ (windows_in rows ≡ Some [])))
 
--- it asks for nothing, and why: a word is missing, there are too many windows, one of them is none, or memory ran out
+-- the subcommand asks for nothing, and why: a word is missing, there are too many windows, one isn't a window, or memory ran out
 abbrev pub IsRefused : Text → List Row → Usage → Type 0
 IsRefused name rows (Words (Some error)) = ⊥
 IsRefused name rows (Words None) = LacksWord name rows
@@ -131,7 +131,7 @@ IsRefused name rows (NoWindow number why) = (name ≡ codes "scan") × (texts : 
     × (length texts ≤ most_windows) × IsFirstBad texts number why
 IsRefused name rows Memory = Unit {0}
 
--- what it comes to with this file, or with none
+-- what the subcommand comes to with this file, or with none
 abbrev pub ReadsWith : Option Text → Text → List Row → Result Line Usage → Type 0
 ReadsWith None name rows r = r ≡ Err (Words None)
 ReadsWith (Some file) name rows (Ok line) = (string_bytes line.path ≡ file) × AsksFor name rows line.request
@@ -158,7 +158,7 @@ Answers (Some p) r = Reads p.0 p.1 r ⊎ (r ≡ Err Memory)
 
 -- ---- what words come to of which none begins with a minus
 
--- the line is that of this file and request, or memory ran out
+-- the line has this file and request, or memory ran out
 abbrev pub IsLineOf : Text → Request → Result Line Usage → Type 0
 IsLineOf file request (Ok line) = (string_bytes line.path ≡ file) × (line.request ≡ request)
 IsLineOf file request (Err usage) = usage ≡ Memory
@@ -177,7 +177,7 @@ IsNoScan texts (NoWindow number why) = (length texts ≤ most_windows) × IsFirs
 IsNoScan texts Memory = Unit {0}
 IsNoScan texts (Words error) = ⊥
 
--- the line is that of this file and such a scan, or there is none
+-- the line has this file and a scan for these windows, or there is no line (`IsNoScan`)
 abbrev pub IsScanOf : Text → List Text → Result Line Usage → Type 0
 IsScanOf file texts (Ok line) = (string_bytes line.path ≡ file) × IsScanFor texts line.request
 IsScanOf file texts (Err usage) = IsNoScan texts usage

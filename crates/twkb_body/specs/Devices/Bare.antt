@@ -11,11 +11,11 @@ use Rattle.twkb_body.specs.Devices.Walk.{IsWalked}
 abbrev pub unchanged : Unit {0} → PointValue → Unit {0}
 unchanged s point = s
 
--- a sum of so many numbers of seven bytes, each at most 2^48 from zero
+-- a sum of this many numbers of seven bytes, each at most 2^48 from zero
 abbrev pub IsInSteps : ℕ → ℤ → Type 0
 IsInSteps many sum = (neg_ℤ (pos (many * 2 ^ 48)) ≤ℤ sum) × (sum ≤ℤ pos (many * 2 ^ 48))
 
--- so many points of such numbers, 2^14 at most, lead to a trail
+-- this many points of such numbers, 2^14 at most, lead to a trail
 pub record IsShortTrail (points : ℕ) (trail : Trail) : Type 0 where
   pub few : points ≤ 2 ^ 14
   pub counted : trail.points ≡ points

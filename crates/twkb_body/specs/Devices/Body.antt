@@ -9,7 +9,7 @@ abbrev pub first_of : PointValue → ℤ
 first_of [] = pos 0
 first_of (c ∷ cs) = c
 
--- the coordinates behind the first
+-- the coordinates after the first
 abbrev pub behind : PointValue → PointValue
 behind [] = []
 behind (c ∷ cs) = cs

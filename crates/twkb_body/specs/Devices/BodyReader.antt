@@ -81,12 +81,12 @@ collection_at each ids r = list_at ids r >>= λ list a. viewed (members_body lis
 abbrev pub geometry_by : ℕ → (ℕ → Reader Members) → Reader Geometry
 geometry_by levels members r = viewed (λ x. geometry_from x.0 x.1) (spanned r (parts_at levels members r))
 
--- a geometry with so many levels below it
+-- a geometry with this many levels below it
 unfoldable pub geometry_at : ℕ → Reader Geometry
 geometry_at zero = geometry_by zero (λ n r. (Ok none, r))
 geometry_at (suc levels) = geometry_by (suc levels) (members_at (geometry_at levels))
 
--- the members of a collection with so many levels below it
+-- the members of a collection with this many levels below it
 abbrev pub members_under : ℕ → ℕ → Reader Members
 members_under zero = λ n r. (Ok none, r)
 members_under (suc levels) = members_at (geometry_at levels)

@@ -16,7 +16,7 @@ reaches extent distance = int_le (pos 0) distance && int_le distance extent
 abbrev pub is_in_range : RawRange → ℤ → Bool
 is_in_range range c = reaches range.extent (c -ℤ range.minimum)
 
--- the same in an axis that may not be there
+-- `is_in_range` if the axis is there, otherwise true
 abbrev pub is_in_axis : Bool → RawRange → ℤ → Bool
 is_in_axis is_there range c = if is_there then is_in_range range c else true
 
@@ -24,7 +24,7 @@ is_in_axis is_there range c = if is_there then is_in_range range c else true
 abbrev pub is_in_flat : RawBox → PointValue → Bool
 is_in_flat box point = is_in_range box.x (coordinate point 0) && is_in_range box.y (coordinate point 1)
 
--- it holds the other coordinates of a point that has so many axes
+-- it holds the other coordinates of a point that has this many axes
 abbrev pub is_in_further : ℕ → RawBox → PointValue → Bool
 is_in_further axes box point = is_in_axis (nat_lt 2 axes) box.third (coordinate point 2) && is_in_axis (nat_lt 3 axes) box.fourth (coordinate point 3)
 
@@ -36,11 +36,11 @@ is_in_box axes box point = is_in_further axes box point && is_in_flat box point
 abbrev pub reaches_if : Bool → ℤ → ℤ → Bool
 reaches_if is_there extent distance = if is_there then reaches extent distance else true
 
--- distances from the minima of a box lie within its extents, in the axes behind that of Y
+-- distances from the minima of a box lie within its extents, in the axes after Y
 abbrev pub reach_further : RawBox → Bool → Numbers → Bool
 reach_further box has_fourth apart = reaches box.third.extent apart.third && reaches_if has_fourth box.fourth.extent apart.fourth
 
--- the same in all axes
+-- distances from the minima of a box lie within its extents, in all axes
 abbrev pub reach_all : RawBox → Bool → Numbers → Bool
 reach_all box has_fourth apart = reach_further box has_fourth apart && (reaches box.x.extent apart.x && reaches box.y.extent apart.y)
 
@@ -49,7 +49,7 @@ pub record Held : Type 0 where
   pub box : RawBox
   pub inside : Bool
 
--- the same, and one point more of so many axes
+-- `Held` after one more point, which has this many axes
 abbrev pub held_then : ℕ → Held → PointValue → Held
 held_then axes held point = record { box = held.box; inside = held.inside && is_in_box axes held.box point }
 
@@ -76,11 +76,11 @@ pub record IsNearRange (range : RawRange) : Type 0 where
   pub some : pos 0 ≤ℤ range.extent
   pub few : range.extent ≤ℤ pos (2 ^ 61)
 
--- the same of X and Y in a box
+-- X and Y of a box are such ranges (`IsNearRange`)
 abbrev pub IsNearBox : RawBox → Type 0
 IsNearBox box = IsNearRange box.x × IsNearRange box.y
 
--- the same of the ranges behind, and the coordinates of a point are as near
+-- the ranges of a box after Y are `IsNearRange`, and the coordinates of a point are near zero
 pub record AreNear (box : RawBox) (point : Numbers) : Type 0 where
   pub third : IsNearRange box.third
   pub fourth : IsNearRange box.fourth

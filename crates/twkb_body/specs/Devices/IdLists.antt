@@ -9,11 +9,11 @@ use Rattle.twkb_body.specs.Devices.Body.{ListHead}
 use Rattle.twkb_body.specs.Devices.Pass.{ids_refused}
 use Rattle.twkb_body.specs.Devices.Found.{named}
 
--- of the ids, which are so many, seventeen stand at the front of the bytes
+-- there are this many ids, and the bytes begin with seventeen of them
 abbrev pub HasManyIds : ℕ → List ℕ → Type 0
 HasManyIds count bytes = (17 ≤ count) × ((ids : List ℤ) × (front : List ℕ) × (behind : List ℕ) × (bytes ≡ front ++ behind) × Times 17 IsSigned ids front)
 
--- ids are announced, and behind the count at the front of the bytes stand seventeen
+-- ids are announced, and the bytes begin with a count and seventeen ids
 abbrev pub HasManyIdsAfterCount : Bool → List ℕ → Type 0
 HasManyIdsAfterCount has_ids bytes =
     (has_ids ≡ true) × ((n : ℕ) × (count : List ℕ) × (behind : List ℕ) × (bytes ≡ count ++ behind) × Spells count n × HasManyIds n behind)

@@ -20,7 +20,7 @@ use Rattle.twkb_body.specs.Devices.Seen.{HasSeen}
 abbrev pub of_head : Head → Header
 of_head head = record { kind = head.kind; xy = head.xy; z = head.z; m = head.m; size = None; box = None; ids = head.ids; empty = head.empty }
 
--- the body behind a header whose kind is no collection
+-- the body after a header whose kind is no collection
 abbrev pub shape_behind : Head → Reader Body
 shape_behind head = shape_at (is_multi head.kind) (of_head head)
 

@@ -35,7 +35,7 @@ IsIn64 z = (neg_ℤ (pos (2 ^ 63)) ≤ℤ z) × (z <ℤ pos (2 ^ 63))
 abbrev pub axes_by : Bool → ℕ
 axes_by has_fourth = if has_fourth then 4 else 3
 
--- A point of so many axes was read, with short differences to any point before it, if no sum leaves 64 bits.
+-- A point of three axes or four was read, with short differences to any point before it, if no sum leaves 64 bits.
 pub record AreDifferences (has_fourth : Bool) (more : Numbers) (old new : Reading) : Type 0 where
   pub read : (last : Numbers) → Each IsIn64 (plus last more) → point_at (axes_by has_fourth) (listed last) old ≡ (Ok (take (axes_by has_fourth) (listed more)), new)
   pub short : Each IsShort more

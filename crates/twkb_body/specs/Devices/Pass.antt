@@ -32,7 +32,7 @@ NamesFirstFalse IsTrue list None = All IsTrue list
 NamesFirstFalse IsTrue list (Some at) =
     (claim : Claim) × IsFirstFalse IsTrue list claim × (at.0 ≡ offset_of claim) × IsRefusedAs at.1 claim
 
--- the same of the claims of a geometry, and of members
+-- `NamesFirstFalse` for the claims of a geometry, and for those of members
 abbrev pub NamesFirstOf : Bool → Geometry → ℕ → Refused → Type 0
 NamesFirstOf tight g start refused = NamesFirstFalse (IsTrueBy tight) (claims g start) refused
 
@@ -45,7 +45,7 @@ pub record Sums (tight : Bool) (g : Geometry) (start : ℕ) (s : Summary) : Type
   pub reach : s.reach ≡ reach_of (vertices g)
   pub refused : NamesFirstOf tight g start s.refused
 
--- the same of members
+-- `Sums` for members
 pub record MemberSums (tight : Bool) (gs : Members) (start : ℕ) (s : Summary) : Type 0 where
   pub count : s.count ≡ length (member_vertices gs)
   pub reach : s.reach ≡ reach_of (member_vertices gs)
@@ -66,7 +66,7 @@ abbrev pub hugs : Span → ℤ → Option Span → Bool
 hugs span step None = true
 hugs span step (Some range) = int_lt (range.lo -ℤ span.lo) step && int_lt (span.hi -ℤ range.hi) step
 
--- the same, where the box has the axis
+-- `hugs`, if the box has the axis, otherwise true
 abbrev pub hugs_if_both : Option Span → Option ℕ → Option Span → Bool
 hugs_if_both None p range = true
 hugs_if_both (Some span) None range = true

@@ -23,7 +23,7 @@ abbrev pub scaled : ℤ → Option Span → Option Span
 scaled p None = None
 scaled p (Some range) = Some (record { lo = units_of range.lo p; hi = units_of range.hi p })
 
--- the same where the axis has a precision
+-- `scaled` if the axis has a precision, otherwise no range
 abbrev pub scaled_if : Option ℕ → Option Span → Option Span
 scaled_if None range = None
 scaled_if (Some p) range = scaled (pos p) range

@@ -24,7 +24,7 @@ pub record Config (S : Type 0) : Type 0 where
   pub reading : Reading
   pub state : S
 
--- behind a geometry: the place is its end, the bytes of the walk were counted, and each vertex was visited
+-- after a geometry: the place is its end, the bytes of the walk were counted, and each vertex was visited
 abbrev pub skimmed : {S : Type 0} → (S → Vertex → S) → (S → Bounds → Bool) → Geometry → Config S → Config S
 skimmed {S} step skips g c = record {
   reading = record {
@@ -35,7 +35,7 @@ skimmed {S} step skips g c = record {
   state = fold step c.state (vertices g);
 }
 
--- behind members
+-- after members, one after another
 abbrev pub members_skimmed : {S : Type 0} → (S → Vertex → S) → (S → Bounds → Bool) → Members → Config S → Config S
 members_skimmed step skips none c = c
 members_skimmed step skips (more g gs) c = members_skimmed step skips gs (skimmed step skips g c)
@@ -57,7 +57,7 @@ pub record Entered {S : Type 0} (step : S → Vertex → S) (skips : S → Bound
   pub ahead : old.reading.place < new.reading.place
   pub within : new.reading.place ≤ length new.reading.bytes
 
--- The first two bytes of a certified geometry were read, which stands before them.
+-- The first two bytes of a certified geometry, which begins at the place of `before`, were read.
 pub record HasCome (begun : Begun) (now : Reading) (g : Geometry) (depth : ℕ) (before : Reading) : Type 0 where
   pub stands : StandsAt g depth before.bytes before.place
   pub sound : IsSound before

@@ -5,7 +5,7 @@ use Rattle.twkb_body.specs.Geometry.{Members}
 use Rattle.twkb_body.specs.Encoding.{Blobs}
 use Rattle.twkb_body.specs.Claims.{member_claims, IsTrueClaim}
 
--- the same of members one after another
+-- Certified members begin at the place, one after another (`StandsAt`).
 pub record StandAt (gs : Members) (depth : ℕ) (bytes : List ℕ) (place : ℕ) : Type 0 where
   pub front : List ℕ
   pub behind : List ℕ

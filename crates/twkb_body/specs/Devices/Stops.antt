@@ -31,31 +31,31 @@ abbrev pub ReadsOrStops : {A B : Type 0} → Answer A → (A → B → Type 0) �
 ReadsOrStops {A} answer Gives Wants old (Ok y) new = (x : A) × (answer ≡ (Ok x, new)) × Gives x y
 ReadsOrStops answer Gives Wants old (Err e) new = HasStopped answer Wants old e new
 
--- the same of so many ids, of which the code says whether no two are equal
+-- `ReadsOrStops` for this many ids, of which the code says whether no two are equal
 abbrev pub ReadsIds : ℕ → Reading → Result Bool Stopped → Reading → Type 0
 ReadsIds count old result new =
     ReadsOrStops (signeds_at count old) (λ ids distinct. IsTrue distinct ↔ AllPairs (λ a b. a ≢ b) ids) (HasManyIds count (rest old)) old result new
 
--- the same of a list: its count, and its ids where they are announced
+-- `ReadsOrStops` for a list: its count, and its ids if they are announced
 abbrev pub ReadsList : Answer ListHead → Bool → Reading → Result ListFound Stopped → Reading → Type 0
 ReadsList answer has_ids old result new =
     ReadsOrStops answer (λ head list. IsListFound old new head list) (HasManyIdsAfterCount has_ids (rest old)) old result new
 
--- the same of a body, of which the code gives what was found inside
+-- `ReadsOrStops` for a body, of which the code gives what was found inside
 abbrev pub ReadsInside : Bool → Head → Answer Body → Type 0 → Seen → Seen → Reading → Result Inside Stopped → Reading → Type 0
 ReadsInside tight head answer Wants above after old result new =
     ReadsOrStops answer
     (λ body inside. IsInside tight (of_head head) head.bounds body old.place new.place above after inside) Wants old result new
 
--- the same of a whole geometry that stands at a depth
+-- `ReadsOrStops` for a whole geometry at a depth
 abbrev pub ReadsGeometry : Bool → ℕ → Seen → Seen → Reading → Result Found Stopped → Reading → Type 0
 ReadsGeometry tight depth above after old result new =
     ReadsOrStops (geometry_at (deepest - depth) old)
     (λ g found. IsFound tight g old.place new.place found × HasSeen above after (reach_of (vertices g)))
     (HasLongList depth (rest old)) old result new
 
--- Memory was wanted in the body of a collection, which has so many levels below it: for the ids of its own list, or for
--- those of a member behind the ones that were read.
+-- Memory was wanted in the body of a collection, which has this many levels below it: for the ids of its own list, or
+-- for those of a member after the ones that were read.
 pub data WantsInside (depth levels : ℕ) (ids : Bool) (r : Reading) : Type 0 where
   own_ids : HasManyIdsAfterCount ids (rest r) → WantsInside depth levels ids r
   member_ids : (list : ListHead) (mid new : Reading) (i : ℕ) (gs : List Geometry) → list_at ids r ≡ (Ok list, mid) → i < (list.0).0

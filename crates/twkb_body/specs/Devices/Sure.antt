@@ -35,8 +35,8 @@ faultless vertices = record { vertices = vertices; refused = None }
 abbrev pub unseen : Seen
 unseen = record { asked = false; extent = reach_of [] }
 
--- Of this kind, with ids or none, the parts of a body were read, and their points added to a state. It has so many points,
--- and its ids, if any, are true.
+-- Of this kind, with ids or none, the parts of a body were read, and their points added to a state. It has this many
+-- points, and its ids, if any, are true.
 pub record AddsParts {S : Type 0} (step : S → PointValue → S) (kind : Kind) (has_ids : Bool) (axes : ℕ) (old new : Reading) (state state' : S) (vertices : ℕ) : Type 0 where
   pub list : ListHead
   pub middle : Reading
@@ -53,7 +53,7 @@ abbrev pub AddsHeld : Kind → Bool → ℕ → RawBox → Reading → Reading �
 AddsHeld kind has_ids axes box old new vertices =
     (held : Held) × AddsParts (held_then axes) kind has_ids axes old new (record { box = box; inside = true }) held vertices × (held.inside ≡ true)
 
--- what a box that stands above holds, and what is held where none does
+-- what a box above holds, and what is held if there is none
 abbrev pub frame_bounds : Frame → Bounds
 frame_bounds frame = raw_bounds frame.xy frame.z frame.m frame.bounds
 
@@ -66,7 +66,7 @@ pub record LiesIn (inner outer : RawRange) : Type 0 where
   pub low : outer.minimum ≤ℤ inner.minimum
   pub high : (inner.minimum +ℤ inner.extent) ≤ℤ (outer.minimum +ℤ outer.extent)
 
--- the range of M, which stands behind that of Z, if there is one
+-- the range of M, which comes after the range of Z, if there is one
 abbrev pub m_range : Option ℕ → RawBox → RawRange
 m_range None box = box.third
 m_range (Some z) box = box.fourth
@@ -86,7 +86,7 @@ framed head box = record { xy = head.xy; z = head.z; m = head.m; bounds = box }
 abbrev pub IsNearFrame : Frame → Type 0
 IsNearFrame frame = HasNearRanges frame.bounds
 
--- the same, and it is at the precisions of a header
+-- `IsNearFrame`, and at the precisions of a header
 abbrev pub IsFramed : Head → Frame → Type 0
 IsFramed head frame = (frame ≡ framed head frame.bounds) × IsNearFrame frame
 
@@ -101,15 +101,14 @@ pub record IsFrameUnder (above : Option Frame) (head : Head) (own frame : Option
 abbrev pub body_vertices : Header → Body → List Vertex
 body_vertices h body = map (vertex_of h) (points_of body.polygons) ++ member_vertices body.members
 
--- Behind a header with so many levels below it a body was read, of which nothing is false, and whose vertices the frame
--- holds.
+-- After a header with this many levels below it a body was read, of which nothing is false, and whose vertices the frame holds.
 pub record IsSureBody (levels : ℕ) (head : Head) (frame : Option Frame) (old new : Reading) (vertices : ℕ) : Type 0 where
   pub body : Body
   pub read : body_at head.empty (is_collection head.kind) (of_head head) (members_under levels) old ≡ (Ok body, new)
   pub inside : IsInside false (of_head head) None body old.place new.place unseen unseen (record { found = faultless vertices; boxed = None; ids = None })
   pub held : IsHeldBy frame (body_vertices (of_head head) body)
 
--- A geometry with so many levels below it was read, of which nothing is false, and whose vertices the frame above holds.
+-- A geometry with this many levels below it was read, of which nothing is false, and whose vertices the frame above holds.
 pub record IsSure (levels : ℕ) (above : Option Frame) (old new : Reading) (vertices : ℕ) : Type 0 where
   pub whole : Geometry
   pub read : geometry_at levels old ≡ (Ok whole, new)

@@ -21,7 +21,7 @@ HasPrecisions head = IsPrecision head.xy × IfSome head.z (λ p. p ≤ 7) × IfS
 abbrev pub IsWalk : Head → ℕ → Trail → Reading → Type 0
 IsWalk head axes trail r = HasPrecisions head × (axes ≡ axes_with head.z head.m) × (trail.points ≤ r.place)
 
--- each point has so many numbers
+-- each point has this many numbers
 abbrev pub HaveAxes : ℕ → List PointValue → Type 0
 HaveAxes axes [] = Unit {0}
 HaveAxes axes (point ∷ points) = (length point ≡ axes) × HaveAxes axes points
@@ -50,7 +50,7 @@ ReadsPoints each points_in step axes old new state state' from result to =
     Reads (each old.last from)
     (λ x done. IsWalked step axes old new state state' from.place to.place (points_in x)) result to
 
--- So many points were read, one behind another, and added.
+-- This many points were read, one after another, and added.
 pub record IsRun {S : Type 0} (step : S → PointValue → S) (axes : ℕ) (old new : Trail) (state state' : S) (from to : Reading) (count : ℕ) : Type 0 where
   pub numbers : List PointValue
   pub many : length numbers ≡ count
@@ -61,7 +61,7 @@ pub record IsRun {S : Type 0} (step : S → PointValue → S) (axes : ℕ) (old 
 abbrev pub IsStill : {S : Type 0} → (S → PointValue → S) → S → Type 0
 IsStill step s = (point : PointValue) → step s point ≡ s
 
--- The trail is the one that the points lead to, or it is lost, behind a state that no point changes.
+-- The trail is the one that the points lead to, or it is lost, after a state that no point changes.
 pub record Follows {S : Type 0} (step : S → PointValue → S) (lost : Bool) (trail t : Trail) (s : S) : Type 0 where
   pub kept : lost ≡ false → trail ≡ t
   pub still : lost ≡ true → IsStill step s

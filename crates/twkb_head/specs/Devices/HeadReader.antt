@@ -52,7 +52,7 @@ head_with kind xy metadata extended size bounds start size_place box_place stop 
   stop = stop;
 }
 
--- a header, with so many levels below it
+-- a header, with this many levels below it
 unfoldable pub head_at : ℕ → Reader Head
 head_at levels r =
     kind_from_type levels r >>= λ type a.
@@ -62,7 +62,7 @@ head_at levels r =
     (optional_at (has_bit metadata 1) (bounds_from type.1 (z_in extended) (m_in extended)) d >>= λ bounds e.
     (Ok (head_with type.0 type.1 metadata extended size bounds r.place c.place d.place e.place), e)))))
 
--- what is behind the first two bytes of a header that begins at a place
+-- what follows the first two bytes of a header that begins at a place
 unfoldable pub rest_at : Kind → ℤ → ℕ → ℕ → Reader Head
 rest_at kind xy metadata start b =
     optional_at (has_bit metadata 8) byte_at b >>= λ extended c.

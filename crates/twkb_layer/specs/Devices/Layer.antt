@@ -12,6 +12,6 @@ use Rattle.twkb_layer.specs.Layer.{size_of}
 abbrev pub OfBlob : List ℕ → ℕ → (Geometry → Type 0) → Type 0
 OfBlob bytes place P = (g : Geometry) → StandsAt g 1 bytes place → P g
 
--- the cursor behind a geometry, with the bytes counted that a scan for the window reads of it
+-- the cursor after a geometry, with the bytes counted that a scan for the window reads of it
 abbrev pub scanned : Bounds → Geometry → Reading → Reading
 scanned window g r = record { bytes = r.bytes; place = r.place + size_of g; count = added r.count (cost window g) }

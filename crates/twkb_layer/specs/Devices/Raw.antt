@@ -16,7 +16,7 @@ pub record IsRawEnds (p : ℤ) (range : Span) (raw : RawEnds) : Type 0 where
   pub below : (c : ℤ) → IsInner c → int_lt (units_of c p) range.lo ≡ int_lt c raw.least
   pub above : (c : ℤ) → IsInner c → int_lt range.hi (units_of c p) ≡ int_lt raw.greatest c
 
--- the same of a window in X and in Y
+-- `IsRawEnds` for a window in X and in Y
 pub record IsRawWindow (p : ℤ) (window : Bounds) (raw : RawWindow) : Type 0 where
   pub x : IsRawEnds p window.x raw.x
   pub y : IsRawEnds p window.y raw.y

@@ -7,7 +7,7 @@ use Rattle.twkb_layer.specs.Slots.{Said, Written, unpacked}
 use Rattle.twkb_layer.specs.Window.{lie_apart}
 use Rattle.twkb_layer.specs.declared.slots.Slot.TheInside.{Inside}
 
--- what stands in the memory of a slot, by its fields
+-- the contents of the memory of a slot, by its fields
 abbrev pub written : Inside → Written
 written l = record { word = l.word.bits; first = (l.first.low, l.first.high); second = (l.second.low, l.second.high) }
 

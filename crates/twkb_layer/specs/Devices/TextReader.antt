@@ -5,12 +5,12 @@ use Rattle.std.specs.Char.{is_ascii_digit}
 use Rattle.twkb_head.specs.declared.boxes.Span.{Span}
 use Rattle.twkb_layer.specs.WindowText.{IsNamedText}
 
--- a digit stands at the front
+-- the text begins with a digit
 abbrev pub starts_digit : List ℕ → Bool
 starts_digit [] = false
 starts_digit (c ∷ cs) = is_ascii_digit c
 
--- a point stands there, and then a digit
+-- the text begins with a point, and then a digit
 abbrev pub starts_fraction : List ℕ → Bool
 starts_fraction [] = false
 starts_fraction (c ∷ cs) = (c == 46) && starts_digit cs

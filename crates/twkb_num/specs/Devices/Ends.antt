@@ -15,7 +15,7 @@ pub record IsFirstEnd (bytes : List ℕ) (many : ℕ) : Type 0 where
 abbrev pub ended : List ℕ → ℕ → ℕ
 ended bytes k = (255 - slice_index bytes k) / 128
 
--- how many of the first so many bytes end a varint
+-- how many of the bytes before this place end a varint
 abbrev pub ends_to : List ℕ → ℕ → ℕ
 ends_to bytes zero = 0
 ends_to bytes (suc k) = ends_to bytes k + ended bytes k
@@ -28,7 +28,7 @@ four_bytes f i = (f (i + 3) * 256 + f (i + 2)) * 65536 + (f (i + 1) * 256 + f i)
 abbrev pub eight_bytes : (ℕ → ℕ) → ℕ
 eight_bytes f = four_bytes f 4 * 4294967296 + four_bytes f 0
 
--- so many bytes end with the n-th end
+-- this many bytes end with the n-th end
 pub record IsEnd (bytes : List ℕ) (n many : ℕ) : Type 0 where
   pub some : 1 ≤ many
   pub few : many ≤ 8
@@ -41,7 +41,7 @@ pub record IsLastEnd (bytes : List ℕ) (size : ℕ) : Type 0 where
   pub ends : 1 ≤ size → slice_index bytes (size - 1) < 128
   pub goes_on : (k : ℕ) → size ≤ k → k < length bytes → 128 ≤ slice_index bytes k
 
--- so many bytes from the front spell so many numbers
+-- the first `size` bytes spell this many numbers
 pub record IsFrontOf (bytes : List ℕ) (many size : ℕ) : Type 0 where
   pub within : size ≤ length bytes
   pub spells : SpellsMany (take size bytes) many

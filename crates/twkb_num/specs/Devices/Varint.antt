@@ -3,7 +3,7 @@
 use Rattle.std.specs.Prelude.{◌≡◌, ℕ, ◌<◌, ◌≤◌, List, length, take, slice_index}
 use Rattle.twkb_num.specs.Varint.{sum_of_groups}
 
--- the first so many bytes, nine at most, are all at least 128, and this is the sum of their groups
+-- this many bytes from the front, nine at most, are all at least 128, and this is the sum of their groups
 pub record IsBegunBy (many : ℕ) (bytes : List ℕ) (sum : ℕ) : Type 0 where
   pub within : many ≤ length bytes
   pub few : many ≤ 9

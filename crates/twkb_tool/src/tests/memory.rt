@@ -19,7 +19,7 @@ const SEVENTEEN_IDS: &[u8] =
 \x00\x00\x00\x00\x00\x00\x00\x00\x00\x00\x00\x00\x00\x00\x00\x00\x00\
 \x00\x00\x00\x00\x00\x00\x00\x00\x00\x00\x00\x00\x00\x00\x00\x00\x00";
 
-/// The same, and the last id is the least, so that it takes memory to see that they differ.
+/// `SEVENTEEN_IDS`, but the last id is the least, so that it takes memory to see that the ids differ.
 const FALLING_IDS: &[u8] =
     b"\x04\x04\x11\x00\x02\x04\x06\x08\x0A\x0C\x0E\x10\x12\x14\x16\x18\x1A\x1C\x1E\x01\
 \x00\x00\x00\x00\x00\x00\x00\x00\x00\x00\x00\x00\x00\x00\x00\x00\x00\
@@ -79,7 +79,7 @@ fn refusals(
     panic!(rt; "a run takes memory without end");
 }
 
-/// The same, and demands that there are at least so many.
+/// Asserts that `refusals` counts at least this many.
 fn refuses_each(
     rt: &impl Abort,
     alloc: Global,

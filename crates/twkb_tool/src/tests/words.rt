@@ -23,7 +23,7 @@ fn sixty_four_windows() -> [&'static str; 67] {
     words
 }
 
-/// The same with one window more.
+/// Words that ask to scan a file for 65 windows.
 fn sixty_five_windows() -> [&'static str; 68] {
     let mut words = [SQUARE; 68];
     words[0] = "twkb_tool";

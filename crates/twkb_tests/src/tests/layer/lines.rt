@@ -19,7 +19,7 @@ const TWO: [u8; 17] = [
     0x50,
 ];
 
-/// The same, at a precision of -1, with bits in its metadata that mean nothing.
+/// A line from (0 0) to (10 10), at a precision of -1, with bits in its metadata that mean nothing.
 const COARSE: [u8; 17] = [
     0x01, 0x02, 0x02, 0x02, 0x02, 0x12, 0xE3, 0x09, 0x00, 0x02, 0x00, 0x02, 0x02, 0x00, 0x00, 0x02,
     0x02,

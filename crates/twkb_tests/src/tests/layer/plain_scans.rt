@@ -54,7 +54,7 @@ pub fn scan_agrees(rt: &impl Abort, plain: &Layer, layer: &mut Certified, ranges
     found
 }
 
-/// The same of a scan with a directory.
+/// A scan with a directory finds what the plain reader does, for as many bytes.
 pub fn directory_scan_agrees(
     rt: &impl Abort,
     plain: &Layer,

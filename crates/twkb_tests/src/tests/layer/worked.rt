@@ -6,7 +6,7 @@ pub const EMPTY: [u8; 0] = [];
 /// The published line, from (1 1) to (5 5).
 pub const PUBLISHED_LINE: [u8; 7] = [0x02, 0x00, 0x02, 0x02, 0x02, 0x08, 0x08];
 
-/// The same line with a size and a box.
+/// The published line with a size and a box.
 pub const BOXED_LINE: [u8; 12] = [
     0x02, 0x03, 0x09, 0x02, 0x08, 0x02, 0x08, 0x02, 0x02, 0x02, 0x08, 0x08,
 ];
@@ -36,7 +36,7 @@ pub const TWO_MEMBERS: [u8; 11] = [
 /// Two points with a size and nothing else, at (1 2) and at (3 -4) and at a precision of 1.
 pub const SIZED_POINTS: [u8; 10] = [0x21, 0x02, 0x02, 0x14, 0x28, 0x21, 0x02, 0x02, 0x3C, 0x4F];
 
-/// The same, and behind them one at (-700000 400000) and one whose X takes five bytes, at (30000000 1).
+/// `SIZED_POINTS`, then one at (-700000 400000) and one whose X takes five bytes, at (30000000 1).
 pub const LONGER_SIZED_POINTS: [u8; 29] = [
     0x21, 0x02, 0x02, 0x14, 0x28, 0x21, 0x02, 0x02, 0x3C, 0x4F, 0x01, 0x02, 0x06, 0xBF, 0xB9, 0x55,
     0x80, 0xEA, 0x30, 0x01, 0x02, 0x07, 0x80, 0x8E, 0xCE, 0x9C, 0x00, 0x82, 0x00,
@@ -75,7 +75,7 @@ pub const SEVENTEEN_IDS: [u8; 54] = [
     0, 0, 0, 0, 0, 0, 0, 0, 0, 0,
 ];
 
-/// The same, and the last id is the least: whether they differ isn't seen without memory.
+/// `SEVENTEEN_IDS`, but the last id is the least: whether the ids differ isn't seen without memory.
 pub const FALLING_IDS: [u8; 54] = [
     0x04, 0x04, 0x11, 0x00, 0x02, 0x04, 0x06, 0x08, 0x0A, 0x0C, 0x0E, 0x10, 0x12, 0x14, 0x16, 0x18,
     0x1A, 0x1C, 0x1E, 0x01, 0, 0, 0, 0, 0, 0, 0, 0, 0, 0, 0, 0, 0, 0, 0, 0, 0, 0, 0, 0, 0, 0, 0, 0,
