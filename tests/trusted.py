@@ -24,9 +24,9 @@ DEVICE_OF = re.compile(rf"\b(\w+)(?:\.|::)specs(?:\.|::){DEVICES}\b")
 # signature; and the most lines that it may take.
 YES = ("certified", "complete")
 QUESTIONS = (
-    ("Y", "the yes of certify", "twkb_layer", "certify", YES, 327),
+    ("Y", "the yes of certify", "twkb_layer", "certify", YES, 326),
     ("C", "certify", "twkb_layer", "certify", None, 568),
-    ("S", "scan", "twkb_layer", "Certified::scan", None, 399),
+    ("S", "scan", "twkb_layer", "Certified::scan", None, 398),
     ("R", "run", "twkb_tool", "run", None, 800),
 )
 
