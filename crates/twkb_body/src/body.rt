@@ -32,6 +32,18 @@ pub fn enter_point<V: Visit>(cursor: &mut Cursor, axes: Axes, ids: bool, visitor
     }
 }
 
+/// Enters a point of X and Y alone that has a box.
+// It isn't inlined, so that a step isn't too large to be inlined itself.
+#[inline(never)]
+fn enter_boxed_point<V: Visit>(cursor: &mut Cursor, xy: i8, ids: bool, visitor: &mut V) -> u64
+    requires xy { IsPrecision xy }
+    requires behind { IsThere (IsBehind (V.passes (V.state visitor.old)) Point (flat_axes xy) ids cursor.old) }
+    ensures { Enters V.step V.passes (IsBehind (V.passes (V.state visitor.old)) Point (flat_axes xy) ids cursor.old)
+        (V.state visitor.old) (V.state visitor.new) cursor.new result }
+{
+    enter_point(cursor, Axes::flat(xy), ids, visitor)
+}
+
 /// Enters a body of X and Y alone.
 #[inline(always)]
 pub fn enter_flat<V: Visit>(
@@ -49,6 +61,7 @@ pub fn enter_flat<V: Visit>(
         (V.state visitor.old) (V.state visitor.new) cursor.new result }
 {
     match kind {
+        Kind::Point => enter_boxed_point(cursor, axes.xy, ids, visitor),
         Kind::LineString => enter_line(cursor, axes.xy, ids, visitor),
         Kind::GeometryCollection => enter_list(cursor, kind, axes, ids, visitor),
         _ => enter_flat_body(cursor, kind, axes.xy, ids, visitor),
