@@ -7,7 +7,7 @@ The layers are a point inside 0, 31 and 63 collections, which the quick pass cer
 which the audit reads behind it. For `check`, `check --tight` and `scan` the least
 limit of the stack is printed, in steps of a page, with which the program ends well TRIES times in a row, with no environment:
 what the limit counts begins a little lower each time. Where gdb is there, it then tells where the stack is whenever the quick
-pass, the audits and the scan of the deepest layer enter a geometry: how much a level of each takes.
+pass and the audits of the deepest layer enter a geometry, and how often a scan goes over members: once, since that is a loop.
 """
 import os
 import re
@@ -35,7 +35,7 @@ silent
 printf "audit %ld\\n", (long)$rsp
 cont
 end
-rbreak skimming::enter
+rbreak skimming::skim_members
 commands
 silent
 printf "scan %ld\\n", (long)$rsp
@@ -60,7 +60,7 @@ def least(words):
 
 
 def places(words, folder):
-    """Where the stack is at each geometry of the quick pass, at each of the audit, and at each of the scan."""
+    """Where the stack is at each geometry of the quick pass and of the audit, and wherever a scan begins to go over members."""
     script = written(folder, "where.gdb", WHERE.encode())
     told = subprocess.run(["gdb", "-nx", "-batch", "-x", script, "--args", *words], capture_output=True, text=True).stdout
     return [[int(place) for place in re.findall(rf"^{step} (\d+)$", told, re.M)] for step in ("quick", "audit", "scan")]
@@ -78,9 +78,10 @@ def main():
         if shutil.which("gdb"):
             quick, audit, scan = places([program, *runs["scan"]], folder)
             _, tight, _ = places([program, *runs["check --tight"]], folder)
-            for name, entered in (("quick pass", quick), ("audit", audit), ("tight audit", tight), ("scan", scan)):
+            for name, entered in (("quick pass", quick), ("audit", audit), ("tight audit", tight)):
                 levels = {above - below for above, below in zip(entered, entered[1:])}
                 print(f"{name}: {len(entered)} geometries, each so many bytes below the one before it: {sorted(levels)}")
+            print(f"scan: goes over members {len(scan)} times")
 
 
 main()
