@@ -100,11 +100,13 @@ def umask():
 def programs():
     """The folder of PostgreSQL's programs, or nothing where they or PostGIS aren't here."""
     found = [os.path.dirname(path) for path in glob.glob("/usr/lib/postgresql/*/bin/initdb")]
-    found += [os.path.dirname(path) for path in [shutil.which("initdb")] if path]
+    found += [os.path.dirname(os.path.realpath(path)) for path in [shutil.which("initdb")] if path]
     for place in sorted(set(found)):
-        shared = subprocess.run([os.path.join(place, "pg_config"), "--sharedir"], capture_output=True, text=True).stdout.strip()
-        guess = place.replace("/usr/lib/", "/usr/share/").removesuffix("/bin")
-        if any(os.path.exists(os.path.join(folder, "extension", "postgis.control")) for folder in (shared, guess)):
+        config = os.path.join(place, "pg_config")
+        shared = [place.replace("/usr/lib/", "/usr/share/").removesuffix("/bin")]
+        if os.path.exists(config):
+            shared.append(subprocess.run([config, "--sharedir"], capture_output=True, text=True).stdout.strip())
+        if any(os.path.exists(os.path.join(folder, "extension", "postgis.control")) for folder in shared):
             return place
     return None
 
