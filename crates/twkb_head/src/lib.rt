@@ -36,7 +36,6 @@ mod fields;
 mod header;
 mod kinds;
 pub mod laws;
-mod ranges;
 mod raw;
 mod read;
 mod refusal;
@@ -47,8 +46,8 @@ pub use fields::malformed;
 pub use header::{BoxField, Head, SizeField};
 pub use kinds::{DEEPEST, Kind};
 pub use raw::{
-    RawBox, RawHead, RawRange, behind_bare_line_head, read_flat_head, read_point_head,
-    read_raw_head, read_sized_point_head,
+    RawBox, RawHead, RawRange, extended_head_behind, flat_head_behind, is_bare_line, is_empty,
+    is_flat_and_full, is_sized_point, raw_head_behind, read_point_head, read_raw_head,
 };
 pub use read::read_head;
 pub use refusal::{Malformed, Why};

@@ -7,13 +7,10 @@ ghost use Rattle.twkb_head.specs.declared.refusal.Why.TheVariants.{Range};
 ghost use Rattle.twkb_head.specs.Head.{StartsWithHeader, IsHeadAt};
 ghost use Rattle.twkb_head.specs.Refusal.{IsRefusedHead, looked_at_until};
 ghost use Rattle.twkb_head.specs.Devices.Reader.{byte_at, number_at, optional_at};
-ghost use Rattle.twkb_head.specs.Devices.HeadReader.{head_at};
 
-use crate::bits::{BOX, EMPTY, EXTENDED, SIZE, has_bit, ids_of, m_of, z_of};
-use crate::boxes::Bounds;
-use crate::fields::{take_byte, take_number, take_type};
-use crate::header::{BoxField, Head, SizeField};
-use crate::ranges::take_box;
+use crate::fields::{take_byte, take_number};
+use crate::header::{Head, SizeField};
+use crate::raw::read_raw_head;
 use crate::refusal::Malformed;
 use twkb_num::Cursor;
 
@@ -43,47 +40,13 @@ pub fn read_head(cursor: &mut Cursor, depth: u8) -> Result<Head, Malformed>
     ensures still { IfErr result (λ m. cursor.new ≡ counted cursor.old (looked_at_until m cursor.old)) }
 {
     let start = cursor.place();
-    match take_head(cursor, depth) {
-        Ok(head) => Ok(head),
+    match read_raw_head(cursor, depth) {
+        Ok(raw) => Ok(raw.whole()),
         Err(malformed) => {
             cursor.go_to(start);
             Err(malformed)
         }
     }
-}
-
-/// The fields of the header at the place, in order. A refusal leaves the cursor at the field that is wrong.
-#[inline(always)]
-#[tactic(auto, unfolding(crate::specs::Devices::HeadReader::head_at))]
-fn take_head(cursor: &mut Cursor, depth: u8) -> Result<Head, Malformed>
-    requires { depth ≤ deepest }
-    ensures read { head_at (deepest - depth) cursor.old ≡ (result, cursor.new) }
-    ensures xy { IfOk result (λ head. IsPrecision head.xy) }
-    ensures z_high { IfOk result (λ head. IfSome head.z (λ p. p ≤ 7)) }
-    ensures m_high { IfOk result (λ head. IfSome head.m (λ p. p ≤ 7)) }
-{
-    let start = cursor.place();
-    let (kind, xy) = take_type(cursor, depth)?;
-    let metadata = take_byte(cursor)?;
-    let extended = take_extended(cursor, has_bit(metadata, EXTENDED))?;
-    let z = z_of(extended);
-    let m = m_of(extended);
-    let size_place = cursor.place();
-    let size = take_size(cursor, has_bit(metadata, SIZE))?;
-    let box_place = cursor.place();
-    let bounds = take_box(cursor, has_bit(metadata, BOX), xy, z, m)?;
-    Ok(Head {
-        kind,
-        xy,
-        z,
-        m,
-        size: size_field(size, size_place, box_place),
-        bounds: box_field(bounds, box_place),
-        ids: ids_of(kind, metadata),
-        empty: has_bit(metadata, EMPTY),
-        start,
-        stop: cursor.place(),
-    })
 }
 
 /// The extended dimensions byte, where it is announced (TWKB specification, "Extended Dimensions").
@@ -120,12 +83,4 @@ pub fn size_field(value: Option<u64>, offset: usize, after: usize) -> Option<Siz
         offset,
         after,
     })
-}
-
-/// A box, and where it stands.
-#[inline(always)]
-fn box_field(bounds: Option<Bounds>, offset: usize) -> Option<BoxField>
-    ensures { result ≡ option_map (λ bounds. record { bounds = bounds; offset = offset }) bounds }
-{
-    bounds.map(|bounds| BoxField { bounds, offset })
 }

@@ -1,5 +1,5 @@
 //! A cursor over bytes, which counts what it reads.
-ghost use Rattle.std.specs.Prelude.{◌≡◌, ◌+◌, ◌-◌, ◌<◌, ◌≤◌, ◌↔◌, ℕ, ℤ, List, [], ◌∷◌, ◌++◌, length, take, IsNone, IfOk, IfErr, IfSome, IfNone, OnOk, OnSome};
+ghost use Rattle.std.specs.Prelude.{◌≡◌, ◌+◌, ◌-◌, ◌/◌, ◌%◌, ◌<◌, ◌≤◌, ◌↔◌, ℕ, ℤ, List, [], ◌∷◌, ◌++◌, length, take, IsNone, IfOk, IfErr, IfSome, IfNone, OnOk, OnSome};
 ghost use Rattle.twkb_num.specs.Cursor.{rest, passed, counted, IsMoved, IsSound};
 ghost use Rattle.twkb_num.specs.Devices.Ends.{IsFirstEnd};
 ghost use Rattle.twkb_num.specs.Varint.{SpellsMany, Spells, IsSigned, Faults, IsCut, looked_at};
@@ -162,6 +162,20 @@ impl<'a> Cursor<'a> {
         let byte = *self.bytes.get(self.place)?;
         self.place += 1;
         Some(byte)
+    }
+
+    /// The two bytes at the place as one number, the first one lowest, where so many are left; it moves past them. Else `None`,
+    /// and the cursor is as it was.
+    #[inline(always)]
+    pub fn two_bytes(&mut self) -> Option<u16>
+        ensures some { IfSome result (λ two. passed self.old self.new ≡ two % 256 ∷ two / 256 ∷ []) }
+        ensures moved { OnSome result (IsMoved self.old self.new) }
+        ensures end { IsNone result ↔ length (rest self.old) < 2 }
+        ensures none { IfNone result (self.new ≡ self.old) }
+    {
+        let two = u16::from_le_bytes(*self.bytes[self.place..].first_chunk::<2>()?);
+        self.place += 2;
+        Some(two)
     }
 
     /// The unsigned varint at the place, which it moves past (TWKB specification, "VarInt Encode").

@@ -1,6 +1,6 @@
 //! Where varints end, found in words of eight bytes.
 ghost use Rattle.std.specs.Prelude.{◌≡◌, ◌↔◌, ◌+◌, ◌*◌, ◌-◌, ◌≤◌, ◌<◌, ◌^◌, ℕ, slice_index, IsTrue, IfSome, IfNone};
-ghost use Rattle.twkb_num.specs.Devices.Ends.{IsFirstEnd, ended, ends_to, eight_bytes, IsEnd, IsFrontOf};
+ghost use Rattle.twkb_num.specs.Devices.Ends.{IsFirstEnd, AreTwoEnds, ended, ends_to, eight_bytes, IsEnd, IsFrontOf};
 
 /// The top bit of each byte of a word, which is set where a varint goes on.
 const TOPS: u64 = 0x8080_8080_8080_8080;
@@ -25,6 +25,19 @@ pub fn first_end(bytes: &[u8; 8]) -> Option<usize>
         return None;
     }
     Some((ends.trailing_zeros() / 8) as usize + 1)
+}
+
+/// How many of the eight bytes the two varints at their front take. `None`: fewer end among them.
+#[inline(always)]
+pub fn second_end(bytes: &[u8; 8]) -> Option<usize>
+    ensures { IfSome result (AreTwoEnds bytes.now) }
+{
+    let ends = tops_of_ends(bytes);
+    let behind = ends & ends.wrapping_sub(1);
+    if behind == 0 {
+        return None;
+    }
+    Some((behind.trailing_zeros() / 8) as usize + 1)
 }
 
 /// How many bytes the first so many varints take, where words of eight bytes tell: there is an end in each half of a word, or

@@ -47,6 +47,13 @@ head_with kind xy metadata extended size bounds start size_place box_place stop 
   stop = stop;
 }
 
+-- what stands behind the extended dimensions byte, of a header that starts at this place
+abbrev pub fields_from : Kind → ℤ → ℕ → Option ℕ → ℕ → Reader Head
+fields_from kind xy metadata extended start c =
+    optional_at (has_bit metadata 2) number_at c >>= λ size d.
+    (optional_at (has_bit metadata 1) (bounds_from xy (z_in extended) (m_in extended)) d >>= λ bounds e.
+    (Ok (head_with kind xy metadata extended size bounds start c.place d.place e.place), e))
+
 -- a header, with so many levels below it
 unfoldable pub head_at : ℕ → Reader Head
 head_at levels r =

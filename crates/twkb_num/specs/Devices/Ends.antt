@@ -1,6 +1,6 @@
 -- Devices of proofs: nothing public names them.
 -- Where the varints at the front of bytes end.
-use Rattle.std.specs.Prelude.{◌≡◌, ◌+◌, ◌-◌, ◌*◌, ◌/◌, ◌<◌, ◌≤◌, ℕ, zero, suc, List, length, take, slice_index}
+use Rattle.std.specs.Prelude.{◌≡◌, ◌+◌, ◌-◌, ◌*◌, ◌/◌, ◌<◌, ◌≤◌, ℕ, zero, suc, List, length, take, drop, slice_index}
 use Rattle.twkb_num.specs.Varint.{SpellsMany}
 
 -- the bytes go on up to one below 128, which is the last of the first so many
@@ -10,6 +10,14 @@ pub record IsFirstEnd (bytes : List ℕ) (many : ℕ) : Type 0 where
   pub within : many ≤ length bytes
   pub goes_on : (k : ℕ) → k + 1 < many → 128 ≤ slice_index bytes k
   pub ends : slice_index bytes (many - 1) < 128
+
+-- so many bytes are those of two varints: the first ends at its end, and the second at theirs
+pub record AreTwoEnds (bytes : List ℕ) (many : ℕ) : Type 0 where
+  pub size : ℕ
+  pub first : IsFirstEnd bytes size
+  pub second : IsFirstEnd (drop size bytes) (many - size)
+  pub whole : size ≤ many
+  pub few : many ≤ 8
 
 -- 1 for a byte below 128, which ends a varint, else 0
 abbrev pub ended : List ℕ → ℕ → ℕ

@@ -1,10 +1,10 @@
 //! Two signed numbers at a cursor's place, read or passed together.
-ghost use Rattle.std.specs.Prelude.{◌≡◌, ◌+◌, ◌-◌, ◌<◌, ◌≤◌, length, take, IfSome, IfNone, OnSome};
-ghost use Rattle.twkb_num.specs.Cursor.{rest, passed, IsMoved};
-ghost use Rattle.twkb_num.specs.Varint.{SpellsMany, SpellsTwoSigned, IsShort};
+ghost use Rattle.std.specs.Prelude.{◌≡◌, ◌+◌, ◌-◌, ◌<◌, ◌≤◌, ◌↔◌, ℕ, length, take, IfSome, IfNone, OnSome, IsTrue};
+ghost use Rattle.twkb_num.specs.Cursor.{Reading, rest, passed, IsMoved};
+ghost use Rattle.twkb_num.specs.Varint.{SpellsMany, SpellsTwo, SpellsTwoSigned, IsSigned, IsShort};
 
 use super::Cursor;
-use crate::ends::length_of;
+use crate::ends::{length_of, second_end};
 use crate::word::{Pair, last_of, next_mixed_pair, next_pair};
 
 impl<'a> Cursor<'a> {
@@ -20,6 +20,59 @@ impl<'a> Cursor<'a> {
         let pair = next_pair(self.bytes[self.place..].first_chunk::<8>()?)?;
         self.place += pair.len;
         Some((pair.first, pair.second))
+    }
+
+    /// Two such pairs, one behind the other. Else `None`: nothing was read, and four reads in turn say what stands there.
+    #[inline(always)]
+    pub fn svarint_two_pairs(&mut self) -> Option<((i64, i64), (i64, i64))>
+        ensures some { IfSome result (λ two. (middle : Reading)
+            × SpellsTwoSigned (passed self.old middle) (two.0).0 (two.0).1 × IsMoved self.old middle
+            × SpellsTwoSigned (passed middle self.new) (two.1).0 (two.1).1 × IsMoved middle self.new) }
+        ensures first { IfSome result (λ two. IsShort (two.0).0 × IsShort (two.0).1) }
+        ensures second { IfSome result (λ two. IsShort (two.1).0 × IsShort (two.1).1) }
+        ensures none { IfNone result (self.new ≡ self.old) }
+    {
+        let mut ahead = self.ahead();
+        let first = ahead.svarint_pair()?;
+        let second = ahead.svarint_pair()?;
+        *self = ahead;
+        Some((first, second))
+    }
+
+    /// Such a pair, and behind it a number that is as short. Else `None`: nothing was read, and three reads in turn say what
+    /// stands there.
+    #[inline(always)]
+    pub fn svarint_pair_and_one(&mut self) -> Option<((i64, i64), i64)>
+        ensures some { IfSome result (λ three. (middle : Reading)
+            × SpellsTwoSigned (passed self.old middle) (three.0).0 (three.0).1 × IsMoved self.old middle
+            × IsSigned three.1 (passed middle self.new) × IsMoved middle self.new) }
+        ensures pair { IfSome result (λ three. IsShort (three.0).0 × IsShort (three.0).1) }
+        ensures one { IfSome result (λ three. IsShort three.1) }
+        ensures none { IfNone result (self.new ≡ self.old) }
+    {
+        let mut ahead = self.ahead();
+        let pair = ahead.svarint_pair()?;
+        let Ok(one) = ahead.svarint() else {
+            return None;
+        };
+        if !is_short(one) {
+            return None;
+        }
+        *self = ahead;
+        Some((pair, one))
+    }
+
+    /// Past the two varints at the place, without asking for their numbers, where both end among the next eight bytes. Else
+    /// `None`, and the cursor is as it was.
+    #[inline(always)]
+    pub fn pass_pair(&mut self) -> Option<()>
+        ensures some { OnSome result ((n m : ℕ) × SpellsTwo (passed self.old self.new) n m) }
+        ensures moved { OnSome result (IsMoved self.old self.new) }
+        ensures none { IfNone result (self.new ≡ self.old) }
+    {
+        let both = second_end(self.bytes[self.place..].first_chunk::<8>()?)?;
+        self.place += both;
+        Some(())
     }
 
     /// The same, for numbers of which few are short.
@@ -119,4 +172,12 @@ impl<'a> Cursor<'a> {
         }
         Some(pair)
     }
+}
+
+/// Whether four bytes can spell a number.
+#[inline(always)]
+fn is_short(number: i64) -> bool
+    ensures { IsTrue result ↔ IsShort number }
+{
+    -(1 << 27) <= number && number < 1 << 27
 }

@@ -6,8 +6,8 @@ use Rattle.std.specs.Int.{w64}
 use Rattle.twkb_head.proofs.HeadSteps.{pair_range}
 use Rattle.twkb_head.proofs.raw.take_further_range.Goals as goal
 
-pub returns-clause-read : goal.returns-clause-read
-returns-clause-read c =
+pub returns-in-Some : goal.returns-in-Some
+returns-in-Some c =
     let minimum : to_z w64 (of_z w64 c.in-Some.minimum) ≡ c.in-Some.minimum = omega (arith, ints) in
     let extent : to_z w64 (of_z w64 c.in-Some.extent) ≡ c.in-Some.extent = omega (arith, ints) in
     pair_range c.in-Some.minimum c.in-Some.extent _ _ c.in-Some.ensures.some c.in-Some.ensures.moved
