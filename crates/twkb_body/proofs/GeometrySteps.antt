@@ -115,8 +115,8 @@ nothing_inside tight h bounds place above inside v r boxed n = record {
 }
 
 -- ---- the geometry, judged
-module _ (tight : Bool) (head : Head) (depth : ℕ) (r a new : Reading) (at : IsHeadAt head depth r.place (passed r a)) (moved : IsMoved r a) (ahead : a.place ≤ new.place) where
-  size_same : (l : Lengths) → l.before ≡ 2 + length at.is.extended_bytes → l.size ≡ length at.is.size_bytes → l.whole ≡ new.place - r.place
+module _ (tight : Bool) (head : Head) (depth : ℕ) (r a new : Reading) (at : IsHeadAt head depth r.place (passed r a)) (moved : IsMoved r a) where
+  pub size_same : (l : Lengths) → l.before ≡ 2 + length at.is.extended_bytes → l.size ≡ length at.is.size_bytes → l.whole ≡ new.place - r.place
       → size_judged head.size new.place ≡ size_refused r.place l at.header.size
   size_same l before size whole = ap (λ (h : Head). size_judged h.size new.place) at.fields ∙ go at.header.size
     where
@@ -140,12 +140,12 @@ module _ (tight : Bool) (head : Head) (depth : ℕ) (r a new : Reading) (at : Is
           let box = bounds_of at.header.xy at.header.z at.header.m ranges in
           ap₂ (λ (x : Reach) (p : ℕ). first (false_at (is_within x box) p 7) (cond tight (false_at (is_tight at.header.xy at.header.z at.header.m box x) p 9) None)) e place
 
-  pub geometry_found : (b : Body) (inside : Inside) (above after : Seen) (judged : Found) → IsInside tight (of_head head) head.bounds b a.place new.place above after inside
+  pub geometry_found : a.place ≤ new.place → (b : Body) (inside : Inside) (above after : Seen) (judged : Found) → IsInside tight (of_head head) head.bounds b a.place new.place above after inside
       → judged.vertices ≡ inside.found.vertices
       → named judged.refused ≡ first (size_judged head.size new.place) (first (named inside.boxed) (first (named inside.ids) (named inside.found.refused)))
       → IsFound tight (geometry_from ((record { header = at.header; before = 2 + length at.is.extended_bytes; size = length at.is.size_bytes }, a.place - r.place), b) (new.place - r.place)) r.place new.place judged
       × HasSeen above after (reach_of (vertices (geometry_from ((record { header = at.header; before = 2 + length at.is.extended_bytes; size = length at.is.size_bytes }, a.place - r.place), b) (new.place - r.place))))
-  geometry_found b inside above after judged i counted refused =
+  geometry_found ahead b inside above after judged i counted refused =
       let g : Geometry = geometry_from ((record { header = at.header; before = 2 + length at.is.extended_bytes; size = length at.is.size_bytes }, a.place - r.place), b) (new.place - r.place) in
       let l : Lengths = record { before = 2 + length at.is.extended_bytes; size = length at.is.size_bytes; header = a.place - r.place; count = b.count; list = b.list; whole = new.place - r.place } in
       let own = reach_of (map (vertex_of at.header) (points_of b.polygons)) in

@@ -1,5 +1,5 @@
 -- Reading that stopped inside stops outside.
-use Rattle.std.proofs.Common.{◌≡◌, List, ◌++◌, ℕ, Ok}
+use Rattle.std.proofs.Common.{◌≡◌, ◌∙◌, Bool, List, ◌++◌, ℕ, Result, Ok, Err}
 use Rattle.twkb_num.specs.Cursor.{Reading, rest, IsMoved, IsSound}
 use Rattle.twkb_num.specs.Varint.{Spells}
 use Rattle.twkb_head.specs.declared.refusal.Malformed.{Malformed}
@@ -11,13 +11,24 @@ use Rattle.twkb_head.proofs.Leaves.{number_laws}
 use Rattle.twkb_head.proofs.Readings.{read_ok}
 use Rattle.twkb_body.specs.declared.stopped.Stopped.{Stopped}
 use Rattle.twkb_body.specs.declared.stopped.Stopped.TheVariants.{Malformed as BadField, Memory}
-use Rattle.twkb_body.specs.Devices.Stops.{HasStopped}
+use Rattle.twkb_body.specs.Devices.Stops.{HasStopped, ReadsInside}
+use Rattle.twkb_head.specs.declared.header.Head.{Head}
+use Rattle.twkb_body.specs.Devices.Body.{Body}
+use Rattle.twkb_body.specs.declared.inside.Inside.{Inside}
+use Rattle.twkb_body.specs.declared.seen.Seen.{Seen}
 
 pub stops_outside : {A B : Type 0} (inner : Answer A) (outer : Answer B) (W V : Type 0) (mid old : Reading) (e : Stopped) (new : Reading)
     → ((m : Malformed) → Fails inner m new → Fails outer m new) → (new.bytes ≡ mid.bytes → W → (new.bytes ≡ old.bytes) × V)
     → HasStopped inner W mid e new → HasStopped outer V old e new
 stops_outside inner outer W V mid old (BadField m) new fails wants s = fails m s
 stops_outside inner outer W V mid old Memory new fails wants s = wants s.0 s.1
+
+-- what is read by one reader for one cause is read by another that gives the same
+pub reads_through : (tight : Bool) (head : Head) (inner outer : Answer Body) (W V : Type 0) (above after : Seen) (old new : Reading) (result : Result Inside Stopped) → outer ≡ inner → (W → V)
+    → ReadsInside tight head inner W above after old result new → ReadsInside tight head outer V above after old result new
+reads_through tight head inner outer W V above after old new (Ok y) same wants s = (s.0, same ∙ s.1, s.2)
+reads_through tight head inner outer W V above after old new (Err (BadField m)) same wants s = record { left = s.left; is = same ∙ s.is; bytes = s.bytes }
+reads_through tight head inner outer W V above after old new (Err Memory) same wants s = (s.0, wants s.1)
 
 -- what a plan read stands at the front
 pub plan_stands : {A : Type 0} (p : Plan A) (r new : Reading) (x : A) → IsSound r → read p r ≡ (Ok x, new)

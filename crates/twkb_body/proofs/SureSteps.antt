@@ -364,14 +364,15 @@ frame_inside outer inner head same own lies = record {
   own_is = refl;
   above_holds = λ vs held. subst (λ (f : Frame). All (Holds (frame_bounds f)) vs) (sym same)
       (holds_wider head.xy head.z head.m inner.bounds outer.bounds lies vs (subst (λ (f : Frame). All (Holds (frame_bounds f)) vs) own.0 held));
+  holds = λ vs own above. own;
 }
 
 pub frame_above : (frame : Frame) (head : Head) → IsFramed head frame → IsFrameUnder (Some frame) head None (Some frame)
-frame_above frame head is = record { framed = is; own_is = tt; above_holds = λ vs held. held }
+frame_above frame head is = record { framed = is; own_is = tt; above_holds = λ vs held. held; holds = λ vs own above. above }
 
 -- a frame under none
 pub frame_alone : (head : Head) (own : Option Frame) → IfSome own (IsFramed head) → IsFrameUnder None head own own
-frame_alone head own is = record { framed = is; own_is = itself own; above_holds = λ vs held. tt }
+frame_alone head own is = record { framed = is; own_is = itself own; above_holds = λ vs held. tt; holds = λ vs held above. held }
   where
     itself : (own : Option Frame) → IfSome own (λ f. own ≡ Some f)
     itself None = tt

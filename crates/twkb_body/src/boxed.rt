@@ -1,10 +1,9 @@
 //! Points under one header that are asked for nothing but whether a box of raw numbers holds them all.
-ghost use Rattle.std.specs.Prelude.{◌≡◌, ◌&&◌, ◌≤◌, ◌≤ℤ◌, ◌-ℤ◌, ◌^◌, pos, neg_ℤ, true, IfSome, ◌↔◌, IsTrue};
+ghost use Rattle.std.specs.Prelude.{◌≡◌, ◌&&◌, ◌≤◌, ◌≤ℤ◌, ◌-ℤ◌, ◌^◌, pos, neg_ℤ, true, ◌↔◌, IsTrue};
 ghost use Rattle.twkb_head.specs.Header.{axes_with};
-ghost use Rattle.twkb_head.specs.Raw.{IsNear, HasNearRanges};
 ghost use Rattle.twkb_body.specs.Devices.Boxed.{reaches, reaches_if, reach_further, reach_all, is_in_range, is_in_axis, is_in_flat, is_in_further, is_in_box, held_with, IsNearZero, IsClose, IsMet, IsNearRange, IsNearBox, AreNear};
 ghost use Rattle.twkb_body.specs.Devices.Inside.{of_head};
-ghost use Rattle.twkb_body.specs.Devices.Numbers.{listed, Each, axes_by, placed_at};
+ghost use Rattle.twkb_body.specs.Devices.Numbers.{listed, Each, is_four, axes_by, placed_at};
 ghost use Rattle.twkb_body.specs.Devices.Walk.{IsRun};
 
 use crate::numbers::{Numbers, take_differences};
@@ -25,30 +24,26 @@ pub struct Boxed {
 }
 
 impl Model for Boxed {
-    ghost use Rattle.twkb_head.specs.Raw.{HasNearRanges};
     ghost use Rattle.twkb_body.specs.Devices.Boxed.{Held, IsNearBox};
 
     ghost Value = { Held };
 
     ghost view = { λ b. record { box = b.bounds; inside = b.inside } };
 
-    ghost invariant = { λ b. IsNearBox b.bounds × HasNearRanges b.bounds };
+    ghost invariant = { λ b. IsNearBox b.bounds };
 }
 
 impl Boxed {
-    /// A box, and no point yet; `None` if its extent in X or Y is negative.
+    /// A box, and no point yet.
     #[inline(always)]
-    pub fn new(bounds: &RawBox) -> Option<Boxed>
-        requires { HasNearRanges bounds.now }
-        ensures { IfSome result (λ boxed. boxed ≡ record { box = bounds.now; inside = true }) }
+    pub fn new(bounds: &RawBox) -> Boxed
+        requires { IsNearBox bounds.now }
+        ensures { result ≡ record { box = bounds.now; inside = true } }
     {
-        if !is_range(&bounds.x) || !is_range(&bounds.y) {
-            return None;
-        }
-        Some(Boxed {
+        Boxed {
             bounds: *bounds,
             inside: true,
-        })
+        }
     }
 
     /// A run of points of X and Y alone.
@@ -99,18 +94,17 @@ impl Boxed {
 
     /// A run of points of three axes or four, in the same way.
     #[inline(always)]
-    pub fn take_further_run(
+    pub fn take_further_run<const AXES: usize>(
         &mut self,
         cursor: &mut Cursor,
         _head: &Head,
-        has_fourth: bool,
         most: u64,
         trail: &mut Trail,
     ) -> u64
-        requires further { axes_with _head.now.z _head.now.m ≡ axes_by has_fourth }
+        requires further { axes_with _head.now.z _head.now.m ≡ axes_by (is_four AXES) }
         requires counted { trail.old.points ≤ cursor.old.place }
         ensures few { result ≤ most }
-        ensures run { IsRun (held_with (of_head _head.now)) (axes_by has_fourth) trail.old trail.new self.old self.new
+        ensures run { IsRun (held_with (of_head _head.now)) (axes_by (is_four AXES)) trail.old trail.new self.old self.new
             cursor.old cursor.new result }
     {
         let bounds = self.bounds;
@@ -118,21 +112,18 @@ impl Boxed {
         if !are_near(&bounds, &last) {
             return 0;
         }
-        // A cursor of the run's own, so that the one that is passed isn't written at each point.
-        let mut ahead = cursor.ahead();
         let mut apart = distances(&bounds, &last);
         let mut is_inside = self.inside;
         let mut taken = 0;
         while is_inside && taken < most {
-            let Some(more) = take_differences(&mut ahead, has_fourth) else {
+            let Some(more) = take_differences::<AXES>(cursor) else {
                 break;
             };
             apart = apart.plus(&more);
-            is_inside = reach_all(&bounds, has_fourth, &apart);
+            is_inside = reach_all(&bounds, AXES == 4, &apart);
             taken += 1;
         }
-        ahead.place_is_within();
-        *cursor = ahead;
+        cursor.place_is_within();
         trail.last = placed(&bounds, &apart);
         trail.points += taken as usize;
         self.inside = is_inside;
@@ -156,13 +147,15 @@ fn is_near(number: i64) -> bool
     -NEAR <= number && number <= NEAR
 }
 
-/// Whether the extent of a range of near numbers isn't negative.
+/// Whether a range isn't empty, and lies within 2^61 from zero.
 #[inline(always)]
-fn is_range(range: &RawRange) -> bool
-    requires { IsNear range.now }
-    ensures { IsTrue result ↔ IsNearRange range.now }
+pub fn is_near_range(range: &RawRange) -> bool
+    ensures { IsTrue result → IsNearRange range.now }
 {
-    0 <= range.extent
+    if range.minimum < -NEAR || range.extent < 0 {
+        return false;
+    }
+    range.extent <= NEAR - range.minimum
 }
 
 /// Whether a distance from a minimum lies within an extent: one comparison, since a negative number is a great one
@@ -238,13 +231,12 @@ fn is_in_box(axes: usize, bounds: &RawBox, point: &[i64; 4]) -> bool
     is_in_others(axes, bounds, point) && is_in_flat(bounds, point)
 }
 
-/// Whether the ranges behind that of Y have no negative extent, and the coordinates of a point are near zero.
+/// Whether the ranges behind that of Y are near, and so are the coordinates of a point.
 #[inline(always)]
 fn are_near(bounds: &RawBox, point: &Numbers) -> bool
-    requires { HasNearRanges bounds.now }
     ensures { IsTrue result → AreNear bounds.now point.now }
 {
-    if !is_range(&bounds.third) || !is_range(&bounds.fourth) {
+    if !is_near_range(&bounds.third) || !is_near_range(&bounds.fourth) {
         return false;
     }
     if !is_near(point.x) || !is_near(point.y) || !is_near(point.third) {

@@ -1,9 +1,13 @@
 //! The box that the vertices of a geometry have to lie in: its own, or that of a geometry above.
-ghost use Rattle.std.specs.Prelude.{◌≡◌, None, IfSome, IsTrue, option_map};
-ghost use Rattle.twkb_head.specs.Raw.{IsNear, HasNearRanges};
-ghost use Rattle.twkb_body.specs.Devices.Sure.{framed, IsFramed, IsNearFrame, IsFrameUnder, LiesIn, LiesInAll};
+ghost use Rattle.std.specs.Prelude.{◌≡◌, ◌≤◌, IfSome, IsTrue, not, option_map};
+ghost use Rattle.twkb_num.specs.Units.{IsPrecision};
+ghost use Rattle.twkb_head.specs.Raw.{raw_bounds};
+ghost use Rattle.twkb_body.specs.Devices.Boxed.{IsNearRange};
+ghost use Rattle.twkb_body.specs.Devices.Sure.{framed, has_further, IsNear, IsNearFrame, IsFrameUnder, LiesIn, LiesInAll};
+ghost use Rattle.twkb_body.specs.Devices.Walk.{HasPrecisions};
 
-use twkb_head::{Head, RawBox, RawRange};
+use crate::boxed::is_near_range;
+use twkb_head::{Axes, Bounds, Head, RawBox, RawRange};
 
 /// A box of raw numbers, and the precisions that they have, for the axes that there are.
 #[derive(Clone, Copy, Debug)]
@@ -15,57 +19,88 @@ pub struct Frame {
 }
 
 impl Frame {
-    /// The frame of a geometry that stands under another: its own, which has to lie in that above; or that above. The axes
-    /// and their precisions are to be those above. `None`: they differ, or its own doesn't lie there.
+    /// The frame of a geometry that stands under another: its own box, or else that above. `None`: its own has numbers that are
+    /// far from zero, or a negative extent; or there is one above, and the axes or their precisions differ, or its own doesn't
+    /// lie there.
     #[inline(always)]
-    pub fn under(above: &Option<Frame>, head: &Head, own: Option<Frame>) -> Option<Option<Frame>>
+    pub fn under(
+        above: &Option<Frame>,
+        head: &Head,
+        own: &Option<RawBox>,
+    ) -> Option<Option<Frame>>
         requires near { IfSome above.now IsNearFrame }
-        requires own { IfSome own (IsFramed head.now) }
-        ensures { IfSome result (IsFrameUnder above.now head.now own) }
+        requires precisions { HasPrecisions head.now }
+        ensures { IfSome result (IsFrameUnder above.now head.now (option_map (framed head.now) own.now)) }
     {
-        let Some(frame) = above else {
-            return Some(own);
-        };
-        if frame.xy != head.xy || frame.z != head.z || frame.m != head.m {
-            return None;
-        }
-        match own {
-            None => Some(*above),
-            Some(inner) => {
-                if lies_in_all(head, &inner.bounds, &frame.bounds) {
-                    Some(own)
-                } else {
-                    None
+        match (above, own) {
+            (None, None) => Some(None),
+            (None, Some(bounds)) => {
+                if !is_near_box(head, bounds) {
+                    return None;
+                }
+                Some(Some(Frame::of(head, bounds)))
+            }
+            (Some(frame), _) => {
+                if frame.xy != head.xy || frame.z != head.z || frame.m != head.m {
+                    return None;
+                }
+                match own {
+                    None => Some(*above),
+                    Some(bounds) => {
+                        if !lies_in_all(head, bounds, &frame.bounds) {
+                            return None;
+                        }
+                        Some(Some(Frame::of(head, bounds)))
+                    }
                 }
             }
         }
     }
 
-    /// The frame of a geometry's own box, if it has one.
+    /// The frame of a geometry's own box.
     #[inline(always)]
-    pub fn of(head: &Head, own: Option<RawBox>) -> Option<Frame>
-        requires { IfSome own HasNearRanges }
-        ensures own { result ≡ option_map (framed head.now) own }
-        ensures framed { IfSome result (IsFramed head.now) }
+    fn of(head: &Head, bounds: &RawBox) -> Frame
+        ensures { result ≡ framed head.now bounds.now }
     {
-        match own {
-            Some(bounds) => Some(Frame {
-                xy: head.xy,
-                z: head.z,
-                m: head.m,
-                bounds,
-            }),
-            None => None,
+        Frame {
+            xy: head.xy,
+            z: head.z,
+            m: head.m,
+            bounds: *bounds,
         }
+    }
+
+    /// The box in units.
+    pub fn in_units(&self) -> Bounds
+        requires xy { IsPrecision self.now.xy }
+        requires z_high { IfSome self.now.z (λ p. p ≤ 7) }
+        requires m_high { IfSome self.now.m (λ p. p ≤ 7) }
+        ensures { result ≡ raw_bounds self.now.xy self.now.z self.now.m self.now.bounds }
+    {
+        self.bounds.in_units(Axes {
+            xy: self.xy,
+            z: self.z,
+            m: self.m,
+        })
     }
 }
 
-/// Whether one box lies in another, in each axis that the header has.
+/// Whether the ranges of a box are near, in each axis that the header has. Where one isn't there, it is all zeros.
+#[inline(always)]
+fn is_near_box(head: &Head, bounds: &RawBox) -> bool
+    ensures { IsTrue result → IsNear head.now.z head.now.m bounds.now }
+{
+    is_near_range(&bounds.x)
+        && is_near_range(&bounds.y)
+        && (is_flat(head) || is_near_range(&bounds.third) && is_near_range(&bounds.fourth))
+}
+
+/// Whether one box lies in another, which is near, in each axis that the header has.
 #[inline(always)]
 fn lies_in_all(head: &Head, inner: &RawBox, outer: &RawBox) -> bool
-    requires inner { HasNearRanges inner.now }
-    requires outer { HasNearRanges outer.now }
-    ensures { IsTrue result → LiesInAll head.now.z head.now.m inner.now outer.now }
+    requires near { IsNear head.now.z head.now.m outer.now }
+    ensures lies { IsTrue result → LiesInAll head.now.z head.now.m inner.now outer.now }
+    ensures near { IsTrue result → IsNear head.now.z head.now.m inner.now }
 {
     lies_in(&inner.x, &outer.x)
         && lies_in(&inner.y, &outer.y)
@@ -75,7 +110,7 @@ fn lies_in_all(head: &Head, inner: &RawBox, outer: &RawBox) -> bool
 /// Whether there are X and Y alone.
 #[inline(always)]
 fn is_flat(head: &Head) -> bool
-    ensures { IsTrue result → (head.now.z ≡ None) × (head.now.m ≡ None) }
+    ensures { result ≡ not (has_further head.now.z head.now.m) }
 {
     head.z.is_none() && head.m.is_none()
 }
@@ -83,20 +118,21 @@ fn is_flat(head: &Head) -> bool
 /// Whether a box lies in another in the axes behind X and Y. Where one isn't there, both have zeros.
 #[inline(always)]
 fn lies_in_further(inner: &RawBox, outer: &RawBox) -> bool
-    requires inner { HasNearRanges inner.now }
-    requires outer { HasNearRanges outer.now }
-    ensures { IsTrue result → LiesIn inner.now.third outer.now.third × LiesIn inner.now.fourth outer.now.fourth }
+    requires third { IsNearRange outer.now.third }
+    requires fourth { IsNearRange outer.now.fourth }
+    ensures { IsTrue result → (LiesIn inner.now.third outer.now.third × IsNearRange inner.now.third)
+        × (LiesIn inner.now.fourth outer.now.fourth × IsNearRange inner.now.fourth) }
 {
     lies_in(&inner.third, &outer.third) && lies_in(&inner.fourth, &outer.fourth)
 }
 
-/// Whether one range lies in another.
+/// Whether one range isn't empty, and lies in another, which is near. Distances are told as numbers without sign.
 #[inline(always)]
 fn lies_in(inner: &RawRange, outer: &RawRange) -> bool
-    requires inner { IsNear inner.now }
-    requires outer { IsNear outer.now }
-    ensures { IsTrue result → LiesIn inner.now outer.now }
+    requires { IsNearRange outer.now }
+    ensures { IsTrue result → LiesIn inner.now outer.now × IsNearRange inner.now }
 {
-    let apart = inner.minimum - outer.minimum;
-    0 <= apart && inner.extent <= outer.extent - apart
+    let apart = inner.minimum.wrapping_sub(outer.minimum).cast_unsigned();
+    let reach = outer.extent.cast_unsigned();
+    apart <= reach && inner.extent.cast_unsigned() <= reach - apart
 }

@@ -1,29 +1,25 @@
-//! Points of three axes or four that are asked whether a box holds them. Each number of axes has a type of its own, so that
-//! what is compiled for one has no code for another.
+//! Points of three axes or four that are asked whether a box holds them. What is compiled for one number of axes has no code for
+//! another.
+ghost use Rattle.std.specs.Prelude.{◌≡◌};
+
 use crate::boxed::Boxed;
 use crate::points::Points;
 use crate::trail::Trail;
 use twkb_head::Head;
 use twkb_num::Cursor;
 
-/// A box, and points of three axes.
+/// A box, and points of so many axes, three or four.
 #[derive(Drop)]
-pub struct BoxedThree {
+pub struct Further<const AXES: usize> {
     pub boxed: Boxed,
 }
 
-/// A box, and points of four axes.
-#[derive(Drop)]
-pub struct BoxedFour {
-    pub boxed: Boxed,
-}
-
-impl Points for BoxedThree {
+impl<const AXES: usize> Points for Further<AXES> {
     ghost use Rattle.twkb_body.specs.Devices.Boxed.{Held, held_with};
 
     ghost State = { Held };
 
-    ghost state = { λ three. three.boxed };
+    ghost state = { λ further. further.boxed };
 
     ghost step = { held_with };
 
@@ -41,40 +37,9 @@ impl Points for BoxedThree {
         most: u64,
         trail: &mut Trail,
     ) -> u64 {
-        if axes == 3 {
+        if (AXES == 3 || AXES == 4) && axes == AXES {
             self.boxed
-                .take_further_run(cursor, head, false, most, trail)
-        } else {
-            0
-        }
-    }
-}
-
-impl Points for BoxedFour {
-    ghost use Rattle.twkb_body.specs.Devices.Boxed.{Held, held_with};
-
-    ghost State = { Held };
-
-    ghost state = { λ four. four.boxed };
-
-    ghost step = { held_with };
-
-    #[inline(always)]
-    fn add(&mut self, head: &Head, point: &[i64; 4]) {
-        self.boxed.add(head, point);
-    }
-
-    #[inline(always)]
-    fn take_run(
-        &mut self,
-        cursor: &mut Cursor,
-        head: &Head,
-        axes: usize,
-        most: u64,
-        trail: &mut Trail,
-    ) -> u64 {
-        if axes == 4 {
-            self.boxed.take_further_run(cursor, head, true, most, trail)
+                .take_further_run::<AXES>(cursor, head, most, trail)
         } else {
             0
         }

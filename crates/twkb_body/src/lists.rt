@@ -69,30 +69,3 @@ fn pass_ids(cursor: &mut Cursor, count: u64) -> Result<(), Malformed>
     }
     Ok(())
 }
-
-/// Past so many ids, if each is greater than the one before: so they differ, and no memory is wanted to tell. Else `None`.
-#[inline(always)]
-pub fn take_rising(cursor: &mut Cursor, count: u64) -> Option<()>
-    ensures { OnSome result (
-        (ids : ListOf ℤ) × (signeds_at count cursor.old ≡ (Ok ids, cursor.new)) × AllPairs (λ a b. a ≢ b) ids) }
-{
-    let mut last = i64::MIN;
-    for _ in 0..count {
-        let Ok(id) = take_signed(cursor) else {
-            return None;
-        };
-        if !is_above(id, last) {
-            return None;
-        }
-        last = id;
-    }
-    Some(())
-}
-
-/// Whether an id is greater than another.
-#[inline(always)]
-fn is_above(id: i64, other: i64) -> bool
-    ensures { IsTrue result ↔ other <ℤ id }
-{
-    other < id
-}

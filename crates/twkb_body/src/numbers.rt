@@ -1,8 +1,7 @@
 //! A number for each axis of a point that has Z or M: differences from the point before, or distances from the minima of a
 //! box.
-ghost use Rattle.std.specs.Prelude.{◌≡◌, ◌≤◌, ◌≤ℤ◌, ◌<ℤ◌, ◌^◌, pos, neg_ℤ, false, true, ◌↔◌, IfSome, IfNone, IsTrue};
-ghost use Rattle.twkb_num.specs.Varint.{IsShort};
-ghost use Rattle.twkb_body.specs.Devices.Numbers.{listed, Each, IsIn64, plus, AreDifferences};
+ghost use Rattle.std.specs.Prelude.{◌≡◌, false, true, IfSome, IfNone};
+ghost use Rattle.twkb_body.specs.Devices.Numbers.{listed, Each, IsIn64, plus, is_four, AreDifferences};
 
 use twkb_num::Cursor;
 
@@ -49,11 +48,11 @@ impl Numbers {
 /// The differences of the point at the place, which has three axes or four, if words of eight bytes show them and they are
 /// short. Else `None`, and the cursor is as it was.
 #[inline(always)]
-pub fn take_differences(cursor: &mut Cursor, has_fourth: bool) -> Option<Numbers>
-    ensures some { IfSome result (λ more. AreDifferences has_fourth more cursor.old cursor.new) }
+pub fn take_differences<const AXES: usize>(cursor: &mut Cursor) -> Option<Numbers>
+    ensures some { IfSome result (λ more. AreDifferences (is_four AXES) more cursor.old cursor.new) }
     ensures none { IfNone result (cursor.new ≡ cursor.old) }
 {
-    if has_fourth {
+    if AXES == 4 {
         take_four(cursor)
     } else {
         take_three(cursor)
@@ -66,10 +65,7 @@ fn take_four(cursor: &mut Cursor) -> Option<Numbers>
     ensures some { IfSome result (λ more. AreDifferences true more cursor.old cursor.new) }
     ensures none { IfNone result (cursor.new ≡ cursor.old) }
 {
-    let mut ahead = cursor.ahead();
-    let (x, y) = ahead.svarint_pair()?;
-    let (third, fourth) = ahead.svarint_pair()?;
-    *cursor = ahead;
+    let ((x, y), (third, fourth)) = cursor.svarint_two_pairs()?;
     Some(Numbers {
         x,
         y,
@@ -84,27 +80,11 @@ fn take_three(cursor: &mut Cursor) -> Option<Numbers>
     ensures some { IfSome result (λ more. AreDifferences false more cursor.old cursor.new) }
     ensures none { IfNone result (cursor.new ≡ cursor.old) }
 {
-    let mut ahead = cursor.ahead();
-    let (x, y) = ahead.svarint_pair()?;
-    let Ok(third) = ahead.svarint() else {
-        return None;
-    };
-    if !is_short(third) {
-        return None;
-    }
-    *cursor = ahead;
+    let ((x, y), third) = cursor.svarint_pair_and_one()?;
     Some(Numbers {
         x,
         y,
         third,
         fourth: 0,
     })
-}
-
-/// Whether four bytes can spell a number.
-#[inline(always)]
-fn is_short(number: i64) -> bool
-    ensures { IsTrue result ↔ IsShort number }
-{
-    -(1 << 27) <= number && number < 1 << 27
 }

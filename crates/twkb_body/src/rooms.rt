@@ -1,5 +1,5 @@
 //! Room for the ids of a list: memory that grows, or a slice that is lent.
-ghost use Rattle.std.specs.Prelude.{◌≤◌, length};
+ghost use Rattle.std.specs.Prelude.{◌≤◌, ◌<ℤ◌, length, IsTrue};
 ghost use Rattle.twkb_body.specs.Devices.Stops.{ReadsIds};
 
 use crate::fields::take_signed;
@@ -38,9 +38,16 @@ fn take_grown<A: Allocator>(alloc: &A, cursor: &mut Cursor, count: u64) -> Resul
 {
     cursor.place_is_within();
     let mut ids: SmallVec<i64, 16, &A> = SmallVec::new(alloc);
+    let mut last = i64::MIN;
+    let mut rising = true;
     for _ in 0..count {
         let id = take_signed(cursor)?;
+        rising = still_rises(rising, last, id);
+        last = id;
         ids.push(id)?;
+    }
+    if rising {
+        return Ok(true);
     }
     Ok(are_distinct(&mut ids))
 }
@@ -52,13 +59,28 @@ fn take_lent(ids: &mut [i64], cursor: &mut Cursor, count: u64) -> Result<bool, S
 {
     cursor.place_is_within();
     let mut held = 0;
+    let mut last = i64::MIN;
+    let mut rising = true;
     for _ in 0..count {
         let id = take_signed(cursor)?;
+        rising = still_rises(rising, last, id);
+        last = id;
         if held == ids.len() {
             return Err(Stopped::Memory);
         }
         ids[held] = id;
         held += 1;
     }
+    if rising {
+        return Ok(true);
+    }
     Ok(slice_distinct(&mut ids[..held]))
+}
+
+/// Whether ids that rose so far rise on. Where all do they differ, and needn't be sorted.
+#[inline(always)]
+fn still_rises(rising: bool, last: i64, id: i64) -> bool
+    ensures { IsTrue result → IsTrue rising × (last <ℤ id) }
+{
+    rising && last < id
 }

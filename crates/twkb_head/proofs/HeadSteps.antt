@@ -1,5 +1,5 @@
 -- The steps of a header.
-use Rattle.std.proofs.Common.{◌≡◌, ℕ, ◌+◌, ◌-◌, ◌/◌, ◌%◌, ◌==◌, List, [], ◌∷◌, ◌++◌, length, Option, Some, None, option_map, is_some, IfSome, Bool, true, false, ◌&&◌, ◌||◌, ℤ, ◌+ℤ◌, Result, Ok, Err, refl, sym, ap, ap₂, subst, ◌∙◌, arith}
+use Rattle.std.proofs.Common.{◌≡◌, ℕ, ◌+◌, ◌-◌, ◌/◌, ◌%◌, ◌==◌, List, [], ◌∷◌, ◌++◌, length, Option, Some, None, option_map, is_some, Bool, true, false, ◌&&◌, ◌||◌, ℤ, ◌+ℤ◌, Result, Ok, Err, refl, sym, ap, ap₂, subst, ◌∙◌, arith}
 use Rattle.std.proofs.lemmas.List.{append-nil}
 use Rattle.twkb_num.specs.Cursor.{Reading, passed, IsMoved, IsSound}
 use Rattle.twkb_num.specs.Varint.{Spells, SpellsAll, SpellsMany, IsSigned, SpellsTwoSigned, zigzag_value}
@@ -17,10 +17,9 @@ use Rattle.twkb_head.specs.declared.header.BoxField.{BoxField}
 use Rattle.twkb_head.specs.declared.header.Head.{Head}
 use Rattle.twkb_head.specs.declared.raw.RawBox.{RawBox}
 use Rattle.twkb_head.specs.declared.raw.RawRange.{RawRange}
-use Rattle.twkb_head.specs.declared.raw.RawHead.{RawHead}
 use Rattle.twkb_head.specs.declared.raw.Fields.{Fields}
-use Rattle.twkb_head.specs.Raw.{BeginsHead, ends_of, raw_bounds, flat_box, whole_head, head_said}
-use Rattle.twkb_head.specs.Devices.Raw.{IsRangeIf, AreFieldsOf, HasBegun}
+use Rattle.twkb_head.specs.Raw.{BeginsHead, ends_of, raw_bounds, flat_box, head_said}
+use Rattle.twkb_head.specs.Devices.Raw.{IsRangeIf, HasBegun}
 use Rattle.twkb_head.specs.declared.read.Begun.{Begun}
 use Rattle.twkb_head.specs.declared.header.SizeField.{SizeField}
 use Rattle.twkb_head.specs.declared.refusal.Malformed.{Malformed}
@@ -116,15 +115,6 @@ not_read announced f r e = ap (λ (b : Bool). optional_at b f r) e
 -- what is announced is read
 pub is_read : {A : Type 0} (announced : Bool) (f : Reader A) (x : A) (r new : Reading) → announced ≡ true → f r ≡ (Ok x, new) → optional_at announced f r ≡ (Ok (Some x), new)
 is_read announced f x r new e read = ap (λ (b : Bool). optional_at b f r) e ∙ ap (viewed Some) read
-
--- the fields behind the metadata byte make a header
-pub fields_make_head : (levels start : ℕ) (r a b new : Reading) (kind : Kind) (xy : ℤ) (metadata : ℕ) → kind_from_type levels r ≡ (Ok (kind, xy), a) → byte_at a ≡ (Ok metadata, b) → start ≡ r.place → (o : Option RawHead)
-    → IfSome o (λ raw. AreFieldsOf raw start kind xy metadata b new) → IfSome o (λ raw. head_at levels r ≡ (Ok (whole_head raw), new))
-fields_make_head levels start r a b new kind xy metadata type byte at None fields = tt
-fields_make_head levels start r a b new kind xy metadata type byte at (Some raw) f =
-    head_is levels r a b f.size_start f.box_start new kind xy metadata f.extended f.size f.bounds type byte f.extended_is f.size_is f.box_is
-    ∙ ap (λ (n : ℕ). (Ok (head_with kind xy metadata f.extended f.size f.bounds n f.size_start.place f.box_start.place new.place), new)) (sym at)
-    ∙ ap (λ (h : Head). (Ok h, new)) (sym f.head_is)
 
 -- two signed numbers that one move passes are a range
 pub pair_range : (minimum extent : ℤ) (old new : Reading) → SpellsTwoSigned (passed old new) minimum extent → IsMoved old new → range_from old ≡ (Ok (minimum, minimum +ℤ extent), new)

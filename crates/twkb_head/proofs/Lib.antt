@@ -14,4 +14,3 @@ pub mod Loops
 pub mod HeadLaws
 pub mod HeadBack
 pub mod Limits
-pub mod ShortHeads

@@ -1,13 +1,11 @@
 -- Headers whose boxes are raw numbers.
-use Rattle.std.specs.Prelude.{◌≡◌, ℕ, ◌/◌, ◌%◌, ◌^◌, ℤ, pos, neg_ℤ, ◌+ℤ◌, ◌≤ℤ◌, false, List, [], ◌∷◌, Option, Some, None, option_map, Result, Ok, Err}
+use Rattle.std.specs.Prelude.{◌≡◌, ℕ, ◌/◌, ◌%◌, ◌^◌, ℤ, pos, neg_ℤ, ◌+ℤ◌, ◌≤ℤ◌, List, [], ◌∷◌, Option, None, option_map, Result, Ok, Err}
 use Rattle.twkb_head.specs.declared.boxes.Bounds.{Bounds}
 use Rattle.twkb_head.specs.declared.raw.RawRange.{RawRange}
 use Rattle.twkb_head.specs.declared.raw.RawBox.{RawBox}
-use Rattle.twkb_head.specs.declared.raw.RawHead.{RawHead}
 use Rattle.twkb_head.specs.declared.raw.Fields.{Fields}
 use Rattle.twkb_head.specs.declared.header.Head.{Head}
 use Rattle.twkb_head.specs.declared.header.BoxField.{BoxField}
-use Rattle.twkb_head.specs.declared.kinds.Kind.TheVariants.{Point, LineString}
 use Rattle.twkb_num.specs.Cursor.{Reading, rest, passed, added, IsMoved}
 use Rattle.twkb_num.specs.Varint.{zigzag_value}
 use Rattle.twkb_head.specs.declared.read.Begun.{Begun}
@@ -47,14 +45,6 @@ flat_box x y = record { x = x; y = y; third = record { minimum = pos 0; extent =
 abbrev pub raw_bounds : ℤ → Option ℕ → Option ℕ → RawBox → Bounds
 raw_bounds xy z m box = bounds_of xy z m (ranges_in box)
 
--- the box field of a raw header, with this box in units
-abbrev pub box_field : RawHead → RawBox → BoxField
-box_field raw box = record { bounds = raw_bounds raw.head.xy raw.head.z raw.head.m box; offset = raw.box_place }
-
--- the `head` of a raw header, with its box in units
-abbrev pub whole_head : RawHead → Head
-whole_head raw = record raw.head { bounds = option_map (box_field raw) raw.bounds }
-
 -- the box field of a header with these fields, with this box in units
 abbrev pub fields_box : Fields → RawBox → BoxField
 fields_box f box = record { bounds = raw_bounds f.axes.xy f.axes.z f.axes.m box; offset = f.box_place }
@@ -74,25 +64,9 @@ head_said f = record {
   stop = f.stop;
 }
 
--- a header says: a point with this size, counted from the place `after`, and nothing else
-pub record IsSizedPoint (head : Head) (size after : ℕ) : Type 0 where
-  pub kind : head.kind ≡ Point
-  pub z : head.z ≡ None
-  pub m : head.m ≡ None
-  pub no_box : head.bounds ≡ None
-  pub full : head.empty ≡ false
-  pub offset : ℕ
-  pub size_is : head.size ≡ Some (record { value = size; offset = offset; after = after })
-
--- a header says: a line of X and Y, and nothing else
-pub record IsBareLine (head : Head) : Type 0 where
-  pub kind : head.kind ≡ LineString
-  pub z : head.z ≡ None
-  pub m : head.m ≡ None
-  pub no_size : head.size ≡ None
-  pub no_box : head.bounds ≡ None
-  pub no_ids : head.ids ≡ false
-  pub full : head.empty ≡ false
+-- the header of these fields, without its box
+abbrev pub boxless : Fields → Head
+boxless f = record (head_said f) { bounds = None }
 
 -- A header that is allowed at the depth was begun: its first two bytes were read. Of the metadata byte the five lowest
 -- bits count.

@@ -10,8 +10,7 @@
 //!   place, and only the count has changed.
 //!
 //! [`read_raw`] reads a header with its box in raw integers ([`Fields`]). [`begin_head`] and [`take_rest`] read one in two steps:
-//! the first two bytes, and the rest. A skim branches between the two. [`read_raw_head`], [`read_flat_head`] and
-//! [`read_sized_point_head`] are for the quick pass of an audit, and answer `None` for any header but those that they are for.
+//! the first two bytes, and the rest. Audits and skims branch between the two.
 //!
 //! [`malformed`] makes a refusal of a fault of a number, also for numbers of the body.
 //!
@@ -34,7 +33,6 @@ mod fields;
 mod header;
 mod kinds;
 pub mod laws;
-mod quick;
 mod ranges;
 mod raw;
 mod read;
@@ -44,8 +42,7 @@ pub use boxes::{Bounds, Span, Vertex};
 pub use fields::malformed;
 pub use header::{BoxField, Head, SizeField};
 pub use kinds::{DEEPEST, Kind};
-pub use quick::{behind_bare_line_head, read_flat_head, read_raw_head, read_sized_point_head};
-pub use raw::{Axes, Fields, RawBox, RawHead, RawRange};
+pub use raw::{Axes, Fields, RawBox, RawRange};
 pub use read::{Begun, begin_head, read_head, read_raw, take_rest};
 pub use refusal::{Malformed, Why};
 pub use twkb_num::{Cursor, NumFault};

@@ -1,8 +1,7 @@
-//! Boxes and headers in raw numbers, which compare without units if their precision is the same: [`Fields`] is any header, and
-//! [`RawHead`] is the header of a geometry with a body whose box has no number far from zero. `ranges` and `quick` read them.
+//! Boxes and headers in raw numbers, which compare without units if their precision is the same. `ranges` and `read` read them.
 ghost use Rattle.std.specs.Prelude.{◌≡◌, ◌≤◌, ◌^◌, ◌≤ℤ◌, pos, neg_ℤ, None, true, option_map, IfSome};
 ghost use Rattle.twkb_num.specs.Units.{IsPrecision};
-ghost use Rattle.twkb_head.specs.Raw.{ends_of, ranges_in, flat_box, raw_bounds, head_said, IsNear, HasNearRanges};
+ghost use Rattle.twkb_head.specs.Raw.{ends_of, ranges_in, flat_box, raw_bounds, head_said, boxless, IsNear, HasNearRanges};
 ghost use Rattle.twkb_head.specs.Head.{span_at, range_of, m_axis};
 ghost use Rattle.twkb_head.specs.declared.kinds.Kind.TheVariants.{Point};
 
@@ -29,17 +28,6 @@ pub struct RawBox {
     pub third: RawRange,
     /// The range of M, if there is a Z too.
     pub fourth: RawRange,
-}
-
-/// A header of a geometry that isn't empty.
-#[derive(Clone, Copy, Debug, PartialEq, Eq)]
-pub struct RawHead {
-    /// The header without its box.
-    pub head: Head,
-    /// The box, where there is one.
-    pub bounds: Option<RawBox>,
-    /// The place of the first byte of the box, if there is one.
-    pub box_place: usize,
 }
 
 /// The precisions of a header's axes: X and Y, and Z and M where they are there.
@@ -102,19 +90,6 @@ impl RawRange {
             Some(precision) => Some(self.in_units(precision as i8)),
             None => None,
         }
-    }
-}
-
-/// The range of two numbers, if both are near.
-#[inline(always)]
-pub fn near_range(minimum: i64, extent: i64) -> Option<RawRange>
-    ensures range { IfSome result (λ range. (range.minimum ≡ minimum) × (range.extent ≡ extent)) }
-    ensures near { IfSome result IsNear }
-{
-    if reaches(minimum) && reaches(extent) {
-        Some(RawRange { minimum, extent })
-    } else {
-        None
     }
 }
 
@@ -218,6 +193,25 @@ impl Fields {
         ensures m { result ≡ true → self.now.axes.m ≡ None }
     {
         matches!(self.kind, Kind::Point) && self.axes.is_flat()
+    }
+
+    /// What the header says, without its box.
+    #[inline(always)]
+    pub fn boxless(&self) -> Head
+        ensures { result ≡ boxless self.now }
+    {
+        Head {
+            kind: self.kind,
+            xy: self.axes.xy,
+            z: self.axes.z,
+            m: self.axes.m,
+            size: self.size,
+            bounds: None,
+            ids: self.ids,
+            empty: self.empty,
+            start: self.start,
+            stop: self.stop,
+        }
     }
 
     /// What the header says, with its box in units.

@@ -1,22 +1,23 @@
 //! Reading a header.
-ghost use Rattle.std.specs.Prelude.{◌≡◌, ◌≢◌, ◌↔◌, ℕ, ◌-◌, ◌≤◌, ◌%◌, true, Err, option_map, IfOk, OnOk, IfErr, IfSome, IfNone, IsOk, IsSome};
+ghost use Rattle.std.specs.Prelude.{◌≡◌, ◌≢◌, ◌↔◌, ℕ, ◌-◌, ◌≤◌, ◌%◌, true, false, not, None, Err, option_map, IfOk, OnOk, IfErr, IfSome, IfNone, IsOk, IsSome};
 ghost use Rattle.twkb_num.specs.Cursor.{Reading, rest, passed, counted, IsMoved, IsSound};
 ghost use Rattle.twkb_num.specs.Units.{IsPrecision};
 ghost use Rattle.twkb_head.specs.BegunHeader.{deepest};
 ghost use Rattle.twkb_head.specs.declared.refusal.Why.TheVariants.{Range};
-ghost use Rattle.twkb_head.specs.declared.kinds.Kind.TheVariants.{Point};
+ghost use Rattle.twkb_head.specs.declared.kinds.Kind.TheVariants.{Point, LineString};
 ghost use Rattle.twkb_head.specs.Head.{StartsWithHeader, IsHeadAt};
 ghost use Rattle.twkb_head.specs.Refusal.{IsRefusedHead, looked_at_until};
 ghost use Rattle.twkb_head.specs.Devices.HeadReader.{byte_at, head_at, rest_at};
 ghost use Rattle.twkb_head.specs.Shared.Reader.{number_at, optional_at};
 ghost use Rattle.twkb_head.specs.Devices.Raw.{made_whole, HasBegun};
 ghost use Rattle.twkb_head.specs.Raw.{head_said, BeginsHead, ReadsHead};
+ghost use Rattle.twkb_head.specs.Header.{has_bit};
 
 use crate::bits::{BOX, EMPTY, EXTENDED, SIZE, has_bit, ids_of, m_of, precision_of, z_of};
 use crate::fields::{take_byte, take_number, take_type};
 use crate::header::{Head, SizeField};
 use crate::kinds::{Kind, kind_at};
-use crate::ranges::take_any_box;
+use crate::ranges::take_box;
 use crate::raw::{Axes, Fields};
 use crate::refusal::Malformed;
 use twkb_num::Cursor;
@@ -101,6 +102,31 @@ impl Begun {
         ensures kind { result ≡ true → self.kind ≡ Point }
     {
         self.metadata % 32 == SIZE && matches!(self.kind, Kind::Point)
+    }
+
+    /// `true` says that it is a line, and that no other field follows, and a body.
+    #[inline(always)]
+    pub fn is_bare_line(self) -> bool
+        ensures metadata { result ≡ true → self.metadata % 32 ≡ 0 }
+        ensures kind { result ≡ true → self.kind ≡ LineString }
+    {
+        self.metadata % 32 == 0 && matches!(self.kind, Kind::LineString)
+    }
+
+    /// Whether there is no extended dimensions byte, so that the axes are X and Y.
+    #[inline(always)]
+    pub fn is_flat(self) -> bool
+        ensures { result ≡ not (has_bit self.metadata 8) }
+    {
+        !has_bit(self.metadata, EXTENDED)
+    }
+
+    /// Whether the geometry is empty: it has no body.
+    #[inline(always)]
+    pub fn is_empty(self) -> bool
+        ensures { result ≡ has_bit self.metadata 16 }
+    {
+        has_bit(self.metadata, EMPTY)
     }
 
     /// This header under another metadata byte, which announces the same fields: the bits from 32 on announce none. Where the
@@ -188,6 +214,8 @@ pub fn take_rest(cursor: &mut Cursor, begun: Begun) -> Result<Fields, Malformed>
     ensures xy { IfOk result (λ raw. IsPrecision raw.axes.xy) }
     ensures z_high { IfOk result (λ raw. IfSome raw.axes.z (λ p. p ≤ 7)) }
     ensures m_high { IfOk result (λ raw. IfSome raw.axes.m (λ p. p ≤ 7)) }
+    ensures flat { has_bit begun.metadata 8 ≡ false → IfOk result (λ raw. (raw.axes.z ≡ None) × (raw.axes.m ≡ None)) }
+    ensures empty { IfOk result (λ raw. raw.empty ≡ has_bit begun.metadata 16) }
 {
     take_fields(cursor, begun)
 }
@@ -201,6 +229,8 @@ fn take_fields(cursor: &mut Cursor, begun: Begun) -> Result<Fields, Malformed>
     ensures xy { IfOk result (λ raw. IsPrecision raw.axes.xy) }
     ensures z_high { IfOk result (λ raw. IfSome raw.axes.z (λ p. p ≤ 7)) }
     ensures m_high { IfOk result (λ raw. IfSome raw.axes.m (λ p. p ≤ 7)) }
+    ensures flat { has_bit begun.metadata 8 ≡ false → IfOk result (λ raw. (raw.axes.z ≡ None) × (raw.axes.m ≡ None)) }
+    ensures empty { IfOk result (λ raw. raw.empty ≡ has_bit begun.metadata 16) }
 {
     let extended = take_extended(cursor, has_bit(begun.metadata, EXTENDED))?;
     let z = z_of(extended);
@@ -208,7 +238,7 @@ fn take_fields(cursor: &mut Cursor, begun: Begun) -> Result<Fields, Malformed>
     let size_place = cursor.place();
     let size = take_size(cursor, has_bit(begun.metadata, SIZE))?;
     let box_place = cursor.place();
-    let bounds = take_any_box(
+    let bounds = take_box(
         cursor,
         has_bit(begun.metadata, BOX),
         z.is_some(),

@@ -1,5 +1,5 @@
 //! A cursor over bytes, which counts what it reads.
-ghost use Rattle.std.specs.Prelude.{◌≡◌, ◌+◌, ◌-◌, ◌<◌, ◌≤◌, ◌↔◌, ℕ, ℤ, List, [], ◌∷◌, ◌++◌, length, take, IsNone, IfOk, IfErr, IfSome, IfNone, OnOk, OnSome};
+ghost use Rattle.std.specs.Prelude.{◌≡◌, ◌+◌, ◌-◌, ◌<◌, ◌≤◌, ◌^◌, ◌↔◌, ℕ, ℤ, List, [], ◌∷◌, ◌++◌, length, take, IsNone, IfOk, IfErr, IfSome, IfNone, OnOk, OnSome};
 ghost use Rattle.twkb_num.specs.Cursor.{rest, passed, counted, IsMoved, IsSound};
 ghost use Rattle.twkb_num.specs.Devices.Ends.{IsFirstEnd};
 ghost use Rattle.twkb_num.specs.Varint.{SpellsMany, Spells, IsSigned, Faults, IsCut, looked_at};
@@ -13,13 +13,14 @@ use std::marker::Model;
 
 /// A place in bytes, and a count of the bytes read, which stays at `u64::MAX` once there.
 ///
-/// What a cursor reads is counted, and no call lowers its count. Two calls look ahead, at bytes that are counted when they
-/// are passed: [`Cursor::word`], and [`Cursor::ahead`], whose cursor may also be dropped. Audits alone use these.
+/// Each byte that a call gives away or passes is counted, and no call lowers the count. Only [`Cursor::go_to`] moves without
+/// counting, and it reads nothing.
 ///
 /// Numbers may be read or passed by words of eight bytes (as by [`Cursor::svarint_pair`], [`Cursor::pass_varint`],
 /// [`Cursor::pass_varints`]). Then up to seven bytes after them are touched too, as a cache line is, and the count is of
 /// the bytes that the numbers take. `None` of such a call tells one bit of bytes that aren't counted: the numbers at the place
-/// are too long for it, or too near the end. [`Cursor::pass_varints`] tells this bit of the place where it stops.
+/// are too long for it, or too near the end. [`Cursor::pass_varints`] tells this bit of the place where it stops, and
+/// [`Cursor::pass_short_varints`] of all the numbers that it was asked for, of which there are at most 65,536.
 ///
 /// A contract sees it as a `Reading`. Each call takes constant space. It also takes constant time, since a varint has at most
 /// ten bytes; only [`Cursor::pass_varints`] takes time for each byte that it passes.
@@ -119,39 +120,6 @@ impl<'a> Cursor<'a> {
         ensures { self.new ≡ self.old }
     {
         self.place = same;
-    }
-
-    /// Another cursor with the same reading, to look ahead with. What it reads is counted only if the caller goes on with it.
-    #[inline(always)]
-    pub fn ahead(&self) -> Cursor<'a>
-        ensures { result ≡ self.now }
-    {
-        Cursor {
-            bytes: self.bytes,
-            place: self.place,
-            start: self.start,
-            counted_before: self.counted_before,
-        }
-    }
-
-    /// The next eight bytes, where so many are left. They are counted when they are passed.
-    #[inline(always)]
-    pub fn word(&self) -> Option<[u8; 8]>
-        ensures bytes { IfSome result (λ word. word ≡ take 8 (rest self.now)) }
-        ensures left { IfSome result (λ word. 8 ≤ length (rest self.now)) }
-    {
-        Some(*self.bytes[self.place..].first_chunk::<8>()?)
-    }
-
-    /// Past so many bytes, which are left.
-    #[inline(always)]
-    pub fn pass(&mut self, many: usize)
-        requires { many ≤ length (rest self.old) }
-        ensures moved { IsMoved self.old self.new }
-        ensures place { self.new.place ≡ self.old.place + many }
-        ensures passed { passed self.old self.new ≡ take many (rest self.old) }
-    {
-        self.place += many;
     }
 
     /// The byte at the place, which it moves past. `None` is the end.
@@ -301,6 +269,28 @@ impl<'a> Cursor<'a> {
         let run = run_of(&self.bytes[self.place..], many);
         self.place += run.size;
         run.many
+    }
+
+    /// Passes so many varints, or none: if words of eight bytes don't tell all their ends, as [`Cursor::pass_varints`] finds
+    /// them, it answers `None`, and the cursor is as it was. `None` tells this one bit of bytes that aren't counted. Where fewer
+    /// bytes are left than varints are asked for, it looks at none.
+    #[inline(always)]
+    pub fn pass_short_varints(&mut self, many: u64) -> Option<()>
+        requires { many ≤ 2 ^ 16 }
+        ensures some { OnSome result (SpellsMany (passed self.old self.new) many) }
+        ensures moved { OnSome result (IsMoved self.old self.new) }
+        ensures none { IfNone result (self.new ≡ self.old) }
+    {
+        let bytes = &self.bytes[self.place..];
+        if (bytes.len() as u64) < many {
+            return None;
+        }
+        let front = run_of(bytes, many);
+        if front.many < many {
+            return None;
+        }
+        self.place += front.size;
+        Some(())
     }
 
     // How many bytes the varint at the place takes, where eight bytes are left and it takes no more.

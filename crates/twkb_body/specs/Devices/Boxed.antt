@@ -1,6 +1,6 @@
 -- Devices of proofs: nothing public names them.
 -- Points that are asked for nothing but whether a box of raw numbers holds them.
-use Rattle.std.specs.Prelude.{ℕ, ◌+◌, ◌^◌, Bool, true, ◌&&◌, if◌then◌else◌, nat_lt, ℤ, pos, neg_ℤ, ◌-ℤ◌, ◌≤ℤ◌, int_le}
+use Rattle.std.specs.Prelude.{ℕ, ◌+◌, ◌^◌, Bool, true, ◌&&◌, if◌then◌else◌, nat_lt, ℤ, pos, neg_ℤ, ◌+ℤ◌, ◌-ℤ◌, ◌≤ℤ◌, int_le}
 use Rattle.twkb_head.specs.Header.{Header, axes_of}
 use Rattle.twkb_head.specs.declared.raw.RawBox.{RawBox}
 use Rattle.twkb_head.specs.declared.raw.RawRange.{RawRange}
@@ -74,7 +74,8 @@ pub record IsNearRange (range : RawRange) : Type 0 where
   pub low : neg_ℤ (pos (2 ^ 61)) ≤ℤ range.minimum
   pub high : range.minimum ≤ℤ pos (2 ^ 61)
   pub some : pos 0 ≤ℤ range.extent
-  pub few : range.extent ≤ℤ pos (2 ^ 61)
+  pub few : range.extent ≤ℤ pos (2 ^ 62)
+  pub top : (range.minimum +ℤ range.extent) ≤ℤ pos (2 ^ 61)
 
 -- X and Y of a box are such ranges (`IsNearRange`)
 abbrev pub IsNearBox : RawBox → Type 0

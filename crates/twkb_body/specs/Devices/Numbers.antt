@@ -1,7 +1,7 @@
 -- Devices of proofs: nothing public names them.
 -- A number for each axis of a point that has Z or M: differences from the point before, or distances from the minima of a
 -- box.
-use Rattle.std.specs.Prelude.{◌≡◌, ℕ, ◌<◌, ◌^◌, if◌then◌else◌, Bool, false, List, [], ◌∷◌, take, ℤ, pos, neg_ℤ, ◌+ℤ◌, ◌≤ℤ◌, ◌<ℤ◌, Ok}
+use Rattle.std.specs.Prelude.{◌≡◌, ℕ, ◌<◌, ◌^◌, ◌==◌, if◌then◌else◌, Bool, false, List, [], ◌∷◌, take, ℤ, pos, neg_ℤ, ◌+ℤ◌, ◌≤ℤ◌, ◌<ℤ◌, Ok}
 use Rattle.twkb_num.specs.Cursor.{Reading}
 use Rattle.twkb_num.specs.Varint.{IsShort}
 use Rattle.twkb_head.specs.declared.raw.RawBox.{RawBox}
@@ -30,6 +30,10 @@ placed_at box n = plus (record { x = box.x.minimum; y = box.y.minimum; third = b
 -- a number of 64 bits
 abbrev pub IsIn64 : ℤ → Type 0
 IsIn64 z = (neg_ℤ (pos (2 ^ 63)) ≤ℤ z) × (z <ℤ pos (2 ^ 63))
+
+-- whether a number of axes is four
+abbrev pub is_four : ℕ → Bool
+is_four axes = axes == 4
 
 -- how many axes there are, of three and four
 abbrev pub axes_by : Bool → ℕ

@@ -1,6 +1,6 @@
 -- Devices of proofs: nothing public names them.
 -- How a read in code that may want memory is the reader's.
-use Rattle.std.specs.Prelude.{◌≡◌, ◌≢◌, ◌↔◌, ℕ, ◌+◌, ◌-◌, ◌<◌, Bool, IsTrue, ℤ, pos, List, AllPairs, Result, Ok, Err}
+use Rattle.std.specs.Prelude.{◌≡◌, ◌≢◌, ◌↔◌, ℕ, ◌+◌, ◌-◌, ◌<◌, Bool, true, false, IsTrue, ℤ, pos, List, AllPairs, Result, Ok, Err}
 use Rattle.twkb_num.specs.Cursor.{Reading, rest}
 use Rattle.twkb_head.specs.declared.header.Head.{Head}
 use Rattle.twkb_head.specs.BegunHeader.{deepest}
@@ -60,3 +60,8 @@ pub data WantsInside (depth levels : ℕ) (ids : Bool) (r : Reading) : Type 0 wh
   own_ids : HasManyIdsAfterCount ids (rest r) → WantsInside depth levels ids r
   member_ids : (list : ListHead) (mid new : Reading) (i : ℕ) (gs : List Geometry) → list_at ids r ≡ (Ok list, mid) → i < (list.0).0
       → many_at i (λ (s : ℤ) (g : Geometry). s) (λ s. geometry_at levels) (pos 0) mid ≡ (Ok gs, new) → HasLongList (depth + 1) (rest new) → WantsInside depth levels ids r
+
+-- why memory was wanted in a body behind this header, that of a collection or of another kind
+abbrev pub WantsIn : Bool → Bool → ℕ → Bool → Reading → Type 0
+WantsIn false empty depth ids old = HasManyIdsAfterCount ids (rest old)
+WantsIn true empty depth ids old = (empty ≡ false) × WantsInside depth (deepest - (depth + 1)) ids old

@@ -1,30 +1,42 @@
 -- Devices of proofs: nothing public names them.
 -- The quick pass: what it is sure of.
-use Rattle.std.specs.Prelude.{◌≡◌, ℕ, ◌+ℤ◌, ◌≤ℤ◌, Bool, false, List, [], ◌++◌, map, Option, Some, None, Ok, All, IfSome, true, ⊤}
-use Rattle.twkb_num.specs.Cursor.{Reading}
+use Rattle.std.specs.Prelude.{◌≡◌, ◌≢◌, ℕ, ◌+◌, ◌-◌, ◌≤◌, ◌+ℤ◌, ◌≤ℤ◌, Bool, false, List, [], ◌++◌, map, Option, Some, None, Result, Ok, Err, All, AllPairs, IfSome, true, ⊤, is_some, ◌||◌, ◌⊎◌, option_map, ℤ}
+use Rattle.twkb_num.specs.Cursor.{Reading, rest}
+use Rattle.twkb_num.specs.Units.{IsPrecision}
 use Rattle.twkb_head.specs.declared.header.Head.{Head}
 use Rattle.twkb_head.specs.declared.kinds.Kind.{Kind}
 use Rattle.twkb_head.specs.declared.boxes.Bounds.{Bounds}
+use Rattle.twkb_head.specs.declared.header.BoxField.{BoxField}
 use Rattle.twkb_head.specs.declared.boxes.Vertex.{Vertex}
 use Rattle.twkb_head.specs.declared.raw.RawBox.{RawBox}
 use Rattle.twkb_head.specs.declared.raw.RawRange.{RawRange}
-use Rattle.twkb_head.specs.BegunHeader.{is_collection}
-use Rattle.twkb_head.specs.Raw.{raw_bounds, HasNearRanges}
+use Rattle.twkb_head.specs.BegunHeader.{deepest, is_collection}
+use Rattle.twkb_head.specs.Raw.{raw_bounds}
 use Rattle.twkb_head.specs.Header.{Header, is_multi}
 use Rattle.twkb_head.specs.Holds.{Holds}
-use Rattle.twkb_head.specs.Shared.Reader.{many_at}
+use Rattle.twkb_head.specs.Shared.Reader.{many_at, Fails}
+use Rattle.twkb_head.specs.declared.refusal.Malformed.{Malformed}
 use Rattle.twkb_body.specs.declared.trail.Trail.{Trail}
 use Rattle.twkb_body.specs.declared.found.Found.{Found}
+use Rattle.twkb_body.specs.declared.found.FalseClaim.{FalseClaim}
+use Rattle.twkb_body.specs.declared.lists.List.{List as ListFound}
 use Rattle.twkb_body.specs.declared.frame.Frame.{Frame}
 use Rattle.twkb_body.specs.declared.seen.Seen.{Seen}
 use Rattle.twkb_body.specs.Geometry.{Geometry, PointValue, PolygonValue, points_of, vertex_of, vertices as vertices_of, member_vertices}
-use Rattle.twkb_body.specs.Devices.Boxed.{Held, held_then}
+use Rattle.twkb_body.specs.Claims.{IsTrueClaim, claims, member_claims}
+use Rattle.twkb_body.specs.Audited.{HasLongList}
+use Rattle.twkb_body.specs.declared.doubt.Doubt.{Doubt}
+use Rattle.twkb_body.specs.declared.doubt.Doubt.TheVariants.{Refused, Memory}
+use Rattle.twkb_body.specs.Devices.Boxed.{Held, held_then, IsNearRange, IsNearBox}
 use Rattle.twkb_body.specs.Devices.Body.{Body, ListHead, ring_sums, zeros}
 use Rattle.twkb_body.specs.Devices.BodyReader.{part_at, count_at, body_at, geometry_at, members_under}
 use Rattle.twkb_body.specs.Extent.{reach_of}
-use Rattle.twkb_body.specs.Devices.Found.{IsFound}
-use Rattle.twkb_body.specs.Devices.IdLists.{IsListFound}
+use Rattle.twkb_body.specs.Devices.Found.{size_judged, IsFound}
+use Rattle.twkb_body.specs.declared.stopped.Stopped.{Stopped}
+use Rattle.twkb_body.specs.declared.stopped.Stopped.TheVariants.{Malformed as BadField, Memory as NoMemory}
+use Rattle.twkb_body.specs.Devices.IdLists.{IsListFound, HasManyIdsAfterCount}
 use Rattle.twkb_body.specs.Devices.Inside.{of_head, IsInside}
+use Rattle.twkb_body.specs.Devices.Stops.{WantsIn}
 use Rattle.twkb_body.specs.Devices.Walk.{IsWalked}
 
 -- nothing of it is false
@@ -47,6 +59,23 @@ pub record AddsParts {S : Type 0} (step : S → PointValue → S) (kind : Kind) 
   pub read : many_at (list.0).0 ring_sums (part_at kind axes) zeros middle ≡ (Ok parts, new)
   pub walked : IsWalked step axes (record { last = zeros; points = 0 }) after state state' middle.place new.place (points_of parts)
   pub vertices_are : vertices ≡ after.points
+
+-- So many parts of this kind were read, and their points added to a state; there are so many of these.
+pub record ReadParts {S : Type 0} (step : S → PointValue → S) (kind : Kind) (axes count : ℕ) (old new : Reading) (state state' : S) (vertices : ℕ) : Type 0 where
+  pub parts : List PolygonValue
+  pub after : Trail
+  pub read : many_at count ring_sums (part_at kind axes) zeros old ≡ (Ok parts, new)
+  pub walked : IsWalked step axes (record { last = zeros; points = 0 }) after state state' old.place new.place (points_of parts)
+  pub vertices_are : vertices ≡ after.points
+
+-- the parts can't be read
+abbrev pub AreMalformed : Kind → ℕ → ℕ → Reading → Reading → Type 0
+AreMalformed kind axes count old new = (m : Malformed) × Fails (many_at count ring_sums (part_at kind axes) zeros old) m new
+
+-- They were read, and the box holds all their points, or not all of them.
+abbrev pub AreHeld : Bool → Kind → ℕ → ℕ → RawBox → Reading → Reading → ℕ → Type 0
+AreHeld all kind axes count box old new vertices =
+    (held : Held) × ReadParts (held_then axes) kind axes count old new (record { box = box; inside = true }) held vertices × (held.inside ≡ all)
 
 -- The parts of a body were read, and a box of raw numbers holds their points.
 abbrev pub AddsHeld : Kind → Bool → ℕ → RawBox → Reading → Reading → ℕ → Type 0
@@ -82,9 +111,17 @@ pub record LiesInAll (z m : Option ℕ) (inner outer : RawBox) : Type 0 where
 abbrev pub framed : Head → RawBox → Frame
 framed head box = record { xy = head.xy; z = head.z; m = head.m; bounds = box }
 
--- the numbers of a frame are near
+-- there are Z or M
+abbrev pub has_further : Option ℕ → Option ℕ → Bool
+has_further z m = is_some z || is_some m
+
+-- the numbers of a frame are near, in the axes that there are
+pub record IsNear (z m : Option ℕ) (box : RawBox) : Type 0 where
+  pub flat : IsNearBox box
+  pub further : has_further z m ≡ true → IsNearRange box.third × IsNearRange box.fourth
+
 abbrev pub IsNearFrame : Frame → Type 0
-IsNearFrame frame = HasNearRanges frame.bounds
+IsNearFrame frame = IsNear frame.z frame.m frame.bounds × (IsPrecision frame.xy × IfSome frame.z (λ p. p ≤ 7) × IfSome frame.m (λ p. p ≤ 7))
 
 -- `IsNearFrame`, and at the precisions of a header
 abbrev pub IsFramed : Head → Frame → Type 0
@@ -96,6 +133,7 @@ pub record IsFrameUnder (above : Option Frame) (head : Head) (own frame : Option
   pub framed : IfSome frame (IsFramed head)
   pub own_is : IfSome own (λ f. frame ≡ Some f)
   pub above_holds : (vertices : List Vertex) → IsHeldBy frame vertices → IsHeldBy above vertices
+  pub holds : (vertices : List Vertex) → IsHeldBy own vertices → IsHeldBy above vertices → IsHeldBy frame vertices
 
 -- the vertices of a body
 abbrev pub body_vertices : Header → Body → List Vertex
@@ -114,3 +152,97 @@ pub record IsSure (levels : ℕ) (above : Option Frame) (old new : Reading) (ver
   pub read : geometry_at levels old ≡ (Ok whole, new)
   pub found : IsFound false whole old.place new.place (faultless vertices)
   pub held : IsHeldBy above (vertices_of whole)
+
+-- ---- where it isn't sure
+-- the claims inside a body that begins there are true: of its ids, and of its members
+abbrev pub IsTrueInside : Body → ℕ → Type 0
+IsTrueInside body start = IfSome body.ids (λ ids. AllPairs (λ a b. a ≢ b) ids) × All IsTrueClaim (member_claims body.members (start + body.list))
+
+-- Where a body stands there after all, a claim inside is false, or the frame doesn't hold a vertex.
+abbrev pub IsRefutedBody : ℕ → Head → Option Frame → Reading → Type 0
+IsRefutedBody levels head frame old = (body : Body) (new : Reading)
+    → body_at head.empty (is_collection head.kind) (of_head head) (members_under levels) old ≡ (Ok body, new)
+    → IsTrueInside body old.place → IsHeldBy frame (body_vertices (of_head head) body) → ⊥
+
+-- The same behind a header, whose size or box may be what is false.
+abbrev pub IsRefutedBehind : ℕ → Head → Option Frame → Reading → Type 0
+IsRefutedBehind levels head above old = (body : Body) (new : Reading)
+    → body_at head.empty (is_collection head.kind) (of_head head) (members_under levels) old ≡ (Ok body, new)
+    → IsTrueInside body old.place → size_judged head.size new.place ≡ None
+    → IfSome head.bounds (λ field. All (Holds field.bounds) (body_vertices (of_head head) body))
+    → IsHeldBy above (body_vertices (of_head head) body) → ⊥
+
+-- Where a geometry stands there after all, a claim of it is false, or the frame above doesn't hold a vertex.
+abbrev pub IsRefuted : ℕ → Option Frame → Reading → Type 0
+IsRefuted levels above old = (whole : Geometry) (new : Reading) → geometry_at levels old ≡ (Ok whole, new)
+    → All IsTrueClaim (claims whole old.place) → IsHeldBy above (vertices_of whole) → ⊥
+
+-- what stopped the reading of a list or of a body, as a doubt
+abbrev pub doubt_of : Stopped → Doubt
+doubt_of (BadField m) = Refused
+doubt_of NoMemory = Memory
+
+-- why reading isn't sure: it is refuted, or memory was wanted for some cause
+abbrev pub HasDoubt : Type 0 → Type 0 → Reading → Doubt → Reading → Type 0
+HasDoubt Refuted Wants old Refused new = Refuted
+HasDoubt Refuted Wants old Memory new = (new.bytes ≡ old.bytes) × Wants
+
+-- so many vertices, of which reading is sure, or why it isn't
+abbrev pub IsSureOr : (ℕ → Type 0) → Type 0 → Type 0 → Reading → Result ℕ Doubt → Reading → Type 0
+IsSureOr Sure Refuted Wants old (Ok vertices) new = Sure vertices
+IsSureOr Sure Refuted Wants old (Err doubt) new = HasDoubt Refuted Wants old doubt new
+
+-- a body is sure, or why it isn't, after a header that is at a depth
+abbrev pub CertifiesBody : ℕ → Head → Option Frame → Reading → Result ℕ Doubt → Reading → Type 0
+CertifiesBody depth head frame old result new =
+    IsSureOr (IsSureBody (deepest - depth) head frame old new) (IsRefutedBody (deepest - depth) head frame old) (WantsIn (is_collection head.kind) head.empty depth head.ids old) old result new
+
+-- the same of a whole geometry
+abbrev pub Certifies : ℕ → Option Frame → Reading → Result ℕ Doubt → Reading → Type 0
+Certifies depth above old result new =
+    IsSureOr (IsSure (deepest - depth) above old new) (IsRefuted (deepest - depth) above old) (HasLongList depth (rest old)) old result new
+
+-- its size is true, or it is false, and that is why
+abbrev pub IsJudged : Head → ℕ → ℕ → Result ℕ Doubt → Type 0
+IsJudged head stop vertices (Ok counted) = (counted ≡ vertices) × (size_judged head.size stop ≡ None)
+IsJudged head stop vertices (Err doubt) = (doubt ≡ Refused) × ((f : ℕ × ℕ) × (size_judged head.size stop ≡ Some f))
+
+-- Behind a header a body was read, of which nothing is false, and whose vertices its box and the frame above hold.
+pub record IsSureBehind (levels : ℕ) (head : Head) (above : Option Frame) (old new : Reading) (vertices : ℕ) : Type 0 where
+  pub body : Body
+  pub read : body_at head.empty (is_collection head.kind) (of_head head) (members_under levels) old ≡ (Ok body, new)
+  pub inside : IsInside false (of_head head) None body old.place new.place unseen unseen (record { found = faultless vertices; boxed = None; ids = None })
+  pub boxed : IfSome head.bounds (λ field. All (Holds field.bounds) (body_vertices (of_head head) body))
+  pub held : IsHeldBy above (body_vertices (of_head head) body)
+
+-- the same of a body behind a header, with its box
+abbrev pub CertifiesBehind : ℕ → Head → Option Frame → Reading → Result ℕ Doubt → Reading → Type 0
+CertifiesBehind depth head above old result new =
+    IsSureOr (IsSureBehind (deepest - depth) head above old new) (IsRefutedBehind (deepest - depth) head above old) (WantsIn (is_collection head.kind) head.empty depth head.ids old) old result new
+
+-- the count of parts can't be read, or its ids aren't distinct
+abbrev pub IsWrongCount : Bool → Bool → Reading → Reading → Type 0
+IsWrongCount multi ids old new = ((m : Malformed) × Fails (count_at multi ids old) m new)
+    ⊎ ((list : ListHead) × (found : ListFound) × (f : FalseClaim) × (count_at multi ids old ≡ (Ok list, new)) × IsListFound old new list found × (found.ids ≡ Some f))
+
+-- so many parts were counted, and their ids are distinct
+abbrev pub IsCounted : Bool → Bool → Reading → Reading → ℕ → Type 0
+IsCounted multi ids old new count = (list : ListHead) × (count_at multi ids old ≡ (Ok list, new)) × IsListFound old new list (record { count = count; ids = None })
+
+abbrev pub CountsParts : Bool → Bool → Reading → Result ℕ Doubt → Reading → Type 0
+CountsParts multi ids old result new = IsSureOr (IsCounted multi ids old new) (IsWrongCount multi ids old new) (HasManyIdsAfterCount ids (rest old)) old result new
+
+-- the same of a body that is no collection's
+abbrev pub CertifiesShape : ℕ → Head → Option Frame → Reading → Result ℕ Doubt → Reading → Type 0
+CertifiesShape levels head frame old result new =
+    IsSureOr (IsSureBody levels head frame old new) (IsRefutedBody levels head frame old) (HasManyIdsAfterCount head.ids (rest old)) old result new
+
+-- a header says this, and its box is one of raw numbers
+pub record IsApart (head : Head) (kind : Kind) (xy : ℤ) (z m : Option ℕ) (ids : Bool) (box : Option RawBox) : Type 0 where
+  pub same : of_head head ≡ record { kind = kind; xy = xy; z = z; m = m; size = None; box = None; ids = ids; empty = false }
+  pub bounds : option_map (λ field. field.bounds) head.bounds ≡ option_map (raw_bounds xy z m) box
+
+-- the number of vertices that was found with the place where the blob ends
+abbrev pub counted_in : Result (ℕ × ℕ) Doubt → Result ℕ Doubt
+counted_in (Ok both) = Ok both.0
+counted_in (Err doubt) = Err doubt

@@ -6,32 +6,17 @@ use Rattle.twkb_head.specs.declared.raw.RawBox.{RawBox}
 use Rattle.twkb_num.specs.Cursor.{Reading}
 use Rattle.twkb_head.specs.declared.boxes.Bounds.{Bounds}
 use Rattle.twkb_head.specs.declared.raw.RawRange.{RawRange}
-use Rattle.twkb_head.specs.declared.raw.RawHead.{RawHead}
 use Rattle.twkb_head.specs.declared.raw.Fields.{Fields}
 use Rattle.twkb_head.specs.declared.read.Begun.{Begun}
-use Rattle.twkb_head.specs.declared.kinds.Kind.{Kind}
-use Rattle.twkb_head.specs.Header.{has_bit, z_in, m_in}
-use Rattle.twkb_head.specs.Shared.Reader.{range_from, number_at, optional_at}
-use Rattle.twkb_head.specs.Devices.HeadReader.{bounds_from, head_with, kind_from_type, byte_at}
-use Rattle.twkb_head.specs.Raw.{ends_of, raw_bounds, whole_head, head_said}
+use Rattle.twkb_head.specs.Shared.Reader.{range_from}
+use Rattle.twkb_head.specs.Devices.HeadReader.{kind_from_type, byte_at}
+use Rattle.twkb_head.specs.Raw.{ends_of, raw_bounds, head_said}
 use Rattle.twkb_head.specs.declared.header.Head.{Head}
 
 -- the range of an axis that is there was read, or it isn't there, and the range is all zeros
 abbrev pub IsRangeIf : Bool → RawRange → Reading → Reading → Type 0
 IsRangeIf true range old new = range_from old ≡ (Ok (ends_of range), new)
 IsRangeIf false range old new = (range ≡ record { minimum = pos 0; extent = pos 0 }) × (new ≡ old)
-
--- Behind the metadata byte the other fields of a header were read, that starts at this place.
-pub record AreFieldsOf (raw : RawHead) (start : ℕ) (kind : Kind) (xy : ℤ) (metadata : ℕ) (old new : Reading) : Type 0 where
-  pub extended : Option ℕ
-  pub size : Option ℕ
-  pub bounds : Option Bounds
-  pub size_start : Reading
-  pub box_start : Reading
-  pub extended_is : optional_at (has_bit metadata 8) byte_at old ≡ (Ok extended, size_start)
-  pub size_is : optional_at (has_bit metadata 2) number_at size_start ≡ (Ok size, box_start)
-  pub box_is : optional_at (has_bit metadata 1) (bounds_from xy (z_in extended) (m_in extended)) box_start ≡ (Ok bounds, new)
-  pub head_is : whole_head raw ≡ head_with kind xy metadata extended size bounds start size_start.place box_start.place new.place
 
 -- what was read, as readers in units have it
 abbrev pub ended : Result RawRange Malformed → Result (ℤ × ℤ) Malformed

@@ -1,7 +1,7 @@
 //! Two signed numbers at a cursor's place, read or passed together.
-ghost use Rattle.std.specs.Prelude.{◌≡◌, IfSome, IfNone, OnSome};
-ghost use Rattle.twkb_num.specs.Cursor.{passed, IsMoved};
-ghost use Rattle.twkb_num.specs.Varint.{SpellsMany, SpellsTwoSigned, IsShort};
+ghost use Rattle.std.specs.Prelude.{◌≡◌, ◌↔◌, IfSome, IfNone, OnSome, IsTrue};
+ghost use Rattle.twkb_num.specs.Cursor.{Reading, passed, IsMoved};
+ghost use Rattle.twkb_num.specs.Varint.{SpellsMany, SpellsTwoSigned, IsSigned, IsShort};
 
 use super::Cursor;
 use crate::ends::second_end;
@@ -35,6 +35,60 @@ impl<'a> Cursor<'a> {
         Some((both.first, both.second))
     }
 
+    /// Reads four signed varints, two after two, if [`Cursor::svarint_pair`] can read both pairs. Otherwise it answers `None` and
+    /// has read nothing.
+    #[inline(always)]
+    pub fn svarint_two_pairs(&mut self) -> Option<((i64, i64), (i64, i64))>
+        ensures some { IfSome result (λ two. (middle : Reading)
+            × SpellsTwoSigned (passed self.old middle) (two.0).0 (two.0).1 × IsMoved self.old middle
+            × SpellsTwoSigned (passed middle self.new) (two.1).0 (two.1).1 × IsMoved middle self.new) }
+        ensures first { IfSome result (λ two. IsShort (two.0).0 × IsShort (two.0).1) }
+        ensures second { IfSome result (λ two. IsShort (two.1).0 × IsShort (two.1).1) }
+        ensures none { IfNone result (self.new ≡ self.old) }
+    {
+        let mut ahead = self.copied();
+        let first = ahead.svarint_pair()?;
+        let second = ahead.svarint_pair()?;
+        *self = ahead;
+        Some((first, second))
+    }
+
+    /// Reads a pair as [`Cursor::svarint_pair`] does, and the signed varint after it if it is in the range of four bytes. Otherwise
+    /// it answers `None` and has read nothing.
+    #[inline(always)]
+    pub fn svarint_pair_and_one(&mut self) -> Option<((i64, i64), i64)>
+        ensures some { IfSome result (λ three. (middle : Reading)
+            × SpellsTwoSigned (passed self.old middle) (three.0).0 (three.0).1 × IsMoved self.old middle
+            × IsSigned three.1 (passed middle self.new) × IsMoved middle self.new) }
+        ensures pair { IfSome result (λ three. IsShort (three.0).0 × IsShort (three.0).1) }
+        ensures one { IfSome result (λ three. IsShort three.1) }
+        ensures none { IfNone result (self.new ≡ self.old) }
+    {
+        let mut ahead = self.copied();
+        let pair = ahead.svarint_pair()?;
+        let Ok(one) = ahead.svarint() else {
+            return None;
+        };
+        if !is_short(one) {
+            return None;
+        }
+        *self = ahead;
+        Some((pair, one))
+    }
+
+    // A copy, which is put in the place of the cursor, or dropped with what it read.
+    #[inline(always)]
+    fn copied(&self) -> Cursor<'a>
+        ensures { result ≡ self.now }
+    {
+        Cursor {
+            bytes: self.bytes,
+            place: self.place,
+            start: self.start,
+            counted_before: self.counted_before,
+        }
+    }
+
     /// Moves past the two varints at the place without decoding them, if both end in the next eight bytes. Otherwise it answers
     /// `None`, and the cursor is as it was.
     #[inline(always)]
@@ -47,4 +101,12 @@ impl<'a> Cursor<'a> {
         self.place += both;
         Some(())
     }
+}
+
+/// Whether a number is one of those that four bytes can spell.
+#[inline(always)]
+fn is_short(number: i64) -> bool
+    ensures { IsTrue result ↔ IsShort number }
+{
+    -(1 << 27) <= number && number < 1 << 27
 }

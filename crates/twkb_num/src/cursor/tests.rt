@@ -59,52 +59,59 @@ fn the_greatest_count_stays(rt: HostRuntime) {
 }
 
 #[test]
-fn what_is_read_ahead_is_counted_by_who_goes_on(rt: HostRuntime) {
-    let mut cursor = Cursor::new(&[0x01, 0x02, 0x05, 0x06, 0x80]);
-    equal(&rt, cursor.byte(), Some(1));
-    cursor.go_to(2);
-    equal(&rt, cursor.byte(), Some(5));
-    let mut ahead = cursor.ahead();
-    equal(&rt, ahead.place(), 3);
-    equal(&rt, ahead.read_count(), 2);
-    equal(&rt, ahead.svarint(), Ok(3));
-    equal(&rt, ahead.svarint(), Err(NumFault::Cut));
-    equal(&rt, ahead.place(), 4);
-    equal(&rt, ahead.read_count(), 4);
-    equal(&rt, cursor.place(), 3);
-    equal(&rt, cursor.read_count(), 2);
-    cursor = ahead;
-    equal(&rt, cursor.byte(), Some(0x80));
+fn four_numbers_are_read_together_or_not_at_all(rt: HostRuntime) {
+    let bytes = [2, 1, 0x80, 1, 3, 5, 6, 7, 8, 9, 10, 11];
+    let mut cursor = Cursor::new(&bytes);
+    equal(&rt, cursor.svarint_two_pairs(), Some(((1, -1), (64, -2))));
+    equal(&rt, cursor.place(), 5);
+    equal(&rt, cursor.read_count(), 5);
+    // Seven bytes are left, and a pair wants a word of eight.
+    equal(&rt, cursor.svarint_two_pairs(), None);
+    equal(&rt, cursor.place(), 5);
+    equal(&rt, cursor.read_count(), 5);
+    // The first pair has its word, and the second one hasn't.
+    cursor.go_to(4);
+    equal(&rt, cursor.svarint_two_pairs(), None);
+    equal(&rt, cursor.place(), 4);
     equal(&rt, cursor.read_count(), 5);
 }
 
 #[test]
-fn a_word_is_the_next_eight_bytes(rt: HostRuntime) {
-    let bytes = [1, 2, 3, 4, 5, 6, 7, 8, 9];
+fn three_numbers_are_read_together_or_not_at_all(rt: HostRuntime) {
+    let bytes = [2, 1, 3, 5, 6, 7, 8, 0xfe, 0xff, 0xff, 0xff, 0x0f];
     let mut cursor = Cursor::new(&bytes);
-    equal(&rt, cursor.word(), Some([1, 2, 3, 4, 5, 6, 7, 8]));
-    equal(&rt, cursor.byte(), Some(1));
-    equal(&rt, cursor.word(), Some([2, 3, 4, 5, 6, 7, 8, 9]));
-    equal(&rt, cursor.place(), 1);
-    equal(&rt, cursor.read_count(), 1);
-    equal(&rt, cursor.byte(), Some(2));
-    equal(&rt, cursor.word(), None);
-    cursor.go_to(9);
-    equal(&rt, cursor.word(), None);
-    equal(&rt, cursor.read_count(), 2);
+    equal(&rt, cursor.svarint_pair_and_one(), Some(((1, -1), -2)));
+    equal(&rt, cursor.place(), 3);
+    equal(&rt, cursor.read_count(), 3);
+    // The third number is 2^31 - 1, which takes five bytes.
+    cursor.go_to(4);
+    equal(&rt, cursor.svarint_pair_and_one(), Some(((3, -4), 4)));
+    cursor.go_to(2);
+    equal(&rt, cursor.svarint_pair_and_one(), Some(((-2, -3), 3)));
+    equal(&rt, cursor.read_count(), 9);
+    let far = [2, 1, 0xfe, 0xff, 0xff, 0xff, 0x0f, 0, 0, 0];
+    let mut cursor = Cursor::new(&far);
+    equal(&rt, cursor.svarint_pair_and_one(), None);
+    equal(&rt, cursor.place(), 0);
+    equal(&rt, cursor.read_count(), 0);
+    // No byte is left for the third one.
+    let mut cursor = Cursor::new(&[2, 1]);
+    equal(&rt, cursor.svarint_pair_and_one(), None);
+    equal(&rt, cursor.read_count(), 0);
 }
 
 #[test]
-fn bytes_are_counted_where_they_are_passed(rt: HostRuntime) {
-    let bytes = [1, 2, 3, 4, 5, 6, 7, 8, 9, 10, 11];
+fn short_numbers_are_passed_together_or_not_at_all(rt: HostRuntime) {
+    let bytes = [1, 2, 0x80, 3, 4, 5, 6, 7, 8, 9, 10];
     let mut cursor = Cursor::new(&bytes);
-    cursor.go_to(1);
-    cursor.pass(9);
-    equal(&rt, cursor.place(), 10);
-    equal(&rt, cursor.read_count(), 9);
-    cursor.pass(0);
-    equal(&rt, cursor.byte(), Some(11));
-    equal(&rt, cursor.read_count(), 10);
+    equal(&rt, cursor.pass_short_varints(3), Some(()));
+    equal(&rt, cursor.place(), 4);
+    equal(&rt, cursor.read_count(), 4);
+    equal(&rt, cursor.pass_short_varints(0), Some(()));
+    equal(&rt, cursor.pass_short_varints(7), None);
+    equal(&rt, cursor.pass_short_varints(65_536), None);
+    equal(&rt, cursor.place(), 4);
+    equal(&rt, cursor.read_count(), 4);
 }
 
 // A number of ten bytes, and behind it one of as many: from place k on the first has 10 - k bytes.

@@ -14,8 +14,8 @@ returns c = λ e.
     let third : to_z w64 (of_z w64 a.third) ≡ a.third = omega (arith, ints) in
     let fourth : to_z w64 (of_z w64 a.fourth) ≡ a.fourth = omega (arith, ints) in
     record {
-      third = c.if-not-is_range.ensures.0 refl;
-      fourth = c.if-not-is_range-2.ensures.0 refl;
+      third = c.if-not-is_near_range.ensures refl;
+      fourth = c.if-not-is_near_range-2.ensures refl;
       all = record {
         x = subst IsNearZero x (c.if-not-is_near.ensures.0 refl);
         y = subst IsNearZero y (c.if-not-is_near-2.ensures.0 refl);

@@ -1,22 +1,22 @@
 -- The pass over a geometry and that over members, each by the other: header, body, then the judging of claims.
-use Rattle.std.proofs.Common.{rules, ◌≡◌, ◌+◌, ◌-◌, Bool, true, ◌||◌, None, refl, sym, ap, subst, ◌∙◌, arith}
+use Rattle.std.proofs.Common.{rules, ◌≡◌, ◌+◌, ◌-◌, suc, Bool, true, false, not, ◌==◌, ◌||◌, None, refl, sym, ap, subst, ◌∙◌, arith}
 use Rattle.std.proofs.lemmas.Result.{err_from_is_err_and}
 use Rattle.twkb_num.specs.Cursor.{Reading, rest}
 use Rattle.twkb_head.specs.declared.header.Head.{Head}
-use Rattle.twkb_head.specs.BegunHeader.{deepest}
-use Rattle.twkb_head.proofs.HeadBack.{head_value, head_fails}
+use Rattle.twkb_head.specs.BegunHeader.{deepest, is_collection, IsAllowedAt}
 use Rattle.twkb_head.specs.Header.{is_multi}
+use Rattle.twkb_head.proofs.HeadBack.{head_value, head_fails}
 use Rattle.twkb_body.specs.Devices.Body.{no_body, members_body, members_of}
-use Rattle.twkb_body.specs.Devices.BodyReader.{list_at, shape_at, collection_at, geometry_at, members_under}
+use Rattle.twkb_body.specs.Devices.BodyReader.{list_at, shape_at, body_at, collection_at, geometry_at, members_under}
 use Rattle.twkb_body.specs.Devices.IdLists.{HasManyIdsAfterCount}
 use Rattle.twkb_body.specs.Devices.Found.{box_judged}
 use Rattle.twkb_body.specs.Devices.Inside.{of_head}
 use Rattle.twkb_body.specs.Audited.{HasLongList}
-use Rattle.twkb_body.specs.Devices.Stops.{WantsInside, own_ids, member_ids}
+use Rattle.twkb_body.specs.Devices.Stops.{WantsIn, WantsInside, own_ids, member_ids}
 use Rattle.twkb_body.proofs.HeadFacts.{head_size}
-use Rattle.twkb_body.proofs.GeometrySteps.{header_fails, body_gives, body_fails, empty_body, shape_behind_head, nothing_inside, geometry_found}
-use Rattle.twkb_body.proofs.MemberSteps.{collection_head, members_begin, members_go_on, members_fail, members_end, no_list, no_member, collection_gives, members_inside, member_bytes, long_list_own, long_list_inside}
-use Rattle.twkb_body.proofs.Stopping.{stops_outside}
+use Rattle.twkb_body.proofs.GeometrySteps.{header_fails, body_gives, body_fails, body_of_head, empty_body, shape_body, nothing_inside, geometry_found}
+use Rattle.twkb_body.proofs.MemberSteps.{collection_below, collection_body, long_list_in, members_begin, members_go_on, members_fail, members_end, no_list, no_member, collection_gives, members_inside, member_bytes}
+use Rattle.twkb_body.proofs.Stopping.{stops_outside, reads_through}
 use Rattle.twkb_body.proofs.geometry.+take_geometry.Goals as goal
 
 pub take_geometry-returns-in_err-head : goal.take_geometry-returns-in_err-head
@@ -26,91 +26,78 @@ take_geometry-returns-in_err-head g t c =
     (ap (λ (r : Reading). r.bytes) c.in_err-head.ensures.still) c.in_err-head.ensures.refused in
     rw (p.1, p.2) (header_fails (deepest - c.args.depth) c.args.cursor.now c.in_err-head.field-0.0 _ e)
 
-pub take_geometry-judged-requires : goal.take_geometry-judged-requires
-take_geometry-judged-requires g t c = head_size _ _ c.in_ok-head.head c.args.depth c.in_ok-head.ensures.ok c.in_ok-head.ensures.moved _ (omega (arith, c.place-stop.ensures.value))
-
-pub take_geometry-returns-then-head : goal.take_geometry-returns-then-head
-take_geometry-returns-then-head g t c =
+pub take_geometry-take_inside-requires : goal.take_geometry-take_inside-requires
+take_geometry-take_inside-requires g t c =
     let ok = c.in_ok-head.ensures in
-    let headed = head_value c.args.depth c.requires.shallowest c.requires.deepest _ _ c.in_ok-head.head c.place_is_within.ensures ok.ok ok.moved in
-    let empty : ok.ok.header.empty ≡ true = sym (ap (λ (h : Head). h.empty) ok.ok.fields) ∙ c.if-head.true in (
-      _,
-      body_gives (deepest - c.args.depth) c.args.cursor.now _ _ headed no_body _ (empty_body ok.ok.header (members_under (deepest - c.args.depth)) c.read_head.new.cursor empty),
-      geometry_found _ c.in_ok-head.head c.args.depth c.args.cursor.now c.read_head.new.cursor c.read_head.new.cursor ok.ok ok.moved (omega arith) no_body (record { found = c.nothing.result; boxed = c.judge_box.result; ids = None }) _ _ c.judged.result
-          (nothing_inside _ (of_head c.in_ok-head.head) c.in_ok-head.head.bounds _ _ _ c.nothing.ensures.vertices c.nothing.ensures.refused (c.judge_box.ensures ∙ ap (box_judged _ (of_head c.in_ok-head.head) c.in_ok-head.head.bounds) c.empty.ensures) refl)
-          c.judged.ensures.vertices (rw c.place-stop.ensures.value at c.judged.ensures.refused),
-    )
+    let allowed = subst (λ (h : Head). IsAllowedAt h.kind c.args.depth) (sym ok.ok.fields) ok.ok.allowed in
+    search rules
 
 pub take_geometry-returns-in_err-inside : goal.take_geometry-returns-in_err-inside
 take_geometry-returns-in_err-inside g t c =
     let p = err_from_is_err_and c.from_residual-in_err-inside.result c.from_residual-in_err-inside.ensures.1 in
     let ok = c.in_ok-head.ensures in
     let headed = head_value c.args.depth c.requires.shallowest c.requires.deepest _ _ c.in_ok-head.head c.place_is_within.ensures ok.ok ok.moved in
-    let body = shape_behind_head c.in_ok-head.head ok.ok.header _ _ _ _ ok.ok.fields c.if-head.false (sym c.is_collection.ensures ∙ c.if-not-is_collection.true) (members_under (deepest - c.args.depth)) c.read_head.new.cursor in
-    rw (p.1, p.2) (stops_outside (shape_at (is_multi c.in_ok-head.head.kind) (of_head c.in_ok-head.head) c.read_head.new.cursor) (geometry_at (deepest - c.args.depth) c.args.cursor.now)
-    (HasManyIdsAfterCount c.in_ok-head.head.ids (rest c.read_head.new.cursor)) (HasLongList c.args.depth (rest c.args.cursor.now)) c.read_head.new.cursor c.args.cursor.now _ c.take_shape.new.cursor
-    (λ m f. body_fails (deepest - c.args.depth) c.args.cursor.now _ _ headed m _ (record { left = f.left; is = body ∙ f.is; bytes = f.bytes }))
-    (λ bytes many. (bytes ∙ ok.moved.bytes, long_list_own c.args.depth _ _ ok.ok.header ok.moved ok.ok.is ok.ok.allowed c.in_ok-head.head.ids (ap (λ (h : Head). h.ids) ok.ok.fields) many))
+    let body = body_of_head c.in_ok-head.head ok.ok.header _ _ _ _ ok.ok.fields (members_under (deepest - c.args.depth)) c.read_head.new.cursor in
+    rw (p.1, p.2) (stops_outside (body_at c.in_ok-head.head.empty (is_collection c.in_ok-head.head.kind) (of_head c.in_ok-head.head) (members_under (deepest - c.args.depth)) c.read_head.new.cursor) (geometry_at (deepest - c.args.depth) c.args.cursor.now)
+    (WantsIn (is_collection c.in_ok-head.head.kind) c.in_ok-head.head.empty c.args.depth c.in_ok-head.head.ids c.read_head.new.cursor) (HasLongList c.args.depth (rest c.args.cursor.now)) c.read_head.new.cursor c.args.cursor.now _ c.take_inside.new.cursor
+    (λ m f. body_fails (deepest - c.args.depth) c.args.cursor.now _ _ headed m _ (record { left = f.left; is = sym body ∙ f.is; bytes = f.bytes }))
+    (λ bytes wants. (bytes ∙ ok.moved.bytes, long_list_in c.in_ok-head.head c.args.depth _ _ c.requires.shallowest c.place_is_within.ensures ok.ok ok.moved _ refl wants))
     c.in_err-inside.ensures)
 
-pub take_geometry-judged-requires-then-not-is_collection : goal.take_geometry-judged-requires-then-not-is_collection
-take_geometry-judged-requires-then-not-is_collection g t c =
+pub take_geometry-judged-requires : goal.take_geometry-judged-requires
+take_geometry-judged-requires g t c =
     let s = c.in_ok-inside.ensures in
     head_size _ _ c.in_ok-head.head c.args.depth c.in_ok-head.ensures.ok c.in_ok-head.ensures.moved _
-    (omega (arith, s.2.few, c.place-stop-then-not-is_collection.ensures.value))
-
-pub take_geometry-returns-then-not-is_collection : goal.take_geometry-returns-then-not-is_collection
-take_geometry-returns-then-not-is_collection g t c =
-    let ok = c.in_ok-head.ensures in
-    let headed = head_value c.args.depth c.requires.shallowest c.requires.deepest _ _ c.in_ok-head.head c.place_is_within.ensures ok.ok ok.moved in
-    let body = shape_behind_head c.in_ok-head.head ok.ok.header _ _ _ _ ok.ok.fields c.if-head.false (sym c.is_collection.ensures ∙ c.if-not-is_collection.true) (members_under (deepest - c.args.depth)) c.read_head.new.cursor in
-    let s = c.in_ok-inside.ensures in (
-      _,
-      body_gives (deepest - c.args.depth) c.args.cursor.now _ _ headed s.0 _ (body ∙ s.1),
-      geometry_found _ c.in_ok-head.head c.args.depth c.args.cursor.now c.read_head.new.cursor c.take_shape.new.cursor ok.ok ok.moved (omega (arith, s.2.few)) s.0 c.in_ok-inside.inside _ _ c.judged-then-not-is_collection.result
-          s.2 c.judged-then-not-is_collection.ensures.vertices (rw c.place-stop-then-not-is_collection.ensures.value at c.judged-then-not-is_collection.ensures.refused),
-    )
-
-pub take_geometry-take_members-requires : goal.take_geometry-take_members-requires
-take_geometry-take_members-requires g t c =
-    let ok = c.in_ok-head.ensures in
-    let h = collection_head c.in_ok-head.head ok.ok.header _ _ _ _ c.args.depth c.read_head.new.cursor ok.ok.fields ok.ok.allowed c.if-head.false (sym c.is_collection.ensures ∙ c.if-not-is_collection.false) in
-    let below = h.below in
-    search rules
-
-pub take_geometry-returns-in_err-inside-2 : goal.take_geometry-returns-in_err-inside-2
-take_geometry-returns-in_err-inside-2 g t c =
-    let p = err_from_is_err_and c.from_residual-in_err-inside-2.result c.from_residual-in_err-inside-2.ensures.1 in
-    let ok = c.in_ok-head.ensures in
-    let headed = head_value c.args.depth c.requires.shallowest c.requires.deepest _ _ c.in_ok-head.head c.place_is_within.ensures ok.ok ok.moved in
-    let h = collection_head c.in_ok-head.head ok.ok.header _ _ _ _ c.args.depth c.read_head.new.cursor ok.ok.fields ok.ok.allowed c.if-head.false (sym c.is_collection.ensures ∙ c.if-not-is_collection.false) in
-    rw (p.1, p.2) (stops_outside (collection_at (geometry_at (deepest - (c.args.depth + 1))) c.in_ok-head.head.ids c.read_head.new.cursor) (geometry_at (deepest - c.args.depth) c.args.cursor.now)
-    (WantsInside c.args.depth (deepest - (c.args.depth + 1)) c.in_ok-head.head.ids c.read_head.new.cursor) (HasLongList c.args.depth (rest c.args.cursor.now)) c.read_head.new.cursor c.args.cursor.now _ c.take_members.new.cursor
-    (λ m f. body_fails (deepest - c.args.depth) c.args.cursor.now _ _ headed m _ (record { left = f.left; is = h.body ∙ f.is; bytes = f.bytes }))
-    (λ bytes wants. (
-      bytes ∙ ok.moved.bytes,
-      long_list_inside c.args.depth (deepest - (c.args.depth + 1)) _ _ ok.ok.header (omega (arith, h.below)) c.requires.shallowest c.place_is_within-2.ensures ok.moved ok.ok.is ok.ok.allowed h.full h.many
-          (subst (λ (b : Bool). WantsInside c.args.depth (deepest - (c.args.depth + 1)) b c.read_head.new.cursor) h.ids wants),
-    ))
-    c.in_err-inside-2.ensures)
-
-pub take_geometry-judged-requires-2 : goal.take_geometry-judged-requires-2
-take_geometry-judged-requires-2 g t c =
-    let s = c.in_ok-inside-2.ensures in
-    head_size _ _ c.in_ok-head.head c.args.depth c.in_ok-head.ensures.ok c.in_ok-head.ensures.moved _
-    (omega (arith, s.2.few, c.place-stop-2.ensures.value))
+    (omega (arith, s.2.few, c.place-stop.ensures.value))
 
 pub take_geometry-returns : goal.take_geometry-returns
 take_geometry-returns g t c =
     let ok = c.in_ok-head.ensures in
     let headed = head_value c.args.depth c.requires.shallowest c.requires.deepest _ _ c.in_ok-head.head c.place_is_within.ensures ok.ok ok.moved in
-    let h = collection_head c.in_ok-head.head ok.ok.header _ _ _ _ c.args.depth c.read_head.new.cursor ok.ok.fields ok.ok.allowed c.if-head.false (sym c.is_collection.ensures ∙ c.if-not-is_collection.false) in
-    let s = c.in_ok-inside-2.ensures in (
+    let body = body_of_head c.in_ok-head.head ok.ok.header _ _ _ _ ok.ok.fields (members_under (deepest - c.args.depth)) c.read_head.new.cursor in
+    let s = c.in_ok-inside.ensures in (
       _,
-      body_gives (deepest - c.args.depth) c.args.cursor.now _ _ headed s.0 _ (h.body ∙ s.1),
-      geometry_found _ c.in_ok-head.head c.args.depth c.args.cursor.now c.read_head.new.cursor c.take_members.new.cursor ok.ok ok.moved (omega (arith, s.2.few)) s.0 c.in_ok-inside-2.inside _ _ c.judged-2.result
-          s.2 c.judged-2.ensures.vertices (rw c.place-stop-2.ensures.value at c.judged-2.ensures.refused),
+      body_gives (deepest - c.args.depth) c.args.cursor.now _ _ headed s.0 _ (sym body ∙ s.1),
+      geometry_found _ c.in_ok-head.head c.args.depth c.args.cursor.now c.read_head.new.cursor c.take_inside.new.cursor ok.ok ok.moved (omega (arith, s.2.few)) s.0 c.in_ok-inside.inside _ _ c.judged.result
+          s.2 c.judged.ensures.vertices (rw c.place-stop.ensures.value at c.judged.ensures.refused),
     )
+
+-- ---- take_inside
+pub take_inside-returns-then-head : goal.take_inside-returns-then-head
+take_inside-returns-then-head g t c =
+    let head = c.args.head.now in (
+      no_body,
+      empty_body (of_head head) (members_under (deepest - c.args.depth)) c.args.cursor.now c.if-head.true,
+      nothing_inside _ (of_head head) head.bounds _ _ _ c.nothing.ensures.vertices c.nothing.ensures.refused (c.judge_box.ensures ∙ ap (box_judged _ (of_head head) head.bounds) c.empty.ensures) refl,
+    )
+
+pub take_inside-returns-then-not-is_collection : goal.take_inside-returns-then-not-is_collection
+take_inside-returns-then-not-is_collection g t c =
+    let head = c.args.head.now in
+    let a = c.args.cursor.now in
+    let single : is_collection head.kind ≡ false = sym c.is_collection.ensures ∙ c.if-not-is_collection.true in
+    reads_through (not (g.row.TIGHT == 0)) head (shape_at (is_multi head.kind) (of_head head) a) (body_at head.empty (is_collection head.kind) (of_head head) (members_under (deepest - c.args.depth)) a)
+    (HasManyIdsAfterCount head.ids (rest a)) (WantsIn (is_collection head.kind) head.empty c.args.depth head.ids a) c.args.seen.now c.take_shape.new.seen a c.take_shape.new.cursor c.take_shape.result
+    (shape_body (of_head head) (members_under (deepest - c.args.depth)) a c.if-head.false single)
+    (λ wants. subst (λ (b : Bool). WantsIn b head.empty c.args.depth head.ids a) (sym single) wants) c.take_shape.ensures
+
+pub take_inside-take_members-requires : goal.take_inside-take_members-requires
+take_inside-take_members-requires g t c =
+    let below = collection_below c.args.head.now.kind c.args.depth c.requires.allowed (sym c.is_collection.ensures ∙ c.if-not-is_collection.false) in
+    search rules
+
+pub take_inside-returns : goal.take_inside-returns
+take_inside-returns g t c =
+    let head = c.args.head.now in
+    let a = c.args.cursor.now in
+    let inner = deepest - (c.args.depth + 1) in
+    let many : is_collection head.kind ≡ true = sym c.is_collection.ensures ∙ c.if-not-is_collection.false in
+    let below = collection_below head.kind c.args.depth c.requires.allowed many in
+    let under : deepest - c.args.depth ≡ suc inner = omega (arith, below) in
+    reads_through (not (g.row.TIGHT == 0)) head (collection_at (geometry_at inner) head.ids a) (body_at head.empty (is_collection head.kind) (of_head head) (members_under (deepest - c.args.depth)) a)
+    (WantsInside c.args.depth inner head.ids a) (WantsIn (is_collection head.kind) head.empty c.args.depth head.ids a) c.args.seen.now c.take_members.new.seen a c.take_members.new.cursor c.take_members.result
+    (collection_body (deepest - c.args.depth) inner (of_head head) a under c.if-head.false many)
+    (λ wants. subst (λ (b : Bool). WantsIn b head.empty c.args.depth head.ids a) (sym many) (c.if-head.false, wants)) c.take_members.ensures
 
 -- ---- take_members
 pub take_members-returns-in_err-list : goal.take_members-returns-in_err-list

@@ -1,10 +1,10 @@
 -- One id more is kept; a malformed one or a refusal of memory ends the reading.
-use Rattle.std.proofs.Common.{◌≡◌, ◌≤◌, length, arith}
+use Rattle.std.proofs.Common.{refl, rules, ◌≡◌, ◌≤◌, length, arith}
 use Rattle.std.proofs.lemmas.Result.{err_from_is_err_and}
 use Rattle.std.proofs.lemmas.Int.{ints}
 use mir.Val.{to_z, of_z}
 use Rattle.std.specs.Int.{w64}
-use Rattle.twkb_body.proofs.IdLoops.{ids_go_on, ids_fail, ids_many}
+use Rattle.twkb_body.proofs.IdLoops.{ids_go_on, ids_fail, ids_many, rising_begins, rising_goes_on, rising_ends}
 use Rattle.twkb_body.proofs.rooms.take_grown.Goals as goal
 
 pub returns-in_err-id : goal.returns-in_err-id
@@ -24,4 +24,17 @@ loop-preserved g c =
     record {
       going = ids_go_on c.args.count _ c.loop.counter c.loop.ids.items _ _ _ c.in_ok-id.id c.loop-test.true c.in_ok-id.ensures (rw same at c.in_ok-push.ensures.ok) c.loop.invariant.going;
       room = omega (arith, c.loop.invariant.room, c.in_ok-push.ensures.capacity);
+      rise = λ e. let s = c.still_rises-rising.ensures e in rw same (rising_goes_on c.args.count c.args.cursor.now c.loop.counter _ c.in_ok-id.id _ _ c.loop-test.true (rw same at s.1) c.in_ok-id.ensures (c.loop.invariant.rise s.0));
     }
+
+pub returns-then-rising : goal.returns-then-rising
+returns-then-rising g c =
+    let (ids, read, differ) = rising_ends c.args.count c.args.cursor.now c.loop.counter _ _ (omega arith) (c.loop.invariant.rise c.if-rising.true) in
+    (ids, read, (λ t. differ, λ d. refl))
+
+pub loop-init : goal.loop-init
+loop-init g c = record {
+  going = search rules;
+  room = search rules;
+  rise = λ e. rising_begins c.args.count c.args.cursor.now _;
+}

@@ -1,10 +1,11 @@
 -- The ids kept are those read, in order, from the start to the cursor's place.
-use Rattle.std.proofs.Common.{◌≤◌}
-use Rattle.twkb_body.proofs.IdLoops.{IsIdLoop}
+use Rattle.std.proofs.Common.{IsTrue, ◌≤◌}
+use Rattle.twkb_body.proofs.IdLoops.{IsIdLoop, IsRisingLoop}
 use Rattle.twkb_body.proofs.rooms.take_grown.Given as goal
 
 abbrev pub invariant-loop : goal.invariant-loop
 invariant-loop g l = record {
   going : IsIdLoop l.count l.fn.cursor l.counter l.ids.items l.cursor;
   room : 16 ≤ l.ids.capacity;
+  rise : IsTrue l.rising → IsRisingLoop l.count l.fn.cursor l.counter l.last l.cursor;
 }

@@ -1,11 +1,11 @@
 -- One id more goes to its place; a malformed one or a full room ends the reading.
-use Rattle.std.proofs.Common.{◌≡◌, ◌≤◌, ◌<◌, length, arith, take, rules}
+use Rattle.std.proofs.Common.{refl, ◌≡◌, ◌≤◌, ◌<◌, length, arith, take, rules}
 use Rattle.std.proofs.lemmas.Result.{err_from_is_err_and}
 use Rattle.std.proofs.lemmas.Int.{ints}
 use Rattle.std.proofs.lemmas.List.{take_more_set, length-take}
 use mir.Val.{to_z, of_z}
 use Rattle.std.specs.Int.{w64}
-use Rattle.twkb_body.proofs.IdLoops.{ids_go_on, ids_fail, ids_many}
+use Rattle.twkb_body.proofs.IdLoops.{ids_go_on, ids_fail, ids_many, rising_begins, rising_goes_on, rising_ends}
 use Rattle.twkb_body.proofs.rooms.take_lent.Goals as goal
 
 pub returns-in_err-id : goal.returns-in_err-id
@@ -28,4 +28,18 @@ loop-preserved c =
       going = ids_go_on c.args.count _ c.loop.counter _ _ _ _ c.in_ok-id.id c.loop-test.true c.in_ok-id.ensures (take_more_set c.loop.ids c.loop.held c.in_ok-id.id free) l.going;
       within = search rules;
       room = search rules;
+      rise = λ e. let s = c.still_rises-rising.ensures e in rising_goes_on c.args.count c.args.cursor.now c.loop.counter _ c.in_ok-id.id _ _ c.loop-test.true (rw same at s.1) c.in_ok-id.ensures (c.loop.invariant.rise s.0);
     })
+
+pub returns-then-rising : goal.returns-then-rising
+returns-then-rising c =
+    let (ids, read, differ) = rising_ends c.args.count c.args.cursor.now c.loop.counter _ _ (omega arith) (c.loop.invariant.rise c.if-rising.true) in
+    (ids, read, (λ t. differ, λ d. refl))
+
+pub loop-init : goal.loop-init
+loop-init c = record {
+  going = search rules;
+  within = search rules;
+  room = search rules;
+  rise = λ e. rising_begins c.args.count c.args.cursor.now _;
+}

@@ -1,6 +1,6 @@
 -- The ids at the front are those read, in order, from the start to the cursor's place.
-use Rattle.std.proofs.Common.{◌≤◌, take, length}
-use Rattle.twkb_body.proofs.IdLoops.{IsIdLoop}
+use Rattle.std.proofs.Common.{IsTrue, ◌≤◌, take, length}
+use Rattle.twkb_body.proofs.IdLoops.{IsIdLoop, IsRisingLoop}
 use Rattle.twkb_body.proofs.rooms.take_lent.Given as goal
 
 abbrev pub invariant-loop : goal.invariant-loop
@@ -8,4 +8,5 @@ invariant-loop l = record {
   going : IsIdLoop l.count l.fn.cursor l.counter (take l.held l.ids) l.cursor;
   within : l.held ≤ length l.ids;
   room : 16 ≤ length l.ids;
+  rise : IsTrue l.rising → IsRisingLoop l.count l.fn.cursor l.counter l.last l.cursor;
 }

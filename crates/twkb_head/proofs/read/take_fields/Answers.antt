@@ -21,7 +21,7 @@ returns-clause-read c =
     let h5 = rw b1 at c.in_ok-bounds.ensures c.args.begun.xy (z_in c.in_ok-extended.extended) (m_in c.in_ok-extended.extended) (ap is_some (sym z) ∙ sym c.is_some.ensures) (ap is_some (sym m) ∙ sym c.is_some-2.ensures) in
     let size = rw (c.place-size_place.ensures.value, c.place-box_place.ensures.value) at c.size_field.ensures in
     let is = rest_is _ _ _ _ _ _ _ _ _ _ c.args.begun.start h3 h4 h5 in
-    is ∙ ap (λ (h : Head). (Ok h, c.take_any_box.new.cursor)) (λ j. record {
+    is ∙ ap (λ (h : Head). (Ok h, c.take_box.new.cursor)) (λ j. record {
       kind = c.args.begun.kind;
       xy = sym fits j;
       z = sym z j;

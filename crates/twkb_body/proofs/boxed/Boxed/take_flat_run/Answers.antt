@@ -22,11 +22,11 @@ loop-inside-init c =
     let near_x : IsNearZero (to_z w64 (of_z w64 (slice_index_or last 0 (pos 0)))) = c.if-not-is_near.ensures.0 refl in
     let near_y : IsNearZero (to_z w64 (of_z w64 (slice_index_or last 1 (pos 0)))) = c.if-not-is_near-2.ensures.0 refl in
     let across : to_z w64 (of_z w64 (to_z w64 (of_z w64 (slice_index_or last 0 (pos 0))) -ℤ to_z w64 (of_z w64 box.x.minimum))) ≡ to_z w64 (of_z w64 (slice_index_or last 0 (pos 0))) -ℤ box.x.minimum
-    = omega (arith, ints, near_x.0, near_x.1, c.self.invariant.0.0.low, c.self.invariant.0.0.high) in
+    = omega (arith, ints, near_x.0, near_x.1, c.self.invariant.0.low, c.self.invariant.0.high) in
     let up : to_z w64 (of_z w64 (to_z w64 (of_z w64 (slice_index_or last 1 (pos 0))) -ℤ to_z w64 (of_z w64 box.y.minimum))) ≡ to_z w64 (of_z w64 (slice_index_or last 1 (pos 0))) -ℤ box.y.minimum
-    = omega (arith, ints, near_y.0, near_y.1, c.self.invariant.0.1.low, c.self.invariant.0.1.high) in
+    = omega (arith, ints, near_y.0, near_y.1, c.self.invariant.1.low, c.self.invariant.1.high) in
     record {
-      run = boxed_begins (of_head c.args._head.now) c.args.trail.now c.args.self.now c.args.cursor.now box _ _ c.self.inside.inside _ _ four is_x is_y near_x near_y c.self.invariant.0 across up (sym c.self.view_is);
+      run = boxed_begins (of_head c.args._head.now) c.args.trail.now c.args.self.now c.args.cursor.now box _ _ c.self.inside.inside _ _ four is_x is_y near_x near_y c.self.invariant across up (sym c.self.view_is);
       few = omega arith;
     }
 
@@ -39,7 +39,7 @@ loop-inside-preserved c =
     let across : to_z w64 (of_z w64 (to_z w64 c.loop-inside.across-bits +ℤ to_z w64 (of_z w64 c.in-Some.x_more))) ≡ to_z w64 c.loop-inside.across-bits +ℤ c.in-Some.x_more = omega (arith, ints, close.0.0, close.0.1, short.0.0, short.0.1) in
     let up : to_z w64 (of_z w64 (to_z w64 c.loop-inside.up-bits +ℤ to_z w64 (of_z w64 c.in-Some.y_more))) ≡ to_z w64 c.loop-inside.up-bits +ℤ c.in-Some.y_more = omega (arith, ints, close.1.0, close.1.1, short.1.0, short.1.1) in
     record {
-      run = boxed_goes_on (of_head c.args._head.now) c.args.trail.now c.args.self.now c.args.cursor.now box _ _ c.in-Some.x_more c.in-Some.y_more _ _ _ _ _ _ c.loop-inside.done c.requires.flat c.loop-inside-test.true c.self.invariant.0
+      run = boxed_goes_on (of_head c.args._head.now) c.args.trail.now c.args.self.now c.args.cursor.now box _ _ c.in-Some.x_more c.in-Some.y_more _ _ _ _ _ _ c.loop-inside.done c.requires.flat c.loop-inside-test.true c.self.invariant
           c.in-Some.ensures.some short.0 short.1 c.in-Some.ensures.moved across up
           (elim c.if-not-reach_both.branch [
             | then-not-reach_both w ↦ w.inside-is ∙ w.if-not-reach_both.ensures
@@ -53,7 +53,7 @@ pub returns-clause-run : goal.returns-clause-run
 returns-clause-run c =
     let l = c.loop-inside.invariant.run in
     let box = c.self.inside.bounds in
-    let near = c.self.invariant.0 in
+    let near = c.self.invariant in
     let head = of_head c.args._head.now in
     let start = c.args.trail.now in
     let four : length start.last ≡ 4 = omega arith in
@@ -72,12 +72,12 @@ returns-clause-run c =
 pub overflow_sub-across : goal.overflow_sub-across
 overflow_sub-across c =
     let near : IsNearZero (to_z w64 (of_z w64 (slice_index_or c.args.trail.now.last 0 (pos 0)))) = c.if-not-is_near.ensures.0 refl in
-    difference_fits _ _ near (c.self.invariant.0.0.low, c.self.invariant.0.0.high)
+    difference_fits _ _ near (c.self.invariant.0.low, c.self.invariant.0.high)
 
 pub overflow_sub-up : goal.overflow_sub-up
 overflow_sub-up c =
     let near : IsNearZero (to_z w64 (of_z w64 (slice_index_or c.args.trail.now.last 1 (pos 0)))) = c.if-not-is_near-2.ensures.0 refl in
-    difference_fits _ _ near (c.self.invariant.0.1.low, c.self.invariant.0.1.high)
+    difference_fits _ _ near (c.self.invariant.1.low, c.self.invariant.1.high)
 
 pub overflow_add-trail-3 : goal.overflow_add-trail-3
 overflow_add-trail-3 c =

@@ -4,39 +4,38 @@ use Rattle.twkb_num.specs.Cursor.{Reading}
 use Rattle.twkb_body.specs.declared.trail.Trail.{Trail}
 use Rattle.twkb_body.specs.Devices.Boxed.{held_with}
 use Rattle.twkb_body.specs.Devices.Inside.{of_head}
-use Rattle.twkb_body.specs.Devices.Numbers.{listed, axes_by}
+use Rattle.twkb_body.specs.Devices.Numbers.{listed, is_four, axes_by}
 use Rattle.twkb_body.specs.Devices.Walk.{IsRun}
-use Rattle.twkb_body.proofs.FurtherRuns.{IsFurtherRun, further_begins, further_goes_on}
+use Rattle.twkb_body.proofs.FurtherRuns.{further_begins, further_goes_on}
 use Rattle.twkb_body.proofs.boxed.Boxed.take_further_run.Goals as goal
 use Rattle.twkb_body.proofs.boxed.Boxed.take_further_run.Goals.{then-loop-is_inside-test+else-taken-most, else-loop-is_inside-test, then-loop-is_inside-test+then-taken-most+in_default}
 
 pub loop-is_inside-init : goal.loop-is_inside-init
-loop-is_inside-init c = record {
-  run = subst (λ (r : Reading). IsFurtherRun (of_head c.args._head.now) c.args.trail.now c.args.self.now c.args.cursor.now c.self.inside.bounds c.args.has_fourth c.distances-apart.result c.self.inside.inside r 0) (sym c.ahead-ahead.ensures)
-      (further_begins (of_head c.args._head.now) c.args.trail.now c.args.self.now c.args.cursor.now c.self.inside.bounds c.args.has_fourth c.distances-apart.result c.self.inside.inside
-      (c.of-last.ensures ∙ ap listed c.distances-apart.ensures.placed) c.distances-apart.ensures.close (sym c.self.view_is));
+loop-is_inside-init g c = record {
+  run = further_begins (of_head c.args._head.now) c.args.trail.now c.args.self.now c.args.cursor.now c.self.inside.bounds (is_four g.row.AXES) c.distances-apart.result c.self.inside.inside
+      (c.of-last.ensures ∙ ap listed c.distances-apart.ensures.placed) c.distances-apart.ensures.close (sym c.self.view_is);
   few = omega arith;
 }
 
 pub loop-is_inside-preserved : goal.loop-is_inside-preserved
-loop-is_inside-preserved c =
+loop-is_inside-preserved g c =
     let near = c.if-not-are_near.ensures refl in
     record {
-      run = further_goes_on (of_head c.args._head.now) c.args.trail.now c.args.self.now c.args.cursor.now c.self.inside.bounds c.args.has_fourth c.loop-is_inside.apart c.in-Some.more _ _ _ _ _ c.loop-is_inside.taken
-          c.requires.further c.loop-is_inside-test.true c.self.invariant.0 near.third near.fourth c.in-Some.ensures.some c.plus-apart.ensures c.reach_all-is_inside.ensures c.loop-is_inside.invariant.run;
+      run = further_goes_on (of_head c.args._head.now) c.args.trail.now c.args.self.now c.args.cursor.now c.self.inside.bounds (is_four g.row.AXES) c.loop-is_inside.apart c.in-Some.more _ _ _ _ _ c.loop-is_inside.taken
+          c.requires.further c.loop-is_inside-test.true c.self.invariant near.third near.fourth c.in-Some.ensures.some c.plus-apart.ensures c.reach_all-is_inside.ensures c.loop-is_inside.invariant.run;
       few = omega (arith, c.if-taken-most.true);
     }
 
 pub returns-clause-run : goal.returns-clause-run
-returns-clause-run c =
-    let stop : c.loop-is_inside.ahead ≡ c.loop-is_inside-test.ahead = elim c.loop-is_inside-test.branch [
-      | then-loop-is_inside-test+else-taken-most w ↦ sym w.ahead-is
-      | else-loop-is_inside-test w ↦ sym w.ahead-is
-      | then-loop-is_inside-test+then-taken-most+in_default w ↦ sym w.in_default.ensures.none ∙ sym w.ahead-is
+returns-clause-run g c =
+    let stop : c.loop-is_inside.cursor ≡ c.loop-is_inside-test.cursor = elim c.loop-is_inside-test.branch [
+      | then-loop-is_inside-test+else-taken-most w ↦ sym w.cursor-is
+      | else-loop-is_inside-test w ↦ sym w.cursor-is
+      | then-loop-is_inside-test+then-taken-most+in_default w ↦ sym w.in_default.ensures.none ∙ sym w.cursor-is
     ] in
     let step = held_with (of_head c.args._head.now) in
-    let axes = axes_by c.args.has_fourth in
+    let axes = axes_by (is_four g.row.AXES) in
     let after : Trail = record { last = c.placed-trail.result; points = c.args.trail.now.points + c.loop-is_inside.taken } in
     subst (λ (q : Reading). IsRun step axes c.args.trail.now after c.args.self.now (record { box = c.self.inside.bounds; inside = c.loop-is_inside.is_inside }) c.args.cursor.now q c.loop-is_inside.taken) stop
-    (subst (λ (t : Trail). IsRun step axes c.args.trail.now t c.args.self.now (record { box = c.self.inside.bounds; inside = c.loop-is_inside.is_inside }) c.args.cursor.now c.loop-is_inside.ahead c.loop-is_inside.taken)
+    (subst (λ (t : Trail). IsRun step axes c.args.trail.now t c.args.self.now (record { box = c.self.inside.bounds; inside = c.loop-is_inside.is_inside }) c.args.cursor.now c.loop-is_inside.cursor c.loop-is_inside.taken)
     (λ j. record { last = sym c.placed-trail.ensures j; points = c.args.trail.now.points + c.loop-is_inside.taken }) c.loop-is_inside.invariant.run.run)

@@ -1,0 +1,536 @@
+-- What is refused is refuted: if a geometry does stand there, some claim of it is false, or the frame doesn't hold it.
+use Rattle.std.proofs.Common.{◌≡◌, ◌≢◌, ℕ, zero, suc, ◌+◌, ◌-◌, ◌<◌, ◌≤◌, Bool, true, false, List, [], ◌∷◌, ◌++◌, length, map, fold, ℤ, pos, Option, Some, None, is_some, option_map, IfSome, All, AllPairs, Result, Ok, Err, inl, inr, refl, sym, ap, ap₂, subst, ◌∙◌, append_assoc, length-append, arith}
+use Rattle.std.specs.Prelude.{IsTrue, IfOk, IfErr, OnErr, ◌⊎◌}
+use Rattle.std.proofs.lemmas.Bool.{eq-eqb}
+use Rattle.std.proofs.lemmas.Bool.Decides.{not_from_Decides}
+use Rattle.std.proofs.lemmas.List.Elements.{All-nil, All-head}
+use Rattle.std.proofs.lemmas.List.{append-nil}
+use Rattle.std.proofs.lemmas.Grind.{common_steps}
+use Rattle.twkb_num.specs.Cursor.{Reading, rest, passed, IsMoved, IsSound}
+use Rattle.twkb_num.proofs.CursorLemmas.{rest-passed}
+use Rattle.twkb_head.specs.declared.boxes.Bounds.{Bounds}
+use Rattle.twkb_head.specs.declared.boxes.Vertex.{Vertex}
+use Rattle.twkb_head.specs.declared.header.Head.{Head}
+use Rattle.twkb_head.specs.declared.header.BoxField.{BoxField}
+use Rattle.twkb_head.specs.declared.kinds.Kind.{Kind}
+use Rattle.twkb_head.specs.declared.raw.RawBox.{RawBox}
+use Rattle.twkb_head.specs.declared.raw.RawHead.{RawHead}
+use Rattle.twkb_head.specs.declared.refusal.Malformed.{Malformed}
+use Rattle.twkb_head.specs.BegunHeader.{deepest, is_collection, IsAllowedAt}
+use Rattle.twkb_head.specs.Head.{bounds_of, head_of, IsHeadAt}
+use Rattle.twkb_head.specs.Header.{Header, axes_of, axes_with, is_multi, has_bit}
+use Rattle.twkb_head.specs.Holds.{Holds}
+use Rattle.twkb_head.specs.Raw.{box_field, whole_head}
+use Rattle.twkb_head.specs.Devices.HeadPlan.{HeadValue, head_plan}
+use Rattle.twkb_head.specs.Devices.HeadReader.{head_at}
+use Rattle.twkb_head.specs.Devices.Reader.{Answer, Reader, ◌>>=◌, viewed, read, many_at, Fails}
+use Rattle.twkb_head.proofs.HeadBack.{head_value}
+use Rattle.twkb_head.proofs.HeadLaws.{head_ok, head_moved}
+use Rattle.twkb_head.proofs.HeadRuns.{placed, head_runs}
+use Rattle.twkb_head.proofs.Loops.{behind_front}
+use Rattle.twkb_head.proofs.FieldCuts.{ok_is}
+use Rattle.twkb_head.proofs.Readings.{ok_not_err, one_answer, no_failure}
+use Rattle.twkb_body.specs.declared.frame.Frame.{Frame}
+use Rattle.twkb_body.specs.declared.found.FalseClaim.{FalseClaim}
+use Rattle.twkb_body.specs.declared.lists.List.{List as ListFound}
+use Rattle.twkb_body.specs.Geometry.{Geometry, Members, Lengths, PointValue, PolygonValue, lengths_of, points_of, vertex_of, vertices as vertices_of, member_vertices}
+use Rattle.twkb_body.specs.Claims.{Claim, size_claim, box_claim, ids_claim, claims_of, IsTrueClaim, claims, member_claims}
+use Rattle.twkb_body.specs.Audited.{number_of, HasLongList}
+use Rattle.twkb_body.specs.declared.doubt.Doubt.{Doubt}
+use Rattle.twkb_body.specs.declared.doubt.Doubt.TheVariants.{Refused, Memory}
+use Rattle.twkb_body.specs.declared.stopped.Stopped.{Stopped}
+use Rattle.twkb_body.specs.declared.stopped.Stopped.TheVariants.{Malformed as BadField, Memory as NoMemory}
+use Rattle.twkb_body.specs.Devices.Stops.{HasStopped, WantsIn, WantsInside}
+use Rattle.twkb_body.specs.Devices.Body.{Body, ListHead, absolute, zeros, ring_sums, parts_body, members_body, members_of, geometry_from}
+use Rattle.twkb_body.specs.Devices.BodyReader.{list_at, count_at, part_at, shape_at, body_at, collection_at, geometry_at, members_under}
+use Rattle.twkb_body.specs.Devices.Boxed.{Held, held_then, held_with}
+use Rattle.twkb_body.specs.Devices.Found.{named, size_judged}
+use Rattle.twkb_body.specs.Devices.IdLists.{IsListFound, HasManyIdsAfterCount}
+use Rattle.twkb_body.specs.Devices.Inside.{of_head}
+use Rattle.twkb_body.specs.Devices.Pass.{false_at, ids_refused, are_distinct}
+use Rattle.twkb_body.specs.Devices.Sure.{framed, has_further, AddsParts, ReadParts, IsCounted, IsWrongCount, AreMalformed, AreHeld, IsHeldBy, IsFrameUnder, frame_bounds, body_vertices, IsSureBody, IsSure, IsJudged, HasDoubt, doubt_of, Certifies, CertifiesBody, CertifiesShape, IsTrueInside, IsRefutedBody, IsRefutedBehind, IsRefuted}
+use Rattle.twkb_body.specs.Devices.Walk.{HaveAxes, lasts_from}
+use Rattle.twkb_body.proofs.Coordinates.{vertices_same}
+use Rattle.twkb_body.proofs.Outside.{all_inside}
+use Rattle.twkb_body.proofs.ShapeSteps.{no_count, behind_count}
+use Rattle.twkb_body.proofs.Sums.{points_absolute}
+use Rattle.twkb_body.proofs.GeometrySteps.{shape_body, header_fails, body_gives, body_fails, body_of_head, size_same}
+use Rattle.twkb_body.proofs.Judging.{distinct_decides}
+use Rattle.twkb_body.proofs.MemberSteps.{long_list_in, collection_body, behind_list}
+use Rattle.twkb_body.proofs.Passes.{right_of, left_of, all_left, all_right}
+use Rattle.twkb_body.proofs.Repeats.{repeated}
+use Rattle.twkb_body.proofs.SureSteps.{IsSureLoop, body_unboxed, body_held, geometry_sure, own_box}
+use Rattle.twkb_body.proofs.TreeSums.{member_total, size_refused}
+
+-- a view is of a value that was read
+pub viewed_back : {A B : Type 0} (f : A → B) (a : Answer A) (y : B) (new : Reading) → viewed f a ≡ (Ok y, new) → (x : A) × (a ≡ (Ok x, new)) × (f x ≡ y)
+viewed_back {A} {B} f (Ok x, r) y new e = (x, ap (λ (s : Reading). (Ok x, s)) (ap (λ (z : Answer B). z.1) e), ok_is {A = B} {E = Malformed} (f x) y (ap (λ (z : Answer B). z.0) e))
+viewed_back f (Err m, r) y new e = absurd (ok_not_err y m new r (sym e))
+
+-- ---- one of many
+-- of many values the one at i is read where those before it end
+module _ {A : Type 0} (f : Reader A) (front gs : List A) (new : Reading) where
+  record IsOne (r : Reading) : Type 0 where
+    pub one : A
+    pub stop : Reading
+    pub behind : List A
+    pub read : f r ≡ (Ok one, stop)
+    pub all : gs ≡ front ++ one ∷ behind
+
+  one_then : (k : ℕ) (r : Reading) → behind_front front (repeated (suc k) f r) ≡ (Ok gs, new) → IsOne r
+  one_then k r e = go (f r) refl e
+    where
+      rest_of : (x : A) (s : Reading) → f r ≡ (Ok x, s) → (b : Answer (List A)) → behind_front front (viewed (λ xs. x ∷ xs) b) ≡ (Ok gs, new) → IsOne r
+      rest_of x s is (Ok xs, c) e = record { one = x; stop = s; behind = xs; read = is; all = sym (ok_is {A = List A} {E = Malformed} (front ++ x ∷ xs) gs (ap (λ (z : Answer (List A)). z.0) e)) }
+      rest_of x s is (Err m, c) e = absurd (ok_not_err gs m new c (sym e))
+
+      go : (a : Answer A) → f r ≡ a → behind_front front (a >>= λ x b. viewed (λ xs. x ∷ xs) (repeated k f b)) ≡ (Ok gs, new) → IsOne r
+      go (Ok x, s) is e = rest_of x s is (repeated k f s) e
+      go (Err m, s) is e = absurd (ok_not_err gs m new s (sym e))
+
+-- ---- the claims and the vertices of one member
+claims_around : (front : List Geometry) (g : Geometry) (behind : List Geometry) (start : ℕ)
+    → member_claims (members_of (front ++ g ∷ behind)) start
+    ≡ member_claims (members_of front) start ++ (claims g (start + member_total (members_of front)) ++ member_claims (members_of behind) (start + member_total (members_of front) + (lengths_of g).whole))
+unfolding claims
+claims_around [] g behind start =
+    let at : start ≡ start + 0 = omega arith in
+    ap (λ (n : ℕ). claims g n ++ member_claims (members_of behind) (n + (lengths_of g).whole)) at
+claims_around (f ∷ front) g behind start =
+    let at : start + (lengths_of f).whole + member_total (members_of front) ≡ start + ((lengths_of f).whole + member_total (members_of front)) = omega arith in
+    ap (λ (list : List Claim). claims f start ++ list) (claims_around front g behind (start + (lengths_of f).whole)
+    ∙ ap (λ (n : ℕ). member_claims (members_of front) (start + (lengths_of f).whole) ++ (claims g n ++ member_claims (members_of behind) (n + (lengths_of g).whole))) at)
+    ∙ sym (append_assoc (claims f start) (member_claims (members_of front) (start + (lengths_of f).whole)) _)
+
+vertices_around : (front : List Geometry) (g : Geometry) (behind : List Geometry)
+    → member_vertices (members_of (front ++ g ∷ behind)) ≡ member_vertices (members_of front) ++ (vertices_of g ++ member_vertices (members_of behind))
+unfolding vertices_of
+vertices_around [] g behind = refl
+vertices_around (f ∷ front) g behind =
+    ap (λ (list : List Vertex). vertices_of f ++ list) (vertices_around front g behind) ∙ sym (append_assoc (vertices_of f) (member_vertices (members_of front)) _)
+
+held_inside : (frame : Option Frame) (a b c : List Vertex) → IsHeldBy frame (a ++ (b ++ c)) → IsHeldBy frame b
+held_inside None a b c h = tt
+held_inside (Some frame) a b c h = left_of (Holds (frame_bounds frame)) b c (right_of (Holds (frame_bounds frame)) a (b ++ c) h)
+
+-- so a member that is refuted refutes all of them
+pub member_refutes : (levels count : ℕ) (from r : Reading) (frame : Option Frame) (i vertices : ℕ) → i < count → IsSureLoop levels count from frame i vertices r → IsRefuted levels frame r
+    → (gs : List Geometry) (new : Reading) → repeated count (geometry_at levels) from ≡ (Ok gs, new) → All IsTrueClaim (member_claims (members_of gs) from.place) → IsHeldBy frame (member_vertices (members_of gs)) → ⊥
+member_refutes levels count from r frame i vertices lt l wrong gs new e all held =
+    let front = l.loop.front in
+    let k : count - i ≡ suc (count - (i + 1)) = omega (arith, lt) in
+    let is : behind_front front (repeated (suc (count - (i + 1))) (geometry_at levels) r) ≡ (Ok gs, new) =
+    ap (λ (n : ℕ). behind_front front (repeated n (geometry_at levels) r)) (sym k) ∙ l.loop.read.is ∙ e in
+    let o = one_then (geometry_at levels) front gs new (count - (i + 1)) r is in
+    let around = ap (λ (xs : List Geometry). member_claims (members_of xs) from.place) o.all ∙ claims_around front o.one o.behind from.place in
+    let there = subst (All IsTrueClaim) around all in
+    let own : All IsTrueClaim (claims o.one (from.place + member_total (members_of front))) = all_left _ _ (all_right _ _ there) in
+    let shown = ap (λ (xs : List Geometry). member_vertices (members_of xs)) o.all ∙ vertices_around front o.one o.behind in
+    wrong o.one o.stop o.read (subst (λ (p : ℕ). All IsTrueClaim (claims o.one p)) (sym l.loop.place_is) own)
+    (held_inside frame (member_vertices (members_of front)) (vertices_of o.one) (member_vertices (members_of o.behind)) (subst (IsHeldBy frame) shown held))
+
+-- ---- ids
+some_not_none : {A : Type 0} (x : A) → Some x ≡ None → ⊥
+some_not_none x e = cc (e)
+
+-- what is refused of ids is false of them
+pub ids_wrong : (old mid : Reading) (head : ListHead) (list : ListFound) (f : FalseClaim) → IsListFound old mid head list → list.ids ≡ Some f → IfSome (head.1).0 (λ ids. AllPairs (λ a b. a ≢ b) ids) → ⊥
+ids_wrong old mid head list f found is true_ids = go (head.1).0 (sym (ap named is) ∙ found.refused) true_ids
+  where
+    judged : (at : ℕ × ℕ) (ids : List ℤ) (test : Bool) → are_distinct ids ≡ test → Some at ≡ false_at test (old.place + (head.0).1) 8 → AllPairs (λ a b. a ≢ b) ids → ⊥
+    judged at ids true e is pairs = some_not_none at is
+    judged at ids false e is pairs = not_from_Decides (are_distinct ids) (distinct_decides ids) e pairs
+
+    go : (ids : Option (List ℤ)) → named (Some f) ≡ ids_refused (old.place + (head.0).1) ids → IfSome ids (λ ids. AllPairs (λ a b. a ≢ b) ids) → ⊥
+    go None is pairs = some_not_none _ is
+    go (Some ids) is pairs = judged (f.offset, number_of f.claim) ids (are_distinct ids) refl is pairs
+
+-- ---- the body of a collection
+module _ (head : Head) (levels inner : ℕ) (old : Reading) (frame : Option Frame) (under : levels ≡ suc inner) (full : head.empty ≡ false) (many : is_collection head.kind ≡ true) where
+  as_collection : body_at head.empty (is_collection head.kind) (of_head head) (members_under levels) old ≡ collection_at (geometry_at inner) head.ids old
+  as_collection = collection_body levels inner (of_head head) old under full many
+
+  -- its list can't be read,
+  pub list_refutes : (m : Malformed) (new : Reading) → Fails (list_at head.ids old) m new → IsRefutedBody levels head frame old
+  list_refutes m new f body stop e inside held =
+      ok_not_err body m stop f.left (sym e ∙ as_collection ∙ ap (λ (y : Answer ListHead). y >>= λ list b. viewed (members_body list) (viewed members_of (repeated (list.0).0 (geometry_at inner) b))) f.is)
+
+  module _ (mid : Reading) (list : ListHead) (found : ListFound) (listed : list_at head.ids old ≡ (Ok list, mid)) (is_found : IsListFound old mid list found) where
+    record HasMembers (body : Body) (new : Reading) : Type 0 where
+      gs : List Geometry
+      read : repeated found.count (geometry_at inner) mid ≡ (Ok gs, new)
+      is : members_body list (members_of gs) ≡ body
+
+    members_read : (body : Body) (new : Reading) → body_at head.empty (is_collection head.kind) (of_head head) (members_under levels) old ≡ (Ok body, new) → HasMembers body new
+    members_read body new e =
+        let outer = viewed_back (members_body list) (viewed members_of (repeated found.count (geometry_at inner) mid)) body new
+        (sym (behind_list inner head.ids old mid list listed found.count is_found.count) ∙ sym as_collection ∙ e) in
+        let within = viewed_back members_of (repeated found.count (geometry_at inner) mid) outer.0 new outer.1 in
+        record { gs = within.0; read = within.1; is = ap (members_body list) within.2 ∙ outer.2 }
+
+    -- or its ids aren't distinct,
+    pub ids_refute : (f : FalseClaim) → found.ids ≡ Some f → IsRefutedBody levels head frame old
+    ids_refute f is body new e inside held =
+        let m = members_read body new e in
+        ids_wrong old mid list found f is_found is (subst (λ (b : Body). IfSome b.ids (λ ids. AllPairs (λ a b. a ≢ b) ids)) (sym m.is) inside.0)
+
+    -- or a member is refuted.
+    pub members_refute : (i vertices : ℕ) (r : Reading) → i < found.count → IsSureLoop inner found.count mid frame i vertices r → IsRefuted inner frame r → IsRefutedBody levels head frame old
+    unfolding member_vertices
+    members_refute i vertices r lt l wrong body new e inside held =
+        let m = members_read body new e in
+        let all : All IsTrueClaim (member_claims (members_of m.gs) (old.place + ((list.0).1 + (list.1).1))) = subst (λ (b : Body). All IsTrueClaim (member_claims b.members (old.place + b.list))) (sym m.is) inside.1 in
+        member_refutes inner found.count mid r frame i vertices lt l wrong m.gs new m.read
+        (subst (λ (p : ℕ). All IsTrueClaim (member_claims (members_of m.gs) p)) (sym is_found.lengths) all)
+        (subst (λ (b : Body). IsHeldBy frame (body_vertices (of_head head) b)) (sym m.is) held)
+
+-- ---- the body of a shape
+module _ (head : Head) (levels : ℕ) (old : Reading) (frame : Option Frame) (full : head.empty ≡ false) (single : is_collection head.kind ≡ false) where
+  as_shape : body_at head.empty (is_collection head.kind) (of_head head) (members_under levels) old ≡ shape_at (is_multi head.kind) (of_head head) old
+  as_shape = shape_body (of_head head) (members_under levels) old full single
+
+  -- its list can't be read,
+  pub count_refutes : (m : Malformed) (new : Reading) → Fails (count_at (is_multi head.kind) head.ids old) m new → IsRefutedBody levels head frame old
+  count_refutes m new f body stop e inside held =
+      no_failure (shape_at (is_multi head.kind) (of_head head) old) body stop new m (sym as_shape ∙ e) (no_count (of_head head) old m new f)
+
+  module _ (mid : Reading) (list : ListHead) (found : ListFound) (listed : count_at (is_multi head.kind) head.ids old ≡ (Ok list, mid)) (is_found : IsListFound old mid list found) where
+    abbrev reads_parts : ℕ → Answer (List PolygonValue)
+    reads_parts axes = many_at found.count ring_sums (part_at head.kind axes) zeros mid
+
+    parts_read : (axes : ℕ) → axes ≡ axes_of (of_head head) → (body : Body) (new : Reading) → body_at head.empty (is_collection head.kind) (of_head head) (members_under levels) old ≡ (Ok body, new)
+        → (parts : List PolygonValue) × (reads_parts axes ≡ (Ok parts, new)) × (parts_body list parts ≡ body)
+    parts_read axes axes_are body new e =
+        viewed_back (parts_body list) (reads_parts axes) body new
+        (sym (behind_count (of_head head) old axes mid list found.count (record { last = zeros; points = 0 }) axes_are refl listed is_found.count) ∙ sym as_shape ∙ e)
+
+    -- or its ids aren't distinct,
+    pub shape_ids_refute : (f : FalseClaim) → found.ids ≡ Some f → IsRefutedBody levels head frame old
+    shape_ids_refute f is body new e inside held =
+        let m = parts_read (axes_of (of_head head)) refl body new e in
+        ids_wrong old mid list found f is_found is (subst (λ (b : Body). IfSome b.ids (λ ids. AllPairs (λ a b. a ≢ b) ids)) (sym m.2) inside.0)
+
+    -- or its parts can't be read,
+    pub parts_refute : (axes : ℕ) → axes ≡ axes_of (of_head head) → (new : Reading) → AreMalformed head.kind axes found.count mid new → IsRefutedBody levels head frame old
+    parts_refute axes axes_are new (m, f) body stop e inside held =
+        let parts = parts_read axes axes_are body stop e in
+        no_failure (reads_parts axes) parts.0 stop new m parts.1 f
+
+-- or the frame doesn't hold a point.
+module _ (head : Head) (levels : ℕ) (old : Reading) (frame : Frame) (full : head.empty ≡ false) (single : is_collection head.kind ≡ false) (precisions : frame ≡ framed head frame.bounds)
+    (mid : Reading) (list : ListHead) (found : ListFound) (listed : count_at (is_multi head.kind) head.ids old ≡ (Ok list, mid)) (is_found : IsListFound old mid list found) where
+  pub points_refute : (axes : ℕ) → axes ≡ axes_of (of_head head) → (new : Reading) (vertices : ℕ) → AreHeld false head.kind axes found.count frame.bounds mid new vertices → IsRefutedBody levels head (Some frame) old
+  unfolding member_vertices
+  points_refute axes axes_are new vertices (held, were, outside) body stop e inside all =
+      let m = parts_read head levels old (Some frame) full single mid list found listed is_found axes axes_are body stop e in
+      let one = one_answer (many_at found.count ring_sums (part_at head.kind axes) zeros mid) m.0 were.parts stop new m.1 were.read in
+      let h = of_head head in
+      let start : Held = record { box = frame.bounds; inside = true } in
+      let have : HaveAxes (axes_of h) (points_of were.parts) = subst (λ (n : ℕ). HaveAxes n (points_of were.parts)) axes_are were.walked.have in
+      let same : body_vertices h body ≡ map (vertex_of h) (lasts_from zeros (points_of were.parts)) =
+      ap (body_vertices h) (sym m.2 ∙ ap (parts_body list) one.0) ∙ append-nil (map (vertex_of h) (points_of (absolute were.parts)))
+      ∙ ap (map (vertex_of h)) (points_absolute were.parts) ∙ sym (vertices_same h zeros (points_of were.parts) have) in
+      let holds : All (Holds (frame_bounds (framed head frame.bounds))) (map (vertex_of h) (lasts_from zeros (points_of were.parts))) =
+      subst (All (Holds (frame_bounds (framed head frame.bounds)))) same (subst (λ (f : Frame). All (Holds (frame_bounds f)) (body_vertices h body)) precisions all) in
+      let yes : (fold (held_with h) start (lasts_from zeros (points_of were.parts))).inside ≡ true = all_inside h start (lasts_from zeros (points_of were.parts)) refl holds in
+      let no : (fold (held_with h) start (lasts_from zeros (points_of were.parts))).inside ≡ false =
+      ap (λ (k : ℕ). (fold (held_then k) start (lasts_from zeros (points_of were.parts))).inside) (sym axes_are) ∙ ap (λ (x : Held). x.inside) (sym were.walked.added) ∙ outside in
+      true_not_false _ yes no
+    where
+      true_not_false : (b : Bool) → b ≡ true → b ≡ false → ⊥
+      true_not_false b p q = cc (p, q)
+
+-- ---- the geometry
+-- its header can't be read,
+pub head_refutes : (levels : ℕ) (above : Option Frame) (r new : Reading) (m : Malformed) → Fails (head_at levels r) m new → IsRefuted levels above r
+head_refutes levels above r new m f whole stop e all held = go (read (head_plan levels) r) refl
+  where
+    go : (a : Answer HeadValue) → read (head_plan levels) r ≡ a → ⊥
+    go (Ok x, a) is = no_failure (head_at levels r) _ a new m (head_runs levels r ∙ ap (placed r) is) f
+    go (Err w, a) is = no_failure (geometry_at levels r) whole stop a w e (header_fails levels r w a (record { left = a; is = is; bytes = refl }))
+
+-- or what stands behind it is refuted,
+module _ (head : Head) (depth : ℕ) (above : Option Frame) (r mid : Reading) (some : 1 ≤ depth) (deep : depth ≤ deepest) (sound : IsSound r) (at : IsHeadAt head depth r.place (passed r mid)) (moved : IsMoved r mid) where
+  abbrev value : HeadValue
+  value = record { header = at.header; before = 2 + length at.is.extended_bytes; size = length at.is.size_bytes }
+
+  abbrev made : Body → Reading → Geometry
+  made body new = geometry_from ((value, mid.place - r.place), body) (new.place - r.place)
+
+  body_is : body_at head.empty (is_collection head.kind) (of_head head) (members_under (deepest - depth)) mid ≡ body_at at.header.empty (is_collection at.header.kind) at.header (members_under (deepest - depth)) mid
+  body_is = body_of_head head at.header _ _ _ _ at.fields (members_under (deepest - depth)) mid
+
+  vertices_are : (body : Body) (new : Reading) → vertices_of (made body new) ≡ body_vertices (of_head head) body
+  unfolding vertices_of
+  vertices_are body new = sym (ap (λ (x : Head). body_vertices (of_head x) body) at.fields)
+
+  -- all that it claims is claimed of its size, of its box, of its ids, or by its members
+  abbrev lengths : Body → Reading → Lengths
+  lengths body new = lengths_of (made body new)
+
+  abbrev sizes : Body → Reading → List Claim
+  sizes body new = claims_of (λ n. size_claim (r.place + (lengths body new).before) n ((lengths body new).whole - ((lengths body new).before + (lengths body new).size)) ∷ []) at.header.size
+
+  abbrev boxes : Body → Reading → List Claim
+  boxes body new = claims_of (λ ranges. box_claim (r.place + (lengths body new).before + (lengths body new).size) at.header (bounds_of at.header.xy at.header.z at.header.m ranges) (vertices_of (made body new)) ∷ []) at.header.box
+
+  abbrev lists : Body → Reading → List Claim
+  lists body new = claims_of (λ list. ids_claim (r.place + (lengths body new).header + body.count) list ∷ []) body.ids
+
+  abbrev below : Body → Reading → List Claim
+  below body new = member_claims body.members (r.place + (lengths body new).header + body.list)
+
+  each_true : (body : Body) (new : Reading) → All IsTrueClaim (claims (made body new) r.place)
+      → All IsTrueClaim (sizes body new) × All IsTrueClaim (boxes body new) × All IsTrueClaim (lists body new) × All IsTrueClaim (below body new)
+  unfolding claims
+  each_true body new all =
+      let own = all_left (sizes body new ++ (boxes body new ++ lists body new)) (below body new) all in
+      let more = all_right (sizes body new) (boxes body new ++ lists body new) own in
+      (
+        all_left (sizes body new) (boxes body new ++ lists body new) own,
+        all_left (boxes body new) (lists body new) more,
+        all_right (boxes body new) (lists body new) more,
+        all_right (sizes body new ++ (boxes body new ++ lists body new)) (below body new) all,
+      )
+
+  inside_true : (body : Body) (new : Reading) → All IsTrueClaim (claims (made body new) r.place) → IsTrueInside body mid.place
+  inside_true body new all =
+      let place : r.place + (mid.place - r.place) ≡ mid.place = omega (arith, moved.ahead) in
+      let each = each_true body new all in
+      (
+        ids_true body.ids each.2,
+        subst (λ (p : ℕ). All IsTrueClaim (member_claims body.members (p + body.list))) place each.3,
+      )
+    where
+      ids_true : (ids : Option (List ℤ)) → All IsTrueClaim (claims_of (λ list. ids_claim (r.place + (lengths body new).header + body.count) list ∷ []) ids) → IfSome ids (λ ids. AllPairs (λ a b. a ≢ b) ids)
+      ids_true None h = tt
+      ids_true (Some ids) h = All-head IsTrueClaim (ids_claim (r.place + (lengths body new).header + body.count) ids) [] h
+
+  box_true : (body : Body) (new : Reading) → All IsTrueClaim (claims (made body new) r.place) → IfSome head.bounds (λ field. All (Holds field.bounds) (body_vertices (of_head head) body))
+  box_true body new all =
+      subst (λ (x : Head). IfSome x.bounds (λ field. All (Holds field.bounds) (body_vertices (of_head head) body))) (sym at.fields)
+      (go _ at.header.box (each_true body new all).1)
+    where
+      go : (other : ℕ) (box : Option (List (ℤ × ℤ)))
+          → All IsTrueClaim (claims_of (λ ranges. box_claim (r.place + (lengths body new).before + (lengths body new).size) at.header (bounds_of at.header.xy at.header.z at.header.m ranges) (vertices_of (made body new)) ∷ []) box)
+          → IfSome {T = BoxField} (option_map (λ ranges. record { bounds = bounds_of at.header.xy at.header.z at.header.m ranges; offset = other }) box) (λ field. All (Holds field.bounds) (body_vertices (of_head head) body))
+      go other None h = tt
+      go other (Some ranges) h =
+          subst (All (Holds (bounds_of at.header.xy at.header.z at.header.m ranges))) (vertices_are body new)
+          (All-head IsTrueClaim (box_claim (r.place + (lengths body new).before + (lengths body new).size) at.header (bounds_of at.header.xy at.header.z at.header.m ranges) (vertices_of (made body new))) [] h)
+
+  size_true_of : (body : Body) (new : Reading) → All IsTrueClaim (claims (made body new) r.place) → size_judged head.size new.place ≡ None
+  size_true_of body new all =
+      size_same false head depth r mid new at moved (lengths body new) refl refl refl ∙ go at.header.size (each_true body new all).0
+    where
+      long : ℕ
+      long = (lengths body new).whole - ((lengths body new).before + (lengths body new).size)
+
+      go : (size : Option ℕ) → All IsTrueClaim (claims_of (λ n. size_claim (r.place + (lengths body new).before) n ((lengths body new).whole - ((lengths body new).before + (lengths body new).size)) ∷ []) size) → size_refused r.place (lengths body new) size ≡ None
+      go None h = refl
+      go (Some n) h = ap (λ (b : Bool). false_at b (r.place + (lengths body new).before) 6) (eq-eqb n _ (All-head IsTrueClaim (size_claim (r.place + (lengths body new).before) n long) [] h))
+
+  pub behind_refutes : IsRefutedBehind (deepest - depth) head above mid → IsRefuted (deepest - depth) above r
+  behind_refutes wrong whole stop e all held = go (body_at at.header.empty (is_collection at.header.kind) at.header (members_under (deepest - depth)) mid) refl
+    where
+      headed : read (head_plan (deepest - depth)) r ≡ (Ok value, mid)
+      headed = head_value depth some deep r mid head sound at moved
+
+      go : (a : Answer Body) → body_at at.header.empty (is_collection at.header.kind) at.header (members_under (deepest - depth)) mid ≡ a → ⊥
+      go (Ok body, new) is =
+          let one = one_answer (geometry_at (deepest - depth) r) (made body new) whole new stop (body_gives (deepest - depth) r mid value headed body new is) e in
+          let true_all : All IsTrueClaim (claims (made body new) r.place) = subst (λ (g : Geometry). All IsTrueClaim (claims g r.place)) (sym one.0) all in
+          let read = body_is ∙ is in
+          wrong body new read (inside_true body new true_all) (size_true_of body new true_all) (box_true body new true_all)
+          (subst (IsHeldBy above) (vertices_are body new) (subst (λ (g : Geometry). IsHeldBy above (vertices_of g)) (sym one.0) held))
+      go (Err m, new) is = no_failure (geometry_at (deepest - depth) r) whole stop new m e (body_fails (deepest - depth) r mid value headed m new (record { left = new; is = is; bytes = refl }))
+
+-- where the body is refuted under the frame that the header gives,
+pub body_refutes : (levels : ℕ) (raw : RawHead) (above frame : Option Frame) (mid : Reading) → IsFrameUnder above raw.head (option_map (framed raw.head) raw.bounds) frame → IsRefutedBody levels raw.head frame mid
+    → IsRefutedBehind levels (whole_head raw) above mid
+body_refutes levels raw above frame mid under wrong body new e inside size box held =
+    wrong body new e inside (under.holds (body_vertices (of_head raw.head) body) (own raw.bounds box) held)
+  where
+    own : (bounds : Option RawBox) → IfSome (option_map (box_field raw) bounds) (λ field. All (Holds field.bounds) (body_vertices (of_head raw.head) body)) → IsHeldBy (option_map (framed raw.head) bounds) (body_vertices (of_head raw.head) body)
+    own None h = tt
+    own (Some box) h = h
+
+-- or where the size is false of what was read.
+pub size_refutes : (levels : ℕ) (head plain : Head) (frame above : Option Frame) (mid new : Reading) (vertices : ℕ) (f : ℕ × ℕ) → head ≡ record plain { bounds = head.bounds } → IsSureBody levels plain frame mid new vertices
+    → size_judged head.size new.place ≡ Some f → IsRefutedBehind levels head above mid
+size_refutes levels head plain frame above mid new vertices f same sure is body stop e inside size box held =
+    let read : body_at head.empty (is_collection head.kind) (of_head head) (members_under levels) mid ≡ (Ok sure.body, new) =
+    ap (λ (x : Head). body_at x.empty (is_collection x.kind) (of_head x) (members_under levels) mid) same ∙ sure.read in
+    let one = one_answer (body_at head.empty (is_collection head.kind) (of_head head) (members_under levels) mid) sure.body body new stop read e in
+    some_not_none f (sym is ∙ ap (λ (s : Reading). size_judged head.size s.place) one.1 ∙ size)
+
+-- ---- doubts
+pub doubts_outside : {A : Type 0} (inner : Answer A) (R W V : Type 0) (mid old : Reading) (e : Stopped) (new : Reading) → ((m : Malformed) → Fails inner m new → R) → (new.bytes ≡ mid.bytes → W → (new.bytes ≡ old.bytes) × V)
+    → HasStopped inner W mid e new → HasDoubt R V old (doubt_of e) new
+doubts_outside inner R W V mid old (BadField m) new fails wants s = fails m s
+doubts_outside inner R W V mid old NoMemory new fails wants s = wants s.0 s.1
+
+pub doubts_through : (R Q W V : Type 0) (mid old : Reading) (d : Doubt) (new : Reading) → (R → Q) → (new.bytes ≡ mid.bytes → W → (new.bytes ≡ old.bytes) × V) → HasDoubt R W mid d new → HasDoubt Q V old d new
+doubts_through R Q W V mid old Refused new refutes wants s = refutes s
+doubts_through R Q W V mid old Memory new refutes wants s = wants s.0 s.1
+
+pub refused_for : (R V : Type 0) (old : Reading) (d : Doubt) (new : Reading) → d ≡ Refused → R → HasDoubt R V old d new
+refused_for R V old d new is r = subst (λ (e : Doubt). HasDoubt R V old e new) (sym is) r
+
+-- ---- a geometry whose header was read in raw numbers
+module _ (raw : RawHead) (depth : ℕ) (above : Option Frame) (r mid : Reading) (some : 1 ≤ depth) (deep : depth ≤ deepest) (sound : IsSound r) (headed : head_at (deepest - depth) r ≡ (Ok (whole_head raw), mid)) where
+  pub raw_at : IsHeadAt (whole_head raw) depth r.place (passed r mid)
+  raw_at = head_ok depth some deep r mid sound (Ok (whole_head raw)) headed
+
+  pub raw_moved : IsMoved r mid
+  raw_moved = head_moved depth some deep r mid sound (Ok (whole_head raw)) headed
+
+  pub raw_allowed : IsAllowedAt raw.head.kind depth
+  raw_allowed = subst (λ (h : Head). IsAllowedAt h.kind depth) (sym raw_at.fields) raw_at.allowed
+
+  -- whether it is empty stands in its second byte
+  pub raw_empty : (old : Reading) (a b : ℕ) → IsMoved r old → passed r old ≡ a ∷ b ∷ [] → raw.head.empty ≡ has_bit b 16
+  raw_empty old a b moved is =
+      let e = sym (ap (λ (z : List ℕ). z ++ rest old) is) ∙ sym (rest-passed r old moved) ∙ rest-passed r mid raw_moved ∙ ap (λ (z : List ℕ). z ++ rest mid) raw_at.is.fields in
+      ap (λ (h : Head). h.empty) raw_at.fields ∙ raw_at.is.empty ∙ ap (λ (n : ℕ). has_bit n 16) (sym (second _ _ _ _ _ _ e))
+    where
+      second : (a b x y : ℕ) (s t : List ℕ) → a ∷ b ∷ s ≡ x ∷ y ∷ t → b ≡ y
+      second a b x y s t e = cc
+
+  -- what is refused behind the header is refused of the geometry,
+  pub behind_doubts : (d : Doubt) (new : Reading) → HasDoubt (IsRefutedBehind (deepest - depth) (whole_head raw) above mid) (WantsIn (is_collection raw.head.kind) raw.head.empty depth raw.head.ids mid) mid d new
+      → HasDoubt (IsRefuted (deepest - depth) above r) (HasLongList depth (rest r)) r d new
+  behind_doubts d new s =
+      doubts_through (IsRefutedBehind (deepest - depth) (whole_head raw) above mid) (IsRefuted (deepest - depth) above r) (WantsIn (is_collection raw.head.kind) raw.head.empty depth raw.head.ids mid) (HasLongList depth (rest r)) mid r d new
+      (behind_refutes (whole_head raw) depth above r mid some deep sound raw_at raw_moved)
+      (λ bytes wants. (bytes ∙ raw_moved.bytes, long_list_in (whole_head raw) depth r mid some sound raw_at raw_moved (is_collection raw.head.kind) refl wants)) s
+
+  module _ (frame : Option Frame) (under : IsFrameUnder above raw.head (option_map (framed raw.head) raw.bounds) frame) (new : Reading) where
+    pub body_doubts : (d : Doubt) → HasDoubt (IsRefutedBody (deepest - depth) raw.head frame mid) (WantsIn (is_collection raw.head.kind) raw.head.empty depth raw.head.ids mid) mid d new
+        → HasDoubt (IsRefuted (deepest - depth) above r) (HasLongList depth (rest r)) r d new
+    body_doubts d s =
+        let wants : Type 0 = WantsIn (is_collection raw.head.kind) raw.head.empty depth raw.head.ids mid in
+        behind_doubts d new (doubts_through (IsRefutedBody (deepest - depth) raw.head frame mid) (IsRefutedBehind (deepest - depth) (whole_head raw) above mid) wants wants mid mid d new
+        (body_refutes (deepest - depth) raw above frame mid under) (λ bytes w. (bytes, w)) s)
+
+    -- and what is sure is judged by its size.
+    pub judged_certifies : (vertices : ℕ) (result : Result ℕ Doubt) → IsSureBody (deepest - depth) raw.head frame mid new vertices → IsJudged raw.head new.place vertices result → Certifies depth above r result new
+    judged_certifies vertices (Ok counted) sure (same, true_size) =
+        subst (IsSure (deepest - depth) above r new) (sym same)
+        (geometry_sure (whole_head raw) raw.head depth above frame r mid new vertices some deep sound raw_at raw_moved refl (own_box raw above frame under) under.above_holds sure (sym true_size))
+    judged_certifies vertices (Err d) sure (is, (f, false_size)) =
+        refused_for (IsRefuted (deepest - depth) above r) (HasLongList depth (rest r)) r d new is
+        (behind_refutes (whole_head raw) depth above r mid some deep sound raw_at raw_moved (size_refutes (deepest - depth) (whole_head raw) raw.head frame above mid new vertices f refl sure false_size))
+
+-- a member of which not even two bytes are there can't be read
+pub cut_refutes : (depth : ℕ) (frame : Option Frame) (r : Reading) → 1 ≤ depth → depth ≤ deepest → IsSound r → length (rest r) < 2 → IsRefuted (deepest - depth) frame r
+cut_refutes depth frame r some deep sound short = go (head_at (deepest - depth) r) refl
+  where
+    go : (a : Answer Head) → head_at (deepest - depth) r ≡ a → IsRefuted (deepest - depth) frame r
+    go (Err m, b) is = head_refutes (deepest - depth) frame r b m (record { left = b; is = is; bytes = refl })
+    go (Ok head, b) is =
+        let at : IsHeadAt head depth r.place (passed r b) = head_ok depth some deep r b sound (Ok head) is in
+        let moved : IsMoved r b = head_moved depth some deep r b sound (Ok head) is in
+        absurd (omega (arith, short, ap length (rest-passed r b moved), length-append (passed r b) (rest b), ap length at.is.fields))
+
+-- ---- what the first reading hands over
+-- a header as the reader has it
+pub headed_as : (levels : ℕ) (r new : Reading) (raw : RawHead) → (x : Head) × (head_at levels r ≡ (Ok x, new)) × (x ≡ whole_head raw) → head_at levels r ≡ (Ok (whole_head raw), new)
+headed_as levels r new raw s = s.1 ∙ ap (λ (h : Head). (Ok h, new)) s.2
+
+pub some_of : {A : Type 0} (o : Option A) → is_some o ≡ true → (x : A) × (o ≡ Some x)
+some_of None e = absurd (cc (e))
+some_of (Some x) e = (x, refl)
+
+pub none_of : {A : Type 0} (o : Option A) → is_some o ≡ false → o ≡ None
+none_of None e = refl
+none_of (Some x) e = absurd (cc (e))
+
+pub two_ahead : (old new : Reading) (a b : ℕ) → IsMoved old new → passed old new ≡ a ∷ b ∷ [] → 2 ≤ new.place
+two_ahead old new a b moved is =
+    let long : length (passed old new) ≡ new.place - old.place = grind (arith, common_steps, moved.within) in
+    omega (arith, ap length is, long)
+
+pub wants_members : (head : Head) (depth : ℕ) (old : Reading) → head.empty ≡ false → is_collection head.kind ≡ true → WantsInside depth (deepest - (depth + 1)) head.ids old
+    → WantsIn (is_collection head.kind) head.empty depth head.ids old
+wants_members head depth old full many wants = subst (λ (b : Bool). WantsIn b head.empty depth head.ids old) (sym many) (full, wants)
+
+pub shape_certifies : (depth : ℕ) (head : Head) (frame : Option Frame) (old new : Reading) (result : Result ℕ Doubt) → is_collection head.kind ≡ false → CertifiesShape (deepest - depth) head frame old result new
+    → CertifiesBody depth head frame old result new
+shape_certifies depth head frame old new (Ok vertices) single s = s
+shape_certifies depth head frame old new (Err Refused) single s = s
+shape_certifies depth head frame old new (Err Memory) single s = (s.0, subst (λ (b : Bool). WantsIn b head.empty depth head.ids old) (sym single) s.1)
+
+-- what isn't both flat and full, but is full, has an extended dimensions byte
+pub further_bit : (result extended empty : Bool) → result ≡ false → ((extended ≡ false) × (empty ≡ false) → IsTrue result) → empty ≡ false → extended ≡ true
+further_bit result true empty isnt back full = refl
+further_bit result false empty isnt back full = absurd (cc (back (refl, full), isnt))
+
+-- ---- the count of parts
+pub count_doubts : (multi ids : Bool) (old new : Reading) (e : Stopped) → multi ≡ true → HasStopped (list_at ids old) (HasManyIdsAfterCount ids (rest old)) old e new
+    → HasDoubt (IsWrongCount multi ids old new) (HasManyIdsAfterCount ids (rest old)) old (doubt_of e) new
+count_doubts multi ids old new (BadField m) many s = inl (m, subst (λ (b : Bool). Fails (count_at b ids old) m new) (sym many) s)
+count_doubts multi ids old new NoMemory many s = s
+
+pub wrong_count_refutes : (head : Head) (levels : ℕ) (old : Reading) (frame : Option Frame) (new : Reading) → head.empty ≡ false → is_collection head.kind ≡ false → IsWrongCount (is_multi head.kind) head.ids old new
+    → IsRefutedBody levels head frame old
+wrong_count_refutes head levels old frame new full single (inl (m, f)) = count_refutes head levels old frame full single m new f
+wrong_count_refutes head levels old frame new full single (inr (list, found, f, listed, is_found, is)) = shape_ids_refute head levels old frame full single new list found listed is_found f is
+
+pub shape_count_doubts : (head : Head) (levels : ℕ) (frame : Option Frame) (old new : Reading) (d : Doubt) → head.empty ≡ false → is_collection head.kind ≡ false
+    → HasDoubt (IsWrongCount (is_multi head.kind) head.ids old new) (HasManyIdsAfterCount head.ids (rest old)) old d new → HasDoubt (IsRefutedBody levels head frame old) (HasManyIdsAfterCount head.ids (rest old)) old d new
+shape_count_doubts head levels frame old new d full single s =
+    doubts_through (IsWrongCount (is_multi head.kind) head.ids old new) (IsRefutedBody levels head frame old) (HasManyIdsAfterCount head.ids (rest old)) (HasManyIdsAfterCount head.ids (rest old)) old old d new
+    (wrong_count_refutes head levels old frame new full single) (λ bytes wants. (bytes, wants)) s
+
+-- parts behind their count
+pub adds_parts : {S : Type 0} (step : S → PointValue → S) (kind : Kind) (ids : Bool) (axes count : ℕ) (old mid new : Reading) (s t : S) (vertices : ℕ) → IsCounted (is_multi kind) ids old mid count
+    → ReadParts step kind axes count mid new s t vertices → AddsParts step kind ids axes old new s t vertices
+adds_parts step kind ids axes count old mid new s t vertices (list, listed, found) parts = record {
+  list = list;
+  middle = mid;
+  parts = parts.parts;
+  after = parts.after;
+  counted = listed;
+  found = record { count = refl; lengths = found.lengths; refused = found.refused };
+  read = ap (λ (n : ℕ). many_at n ring_sums (part_at kind axes) zeros mid) (sym found.count) ∙ parts.read;
+  walked = parts.walked;
+  vertices_are = parts.vertices_are;
+}
+
+-- a body is certified by its parts: where no box asks for them,
+module _ (head : Head) (levels axes count : ℕ) (old mid new : Reading) (full : head.empty ≡ false) (single : is_collection head.kind ≡ false) (axes_are : axes ≡ axes_of (of_head head)) (counted : IsCounted (is_multi head.kind) head.ids old mid count) where
+  malformed_refutes : (frame : Option Frame) → AreMalformed head.kind axes count mid new → IsRefutedBody levels head frame old
+  malformed_refutes frame bad = parts_refute head levels old frame full single mid counted.0 (record { count = count; ids = None }) counted.1 counted.2 axes axes_are new bad
+
+  pub unboxed_certifies : (result : Result ℕ Doubt) → IfOk result (ReadParts (λ (s : Unit {0}) point. s) head.kind axes count mid new tt tt) → OnErr result (AreMalformed head.kind axes count mid new) → IfErr result (λ d. d ≡ Refused)
+      → CertifiesShape levels head None old result new
+  unboxed_certifies (Ok vertices) parts bad refused =
+      body_unboxed levels head old new vertices axes (sym axes_are) full single (λ (s : Unit {0}) point. s) tt tt (adds_parts (λ (s : Unit {0}) point. s) head.kind head.ids axes count old mid new tt tt vertices counted parts)
+  unboxed_certifies (Err d) parts bad refused = refused_for (IsRefutedBody levels head None old) (HasManyIdsAfterCount head.ids (rest old)) old d new refused (malformed_refutes None bad)
+
+  -- and where one does.
+  module _ (frame : Frame) (precisions : frame ≡ framed head frame.bounds) where
+    pub held_sure : (vertices : ℕ) → AreHeld true head.kind axes count frame.bounds mid new vertices → IsSureBody levels head (Some frame) old new vertices
+    held_sure vertices (held, parts, inside) =
+        body_held levels head old new vertices axes (sym axes_are) full single frame precisions
+        (held, adds_parts (held_then axes) head.kind head.ids axes count old mid new (record { box = frame.bounds; inside = true }) held vertices counted parts, inside)
+
+    pub outside_refutes : (vertices : ℕ) → AreHeld false head.kind axes count frame.bounds mid new vertices → IsRefutedBody levels head (Some frame) old
+    outside_refutes vertices are = points_refute head levels old frame full single precisions mid counted.0 (record { count = count; ids = None }) counted.1 counted.2 axes axes_are new vertices are
+
+    pub boxed_certifies : (result : Result ℕ Doubt) → IfOk result (AreHeld true head.kind axes count frame.bounds mid new)
+        → OnErr result (AreMalformed head.kind axes count mid new ⊎ ((vertices : ℕ) × AreHeld false head.kind axes count frame.bounds mid new vertices)) → IfErr result (λ d. d ≡ Refused) → CertifiesShape levels head (Some frame) old result new
+    boxed_certifies (Ok vertices) are bad refused = held_sure vertices are
+    boxed_certifies (Err d) are bad refused = refused_for (IsRefutedBody levels head (Some frame) old) (HasManyIdsAfterCount head.ids (rest old)) old d new refused (either bad)
+      where
+        either : AreMalformed head.kind axes count mid new ⊎ ((vertices : ℕ) × AreHeld false head.kind axes count frame.bounds mid new vertices) → IsRefutedBody levels head (Some frame) old
+        either (inl bad) = malformed_refutes (Some frame) bad
+        either (inr (vertices, are)) = outside_refutes vertices are
+
+-- points with Z or M have three axes or four
+pub three_or_four : (z m : Option ℕ) (axes : ℕ) → axes ≡ axes_with z m → has_further z m ≡ true → (axes ≡ 3) ⊎ (axes ≡ 4)
+three_or_four None None axes is further = absurd (cc (further))
+three_or_four None (Some q) axes is further = inl is
+three_or_four (Some p) None axes is further = inl is
+three_or_four (Some p) (Some q) axes is further = inr is

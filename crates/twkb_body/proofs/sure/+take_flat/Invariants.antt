@@ -1,0 +1,24 @@
+-- The members so far are sure and have the vertices counted; each step comes nearer to the deepest level.
+use Rattle.std.proofs.Common.{◌+◌, ◌-◌, ◌*◌}
+use Rattle.twkb_head.specs.BegunHeader.{deepest}
+use Rattle.twkb_body.proofs.SureSteps.{IsSureLoop}
+use Rattle.twkb_body.proofs.sure.+take_flat.Given as goal
+
+-- a collection reads its members a level below, and a geometry is read as one of more axes at its level
+abbrev pub decreases-take_flat : goal.decreases-take_flat
+decreases-take_flat g l = 4 * (deepest - l.depth) + 3
+
+abbrev pub decreases-take_further : goal.decreases-take_further
+decreases-take_further g l = 4 * (deepest - l.depth) + 2
+
+abbrev pub decreases-take_flat_body : goal.decreases-take_flat_body
+decreases-take_flat_body g l = 4 * (deepest - l.depth) + 1
+
+abbrev pub decreases-take_further_body : goal.decreases-take_further_body
+decreases-take_further_body g l = 4 * (deepest - l.depth) + 1
+
+abbrev pub decreases-take_members : goal.decreases-take_members
+decreases-take_members g l = 4 * (deepest - l.depth)
+
+abbrev pub invariant-take_members-loop : goal.invariant-take_members-loop
+invariant-take_members-loop g l = IsSureLoop (deepest - (l.depth + 1)) l.end l.initial.cursor l.frame l.counter l.vertices l.cursor

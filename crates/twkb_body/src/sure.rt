@@ -1,0 +1,506 @@
+//! The first reading of a blob, which certifies it or ends at what is malformed or false.
+ghost use Rattle.std.specs.Prelude.{◌≡◌, ◌≤◌, ◌+◌, ◌-◌, ◌%◌, ℕ, true, false, Option, None, Some, option_map, is_some, IfSome, OnSome, IfOk, IfErr, Ok};
+ghost use Rattle.twkb_num.specs.Cursor.{Reading, IsSound};
+ghost use Rattle.twkb_num.specs.Units.{IsPrecision};
+ghost use Rattle.twkb_head.specs.BegunHeader.{deepest, is_collection, IsAllowedAt};
+ghost use Rattle.twkb_head.specs.Header.{has_bit};
+ghost use Rattle.twkb_head.specs.Raw.{flat_box, BeginsHead};
+ghost use Rattle.twkb_head.specs.declared.header.Head.{Head as HeadOf};
+ghost use Rattle.twkb_head.specs.declared.kinds.Kind.TheVariants.{Point, LineString};
+ghost use Rattle.twkb_head.specs.declared.raw.RawBox.{RawBox as BoxOf};
+ghost use Rattle.twkb_body.specs.declared.doubt.Doubt.TheVariants.{Refused};
+ghost use Rattle.twkb_body.specs.declared.frame.Frame.{Frame as FrameOf};
+ghost use Rattle.twkb_body.specs.Devices.Found.{size_judged};
+ghost use Rattle.twkb_body.specs.Devices.Sure.{counted_in, framed, has_further, IsFramed, IsNearFrame, IsFrameUnder, IsJudged, IsApart, Certifies, CertifiesBehind, CertifiesBody, CertifiesShape};
+ghost use Rattle.twkb_body.specs.Devices.Walk.{HasPrecisions};
+
+mod parts;
+mod unboxed;
+
+use self::parts::{take_boxed, take_count, take_parts_of};
+use self::unboxed::{take_bare_point, take_unboxed};
+use crate::boxed::Boxed;
+use crate::doubt::Doubt;
+use crate::found::judge_size;
+use crate::frame::Frame;
+use crate::geometry::take_inside;
+use crate::lists::take_list;
+use crate::rooms::IdRoom;
+use crate::seen::Seen;
+use twkb_head::{
+    Axes, Begun, BoxField, Head, Kind, RawBox, RawRange, SizeField, begin_head, take_rest,
+};
+use twkb_num::Cursor;
+
+/// How many vertices the blob at the place has, and where it ends, if it is certified.
+// Where a point ends is known by its size, so that the next blob needn't wait for the ends of its numbers.
+#[inline(always)]
+pub fn take_blob<R: IdRoom>(room: &mut R, cursor: &mut Cursor) -> Result<(usize, usize), Doubt>
+    ensures certified { Certifies 1 None cursor.old (counted_in result) cursor.new }
+    ensures stop { IfOk result (λ both. both.1 ≡ cursor.new.place) }
+{
+    cursor.place_is_within();
+    let Some(begun) = begin_head(cursor, 1) else {
+        return Err(Doubt::Refused);
+    };
+    if begun.is_sized_point() {
+        return take_sized_point(cursor, begun);
+    }
+    let vertices = if begun.is_bare_line() {
+        take_bare_line(cursor, begun)?
+    } else {
+        take_flat(room, cursor, 1, &None, begun)?
+    };
+    Ok((vertices, cursor.place()))
+}
+
+/// A point that has a size and nothing else, after its first two bytes.
+#[inline(always)]
+fn take_sized_point(cursor: &mut Cursor, begun: Begun) -> Result<(usize, usize), Doubt>
+    requires xy { IsPrecision begun.xy }
+    requires announced { begun.metadata % 32 ≡ 2 }
+    requires point { begun.kind ≡ Point }
+    requires before { (before : Reading) × IsSound before × BeginsHead begun 1 before cursor.old }
+    ensures certified { (before : Reading) → IsSound before → BeginsHead begun 1 before cursor.old
+        → Certifies 1 None before (counted_in result) cursor.new }
+    ensures stop { IfOk result (λ both. both.1 ≡ cursor.new.place) }
+{
+    let Ok(raw) = take_rest(cursor, begun.announcing(2)) else {
+        return Err(Doubt::Refused);
+    };
+    let vertices = take_bare_point(cursor)?;
+    let stop = judged_stop(raw.size, cursor.place())?;
+    cursor.go_on_from(stop);
+    Ok((vertices, stop))
+}
+
+/// A line of X and Y with neither a size nor a box, after its first two bytes.
+#[inline(always)]
+fn take_bare_line(cursor: &mut Cursor, begun: Begun) -> Result<usize, Doubt>
+    requires xy { IsPrecision begun.xy }
+    requires announced { begun.metadata % 32 ≡ 0 }
+    requires line { begun.kind ≡ LineString }
+    requires before { (before : Reading) × IsSound before × BeginsHead begun 1 before cursor.old }
+    ensures { (before : Reading) → IsSound before → BeginsHead begun 1 before cursor.old
+        → Certifies 1 None before result cursor.new }
+{
+    let Ok(raw) = take_rest(cursor, begun.announcing(0)) else {
+        return Err(Doubt::Refused);
+    };
+    let head = raw.boxless();
+    let vertices = take_unboxed(cursor, Kind::LineString, 2, 1)?;
+    judged(&head, cursor.place(), vertices)
+}
+
+/// The geometry at `depth` that begins with these two bytes, which were passed.
+#[cycle(take_flat)]
+#[inline(never)]
+fn take_flat<R: IdRoom>(
+    room: &mut R,
+    cursor: &mut Cursor,
+    depth: u8,
+    above: &Option<Frame>,
+    begun: Begun,
+) -> Result<usize, Doubt>
+    requires shallowest { 1 ≤ depth }
+    requires deepest { depth ≤ deepest }
+    requires xy { IsPrecision begun.xy }
+    requires before { (before : Reading) × IsSound before × BeginsHead begun depth before cursor.old }
+    requires near { IfSome above.now IsNearFrame }
+    ensures { (before : Reading) → IsSound before → BeginsHead begun depth before cursor.old
+        → Certifies depth above.now before result cursor.new }
+{
+    if !begun.is_flat() || begun.is_empty() {
+        return take_further(room, cursor, depth, above, begun);
+    }
+    let Ok(raw) = take_rest(cursor, begun) else {
+        return Err(Doubt::Refused);
+    };
+    let head = raw.boxless();
+    let Some(frame) = Frame::under(above, &head, &raw.bounds) else {
+        // Its parts are handed over one by one: a header in memory would be set to zero for each geometry.
+        let (x, y) = flat_ranges(&raw.bounds);
+        let vertices = take_apart_flat(
+            room,
+            cursor,
+            depth,
+            above,
+            head.kind,
+            head.xy,
+            head.ids,
+            raw.bounds.is_some(),
+            x.minimum,
+            x.extent,
+            y.minimum,
+            y.extent,
+        )?;
+        return judged(&head, cursor.place(), vertices);
+    };
+    let vertices = take_flat_body(room, cursor, depth, &head, &frame)?;
+    judged(&head, cursor.place(), vertices)
+}
+
+/// A geometry as in [`take_flat`] that has an extended dimensions byte, or is empty.
+#[cycle(take_flat)]
+#[inline(never)]
+fn take_further<R: IdRoom>(
+    room: &mut R,
+    cursor: &mut Cursor,
+    depth: u8,
+    above: &Option<Frame>,
+    begun: Begun,
+) -> Result<usize, Doubt>
+    requires shallowest { 1 ≤ depth }
+    requires deepest { depth ≤ deepest }
+    requires xy { IsPrecision begun.xy }
+    requires before { (before : Reading) × IsSound before × BeginsHead begun depth before cursor.old }
+    requires near { IfSome above.now IsNearFrame }
+    ensures { (before : Reading) → IsSound before → BeginsHead begun depth before cursor.old
+        → Certifies depth above.now before result cursor.new }
+{
+    if begun.is_empty() {
+        return take_empty(cursor, depth, begun);
+    }
+    let Ok(raw) = take_rest(cursor, begun) else {
+        return Err(Doubt::Refused);
+    };
+    let head = raw.boxless();
+    let Some(frame) = further_frame(above, &head, &raw.bounds) else {
+        let bounds = raw.bounds;
+        let Head {
+            kind,
+            xy,
+            z,
+            m,
+            ids,
+            ..
+        } = head;
+        let vertices = take_apart(room, cursor, depth, above, kind, xy, z, m, ids, &bounds)?;
+        return judged(&head, cursor.place(), vertices);
+    };
+    let vertices = take_further_body(room, cursor, depth, &head, &frame)?;
+    judged(&head, cursor.place(), vertices)
+}
+
+/// An empty geometry at `depth`, after its first two bytes.
+#[inline(never)]
+fn take_empty(cursor: &mut Cursor, depth: u8, begun: Begun) -> Result<usize, Doubt>
+    requires shallowest { 1 ≤ depth }
+    requires deepest { depth ≤ deepest }
+    requires xy { IsPrecision begun.xy }
+    requires before { (before : Reading) × IsSound before × BeginsHead begun depth before cursor.old }
+    requires empty { has_bit begun.metadata 16 ≡ true }
+    ensures { (above : Option FrameOf) (before : Reading) → IsSound before → BeginsHead begun depth before cursor.old
+        → Certifies depth above before result cursor.new }
+{
+    let Ok(raw) = take_rest(cursor, begun) else {
+        return Err(Doubt::Refused);
+    };
+    let head = raw.boxless();
+    judged(&head, cursor.place(), 0)
+}
+
+/// The frame of a geometry with Z or M. One with neither, for all its extended dimensions byte, has none.
+// Points of X and Y are read in one place, which is inlined into its caller.
+#[inline(always)]
+fn further_frame(
+    above: &Option<Frame>,
+    head: &Head,
+    own: &Option<RawBox>,
+) -> Option<Option<Frame>>
+    requires near { IfSome above.now IsNearFrame }
+    requires precisions { HasPrecisions head.now }
+    ensures further { OnSome result (has_further head.now.z head.now.m ≡ true) }
+    ensures frame { IfSome result (IsFrameUnder above.now head.now (option_map (framed head.now) own.now)) }
+{
+    if head.z.is_none() && head.m.is_none() {
+        return None;
+    }
+    Frame::under(above, head, own)
+}
+
+/// A geometry of so many vertices that ends there, if its size is true.
+#[inline(always)]
+fn judged(head: &Head, stop: usize, vertices: usize) -> Result<usize, Doubt>
+    requires { IfSome head.now.size (λ size. size.after ≤ stop) }
+    ensures { IsJudged head.now stop vertices result }
+{
+    if judge_size(head.size, stop).is_some() {
+        return Err(Doubt::Refused);
+    }
+    Ok(vertices)
+}
+
+/// Where a geometry ends, by its size if it has one and this is true.
+#[inline(always)]
+fn judged_stop(size: Option<SizeField>, stop: usize) -> Result<usize, Doubt>
+    requires { IfSome size (λ size. size.after ≤ stop) }
+    ensures ok { IfOk result (λ end. (end ≡ stop) × (size_judged size stop ≡ None)) }
+    ensures err { IfErr result (λ doubt. (doubt ≡ Refused) × ((f : ℕ × ℕ) × (size_judged size stop ≡ Some f))) }
+{
+    if judge_size(size, stop).is_some() {
+        return Err(Doubt::Refused);
+    }
+    match size {
+        Some(size) => Ok(size.after + size.value as usize),
+        None => Ok(stop),
+    }
+}
+
+/// The ranges in X and Y of a box, or zeros if there is none.
+#[inline(always)]
+fn flat_ranges(bounds: &Option<RawBox>) -> (RawRange, RawRange)
+    ensures { IfSome bounds.now (λ box. (result.0 ≡ box.x) × (result.1 ≡ box.y)) }
+{
+    match bounds {
+        Some(bounds) => (bounds.x, bounds.y),
+        None => {
+            let nothing = RawRange {
+                minimum: 0,
+                extent: 0,
+            };
+            (nothing, nothing)
+        }
+    }
+}
+
+/// A geometry of X and Y whose vertices no frame can hold.
+#[inline(never)]
+fn take_apart_flat<R: IdRoom>(
+    room: &mut R,
+    cursor: &mut Cursor,
+    depth: u8,
+    above: &Option<Frame>,
+    kind: Kind,
+    xy: i8,
+    ids: bool,
+    has_box: bool,
+    x_minimum: i64,
+    x_extent: i64,
+    y_minimum: i64,
+    y_extent: i64,
+) -> Result<usize, Doubt>
+    requires shallowest { 1 ≤ depth }
+    requires allowed { IsAllowedAt kind depth }
+    requires xy { IsPrecision xy }
+    requires near { IfSome above.now IsNearFrame }
+    ensures { (head : HeadOf) (box : Option BoxOf) → is_some box ≡ has_box
+        → IfSome box (λ box. box ≡ flat_box (record { minimum = x_minimum; extent = x_extent }) (record { minimum = y_minimum; extent = y_extent }))
+        → IsApart head kind xy None None ids box
+        → CertifiesBehind depth head above.now cursor.old result cursor.new }
+{
+    let x = RawRange {
+        minimum: x_minimum,
+        extent: x_extent,
+    };
+    let y = RawRange {
+        minimum: y_minimum,
+        extent: y_extent,
+    };
+    let bounds = if has_box {
+        Some(RawBox::flat(x, y))
+    } else {
+        None
+    };
+    take_apart(
+        room, cursor, depth, above, kind, xy, None, None, ids, &bounds,
+    )
+}
+
+/// The body of a geometry whose vertices no frame can hold, with its extent; the frame above has to hold that. Its size isn't
+/// judged, and nobody asks where its claims stand.
+#[inline(never)]
+fn take_apart<R: IdRoom>(
+    room: &mut R,
+    cursor: &mut Cursor,
+    depth: u8,
+    above: &Option<Frame>,
+    kind: Kind,
+    xy: i8,
+    z: Option<u8>,
+    m: Option<u8>,
+    ids: bool,
+    bounds: &Option<RawBox>,
+) -> Result<usize, Doubt>
+    requires shallowest { 1 ≤ depth }
+    requires allowed { IsAllowedAt kind depth }
+    requires xy { IsPrecision xy }
+    requires z_high { IfSome z (λ p. p ≤ 7) }
+    requires m_high { IfSome m (λ p. p ≤ 7) }
+    requires near { IfSome above.now IsNearFrame }
+    ensures { (head : HeadOf) → IsApart head kind xy z m ids bounds.now
+        → CertifiesBehind depth head above.now cursor.old result cursor.new }
+{
+    let bounds = match bounds {
+        Some(bounds) => Some(BoxField {
+            bounds: bounds.in_units(Axes { xy, z, m }),
+            offset: 0,
+        }),
+        None => None,
+    };
+    let head = Head {
+        kind,
+        xy,
+        z,
+        m,
+        size: None,
+        bounds,
+        ids,
+        empty: false,
+        start: 0,
+        stop: 0,
+    };
+    let mut seen = Seen::unasked().for_members(above.is_some());
+    let inside = take_inside::<R, false>(room, cursor, depth, &head, &mut seen)?;
+    if inside.boxed.is_some() || inside.ids.is_some() || inside.found.refused.is_some() {
+        return Err(Doubt::Refused);
+    }
+    if let Some(frame) = above {
+        if !seen.extent.within(&frame.in_units()) {
+            return Err(Doubt::Refused);
+        }
+    }
+    Ok(inside.found.vertices)
+}
+
+/// The body of a geometry of X and Y alone.
+#[cycle(take_flat)]
+#[inline(always)]
+fn take_flat_body<R: IdRoom>(
+    room: &mut R,
+    cursor: &mut Cursor,
+    depth: u8,
+    head: &Head,
+    frame: &Option<Frame>,
+) -> Result<usize, Doubt>
+    requires shallowest { 1 ≤ depth }
+    requires allowed { IsAllowedAt head.now.kind depth }
+    requires precisions { HasPrecisions head.now }
+    requires full { head.now.empty ≡ false }
+    requires frame { IfSome frame.now (IsFramed head.now) }
+    requires z { head.now.z ≡ None }
+    requires m { head.now.m ≡ None }
+    ensures { CertifiesBody depth head.now frame.now cursor.old result cursor.new }
+{
+    if head.kind.is_collection() {
+        take_members(room, cursor, depth, head.ids, frame)
+    } else {
+        take_flat_shape(room, cursor, head, frame)
+    }
+}
+
+/// The body of a geometry.
+#[cycle(take_flat)]
+#[inline(always)]
+fn take_further_body<R: IdRoom>(
+    room: &mut R,
+    cursor: &mut Cursor,
+    depth: u8,
+    head: &Head,
+    frame: &Option<Frame>,
+) -> Result<usize, Doubt>
+    requires shallowest { 1 ≤ depth }
+    requires allowed { IsAllowedAt head.now.kind depth }
+    requires precisions { HasPrecisions head.now }
+    requires full { head.now.empty ≡ false }
+    requires frame { IfSome frame.now (IsFramed head.now) }
+    requires further { has_further head.now.z head.now.m ≡ true }
+    ensures { CertifiesBody depth head.now frame.now cursor.old result cursor.new }
+{
+    if head.kind.is_collection() {
+        take_members(room, cursor, depth, head.ids, frame)
+    } else {
+        take_further_shape(room, cursor, head, frame)
+    }
+}
+
+/// The members of a collection that stands at `depth`.
+#[cycle(take_flat)]
+#[inline(always)]
+fn take_members<R: IdRoom>(
+    room: &mut R,
+    cursor: &mut Cursor,
+    depth: u8,
+    has_ids: bool,
+    frame: &Option<Frame>,
+) -> Result<usize, Doubt>
+    requires shallowest { 1 ≤ depth }
+    requires below { depth + 1 ≤ deepest }
+    requires near { IfSome frame.now IsNearFrame }
+    ensures { (head : HeadOf) → head.empty ≡ false → is_collection head.kind ≡ true → head.ids ≡ has_ids
+        → CertifiesBody depth head frame.now cursor.old result cursor.new }
+{
+    cursor.place_is_within();
+    let list = take_list(room, cursor, has_ids)?;
+    if list.ids.is_some() {
+        return Err(Doubt::Refused);
+    }
+    // A copy, so that the frame of a geometry without members stays in registers.
+    let below = *frame;
+    let mut vertices = 0;
+    for _ in 0..list.count {
+        cursor.place_is_within();
+        let Some(begun) = begin_head(cursor, depth + 1) else {
+            return Err(Doubt::Refused);
+        };
+        let member = take_flat(room, cursor, depth + 1, &below, begun)?;
+        cursor.place_is_within();
+        vertices += member;
+    }
+    Ok(vertices)
+}
+
+/// The body of a geometry of X and Y alone that is no collection.
+#[inline(always)]
+fn take_flat_shape<R: IdRoom>(
+    room: &mut R,
+    cursor: &mut Cursor,
+    head: &Head,
+    frame: &Option<Frame>,
+) -> Result<usize, Doubt>
+    requires precisions { HasPrecisions head.now }
+    requires full { head.now.empty ≡ false }
+    requires kind { is_collection head.now.kind ≡ false }
+    requires frame { IfSome frame.now (IsFramed head.now) }
+    requires z { head.now.z ≡ None }
+    requires m { head.now.m ≡ None }
+    ensures { (levels : ℕ) → CertifiesShape levels head.now frame.now cursor.old result cursor.new }
+{
+    let count = take_count(room, cursor, head.kind, head.ids)?;
+    match frame {
+        Some(frame) => {
+            let mut boxed = Boxed::new(&frame.bounds);
+            let vertices = take_parts_of(cursor, head, 2, count, &mut boxed)?;
+            if !boxed.is_inside() {
+                return Err(Doubt::Refused);
+            }
+            Ok(vertices)
+        }
+        None => take_unboxed(cursor, head.kind, 2, count),
+    }
+}
+
+/// The body of a geometry that is no collection.
+#[inline(always)]
+fn take_further_shape<R: IdRoom>(
+    room: &mut R,
+    cursor: &mut Cursor,
+    head: &Head,
+    frame: &Option<Frame>,
+) -> Result<usize, Doubt>
+    requires precisions { HasPrecisions head.now }
+    requires full { head.now.empty ≡ false }
+    requires kind { is_collection head.now.kind ≡ false }
+    requires frame { IfSome frame.now (IsFramed head.now) }
+    requires further { has_further head.now.z head.now.m ≡ true }
+    ensures { (levels : ℕ) → CertifiesShape levels head.now frame.now cursor.old result cursor.new }
+{
+    let count = take_count(room, cursor, head.kind, head.ids)?;
+    match frame {
+        Some(frame) => {
+            let bounds = frame.bounds;
+            take_boxed(cursor, head.kind, head.axes(), count, &bounds)
+        }
+        None => take_unboxed(cursor, head.kind, head.axes(), count),
+    }
+}

@@ -1,0 +1,138 @@
+//! The parts of a body in the first reading: their count, and whether a box holds their points.
+ghost use Rattle.std.specs.Prelude.{◌≡◌, ◌≤◌, ◌⊎◌, ℕ, true, false, IfOk, IfErr, IfSome, OnErr};
+ghost use Rattle.twkb_num.specs.Units.{IsPrecision};
+ghost use Rattle.twkb_head.specs.Header.{axes_with, is_multi};
+ghost use Rattle.twkb_body.specs.Devices.Boxed.{IsNearBox};
+ghost use Rattle.twkb_body.specs.Devices.Inside.{of_head};
+ghost use Rattle.twkb_body.specs.Devices.Sure.{ReadParts, AreMalformed, AreHeld, CountsParts};
+ghost use Rattle.twkb_body.specs.declared.doubt.Doubt.TheVariants.{Refused};
+ghost use Rattle.twkb_body.specs.Devices.Walk.{HasPrecisions};
+
+use crate::boxed::Boxed;
+use crate::doubt::Doubt;
+use crate::further::Further;
+use crate::lists::take_list;
+use crate::parts::take_parts;
+use crate::points::Points;
+use crate::rooms::IdRoom;
+use crate::trail::Trail;
+use twkb_head::{Head, Kind, RawBox};
+use twkb_num::Cursor;
+
+/// How many parts there are: one, or the count of a list.
+#[inline(always)]
+pub fn take_count<R: IdRoom>(
+    room: &mut R,
+    cursor: &mut Cursor,
+    kind: Kind,
+    has_ids: bool,
+) -> Result<u64, Doubt>
+    ensures { CountsParts (is_multi kind) has_ids cursor.old result cursor.new }
+{
+    if kind.is_multi() {
+        let list = take_list(room, cursor, has_ids)?;
+        if list.ids.is_some() {
+            return Err(Doubt::Refused);
+        }
+        Ok(list.count)
+    } else {
+        Ok(1)
+    }
+}
+
+/// A header of so many axes that says nothing else.
+#[inline(always)]
+pub fn head_of(kind: Kind, axes: usize) -> Head
+    requires some { 2 ≤ axes }
+    requires few { axes ≤ 4 }
+    ensures kind { result.kind ≡ kind }
+    ensures axes { axes ≡ axes_with result.z result.m }
+    ensures xy { IsPrecision result.xy }
+    ensures z_high { IfSome result.z (λ p. p ≤ 7) }
+    ensures m_high { IfSome result.m (λ p. p ≤ 7) }
+{
+    Head {
+        kind,
+        xy: 0,
+        z: if 2 < axes { Some(0) } else { None },
+        m: if 3 < axes { Some(0) } else { None },
+        size: None,
+        bounds: None,
+        ids: false,
+        empty: false,
+        start: 0,
+        stop: 0,
+    }
+}
+
+/// A body of three axes or four, if a box holds its points.
+#[inline(always)]
+pub fn take_boxed(
+    cursor: &mut Cursor,
+    kind: Kind,
+    axes: usize,
+    count: u64,
+    bounds: &RawBox,
+) -> Result<usize, Doubt>
+    requires further { (axes ≡ 3) ⊎ (axes ≡ 4) }
+    requires near { IsNearBox bounds.now }
+    ensures ok { IfOk result (AreHeld true kind axes count bounds.now cursor.old cursor.new) }
+    ensures doubt { OnErr result (AreMalformed kind axes count cursor.old cursor.new
+        ⊎ ((vertices : ℕ) × AreHeld false kind axes count bounds.now cursor.old cursor.new vertices)) }
+    ensures refused { IfErr result (λ doubt. doubt ≡ Refused) }
+{
+    if axes == 4 {
+        take_boxed_by::<4>(cursor, kind, count, bounds)
+    } else {
+        take_boxed_by::<3>(cursor, kind, count, bounds)
+    }
+}
+
+/// A body of `AXES` axes, if a box holds its points.
+// It isn't inlined, since a function that would grow very large has nothing inlined.
+#[inline(never)]
+fn take_boxed_by<const AXES: usize>(
+    cursor: &mut Cursor,
+    kind: Kind,
+    count: u64,
+    bounds: &RawBox,
+) -> Result<usize, Doubt>
+    requires further { (AXES ≡ 3) ⊎ (AXES ≡ 4) }
+    requires near { IsNearBox bounds.now }
+    ensures ok { IfOk result (AreHeld true kind AXES count bounds.now cursor.old cursor.new) }
+    ensures doubt { OnErr result (AreMalformed kind AXES count cursor.old cursor.new
+        ⊎ ((vertices : ℕ) × AreHeld false kind AXES count bounds.now cursor.old cursor.new vertices)) }
+    ensures refused { IfErr result (λ doubt. doubt ≡ Refused) }
+{
+    let head = head_of(kind, AXES);
+    let boxed = Boxed::new(bounds);
+    let mut further = Further::<AXES> { boxed };
+    let vertices = take_parts_of(cursor, &head, AXES, count, &mut further)?;
+    if !further.boxed.is_inside() {
+        return Err(Doubt::Refused);
+    }
+    Ok(vertices)
+}
+
+/// So many parts of a body of so many axes.
+#[inline(always)]
+pub fn take_parts_of<P: Points>(
+    cursor: &mut Cursor,
+    head: &Head,
+    axes: usize,
+    count: u64,
+    points: &mut P,
+) -> Result<usize, Doubt>
+    requires precisions { HasPrecisions head.now }
+    requires axes { axes ≡ axes_with head.now.z head.now.m }
+    ensures ok { IfOk result (ReadParts (P.step (of_head head.now)) head.now.kind axes count cursor.old cursor.new
+        (P.state points.old) (P.state points.new)) }
+    ensures malformed { OnErr result (AreMalformed head.now.kind axes count cursor.old cursor.new) }
+    ensures refused { IfErr result (λ doubt. doubt ≡ Refused) }
+{
+    let mut trail = Trail::new();
+    let Ok(()) = take_parts(cursor, head, axes, count, &mut trail, points) else {
+        return Err(Doubt::Refused);
+    };
+    Ok(trail.points)
+}
