@@ -216,6 +216,8 @@ pub fn take_rest(cursor: &mut Cursor, begun: Begun) -> Result<Fields, Malformed>
     ensures m_high { IfOk result (λ raw. IfSome raw.axes.m (λ p. p ≤ 7)) }
     ensures flat { has_bit begun.metadata 8 ≡ false → IfOk result (λ raw. (raw.axes.z ≡ None) × (raw.axes.m ≡ None)) }
     ensures empty { IfOk result (λ raw. raw.empty ≡ has_bit begun.metadata 16) }
+    ensures no_box { has_bit begun.metadata 1 ≡ false → IfOk result (λ raw. raw.bounds ≡ None) }
+    ensures kind { IfOk result (λ raw. raw.kind ≡ begun.kind) }
 {
     take_fields(cursor, begun)
 }
@@ -231,6 +233,8 @@ fn take_fields(cursor: &mut Cursor, begun: Begun) -> Result<Fields, Malformed>
     ensures m_high { IfOk result (λ raw. IfSome raw.axes.m (λ p. p ≤ 7)) }
     ensures flat { has_bit begun.metadata 8 ≡ false → IfOk result (λ raw. (raw.axes.z ≡ None) × (raw.axes.m ≡ None)) }
     ensures empty { IfOk result (λ raw. raw.empty ≡ has_bit begun.metadata 16) }
+    ensures no_box { has_bit begun.metadata 1 ≡ false → IfOk result (λ raw. raw.bounds ≡ None) }
+    ensures kind { IfOk result (λ raw. raw.kind ≡ begun.kind) }
 {
     let extended = take_extended(cursor, has_bit(begun.metadata, EXTENDED))?;
     let z = z_of(extended);

@@ -18,7 +18,7 @@ returns-clause-read c =
     let h4 = rw b2 at c.in_ok-size.ensures in
     let z : c.z_of-z.result ≡ z_in c.in_ok-extended.extended = c.z_of-z.ensures.value in
     let m : c.m_of-m.result ≡ m_in c.in_ok-extended.extended = c.m_of-m.ensures.value in
-    let h5 = rw b1 at c.in_ok-bounds.ensures c.args.begun.xy (z_in c.in_ok-extended.extended) (m_in c.in_ok-extended.extended) (ap is_some (sym z) ∙ sym c.is_some.ensures) (ap is_some (sym m) ∙ sym c.is_some-2.ensures) in
+    let h5 = rw b1 at c.in_ok-bounds.ensures.read c.args.begun.xy (z_in c.in_ok-extended.extended) (m_in c.in_ok-extended.extended) (ap is_some (sym z) ∙ sym c.is_some.ensures) (ap is_some (sym m) ∙ sym c.is_some-2.ensures) in
     let size = rw (c.place-size_place.ensures.value, c.place-box_place.ensures.value) at c.size_field.ensures in
     let is = rest_is _ _ _ _ _ _ _ _ _ _ c.args.begun.start h3 h4 h5 in
     is ∙ ap (λ (h : Head). (Ok h, c.take_box.new.cursor)) (λ j. record {
@@ -33,3 +33,6 @@ returns-clause-read c =
       start = c.args.begun.start;
       stop = sym c.place.ensures.value j;
     })
+
+pub returns-clause-no_box : goal.returns-clause-no_box
+returns-clause-no_box c unset = c.in_ok-bounds.ensures.none (c.has_bit-3.ensures ∙ unset)
