@@ -58,6 +58,7 @@ use Rattle.twkb_body.proofs.ShapeSteps.{no_count, behind_count}
 use Rattle.twkb_body.proofs.Sums.{points_absolute}
 use Rattle.twkb_body.proofs.GeometrySteps.{shape_body, header_fails, body_gives, body_fails, body_of_head, size_same}
 use Rattle.twkb_body.proofs.Judging.{distinct_decides}
+use Rattle.twkb_body.proofs.Keeping.{Keeps, keeps_list, keeps_count, keeps_parts, keeps_body_under, read_keeps, failure_keeps}
 use Rattle.twkb_body.proofs.MemberSteps.{long_list_in, collection_body, behind_list}
 use Rattle.twkb_body.proofs.HeadFacts.{head_size}
 use Rattle.twkb_body.proofs.Passes.{right_of, left_of, all_left, all_right}
@@ -366,17 +367,17 @@ size_refutes levels head above mid new vertices f sure is body stop e inside siz
     some_not_none f (sym is ∙ ap (λ (s : Reading). size_judged head.size s.place) one.1 ∙ size)
 
 -- ---- doubts
-pub doubts_outside : {A : Type 0} (inner : Answer A) (R W V : Type 0) (mid old : Reading) (e : Stopped) (new : Reading) → ((m : Malformed) → Fails inner m new → R) → (new.bytes ≡ mid.bytes → W → (new.bytes ≡ old.bytes) × V)
-    → HasStopped inner W mid e new → HasDoubt R V old (doubt_of e) new
-doubts_outside inner R W V mid old (BadField m) new fails wants s = fails m s
-doubts_outside inner R W V mid old NoMemory new fails wants s = wants s.0 s.1
+pub doubts_outside : {A : Type 0} (f : Reader A) (R W V : Type 0) (mid old : Reading) (e : Stopped) (new : Reading) → Keeps f → mid.bytes ≡ old.bytes → ((m : Malformed) → Fails (f mid) m new → R) → (W → V)
+    → HasStopped (f mid) W mid e new → HasDoubt R V old (doubt_of e) new
+doubts_outside f R W V mid old (BadField m) new keeps same fails wants s = (failure_keeps f mid new m keeps s ∙ same, fails m s)
+doubts_outside f R W V mid old NoMemory new keeps same fails wants s = (s.0 ∙ same, wants s.1)
 
-pub doubts_through : (R Q W V : Type 0) (mid old : Reading) (d : Doubt) (new : Reading) → (R → Q) → (new.bytes ≡ mid.bytes → W → (new.bytes ≡ old.bytes) × V) → HasDoubt R W mid d new → HasDoubt Q V old d new
-doubts_through R Q W V mid old Refused new refutes wants s = refutes s
-doubts_through R Q W V mid old Memory new refutes wants s = wants s.0 s.1
+pub doubts_through : (R Q W V : Type 0) (mid old : Reading) (d : Doubt) (new : Reading) → mid.bytes ≡ old.bytes → (R → Q) → (W → V) → HasDoubt R W mid d new → HasDoubt Q V old d new
+doubts_through R Q W V mid old Refused new same refutes wants s = (s.0 ∙ same, refutes s.1)
+doubts_through R Q W V mid old Memory new same refutes wants s = (s.0 ∙ same, wants s.1)
 
-pub refused_for : (R V : Type 0) (old : Reading) (d : Doubt) (new : Reading) → d ≡ Refused → R → HasDoubt R V old d new
-refused_for R V old d new is r = subst (λ (e : Doubt). HasDoubt R V old e new) (sym is) r
+pub refused_for : (R V : Type 0) (old : Reading) (d : Doubt) (new : Reading) → d ≡ Refused → new.bytes ≡ old.bytes → R → HasDoubt R V old d new
+refused_for R V old d new is same r = subst (λ (e : Doubt). HasDoubt R V old e new) (sym is) (same, r)
 
 -- no header is there that may stand at this depth,
 pub no_header_refutes : (depth : ℕ) (above : Option Frame) (r : Reading) → 1 ≤ depth → depth ≤ deepest → IsSound r → (StartsWithHeader depth (rest r) → ⊥) → IsRefuted (deepest - depth) above r
@@ -404,9 +405,9 @@ module _ (raw : Fields) (depth : ℕ) (above : Option Frame) (r mid : Reading) (
   pub behind_doubts : (d : Doubt) (new : Reading) → HasDoubt (IsRefutedBehind (deepest - depth) (head_said raw) above mid) (WantsIn (is_collection raw.kind) raw.empty depth raw.ids mid) mid d new
       → HasDoubt (IsRefuted (deepest - depth) above r) (HasLongList depth (rest r)) r d new
   behind_doubts d new s =
-      doubts_through (IsRefutedBehind (deepest - depth) (head_said raw) above mid) (IsRefuted (deepest - depth) above r) (WantsIn (is_collection raw.kind) raw.empty depth raw.ids mid) (HasLongList depth (rest r)) mid r d new
+      doubts_through (IsRefutedBehind (deepest - depth) (head_said raw) above mid) (IsRefuted (deepest - depth) above r) (WantsIn (is_collection raw.kind) raw.empty depth raw.ids mid) (HasLongList depth (rest r)) mid r d new moved.bytes
       (behind_refutes (head_said raw) depth above r mid some deep sound at moved)
-      (λ bytes wants. (bytes ∙ moved.bytes, long_list_in (head_said raw) depth r mid some sound at moved (is_collection raw.kind) refl wants)) s
+      (long_list_in (head_said raw) depth r mid some sound at moved (is_collection raw.kind) refl) s
 
   -- and what is sure is judged by its size.
   pub behind_certifies : (new : Reading) (vertices : ℕ) (result : Result ℕ Doubt) → IsSureBehind (deepest - depth) (head_said raw) above mid new vertices → IsJudged (boxless raw) new.place vertices result
@@ -415,6 +416,7 @@ module _ (raw : Fields) (depth : ℕ) (above : Option Frame) (r mid : Reading) (
       subst (IsSure (deepest - depth) above r new) (sym same) (geometry_sure (head_said raw) depth above r mid new vertices some deep sound at moved sure (sym true_size))
   behind_certifies new vertices (Err d) sure (is, (f, false_size)) =
       refused_for (IsRefuted (deepest - depth) above r) (HasLongList depth (rest r)) r d new is
+      (read_keeps (body_at raw.empty (is_collection raw.kind) (of_head (head_said raw)) (members_under (deepest - depth))) mid new sure.body (keeps_body_under (deepest - depth) raw.empty (is_collection raw.kind) (of_head (head_said raw))) sure.read ∙ moved.bytes)
       (behind_refutes (head_said raw) depth above r mid some deep sound at moved (size_refutes (deepest - depth) (head_said raw) above mid new vertices f sure false_size))
 
   -- The header without its box, as the code has it.
@@ -432,8 +434,8 @@ module _ (raw : Fields) (depth : ℕ) (above : Option Frame) (r mid : Reading) (
           → HasDoubt (IsRefuted (deepest - depth) above r) (HasLongList depth (rest r)) r d new
       body_doubts d s =
           let wants : Type 0 = WantsIn (is_collection raw.kind) raw.empty depth raw.ids mid in
-          behind_doubts d new (doubts_through (IsRefutedBody (deepest - depth) (boxless raw) frame mid) (IsRefutedBehind (deepest - depth) (head_said raw) above mid) wants wants mid mid d new
-          (body_refutes (deepest - depth) raw above frame mid raw_under) (λ bytes w. (bytes, w))
+          behind_doubts d new (doubts_through (IsRefutedBody (deepest - depth) (boxless raw) frame mid) (IsRefutedBehind (deepest - depth) (head_said raw) above mid) wants wants mid mid d new refl
+          (body_refutes (deepest - depth) raw above frame mid raw_under) (λ w. w)
           (subst (λ (h : Head). HasDoubt (IsRefutedBody (deepest - depth) h frame mid) (WantsIn (is_collection h.kind) h.empty depth h.ids mid) mid d new) same s))
 
       pub judged_certifies : (vertices : ℕ) (result : Result ℕ Doubt) → IsSureBody (deepest - depth) plain frame mid new vertices → IsJudged plain new.place vertices result → Certifies depth above r result new
@@ -509,7 +511,7 @@ shape_certifies depth head frame old new (Err Memory) single s = (s.0, subst (λ
 -- ---- the count of parts
 pub count_doubts : (multi ids : Bool) (old new : Reading) (e : Stopped) → multi ≡ true → HasStopped (list_at ids old) (HasManyIdsAfterCount ids (rest old)) old e new
     → HasDoubt (IsWrongCount multi ids old new) (HasManyIdsAfterCount ids (rest old)) old (doubt_of e) new
-count_doubts multi ids old new (BadField m) many s = inl (m, subst (λ (b : Bool). Fails (count_at b ids old) m new) (sym many) s)
+count_doubts multi ids old new (BadField m) many s = (failure_keeps (list_at ids) old new m (keeps_list ids) s, inl (m, subst (λ (b : Bool). Fails (count_at b ids old) m new) (sym many) s))
 count_doubts multi ids old new NoMemory many s = s
 
 pub wrong_count_refutes : (head : Head) (levels : ℕ) (old : Reading) (frame : Option Frame) (new : Reading) → head.empty ≡ false → is_collection head.kind ≡ false → IsWrongCount (is_multi head.kind) head.ids old new
@@ -520,8 +522,8 @@ wrong_count_refutes head levels old frame new full single (inr (list, found, f, 
 pub shape_count_doubts : (head : Head) (levels : ℕ) (frame : Option Frame) (old new : Reading) (d : Doubt) → head.empty ≡ false → is_collection head.kind ≡ false
     → HasDoubt (IsWrongCount (is_multi head.kind) head.ids old new) (HasManyIdsAfterCount head.ids (rest old)) old d new → HasDoubt (IsRefutedBody levels head frame old) (HasManyIdsAfterCount head.ids (rest old)) old d new
 shape_count_doubts head levels frame old new d full single s =
-    doubts_through (IsWrongCount (is_multi head.kind) head.ids old new) (IsRefutedBody levels head frame old) (HasManyIdsAfterCount head.ids (rest old)) (HasManyIdsAfterCount head.ids (rest old)) old old d new
-    (wrong_count_refutes head levels old frame new full single) (λ bytes wants. (bytes, wants)) s
+    doubts_through (IsWrongCount (is_multi head.kind) head.ids old new) (IsRefutedBody levels head frame old) (HasManyIdsAfterCount head.ids (rest old)) (HasManyIdsAfterCount head.ids (rest old)) old old d new refl
+    (wrong_count_refutes head levels old frame new full single) (λ wants. wants) s
 
 -- parts behind their count
 pub adds_parts : {S : Type 0} (step : S → PointValue → S) (kind : Kind) (ids : Bool) (axes count : ℕ) (old mid new : Reading) (s t : S) (vertices : ℕ) → IsCounted (is_multi kind) ids old mid count
@@ -540,6 +542,15 @@ adds_parts step kind ids axes count old mid new s t vertices (list, listed, foun
 
 -- a body is certified by its parts: where no box asks for them,
 module _ (head : Head) (levels axes count : ℕ) (old mid new : Reading) (full : head.empty ≡ false) (single : is_collection head.kind ≡ false) (axes_are : axes ≡ axes_of (of_head head)) (counted : IsCounted (is_multi head.kind) head.ids old mid count) where
+  counted_keeps : mid.bytes ≡ old.bytes
+  counted_keeps = read_keeps (count_at (is_multi head.kind) head.ids) old mid counted.0 (keeps_count (is_multi head.kind) head.ids) counted.1
+
+  pub malformed_keeps : AreMalformed head.kind axes count mid new → new.bytes ≡ old.bytes
+  malformed_keeps bad = failure_keeps (many_at count ring_sums (part_at head.kind axes) zeros) mid new bad.0 (keeps_parts head.kind axes count zeros) bad.1 ∙ counted_keeps
+
+  pub held_keeps : (all : Bool) (box : RawBox) (vertices : ℕ) → AreHeld all head.kind axes count box mid new vertices → new.bytes ≡ old.bytes
+  held_keeps all box vertices are = read_keeps (many_at count ring_sums (part_at head.kind axes) zeros) mid new are.1.parts (keeps_parts head.kind axes count zeros) are.1.read ∙ counted_keeps
+
   malformed_refutes : (frame : Option Frame) → AreMalformed head.kind axes count mid new → IsRefutedBody levels head frame old
   malformed_refutes frame bad = parts_refute head levels old frame full single mid counted.0 (record { count = count; ids = None }) counted.1 counted.2 axes axes_are new bad
 
@@ -547,7 +558,7 @@ module _ (head : Head) (levels axes count : ℕ) (old mid new : Reading) (full :
       → CertifiesShape levels head None old result new
   unboxed_certifies (Ok vertices) parts bad refused =
       body_unboxed levels head old new vertices axes (sym axes_are) full single (λ (s : Unit {0}) point. s) tt tt (adds_parts (λ (s : Unit {0}) point. s) head.kind head.ids axes count old mid new tt tt vertices counted parts)
-  unboxed_certifies (Err d) parts bad refused = refused_for (IsRefutedBody levels head None old) (HasManyIdsAfterCount head.ids (rest old)) old d new refused (malformed_refutes None bad)
+  unboxed_certifies (Err d) parts bad refused = refused_for (IsRefutedBody levels head None old) (HasManyIdsAfterCount head.ids (rest old)) old d new refused (malformed_keeps bad) (malformed_refutes None bad)
 
   -- and where one does.
   module _ (frame : Frame) (precisions : frame ≡ framed head frame.bounds) where
@@ -562,11 +573,15 @@ module _ (head : Head) (levels axes count : ℕ) (old mid new : Reading) (full :
     pub boxed_certifies : (result : Result ℕ Doubt) → IfOk result (AreHeld true head.kind axes count frame.bounds mid new)
         → OnErr result (AreMalformed head.kind axes count mid new ⊎ ((vertices : ℕ) × AreHeld false head.kind axes count frame.bounds mid new vertices)) → IfErr result (λ d. d ≡ Refused) → CertifiesShape levels head (Some frame) old result new
     boxed_certifies (Ok vertices) are bad refused = held_sure vertices are
-    boxed_certifies (Err d) are bad refused = refused_for (IsRefutedBody levels head (Some frame) old) (HasManyIdsAfterCount head.ids (rest old)) old d new refused (either bad)
+    boxed_certifies (Err d) are bad refused = refused_for (IsRefutedBody levels head (Some frame) old) (HasManyIdsAfterCount head.ids (rest old)) old d new refused (kept bad) (either bad)
       where
         either : AreMalformed head.kind axes count mid new ⊎ ((vertices : ℕ) × AreHeld false head.kind axes count frame.bounds mid new vertices) → IsRefutedBody levels head (Some frame) old
         either (inl bad) = malformed_refutes (Some frame) bad
         either (inr (vertices, are)) = outside_refutes vertices are
+
+        kept : AreMalformed head.kind axes count mid new ⊎ ((vertices : ℕ) × AreHeld false head.kind axes count frame.bounds mid new vertices) → new.bytes ≡ old.bytes
+        kept (inl bad) = malformed_keeps bad
+        kept (inr (vertices, are)) = held_keeps false frame.bounds vertices are
 
 -- points with Z or M have three axes or four
 pub three_or_four : (z m : Option ℕ) (axes : ℕ) → axes ≡ axes_with z m → has_further z m ≡ true → (axes ≡ 3) ⊎ (axes ≡ 4)

@@ -182,9 +182,9 @@ abbrev pub doubt_of : Stopped → Doubt
 doubt_of (BadField m) = Refused
 doubt_of NoMemory = Memory
 
--- why reading isn't sure: it is refuted, or memory was wanted for some cause
+-- why reading isn't sure, with the bytes as they were: it is refuted, or memory was wanted for some cause
 abbrev pub HasDoubt : Type 0 → Type 0 → Reading → Doubt → Reading → Type 0
-HasDoubt Refuted Wants old Refused new = Refuted
+HasDoubt Refuted Wants old Refused new = (new.bytes ≡ old.bytes) × Refuted
 HasDoubt Refuted Wants old Memory new = (new.bytes ≡ old.bytes) × Wants
 
 -- so many vertices, of which reading is sure, or why it isn't

@@ -20,14 +20,17 @@ use Rattle.twkb_body.specs.Devices.Stops.{WantsIn, own_ids, member_ids}
 use Rattle.twkb_body.specs.Devices.Sure.{IsJudged, IsRefuted, IsRefutedBody}
 use Rattle.twkb_body.specs.Devices.Walk.{HasPrecisions}
 use Rattle.twkb_body.proofs.HeadFacts.{head_size}
+use Rattle.twkb_body.proofs.Keeping.{keeps_list, read_keeps}
 use Rattle.twkb_body.proofs.MemberSteps.{member_bytes}
 use Rattle.twkb_body.proofs.SureSteps.{sure_begins, sure_goes_on, members_sure}
 use Rattle.twkb_body.proofs.Refuting.{some_of, none_of, wants_members, shape_certifies, no_header_refutes, rest_refutes, list_refutes, ids_refute, members_refute, doubts_outside, doubts_through, raw_allowed, behind_doubts, apart_certifies, body_doubts, judged_certifies, bit_unset, apart_flat, apart_box, apart_there, apart_any, flat_ends}
 use Rattle.twkb_body.proofs.sure.+take_flat.Goals as goal
 
 pub take_flat-returns-in_default : goal.take_flat-returns-in_default
-take_flat-returns-in_default g t c = λ before sound begins.
-    rest_refutes c.in_default.field-0 c.args.depth c.args.above.now before c.requires.shallowest c.requires.deepest sound (c.in_default.ensures.exact c.args.depth before sound begins)
+take_flat-returns-in_default g t c = λ before sound begins. (
+      ap (λ (r : Reading). r.bytes) (c.in_default.ensures.read c.args.depth before sound begins).1,
+      rest_refutes c.in_default.field-0 c.args.depth c.args.above.now before c.requires.shallowest c.requires.deepest sound (c.in_default.ensures.exact c.args.depth before sound begins),
+    )
 
 pub take_flat-take_flat_body-requires : goal.take_flat-take_flat_body-requires
 take_flat-take_flat_body-requires g t c κs within =
@@ -63,8 +66,10 @@ take_flat-returns g t c = λ before sound begins.
     c.in_ok-vertices-2.vertices c.judged-2.result c.in_ok-vertices-2.ensures (subst (λ (stop : ℕ). IsJudged c.boxless-head.result stop c.in_ok-vertices-2.vertices c.judged-2.result) c.place-2.ensures.value c.judged-2.ensures)
 
 pub take_further-returns-in_default : goal.take_further-returns-in_default
-take_further-returns-in_default g t c = λ before sound begins.
-    rest_refutes c.in_default.field-0 c.args.depth c.args.above.now before c.requires.shallowest c.requires.deepest sound (c.in_default.ensures.exact c.args.depth before sound begins)
+take_further-returns-in_default g t c = λ before sound begins. (
+      ap (λ (r : Reading). r.bytes) (c.in_default.ensures.read c.args.depth before sound begins).1,
+      rest_refutes c.in_default.field-0 c.args.depth c.args.above.now before c.requires.shallowest c.requires.deepest sound (c.in_default.ensures.exact c.args.depth before sound begins),
+    )
 
 pub take_further-take_further_body-requires : goal.take_further-take_further_body-requires
 take_further-take_further_body-requires g t c κs within =
@@ -112,10 +117,10 @@ take_members-returns-in_err-list g t c =
     let p = err_from_is_err_and c.from_residual.result c.from_residual.ensures.1 in
     let inner = deepest - (c.args.depth + 1) in
     let under : deepest - c.args.depth ≡ suc inner = omega (arith, c.requires.below) in
-    rw (p.1, p.2) (doubts_outside (list_at c.args.has_ids c.args.cursor.now) (IsRefutedBody (deepest - c.args.depth) head c.args.frame.now c.args.cursor.now) (HasManyIdsAfterCount c.args.has_ids (rest c.args.cursor.now))
-    (WantsIn (is_collection head.kind) head.empty c.args.depth head.ids c.args.cursor.now) c.args.cursor.now c.args.cursor.now _ c.take_list.new.cursor
+    rw (p.1, p.2) (doubts_outside (list_at c.args.has_ids) (IsRefutedBody (deepest - c.args.depth) head c.args.frame.now c.args.cursor.now) (HasManyIdsAfterCount c.args.has_ids (rest c.args.cursor.now))
+    (WantsIn (is_collection head.kind) head.empty c.args.depth head.ids c.args.cursor.now) c.args.cursor.now c.args.cursor.now _ c.take_list.new.cursor (keeps_list c.args.has_ids) refl
     (λ m f. list_refutes head (deepest - c.args.depth) inner c.args.cursor.now c.args.frame.now under full many m _ (subst (λ (b : Bool). Fails (list_at b c.args.cursor.now) m c.take_list.new.cursor) (sym ids) f))
-    (λ bytes wants. (bytes, wants_members head c.args.depth c.args.cursor.now full many (own_ids (subst (λ (b : Bool). HasManyIdsAfterCount b (rest c.args.cursor.now)) (sym ids) wants)))) c.in_err-list.ensures)
+    (λ wants. wants_members head c.args.depth c.args.cursor.now full many (own_ids (subst (λ (b : Bool). HasManyIdsAfterCount b (rest c.args.cursor.now)) (sym ids) wants))) c.in_err-list.ensures)
 
 pub take_members-returns-then-is_some : goal.take_members-returns-then-is_some
 take_members-returns-then-is_some g t c =
@@ -125,7 +130,7 @@ take_members-returns-then-is_some g t c =
     let list = c.in_ok-list.ensures in
     let listed : list_at head.ids c.args.cursor.now ≡ (Ok list.0, c.take_list.new.cursor) = ap (λ (b : Bool). list_at b c.args.cursor.now) ids ∙ list.1 in
     let f = some_of c.in_ok-list.list.ids (sym c.is_some.ensures ∙ c.if-is_some.true) in
-    ids_refute head (deepest - c.args.depth) inner c.args.cursor.now c.args.frame.now under full many c.take_list.new.cursor list.0 c.in_ok-list.list listed list.2 f.0 f.1
+    (read_keeps (list_at c.args.has_ids) c.args.cursor.now c.take_list.new.cursor list.0 (keeps_list c.args.has_ids) list.1, ids_refute head (deepest - c.args.depth) inner c.args.cursor.now c.args.frame.now under full many c.take_list.new.cursor list.0 c.in_ok-list.list listed list.2 f.0 f.1)
 
 pub take_members-loop-init : goal.take_members-loop-init
 take_members-loop-init g t c =
@@ -158,8 +163,10 @@ take_members-returns-in_default g t c =
     let under : deepest - c.args.depth ≡ suc inner = omega (arith, c.requires.below) in
     let list = c.in_ok-list.ensures in
     let listed : list_at head.ids c.args.cursor.now ≡ (Ok list.0, c.take_list.new.cursor) = ap (λ (b : Bool). list_at b c.args.cursor.now) ids ∙ list.1 in
+    let l = c.loop.invariant in
+    (c.in_default.ensures.moved.bytes ∙ member_bytes inner head.ids c.args.cursor.now c.take_list.new.cursor c.loop.cursor list.0 c.loop.counter l.loop.front c.place_is_within.ensures listed l.loop.so_far,
     members_refute head (deepest - c.args.depth) inner c.args.cursor.now c.args.frame.now under full many c.take_list.new.cursor list.0 c.in_ok-list.list listed list.2 c.loop.counter c.loop.vertices c.loop.cursor c.loop-test.true c.loop.invariant
-    (no_header_refutes (c.args.depth + 1) c.args.frame.now c.loop.cursor (omega arith) c.requires.below c.place_is_within-in-loop.ensures (λ starts. cc (c.in_default.ensures.none starts)))
+    (no_header_refutes (c.args.depth + 1) c.args.frame.now c.loop.cursor (omega arith) c.requires.below c.place_is_within-in-loop.ensures (λ starts. cc (c.in_default.ensures.none starts))))
 
 pub take_members-take_flat-requires : goal.take_members-take_flat-requires
 take_members-take_flat-requires g t c κs within =
@@ -181,11 +188,9 @@ take_members-returns-in_err-member g t c =
     let l = c.loop.invariant in
     rw (p.1, p.2) (doubts_through (IsRefuted inner c.args.frame.now c.loop.cursor) (IsRefutedBody (deepest - c.args.depth) head c.args.frame.now c.args.cursor.now) (HasLongList (c.args.depth + 1) (rest c.loop.cursor))
     (WantsIn (is_collection head.kind) head.empty c.args.depth head.ids c.args.cursor.now) c.loop.cursor c.args.cursor.now _ c.take_flat.new.cursor
+    (member_bytes inner head.ids c.args.cursor.now c.take_list.new.cursor c.loop.cursor list.0 c.loop.counter l.loop.front c.place_is_within.ensures listed l.loop.so_far)
     (λ wrong. members_refute head (deepest - c.args.depth) inner c.args.cursor.now c.args.frame.now under full many c.take_list.new.cursor list.0 c.in_ok-list.list listed list.2 c.loop.counter c.loop.vertices c.loop.cursor c.loop-test.true l wrong)
-    (λ bytes wants. (
-      bytes ∙ member_bytes inner head.ids c.args.cursor.now c.take_list.new.cursor c.loop.cursor list.0 c.loop.counter l.loop.front c.place_is_within.ensures listed l.loop.so_far,
-      wants_members head c.args.depth c.args.cursor.now full many (member_ids list.0 c.take_list.new.cursor c.loop.cursor c.loop.counter l.loop.front listed (omega (arith, c.loop-test.true, list.2.count)) l.loop.so_far wants),
-    )) one)
+    (λ wants. wants_members head c.args.depth c.args.cursor.now full many (member_ids list.0 c.take_list.new.cursor c.loop.cursor c.loop.counter l.loop.front listed (omega (arith, c.loop-test.true, list.2.count)) l.loop.so_far wants)) one)
 
 pub take_flat-returns-in_err-vertices : goal.take_flat-returns-in_err-vertices
 take_flat-returns-in_err-vertices g t c = λ before sound begins.

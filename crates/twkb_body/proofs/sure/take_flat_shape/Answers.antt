@@ -5,9 +5,9 @@ use Rattle.twkb_num.specs.Cursor.{rest}
 use Rattle.twkb_head.specs.Header.{axes_with, axes_of}
 use Rattle.twkb_body.specs.Devices.IdLists.{HasManyIdsAfterCount}
 use Rattle.twkb_body.specs.Devices.Inside.{of_head}
-use Rattle.twkb_body.specs.Devices.Sure.{ReadParts, IsRefutedBody}
+use Rattle.twkb_body.specs.Devices.Sure.{ReadParts, AreHeld, IsRefutedBody}
 use Rattle.twkb_body.specs.Devices.Boxed.{held_then}
-use Rattle.twkb_body.proofs.Refuting.{shape_count_doubts, refused_for, parts_refute, held_sure, outside_refutes, unboxed_certifies}
+use Rattle.twkb_body.proofs.Refuting.{shape_count_doubts, refused_for, malformed_keeps, held_keeps, parts_refute, held_sure, outside_refutes, unboxed_certifies}
 use Rattle.twkb_body.proofs.sure.take_flat_shape.Goals as goal
 
 pub returns-in_err-count : goal.returns-in_err-count
@@ -23,6 +23,7 @@ returns-in_err-vertices-in-Some g c = λ levels.
     let two : 2 ≡ axes_of (of_head head) = sym (ap₂ axes_with c.requires.z c.requires.m) in
     let counted = c.in_ok-count.ensures in
     rw (p.1, p.2) (refused_for (IsRefutedBody levels head c.args.frame.now old) (HasManyIdsAfterCount head.ids (rest old)) old _ c.take_parts_of.new.cursor c.in_err-vertices-in-Some.ensures.refused
+    (malformed_keeps head levels 2 c.in_ok-count.count old c.take_count.new.cursor c.take_parts_of.new.cursor c.requires.full c.requires.kind two counted c.in_err-vertices-in-Some.ensures.malformed)
     (parts_refute head levels old c.args.frame.now c.requires.full c.requires.kind c.take_count.new.cursor counted.0 (record { count = c.in_ok-count.count; ids = None }) counted.1 counted.2 2 two c.take_parts_of.new.cursor c.in_err-vertices-in-Some.ensures.malformed))
 
 pub returns-then-not-is_inside : goal.returns-then-not-is_inside
@@ -33,8 +34,11 @@ returns-then-not-is_inside g c = λ levels.
     let framed = rw c.in-Some.is at c.requires.frame in
     let parts = subst (λ (n : ℕ). ReadParts (held_then n) head.kind 2 c.in_ok-count.count c.take_count.new.cursor c.take_parts_of.new.cursor (record { box = frame.bounds; inside = true }) c.take_parts_of.new.points c.in_ok-vertices-in-Some.vertices) (sym two)
     (rw c.new-boxed.ensures at c.in_ok-vertices-in-Some.ensures.ok) in
-    rw c.in-Some.is (outside_refutes head levels 2 c.in_ok-count.count c.args.cursor.now c.take_count.new.cursor c.take_parts_of.new.cursor c.requires.full c.requires.kind two c.in_ok-count.ensures frame framed.0 c.in_ok-vertices-in-Some.vertices
-    (c.take_parts_of.new.points, parts, sym c.is_inside.ensures ∙ c.if-not-is_inside.true))
+    let outside : AreHeld false head.kind 2 c.in_ok-count.count frame.bounds c.take_count.new.cursor c.take_parts_of.new.cursor c.in_ok-vertices-in-Some.vertices = (c.take_parts_of.new.points, parts, sym c.is_inside.ensures ∙ c.if-not-is_inside.true) in
+    rw c.in-Some.is (
+      held_keeps head levels 2 c.in_ok-count.count c.args.cursor.now c.take_count.new.cursor c.take_parts_of.new.cursor c.requires.full c.requires.kind two c.in_ok-count.ensures false frame.bounds c.in_ok-vertices-in-Some.vertices outside,
+      outside_refutes head levels 2 c.in_ok-count.count c.args.cursor.now c.take_count.new.cursor c.take_parts_of.new.cursor c.requires.full c.requires.kind two c.in_ok-count.ensures frame framed.0 c.in_ok-vertices-in-Some.vertices outside,
+    )
 
 pub returns-else-not-is_inside : goal.returns-else-not-is_inside
 returns-else-not-is_inside g c = λ levels.
