@@ -1,11 +1,11 @@
 -- A body that no frame can hold is read by the exact way: what that finds says whether it is sure.
-use Rattle.std.proofs.Common.{◌≡◌, ℕ, ◌+◌, Bool, true, false, List, [], map, ℤ, Option, Some, None, is_some, option_map, IfSome, All, AllPairs, ◌≢◌, Ok, inl, inr, refl, sym, ap, subst, ◌∙◌}
-use Rattle.std.specs.Prelude.{◌⊎◌, ◌||◌}
+use Rattle.std.proofs.Common.{◌≡◌, ℕ, ◌+◌, Bool, true, false, List, [], map, ℤ, Option, Some, None, is_some, option_map, IfSome, All, AllPairs, ◌≢◌, Ok, refl, sym, ap, subst, ◌∙◌}
+use Rattle.std.specs.Prelude.{◌||◌}
 use Rattle.twkb_num.specs.Cursor.{Reading}
 use Rattle.twkb_head.specs.BegunHeader.{is_collection}
 use Rattle.twkb_head.specs.Header.{Header}
 use Rattle.twkb_head.specs.Holds.{Holds}
-use Rattle.twkb_head.specs.Shared.Reader.{Answer}
+use Rattle.twkb_head.specs.Shared.Reader.{Reader}
 use Rattle.twkb_head.specs.declared.boxes.Bounds.{Bounds}
 use Rattle.twkb_head.specs.declared.boxes.Vertex.{Vertex}
 use Rattle.twkb_head.specs.declared.header.BoxField.{BoxField}
@@ -13,7 +13,7 @@ use Rattle.twkb_head.specs.declared.header.Head.{Head}
 use Rattle.twkb_head.specs.declared.kinds.Kind.{Kind}
 use Rattle.twkb_head.specs.declared.raw.RawBox.{RawBox}
 use Rattle.twkb_head.specs.Raw.{raw_bounds}
-use Rattle.twkb_head.proofs.Readings.{one_answer}
+use Rattle.twkb_head.proofs.Readings.{one_answer, no_failure}
 use Rattle.twkb_body.specs.Geometry.{Members, vertex_of, points_of, member_vertices}
 use Rattle.twkb_body.specs.Claims.{IsTrueClaim, member_claims}
 use Rattle.twkb_body.specs.Extent.{Reach, reach_of, both, IsReachWithin}
@@ -21,16 +21,19 @@ use Rattle.twkb_body.specs.declared.found.FalseClaim.{FalseClaim}
 use Rattle.twkb_body.specs.declared.frame.Frame.{Frame}
 use Rattle.twkb_body.specs.declared.inside.Inside.{Inside}
 use Rattle.twkb_body.specs.declared.seen.Seen.{Seen}
+use Rattle.twkb_body.specs.declared.stopped.Stopped.{Stopped}
 use Rattle.twkb_body.specs.Devices.Body.{Body}
 use Rattle.twkb_body.specs.Devices.BodyReader.{body_at, members_under}
 use Rattle.twkb_body.specs.Devices.Found.{named, box_judged}
 use Rattle.twkb_body.specs.Devices.Inside.{of_head, IsInside}
-use Rattle.twkb_body.specs.Devices.Pass.{Refused, first, false_at, is_within, are_distinct, ids_refused, NamesFirstFalse}
-use Rattle.twkb_body.specs.Devices.Seen.{HasSeen}
-use Rattle.twkb_body.specs.Devices.Sure.{faultless, unseen, frame_bounds, body_vertices, IsHeldBy, IsSureBehind, IsTrueInside, IsRefutedBehind, IsApart}
+use Rattle.twkb_body.specs.Devices.Pass.{Refused, first, false_at, is_within, ids_refused, NamesFirstFalse}
+use Rattle.twkb_body.specs.Devices.Stops.{HasStopped, WantsIn}
+use Rattle.twkb_body.specs.Devices.Sure.{faultless, unseen, frame_bounds, body_vertices, IsHeldBy, IsSureBehind, IsTrueInside, IsRefutedBehind, HasDoubt, doubt_of, IsApart}
 use Rattle.twkb_body.proofs.Judging.{box_decides, distinct_decides}
+use Rattle.twkb_body.proofs.Keeping.{keeps_body_under, read_keeps}
 use Rattle.twkb_body.proofs.Passes.{false_among}
 use Rattle.twkb_body.proofs.Reaches.{reach_of-append, all_from_within, within_from_all}
+use Rattle.twkb_body.proofs.Refuting.{doubts_outside}
 
 -- ---- what is judged
 -- what is refused of a box that holds all vertices,
@@ -74,6 +77,15 @@ module _ (levels : ℕ) (head made : Head) (above : Option Frame) (old new : Rea
   same_body : body_at head.empty (is_collection head.kind) (of_head head) (members_under levels) old ≡ body_at made.empty (is_collection made.kind) (of_head made) (members_under levels) old
   same_body = ap (λ (h : Header). body_at h.empty (is_collection h.kind) h (members_under levels) old) same
 
+  -- a body that can't be read is refuted; or memory was wanted for it
+  pub apart_doubts : (depth : ℕ) (e : Stopped) → HasStopped (body_at made.empty (is_collection made.kind) (of_head made) (members_under levels) old) (WantsIn (is_collection made.kind) made.empty depth made.ids old) old e new
+      → HasDoubt (IsRefutedBehind levels head above old) (WantsIn (is_collection head.kind) head.empty depth head.ids old) old (doubt_of e) new
+  apart_doubts depth e stopped =
+      let reads : Reader Body = body_at made.empty (is_collection made.kind) (of_head made) (members_under levels) in
+      doubts_outside reads (IsRefutedBehind levels head above old) (WantsIn (is_collection made.kind) made.empty depth made.ids old) (WantsIn (is_collection head.kind) head.empty depth head.ids old) old old e new
+      (keeps_body_under levels made.empty (is_collection made.kind) (of_head made)) refl (λ m f body stop read inside size box held. no_failure (reads old) body stop new m (sym same_body ∙ read) f)
+      (λ wants. subst (λ (h : Header). WantsIn (is_collection h.kind) h.empty depth h.ids old) (sym same) wants) stopped
+
   module _ (before after : Seen) (inside : Inside) (body : Body) (read : body_at made.empty (is_collection made.kind) (of_head made) (members_under levels) old ≡ (Ok body, new))
       (i : IsInside false (of_head made) made.bounds body old.place new.place before after inside) where
     abbrev vs : List Vertex
@@ -95,6 +107,10 @@ module _ (levels : ℕ) (head made : Head) (above : Option Frame) (old new : Rea
     pub seen_is : before.asked ≡ true → before.extent ≡ reach_of [] → after.extent ≡ reach_of vs
     seen_is asked nothing = i.seen.extent asked ∙ ap (λ (r : Reach). both r (both (reach_of (map (vertex_of (of_head made)) (points_of body.polygons))) i.below.reach)) nothing ∙ reach_is
 
+    -- the bytes stay as they are
+    keeps : new.bytes ≡ old.bytes
+    keeps = read_keeps (body_at made.empty (is_collection made.kind) (of_head made) (members_under levels)) old new body (keeps_body_under levels made.empty (is_collection made.kind) (of_head made)) read
+
     -- a body of which nothing is false is sure if the frame holds it,
     pub found_sure : inside.boxed ≡ None → inside.ids ≡ None → inside.found.refused ≡ None → IsHeldBy above vs → IsSureBehind levels head above old new inside.found.vertices
     found_sure boxed ids refused held = record {
@@ -115,22 +131,28 @@ module _ (levels : ℕ) (head made : Head) (above : Option Frame) (old new : Rea
     }
 
     -- one of which something is false is refuted,
-    pub found_refutes : ((inside.boxed ≡ None) × (inside.ids ≡ None) × (inside.found.refused ≡ None) → ⊥) → IsRefutedBehind levels head above old
-    found_refutes some other stop e true_inside size box held =
-        let one = one_answer (body_at head.empty (is_collection head.kind) (of_head head) (members_under levels) old) other body stop new e (same_body ∙ read) in
-        let inside_true : IsTrueInside body old.place = subst (λ (b : Body). IsTrueInside b old.place) one.0 true_inside in
-        let own = subst (λ (b : Body). IfSome head.bounds (λ field. All (Holds field.bounds) (body_vertices (of_head head) b))) one.0 box in
-        some (
-          unnamed inside.boxed (box_is ∙ box_none (of_head made) made.bounds vs (same_bounds (λ (b : Bounds). All (Holds b) vs) made.bounds head.bounds (sym bounds) own)),
-          unnamed inside.ids (i.ids ∙ ids_none (old.place + body.count) body.ids inside_true.0),
-          unnamed inside.found.refused (i.refused ∙ members_none body.members (old.place + body.list) i.below.refused i.members.refused inside_true.1),
-        )
+    pub found_refutes : ((inside.boxed ≡ None) × (inside.ids ≡ None) × (inside.found.refused ≡ None) → ⊥) → (new.bytes ≡ old.bytes) × IsRefutedBehind levels head above old
+    found_refutes some = (keeps, refutes)
+      where
+        refutes : IsRefutedBehind levels head above old
+        refutes other stop e true_inside size box held =
+            let one = one_answer (body_at head.empty (is_collection head.kind) (of_head head) (members_under levels) old) other body stop new e (same_body ∙ read) in
+            let inside_true : IsTrueInside body old.place = subst (λ (b : Body). IsTrueInside b old.place) one.0 true_inside in
+            let own = subst (λ (b : Body). IfSome head.bounds (λ field. All (Holds field.bounds) (body_vertices (of_head head) b))) one.0 box in
+            some (
+              unnamed inside.boxed (box_is ∙ box_none (of_head made) made.bounds vs (same_bounds (λ (b : Bounds). All (Holds b) vs) made.bounds head.bounds (sym bounds) own)),
+              unnamed inside.ids (i.ids ∙ ids_none (old.place + body.count) body.ids inside_true.0),
+              unnamed inside.found.refused (i.refused ∙ members_none body.members (old.place + body.list) i.below.refused i.members.refused inside_true.1),
+            )
 
     -- and so is one that the frame doesn't hold.
-    pub outside_refutes : (IsHeldBy above vs → ⊥) → IsRefutedBehind levels head above old
-    outside_refutes wrong other stop e true_inside size box held =
-        let one = one_answer (body_at head.empty (is_collection head.kind) (of_head head) (members_under levels) old) other body stop new e (same_body ∙ read) in
-        wrong (subst (λ (b : Body). IsHeldBy above (body_vertices (of_head head) b)) one.0 held)
+    pub outside_refutes : (IsHeldBy above vs → ⊥) → (new.bytes ≡ old.bytes) × IsRefutedBehind levels head above old
+    outside_refutes wrong = (keeps, refutes)
+      where
+        refutes : IsRefutedBehind levels head above old
+        refutes other stop e true_inside size box held =
+            let one = one_answer (body_at head.empty (is_collection head.kind) (of_head head) (members_under levels) old) other body stop new e (same_body ∙ read) in
+            wrong (subst (λ (b : Body). IsHeldBy above (body_vertices (of_head head) b)) one.0 held)
 
 -- ---- the header that the exact way is given
 abbrev pub made_head : Kind → ℤ → Option ℕ → Option ℕ → Bool → Option BoxField → Head

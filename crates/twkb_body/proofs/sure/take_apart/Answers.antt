@@ -1,16 +1,32 @@
 -- What the exact way finds says whether a body is sure.
-use Rattle.std.proofs.Common.{◌≡◌, ◌-◌, Option, None, option_map, w8, to_z, of_z, refl, sym, subst, ◌∙◌}
+use Rattle.std.proofs.Common.{◌≡◌, ◌-◌, Option, option_map, w8, to_z, of_z, refl, sym, subst, ◌∙◌}
 use Rattle.std.proofs.lemmas.Int.{to_z-of_z}
+use Rattle.std.proofs.lemmas.Result.{err_from_is_err_and}
 use Rattle.twkb_head.specs.BegunHeader.{deepest}
 use Rattle.twkb_head.specs.Raw.{raw_bounds}
 use Rattle.twkb_head.specs.declared.header.BoxField.{BoxField}
 use Rattle.twkb_body.specs.declared.frame.Frame.{Frame}
 use Rattle.twkb_body.specs.Devices.Inside.{of_head}
 use Rattle.twkb_body.specs.Devices.Sure.{IsHeldBy, body_vertices}
-use Rattle.twkb_body.proofs.Apart.{made_head, some_box, no_box, same_head, same_box, asked_for, frame_holds, frame_within, there_not, seen_is, found_sure, found_refutes, outside_refutes}
+use Rattle.twkb_body.proofs.Apart.{made_head, some_box, no_box, same_head, same_box, asked_for, frame_holds, frame_within, there_not, seen_is, apart_doubts, found_sure, found_refutes, outside_refutes}
 use Rattle.twkb_body.proofs.Refuting.{none_of}
 use Rattle.twkb_body.proofs.sure.take_apart.Goals.{in-Some, in-None, then-is_some-via-then-is_some, then-is_some-via-else-is_some+then-is_some-2, then-is_some-via-else-is_some+else-is_some-2+then-is_some-3}
 use Rattle.twkb_body.proofs.sure.take_apart.Goals as goal
+
+pub returns-in_err-inside : goal.returns-in_err-inside
+returns-in_err-inside g c = λ head apart.
+    let p = err_from_is_err_and c.from_residual.result c.from_residual.ensures.1 in
+    let xy = to_z w8 (of_z w8 c.args.xy) in
+    let same_xy : xy ≡ c.args.xy = to_z-of_z w8 c.args.xy c.ranges.xy in
+    let made = c.match-bounds.bounds in
+    let box : option_map (λ (f : BoxField). f.bounds) made ≡ option_map (raw_bounds xy c.args.z c.args.m) c.args.bounds.now =
+    elim c.match-bounds.branch [
+      in-Some w ↦ some_box xy c.args.z c.args.m made c.args.bounds.now _ w.in-Some.bounds w.bounds-is w.in-Some.is w.in_units.ensures
+    | in-None w ↦ no_box xy c.args.z c.args.m made c.args.bounds.now w.bounds-is w.in-None.is
+    ] in
+    rw (p.1, p.2) (apart_doubts (deepest - c.args.depth) head (made_head c.args.kind xy c.args.z c.args.m c.args.ids made) c.args.above.now c.args.cursor.now c.take_inside.new.cursor
+    (same_head head c.args.kind c.args.xy xy c.args.z c.args.m c.args.ids c.args.bounds.now made apart same_xy box) (same_box head c.args.kind c.args.xy xy c.args.z c.args.m c.args.ids c.args.bounds.now made apart same_xy box)
+    c.args.depth _ c.in_err-inside.ensures)
 
 pub returns-then-is_some : goal.returns-then-is_some
 returns-then-is_some g c = λ head apart.

@@ -1,5 +1,6 @@
 -- An empty geometry claims its size alone: its box holds all of no vertices.
-use Rattle.std.proofs.Common.{◌≡◌, ◌-◌, ℕ, true, subst, ◌∙◌, arith}
+use Rattle.std.proofs.Common.{◌≡◌, ◌-◌, ℕ, true, ap, subst, ◌∙◌, arith}
+use Rattle.twkb_num.specs.Cursor.{Reading}
 use Rattle.twkb_head.specs.BegunHeader.{deepest}
 use Rattle.twkb_head.specs.Raw.{head_said}
 use Rattle.twkb_body.specs.Devices.Sure.{IsJudged}
@@ -8,8 +9,10 @@ use Rattle.twkb_body.proofs.SureSteps.{empty_sure}
 use Rattle.twkb_body.proofs.sure.take_empty.Goals as goal
 
 pub returns-in_default : goal.returns-in_default
-returns-in_default c = λ above before sound begins.
-    rest_refutes c.in_default.field-0 c.args.depth above before c.requires.shallowest c.requires.deepest sound (c.in_default.ensures.exact c.args.depth before sound begins)
+returns-in_default c = λ above before sound begins. (
+      ap (λ (r : Reading). r.bytes) (c.in_default.ensures.read c.args.depth before sound begins).1,
+      rest_refutes c.in_default.field-0 c.args.depth above before c.requires.shallowest c.requires.deepest sound (c.in_default.ensures.exact c.args.depth before sound begins),
+    )
 
 pub judged-requires : goal.judged-requires
 judged-requires c =
