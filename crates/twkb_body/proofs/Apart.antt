@@ -88,9 +88,11 @@ module _ (levels : ℕ) (head made : Head) (above : Option Frame) (old new : Rea
 
   module _ (before after : Seen) (inside : Inside) (body : Body) (read : body_at made.empty (is_collection made.kind) (of_head made) (members_under levels) old ≡ (Ok body, new))
       (i : IsInside false (of_head made) made.bounds body old.place new.place before after inside) where
+    -- its vertices
     abbrev vs : List Vertex
     vs = body_vertices (of_head head) body
 
+    -- the same under both headers
     vertices_same : vs ≡ body_vertices (of_head made) body
     vertices_same = ap (λ (h : Header). body_vertices h body) same
 
@@ -100,10 +102,11 @@ module _ (levels : ℕ) (head made : Head) (above : Option Frame) (old new : Rea
         let own = map (vertex_of (of_head made)) (points_of body.polygons) in
         ap (both (reach_of own)) i.members.reach ∙ sym (reach_of-append own (member_vertices body.members)) ∙ ap reach_of (sym vertices_same)
 
+    -- the box is judged by that reach,
     box_is : named inside.boxed ≡ box_judged false (of_head made) made.bounds (reach_of vs)
     box_is = i.boxed ∙ ap (box_judged false (of_head made) made.bounds) reach_is
 
-    -- so is what is seen, where it is asked for
+    -- which is also what is seen, where it is asked for
     pub seen_is : before.asked ≡ true → before.extent ≡ reach_of [] → after.extent ≡ reach_of vs
     seen_is asked nothing = i.seen.extent asked ∙ ap (λ (r : Reach). both r (both (reach_of (map (vertex_of (of_head made)) (points_of body.polygons))) i.below.reach)) nothing ∙ reach_is
 

@@ -21,8 +21,8 @@ returns-in_err-inside g c = λ head apart.
     let made = c.match-bounds.bounds in
     let box : option_map (λ (f : BoxField). f.bounds) made ≡ option_map (raw_bounds xy c.args.z c.args.m) c.args.bounds.now =
     elim c.match-bounds.branch [
-      in-Some w ↦ some_box xy c.args.z c.args.m made c.args.bounds.now _ w.in-Some.bounds w.bounds-is w.in-Some.is w.in_units.ensures
-    | in-None w ↦ no_box xy c.args.z c.args.m made c.args.bounds.now w.bounds-is w.in-None.is
+      | in-Some w ↦ some_box xy c.args.z c.args.m made c.args.bounds.now _ w.in-Some.bounds w.bounds-is w.in-Some.is w.in_units.ensures
+      | in-None w ↦ no_box xy c.args.z c.args.m made c.args.bounds.now w.bounds-is w.in-None.is
     ] in
     rw (p.1, p.2) (apart_doubts (deepest - c.args.depth) head (made_head c.args.kind xy c.args.z c.args.m c.args.ids made) c.args.above.now c.args.cursor.now c.take_inside.new.cursor
     (same_head head c.args.kind c.args.xy xy c.args.z c.args.m c.args.ids c.args.bounds.now made apart same_xy box) (same_box head c.args.kind c.args.xy xy c.args.z c.args.m c.args.ids c.args.bounds.now made apart same_xy box)

@@ -10,9 +10,9 @@ use Rattle.twkb_body.proofs.sure.take_empty.Goals as goal
 
 pub returns-in_default : goal.returns-in_default
 returns-in_default c = λ above before sound begins. (
-      ap (λ (r : Reading). r.bytes) (c.in_default.ensures.read c.args.depth before sound begins).1,
-      rest_refutes c.in_default.field-0 c.args.depth above before c.requires.shallowest c.requires.deepest sound (c.in_default.ensures.exact c.args.depth before sound begins),
-    )
+  ap (λ (r : Reading). r.bytes) (c.in_default.ensures.read c.args.depth before sound begins).1,
+  rest_refutes c.in_default.field-0 c.args.depth above before c.requires.shallowest c.requires.deepest sound (c.in_default.ensures.exact c.args.depth before sound begins),
+)
 
 pub judged-requires : goal.judged-requires
 judged-requires c =
