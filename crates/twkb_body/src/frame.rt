@@ -23,11 +23,7 @@ impl Frame {
     /// far from zero, or a negative extent; or there is one above, and the axes or their precisions differ, or its own doesn't
     /// lie there.
     #[inline(always)]
-    pub fn under(
-        above: &Option<Frame>,
-        head: &Head,
-        own: &Option<RawBox>,
-    ) -> Option<Option<Frame>>
+    pub fn under(above: &Option<Frame>, head: &Head, own: &Option<RawBox>) -> Option<Option<Frame>>
         requires near { IfSome above.now IsNearFrame }
         requires precisions { HasPrecisions head.now }
         ensures { IfSome result (IsFrameUnder above.now head.now (option_map (framed head.now) own.now)) }

@@ -1,10 +1,31 @@
+-- An empty geometry claims its size alone: its box holds all of no vertices.
+use Rattle.std.proofs.Common.{◌≡◌, ◌-◌, ℕ, true, ap, subst, ◌∙◌, arith}
+use Rattle.twkb_num.specs.Cursor.{Reading}
+use Rattle.twkb_head.specs.BegunHeader.{deepest}
+use Rattle.twkb_head.specs.Raw.{head_said}
+use Rattle.twkb_body.specs.Devices.Sure.{IsJudged}
+use Rattle.twkb_body.proofs.Refuting.{rest_refutes, flat_ends, apart_certifies}
+use Rattle.twkb_body.proofs.SureSteps.{empty_sure}
 use Rattle.twkb_body.proofs.sure.take_empty.Goals as goal
 
 pub returns-in_default : goal.returns-in_default
-returns-in_default c = ?
+returns-in_default c = λ above before sound begins. (
+  ap (λ (r : Reading). r.bytes) (c.in_default.ensures.read c.args.depth before sound begins).1,
+  rest_refutes c.in_default.field-0 c.args.depth above before c.requires.shallowest c.requires.deepest sound (c.in_default.ensures.exact c.args.depth before sound begins),
+)
 
 pub judged-requires : goal.judged-requires
-judged-requires c = ?
+judged-requires c =
+    let b = c.requires.before in
+    let s = c.in-Ok.ensures.read c.args.depth b.0 b.1 b.2 in
+    flat_ends c.boxless-head.result c.in-Ok.raw c.args.depth b.0 c.take_rest.new.cursor c.boxless-head.ensures s.0 s.1 _ (omega (arith, c.place.ensures.value))
 
 pub returns : goal.returns
-returns c = ?
+returns c = λ above before sound begins.
+    let s = c.in-Ok.ensures.read c.args.depth before sound begins in
+    let raw = c.in-Ok.raw in
+    let mid = c.take_rest.new.cursor in
+    let empty : raw.empty ≡ true = c.in-Ok.ensures.empty ∙ c.requires.empty in
+    apart_certifies raw c.args.depth above before mid c.requires.shallowest c.requires.deepest sound s.0 s.1 c.boxless-head.result c.boxless-head.ensures mid 0 c.judged.result
+    (empty_sure (deepest - c.args.depth) (head_said raw) above mid empty)
+    (subst (λ (stop : ℕ). IsJudged c.boxless-head.result stop 0 c.judged.result) c.place.ensures.value c.judged.ensures)
