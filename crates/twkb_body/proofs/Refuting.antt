@@ -1,6 +1,7 @@
 -- What is refused is refuted: if a geometry does stand there, some claim of it is false, or the frame doesn't hold it.
 use Rattle.std.proofs.Common.{◌≡◌, ◌≢◌, ℕ, zero, suc, ◌+◌, ◌-◌, ◌<◌, ◌≤◌, Bool, true, false, List, [], ◌∷◌, ◌++◌, length, map, fold, ℤ, pos, Option, Some, None, is_some, option_map, IfSome, All, AllPairs, Result, Ok, Err, inl, inr, refl, sym, ap, ap₂, subst, ◌∙◌, append_assoc, length-append, arith}
-use Rattle.std.specs.Prelude.{IsTrue, IfOk, IfErr, OnErr, ◌⊎◌}
+use Rattle.std.specs.Result.{is_ok}
+use Rattle.std.specs.Prelude.{IsTrue, IsOk, IfOk, IfErr, OnErr, ◌⊎◌, ◌↔◌}
 use Rattle.std.proofs.lemmas.Bool.{eq-eqb}
 use Rattle.std.proofs.lemmas.Bool.Decides.{not_from_Decides}
 use Rattle.std.proofs.lemmas.List.Elements.{All-nil, All-head}
@@ -14,16 +15,16 @@ use Rattle.twkb_head.specs.declared.header.Head.{Head}
 use Rattle.twkb_head.specs.declared.header.BoxField.{BoxField}
 use Rattle.twkb_head.specs.declared.kinds.Kind.{Kind}
 use Rattle.twkb_head.specs.declared.raw.RawBox.{RawBox}
-use Rattle.twkb_head.specs.declared.raw.RawHead.{RawHead}
+use Rattle.twkb_head.specs.declared.raw.Fields.{Fields}
 use Rattle.twkb_head.specs.declared.refusal.Malformed.{Malformed}
 use Rattle.twkb_head.specs.BegunHeader.{deepest, is_collection, IsAllowedAt}
-use Rattle.twkb_head.specs.Head.{bounds_of, head_of, IsHeadAt}
+use Rattle.twkb_head.specs.Head.{bounds_of, head_of, IsHeadAt, StartsWithHeader}
 use Rattle.twkb_head.specs.Header.{Header, axes_of, axes_with, is_multi, has_bit}
 use Rattle.twkb_head.specs.Holds.{Holds}
-use Rattle.twkb_head.specs.Raw.{box_field, whole_head}
-use Rattle.twkb_head.specs.Devices.HeadPlan.{HeadValue, head_plan}
+use Rattle.twkb_head.specs.Raw.{fields_box, head_said, boxless}
+use Rattle.twkb_head.specs.Shared.HeadPlan.{HeadValue, head_plan}
 use Rattle.twkb_head.specs.Devices.HeadReader.{head_at}
-use Rattle.twkb_head.specs.Devices.Reader.{Answer, Reader, ◌>>=◌, viewed, read, many_at, Fails}
+use Rattle.twkb_head.specs.Shared.Reader.{Answer, Reader, ◌>>=◌, viewed, read, many_at, Fails}
 use Rattle.twkb_head.proofs.HeadBack.{head_value}
 use Rattle.twkb_head.proofs.HeadLaws.{head_ok, head_moved}
 use Rattle.twkb_head.proofs.HeadRuns.{placed, head_runs}
@@ -48,7 +49,7 @@ use Rattle.twkb_body.specs.Devices.Found.{named, size_judged}
 use Rattle.twkb_body.specs.Devices.IdLists.{IsListFound, HasManyIdsAfterCount}
 use Rattle.twkb_body.specs.Devices.Inside.{of_head}
 use Rattle.twkb_body.specs.Devices.Pass.{false_at, ids_refused, are_distinct}
-use Rattle.twkb_body.specs.Devices.Sure.{framed, has_further, AddsParts, ReadParts, IsCounted, IsWrongCount, AreMalformed, AreHeld, IsHeldBy, IsFrameUnder, frame_bounds, body_vertices, IsSureBody, IsSure, IsJudged, HasDoubt, doubt_of, Certifies, CertifiesBody, CertifiesShape, IsTrueInside, IsRefutedBody, IsRefutedBehind, IsRefuted}
+use Rattle.twkb_body.specs.Devices.Sure.{framed, has_further, AddsParts, ReadParts, IsCounted, IsWrongCount, AreMalformed, AreHeld, IsHeldBy, IsFrameUnder, frame_bounds, body_vertices, IsSureBody, IsSureBehind, IsSure, IsJudged, HasDoubt, doubt_of, Certifies, CertifiesBody, CertifiesShape, IsTrueInside, IsRefutedBody, IsRefutedBehind, IsRefuted}
 use Rattle.twkb_body.specs.Devices.Walk.{HaveAxes, lasts_from}
 use Rattle.twkb_body.proofs.Coordinates.{vertices_same}
 use Rattle.twkb_body.proofs.Outside.{all_inside}
@@ -59,7 +60,7 @@ use Rattle.twkb_body.proofs.Judging.{distinct_decides}
 use Rattle.twkb_body.proofs.MemberSteps.{long_list_in, collection_body, behind_list}
 use Rattle.twkb_body.proofs.Passes.{right_of, left_of, all_left, all_right}
 use Rattle.twkb_body.proofs.Repeats.{repeated}
-use Rattle.twkb_body.proofs.SureSteps.{IsSureLoop, body_unboxed, body_held, geometry_sure, own_box}
+use Rattle.twkb_body.proofs.SureSteps.{IsSureLoop, body_unboxed, body_held, sure_behind, geometry_sure, own_box}
 use Rattle.twkb_body.proofs.TreeSums.{member_total, size_refused}
 
 -- a view is of a value that was read
@@ -346,22 +347,20 @@ module _ (head : Head) (depth : ℕ) (above : Option Frame) (r mid : Reading) (s
       go (Err m, new) is = no_failure (geometry_at (deepest - depth) r) whole stop new m e (body_fails (deepest - depth) r mid value headed m new (record { left = new; is = is; bytes = refl }))
 
 -- where the body is refuted under the frame that the header gives,
-pub body_refutes : (levels : ℕ) (raw : RawHead) (above frame : Option Frame) (mid : Reading) → IsFrameUnder above raw.head (option_map (framed raw.head) raw.bounds) frame → IsRefutedBody levels raw.head frame mid
-    → IsRefutedBehind levels (whole_head raw) above mid
+pub body_refutes : (levels : ℕ) (raw : Fields) (above frame : Option Frame) (mid : Reading) → IsFrameUnder above (boxless raw) (option_map (framed (boxless raw)) raw.bounds) frame → IsRefutedBody levels (boxless raw) frame mid
+    → IsRefutedBehind levels (head_said raw) above mid
 body_refutes levels raw above frame mid under wrong body new e inside size box held =
-    wrong body new e inside (under.holds (body_vertices (of_head raw.head) body) (own raw.bounds box) held)
+    wrong body new e inside (under.holds (body_vertices (of_head (boxless raw)) body) (own raw.bounds box) held)
   where
-    own : (bounds : Option RawBox) → IfSome (option_map (box_field raw) bounds) (λ field. All (Holds field.bounds) (body_vertices (of_head raw.head) body)) → IsHeldBy (option_map (framed raw.head) bounds) (body_vertices (of_head raw.head) body)
+    own : (bounds : Option RawBox) → IfSome (option_map (fields_box raw) bounds) (λ field. All (Holds field.bounds) (body_vertices (of_head (boxless raw)) body)) → IsHeldBy (option_map (framed (boxless raw)) bounds) (body_vertices (of_head (boxless raw)) body)
     own None h = tt
     own (Some box) h = h
 
 -- or where the size is false of what was read.
-pub size_refutes : (levels : ℕ) (head plain : Head) (frame above : Option Frame) (mid new : Reading) (vertices : ℕ) (f : ℕ × ℕ) → head ≡ record plain { bounds = head.bounds } → IsSureBody levels plain frame mid new vertices
-    → size_judged head.size new.place ≡ Some f → IsRefutedBehind levels head above mid
-size_refutes levels head plain frame above mid new vertices f same sure is body stop e inside size box held =
-    let read : body_at head.empty (is_collection head.kind) (of_head head) (members_under levels) mid ≡ (Ok sure.body, new) =
-    ap (λ (x : Head). body_at x.empty (is_collection x.kind) (of_head x) (members_under levels) mid) same ∙ sure.read in
-    let one = one_answer (body_at head.empty (is_collection head.kind) (of_head head) (members_under levels) mid) sure.body body new stop read e in
+pub size_refutes : (levels : ℕ) (head : Head) (above : Option Frame) (mid new : Reading) (vertices : ℕ) (f : ℕ × ℕ) → IsSureBehind levels head above mid new vertices → size_judged head.size new.place ≡ Some f
+    → IsRefutedBehind levels head above mid
+size_refutes levels head above mid new vertices f sure is body stop e inside size box held =
+    let one = one_answer (body_at head.empty (is_collection head.kind) (of_head head) (members_under levels) mid) sure.body body new stop sure.read e in
     some_not_none f (sym is ∙ ap (λ (s : Reading). size_judged head.size s.place) one.1 ∙ size)
 
 -- ---- doubts
@@ -377,67 +376,59 @@ doubts_through R Q W V mid old Memory new refutes wants s = wants s.0 s.1
 pub refused_for : (R V : Type 0) (old : Reading) (d : Doubt) (new : Reading) → d ≡ Refused → R → HasDoubt R V old d new
 refused_for R V old d new is r = subst (λ (e : Doubt). HasDoubt R V old e new) (sym is) r
 
--- ---- a geometry whose header was read in raw numbers
-module _ (raw : RawHead) (depth : ℕ) (above : Option Frame) (r mid : Reading) (some : 1 ≤ depth) (deep : depth ≤ deepest) (sound : IsSound r) (headed : head_at (deepest - depth) r ≡ (Ok (whole_head raw), mid)) where
-  pub raw_at : IsHeadAt (whole_head raw) depth r.place (passed r mid)
-  raw_at = head_ok depth some deep r mid sound (Ok (whole_head raw)) headed
-
-  pub raw_moved : IsMoved r mid
-  raw_moved = head_moved depth some deep r mid sound (Ok (whole_head raw)) headed
-
-  pub raw_allowed : IsAllowedAt raw.head.kind depth
-  raw_allowed = subst (λ (h : Head). IsAllowedAt h.kind depth) (sym raw_at.fields) raw_at.allowed
-
-  -- whether it is empty stands in its second byte
-  pub raw_empty : (old : Reading) (a b : ℕ) → IsMoved r old → passed r old ≡ a ∷ b ∷ [] → raw.head.empty ≡ has_bit b 16
-  raw_empty old a b moved is =
-      let e = sym (ap (λ (z : List ℕ). z ++ rest old) is) ∙ sym (rest-passed r old moved) ∙ rest-passed r mid raw_moved ∙ ap (λ (z : List ℕ). z ++ rest mid) raw_at.is.fields in
-      ap (λ (h : Head). h.empty) raw_at.fields ∙ raw_at.is.empty ∙ ap (λ (n : ℕ). has_bit n 16) (sym (second _ _ _ _ _ _ e))
-    where
-      second : (a b x y : ℕ) (s t : List ℕ) → a ∷ b ∷ s ≡ x ∷ y ∷ t → b ≡ y
-      second a b x y s t e = cc
-
-  -- what is refused behind the header is refused of the geometry,
-  pub behind_doubts : (d : Doubt) (new : Reading) → HasDoubt (IsRefutedBehind (deepest - depth) (whole_head raw) above mid) (WantsIn (is_collection raw.head.kind) raw.head.empty depth raw.head.ids mid) mid d new
-      → HasDoubt (IsRefuted (deepest - depth) above r) (HasLongList depth (rest r)) r d new
-  behind_doubts d new s =
-      doubts_through (IsRefutedBehind (deepest - depth) (whole_head raw) above mid) (IsRefuted (deepest - depth) above r) (WantsIn (is_collection raw.head.kind) raw.head.empty depth raw.head.ids mid) (HasLongList depth (rest r)) mid r d new
-      (behind_refutes (whole_head raw) depth above r mid some deep sound raw_at raw_moved)
-      (λ bytes wants. (bytes ∙ raw_moved.bytes, long_list_in (whole_head raw) depth r mid some sound raw_at raw_moved (is_collection raw.head.kind) refl wants)) s
-
-  module _ (frame : Option Frame) (under : IsFrameUnder above raw.head (option_map (framed raw.head) raw.bounds) frame) (new : Reading) where
-    pub body_doubts : (d : Doubt) → HasDoubt (IsRefutedBody (deepest - depth) raw.head frame mid) (WantsIn (is_collection raw.head.kind) raw.head.empty depth raw.head.ids mid) mid d new
-        → HasDoubt (IsRefuted (deepest - depth) above r) (HasLongList depth (rest r)) r d new
-    body_doubts d s =
-        let wants : Type 0 = WantsIn (is_collection raw.head.kind) raw.head.empty depth raw.head.ids mid in
-        behind_doubts d new (doubts_through (IsRefutedBody (deepest - depth) raw.head frame mid) (IsRefutedBehind (deepest - depth) (whole_head raw) above mid) wants wants mid mid d new
-        (body_refutes (deepest - depth) raw above frame mid under) (λ bytes w. (bytes, w)) s)
-
-    -- and what is sure is judged by its size.
-    pub judged_certifies : (vertices : ℕ) (result : Result ℕ Doubt) → IsSureBody (deepest - depth) raw.head frame mid new vertices → IsJudged raw.head new.place vertices result → Certifies depth above r result new
-    judged_certifies vertices (Ok counted) sure (same, true_size) =
-        subst (IsSure (deepest - depth) above r new) (sym same)
-        (geometry_sure (whole_head raw) raw.head depth above frame r mid new vertices some deep sound raw_at raw_moved refl (own_box raw above frame under) under.above_holds sure (sym true_size))
-    judged_certifies vertices (Err d) sure (is, (f, false_size)) =
-        refused_for (IsRefuted (deepest - depth) above r) (HasLongList depth (rest r)) r d new is
-        (behind_refutes (whole_head raw) depth above r mid some deep sound raw_at raw_moved (size_refutes (deepest - depth) (whole_head raw) raw.head frame above mid new vertices f refl sure false_size))
-
--- a member of which not even two bytes are there can't be read
-pub cut_refutes : (depth : ℕ) (frame : Option Frame) (r : Reading) → 1 ≤ depth → depth ≤ deepest → IsSound r → length (rest r) < 2 → IsRefuted (deepest - depth) frame r
-cut_refutes depth frame r some deep sound short = go (head_at (deepest - depth) r) refl
+-- no header is there that may stand at this depth,
+pub no_header_refutes : (depth : ℕ) (above : Option Frame) (r : Reading) → 1 ≤ depth → depth ≤ deepest → IsSound r → (StartsWithHeader depth (rest r) → ⊥) → IsRefuted (deepest - depth) above r
+no_header_refutes depth above r some deep sound none = go (head_at (deepest - depth) r) refl
   where
-    go : (a : Answer Head) → head_at (deepest - depth) r ≡ a → IsRefuted (deepest - depth) frame r
-    go (Err m, b) is = head_refutes (deepest - depth) frame r b m (record { left = b; is = is; bytes = refl })
+    go : (a : Answer Head) → head_at (deepest - depth) r ≡ a → IsRefuted (deepest - depth) above r
+    go (Err m, b) is = head_refutes (deepest - depth) above r b m (record { left = b; is = is; bytes = refl })
     go (Ok head, b) is =
         let at : IsHeadAt head depth r.place (passed r b) = head_ok depth some deep r b sound (Ok head) is in
         let moved : IsMoved r b = head_moved depth some deep r b sound (Ok head) is in
-        absurd (omega (arith, short, ap length (rest-passed r b moved), length-append (passed r b) (rest b), ap length at.is.fields))
+        absurd (none (record { header = at.header; front = passed r b; behind = rest b; parts = rest-passed r b moved; is = at.is; allowed = at.allowed }))
+
+-- or its rest can't be read.
+pub rest_refutes : (raw : Result Fields Malformed) (m : Malformed) (depth : ℕ) (above : Option Frame) (r : Reading) → 1 ≤ depth → depth ≤ deepest → IsSound r → raw ≡ Err m → (IsOk raw ↔ StartsWithHeader depth (rest r))
+    → IsRefuted (deepest - depth) above r
+rest_refutes raw m depth above r some deep sound is exact =
+    no_header_refutes depth above r some deep sound (λ starts. let bad : is_ok {T = Fields} {E = Malformed} (Err m) ≡ true = subst IsOk is (exact.1 starts) in cc)
+
+-- ---- a geometry whose header was read in raw numbers
+module _ (raw : Fields) (depth : ℕ) (above : Option Frame) (r mid : Reading) (some : 1 ≤ depth) (deep : depth ≤ deepest) (sound : IsSound r) (at : IsHeadAt (head_said raw) depth r.place (passed r mid)) (moved : IsMoved r mid) where
+  pub raw_allowed : IsAllowedAt raw.kind depth
+  raw_allowed = subst (λ (h : Head). IsAllowedAt h.kind depth) (sym at.fields) at.allowed
+
+  -- what is refused behind the header is refused of the geometry,
+  pub behind_doubts : (d : Doubt) (new : Reading) → HasDoubt (IsRefutedBehind (deepest - depth) (head_said raw) above mid) (WantsIn (is_collection raw.kind) raw.empty depth raw.ids mid) mid d new
+      → HasDoubt (IsRefuted (deepest - depth) above r) (HasLongList depth (rest r)) r d new
+  behind_doubts d new s =
+      doubts_through (IsRefutedBehind (deepest - depth) (head_said raw) above mid) (IsRefuted (deepest - depth) above r) (WantsIn (is_collection raw.kind) raw.empty depth raw.ids mid) (HasLongList depth (rest r)) mid r d new
+      (behind_refutes (head_said raw) depth above r mid some deep sound at moved)
+      (λ bytes wants. (bytes ∙ moved.bytes, long_list_in (head_said raw) depth r mid some sound at moved (is_collection raw.kind) refl wants)) s
+
+  -- and what is sure is judged by its size.
+  pub behind_certifies : (new : Reading) (vertices : ℕ) (result : Result ℕ Doubt) → IsSureBehind (deepest - depth) (head_said raw) above mid new vertices → IsJudged (boxless raw) new.place vertices result
+      → Certifies depth above r result new
+  behind_certifies new vertices (Ok counted) sure (same, true_size) =
+      subst (IsSure (deepest - depth) above r new) (sym same) (geometry_sure (head_said raw) depth above r mid new vertices some deep sound at moved sure (sym true_size))
+  behind_certifies new vertices (Err d) sure (is, (f, false_size)) =
+      refused_for (IsRefuted (deepest - depth) above r) (HasLongList depth (rest r)) r d new is
+      (behind_refutes (head_said raw) depth above r mid some deep sound at moved (size_refutes (deepest - depth) (head_said raw) above mid new vertices f sure false_size))
+
+  -- Both hold under a frame.
+  module _ (frame : Option Frame) (under : IsFrameUnder above (boxless raw) (option_map (framed (boxless raw)) raw.bounds) frame) (new : Reading) where
+    pub body_doubts : (d : Doubt) → HasDoubt (IsRefutedBody (deepest - depth) (boxless raw) frame mid) (WantsIn (is_collection raw.kind) raw.empty depth raw.ids mid) mid d new
+        → HasDoubt (IsRefuted (deepest - depth) above r) (HasLongList depth (rest r)) r d new
+    body_doubts d s =
+        let wants : Type 0 = WantsIn (is_collection raw.kind) raw.empty depth raw.ids mid in
+        behind_doubts d new (doubts_through (IsRefutedBody (deepest - depth) (boxless raw) frame mid) (IsRefutedBehind (deepest - depth) (head_said raw) above mid) wants wants mid mid d new
+        (body_refutes (deepest - depth) raw above frame mid under) (λ bytes w. (bytes, w)) s)
+
+    pub judged_certifies : (vertices : ℕ) (result : Result ℕ Doubt) → IsSureBody (deepest - depth) (boxless raw) frame mid new vertices → IsJudged (boxless raw) new.place vertices result → Certifies depth above r result new
+    judged_certifies vertices result sure judged =
+        behind_certifies new vertices result (sure_behind (deepest - depth) (head_said raw) (boxless raw) above frame mid new vertices refl (own_box raw above frame under) under.above_holds sure) judged
 
 -- ---- what the first reading hands over
--- a header as the reader has it
-pub headed_as : (levels : ℕ) (r new : Reading) (raw : RawHead) → (x : Head) × (head_at levels r ≡ (Ok x, new)) × (x ≡ whole_head raw) → head_at levels r ≡ (Ok (whole_head raw), new)
-headed_as levels r new raw s = s.1 ∙ ap (λ (h : Head). (Ok h, new)) s.2
-
 pub some_of : {A : Type 0} (o : Option A) → is_some o ≡ true → (x : A) × (o ≡ Some x)
 some_of None e = absurd (cc (e))
 some_of (Some x) e = (x, refl)
@@ -445,11 +436,6 @@ some_of (Some x) e = (x, refl)
 pub none_of : {A : Type 0} (o : Option A) → is_some o ≡ false → o ≡ None
 none_of None e = refl
 none_of (Some x) e = absurd (cc (e))
-
-pub two_ahead : (old new : Reading) (a b : ℕ) → IsMoved old new → passed old new ≡ a ∷ b ∷ [] → 2 ≤ new.place
-two_ahead old new a b moved is =
-    let long : length (passed old new) ≡ new.place - old.place = grind (arith, common_steps, moved.within) in
-    omega (arith, ap length is, long)
 
 pub wants_members : (head : Head) (depth : ℕ) (old : Reading) → head.empty ≡ false → is_collection head.kind ≡ true → WantsInside depth (deepest - (depth + 1)) head.ids old
     → WantsIn (is_collection head.kind) head.empty depth head.ids old
@@ -460,11 +446,6 @@ pub shape_certifies : (depth : ℕ) (head : Head) (frame : Option Frame) (old ne
 shape_certifies depth head frame old new (Ok vertices) single s = s
 shape_certifies depth head frame old new (Err Refused) single s = s
 shape_certifies depth head frame old new (Err Memory) single s = (s.0, subst (λ (b : Bool). WantsIn b head.empty depth head.ids old) (sym single) s.1)
-
--- what isn't both flat and full, but is full, has an extended dimensions byte
-pub further_bit : (result extended empty : Bool) → result ≡ false → ((extended ≡ false) × (empty ≡ false) → IsTrue result) → empty ≡ false → extended ≡ true
-further_bit result true empty isnt back full = refl
-further_bit result false empty isnt back full = absurd (cc (back (refl, full), isnt))
 
 -- ---- the count of parts
 pub count_doubts : (multi ids : Bool) (old new : Reading) (e : Stopped) → multi ≡ true → HasStopped (list_at ids old) (HasManyIdsAfterCount ids (rest old)) old e new

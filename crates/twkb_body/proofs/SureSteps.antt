@@ -15,8 +15,8 @@ use Rattle.twkb_head.specs.declared.raw.RawRange.{RawRange}
 use Rattle.twkb_head.specs.declared.header.Head.{Head}
 use Rattle.twkb_head.specs.declared.header.BoxField.{BoxField}
 use Rattle.twkb_head.specs.BegunHeader.{deepest, is_collection}
-use Rattle.twkb_head.specs.declared.raw.RawHead.{RawHead}
-use Rattle.twkb_head.specs.Raw.{ends_of, ranges_in, raw_bounds, whole_head, IsSizedPoint}
+use Rattle.twkb_head.specs.declared.raw.Fields.{Fields}
+use Rattle.twkb_head.specs.Raw.{ends_of, ranges_in, raw_bounds, head_said, boxless}
 use Rattle.twkb_head.specs.Head.{span_at, range_of, m_axis, IsHeadAt}
 use Rattle.twkb_num.specs.Varint.{Spells, zigzag_value}
 use Rattle.twkb_head.specs.declared.kinds.Kind.{Kind}
@@ -30,7 +30,7 @@ use Rattle.twkb_head.proofs.HeadBack.{head_value}
 use Rattle.twkb_body.specs.declared.frame.Frame.{Frame}
 use Rattle.twkb_body.specs.declared.inside.Inside.{Inside}
 use Rattle.twkb_body.specs.Devices.Boxed.{is_in_range, is_in_axis, is_in_box, Held, held_then, held_with}
-use Rattle.twkb_body.specs.Devices.Body.{Body, ListHead, absolute, zeros, sums, ring_sums, parts_body, members_body, members_of}
+use Rattle.twkb_body.specs.Devices.Body.{Body, ListHead, no_body, absolute, zeros, sums, ring_sums, parts_body, members_body, members_of}
 use Rattle.twkb_body.specs.Devices.BodyReader.{point_at, part_at, list_at, count_at, body_at, members_under}
 use Rattle.twkb_body.specs.Extent.{Reach, reach_of, both}
 use Rattle.twkb_body.specs.Devices.Found.{box_judged, size_judged}
@@ -39,12 +39,12 @@ use Rattle.twkb_body.specs.Devices.IdLists.{IsListFound}
 use Rattle.twkb_body.specs.Devices.Inside.{of_head, IsInside}
 use Rattle.twkb_body.specs.Devices.Pass.{first, false_at, is_within}
 use Rattle.twkb_body.specs.Devices.Ranges.{widened}
-use Rattle.twkb_body.specs.Devices.Sure.{LiesIn, LiesInAll, framed, faultless, unseen, AddsParts, AddsHeld, frame_bounds, IsHeldBy, IsFrameUnder, body_vertices, IsSureBody, IsSure, IsFramed}
+use Rattle.twkb_body.specs.Devices.Sure.{LiesIn, LiesInAll, framed, faultless, unseen, AddsParts, AddsHeld, frame_bounds, IsHeldBy, IsFrameUnder, body_vertices, IsSureBody, IsSureBehind, IsSure, IsFramed}
 use Rattle.twkb_body.specs.Devices.Walk.{HaveAxes, lasts_from}
 use Rattle.twkb_body.proofs.BoxedRuns.{reaches_decides, both_true}
 use Rattle.twkb_body.proofs.Coordinates.{coordinate_ahead, vertices_same}
 use Rattle.twkb_body.proofs.FlatRuns.{two_coordinates}
-use Rattle.twkb_body.proofs.GeometrySteps.{body_gives, shape_body, body_of_head, geometry_found}
+use Rattle.twkb_body.proofs.GeometrySteps.{body_gives, empty_body, shape_body, body_of_head, nothing_inside, geometry_found}
 use Rattle.twkb_body.proofs.MemberSteps.{members_of-push, IsMemberLoop, members_begin, members_go_on, members_end, collection_body, collection_gives, members_inside}
 use Rattle.twkb_body.proofs.Passes.{vertices_pushed}
 use Rattle.twkb_body.proofs.Judging.{box_decides}
@@ -150,68 +150,6 @@ module _ (levels : ℕ) (head : Head) (old new : Reading) (vertices axes : ℕ) 
   body_held frame precisions (held, added, inside) =
       body_boxed frame held precisions (subst (λ (n : ℕ). AddsParts (held_then n) head.kind head.ids axes old new (record { box = frame.bounds; inside = true }) held vertices) (sym axes_are) added) inside
 
--- ---- a point alone, whose numbers are told by their ends
-opposite_fits : (m : ℕ) → m ≤ 2 ^ 63 → fits (neg_ℤ (pos m)) ≡ true
-opposite_fits zero h = refl
-opposite_fits (suc k) h = lt-ltb k (2 ^ 63) (omega (arith, h))
-
-zigzag_fits : (n : ℕ) → n < 2 ^ 64 → fits (zigzag_value n) ≡ true
-zigzag_fits n h = go (n % 2 == 0)
-  where
-    go : (even : Bool) → fits (if even then pos (n / 2) else neg_ℤ (pos ((n + 1) / 2))) ≡ true
-    go true = lt-ltb (n / 2) (2 ^ 63) (omega (arith, h))
-    go false = opposite_fits ((n + 1) / 2) (omega (arith, h))
-
-from_zero : (z : ℤ) → pos 0 +ℤ z ≡ z
-from_zero z = omega (arith, ints)
-
--- a number behind zero is a coordinate
-first_coordinate : (old new : Reading) (n : ℕ) → Spells (passed old new) n → IsMoved old new → coordinate_at (pos 0) old ≡ (Ok (zigzag_value n), new)
-first_coordinate old new n spells moved =
-    coordinate_ok (pos 0) old new (zigzag_value n) (ap fits (from_zero (zigzag_value n)) ∙ zigzag_fits n spells.fits) (read_signed old new (zigzag_value n) (n, spells, refl) moved)
-
-pub point_sure : (levels : ℕ) (head : Head) (old middle new : Reading) (n m : ℕ) → head.kind ≡ Point → head.z ≡ None → head.m ≡ None → head.empty ≡ false → Spells (passed old middle) n → IsMoved old middle → Spells (passed middle new) m → IsMoved middle new
-    → IsSureBody levels head None old new 1
-point_sure levels head old middle new n m kind z m_none full first first_moved second second_moved =
-    body_unboxed levels head old new 1 2 (ap₂ axes_with z m_none) full (ap is_collection kind) (λ (s : Unit {0}) point. s) tt tt parts
-  where
-    x : ℤ
-    x = zigzag_value n
-
-    y : ℤ
-    y = zigzag_value m
-
-    across : coordinate_at (pos 0) old ≡ (Ok x, middle)
-    across = first_coordinate old middle n first first_moved
-
-    up : coordinate_at (pos 0) middle ≡ (Ok y, new)
-    up = first_coordinate middle new m second second_moved
-
-    point : point_at 2 zeros old ≡ (Ok (x ∷ y ∷ []), new)
-    point = two_coordinates (pos 0) (pos 0) x y (pos 0 ∷ pos 0 ∷ []) old middle new across up
-
-    one : many_at 1 ring_sums (part_at Point 2) zeros old ≡ (Ok ((((x ∷ y ∷ []) ∷ []) ∷ []) ∷ []), new)
-    one = ap (λ (a : Answer PointValue). viewed (λ p. (p ∷ []) ∷ []) a >>= λ part r. viewed (λ parts. part ∷ parts) (many_at 0 ring_sums (part_at Point 2) (ring_sums zeros part) r)) point
-
-    parts : AddsParts (λ (s : Unit {0}) point. s) head.kind head.ids 2 old new tt tt 1
-    parts = record {
-      list = ((1, 0), (None, 0));
-      middle = old;
-      parts = (((x ∷ y ∷ []) ∷ []) ∷ []) ∷ [];
-      after = record { last = sums zeros ((x ∷ y ∷ []) ∷ []); points = 1 };
-      counted = ap (λ (b : Bool). count_at b head.ids old) (ap is_multi kind);
-      found = record { count = refl; lengths = omega arith; refused = refl };
-      read = ap (λ (k : Kind). many_at 1 ring_sums (part_at k 2) zeros old) kind ∙ one;
-      walked = record {
-        last = refl;
-        points = refl;
-        added = refl;
-        have = (refl, tt);
-        ahead = let a = coordinate_ahead (pos 0) x old middle across in let b = coordinate_ahead (pos 0) y middle new up in omega (arith, a, b);
-      };
-      vertices_are = refl;
-    }
-
 -- ---- the members of a collection
 pub held_with_more : (frame : Option Frame) (vs ws : List Vertex) → IsHeldBy frame vs → IsHeldBy frame ws → IsHeldBy frame (vs ++ ws)
 held_with_more None vs ws a b = tt
@@ -258,60 +196,90 @@ members_sure head depth inner old middle new frame list count vertices i under f
 abbrev pub IsBoxOf : Option Frame → Option BoxField → Type 0
 IsBoxOf frame box = IfSome box (λ field. (f : Frame) × (frame ≡ Some f) × (field.bounds ≡ frame_bounds f))
 
-pub own_box : (raw : RawHead) (above frame : Option Frame) → IsFrameUnder above raw.head (option_map (framed raw.head) raw.bounds) frame → IsBoxOf frame (whole_head raw).bounds
+pub own_box : (raw : Fields) (above frame : Option Frame) → IsFrameUnder above (boxless raw) (option_map (framed (boxless raw)) raw.bounds) frame → IsBoxOf frame (head_said raw).bounds
 own_box raw above frame under = go raw.bounds under.own_is
   where
-    go : (own : Option RawBox) → IfSome (option_map (framed raw.head) own) (λ f. frame ≡ Some f) → IsBoxOf frame (option_map (λ box. record { bounds = raw_bounds raw.head.xy raw.head.z raw.head.m box; offset = raw.box_place }) own)
+    go : (own : Option RawBox) → IfSome (option_map (framed (boxless raw)) own) (λ f. frame ≡ Some f) → IsBoxOf frame (option_map (λ box. record { bounds = raw_bounds raw.axes.xy raw.axes.z raw.axes.m box; offset = raw.box_place }) own)
     go None e = tt
-    go (Some box) e = (framed raw.head box, e, refl)
+    go (Some box) e = (framed (boxless raw) box, e, refl)
 
--- a frame that holds the vertices of a body makes its box true
-box_true : (h : Header) (frame : Option Frame) (box : Option BoxField) (body : Body) (below : Reach) → below ≡ reach_of (member_vertices body.members) → IsBoxOf frame box → IsHeldBy frame (body_vertices h body)
+-- a box that holds the vertices of a body is true
+box_true : (h : Header) (box : Option BoxField) (body : Body) (below : Reach) → below ≡ reach_of (member_vertices body.members) → IfSome box (λ field. All (Holds field.bounds) (body_vertices h body))
     → None ≡ box_judged false h box (both (reach_of (map (vertex_of h) (points_of body.polygons))) below)
-box_true h frame None body below e own held = refl
-box_true h frame (Some field) body below e (f, is, bounds) held =
+box_true h None body below e held = refl
+box_true h (Some field) body below e held =
     let own = map (vertex_of h) (points_of body.polygons) in
-    let all : All (Holds (frame_bounds f)) (body_vertices h body) = subst (λ (o : Option Frame). IsHeldBy o (body_vertices h body)) is held in
     let within : is_within (both (reach_of own) below) field.bounds ≡ true =
-    (λ j. is_within (both (reach_of own) (e j)) (bounds j)) ∙ ap (λ (r : Reach). is_within r (frame_bounds f)) (sym (reach_of-append own (member_vertices body.members))) ∙ (box_decides (frame_bounds f) (body_vertices h body)).1 all in
+    ap (λ (r : Reach). is_within (both (reach_of own) r) field.bounds) e ∙ ap (λ (r : Reach). is_within r field.bounds) (sym (reach_of-append own (member_vertices body.members))) ∙ (box_decides field.bounds (body_vertices h body)).1 held in
     sym (ap (λ (b : Bool). first (false_at b field.offset 7) None) within)
 
-pub geometry_sure : (head plain : Head) (depth : ℕ) (above frame : Option Frame) (r mid new : Reading) (vertices : ℕ) → 1 ≤ depth → depth ≤ deepest → IsSound r → IsHeadAt head depth r.place (passed r mid) → IsMoved r mid
-    → head ≡ record plain { bounds = head.bounds } → IsBoxOf frame head.bounds → ((vs : List Vertex) → IsHeldBy frame vs → IsHeldBy above vs)
-    → IsSureBody (deepest - depth) plain frame mid new vertices → None ≡ size_judged head.size new.place → IsSure (deepest - depth) above r new vertices
+-- what the frame of a geometry holds, its box and the frame above hold
+module _ (levels : ℕ) (head plain : Head) (above frame : Option Frame) (mid new : Reading) (vertices : ℕ) (same : head ≡ record plain { bounds = head.bounds }) (box : IsBoxOf frame head.bounds)
+    (above_holds : (vs : List Vertex) → IsHeldBy frame vs → IsHeldBy above vs) (sure : IsSureBody levels plain frame mid new vertices) where
+  frame_held : IsHeldBy frame (body_vertices (of_head head) sure.body)
+  frame_held = subst (λ (x : Head). IsHeldBy frame (body_vertices (of_head x) sure.body)) (sym same) sure.held
+
+  box_held : (b : Option BoxField) → IsBoxOf frame b → IfSome b (λ field. All (Holds field.bounds) (body_vertices (of_head head) sure.body))
+  box_held None own = tt
+  box_held (Some field) (f, is, bounds) =
+      subst (λ (x : Bounds). All (Holds x) (body_vertices (of_head head) sure.body)) (sym bounds) (subst (λ (o : Option Frame). IsHeldBy o (body_vertices (of_head head) sure.body)) is frame_held)
+
+  pub sure_behind : IsSureBehind levels head above mid new vertices
+  sure_behind = record {
+    body = sure.body;
+    read = ap (λ (x : Head). body_at x.empty (is_collection x.kind) (of_head x) (members_under levels) mid) same ∙ sure.read;
+    inside = subst (λ (x : Head). IsInside false (of_head x) None sure.body mid.place new.place unseen unseen (record { found = faultless vertices; boxed = None; ids = None })) (sym same) sure.inside;
+    boxed = box_held head.bounds box;
+    held = above_holds (body_vertices (of_head head) sure.body) frame_held;
+  }
+
+-- nothing of an empty geometry is false but perhaps its size
+pub empty_sure : (levels : ℕ) (head : Head) (above : Option Frame) (mid : Reading) → head.empty ≡ true → IsSureBehind levels head above mid mid 0
+unfolding member_vertices
+empty_sure levels head above mid empty = record {
+  body = no_body;
+  read = empty_body (of_head head) (members_under levels) mid empty;
+  inside = nothing_inside false (of_head head) None mid.place unseen (record { found = faultless 0; boxed = None; ids = None }) refl refl refl refl;
+  boxed = in_box head.bounds;
+  held = in_frame above;
+}
+  where
+    in_box : (b : Option BoxField) → IfSome b (λ field. All (Holds field.bounds) [])
+    in_box None = tt
+    in_box (Some field) = All-nil (Holds field.bounds)
+
+    in_frame : (f : Option Frame) → IsHeldBy f []
+    in_frame None = tt
+    in_frame (Some f) = All-nil (Holds (frame_bounds f))
+
+-- so a geometry of which the body after its header and the size are right is sure
+pub geometry_sure : (head : Head) (depth : ℕ) (above : Option Frame) (r mid new : Reading) (vertices : ℕ) → 1 ≤ depth → depth ≤ deepest → IsSound r → IsHeadAt head depth r.place (passed r mid) → IsMoved r mid
+    → IsSureBehind (deepest - depth) head above mid new vertices → None ≡ size_judged head.size new.place → IsSure (deepest - depth) above r new vertices
 unfolding vertices_of
-geometry_sure head plain depth above frame r mid new vertices some deep sound at moved same box above_holds sure size =
+geometry_sure head depth above r mid new vertices some deep sound at moved sure size =
     let headed = head_value depth some deep r mid head sound at moved in
     let members = members_under (deepest - depth) in
     let i = sure.inside in
     let inside : Inside = record { found = faultless vertices; boxed = None; ids = None } in
-    let read : body_at head.empty (is_collection head.kind) (of_head head) members mid ≡ (Ok sure.body, new) = ap (λ (x : Head). body_at x.empty (is_collection x.kind) (of_head x) members mid) same ∙ sure.read in
-    let held : IsHeldBy frame (body_vertices (of_head head) sure.body) = subst (λ (x : Head). IsHeldBy frame (body_vertices (of_head x) sure.body)) (sym same) sure.held in
-    let in_head : IsInside false (of_head head) None sure.body mid.place new.place unseen unseen inside = subst (λ (x : Head). IsInside false (of_head x) None sure.body mid.place new.place unseen unseen inside) (sym same) i in
     let boxed : IsInside false (of_head head) head.bounds sure.body mid.place new.place unseen unseen inside = record {
-      below = in_head.below;
-      members = in_head.members;
-      vertices = in_head.vertices;
-      boxed = box_true (of_head head) frame head.bounds sure.body in_head.below.reach in_head.members.reach box held;
-      seen = in_head.seen;
-      refused = in_head.refused;
-      ids = in_head.ids;
-      few = in_head.few;
+      below = i.below;
+      members = i.members;
+      vertices = i.vertices;
+      boxed = box_true (of_head head) head.bounds sure.body i.below.reach i.members.reach sure.boxed;
+      seen = i.seen;
+      refused = i.refused;
+      ids = i.ids;
+      few = i.few;
     } in
     let vertices_are : body_vertices (of_head head) sure.body ≡ body_vertices at.header sure.body = ap (λ (x : Head). body_vertices (of_head x) sure.body) at.fields in
     let found = geometry_found false head depth r mid new at moved (omega (arith, boxed.few)) sure.body inside unseen unseen (faultless vertices) boxed refl
     (ap (λ o. first o (first None (first None None))) size) in
     record {
       whole = _;
-      read = body_gives (deepest - depth) r mid _ headed sure.body new (sym (body_of_head head at.header _ _ _ _ at.fields members mid) ∙ read);
+      read = body_gives (deepest - depth) r mid _ headed sure.body new (sym (body_of_head head at.header _ _ _ _ at.fields members mid) ∙ sure.read);
       found = found.0;
-      held = subst (IsHeldBy above) vertices_are (above_holds (body_vertices (of_head head) sure.body) held);
+      held = subst (IsHeldBy above) vertices_are sure.held;
     }
-
--- a size that counts to the end is true
-pub size_true : (head : Head) (size after stop : ℕ) → IsSizedPoint head size after → stop - after ≡ size → None ≡ size_judged head.size stop
-size_true head size after stop sized e =
-    sym (ap (λ o. size_judged o stop) sized.size_is ∙ ap (λ (b : Bool). false_at b sized.offset 6) (eq-eqb size (stop - after) (sym e)))
 
 -- ---- frames
 within_wider : (p : ℤ) (inner outer : RawRange) (c : ℤ) → LiesIn inner outer → IsWithin (span_at p (ends_of inner)) c → IsWithin (span_at p (ends_of outer)) c
