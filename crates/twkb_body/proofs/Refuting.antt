@@ -1,5 +1,5 @@
 -- What is refused is refuted: if a geometry does stand there, some claim of it is false, or the frame doesn't hold it.
-use Rattle.std.proofs.Common.{◌≡◌, ◌≢◌, ℕ, zero, suc, ◌+◌, ◌-◌, ◌<◌, ◌≤◌, Bool, true, false, List, [], ◌∷◌, ◌++◌, length, map, fold, ℤ, pos, Option, Some, None, is_some, option_map, IfSome, All, AllPairs, Result, Ok, Err, inl, inr, refl, sym, ap, ap₂, subst, ◌∙◌, append_assoc, length-append, arith}
+use Rattle.std.proofs.Common.{◌≡◌, ◌≢◌, ℕ, zero, suc, ◌+◌, ◌-◌, ◌<◌, ◌≤◌, Bool, true, false, not, List, [], ◌∷◌, ◌++◌, length, map, fold, ℤ, pos, Option, Some, None, is_some, option_map, IfSome, All, AllPairs, Result, Ok, Err, inl, inr, refl, sym, ap, ap₂, subst, ◌∙◌, append_assoc, length-append, arith}
 use Rattle.std.specs.Result.{is_ok}
 use Rattle.std.specs.Prelude.{IsTrue, IsOk, IfOk, IfErr, OnErr, ◌⊎◌, ◌↔◌}
 use Rattle.std.proofs.lemmas.Bool.{eq-eqb}
@@ -15,13 +15,14 @@ use Rattle.twkb_head.specs.declared.header.Head.{Head}
 use Rattle.twkb_head.specs.declared.header.BoxField.{BoxField}
 use Rattle.twkb_head.specs.declared.kinds.Kind.{Kind}
 use Rattle.twkb_head.specs.declared.raw.RawBox.{RawBox}
+use Rattle.twkb_head.specs.declared.raw.RawRange.{RawRange}
 use Rattle.twkb_head.specs.declared.raw.Fields.{Fields}
 use Rattle.twkb_head.specs.declared.refusal.Malformed.{Malformed}
 use Rattle.twkb_head.specs.BegunHeader.{deepest, is_collection, IsAllowedAt}
 use Rattle.twkb_head.specs.Head.{bounds_of, head_of, IsHeadAt, StartsWithHeader}
 use Rattle.twkb_head.specs.Header.{Header, axes_of, axes_with, is_multi, has_bit}
 use Rattle.twkb_head.specs.Holds.{Holds}
-use Rattle.twkb_head.specs.Raw.{fields_box, head_said, boxless}
+use Rattle.twkb_head.specs.Raw.{raw_bounds, flat_box, fields_box, head_said, boxless}
 use Rattle.twkb_head.specs.Shared.HeadPlan.{HeadValue, head_plan}
 use Rattle.twkb_head.specs.Devices.HeadReader.{head_at}
 use Rattle.twkb_head.specs.Shared.Reader.{Answer, Reader, ◌>>=◌, viewed, read, many_at, Fails}
@@ -49,7 +50,7 @@ use Rattle.twkb_body.specs.Devices.Found.{named, size_judged}
 use Rattle.twkb_body.specs.Devices.IdLists.{IsListFound, HasManyIdsAfterCount}
 use Rattle.twkb_body.specs.Devices.Inside.{of_head}
 use Rattle.twkb_body.specs.Devices.Pass.{false_at, ids_refused, are_distinct}
-use Rattle.twkb_body.specs.Devices.Sure.{framed, has_further, AddsParts, ReadParts, IsCounted, IsWrongCount, AreMalformed, AreHeld, IsHeldBy, IsFrameUnder, frame_bounds, body_vertices, IsSureBody, IsSureBehind, IsSure, IsJudged, HasDoubt, doubt_of, Certifies, CertifiesBody, CertifiesShape, IsTrueInside, IsRefutedBody, IsRefutedBehind, IsRefuted}
+use Rattle.twkb_body.specs.Devices.Sure.{framed, has_further, AddsParts, ReadParts, IsCounted, IsWrongCount, AreMalformed, AreHeld, IsHeldBy, IsFrameUnder, frame_bounds, body_vertices, IsSureBody, IsSureBehind, IsSure, IsJudged, IsApart, HasDoubt, doubt_of, Certifies, CertifiesBody, CertifiesShape, IsTrueInside, IsRefutedBody, IsRefutedBehind, IsRefuted}
 use Rattle.twkb_body.specs.Devices.Walk.{HaveAxes, lasts_from}
 use Rattle.twkb_body.proofs.Coordinates.{vertices_same}
 use Rattle.twkb_body.proofs.Outside.{all_inside}
@@ -58,6 +59,7 @@ use Rattle.twkb_body.proofs.Sums.{points_absolute}
 use Rattle.twkb_body.proofs.GeometrySteps.{shape_body, header_fails, body_gives, body_fails, body_of_head, size_same}
 use Rattle.twkb_body.proofs.Judging.{distinct_decides}
 use Rattle.twkb_body.proofs.MemberSteps.{long_list_in, collection_body, behind_list}
+use Rattle.twkb_body.proofs.HeadFacts.{head_size}
 use Rattle.twkb_body.proofs.Passes.{right_of, left_of, all_left, all_right}
 use Rattle.twkb_body.proofs.Repeats.{repeated}
 use Rattle.twkb_body.proofs.SureSteps.{IsSureLoop, body_unboxed, body_held, sure_behind, geometry_sure, own_box}
@@ -388,10 +390,10 @@ no_header_refutes depth above r some deep sound none = go (head_at (deepest - de
         absurd (none (record { header = at.header; front = passed r b; behind = rest b; parts = rest-passed r b moved; is = at.is; allowed = at.allowed }))
 
 -- or its rest can't be read.
-pub rest_refutes : (raw : Result Fields Malformed) (m : Malformed) (depth : ℕ) (above : Option Frame) (r : Reading) → 1 ≤ depth → depth ≤ deepest → IsSound r → raw ≡ Err m → (IsOk raw ↔ StartsWithHeader depth (rest r))
+pub rest_refutes : (m : Malformed) (depth : ℕ) (above : Option Frame) (r : Reading) → 1 ≤ depth → depth ≤ deepest → IsSound r → (IsOk {T = Fields} {E = Malformed} (Err m) ↔ StartsWithHeader depth (rest r))
     → IsRefuted (deepest - depth) above r
-rest_refutes raw m depth above r some deep sound is exact =
-    no_header_refutes depth above r some deep sound (λ starts. let bad : is_ok {T = Fields} {E = Malformed} (Err m) ≡ true = subst IsOk is (exact.1 starts) in cc)
+rest_refutes m depth above r some deep sound exact =
+    no_header_refutes depth above r some deep sound (λ starts. let bad : is_ok {T = Fields} {E = Malformed} (Err m) ≡ true = exact.1 starts in cc)
 
 -- ---- a geometry whose header was read in raw numbers
 module _ (raw : Fields) (depth : ℕ) (above : Option Frame) (r mid : Reading) (some : 1 ≤ depth) (deep : depth ≤ deepest) (sound : IsSound r) (at : IsHeadAt (head_said raw) depth r.place (passed r mid)) (moved : IsMoved r mid) where
@@ -415,18 +417,75 @@ module _ (raw : Fields) (depth : ℕ) (above : Option Frame) (r mid : Reading) (
       refused_for (IsRefuted (deepest - depth) above r) (HasLongList depth (rest r)) r d new is
       (behind_refutes (head_said raw) depth above r mid some deep sound at moved (size_refutes (deepest - depth) (head_said raw) above mid new vertices f sure false_size))
 
-  -- Both hold under a frame.
-  module _ (frame : Option Frame) (under : IsFrameUnder above (boxless raw) (option_map (framed (boxless raw)) raw.bounds) frame) (new : Reading) where
-    pub body_doubts : (d : Doubt) → HasDoubt (IsRefutedBody (deepest - depth) (boxless raw) frame mid) (WantsIn (is_collection raw.kind) raw.empty depth raw.ids mid) mid d new
-        → HasDoubt (IsRefuted (deepest - depth) above r) (HasLongList depth (rest r)) r d new
-    body_doubts d s =
-        let wants : Type 0 = WantsIn (is_collection raw.kind) raw.empty depth raw.ids mid in
-        behind_doubts d new (doubts_through (IsRefutedBody (deepest - depth) (boxless raw) frame mid) (IsRefutedBehind (deepest - depth) (head_said raw) above mid) wants wants mid mid d new
-        (body_refutes (deepest - depth) raw above frame mid under) (λ bytes w. (bytes, w)) s)
+  -- The header without its box, as the code has it.
+  module _ (plain : Head) (same : plain ≡ boxless raw) where
+    pub apart_certifies : (new : Reading) (vertices : ℕ) (result : Result ℕ Doubt) → IsSureBehind (deepest - depth) (head_said raw) above mid new vertices → IsJudged plain new.place vertices result
+        → Certifies depth above r result new
+    apart_certifies new vertices result sure judged = behind_certifies new vertices result sure (subst (λ (h : Head). IsJudged h new.place vertices result) same judged)
 
-    pub judged_certifies : (vertices : ℕ) (result : Result ℕ Doubt) → IsSureBody (deepest - depth) (boxless raw) frame mid new vertices → IsJudged (boxless raw) new.place vertices result → Certifies depth above r result new
-    judged_certifies vertices result sure judged =
-        behind_certifies new vertices result (sure_behind (deepest - depth) (head_said raw) (boxless raw) above frame mid new vertices refl (own_box raw above frame under) under.above_holds sure) judged
+    -- Both hold under a frame.
+    module _ (frame : Option Frame) (under : IsFrameUnder above plain (option_map (framed plain) raw.bounds) frame) (new : Reading) where
+      raw_under : IsFrameUnder above (boxless raw) (option_map (framed (boxless raw)) raw.bounds) frame
+      raw_under = subst (λ (h : Head). IsFrameUnder above h (option_map (framed h) raw.bounds) frame) same under
+
+      pub body_doubts : (d : Doubt) → HasDoubt (IsRefutedBody (deepest - depth) plain frame mid) (WantsIn (is_collection plain.kind) plain.empty depth plain.ids mid) mid d new
+          → HasDoubt (IsRefuted (deepest - depth) above r) (HasLongList depth (rest r)) r d new
+      body_doubts d s =
+          let wants : Type 0 = WantsIn (is_collection raw.kind) raw.empty depth raw.ids mid in
+          behind_doubts d new (doubts_through (IsRefutedBody (deepest - depth) (boxless raw) frame mid) (IsRefutedBehind (deepest - depth) (head_said raw) above mid) wants wants mid mid d new
+          (body_refutes (deepest - depth) raw above frame mid raw_under) (λ bytes w. (bytes, w))
+          (subst (λ (h : Head). HasDoubt (IsRefutedBody (deepest - depth) h frame mid) (WantsIn (is_collection h.kind) h.empty depth h.ids mid) mid d new) same s))
+
+      pub judged_certifies : (vertices : ℕ) (result : Result ℕ Doubt) → IsSureBody (deepest - depth) plain frame mid new vertices → IsJudged plain new.place vertices result → Certifies depth above r result new
+      judged_certifies vertices result sure judged =
+          apart_certifies new vertices result
+          (sure_behind (deepest - depth) (head_said raw) (boxless raw) above frame mid new vertices refl (own_box raw above frame raw_under) raw_under.above_holds
+          (subst (λ (h : Head). IsSureBody (deepest - depth) h frame mid new vertices) same sure)) judged
+
+-- a test of a bit that is told by its opposite
+pub bit_unset : (test bit : Bool) → test ≡ not bit → test ≡ true → bit ≡ false
+bit_unset test true is told = absurd (cc (is, told))
+bit_unset test false is told = refl
+
+-- the size field is before the body
+pub flat_ends : (plain : Head) (raw : Fields) (depth : ℕ) (r mid : Reading) → plain ≡ boxless raw → IsHeadAt (head_said raw) depth r.place (passed r mid) → IsMoved r mid → (stop : ℕ) → mid.place ≤ stop
+    → IfSome plain.size (λ size. size.after ≤ stop)
+flat_ends plain raw depth r mid same at moved stop le = subst (λ (h : Head). IfSome h.size (λ size. size.after ≤ stop)) (sym same) (head_size r mid (head_said raw) depth at moved stop le)
+
+-- ---- a geometry that no frame can hold
+-- what its header says, with or without a box in X and Y,
+pub apart_flat : (raw : Fields) (plain : Head) (xy : ℤ) → xy ≡ plain.xy → plain ≡ boxless raw → raw.axes.z ≡ None → raw.axes.m ≡ None → raw.empty ≡ false
+    → IsApart (head_said raw) plain.kind xy None None plain.ids (option_map (λ b. flat_box b.x b.y) raw.bounds)
+apart_flat raw plain xy xy_is same z m full = record {
+  same = λ j. record { kind = ap (λ (h : Head). h.kind) (sym same) j; xy = (ap (λ (h : Head). h.xy) (sym same) ∙ sym xy_is) j; z = z j; m = m j; size = None; box = None; ids = ap (λ (h : Head). h.ids) (sym same) j; empty = full j };
+  bounds = go raw.bounds;
+}
+  where
+    go : (o : Option RawBox) → option_map (λ field. field.bounds) (option_map (fields_box raw) o) ≡ option_map (raw_bounds xy None None) (option_map (λ b. flat_box b.x b.y) o)
+    go None = refl
+    go (Some b) = (λ j. Some (raw_bounds raw.axes.xy (z j) (m j) b)) ∙ ap (λ (h : Head). Some (raw_bounds h.xy None None b)) (sym same) ∙ ap (λ (p : ℤ). Some (raw_bounds p None None b)) (sym xy_is)
+
+-- whose box in X and Y is handed over by its two ranges,
+pub apart_box : (o : Option RawBox) (x y : RawRange) → IfSome o (λ b. (x ≡ b.x) × (y ≡ b.y)) → IfSome (option_map (λ b. flat_box b.x b.y) o) (λ box. box ≡ flat_box x y)
+apart_box None x y ranges = tt
+apart_box (Some b) x y (x_is, y_is) = λ j. flat_box (sym x_is j) (sym y_is j)
+
+pub apart_there : (o : Option RawBox) → is_some (option_map (λ b. flat_box b.x b.y) o) ≡ is_some o
+apart_there None = refl
+apart_there (Some b) = refl
+
+-- or in any axes.
+pub apart_any : (raw : Fields) (plain : Head) (xy : ℤ) → xy ≡ plain.xy → plain ≡ boxless raw → raw.empty ≡ false → IsApart (head_said raw) plain.kind xy plain.z plain.m plain.ids raw.bounds
+apart_any raw plain xy xy_is same full = record {
+  same = (λ j. record { kind = raw.kind; xy = raw.axes.xy; z = raw.axes.z; m = raw.axes.m; size = None; box = None; ids = raw.ids; empty = full j })
+      ∙ ap (λ (h : Head). record { kind = h.kind; xy = h.xy; z = h.z; m = h.m; size = None; box = None; ids = h.ids; empty = false }) (sym same)
+      ∙ ap (λ (p : ℤ). record { kind = plain.kind; xy = p; z = plain.z; m = plain.m; size = None; box = None; ids = plain.ids; empty = false }) (sym xy_is);
+  bounds = go raw.bounds;
+}
+  where
+    go : (o : Option RawBox) → option_map (λ field. field.bounds) (option_map (fields_box raw) o) ≡ option_map (raw_bounds xy plain.z plain.m) o
+    go None = refl
+    go (Some b) = ap (λ (h : Head). Some (raw_bounds h.xy h.z h.m b)) (sym same) ∙ ap (λ (p : ℤ). Some (raw_bounds p plain.z plain.m b)) (sym xy_is)
 
 -- ---- what the first reading hands over
 pub some_of : {A : Type 0} (o : Option A) → is_some o ≡ true → (x : A) × (o ≡ Some x)

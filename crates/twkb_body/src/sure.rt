@@ -118,7 +118,7 @@ fn take_flat<R: IdRoom>(
     };
     let head = raw.boxless();
     let Some(frame) = Frame::under(above, &head, &raw.bounds) else {
-        // Its parts are handed over one by one: a header in memory would be set to zero for each geometry.
+        // A header in memory would be set to zero for each geometry, so its parts are passed one by one.
         let (x, y) = flat_ranges(&raw.bounds);
         let vertices = take_apart_flat(
             room,
@@ -129,10 +129,8 @@ fn take_flat<R: IdRoom>(
             head.xy,
             head.ids,
             raw.bounds.is_some(),
-            x.minimum,
-            x.extent,
-            y.minimum,
-            y.extent,
+            x,
+            y,
         )?;
         return judged(&head, cursor.place(), vertices);
     };
@@ -275,28 +273,18 @@ fn take_apart_flat<R: IdRoom>(
     xy: i8,
     ids: bool,
     has_box: bool,
-    x_minimum: i64,
-    x_extent: i64,
-    y_minimum: i64,
-    y_extent: i64,
+    x: RawRange,
+    y: RawRange,
 ) -> Result<usize, Doubt>
     requires shallowest { 1 ≤ depth }
     requires allowed { IsAllowedAt kind depth }
     requires xy { IsPrecision xy }
     requires near { IfSome above.now IsNearFrame }
     ensures { (head : HeadOf) (box : Option BoxOf) → is_some box ≡ has_box
-        → IfSome box (λ box. box ≡ flat_box (record { minimum = x_minimum; extent = x_extent }) (record { minimum = y_minimum; extent = y_extent }))
+        → IfSome box (λ box. box ≡ flat_box x y)
         → IsApart head kind xy None None ids box
         → CertifiesBehind depth head above.now cursor.old result cursor.new }
 {
-    let x = RawRange {
-        minimum: x_minimum,
-        extent: x_extent,
-    };
-    let y = RawRange {
-        minimum: y_minimum,
-        extent: y_extent,
-    };
     let bounds = if has_box {
         Some(RawBox::flat(x, y))
     } else {
