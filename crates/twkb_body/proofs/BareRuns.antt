@@ -1,30 +1,28 @@
 -- Numbers that are passed by their ends, as points: while they are short and few, no sum leaves 64 bits.
-use Rattle.std.proofs.Common.{◌≡◌, ℕ, zero, suc, ◌+◌, ◌-◌, ◌*◌, ◌/◌, ◌%◌, ◌^◌, ◌<◌, ◌≤◌, ◌==◌, Bool, true, false, if◌then◌else◌, List, [], ◌∷◌, length, flat_map, All, ℤ, pos, neg_ℤ, ◌+ℤ◌, Option, Some, None, IfSome, Ok, Err, refl, sym, ap, subst, ◌∙◌, arith}
+use Rattle.std.proofs.Common.{◌≡◌, ℕ, zero, suc, ◌+◌, ◌-◌, ◌*◌, ◌/◌, ◌%◌, ◌^◌, ◌<◌, ◌≤◌, ◌==◌, Bool, true, false, if◌then◌else◌, List, [], ◌∷◌, length, map, flat_map, All, ℤ, pos, neg_ℤ, ◌+ℤ◌, Ok, Err, refl, sym, ap, subst, ◌∙◌, arith}
 use Rattle.std.proofs.lemmas.Grind.{common_steps}
 use Rattle.std.proofs.lemmas.Int.{ints}
 use Rattle.std.proofs.lemmas.List.{append-nil}
 use Rattle.std.proofs.lemmas.List.Elements.{All-nil, All-cons, All-head, All-tail}
 use Rattle.twkb_num.specs.Cursor.{Reading, passed, IsMoved, IsSound}
+use Rattle.twkb_num.specs.Runs.{PassesRuns, PassesCountedRuns}
 use Rattle.twkb_num.specs.Varint.{Spells, SpellsAll, zigzag_value, SpellsMany}
 use Rattle.twkb_num.proofs.CursorLemmas.{IsMoved-here, IsMoved-after, IsSound-moved}
 use Rattle.twkb_num.proofs.PairLaws.{IsMoved-two}
 use Rattle.twkb_head.specs.declared.kinds.Kind.{Kind}
-use Rattle.twkb_head.specs.Header.{is_multi}
 use Rattle.twkb_head.specs.Shared.Reader.{Answer, Reader, ◌>>=◌, viewed, number_at, many_at, coordinate_at}
-use Rattle.twkb_head.proofs.Readings.{ok_not_err}
-use Rattle.twkb_head.proofs.Steps.{read_signed, coordinate_ok, fits_true}
+use Rattle.twkb_head.proofs.Steps.{read_number, read_signed, coordinate_ok, fits_true}
 use Rattle.twkb_body.specs.declared.trail.Trail.{Trail}
 use Rattle.twkb_body.specs.Devices.Bare.{unchanged, IsInSteps, IsShortTrail, Leads}
 use Rattle.twkb_body.specs.Geometry.{PointValue, Ring, PolygonValue, points_of}
-use Rattle.twkb_body.specs.Devices.Body.{ListHead, first_of, behind, add, sums, ring_sums, zeros}
-use Rattle.twkb_body.specs.Devices.BodyReader.{point_at, ring_at, part_at, count_at}
-use Rattle.twkb_body.specs.Devices.IdLists.{IsListFound}
-use Rattle.twkb_body.specs.Devices.Sure.{AddsParts}
+use Rattle.twkb_body.specs.Devices.Body.{first_of, behind, add, sums, ring_sums, zeros}
+use Rattle.twkb_body.specs.Devices.BodyReader.{point_at, ring_at, polygon_at, part_at}
+use Rattle.twkb_body.specs.Devices.Sure.{ReadParts}
 use Rattle.twkb_body.specs.Devices.Walk.{HaveAxes, IsWalked}
 use Rattle.twkb_body.proofs.Coordinates.{coordinate_ahead}
 use Rattle.twkb_body.proofs.FlatRuns.{has_64_bits}
-use Rattle.twkb_body.proofs.Runs.{values_of}
-use Rattle.twkb_body.proofs.Walks.{number_ahead, walked_none, walked_from, IsWalkLoop, walk_begins, walk_goes_on, walk_ends, counted_ends}
+use Rattle.twkb_body.proofs.Walks.{number_ahead, walked_from, IsWalkLoop, walk_begins, walk_goes_on, walk_ends, counted_ends, ring_points, part_points, rings_are_sums}
+use Rattle.twkb_body.proofs.Sums.{rings_sums_flat}
 
 abbrev IsFew : ℕ → Type 0
 IsFew n = n < 2 ^ 49
@@ -178,7 +176,7 @@ many_points axes (suc count) k s ns r new some le few sound many four near small
     }
 
 -- from each near trail they lead to another
-pub points_lead : (axes count before : ℕ) (r new : Reading) → 1 ≤ axes → axes ≤ 4 → before + count ≤ 2 ^ 14 → IsSound r → SpellsMany (passed r new) (count * axes) → IsMoved r new
+points_lead : (axes count before : ℕ) (r new : Reading) → 1 ≤ axes → axes ≤ 4 → before + count ≤ 2 ^ 14 → IsSound r → SpellsMany (passed r new) (count * axes) → IsMoved r new
     → Leads axes (λ (s : PointValue). many_at count add (point_at axes) s) (λ (points : List PointValue). points) r new before (before + count)
 points_lead axes count before r new some le few sound spells moved t near =
     let ps = many_points axes count before t.last spells.numbers r new some le few sound spells.count near.four near.near spells.small spells.spelled moved in (
@@ -201,7 +199,7 @@ points_lead axes count before r new some le few sound spells moved t near =
     )
 
 -- a count, and so many points
-pub ring_leads : (axes count before after : ℕ) (r mid new : Reading) → number_at r ≡ (Ok count, mid) → Leads axes (λ (s : PointValue). many_at count add (point_at axes) s) (λ (points : List PointValue). points) mid new before after
+ring_leads : (axes count before after : ℕ) (r mid new : Reading) → number_at r ≡ (Ok count, mid) → Leads axes (λ (s : PointValue). many_at count add (point_at axes) s) (λ (points : List PointValue). points) mid new before after
     → Leads axes (ring_at axes) (λ (ring : Ring). ring) r new before after
 ring_leads axes count before after r mid new counted leads t near =
     let (points, u, read, walked, nearer) = leads t near in (
@@ -215,56 +213,70 @@ ring_leads axes count before after r mid new counted leads t near =
 -- a loop over parts, of which each leads on
 module _ {A : Type 0} (axes : ℕ) (after : PointValue → A → PointValue) (each : PointValue → Reader A) (points_in : A → List PointValue) (after_is : (s : PointValue) (x : A) → after s x ≡ sums s (points_in x))
     (count before : ℕ) (from : Reading) where
-  abbrev pub IsLeadLoop : ℕ → ℕ → Reading → Type 0
+  abbrev IsLeadLoop : ℕ → ℕ → Reading → Type 0
   IsLeadLoop i points r = (t : Trail) → IsShortTrail before t → (u : Trail) × IsWalkLoop unchanged axes after each points_in after_is count t tt from i u tt r × IsShortTrail points u
 
-  pub lead_begins : IsLeadLoop 0 before from
+  lead_begins : IsLeadLoop 0 before from
   lead_begins t near = (t, walk_begins unchanged axes after each points_in after_is count t tt from, near)
 
-  pub lead_goes_on : (i points more : ℕ) (r new : Reading) → i < count → Leads axes each points_in r new points more → IsLeadLoop i points r → IsLeadLoop (i + 1) more new
+  lead_goes_on : (i points more : ℕ) (r new : Reading) → i < count → Leads axes each points_in r new points more → IsLeadLoop i points r → IsLeadLoop (i + 1) more new
   lead_goes_on i points more r new lt leads l t near =
       let (u, loop, here) = l t near in
       let (x, v, read, walked, there) = leads u here in
       (v, walk_goes_on unchanged axes after each points_in after_is count t tt from i u v tt tt r new x lt read walked loop, there)
 
-  pub lead_ends : (i points : ℕ) (r : Reading) → i ≡ count → IsLeadLoop i points r → Leads axes (λ (s : PointValue). many_at count after each s) (λ (xs : List A). flat_map points_in xs) from r before points
+  lead_ends : (i points : ℕ) (r : Reading) → i ≡ count → IsLeadLoop i points r → Leads axes (λ (s : PointValue). many_at count after each s) (λ (xs : List A). flat_map points_in xs) from r before points
   lead_ends i points r end l t near =
       let (u, loop, there) = l t near in
       let (xs, read, walked) = walk_ends unchanged axes after each points_in after_is count t tt from i u tt r end loop in
       (xs, u, read, walked, there)
 
   -- behind a count
-  pub lead_counted : (i points : ℕ) (r old : Reading) → number_at old ≡ (Ok count, from) → i ≡ count → IsLeadLoop i points r
+  lead_counted : (i points : ℕ) (r old : Reading) → number_at old ≡ (Ok count, from) → i ≡ count → IsLeadLoop i points r
       → Leads axes (λ (s : PointValue). λ q. number_at q >>= λ n. many_at n after each s) (λ (xs : List A). flat_map points_in xs) old r before points
   lead_counted i points r old counted end l t near =
       let (u, loop, there) = l t near in
       let (xs, read, walked) = counted_ends unchanged axes after each points_in after_is count t tt from old i u tt r counted end loop in
       (xs, u, read, walked, there)
 
--- one of many is one
-one_alone : (axes : ℕ) (s : PointValue) (r new : Reading) (points : List PointValue) → many_at 1 add (point_at axes) s r ≡ (Ok points, new) → (p : PointValue) × (p ∷ [] ≡ points) × (point_at axes s r ≡ (Ok p, new))
-one_alone axes s r new points e = go (point_at axes s r) refl e
-  where
-    go : (a : Answer PointValue) → point_at axes s r ≡ a → (a >>= λ x q. viewed (λ xs. x ∷ xs) (many_at 0 add (point_at axes) (add s x) q)) ≡ (Ok points, new)
-        → (p : PointValue) × (p ∷ [] ≡ points) × (point_at axes s r ≡ (Ok p, new))
-    go (Err m, q) is e = absurd (ok_not_err points m new q (sym e))
-    go (Ok p, q) is e = (p, ap values_of e, is ∙ ap (λ (z : Reading). (Ok p, z)) (ap (λ (a : Answer (List PointValue)). a.1) e))
+-- a point is a part
+abbrev single : PointValue → PolygonValue
+single p = (p ∷ []) ∷ []
 
--- one point is a part
-pub point_leads : (axes before after : ℕ) (r new : Reading) → Leads axes (λ (s : PointValue). many_at 1 add (point_at axes) s) (λ (points : List PointValue). points) r new before after
-    → Leads axes (λ (s : PointValue). λ q. viewed (λ (p : PointValue). (p ∷ []) ∷ []) (point_at axes s q)) (λ (part : PolygonValue). flat_map (λ ring. ring) part) r new before after
-point_leads axes before after r new leads t near =
-    let (points, u, read, walked, nearer) = leads t near in
-    let (p, one, alone) = one_alone axes t.last r new points read in (
-      (p ∷ []) ∷ [],
+-- points that are read one after another are as many parts
+points_as_parts : (axes count : ℕ) (s : PointValue) (r : Reading) → many_at count ring_sums (λ (s : PointValue) (q : Reading). viewed single (point_at axes s q)) s r ≡ viewed (map single) (many_at count add (point_at axes) s r)
+points_as_parts axes zero s r = refl
+points_as_parts axes (suc count) s r = go (points_as_parts axes count) (point_at axes s r)
+  where
+    inner : (p : PointValue) (b : Answer (List PointValue)) → viewed (λ (parts : List PolygonValue). single p ∷ parts) (viewed (map single) b) ≡ viewed (map single) (viewed (λ (ps : List PointValue). p ∷ ps) b)
+    inner p (Ok ps, q) = refl
+    inner p (Err m, q) = refl
+
+    go : ((s : PointValue) (r : Reading) → many_at count ring_sums (λ (s : PointValue) (q : Reading). viewed single (point_at axes s q)) s r ≡ viewed (map single) (many_at count add (point_at axes) s r)) → (a : Answer PointValue) → (viewed single a >>= λ x q. viewed (λ xs. x ∷ xs) (many_at count ring_sums (λ (s : PointValue) (q : Reading). viewed single (point_at axes s q)) (ring_sums s x) q))
+        ≡ viewed (map single) (a >>= λ p q. viewed (λ ps. p ∷ ps) (many_at count add (point_at axes) (add s p) q))
+    go others (Err m, q) = refl
+    go others (Ok p, q) = ap (viewed (λ (parts : List PolygonValue). single p ∷ parts)) (others (add s p) q) ∙ inner p (many_at count add (point_at axes) (add s p) q)
+
+-- and these have the points that were read
+points_of_parts : (points : List PointValue) → points_of (map single points) ≡ points
+points_of_parts [] = refl
+points_of_parts (p ∷ points) = ap (λ (ps : List PointValue). p ∷ ps) (points_of_parts points)
+
+-- numbers that are passed are parts of a point each
+pub single_points_lead : (axes count : ℕ) (r new : Reading) → 1 ≤ axes → axes ≤ 4 → count ≤ 2 ^ 14 → IsSound r → SpellsMany (passed r new) (count * axes) → IsMoved r new
+    → Leads axes (λ (s : PointValue). many_at count ring_sums (λ (s : PointValue) (q : Reading). viewed single (point_at axes s q)) s) points_of r new 0 count
+single_points_lead axes count r new some le few sound spells moved t near =
+    let none : 0 + count ≡ count = omega arith in
+    let (points, u, read, walked, nearer) = points_lead axes count 0 r new some le (omega (arith, few)) sound spells moved t near in (
+      map single points,
       u,
-      ap (viewed (λ (p : PointValue). (p ∷ []) ∷ [])) alone,
-      subst (IsWalked unchanged axes t u tt tt r.place new.place) (sym one) walked,
-      nearer,
+      points_as_parts axes count t.last r ∙ ap (viewed (map single)) read,
+      subst (IsWalked unchanged axes t u tt tt r.place new.place) (sym (points_of_parts points)) walked,
+      subst (λ (n : ℕ). IsShortTrail n u) none nearer,
     )
 
 -- a line is a part
-pub line_leads : (axes before after : ℕ) (r new : Reading) → Leads axes (ring_at axes) (λ (ring : Ring). ring) r new before after
+line_leads : (axes before after : ℕ) (r new : Reading) → Leads axes (ring_at axes) (λ (ring : Ring). ring) r new before after
     → Leads axes (λ (s : PointValue). λ q. viewed (λ (line : Ring). line ∷ []) (ring_at axes s q)) (λ (part : PolygonValue). flat_map (λ ring. ring) part) r new before after
 line_leads axes before after r new leads t near =
     let (line, u, read, walked, nearer) = leads t near in (
@@ -274,10 +286,6 @@ line_leads axes before after r new leads t near =
       subst (IsWalked unchanged axes t u tt tt r.place new.place) (sym (append-nil line)) walked,
       nearer,
     )
-
--- no part leads nowhere
-pub nothing_leads : (axes before : ℕ) (r : Reading) → Leads axes (λ (s : PointValue) (q : Reading). (Ok [], q)) (λ (part : PolygonValue). flat_map (λ ring. ring) part) r r before before
-nothing_leads axes before r t near = ([], t, refl, walked_none unchanged axes t tt r.place, near)
 
 -- zeros are near
 zero_near : (points : ℕ) → IsInSteps points (pos 0)
@@ -290,34 +298,50 @@ zeros_near points =
     (All-cons (IsInSteps points) (pos 0) (pos 0 ∷ pos 0 ∷ []) one (All-cons (IsInSteps points) (pos 0) (pos 0 ∷ []) one (All-cons (IsInSteps points) (pos 0) [] one (All-nil (IsInSteps points)))))
 
 -- a trail of so many points
-pub some_points : (points : ℕ) → points ≤ 2 ^ 14 → IsShortTrail points (record { last = zeros; points = points })
+some_points : (points : ℕ) → points ≤ 2 ^ 14 → IsShortTrail points (record { last = zeros; points = points })
 some_points points few = record { few = few; counted = refl; four = refl; near = zeros_near points }
 
--- so a loop has few
-pub lead_few : {A : Type 0} (axes : ℕ) (after : PointValue → A → PointValue) (each : PointValue → Reader A) (points_in : A → List PointValue) (after_is : (s : PointValue) (x : A) → after s x ≡ sums s (points_in x))
-    (count before : ℕ) (from : Reading) (i points : ℕ) (r : Reading) → before ≤ 2 ^ 14 → IsLeadLoop axes after each points_in after_is count before from i points r → points ≤ 2 ^ 14
-lead_few axes after each points_in after_is count before from i points r few l =
-    let (u, loop, near) = l (record { last = zeros; points = before }) (some_points before few) in
-    near.few
+-- where each part is a run, runs that are passed lead on one after another, and the place stays sound
+module _ {A : Type 0} (axes : ℕ) (some : 1 ≤ axes) (le : axes ≤ 4) (after : PointValue → A → PointValue) (each : PointValue → Reader A) (points_in : A → List PointValue) (after_is : (s : PointValue) (x : A) → after s x ≡ sums s (points_in x))
+    (by_ring : (before more : ℕ) (r new : Reading) → Leads axes (ring_at axes) (λ (ring : Ring). ring) r new before more → Leads axes each points_in r new before more) (count : ℕ) (from : Reading) (sound : IsSound from) where
+  abbrev LeadTo : ℕ → ℕ → Reading → Type 0
+  LeadTo runs points r = IsLeadLoop axes after each points_in after_is count 0 from runs points r × IsSound r
 
--- what an answer leads to, if there is one
-pub if_some : (answer : Option ℕ) (P Q : ℕ → Type 0) → ((n : ℕ) → P n → Q n) → IfSome answer P → IfSome answer Q
-if_some None P Q f h = tt
-if_some (Some n) P Q f h = f n h
+  runs_lead : (runs points : ℕ) (new : Reading) → runs ≤ count → points ≤ 2 ^ 14 → PassesRuns axes runs from new points → LeadTo runs points new
+  runs_lead zero points new few short (there, none) =
+      subst (λ (n : ℕ). LeadTo 0 n new) (sym none) (subst (LeadTo 0 0) (sym there) (lead_begins axes after each points_in after_is count 0 from, sound))
+  runs_lead (suc runs) points new few short (last, before, many, passed, run, sum) =
+      let (loop, here) = runs_lead runs before last (omega (arith, few)) (omega (arith, sum, short)) passed in
+      let behind_count = IsSound-moved last run.middle here run.counted.moved in
+      let counted = read_number last run.middle many run.counted.spelled run.counted.moved in
+      let ring = ring_leads axes many before (before + many) last run.middle new counted (points_lead axes many before run.middle new some le (omega (arith, sum, short)) behind_count run.spelled run.moved) in
+      let all = lead_goes_on axes after each points_in after_is count 0 from runs before (before + many) last new (omega (arith, few)) (by_ring before (before + many) last new ring) loop in
+      let i : runs + 1 ≡ suc runs = omega arith in
+      (subst (λ (k : ℕ). IsLeadLoop axes after each points_in after_is count 0 from (suc runs) k new) (sym sum) (subst (λ (k : ℕ). IsLeadLoop axes after each points_in after_is count 0 from k (before + many) new) i all), IsSound-moved run.middle new behind_count run.moved)
 
--- behind a count they are the parts of a body
-pub bare_parts : (kind : Kind) (has_ids : Bool) (axes count points : ℕ) (list : ListHead) (old middle new : Reading) → count_at (is_multi kind) has_ids old ≡ (Ok list, middle) → IsListFound old middle list (record { count = count; ids = None })
-    → Leads axes (λ (s : PointValue). many_at count ring_sums (part_at kind axes) s) points_of middle new 0 points → AddsParts unchanged kind has_ids axes old new tt tt points
-bare_parts kind has_ids axes count points list old middle new counted found leads =
+-- runs that are passed are lines
+pub lines_lead : (axes count points : ℕ) (r new : Reading) → 1 ≤ axes → axes ≤ 4 → points ≤ 2 ^ 14 → IsSound r → PassesRuns axes count r new points
+    → Leads axes (λ (s : PointValue). many_at count ring_sums (λ (s : PointValue) (q : Reading). viewed (λ (line : Ring). line ∷ []) (ring_at axes s q)) s) points_of r new 0 points
+lines_lead axes count points r new some le few sound passed =
+    let lines = runs_lead axes some le ring_sums (λ (s : PointValue) (q : Reading). viewed (λ (line : Ring). line ∷ []) (ring_at axes s q)) part_points rings_sums_flat (line_leads axes) count r sound count points new (omega arith) few passed in
+    lead_ends axes ring_sums (λ (s : PointValue) (q : Reading). viewed (λ (line : Ring). line ∷ []) (ring_at axes s q)) part_points rings_sums_flat count 0 r count points new refl lines.0
+
+-- behind their count they are a polygon
+polygon_leads : (axes points : ℕ) (r new : Reading) → 1 ≤ axes → axes ≤ 4 → points ≤ 2 ^ 14 → IsSound r → PassesCountedRuns axes r new points → Leads axes (polygon_at axes) part_points r new 0 points
+polygon_leads axes points r new some le few sound passed =
+    let there = passed.counted.moved in
+    let rings = runs_lead axes some le sums (ring_at axes) ring_points rings_are_sums (λ before more q new h. h) passed.runs passed.middle (IsSound-moved r passed.middle sound there) passed.runs points new (omega arith) few passed.passed in
+    lead_counted axes sums (ring_at axes) ring_points rings_are_sums passed.runs 0 passed.middle passed.runs points new r (read_number r passed.middle passed.runs passed.counted.spelled there) refl rings.0
+
+pub one_polygon_leads : (axes points : ℕ) (r new : Reading) → 1 ≤ axes → axes ≤ 4 → points ≤ 2 ^ 14 → IsSound r → PassesCountedRuns axes r new points
+    → Leads axes (λ (s : PointValue). many_at 1 ring_sums (polygon_at axes) s) points_of r new 0 points
+one_polygon_leads axes points r new some le few sound passed =
+    let begun = lead_begins axes ring_sums (polygon_at axes) part_points rings_sums_flat 1 0 r in
+    let one = lead_goes_on axes ring_sums (polygon_at axes) part_points rings_sums_flat 1 0 r 0 0 points r new (omega arith) (polygon_leads axes points r new some le few sound passed) begun in
+    lead_ends axes ring_sums (polygon_at axes) part_points rings_sums_flat 1 0 r 1 points new refl one
+
+-- what leads from no points on are parts that are read
+pub parts_read : (kind : Kind) (axes count points : ℕ) (old new : Reading) → Leads axes (λ (s : PointValue). many_at count ring_sums (part_at kind axes) s) points_of old new 0 points → ReadParts unchanged kind axes count old new tt tt points
+parts_read kind axes count points old new leads =
     let (parts, u, read, walked, near) = leads (record { last = zeros; points = 0 }) (some_points 0 (omega arith)) in
-    record {
-      list = list;
-      middle = middle;
-      parts = parts;
-      after = u;
-      counted = counted;
-      found = subst (λ (n : ℕ). IsListFound old middle list (record { count = n; ids = None })) found.count found;
-      read = subst (λ (n : ℕ). many_at n ring_sums (part_at kind axes) zeros middle ≡ (Ok parts, new)) found.count read;
-      walked = walked;
-      vertices_are = sym near.counted;
-    }
+    record { parts = parts; after = u; read = read; walked = walked; vertices_are = sym near.counted }

@@ -1,10 +1,15 @@
-//! Points under one header that nothing asks for, but that no coordinate leaves 64 bits.
+//! Points that nothing asks for. Their coordinates are summed up all the same, since none may leave 64 bits.
+ghost use Rattle.std.specs.Prelude.{◌≤◌};
+ghost use Rattle.twkb_body.specs.Devices.Bare.{unchanged};
+ghost use Rattle.twkb_body.specs.Devices.Walk.{IsRun};
+
 use crate::points::Points;
 use crate::trail::Trail;
+use crate::vertices::{LONGEST, is_close};
 use twkb_head::Head;
 use twkb_num::Cursor;
 
-/// Points that are counted, and summed.
+/// What points are added to where only their sums are kept, which a trail does.
 #[derive(Drop)]
 pub struct Summed;
 
@@ -28,20 +33,29 @@ impl Points for Summed {
         trail: &mut Trail,
     ) -> u64 {
         if axes == 2 {
-            take_flat_run(cursor, most, trail)
+            sum_flat_run(cursor, most, trail)
         } else {
             0
         }
     }
 }
 
-/// A run of points of X and Y, whose sums stay near zero.
+/// Sums up points at the place, `most` of them or fewer: it stops before the first whose differences take more than four bytes
+/// each.
+// Both sums are in locals. While differences are short none leaves 64 bits, so none is tested.
 #[inline(always)]
-fn take_flat_run(cursor: &mut Cursor, most: u64, trail: &mut Trail) -> u64 {
+fn sum_flat_run(cursor: &mut Cursor, most: u64, trail: &mut Trail) -> u64
+    requires { trail.old.points ≤ cursor.old.place }
+    ensures few { result ≤ most }
+    ensures run { IsRun unchanged 2 trail.old trail.new tt tt cursor.old cursor.new result }
+{
     let mut x = trail.last[0];
     let mut y = trail.last[1];
+    if !is_close(x) || !is_close(y) {
+        return 0;
+    }
     let mut done = 0;
-    while done < most && is_near(x) && is_near(y) {
+    for _ in 0..most.min(LONGEST) {
         let Some((x_more, y_more)) = cursor.svarint_pair() else {
             break;
         };
@@ -49,14 +63,9 @@ fn take_flat_run(cursor: &mut Cursor, most: u64, trail: &mut Trail) -> u64 {
         y += y_more;
         done += 1;
     }
+    cursor.place_is_within();
     trail.last[0] = x;
     trail.last[1] = y;
     trail.points += done as usize;
     done
-}
-
-/// Whether a short number may be added.
-#[inline(always)]
-fn is_near(number: i64) -> bool {
-    -(1 << 62) <= number && number <= 1 << 62
 }

@@ -15,7 +15,8 @@ use twkb_num::{Cursor, units};
 /// A sum this far from zero at most stays within 64 bits for so many short differences, of at most 2^27.
 const FAR: i64 = 1 << 62;
 
-const LONGEST: u64 = 1 << 34;
+/// No run that is summed up without tests has more points than this.
+pub const LONGEST: u64 = 1 << 34;
 
 impl<V: Visit> Points for V {
     ghost use Rattle.twkb_body.specs.Devices.Walk.{shown};
@@ -50,7 +51,7 @@ impl<V: Visit> Points for V {
 
 /// Whether a sum is at most so far from zero.
 #[inline(always)]
-fn is_close(sum: i64) -> bool
+pub fn is_close(sum: i64) -> bool
     ensures { IsTrue result ↔ ((neg_ℤ (pos (2 ^ 62)) ≤ℤ sum) × (sum ≤ℤ pos (2 ^ 62))) }
 {
     -FAR <= sum && sum <= FAR

@@ -1,5 +1,6 @@
 -- In reading order.
 pub mod Varint
 pub mod Cursor
+pub mod Runs
 pub mod Units
 pub mod Devices

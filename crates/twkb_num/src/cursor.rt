@@ -21,9 +21,11 @@ use std::marker::Model;
 /// the bytes that the numbers take. `None` of such a call tells one bit of bytes that aren't counted: the numbers at the place
 /// are too long for it, or too near the end. [`Cursor::pass_varints`] tells this bit of the place where it stops, and
 /// [`Cursor::pass_short_varints`] of all the numbers that it was asked for, of which there are at most 65,536.
+/// [`Cursor::pass_short_runs`] and [`Cursor::pass_counted_runs`] tell it of all the runs that they were asked for, which have at
+/// most 65,536 numbers, each run with its count before it. There are at most 65,536 runs.
 ///
 /// A contract sees it as a `Reading`. Each call takes constant space. It also takes constant time, since a varint has at most
-/// ten bytes; only [`Cursor::pass_varints`] takes time for each byte that it passes.
+/// ten bytes; only a call that passes many varints takes time for each byte that it looks at.
 #[derive(Drop)]
 pub struct Cursor<'a> {
     bytes: &'a [u8],
@@ -303,5 +305,6 @@ impl<'a> Cursor<'a> {
 }
 
 mod pairs;
+mod runs;
 #[cfg(test)]
 mod tests;

@@ -8,8 +8,8 @@
 //! - [`Cursor::svarint_pair`] reads two signed numbers from one word of eight bytes, if both are short.
 //!   [`Cursor::pass_varint`] passes one number by its end in such a word and [`Cursor::pass_pair`] two. They answer `None` if a
 //!   word doesn't tell. [`Cursor::pass_varints`] passes many, and answers how many words told.
-//! - [`Cursor::ahead`] makes a lookahead cursor. What it reads is counted only if the caller goes on with it. The quick pass of
-//!   an audit uses it, and nothing on the way of a scan.
+//! - [`Cursor::pass_short_varints`] passes many varints or none, and [`Cursor::pass_short_runs`] and
+//!   [`Cursor::pass_counted_runs`] do so with counts among them, as a line and a polygon have.
 //! - [`zigzag`] and [`unzigzag`] map signed numbers to unsigned ones and back.
 //! - [`units`] scales a coordinate of any precision to units of 10^-7, in which boxes and windows are compared.
 //!

@@ -1,5 +1,5 @@
-//! The parts of a body whose points no box has to hold, in the first reading. While numbers are short and points are few, no sum can
-//! leave 64 bits, so numbers are passed by their ends. Otherwise coordinates are summed up.
+//! Bodies that no box asks for, in the first reading. While numbers are short and points are few no sum can leave 64 bits, so
+//! numbers are passed by their ends. Otherwise coordinates are summed up.
 ghost use Rattle.std.specs.Prelude.{◌≡◌, ◌≤◌, IfOk, IfErr, IfSome, IfNone, OnErr};
 ghost use Rattle.twkb_head.specs.declared.kinds.Kind.TheVariants.{Point};
 ghost use Rattle.twkb_body.specs.Devices.Bare.{unchanged};
@@ -12,10 +12,13 @@ use crate::summed::Summed;
 use twkb_head::Kind;
 use twkb_num::Cursor;
 
-/// So many points, of numbers of seven bytes, have sums of less than 2^63.
+/// Up to this many points numbers of seven bytes, each at most 2^48 from zero, have sums within 64 bits.
 const MOST: u64 = 1 << 14;
 
-/// The parts of a body of so many axes.
+/// Up to this many lines are passed at once.
+const MOST_LINES: u64 = 1 << 16;
+
+/// Reads `count` parts of a kind, whose points have `axes` numbers, and answers how many points there are.
 // It isn't inlined, and is handed no header, so that none is set up where a box asks.
 #[inline(never)]
 pub fn take_unboxed(
@@ -43,13 +46,15 @@ pub fn take_bare_point(cursor: &mut Cursor) -> Result<usize, Doubt>
     ensures malformed { OnErr result (AreMalformed Point 2 1 cursor.old cursor.new) }
     ensures refused { IfErr result (λ doubt. doubt ≡ Refused) }
 {
+    cursor.place_is_within();
     match cursor.pass_pair() {
         Some(()) => Ok(1),
         None => take_summed(cursor, Kind::Point, 2, 1),
     }
 }
 
-/// The parts, by the ends of their numbers, or nothing.
+/// Passes the parts by the ends of their numbers, and answers how many points there are. It answers `None` and passes nothing
+/// if a number is too long, if there are too many, or if bytes are too few.
 #[inline(always)]
 fn pass_parts(cursor: &mut Cursor, kind: Kind, axes: usize, count: u64) -> Option<usize>
     requires some { 2 ≤ axes }
@@ -57,10 +62,25 @@ fn pass_parts(cursor: &mut Cursor, kind: Kind, axes: usize, count: u64) -> Optio
     ensures some { IfSome result (ReadParts unchanged kind axes count cursor.old cursor.new tt tt) }
     ensures none { IfNone result (cursor.new ≡ cursor.old) }
 {
-    None
+    cursor.place_is_within();
+    match kind {
+        Kind::Point | Kind::MultiPoint if count <= MOST => {
+            cursor.pass_short_varints(count * axes as u64)?;
+            Some(count as usize)
+        }
+        Kind::LineString | Kind::MultiLineString if count <= MOST_LINES => {
+            let points = cursor.pass_short_runs(count, axes as u64, MOST)?;
+            Some(points as usize)
+        }
+        Kind::Polygon if count == 1 => {
+            let points = cursor.pass_counted_runs(axes as u64, MOST)?;
+            Some(points as usize)
+        }
+        _ => None,
+    }
 }
 
-/// The parts, with their sums.
+/// Reads the parts as [`take_unboxed`] does, and sums up their coordinates.
 #[inline(never)]
 fn take_summed(cursor: &mut Cursor, kind: Kind, axes: usize, count: u64) -> Result<usize, Doubt>
     requires some { 2 ≤ axes }

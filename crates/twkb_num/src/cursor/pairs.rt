@@ -78,7 +78,7 @@ impl<'a> Cursor<'a> {
 
     // A copy, which is put in the place of the cursor, or dropped with what it read.
     #[inline(always)]
-    fn copied(&self) -> Cursor<'a>
+    pub(super) fn copied(&self) -> Cursor<'a>
         ensures { result ≡ self.now }
     {
         Cursor {

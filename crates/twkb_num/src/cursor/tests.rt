@@ -114,6 +114,84 @@ fn short_numbers_are_passed_together_or_not_at_all(rt: HostRuntime) {
     equal(&rt, cursor.read_count(), 4);
 }
 
+// The cursor is at the place, and has counted all bytes before it.
+fn stands_at(rt: &impl Abort, cursor: &Cursor, place: usize) {
+    equal(rt, cursor.place(), place);
+    equal(rt, cursor.read_count(), place as u64);
+}
+
+#[test]
+fn runs_are_passed_together_or_not_at_all(rt: HostRuntime) {
+    // Two pairs, none, and one, whose second number takes two bytes. Then nine groups are asked for, and seven bytes are left.
+    let bytes = [2, 1, 2, 3, 4, 0, 1, 5, 0x80, 6, 9, 1, 1, 1, 1, 1, 1, 1];
+    let mut cursor = Cursor::new(&bytes);
+    equal(&rt, cursor.pass_short_runs(3, 2, 2), None);
+    stands_at(&rt, &cursor, 0);
+    equal(&rt, cursor.pass_short_runs(3, 2, 3), Some(3));
+    stands_at(&rt, &cursor, 10);
+    equal(&rt, cursor.pass_short_runs(0, 2, 0), Some(0));
+    equal(&rt, cursor.pass_short_runs(1, 1, 8), None);
+    equal(&rt, cursor.pass_short_runs(1, 1, 16_384), None);
+    equal(&rt, cursor.pass_short_runs(65_536, 4, 16_384), None);
+    stands_at(&rt, &cursor, 10);
+    // Where there are no numbers in a group, counts alone are passed.
+    equal(&rt, cursor.pass_short_runs(7, 0, 15), Some(15));
+    stands_at(&rt, &cursor, 17);
+    equal(&rt, cursor.pass_short_runs(1, 0, 16_384), Some(1));
+    equal(&rt, cursor.pass_short_runs(1, 0, 16_384), None);
+    stands_at(&rt, &cursor, 18);
+}
+
+#[test]
+fn a_run_with_a_long_number_is_not_passed(rt: HostRuntime) {
+    // A number of eight bytes, behind one of one byte.
+    let bytes = [
+        2, 1, 0x81, 0x81, 0x81, 0x81, 0x81, 0x81, 0x81, 1, 1, 1, 1, 1, 1, 1, 1, 1,
+    ];
+    let mut cursor = Cursor::new(&bytes);
+    equal(&rt, cursor.pass_short_runs(1, 1, 16_384), None);
+    stands_at(&rt, &cursor, 0);
+    equal(&rt, cursor.pass_counted_runs(0, 16_384), None);
+    stands_at(&rt, &cursor, 0);
+    // One run of one number, which is short.
+    let mut cursor = Cursor::new(&[1, 1, 3, 1, 1, 1, 1, 1, 1, 1]);
+    equal(&rt, cursor.pass_counted_runs(1, 16_384), Some(1));
+    stands_at(&rt, &cursor, 3);
+}
+
+#[test]
+fn counted_runs_are_passed_together_or_not_at_all(rt: HostRuntime) {
+    // Two runs, of one number and of two. Then one of 128 groups of nothing, and last a count of runs that is cut short.
+    let bytes = [2, 1, 0x80, 1, 2, 3, 4, 1, 0x80, 1, 1, 1, 1, 1, 1, 0x81];
+    let mut cursor = Cursor::new(&bytes);
+    equal(&rt, cursor.pass_counted_runs(1, 2), None);
+    stands_at(&rt, &cursor, 0);
+    equal(&rt, cursor.pass_counted_runs(1, 3), Some(3));
+    stands_at(&rt, &cursor, 7);
+    equal(&rt, cursor.pass_counted_runs(0, 16_384), Some(128));
+    stands_at(&rt, &cursor, 10);
+    cursor.go_to(15);
+    equal(&rt, cursor.pass_counted_runs(1, 16_384), None);
+    equal(&rt, cursor.place(), 15);
+    equal(&rt, cursor.read_count(), 10);
+}
+
+#[test]
+fn counted_runs_are_few(rt: HostRuntime) -> Result<(), Fail> {
+    // The count, with a low byte that tells 65,536 runs or one more, and behind it runs of nothing.
+    for (low, answer, place) in [(0x80, Some(0), 65_539), (0x81, None, 0)] {
+        let mut bytes = Vec::new(rt.alloc());
+        bytes.extend_from_slice(&[low, 0x80, 0x04])?;
+        for _ in 0..65_600 {
+            bytes.push(0)?;
+        }
+        let mut cursor = Cursor::new(&bytes);
+        equal(&rt, cursor.pass_counted_runs(2, 16_384), answer);
+        stands_at(&rt, &cursor, place);
+    }
+    Ok(())
+}
+
 // A number of ten bytes, and behind it one of as many: from place k on the first has 10 - k bytes.
 const NUMBERS: [u8; 28] = [
     0x81, 0x82, 0x83, 0x84, 0x85, 0x86, 0x87, 0x88, 0x89, 0x01, 0x91, 0x92, 0x93, 0x94, 0x95, 0x96,

@@ -1,0 +1,32 @@
+-- Each turn passes a run more.
+use Rattle.std.proofs.Common.{ℕ, refl, subst, arith}
+use Rattle.twkb_num.specs.Cursor.{Reading, IsMoved}
+use Rattle.twkb_num.specs.Runs.{PassesRuns}
+use Rattle.twkb_num.proofs.CursorLemmas.{IsMoved-here, IsMoved-after}
+use Rattle.twkb_num.proofs.RunLemmas.{one_run_more}
+use Rattle.twkb_num.proofs.cursor.Cursor.pass_short_runs.Goals as goal
+
+pub loop-init : goal.loop-init
+loop-init c = record {
+  runs = (c.copied-ahead.ensures, refl);
+  few = omega arith;
+  moved = subst (λ (r : Reading). IsMoved r c.copied-ahead.result) c.copied-ahead.ensures (IsMoved-here c.copied-ahead.result c.place_is_within.ensures);
+}
+
+pub loop-preserved : goal.loop-preserved
+loop-preserved c =
+    let numbers = c.in_ok-pass_short_varints.ensures in
+    record {
+      runs = one_run_more c.args.each c.loop.counter c.loop.groups c.in-Ok.count c.args.self.now c.loop.ahead c.uvarint.new.self c.pass_short_varints.new.self c.loop.invariant.runs c.in-Ok.ensures.ok c.in-Ok.ensures.moved numbers.some numbers.moved;
+      few = omega arith;
+      moved = IsMoved-after _ _ _ (IsMoved-after _ _ _ c.loop.invariant.moved c.in-Ok.ensures.moved) numbers.moved;
+    }
+
+pub returns-clause-some : goal.returns-clause-some
+returns-clause-some c = subst (λ (n : ℕ). PassesRuns c.args.each n c.args.self.now c.loop.ahead c.loop.groups) (omega arith) c.loop.invariant.runs
+
+pub returns-clause-few : goal.returns-clause-few
+returns-clause-few c = c.loop.invariant.few
+
+pub returns-clause-moved : goal.returns-clause-moved
+returns-clause-moved c = c.loop.invariant.moved

@@ -1,0 +1,70 @@
+//! Runs of varints, each behind a count of its own, passed by their ends.
+ghost use Rattle.std.specs.Prelude.{◌≡◌, ◌≤◌, ◌^◌, IfSome, IfNone, OnSome};
+ghost use Rattle.twkb_num.specs.Cursor.{IsMoved};
+ghost use Rattle.twkb_num.specs.Runs.{PassesRuns, PassesCountedRuns};
+
+use super::Cursor;
+
+/// More runs than this aren't passed ahead.
+const MOST_RUNS: u64 = 1 << 16;
+
+impl<'a> Cursor<'a> {
+    /// Passes `runs` runs of varints, or none of them. A run is a count, and behind it that many groups of `each` varints.
+    /// Answers how many groups there were in all.
+    ///
+    /// It passes nothing and answers `None` if there are more than `most` groups, a count can't be read, or
+    /// [`Cursor::pass_short_varints`] doesn't pass the varints of a run. All bytes that it passes are counted. `None` tells this
+    /// one bit of bytes that aren't counted: at most `runs` counts, and `most` groups of short varints.
+    #[inline(always)]
+    pub fn pass_short_runs(&mut self, runs: u64, each: u64, most: u64) -> Option<u64>
+        requires runs { runs ≤ 2 ^ 16 }
+        requires each { each ≤ 4 }
+        requires most { most ≤ 2 ^ 14 }
+        ensures some { IfSome result (PassesRuns each runs self.old self.new) }
+        ensures few { IfSome result (λ groups. groups ≤ most) }
+        ensures moved { OnSome result (IsMoved self.old self.new) }
+        ensures none { IfNone result (self.new ≡ self.old) }
+    {
+        let mut ahead = self.copied();
+        ahead.place_is_within();
+        let mut groups = 0;
+        for _ in 0..runs {
+            let Ok(count) = ahead.uvarint() else {
+                return None;
+            };
+            if most - groups < count {
+                return None;
+            }
+            ahead.pass_short_varints(count * each)?;
+            groups += count;
+        }
+        *self = ahead;
+        Some(groups)
+    }
+
+    /// Passes a count of runs, and then that many runs as [`Cursor::pass_short_runs`] does, or nothing. Answers how many groups
+    /// there were in all.
+    ///
+    /// It answers `None` for more than 65,536 runs, too. `None` tells one bit of bytes that aren't counted: those of the count,
+    /// and those of which [`Cursor::pass_short_runs`] tells it.
+    #[inline(always)]
+    pub fn pass_counted_runs(&mut self, each: u64, most: u64) -> Option<u64>
+        requires each { each ≤ 4 }
+        requires most { most ≤ 2 ^ 14 }
+        ensures some { IfSome result (PassesCountedRuns each self.old self.new) }
+        ensures few { IfSome result (λ groups. groups ≤ most) }
+        ensures moved { OnSome result (IsMoved self.old self.new) }
+        ensures none { IfNone result (self.new ≡ self.old) }
+    {
+        let mut ahead = self.copied();
+        let Ok(runs) = ahead.uvarint() else {
+            return None;
+        };
+        if MOST_RUNS < runs {
+            return None;
+        }
+        let groups = ahead.pass_short_runs(runs, each, most)?;
+        *self = ahead;
+        Some(groups)
+    }
+}
