@@ -91,7 +91,7 @@ unfolding list_at
 keeps_list ids r =
     keeps_then (spanned r (number_at r)) (λ n a. viewed (λ list. (n, list)) (spanned a (optional_at ids (signeds_at n.0) a)))
     (λ n a. keeps_viewed (λ list. (n, list)) (spanned a (optional_at ids (signeds_at n.0) a)) ∙ keeps_spanned a (optional_at ids (signeds_at n.0) a)
-        ∙ keeps_optional ids (signeds_at n.0) (keeps_many n.0 (λ (s z : ℤ). s) (λ (s : ℤ). signed_at) (pos 0) (λ s. keeps_signed)) a)
+    ∙ keeps_optional ids (signeds_at n.0) (keeps_many n.0 (λ (s z : ℤ). s) (λ (s : ℤ). signed_at) (pos 0) (λ s. keeps_signed)) a)
     ∙ keeps_spanned r (number_at r) ∙ keeps_number r
 
 pub keeps_count : (multi ids : Bool) → Keeps (count_at multi ids)

@@ -289,8 +289,7 @@ module _ (head : Head) (depth : ℕ) (above : Option Frame) (r mid : Reading) (s
   unfolding claims
   each_true body new all =
       let own = all_left (sizes body new ++ (boxes body new ++ lists body new)) (below body new) all in
-      let more = all_right (sizes body new) (boxes body new ++ lists body new) own in
-      (
+      let more = all_right (sizes body new) (boxes body new ++ lists body new) own in (
         all_left (sizes body new) (boxes body new ++ lists body new) own,
         all_left (boxes body new) (lists body new) more,
         all_right (boxes body new) (lists body new) more,
@@ -300,8 +299,7 @@ module _ (head : Head) (depth : ℕ) (above : Option Frame) (r mid : Reading) (s
   inside_true : (body : Body) (new : Reading) → All IsTrueClaim (claims (made body new) r.place) → IsTrueInside body mid.place
   inside_true body new all =
       let place : r.place + (mid.place - r.place) ≡ mid.place = omega (arith, moved.ahead) in
-      let each = each_true body new all in
-      (
+      let each = each_true body new all in (
         ids_true body.ids each.2,
         subst (λ (p : ℕ). All IsTrueClaim (member_claims body.members (p + body.list))) place each.3,
       )

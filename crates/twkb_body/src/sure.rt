@@ -201,11 +201,7 @@ fn take_empty(cursor: &mut Cursor, depth: u8, begun: Begun) -> Result<usize, Dou
 /// The frame of a geometry with Z or M. One with neither, for all its extended dimensions byte, has none.
 // Points of X and Y are read in one place, which is inlined into its caller.
 #[inline(always)]
-fn further_frame(
-    above: &Option<Frame>,
-    head: &Head,
-    own: &Option<RawBox>,
-) -> Option<Option<Frame>>
+fn further_frame(above: &Option<Frame>, head: &Head, own: &Option<RawBox>) -> Option<Option<Frame>>
     requires near { IfSome above.now IsNearFrame }
     requires precisions { HasPrecisions head.now }
     ensures further { OnSome result (has_further head.now.z head.now.m ≡ true) }

@@ -2,5 +2,5 @@
 use Rattle.std.proofs.Common.{rules}
 use Rattle.twkb_body.proofs.auditing.audit_lent.Goals as goal
 
-pub returns-in-None-clause-refused : goal.returns-in-None-clause-refused
-returns-in-None-clause-refused c = search rules
+pub returns-clause-refused : goal.returns-clause-refused
+returns-clause-refused c = search rules

@@ -28,9 +28,9 @@ use Rattle.twkb_body.proofs.sure.+take_flat.Goals as goal
 
 pub take_flat-returns-in_default : goal.take_flat-returns-in_default
 take_flat-returns-in_default g t c = λ before sound begins. (
-      ap (λ (r : Reading). r.bytes) (c.in_default.ensures.read c.args.depth before sound begins).1,
-      rest_refutes c.in_default.field-0 c.args.depth c.args.above.now before c.requires.shallowest c.requires.deepest sound (c.in_default.ensures.exact c.args.depth before sound begins),
-    )
+  ap (λ (r : Reading). r.bytes) (c.in_default.ensures.read c.args.depth before sound begins).1,
+  rest_refutes c.in_default.field-0 c.args.depth c.args.above.now before c.requires.shallowest c.requires.deepest sound (c.in_default.ensures.exact c.args.depth before sound begins),
+)
 
 pub take_flat-take_flat_body-requires : goal.take_flat-take_flat_body-requires
 take_flat-take_flat_body-requires g t c κs within =
@@ -67,9 +67,9 @@ take_flat-returns g t c = λ before sound begins.
 
 pub take_further-returns-in_default : goal.take_further-returns-in_default
 take_further-returns-in_default g t c = λ before sound begins. (
-      ap (λ (r : Reading). r.bytes) (c.in_default.ensures.read c.args.depth before sound begins).1,
-      rest_refutes c.in_default.field-0 c.args.depth c.args.above.now before c.requires.shallowest c.requires.deepest sound (c.in_default.ensures.exact c.args.depth before sound begins),
-    )
+  ap (λ (r : Reading). r.bytes) (c.in_default.ensures.read c.args.depth before sound begins).1,
+  rest_refutes c.in_default.field-0 c.args.depth c.args.above.now before c.requires.shallowest c.requires.deepest sound (c.in_default.ensures.exact c.args.depth before sound begins),
+)
 
 pub take_further-take_further_body-requires : goal.take_further-take_further_body-requires
 take_further-take_further_body-requires g t c κs within =
@@ -163,10 +163,11 @@ take_members-returns-in_default g t c =
     let under : deepest - c.args.depth ≡ suc inner = omega (arith, c.requires.below) in
     let list = c.in_ok-list.ensures in
     let listed : list_at head.ids c.args.cursor.now ≡ (Ok list.0, c.take_list.new.cursor) = ap (λ (b : Bool). list_at b c.args.cursor.now) ids ∙ list.1 in
-    let l = c.loop.invariant in
-    (c.in_default.ensures.moved.bytes ∙ member_bytes inner head.ids c.args.cursor.now c.take_list.new.cursor c.loop.cursor list.0 c.loop.counter l.loop.front c.place_is_within.ensures listed l.loop.so_far,
-    members_refute head (deepest - c.args.depth) inner c.args.cursor.now c.args.frame.now under full many c.take_list.new.cursor list.0 c.in_ok-list.list listed list.2 c.loop.counter c.loop.vertices c.loop.cursor c.loop-test.true c.loop.invariant
-    (no_header_refutes (c.args.depth + 1) c.args.frame.now c.loop.cursor (omega arith) c.requires.below c.place_is_within-in-loop.ensures (λ starts. cc (c.in_default.ensures.none starts))))
+    let l = c.loop.invariant in (
+      c.in_default.ensures.moved.bytes ∙ member_bytes inner head.ids c.args.cursor.now c.take_list.new.cursor c.loop.cursor list.0 c.loop.counter l.loop.front c.place_is_within.ensures listed l.loop.so_far,
+      members_refute head (deepest - c.args.depth) inner c.args.cursor.now c.args.frame.now under full many c.take_list.new.cursor list.0 c.in_ok-list.list listed list.2 c.loop.counter c.loop.vertices c.loop.cursor c.loop-test.true c.loop.invariant
+          (no_header_refutes (c.args.depth + 1) c.args.frame.now c.loop.cursor (omega arith) c.requires.below c.place_is_within-in-loop.ensures (λ starts. cc (c.in_default.ensures.none starts))),
+    )
 
 pub take_members-take_flat-requires : goal.take_members-take_flat-requires
 take_members-take_flat-requires g t c κs within =

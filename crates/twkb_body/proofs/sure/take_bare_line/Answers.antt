@@ -12,8 +12,7 @@ use Rattle.twkb_body.proofs.sure.take_bare_line.Goals as goal
 
 pub returns-in_default : goal.returns-in_default
 returns-in_default c = λ before sound begins.
-    let begun = announced_begins c.args.begun c.announcing.result 1 before c.args.cursor.now 0 c.requires.announced refl c.announcing.ensures begins in
-    (
+    let begun = announced_begins c.args.begun c.announcing.result 1 before c.args.cursor.now 0 c.requires.announced refl c.announcing.ensures begins in (
       ap (λ (r : Reading). r.bytes) (c.in_default.ensures.read 1 before sound begun).1,
       rest_refutes c.in_default.field-0 1 None before (omega arith) (omega arith) sound (c.in_default.ensures.exact 1 before sound begun),
     )
