@@ -105,7 +105,6 @@ demo: build
 # The tests run the program that rt ci builds, and use its libraries, so that all is proved once. Its last line comes last.
 test: SHELL = bash
 test: kit
-	python3 tests/looks_ahead.py
 	python3 tests/trusted.py --strict
 	python3 tests/trusted_cases.py
 	python3 tests/borders.py
