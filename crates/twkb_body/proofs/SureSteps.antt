@@ -1,4 +1,4 @@
--- The steps of the quick pass: what holds of all points holds of the box, and nothing of the geometry is false.
+-- The steps of the first reading: what holds of all points holds of the box, and nothing of the geometry is false.
 use Rattle.std.proofs.Common.{◌≡◌, ℕ, zero, suc, ◌+◌, ◌-◌, ◌/◌, ◌%◌, ◌^◌, ◌<◌, ◌≤◌, ◌==◌, if◌then◌else◌, nat_lt, Bool, true, false, not, List, [], ◌∷◌, ◌++◌, map, fold, ℤ, pos, neg_ℤ, ◌+ℤ◌, ◌-ℤ◌, unsigned_abs, Option, Some, None, option_map, IfSome, All, Ok, refl, sym, ap, ap₂, subst, ◌∙◌, arith}
 use Rattle.std.proofs.lemmas.Bool.{lt-ltb, eq-eqb, eqb-true}
 use Rattle.std.proofs.lemmas.Int.{ints}

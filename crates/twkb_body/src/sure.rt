@@ -1,4 +1,5 @@
-//! The first reading of a blob, which certifies it or ends at what is malformed or false.
+//! The first reading of a blob, which certifies it or ends in a doubt. It hands down the innermost box, and hands up the number of
+//! vertices.
 ghost use Rattle.std.specs.Prelude.{◌≡◌, ◌≤◌, ◌+◌, ◌-◌, ◌%◌, ℕ, true, false, Option, None, Some, option_map, is_some, IfSome, OnSome, IfOk, IfErr, Ok};
 ghost use Rattle.twkb_num.specs.Cursor.{Reading, IsSound};
 ghost use Rattle.twkb_num.specs.Units.{IsPrecision};
@@ -32,7 +33,8 @@ use twkb_head::{
 };
 use twkb_num::Cursor;
 
-/// How many vertices the blob at the place has, and where it ends, if it is certified.
+/// Reads the blob at the place, and answers how many vertices it has and where it ends. A doubt says that it isn't certified,
+/// or that a list of ids lacks memory.
 // Where a point ends is known by its size, so that the next blob needn't wait for the ends of its numbers.
 #[inline(always)]
 pub fn take_blob<R: IdRoom>(room: &mut R, cursor: &mut Cursor) -> Result<(usize, usize), Doubt>
@@ -92,7 +94,7 @@ fn take_bare_line(cursor: &mut Cursor, begun: Begun) -> Result<usize, Doubt>
     judged(&head, cursor.place(), vertices)
 }
 
-/// The geometry at `depth` that begins with these two bytes, which were passed.
+/// Reads a geometry at `depth` after its first two bytes. The frame above has to hold its points.
 #[cycle(take_flat)]
 #[inline(never)]
 fn take_flat<R: IdRoom>(
@@ -138,7 +140,7 @@ fn take_flat<R: IdRoom>(
     judged(&head, cursor.place(), vertices)
 }
 
-/// A geometry as in [`take_flat`] that has an extended dimensions byte, or is empty.
+/// Reads a geometry as [`take_flat`] does, which has an extended dimensions byte or is empty.
 #[cycle(take_flat)]
 #[inline(never)]
 fn take_further<R: IdRoom>(
@@ -198,7 +200,7 @@ fn take_empty(cursor: &mut Cursor, depth: u8, begun: Begun) -> Result<usize, Dou
     judged(&head, cursor.place(), 0)
 }
 
-/// The frame of a geometry with Z or M. One with neither, for all its extended dimensions byte, has none.
+/// The frame of a geometry with Z or M. `None` if it can't be told, or if the extended dimensions byte announces neither.
 // Points of X and Y are read in one place, which is inlined into its caller.
 #[inline(always)]
 fn further_frame(above: &Option<Frame>, head: &Head, own: &Option<RawBox>) -> Option<Option<Frame>>
@@ -213,7 +215,7 @@ fn further_frame(above: &Option<Frame>, head: &Head, own: &Option<RawBox>) -> Op
     Frame::under(above, head, own)
 }
 
-/// A geometry of so many vertices that ends there, if its size is true.
+/// The number of vertices of a geometry that ends at `stop`, if its size is true.
 #[inline(always)]
 fn judged(head: &Head, stop: usize, vertices: usize) -> Result<usize, Doubt>
     requires { IfSome head.now.size (λ size. size.after ≤ stop) }
@@ -258,7 +260,7 @@ fn flat_ranges(bounds: &Option<RawBox>) -> (RawRange, RawRange)
     }
 }
 
-/// A geometry of X and Y whose vertices no frame can hold.
+/// Reads the body of a geometry of X and Y as [`take_apart`] does.
 #[inline(never)]
 fn take_apart_flat<R: IdRoom>(
     room: &mut R,
@@ -291,8 +293,8 @@ fn take_apart_flat<R: IdRoom>(
     )
 }
 
-/// The body of a geometry whose vertices no frame can hold, with its extent; the frame above has to hold that. Its size isn't
-/// judged, and nobody asks where its claims stand.
+/// Reads the body of a geometry whose frame can't be told, as the exact audit does, with its extent. The frame above has to hold
+/// this extent. The caller judges the size. Only the exact audit names places of claims, so the header has zeros for them.
 #[inline(never)]
 fn take_apart<R: IdRoom>(
     room: &mut R,
@@ -398,7 +400,7 @@ fn take_further_body<R: IdRoom>(
     }
 }
 
-/// The members of a collection that stands at `depth`.
+/// The members of a collection at `depth`.
 #[cycle(take_flat)]
 #[inline(always)]
 fn take_members<R: IdRoom>(

@@ -1,5 +1,5 @@
 -- Devices of proofs: nothing public names them.
--- The quick pass: what it is sure of.
+-- The first reading: what it certifies, and what it refuses.
 use Rattle.std.specs.Prelude.{◌≡◌, ◌≢◌, ℕ, ◌+◌, ◌-◌, ◌≤◌, ◌+ℤ◌, ◌≤ℤ◌, Bool, false, List, [], ◌++◌, map, Option, Some, None, Result, Ok, Err, All, AllPairs, IfSome, true, ⊤, is_some, ◌||◌, ◌⊎◌, option_map, ℤ}
 use Rattle.twkb_num.specs.Cursor.{Reading, rest}
 use Rattle.twkb_num.specs.Units.{IsPrecision}
