@@ -1,7 +1,7 @@
 //! The first reading of a blob, which certifies it or ends in a doubt. It hands down the innermost box, and hands up the number of
 //! vertices.
-ghost use Rattle.std.specs.Prelude.{◌≡◌, ◌≤◌, ◌+◌, ◌-◌, ◌%◌, ℕ, true, false, Option, None, Some, option_map, is_some, IfSome, OnSome, IfOk, IfErr, Ok};
-ghost use Rattle.twkb_num.specs.Cursor.{Reading, IsSound};
+ghost use Rattle.std.specs.Prelude.{◌≡◌, ◌≤◌, ◌+◌, ◌-◌, ◌%◌, ℕ, [], ◌∷◌, true, false, Option, None, Some, option_map, is_some, IfSome, OnSome, IfOk, IfErr, Ok};
+ghost use Rattle.twkb_num.specs.Cursor.{Reading, passed, IsMoved, IsSound};
 ghost use Rattle.twkb_num.specs.Units.{IsPrecision};
 ghost use Rattle.twkb_head.specs.BegunHeader.{deepest, is_collection, IsAllowedAt};
 ghost use Rattle.twkb_head.specs.Header.{has_bit};
@@ -29,7 +29,7 @@ use crate::lists::take_list;
 use crate::rooms::IdRoom;
 use crate::seen::Seen;
 use twkb_head::{
-    Axes, Begun, BoxField, Head, Kind, RawBox, RawRange, SizeField, begin_head, take_rest,
+    Axes, Begun, BoxField, Head, Kind, RawBox, RawRange, SizeField, begun_by, take_rest,
 };
 use twkb_num::Cursor;
 
@@ -42,7 +42,10 @@ pub fn take_blob<R: IdRoom>(room: &mut R, cursor: &mut Cursor) -> Result<(usize,
     ensures stop { IfOk result (λ both. both.1 ≡ cursor.new.place) }
 {
     cursor.place_is_within();
-    let Some(begun) = begin_head(cursor, 1) else {
+    let Some((first, metadata)) = cursor.two_bytes() else {
+        return Err(Doubt::Refused);
+    };
+    let Some(begun) = begun_by(cursor, 1, first, metadata) else {
         return Err(Doubt::Refused);
     };
     if begun.is_sized_point() {
@@ -51,7 +54,7 @@ pub fn take_blob<R: IdRoom>(room: &mut R, cursor: &mut Cursor) -> Result<(usize,
     let vertices = if begun.is_bare_line() {
         take_bare_line(cursor, begun)?
     } else {
-        take_flat(room, cursor, 1, &None, begun)?
+        take_flat(room, cursor, 1, &None, first, metadata)?
     };
     Ok((vertices, cursor.place()))
 }
@@ -102,18 +105,24 @@ fn take_flat<R: IdRoom>(
     cursor: &mut Cursor,
     depth: u8,
     above: &Option<Frame>,
-    begun: Begun,
+    first: u8,
+    metadata: u8,
 ) -> Result<usize, Doubt>
     requires shallowest { 1 ≤ depth }
     requires deepest { depth ≤ deepest }
-    requires xy { IsPrecision begun.xy }
-    requires before { (before : Reading) × IsSound before × BeginsHead begun depth before cursor.old }
+    requires read { 2 ≤ cursor.old.place }
+    requires before { (before : Reading) × IsSound before × IsMoved before cursor.old
+        × (passed before cursor.old ≡ first ∷ metadata ∷ []) }
     requires near { IfSome above.now IsNearFrame }
-    ensures { (before : Reading) → IsSound before → BeginsHead begun depth before cursor.old
+    ensures { (before : Reading) → IsSound before → IsMoved before cursor.old
+        → passed before cursor.old ≡ first ∷ metadata ∷ []
         → Certifies depth above.now before result cursor.new }
 {
+    let Some(begun) = begun_by(cursor, depth, first, metadata) else {
+        return Err(Doubt::Refused);
+    };
     if !begun.is_flat() || begun.is_empty() {
-        return take_further(room, cursor, depth, above, begun);
+        return take_further(room, cursor, depth, above, first, metadata);
     }
     let Ok(raw) = take_rest(cursor, begun) else {
         return Err(Doubt::Refused);
@@ -148,18 +157,24 @@ fn take_further<R: IdRoom>(
     cursor: &mut Cursor,
     depth: u8,
     above: &Option<Frame>,
-    begun: Begun,
+    first: u8,
+    metadata: u8,
 ) -> Result<usize, Doubt>
     requires shallowest { 1 ≤ depth }
     requires deepest { depth ≤ deepest }
-    requires xy { IsPrecision begun.xy }
-    requires before { (before : Reading) × IsSound before × BeginsHead begun depth before cursor.old }
+    requires read { 2 ≤ cursor.old.place }
+    requires before { (before : Reading) × IsSound before × IsMoved before cursor.old
+        × (passed before cursor.old ≡ first ∷ metadata ∷ []) }
     requires near { IfSome above.now IsNearFrame }
-    ensures { (before : Reading) → IsSound before → BeginsHead begun depth before cursor.old
+    ensures { (before : Reading) → IsSound before → IsMoved before cursor.old
+        → passed before cursor.old ≡ first ∷ metadata ∷ []
         → Certifies depth above.now before result cursor.new }
 {
+    let Some(begun) = begun_by(cursor, depth, first, metadata) else {
+        return Err(Doubt::Refused);
+    };
     if begun.is_empty() {
-        return take_empty(cursor, depth, begun);
+        return take_empty(cursor, depth, first, metadata);
     }
     let Ok(raw) = take_rest(cursor, begun) else {
         return Err(Doubt::Refused);
@@ -184,15 +199,25 @@ fn take_further<R: IdRoom>(
 
 /// An empty geometry at `depth`, after its first two bytes.
 #[inline(never)]
-fn take_empty(cursor: &mut Cursor, depth: u8, begun: Begun) -> Result<usize, Doubt>
+fn take_empty(
+    cursor: &mut Cursor,
+    depth: u8,
+    first: u8,
+    metadata: u8,
+) -> Result<usize, Doubt>
     requires shallowest { 1 ≤ depth }
     requires deepest { depth ≤ deepest }
-    requires xy { IsPrecision begun.xy }
-    requires before { (before : Reading) × IsSound before × BeginsHead begun depth before cursor.old }
-    requires empty { has_bit begun.metadata 16 ≡ true }
-    ensures { (above : Option FrameOf) (before : Reading) → IsSound before → BeginsHead begun depth before cursor.old
+    requires read { 2 ≤ cursor.old.place }
+    requires before { (before : Reading) × IsSound before × IsMoved before cursor.old
+        × (passed before cursor.old ≡ first ∷ metadata ∷ []) }
+    requires empty { has_bit metadata 16 ≡ true }
+    ensures { (above : Option FrameOf) (before : Reading) → IsSound before → IsMoved before cursor.old
+        → passed before cursor.old ≡ first ∷ metadata ∷ []
         → Certifies depth above before result cursor.new }
 {
+    let Some(begun) = begun_by(cursor, depth, first, metadata) else {
+        return Err(Doubt::Refused);
+    };
     let Ok(raw) = take_rest(cursor, begun) else {
         return Err(Doubt::Refused);
     };
@@ -426,10 +451,10 @@ fn take_members<R: IdRoom>(
     let mut vertices = 0;
     for _ in 0..list.count {
         cursor.place_is_within();
-        let Some(begun) = begin_head(cursor, depth + 1) else {
+        let Some((first, metadata)) = cursor.two_bytes() else {
             return Err(Doubt::Refused);
         };
-        let member = take_flat(room, cursor, depth + 1, &below, begun)?;
+        let member = take_flat(room, cursor, depth + 1, &below, first, metadata)?;
         cursor.place_is_within();
         vertices += member;
     }

@@ -207,6 +207,7 @@ pub fn begun_by(cursor: &Cursor, depth: u8, first: u8, metadata: u8) -> Option<B
     ensures none { (before : Reading) → IsSound before → IsMoved before cursor.now
         → passed before cursor.now ≡ first ∷ metadata ∷ [] → StartsWithHeader depth (rest before) → IsSome result }
     ensures xy { IfSome result (λ begun. IsPrecision begun.xy) }
+    ensures metadata { IfSome result (λ begun. begun.metadata ≡ metadata) }
 {
     let start = cursor.place() - 2;
     let Ok(kind) = kind_at(first, depth) else {
