@@ -199,12 +199,7 @@ fn take_further<R: IdRoom>(
 
 /// An empty geometry at `depth`, after its first two bytes.
 #[inline(never)]
-fn take_empty(
-    cursor: &mut Cursor,
-    depth: u8,
-    first: u8,
-    metadata: u8,
-) -> Result<usize, Doubt>
+fn take_empty(cursor: &mut Cursor, depth: u8, first: u8, metadata: u8) -> Result<usize, Doubt>
     requires shallowest { 1 ≤ depth }
     requires deepest { depth ≤ deepest }
     requires read { 2 ≤ cursor.old.place }

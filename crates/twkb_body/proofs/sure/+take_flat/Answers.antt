@@ -1,5 +1,5 @@
 -- The first reading of a geometry and that of members, each by the other: both ways.
-use Rattle.std.proofs.Common.{rules, ◌≡◌, ◌≤◌, ◌+◌, ◌-◌, ℕ, suc, Bool, true, false, [], ◌∷◌, Option, None, option_map, is_some, Ok, refl, sym, ap, subst, ◌∙◌, arith}
+use Rattle.std.proofs.Common.{rules, ◌≡◌, ◌≤◌, ◌+◌, ◌-◌, ℕ, suc, Bool, false, [], ◌∷◌, Option, None, option_map, is_some, Ok, refl, sym, ap, subst, ◌∙◌, arith}
 use Rattle.std.proofs.lemmas.Int.{ints}
 use Rattle.std.proofs.lemmas.Result.{err_from_is_err_and}
 use Rattle.std.specs.Int.{w8}
@@ -11,7 +11,7 @@ use Rattle.twkb_head.proofs.HeadSteps.{two_back}
 use Rattle.twkb_head.specs.BegunHeader.{deepest, is_collection, IsAllowedAt}
 use Rattle.twkb_head.specs.Shared.Reader.{Fails}
 use Rattle.twkb_head.specs.Header.{has_bit}
-use Rattle.twkb_head.specs.Raw.{head_said, boxless, flat_box, BeginsHead}
+use Rattle.twkb_head.specs.Raw.{head_said, flat_box}
 use Rattle.twkb_head.specs.declared.header.Head.{Head}
 use Rattle.twkb_head.specs.declared.raw.RawBox.{RawBox}
 use Rattle.twkb_body.specs.Audited.{HasLongList}
@@ -21,7 +21,6 @@ use Rattle.twkb_body.specs.Devices.IdLists.{HasManyIdsAfterCount}
 use Rattle.twkb_body.specs.Devices.Stops.{WantsIn, own_ids, member_ids}
 use Rattle.twkb_body.specs.Devices.Sure.{IsJudged, IsRefuted, IsRefutedBody}
 use Rattle.twkb_body.specs.Devices.Walk.{HasPrecisions}
-use Rattle.twkb_body.proofs.HeadFacts.{head_size}
 use Rattle.twkb_body.proofs.Keeping.{keeps_list, read_keeps}
 use Rattle.twkb_body.proofs.MemberSteps.{member_bytes}
 use Rattle.twkb_body.proofs.SureSteps.{sure_begins, sure_goes_on, members_sure}
@@ -31,9 +30,9 @@ use Rattle.twkb_body.proofs.sure.+take_flat.Goals as goal
 pub take_flat-returns-in_default-take_rest : goal.take_flat-returns-in_default-take_rest
 take_flat-returns-in_default-take_rest g t c = λ before sound moved two.
     let begins = c.in-Some.ensures.some before sound moved two in (
-  ap (λ (r : Reading). r.bytes) (c.in_default-take_rest.ensures.read c.args.depth before sound begins).1,
-  rest_refutes c.in_default-take_rest.field-0 c.args.depth c.args.above.now before c.requires.shallowest c.requires.deepest sound (c.in_default-take_rest.ensures.exact c.args.depth before sound begins),
-)
+      ap (λ (r : Reading). r.bytes) (c.in_default-take_rest.ensures.read c.args.depth before sound begins).1,
+      rest_refutes c.in_default-take_rest.field-0 c.args.depth c.args.above.now before c.requires.shallowest c.requires.deepest sound (c.in_default-take_rest.ensures.exact c.args.depth before sound begins),
+    )
 
 pub take_flat-returns-in_default : goal.take_flat-returns-in_default
 take_flat-returns-in_default g t c = λ before sound moved two.
@@ -77,9 +76,9 @@ take_flat-returns g t c = λ before sound moved two.
 pub take_further-returns-in_default-take_rest : goal.take_further-returns-in_default-take_rest
 take_further-returns-in_default-take_rest g t c = λ before sound moved two.
     let begins = c.in-Some.ensures.some before sound moved two in (
-  ap (λ (r : Reading). r.bytes) (c.in_default-take_rest.ensures.read c.args.depth before sound begins).1,
-  rest_refutes c.in_default-take_rest.field-0 c.args.depth c.args.above.now before c.requires.shallowest c.requires.deepest sound (c.in_default-take_rest.ensures.exact c.args.depth before sound begins),
-)
+      ap (λ (r : Reading). r.bytes) (c.in_default-take_rest.ensures.read c.args.depth before sound begins).1,
+      rest_refutes c.in_default-take_rest.field-0 c.args.depth c.args.above.now before c.requires.shallowest c.requires.deepest sound (c.in_default-take_rest.ensures.exact c.args.depth before sound begins),
+    )
 
 pub take_further-returns-in_default : goal.take_further-returns-in_default
 take_further-returns-in_default g t c = λ before sound moved two.

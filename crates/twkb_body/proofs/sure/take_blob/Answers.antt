@@ -1,5 +1,5 @@
 -- Where no header begins, no blob is there.
-use Rattle.std.proofs.Common.{◌≡◌, ◌≤◌, None, refl, ap, arith}
+use Rattle.std.proofs.Common.{None, refl, ap, arith}
 use Rattle.twkb_num.specs.Cursor.{Reading, rest}
 use Rattle.twkb_head.proofs.HeadLaws.{header_two}
 use Rattle.twkb_head.proofs.HeadSteps.{two_back}

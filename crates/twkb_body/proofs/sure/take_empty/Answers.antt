@@ -16,9 +16,9 @@ returns-in_default c = λ above before sound moved two.
 pub returns-in_default-take_rest : goal.returns-in_default-take_rest
 returns-in_default-take_rest c = λ above before sound moved two.
     let begins = c.in-Some.ensures.some before sound moved two in (
-  ap (λ (r : Reading). r.bytes) (c.in_default-take_rest.ensures.read c.args.depth before sound begins).1,
-  rest_refutes c.in_default-take_rest.field-0 c.args.depth above before c.requires.shallowest c.requires.deepest sound (c.in_default-take_rest.ensures.exact c.args.depth before sound begins),
-)
+      ap (λ (r : Reading). r.bytes) (c.in_default-take_rest.ensures.read c.args.depth before sound begins).1,
+      rest_refutes c.in_default-take_rest.field-0 c.args.depth above before c.requires.shallowest c.requires.deepest sound (c.in_default-take_rest.ensures.exact c.args.depth before sound begins),
+    )
 
 pub judged-requires : goal.judged-requires
 judged-requires c =
