@@ -1,5 +1,5 @@
--- Where no header begins, no blob is there.
-use Rattle.std.proofs.Common.{None, refl, ap, arith}
+-- Where fewer than two bytes are left, no blob is there.
+use Rattle.std.proofs.Common.{◌≡◌, ◌≤◌, None, refl, ap, arith}
 use Rattle.twkb_num.specs.Cursor.{Reading, rest}
 use Rattle.twkb_head.proofs.HeadLaws.{header_two}
 use Rattle.twkb_head.proofs.HeadSteps.{two_back}
@@ -12,12 +12,8 @@ returns-in_default-clause-certified g c = (
   no_header_refutes 1 None c.args.cursor.now (omega arith) (omega arith) c.place_is_within.ensures (λ starts. absurd (omega (arith, c.in_default.ensures.end.0 refl, header_two 1 (rest c.args.cursor.now) starts))),
 )
 
-pub begun_by-requires-clause-read : goal.begun_by-requires-clause-read
-begun_by-requires-clause-read g c = omega (arith, two_back c.args.cursor.now c.two_bytes.new.self _ _ c.in-Some.ensures.moved c.in-Some.ensures.some)
+pub take_plain-requires-clause-read : goal.take_plain-requires-clause-read
+take_plain-requires-clause-read g c = omega (arith, two_back c.args.cursor.now c.two_bytes.new.self _ _ c.in-Some.ensures.moved c.in-Some.ensures.some)
 
-pub returns-in_default-begun_by-clause-certified : goal.returns-in_default-begun_by-clause-certified
-returns-in_default-begun_by-clause-certified g c =
-    let two = c.in-Some.ensures in (
-      two.moved.bytes,
-      no_header_refutes 1 None c.args.cursor.now (omega arith) (omega arith) c.place_is_within.ensures (λ starts. cc (c.in_default-begun_by.ensures.none c.args.cursor.now c.place_is_within.ensures two.moved two.some starts)),
-    )
+pub take_flat-requires-clause-read : goal.take_flat-requires-clause-read
+take_flat-requires-clause-read g c = omega (arith, two_back c.args.cursor.now c.two_bytes.new.self _ _ c.in-Some.ensures.moved c.in-Some.ensures.some)
