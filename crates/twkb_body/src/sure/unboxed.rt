@@ -1,5 +1,5 @@
-//! Bodies that no box asks for, in the first reading. While numbers are short and points are few no sum can leave 64 bits, so
-//! numbers are passed by their ends. Otherwise coordinates are summed up.
+//! Bodies that no box asks for, in the first reading. If numbers are short and points are few, no sum can leave 64 bits: then all
+//! numbers are passed by their ends. Otherwise coordinates are summed, from the first.
 ghost use Rattle.std.specs.Prelude.{◌≡◌, ◌≤◌, IfOk, IfErr, IfSome, IfNone, OnErr};
 ghost use Rattle.twkb_head.specs.declared.kinds.Kind.TheVariants.{Point};
 ghost use Rattle.twkb_body.specs.Devices.Bare.{unchanged};
@@ -19,7 +19,7 @@ const MOST: u64 = 1 << 14;
 const MOST_LINES: u64 = 1 << 16;
 
 /// Reads `count` parts of a kind, whose points have `axes` numbers, and answers how many points there are.
-// It isn't inlined, and is handed no header, so that none is set up where a box asks.
+// It isn't inlined, and is handed no header, so that none is set up if a box asks.
 #[inline(never)]
 pub fn take_unboxed(
     cursor: &mut Cursor,
