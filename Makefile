@@ -22,19 +22,19 @@ ZSH = share/zsh/site-functions
 
 help:
 	@echo 'make try        check an example, or FILE=.., with a program that is not proved (less than a minute)'
-	@echo 'make build      prove and build the program: $(PROGRAM) (some minutes the first time)'
+	@echo 'make build      prove and build the program: $(PROGRAM) (13 minutes on four processors the first time)'
 	@echo 'make install    install the program, its manual page and completions below $(PREFIX), or PREFIX=..'
 	@echo 'make uninstall  remove them'
 	@echo 'make demo       build, and check, list and scan layers written by PostGIS'
-	@echo 'make test       run the merge gate: every proof from nothing, and every test'
+	@echo 'make test       run the merge gate: every proof from scratch, and every test (an hour or more)'
 	@echo 'make library    prove and build the library for C, Rust and Python: build/bindings'
-	@echo 'make install-library    install it, its header and its pkg-config file below $(PREFIX), or PREFIX=..'
+	@echo 'make install-library    install the library, its header and its pkg-config file below $(PREFIX), or PREFIX=..'
 	@echo 'make uninstall-library  remove them'
 	@echo 'make bindings   build the library, and test calls from C, Rust and Python'
 	@echo 'make web        build the module for web pages, and compare it with the library (needs wasm-opt and node)'
 	@echo 'make page       build the page that checks a layer in a browser: $(PAGE) (needs wasm-opt)'
 	@echo 'make dist       pack what `make build library page` built: build/dozhemik-VERSION-x86_64-linux.tar.gz'
-	@echo 'make bench      build, and compare with plain Rust on 40 MB (needs rustc; valgrind counts instructions)'
+	@echo 'make bench      build, and compare with other programs in Rust on 40 MB (needs rustc; valgrind counts instructions)'
 	@echo 'make callers    build, and compare calls from C, Rust and Python with the program on 40 MB'
 	@echo 'make picture    build, and draw how many bytes of a layer scans read: docs/hops.svg'
 	@echo 'make trusted    print how many lines of definitions have to be believed, crate by crate'
@@ -42,7 +42,7 @@ help:
 	@echo 'make fuzz       build, and compare with a plain reader on random layers: SECONDS=.. SEED=.. (needs gcc)'
 	@echo 'make apart      check that the prover rejects the wrong bodies that the gate leaves out'
 	@echo 'make twins      check that the prover accepts the twins of the wrong bodies'
-	@echo 'make stack      build, and measure how much stack the deepest collections take (gdb tells more)'
+	@echo 'make stack      build, and measure how much stack the deepest collections take (with gdb, of each step too)'
 	@echo 'make clean      remove what was built'
 
 kit:
@@ -105,7 +105,6 @@ demo: build
 # The tests run the program that rt ci builds, and use its libraries, so that all is proved once. Its last line comes last.
 test: SHELL = bash
 test: kit
-	python3 tests/looks_ahead.py
 	python3 tests/trusted.py --strict
 	python3 tests/trusted_cases.py
 	python3 tests/borders.py

@@ -160,6 +160,13 @@ def copy_into(room, crates):
         shutil.copytree(os.path.join(TOP, "crates", crate), os.path.join(room, "crates", crate), symlinks=True)
 
 
+def may_stand_in(name, path):
+    """Whether a function of this name may stand in the file of the module at the path. A method is named after its type, which may
+    stand in a module above."""
+    is_of_type_above = name[-2][:1].isupper() and name[:-2] == path[: len(name) - 2]
+    return name[: len(path)] == path or is_of_type_above
+
+
 class Check:
     """What a check of a crate says."""
 
@@ -183,9 +190,9 @@ class Check:
         if not self.is_refused or not change.stands_in_one():
             return False
         ((file, function),) = change.functions
-        module = file.removeprefix("src/").removesuffix(".rt").replace("/", "::")
-        front = "::".join([change.crate, *([] if module in ("lib", "main") else [module]), ""])
-        return any(name.startswith(front) and name.endswith(f"::{function}") for name in self.unproved)
+        module = file.removeprefix("src/").removesuffix(".rt").split("/")
+        path = [change.crate, *([] if module in (["lib"], ["main"]) else module)]
+        return any(name[-1] == function and may_stand_in(name, path) for name in (name.split("::") for name in self.unproved))
 
     def told(self):
         """The first lines that say why."""

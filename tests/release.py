@@ -212,7 +212,7 @@ def refusals(clone, program, folder):
 def others(clone, refused):
     """What is built of other crates, or by another kit."""
     for path, form, other, said in (
-        ("README.md", r"rattle-kit-\w+", "another-kit", "dist.sh: README.md names another kit than rt version does"),
+        ("README.md", r"`logic \w+`", "`logic of another kit`", "dist.sh: README.md names another logic than rt version does"),
         ("crates/twkb_c/src/lib.rt", r"\Z", "// More.\n", "dist.sh: build/twkb_tool isn't known to be of these crates: make build"),
     ):
         kept = text_of(clone, path)

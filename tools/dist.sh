@@ -47,7 +47,9 @@ made page build/web/twkb_web.wasm bindings/web/build.sh bindings/prove.sh
 commit=$(git rev-parse HEAD)
 seconds=$(git log -1 --format=%ct)
 kit=$(rt version)
-grep -qF "$kit" README.md || fail "README.md names another kit than rt version does, which is $kit"
+# Kits of one logic accept the same proofs, so README names the logic, and the note of the release the kit.
+logic=${kit#* }
+grep -qF "\`$logic\`" README.md || fail "README.md names another logic than rt version does, which is $kit"
 licences=$(dirname "$(rt doc)")/rattle
 
 work=$(mktemp -d)

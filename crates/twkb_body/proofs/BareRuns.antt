@@ -1,5 +1,5 @@
 -- Numbers that are passed by their ends, as points: while they are short and few, no sum leaves 64 bits.
-use Rattle.std.proofs.Common.{◌≡◌, ℕ, zero, suc, ◌+◌, ◌-◌, ◌*◌, ◌/◌, ◌%◌, ◌^◌, ◌<◌, ◌≤◌, ◌==◌, Bool, true, false, if◌then◌else◌, List, [], ◌∷◌, length, map, flat_map, All, ℤ, pos, neg_ℤ, ◌+ℤ◌, Ok, Err, refl, sym, ap, subst, ◌∙◌, arith}
+use Rattle.std.proofs.Common.{◌≡◌, ℕ, zero, suc, ◌+◌, ◌-◌, ◌*◌, ◌/◌, ◌%◌, ◌^◌, ◌<◌, ◌≤◌, ◌==◌, Bool, true, false, if◌then◌else◌, List, [], ◌∷◌, length, map, flat_map, All, ℤ, pos, neg_ℤ, ◌+ℤ◌, ◌≤ℤ◌, Ok, Err, refl, sym, ap, subst, ◌∙◌, arith}
 use Rattle.std.proofs.lemmas.Grind.{common_steps}
 use Rattle.std.proofs.lemmas.Int.{ints}
 use Rattle.std.proofs.lemmas.List.{append-nil}
@@ -13,7 +13,7 @@ use Rattle.twkb_head.specs.declared.kinds.Kind.{Kind}
 use Rattle.twkb_head.specs.Shared.Reader.{Answer, Reader, ◌>>=◌, viewed, number_at, many_at, coordinate_at}
 use Rattle.twkb_head.proofs.Steps.{read_number, read_signed, coordinate_ok, fits_true}
 use Rattle.twkb_body.specs.declared.trail.Trail.{Trail}
-use Rattle.twkb_body.specs.Devices.Bare.{unchanged, IsInSteps, IsShortTrail, Leads}
+use Rattle.twkb_body.specs.Devices.Bare.{unchanged}
 use Rattle.twkb_body.specs.Geometry.{PointValue, Ring, PolygonValue, points_of}
 use Rattle.twkb_body.specs.Devices.Body.{first_of, behind, add, sums, ring_sums, zeros}
 use Rattle.twkb_body.specs.Devices.BodyReader.{point_at, ring_at, polygon_at, part_at}
@@ -23,6 +23,22 @@ use Rattle.twkb_body.proofs.Coordinates.{coordinate_ahead}
 use Rattle.twkb_body.proofs.FlatRuns.{has_64_bits}
 use Rattle.twkb_body.proofs.Walks.{number_ahead, walked_from, IsWalkLoop, walk_begins, walk_goes_on, walk_ends, counted_ends, ring_points, part_points, rings_are_sums}
 use Rattle.twkb_body.proofs.Sums.{rings_sums_flat}
+
+-- a sum of this many numbers of seven bytes, each at most 2^48 from zero
+abbrev pub IsInSteps : ℕ → ℤ → Type 0
+IsInSteps many sum = (neg_ℤ (pos (many * 2 ^ 48)) ≤ℤ sum) × (sum ≤ℤ pos (many * 2 ^ 48))
+
+-- this many points of such numbers, 2^14 at most, lead to a trail
+pub record IsShortTrail (points : ℕ) (trail : Trail) : Type 0 where
+  pub few : points ≤ 2 ^ 14
+  pub counted : trail.points ≡ points
+  pub four : length trail.last ≡ 4
+  pub near : All (IsInSteps points) trail.last
+
+-- From each trail of so many points a value is read that leads to one of so many.
+abbrev pub Leads : {A : Type 0} → ℕ → (PointValue → Reader A) → (A → List PointValue) → Reading → Reading → ℕ → ℕ → Type 0
+Leads {A} axes each points_in old new before after =
+    (t : Trail) → IsShortTrail before t → (x : A) × (u : Trail) × (each t.last old ≡ (Ok x, new)) × IsWalked unchanged axes t u tt tt old.place new.place (points_in x) × IsShortTrail after u
 
 abbrev IsFew : ℕ → Type 0
 IsFew n = n < 2 ^ 49

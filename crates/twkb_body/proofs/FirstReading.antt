@@ -1,5 +1,5 @@
 -- What the first reading of a blob says of it: a point with a size, a bare line, and that a blob which it refutes isn't certified.
-use Rattle.std.proofs.Common.{◌≡◌, ℕ, ◌+◌, ◌-◌, ◌%◌, ◌≤◌, Bool, true, false, List, ◌++◌, ℤ, Option, None, Some, option_map, IfSome, Result, Ok, Err, All, refl, sym, ap, ap₂, subst, ◌∙◌, arith}
+use Rattle.std.proofs.Common.{◌≡◌, ℕ, ◌-◌, ◌%◌, false, List, ◌++◌, Option, None, option_map, Result, Ok, Err, refl, sym, ap, ap₂, subst, ◌∙◌, arith}
 use Rattle.twkb_num.specs.Cursor.{Reading, rest, passed, IsMoved, IsSound}
 use Rattle.twkb_num.proofs.CursorLemmas.{rest-passed}
 use Rattle.twkb_head.specs.declared.header.Head.{Head}
@@ -7,7 +7,6 @@ use Rattle.twkb_head.specs.declared.kinds.Kind.{Kind}
 use Rattle.twkb_head.specs.declared.raw.Fields.{Fields}
 use Rattle.twkb_head.specs.declared.raw.RawBox.{RawBox}
 use Rattle.twkb_head.specs.declared.read.Begun.{Begun}
-use Rattle.twkb_head.specs.declared.refusal.Malformed.{Malformed}
 use Rattle.twkb_head.specs.BegunHeader.{deepest, is_collection}
 use Rattle.twkb_head.specs.Head.{IsHeadAt}
 use Rattle.twkb_head.specs.Header.{axes_of, axes_with, is_multi}
@@ -15,10 +14,9 @@ use Rattle.twkb_head.specs.Raw.{BeginsHead, head_said, boxless}
 use Rattle.twkb_head.specs.Shared.Reader.{Answer}
 use Rattle.twkb_body.specs.declared.doubt.Doubt.{Doubt}
 use Rattle.twkb_body.specs.declared.doubt.Doubt.TheVariants.{Refused}
-use Rattle.twkb_body.specs.declared.frame.Frame.{Frame}
 use Rattle.twkb_body.specs.Geometry.{Geometry}
 use Rattle.twkb_body.specs.Encoding.{Blob}
-use Rattle.twkb_body.specs.Claims.{IsTrueClaim, IsCertified, claims}
+use Rattle.twkb_body.specs.Claims.{IsCertified}
 use Rattle.twkb_body.specs.Audited.{HasLongList}
 use Rattle.twkb_body.specs.Devices.Bare.{unchanged}
 use Rattle.twkb_body.specs.Devices.BodyReader.{geometry_at}

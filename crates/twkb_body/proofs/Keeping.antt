@@ -8,10 +8,10 @@ use Rattle.twkb_head.specs.declared.refusal.Why.{Why}
 use Rattle.twkb_head.specs.Header.{Header, axes_of, is_multi}
 use Rattle.twkb_head.specs.BegunHeader.{is_collection}
 use Rattle.twkb_head.specs.Shared.HeadPlan.{HeadValue, head_plan}
-use Rattle.twkb_head.specs.Shared.Plan.{Request, Plan, done, ask, field_of, cut_field, judge, number_plan, signed_plan, coordinate_plan}
+use Rattle.twkb_head.specs.Shared.Plan.{Request, Plan, done, ask, judge, number_plan, signed_plan, coordinate_plan}
 use Rattle.twkb_head.specs.Shared.Reader.{Answer, Reader, ◌>>=◌, viewed, past, read_judged, read_field, read, number_at, signed_at, coordinate_at, optional_at, many_at, signeds_at, Fails}
-use Rattle.twkb_body.specs.Geometry.{Geometry, Members, none, PointValue, Ring, PolygonValue}
-use Rattle.twkb_body.specs.Devices.Body.{first_of, behind, add, sums, ring_sums, zeros, ListHead, Body, parts_body, members_body, part_body, no_body, geometry_from, members_of}
+use Rattle.twkb_body.specs.Geometry.{Geometry, Members, none, PointValue}
+use Rattle.twkb_body.specs.Devices.Body.{first_of, behind, add, sums, ring_sums, zeros, parts_body, members_body, part_body, geometry_from, members_of}
 use Rattle.twkb_body.specs.Devices.BodyReader.{point_at, ring_at, polygon_at, part_at, spanned, list_at, count_at, shape_at, body_at, parts_at, members_at, geometry_by, geometry_at, members_under}
 
 abbrev pub Keeps : {A : Type 0} → Reader A → Type 0

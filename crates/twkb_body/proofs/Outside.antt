@@ -1,11 +1,9 @@
 -- A point that is outside a box of raw numbers is a vertex that the box doesn't hold.
-use Rattle.std.proofs.Common.{◌≡◌, ℕ, zero, suc, ◌+◌, ◌^◌, ◌≤◌, ◌<◌, nat_lt, Bool, true, false, ◌&&◌, List, [], ◌∷◌, map, fold, ℤ, pos, ◌+ℤ◌, ◌-ℤ◌, ◌*ℤ◌, ◌≤ℤ◌, unsigned_abs, int_le, Option, Some, None, option_map, All, refl, sym, ap, ap₂, subst, ◌∙◌, arith}
+use Rattle.std.proofs.Common.{◌≡◌, ℕ, zero, suc, ◌^◌, ◌≤◌, nat_lt, Bool, true, false, ◌&&◌, List, [], ◌∷◌, map, fold, ℤ, pos, ◌+ℤ◌, ◌-ℤ◌, ◌*ℤ◌, ◌≤ℤ◌, unsigned_abs, int_le, Option, Some, None, option_map, All, refl, ap, ◌∙◌, arith}
 use Rattle.std.proofs.Math.IntN.{suc_ℤ-*ℤ, *ℤ_comm, *ℤ-zero}
 use Rattle.std.proofs.lemmas.Int.{ints}
-use Rattle.std.proofs.lemmas.Nat.{pow_pos}
 use Rattle.std.proofs.lemmas.List.Elements.{All-head, All-tail}
 use Rattle.twkb_num.specs.Units.{units_of}
-use Rattle.twkb_head.specs.declared.boxes.Bounds.{Bounds}
 use Rattle.twkb_head.specs.declared.raw.RawBox.{RawBox}
 use Rattle.twkb_head.specs.declared.raw.RawRange.{RawRange}
 use Rattle.twkb_head.specs.Devices.Holds.{IsWithinBoth}
@@ -14,7 +12,7 @@ use Rattle.twkb_head.specs.Header.{Header, axes_of, axes_with}
 use Rattle.twkb_head.specs.Holds.{IsWithin, Holds}
 use Rattle.twkb_head.specs.Raw.{ends_of, ranges_in, raw_bounds}
 use Rattle.twkb_body.specs.Geometry.{PointValue, coordinate, vertex_of}
-use Rattle.twkb_body.specs.Devices.Boxed.{is_in_range, is_in_axis, is_in_flat, is_in_further, is_in_box, Held, held_with}
+use Rattle.twkb_body.specs.Devices.Boxed.{is_in_range, is_in_axis, is_in_box, Held, held_with}
 use Rattle.twkb_body.proofs.BoxedRuns.{reaches_decides}
 use Rattle.twkb_body.proofs.Judging.{le_decides}
 use Rattle.twkb_body.proofs.Scales.{times_le}

@@ -1,15 +1,13 @@
 -- What is refused is refuted: if a geometry does stand there, some claim of it is false, or the frame doesn't hold it.
-use Rattle.std.proofs.Common.{◌≡◌, ◌≢◌, ℕ, zero, suc, ◌+◌, ◌-◌, ◌<◌, ◌≤◌, Bool, true, false, not, List, [], ◌∷◌, ◌++◌, length, map, fold, ℤ, pos, Option, Some, None, is_some, option_map, IfSome, All, AllPairs, Result, Ok, Err, inl, inr, refl, sym, ap, ap₂, subst, ◌∙◌, append_assoc, length-append, arith}
+use Rattle.std.proofs.Common.{◌≡◌, ◌≢◌, ℕ, suc, ◌+◌, ◌-◌, ◌<◌, ◌≤◌, Bool, true, false, not, List, [], ◌∷◌, ◌++◌, length, map, fold, ℤ, Option, Some, None, is_some, option_map, IfSome, All, AllPairs, Result, Ok, Err, inl, inr, refl, sym, ap, subst, ◌∙◌, append_assoc, arith}
 use Rattle.std.specs.Result.{is_ok}
-use Rattle.std.specs.Prelude.{IsTrue, IsOk, IfOk, IfErr, OnErr, ◌⊎◌, ◌↔◌}
+use Rattle.std.specs.Prelude.{IsOk, IfOk, IfErr, OnErr, ◌⊎◌, ◌↔◌}
 use Rattle.std.proofs.lemmas.Bool.{eq-eqb}
 use Rattle.std.proofs.lemmas.Bool.Decides.{not_from_Decides}
-use Rattle.std.proofs.lemmas.List.Elements.{All-nil, All-head}
+use Rattle.std.proofs.lemmas.List.Elements.{All-head}
 use Rattle.std.proofs.lemmas.List.{append-nil}
-use Rattle.std.proofs.lemmas.Grind.{common_steps}
 use Rattle.twkb_num.specs.Cursor.{Reading, rest, passed, IsMoved, IsSound}
 use Rattle.twkb_num.proofs.CursorLemmas.{rest-passed}
-use Rattle.twkb_head.specs.declared.boxes.Bounds.{Bounds}
 use Rattle.twkb_head.specs.declared.boxes.Vertex.{Vertex}
 use Rattle.twkb_head.specs.declared.header.Head.{Head}
 use Rattle.twkb_head.specs.declared.header.BoxField.{BoxField}
@@ -19,8 +17,8 @@ use Rattle.twkb_head.specs.declared.raw.RawRange.{RawRange}
 use Rattle.twkb_head.specs.declared.raw.Fields.{Fields}
 use Rattle.twkb_head.specs.declared.refusal.Malformed.{Malformed}
 use Rattle.twkb_head.specs.BegunHeader.{deepest, is_collection, IsAllowedAt}
-use Rattle.twkb_head.specs.Head.{bounds_of, head_of, IsHeadAt, StartsWithHeader}
-use Rattle.twkb_head.specs.Header.{Header, axes_of, axes_with, is_multi, has_bit}
+use Rattle.twkb_head.specs.Head.{bounds_of, IsHeadAt, StartsWithHeader}
+use Rattle.twkb_head.specs.Header.{axes_of, axes_with, is_multi}
 use Rattle.twkb_head.specs.Holds.{Holds}
 use Rattle.twkb_head.specs.Raw.{raw_bounds, flat_box, fields_box, head_said, boxless}
 use Rattle.twkb_head.specs.Shared.HeadPlan.{HeadValue, head_plan}
@@ -35,7 +33,7 @@ use Rattle.twkb_head.proofs.Readings.{ok_not_err, one_answer, no_failure}
 use Rattle.twkb_body.specs.declared.frame.Frame.{Frame}
 use Rattle.twkb_body.specs.declared.found.FalseClaim.{FalseClaim}
 use Rattle.twkb_body.specs.declared.lists.List.{List as ListFound}
-use Rattle.twkb_body.specs.Geometry.{Geometry, Members, Lengths, PointValue, PolygonValue, lengths_of, points_of, vertex_of, vertices as vertices_of, member_vertices}
+use Rattle.twkb_body.specs.Geometry.{Geometry, Lengths, PointValue, PolygonValue, lengths_of, points_of, vertex_of, vertices as vertices_of, member_vertices}
 use Rattle.twkb_body.specs.Claims.{Claim, size_claim, box_claim, ids_claim, claims_of, IsTrueClaim, claims, member_claims}
 use Rattle.twkb_body.specs.Audited.{number_of, HasLongList}
 use Rattle.twkb_body.specs.declared.doubt.Doubt.{Doubt}
@@ -50,7 +48,7 @@ use Rattle.twkb_body.specs.Devices.Found.{named, size_judged}
 use Rattle.twkb_body.specs.Devices.IdLists.{IsListFound, HasManyIdsAfterCount}
 use Rattle.twkb_body.specs.Devices.Inside.{of_head}
 use Rattle.twkb_body.specs.Devices.Pass.{false_at, ids_refused, are_distinct}
-use Rattle.twkb_body.specs.Devices.Sure.{framed, has_further, AddsParts, ReadParts, IsCounted, IsWrongCount, AreMalformed, AreHeld, IsHeldBy, IsFrameUnder, frame_bounds, body_vertices, IsSureBody, IsSureBehind, IsSure, IsJudged, IsApart, HasDoubt, doubt_of, Certifies, CertifiesBody, CertifiesShape, IsTrueInside, IsRefutedBody, IsRefutedBehind, IsRefuted}
+use Rattle.twkb_body.specs.Devices.Sure.{framed, has_further, ReadParts, IsCounted, IsWrongCount, AreMalformed, AreHeld, IsHeldBy, IsFrameUnder, frame_bounds, body_vertices, IsSureBody, IsSureBehind, IsSure, IsJudged, IsApart, HasDoubt, doubt_of, Certifies, CertifiesBody, CertifiesShape, IsTrueInside, IsRefutedBody, IsRefutedBehind, IsRefuted}
 use Rattle.twkb_body.specs.Devices.Walk.{HaveAxes, lasts_from}
 use Rattle.twkb_body.proofs.Coordinates.{vertices_same}
 use Rattle.twkb_body.proofs.Outside.{all_inside}
@@ -63,7 +61,7 @@ use Rattle.twkb_body.proofs.MemberSteps.{long_list_in, collection_body, behind_l
 use Rattle.twkb_body.proofs.HeadFacts.{head_size}
 use Rattle.twkb_body.proofs.Passes.{right_of, left_of, all_left, all_right}
 use Rattle.twkb_body.proofs.Repeats.{repeated}
-use Rattle.twkb_body.proofs.SureSteps.{IsSureLoop, body_unboxed, body_held, sure_behind, geometry_sure, own_box}
+use Rattle.twkb_body.proofs.SureSteps.{AddsParts, IsSureLoop, body_unboxed, body_held, sure_behind, geometry_sure, own_box}
 use Rattle.twkb_body.proofs.TreeSums.{member_total, size_refused}
 
 -- a view is of a value that was read

@@ -1,6 +1,6 @@
--- The steps of the quick pass: what holds of all points holds of the box, and nothing of the geometry is false.
-use Rattle.std.proofs.Common.{◌≡◌, ℕ, zero, suc, ◌+◌, ◌-◌, ◌/◌, ◌%◌, ◌^◌, ◌<◌, ◌≤◌, ◌==◌, if◌then◌else◌, nat_lt, Bool, true, false, not, List, [], ◌∷◌, ◌++◌, map, fold, ℤ, pos, neg_ℤ, ◌+ℤ◌, ◌-ℤ◌, unsigned_abs, Option, Some, None, option_map, IfSome, All, Ok, refl, sym, ap, ap₂, subst, ◌∙◌, arith}
-use Rattle.std.proofs.lemmas.Bool.{lt-ltb, eq-eqb, eqb-true}
+-- The steps of the first reading: what holds of all points holds of the box, and nothing of the geometry is false.
+use Rattle.std.proofs.Common.{◌≡◌, ℕ, suc, ◌+◌, ◌-◌, ◌^◌, ◌<◌, ◌≤◌, ◌==◌, nat_lt, Bool, true, false, not, List, [], ◌∷◌, ◌++◌, map, fold, ℤ, pos, ◌+ℤ◌, ◌-ℤ◌, unsigned_abs, Option, Some, None, option_map, IfSome, All, Ok, refl, sym, ap, subst, ◌∙◌, arith}
+use Rattle.std.proofs.lemmas.Bool.{eqb-true}
 use Rattle.std.proofs.lemmas.Int.{ints}
 use Rattle.std.specs.Option.{option_eq}
 use Rattle.std.proofs.lemmas.List.Elements.{All-nil, All-cons, All-head, All-tail, All-append}
@@ -18,32 +18,28 @@ use Rattle.twkb_head.specs.BegunHeader.{deepest, is_collection}
 use Rattle.twkb_head.specs.declared.raw.Fields.{Fields}
 use Rattle.twkb_head.specs.Raw.{ends_of, ranges_in, raw_bounds, head_said, boxless}
 use Rattle.twkb_head.specs.Head.{span_at, range_of, m_axis, IsHeadAt}
-use Rattle.twkb_num.specs.Varint.{Spells, zigzag_value}
 use Rattle.twkb_head.specs.declared.kinds.Kind.{Kind}
-use Rattle.twkb_head.specs.declared.kinds.Kind.TheVariants.{Point}
 use Rattle.twkb_head.specs.Header.{Header, axes_of, axes_with, is_multi}
-use Rattle.twkb_head.specs.Shared.Plan.{fits}
-use Rattle.twkb_head.proofs.Steps.{read_signed, coordinate_ok}
 use Rattle.twkb_head.specs.Holds.{IsWithin, Holds}
-use Rattle.twkb_head.specs.Shared.Reader.{Answer, ◌>>=◌, viewed, many_at, coordinate_at}
+use Rattle.twkb_head.specs.Shared.Reader.{many_at}
 use Rattle.twkb_head.proofs.HeadBack.{head_value}
 use Rattle.twkb_body.specs.declared.frame.Frame.{Frame}
+use Rattle.twkb_body.specs.declared.trail.Trail.{Trail}
 use Rattle.twkb_body.specs.declared.inside.Inside.{Inside}
 use Rattle.twkb_body.specs.Devices.Boxed.{is_in_range, is_in_axis, is_in_box, Held, held_then, held_with}
-use Rattle.twkb_body.specs.Devices.Body.{Body, ListHead, no_body, absolute, zeros, sums, ring_sums, parts_body, members_body, members_of}
-use Rattle.twkb_body.specs.Devices.BodyReader.{point_at, part_at, list_at, count_at, body_at, members_under}
+use Rattle.twkb_body.specs.Devices.Body.{Body, ListHead, no_body, absolute, zeros, ring_sums, parts_body, members_body, members_of}
+use Rattle.twkb_body.specs.Devices.BodyReader.{part_at, list_at, count_at, body_at, members_under}
 use Rattle.twkb_body.specs.Extent.{Reach, reach_of, both}
 use Rattle.twkb_body.specs.Devices.Found.{box_judged, size_judged}
-use Rattle.twkb_body.specs.Geometry.{PointValue, none, points_of, vertex_of, coordinate, vertices as vertices_of, member_vertices}
+use Rattle.twkb_body.specs.Geometry.{PointValue, PolygonValue, none, points_of, vertex_of, coordinate, vertices as vertices_of, member_vertices}
 use Rattle.twkb_body.specs.Devices.IdLists.{IsListFound}
 use Rattle.twkb_body.specs.Devices.Inside.{of_head, IsInside}
 use Rattle.twkb_body.specs.Devices.Pass.{first, false_at, is_within}
 use Rattle.twkb_body.specs.Devices.Ranges.{widened}
-use Rattle.twkb_body.specs.Devices.Sure.{LiesIn, LiesInAll, framed, faultless, unseen, AddsParts, AddsHeld, frame_bounds, IsHeldBy, IsFrameUnder, body_vertices, IsSureBody, IsSureBehind, IsSure, IsFramed}
-use Rattle.twkb_body.specs.Devices.Walk.{HaveAxes, lasts_from}
+use Rattle.twkb_body.specs.Devices.Sure.{LiesIn, LiesInAll, framed, faultless, unseen, frame_bounds, IsHeldBy, IsFrameUnder, body_vertices, IsSureBody, IsSureBehind, IsSure, IsFramed}
+use Rattle.twkb_body.specs.Devices.Walk.{HaveAxes, IsWalked, lasts_from}
 use Rattle.twkb_body.proofs.BoxedRuns.{reaches_decides, both_true}
-use Rattle.twkb_body.proofs.Coordinates.{coordinate_ahead, vertices_same}
-use Rattle.twkb_body.proofs.FlatRuns.{two_coordinates}
+use Rattle.twkb_body.proofs.Coordinates.{vertices_same}
 use Rattle.twkb_body.proofs.GeometrySteps.{body_gives, empty_body, shape_body, body_of_head, nothing_inside, geometry_found}
 use Rattle.twkb_body.proofs.MemberSteps.{members_of-push, IsMemberLoop, members_begin, members_go_on, members_end, collection_body, collection_gives, members_inside}
 use Rattle.twkb_body.proofs.Passes.{vertices_pushed}
@@ -53,6 +49,25 @@ use Rattle.twkb_body.proofs.Scales.{times_le}
 use Rattle.twkb_body.proofs.ShapeSteps.{shape_of_parts}
 use Rattle.twkb_body.proofs.Sums.{points_absolute}
 
+-- Of this kind, with ids or none, the parts of a body were read, and their points added to a state. It has this many
+-- points, and its ids, if any, are true.
+pub record AddsParts {S : Type 0} (step : S → PointValue → S) (kind : Kind) (has_ids : Bool) (axes : ℕ) (old new : Reading) (state state' : S) (vertices : ℕ) : Type 0 where
+  pub list : ListHead
+  pub middle : Reading
+  pub parts : List PolygonValue
+  pub after : Trail
+  pub counted : count_at (is_multi kind) has_ids old ≡ (Ok list, middle)
+  pub found : IsListFound old middle list (record { count = (list.0).0; ids = None })
+  pub read : many_at (list.0).0 ring_sums (part_at kind axes) zeros middle ≡ (Ok parts, new)
+  pub walked : IsWalked step axes (record { last = zeros; points = 0 }) after state state' middle.place new.place (points_of parts)
+  pub vertices_are : vertices ≡ after.points
+
+-- The parts of a body were read, and a box of raw numbers holds their points.
+abbrev pub AddsHeld : Kind → Bool → ℕ → RawBox → Reading → Reading → ℕ → Type 0
+AddsHeld kind has_ids axes box old new vertices =
+    (held : Held) × AddsParts (held_then axes) kind has_ids axes old new (record { box = box; inside = true }) held vertices × (held.inside ≡ true)
+
+-- what a box above holds, and what is held if there is none
 -- ---- what a box of raw numbers holds, it holds in units
 within_units : (p : ℤ) (range : RawRange) (c : ℤ) → is_in_range range c ≡ true → IsWithin (span_at p (ends_of range)) (units_of c p)
 within_units p range c e =

@@ -11,7 +11,7 @@ use twkb_head::Malformed;
 pub enum Doubt {
     /// It is malformed, or some claim is false.
     Refused,
-    /// A list of ids wants memory that there isn't.
+    /// A list of ids lacks memory.
     Memory,
 }
 

@@ -19,9 +19,9 @@ pub struct Frame {
 }
 
 impl Frame {
-    /// The frame of a geometry that stands under another: its own box, or else that above. `None`: its own has numbers that are
-    /// far from zero, or a negative extent; or there is one above, and the axes or their precisions differ, or its own doesn't
-    /// lie there.
+    /// The frame of a geometry: its own box or, if it has none, the frame above. `None` if this can't be told. Then its box has
+    /// numbers far from zero or a negative extent. Or there is a frame above, and this has other axes or precisions, or doesn't
+    /// contain the box.
     #[inline(always)]
     pub fn under(above: &Option<Frame>, head: &Head, own: &Option<RawBox>) -> Option<Option<Frame>>
         requires near { IfSome above.now IsNearFrame }
@@ -81,7 +81,7 @@ impl Frame {
     }
 }
 
-/// Whether the ranges of a box are near, in each axis that the header has. Where one isn't there, it is all zeros.
+/// Whether the ranges of a box are near, in each axis that the header has. The range of a missing axis is zeros.
 #[inline(always)]
 fn is_near_box(head: &Head, bounds: &RawBox) -> bool
     ensures { IsTrue result → IsNear head.now.z head.now.m bounds.now }
@@ -103,7 +103,7 @@ fn lies_in_all(head: &Head, inner: &RawBox, outer: &RawBox) -> bool
         && (is_flat(head) || lies_in_further(inner, outer))
 }
 
-/// Whether there are X and Y alone.
+/// Whether the axes are X and Y alone.
 #[inline(always)]
 fn is_flat(head: &Head) -> bool
     ensures { result ≡ not (has_further head.now.z head.now.m) }
@@ -111,7 +111,7 @@ fn is_flat(head: &Head) -> bool
     head.z.is_none() && head.m.is_none()
 }
 
-/// Whether a box lies in another in the axes behind X and Y. Where one isn't there, both have zeros.
+/// Whether a box lies in another in the axes after X and Y. Both have zeros for a missing axis.
 #[inline(always)]
 fn lies_in_further(inner: &RawBox, outer: &RawBox) -> bool
     requires third { IsNearRange outer.now.third }
@@ -122,7 +122,7 @@ fn lies_in_further(inner: &RawBox, outer: &RawBox) -> bool
     lies_in(&inner.third, &outer.third) && lies_in(&inner.fourth, &outer.fourth)
 }
 
-/// Whether one range isn't empty, and lies in another, which is near. Distances are told as numbers without sign.
+/// Whether one range isn't empty, and lies in another, which is near. Distances are compared as numbers without sign.
 #[inline(always)]
 fn lies_in(inner: &RawRange, outer: &RawRange) -> bool
     requires { IsNearRange outer.now }

@@ -1,5 +1,5 @@
-//! The parts of a body that is no collection's: points, lines and polygons. An audit and a skim read them alike, and differ
-//! in what they add the points to.
+//! The parts of a body that is no collection's: points, lines and polygons. The first reading and the exact audit both read them
+//! here, and differ in what they add the points to.
 ghost use Rattle.std.specs.Prelude.{◌≡◌, flat_map};
 ghost use Rattle.twkb_head.specs.Shared.Reader.{many_at};
 ghost use Rattle.twkb_body.specs.Devices.Body.{ring_sums};
@@ -14,7 +14,7 @@ use crate::trail::{Trail, take_point};
 use twkb_head::{Head, Kind, Malformed};
 use twkb_num::Cursor;
 
-/// So many parts.
+/// Reads `count` parts, and adds their points.
 #[inline(always)]
 pub fn take_parts<P: Points>(
     cursor: &mut Cursor,

@@ -24,8 +24,8 @@ pub trait Points {
         requires precisions { HasPrecisions head.now }
         ensures { state self.new ≡ step (of_head head.now) (state self.old) point.now };
 
-    /// Reads points ahead, from words of eight bytes: some of those at the place, and at most so many. Answers how many
-    /// there were, which may be none.
+    /// Reads some of the points at the place, `most` of them or fewer, from words of eight bytes. Answers how many it read, which
+    /// may be none.
     fn take_run(
         &mut self,
         cursor: &mut Cursor,

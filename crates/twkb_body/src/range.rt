@@ -164,7 +164,7 @@ impl Points for Ranges {
         self.m.add_if(head.m, point, head.m_axis());
     }
 
-    // An audit comes here only where the quick pass gave up, or in tight checking, so its points are taken one by one.
+    // Only the exact audit comes here, which needn't be fast: its points are taken one by one.
     #[inline(always)]
     fn take_run(
         &mut self,

@@ -11,7 +11,7 @@ use twkb_num::Cursor;
 
 /// What the ids of one list are held in while they are judged.
 pub trait IdRoom {
-    /// The ids of a list, which are so many: whether they are distinct.
+    /// Reads `count` ids, and answers whether they are distinct.
     fn take_ids(&mut self, cursor: &mut Cursor, count: u64) -> Result<bool, Stopped>
         ensures { ReadsIds count cursor.old result cursor.new };
 }
@@ -52,7 +52,7 @@ fn take_grown<A: Allocator>(alloc: &A, cursor: &mut Cursor, count: u64) -> Resul
     Ok(are_distinct(&mut ids))
 }
 
-/// The ids of a list in places that are lent, of which there are sixteen at least.
+/// The ids of a list in at least sixteen places that are lent.
 fn take_lent(ids: &mut [i64], cursor: &mut Cursor, count: u64) -> Result<bool, Stopped>
     requires { 16 ≤ length ids.old }
     ensures { ReadsIds count cursor.old result cursor.new }
@@ -77,7 +77,7 @@ fn take_lent(ids: &mut [i64], cursor: &mut Cursor, count: u64) -> Result<bool, S
     Ok(slice_distinct(&mut ids[..held]))
 }
 
-/// Whether ids that rose so far rise on. Where all do they differ, and needn't be sorted.
+/// Whether ids that rose up to the last one still rise. Ids that all rise are distinct, and needn't be sorted.
 #[inline(always)]
 fn still_rises(rising: bool, last: i64, id: i64) -> bool
     ensures { IsTrue result → IsTrue rising × (last <ℤ id) }

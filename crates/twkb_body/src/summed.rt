@@ -1,4 +1,4 @@
-//! Points that nothing asks for. Their coordinates are summed up all the same, since none may leave 64 bits.
+//! Points that no box asks for. Their coordinates are summed, since none may leave 64 bits.
 ghost use Rattle.std.specs.Prelude.{◌≤◌};
 ghost use Rattle.twkb_body.specs.Devices.Bare.{unchanged};
 ghost use Rattle.twkb_body.specs.Devices.Walk.{IsRun};
@@ -9,7 +9,7 @@ use crate::vertices::{LONGEST, is_close};
 use twkb_head::Head;
 use twkb_num::Cursor;
 
-/// What points are added to where only their sums are kept, which a trail does.
+/// What points are added to if only their sums are kept. A trail keeps these.
 #[derive(Drop)]
 pub struct Summed;
 
@@ -40,8 +40,8 @@ impl Points for Summed {
     }
 }
 
-/// Sums up points at the place, `most` of them or fewer: it stops before the first whose differences take more than four bytes
-/// each.
+/// Sums up points at the place, `most` of them or fewer. It stops before a point with a difference of more than four bytes, or
+/// near the end of the bytes.
 // Both sums are in locals. While differences are short none leaves 64 bits, so none is tested.
 #[inline(always)]
 fn sum_flat_run(cursor: &mut Cursor, most: u64, trail: &mut Trail) -> u64

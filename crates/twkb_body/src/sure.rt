@@ -1,6 +1,7 @@
-//! The first reading of a blob, which certifies it or ends at what is malformed or false.
-ghost use Rattle.std.specs.Prelude.{◌≡◌, ◌≤◌, ◌+◌, ◌-◌, ◌%◌, ℕ, true, false, Option, None, Some, option_map, is_some, IfSome, OnSome, IfOk, IfErr, Ok};
-ghost use Rattle.twkb_num.specs.Cursor.{Reading, IsSound};
+//! The first reading of a blob, which certifies it or ends in a doubt. It hands down the innermost box, and hands up the number of
+//! vertices.
+ghost use Rattle.std.specs.Prelude.{◌≡◌, ◌≤◌, ◌+◌, ◌-◌, ◌%◌, ℕ, [], ◌∷◌, true, false, Option, None, Some, option_map, is_some, IfSome, OnSome, IfOk, IfErr, Ok};
+ghost use Rattle.twkb_num.specs.Cursor.{Reading, passed, IsMoved, IsSound};
 ghost use Rattle.twkb_num.specs.Units.{IsPrecision};
 ghost use Rattle.twkb_head.specs.BegunHeader.{deepest, is_collection, IsAllowedAt};
 ghost use Rattle.twkb_head.specs.Header.{has_bit};
@@ -18,7 +19,7 @@ mod parts;
 mod unboxed;
 
 use self::parts::{take_boxed, take_count, take_parts_of};
-use self::unboxed::{take_bare_point, take_unboxed};
+use self::unboxed::{take_bare_point, take_flat_line, take_unboxed};
 use crate::boxed::Boxed;
 use crate::doubt::Doubt;
 use crate::found::judge_size;
@@ -28,11 +29,12 @@ use crate::lists::take_list;
 use crate::rooms::IdRoom;
 use crate::seen::Seen;
 use twkb_head::{
-    Axes, Begun, BoxField, Head, Kind, RawBox, RawRange, SizeField, begin_head, take_rest,
+    Axes, Begun, BoxField, Head, Kind, RawBox, RawRange, SizeField, begun_by, take_rest,
 };
 use twkb_num::Cursor;
 
-/// How many vertices the blob at the place has, and where it ends, if it is certified.
+/// Reads the blob at the place, and answers how many vertices it has and where it ends. A doubt says that it isn't certified,
+/// or that a list of ids lacks memory.
 // Where a point ends is known by its size, so that the next blob needn't wait for the ends of its numbers.
 #[inline(always)]
 pub fn take_blob<R: IdRoom>(room: &mut R, cursor: &mut Cursor) -> Result<(usize, usize), Doubt>
@@ -40,7 +42,39 @@ pub fn take_blob<R: IdRoom>(room: &mut R, cursor: &mut Cursor) -> Result<(usize,
     ensures stop { IfOk result (λ both. both.1 ≡ cursor.new.place) }
 {
     cursor.place_is_within();
-    let Some(begun) = begin_head(cursor, 1) else {
+    let Some((first, metadata)) = cursor.two_bytes() else {
+        return Err(Doubt::Refused);
+    };
+    if is_plain(first, metadata) {
+        return take_plain(room, cursor, first, metadata);
+    }
+    let vertices = take_flat(room, cursor, 1, &None, first, metadata)?;
+    Ok((vertices, cursor.place()))
+}
+
+/// Whether a header begins so that there is no box: of a point with a size, or of a line without one.
+#[inline(always)]
+fn is_plain(first: u8, metadata: u8) -> bool {
+    (first % 16 == 1 && metadata % 32 == 2) || (first % 16 == 2 && metadata % 32 == 0)
+}
+
+/// A blob that begins with these two bytes, which were passed. It is read fastest if it is [`is_plain`].
+#[inline(always)]
+fn take_plain<R: IdRoom>(
+    room: &mut R,
+    cursor: &mut Cursor,
+    first: u8,
+    metadata: u8,
+) -> Result<(usize, usize), Doubt>
+    requires read { 2 ≤ cursor.old.place }
+    requires before { (before : Reading) × IsSound before × IsMoved before cursor.old
+        × (passed before cursor.old ≡ first ∷ metadata ∷ []) }
+    ensures certified { (before : Reading) → IsSound before → IsMoved before cursor.old
+        → passed before cursor.old ≡ first ∷ metadata ∷ []
+        → Certifies 1 None before (counted_in result) cursor.new }
+    ensures stop { IfOk result (λ both. both.1 ≡ cursor.new.place) }
+{
+    let Some(begun) = begun_by(cursor, 1, first, metadata) else {
         return Err(Doubt::Refused);
     };
     if begun.is_sized_point() {
@@ -49,7 +83,7 @@ pub fn take_blob<R: IdRoom>(room: &mut R, cursor: &mut Cursor) -> Result<(usize,
     let vertices = if begun.is_bare_line() {
         take_bare_line(cursor, begun)?
     } else {
-        take_flat(room, cursor, 1, &None, begun)?
+        take_flat(room, cursor, 1, &None, first, metadata)?
     };
     Ok((vertices, cursor.place()))
 }
@@ -88,11 +122,11 @@ fn take_bare_line(cursor: &mut Cursor, begun: Begun) -> Result<usize, Doubt>
         return Err(Doubt::Refused);
     };
     let head = raw.boxless();
-    let vertices = take_unboxed(cursor, Kind::LineString, 2, 1)?;
+    let vertices = take_flat_line(cursor)?;
     judged(&head, cursor.place(), vertices)
 }
 
-/// The geometry at `depth` that begins with these two bytes, which were passed.
+/// Reads a geometry at `depth` after its first two bytes. The frame above has to hold its points.
 #[cycle(take_flat)]
 #[inline(never)]
 fn take_flat<R: IdRoom>(
@@ -100,18 +134,24 @@ fn take_flat<R: IdRoom>(
     cursor: &mut Cursor,
     depth: u8,
     above: &Option<Frame>,
-    begun: Begun,
+    first: u8,
+    metadata: u8,
 ) -> Result<usize, Doubt>
     requires shallowest { 1 ≤ depth }
     requires deepest { depth ≤ deepest }
-    requires xy { IsPrecision begun.xy }
-    requires before { (before : Reading) × IsSound before × BeginsHead begun depth before cursor.old }
+    requires read { 2 ≤ cursor.old.place }
+    requires before { (before : Reading) × IsSound before × IsMoved before cursor.old
+        × (passed before cursor.old ≡ first ∷ metadata ∷ []) }
     requires near { IfSome above.now IsNearFrame }
-    ensures { (before : Reading) → IsSound before → BeginsHead begun depth before cursor.old
+    ensures { (before : Reading) → IsSound before → IsMoved before cursor.old
+        → passed before cursor.old ≡ first ∷ metadata ∷ []
         → Certifies depth above.now before result cursor.new }
 {
+    let Some(begun) = begun_by(cursor, depth, first, metadata) else {
+        return Err(Doubt::Refused);
+    };
     if !begun.is_flat() || begun.is_empty() {
-        return take_further(room, cursor, depth, above, begun);
+        return take_further(room, cursor, depth, above, first, metadata);
     }
     let Ok(raw) = take_rest(cursor, begun) else {
         return Err(Doubt::Refused);
@@ -138,7 +178,7 @@ fn take_flat<R: IdRoom>(
     judged(&head, cursor.place(), vertices)
 }
 
-/// A geometry as in [`take_flat`] that has an extended dimensions byte, or is empty.
+/// Reads a geometry as [`take_flat`] does, which has an extended dimensions byte or is empty.
 #[cycle(take_flat)]
 #[inline(never)]
 fn take_further<R: IdRoom>(
@@ -146,18 +186,24 @@ fn take_further<R: IdRoom>(
     cursor: &mut Cursor,
     depth: u8,
     above: &Option<Frame>,
-    begun: Begun,
+    first: u8,
+    metadata: u8,
 ) -> Result<usize, Doubt>
     requires shallowest { 1 ≤ depth }
     requires deepest { depth ≤ deepest }
-    requires xy { IsPrecision begun.xy }
-    requires before { (before : Reading) × IsSound before × BeginsHead begun depth before cursor.old }
+    requires read { 2 ≤ cursor.old.place }
+    requires before { (before : Reading) × IsSound before × IsMoved before cursor.old
+        × (passed before cursor.old ≡ first ∷ metadata ∷ []) }
     requires near { IfSome above.now IsNearFrame }
-    ensures { (before : Reading) → IsSound before → BeginsHead begun depth before cursor.old
+    ensures { (before : Reading) → IsSound before → IsMoved before cursor.old
+        → passed before cursor.old ≡ first ∷ metadata ∷ []
         → Certifies depth above.now before result cursor.new }
 {
+    let Some(begun) = begun_by(cursor, depth, first, metadata) else {
+        return Err(Doubt::Refused);
+    };
     if begun.is_empty() {
-        return take_empty(cursor, depth, begun);
+        return take_empty(cursor, depth, first, metadata);
     }
     let Ok(raw) = take_rest(cursor, begun) else {
         return Err(Doubt::Refused);
@@ -182,15 +228,20 @@ fn take_further<R: IdRoom>(
 
 /// An empty geometry at `depth`, after its first two bytes.
 #[inline(never)]
-fn take_empty(cursor: &mut Cursor, depth: u8, begun: Begun) -> Result<usize, Doubt>
+fn take_empty(cursor: &mut Cursor, depth: u8, first: u8, metadata: u8) -> Result<usize, Doubt>
     requires shallowest { 1 ≤ depth }
     requires deepest { depth ≤ deepest }
-    requires xy { IsPrecision begun.xy }
-    requires before { (before : Reading) × IsSound before × BeginsHead begun depth before cursor.old }
-    requires empty { has_bit begun.metadata 16 ≡ true }
-    ensures { (above : Option FrameOf) (before : Reading) → IsSound before → BeginsHead begun depth before cursor.old
+    requires read { 2 ≤ cursor.old.place }
+    requires before { (before : Reading) × IsSound before × IsMoved before cursor.old
+        × (passed before cursor.old ≡ first ∷ metadata ∷ []) }
+    requires empty { has_bit metadata 16 ≡ true }
+    ensures { (above : Option FrameOf) (before : Reading) → IsSound before → IsMoved before cursor.old
+        → passed before cursor.old ≡ first ∷ metadata ∷ []
         → Certifies depth above before result cursor.new }
 {
+    let Some(begun) = begun_by(cursor, depth, first, metadata) else {
+        return Err(Doubt::Refused);
+    };
     let Ok(raw) = take_rest(cursor, begun) else {
         return Err(Doubt::Refused);
     };
@@ -198,7 +249,7 @@ fn take_empty(cursor: &mut Cursor, depth: u8, begun: Begun) -> Result<usize, Dou
     judged(&head, cursor.place(), 0)
 }
 
-/// The frame of a geometry with Z or M. One with neither, for all its extended dimensions byte, has none.
+/// The frame of a geometry with Z or M. `None` if it can't be told, or if the extended dimensions byte announces neither.
 // Points of X and Y are read in one place, which is inlined into its caller.
 #[inline(always)]
 fn further_frame(above: &Option<Frame>, head: &Head, own: &Option<RawBox>) -> Option<Option<Frame>>
@@ -213,7 +264,7 @@ fn further_frame(above: &Option<Frame>, head: &Head, own: &Option<RawBox>) -> Op
     Frame::under(above, head, own)
 }
 
-/// A geometry of so many vertices that ends there, if its size is true.
+/// The number of vertices of a geometry that ends at `stop`, if its size is true.
 #[inline(always)]
 fn judged(head: &Head, stop: usize, vertices: usize) -> Result<usize, Doubt>
     requires { IfSome head.now.size (λ size. size.after ≤ stop) }
@@ -258,7 +309,7 @@ fn flat_ranges(bounds: &Option<RawBox>) -> (RawRange, RawRange)
     }
 }
 
-/// A geometry of X and Y whose vertices no frame can hold.
+/// Reads the body of a geometry of X and Y as [`take_apart`] does.
 #[inline(never)]
 fn take_apart_flat<R: IdRoom>(
     room: &mut R,
@@ -291,8 +342,8 @@ fn take_apart_flat<R: IdRoom>(
     )
 }
 
-/// The body of a geometry whose vertices no frame can hold, with its extent; the frame above has to hold that. Its size isn't
-/// judged, and nobody asks where its claims stand.
+/// Reads the body of a geometry whose frame can't be told, as the exact audit does, with its extent. The frame above has to hold
+/// this extent. The caller judges the size. Only the exact audit names places of claims, so the header has zeros for them.
 #[inline(never)]
 fn take_apart<R: IdRoom>(
     room: &mut R,
@@ -398,7 +449,7 @@ fn take_further_body<R: IdRoom>(
     }
 }
 
-/// The members of a collection that stands at `depth`.
+/// The members of a collection at `depth`.
 #[cycle(take_flat)]
 #[inline(always)]
 fn take_members<R: IdRoom>(
@@ -424,10 +475,10 @@ fn take_members<R: IdRoom>(
     let mut vertices = 0;
     for _ in 0..list.count {
         cursor.place_is_within();
-        let Some(begun) = begin_head(cursor, depth + 1) else {
+        let Some((first, metadata)) = cursor.two_bytes() else {
             return Err(Doubt::Refused);
         };
-        let member = take_flat(room, cursor, depth + 1, &below, begun)?;
+        let member = take_flat(room, cursor, depth + 1, &below, first, metadata)?;
         cursor.place_is_within();
         vertices += member;
     }

@@ -1,5 +1,6 @@
 -- The steps of a header.
 use Rattle.std.proofs.Common.{◌≡◌, ℕ, ◌+◌, ◌-◌, ◌/◌, ◌%◌, ◌==◌, List, [], ◌∷◌, ◌++◌, length, Option, Some, None, option_map, is_some, Bool, true, false, ◌&&◌, ◌||◌, ℤ, ◌+ℤ◌, Result, Ok, Err, refl, sym, ap, ap₂, subst, ◌∙◌, arith}
+use Rattle.std.proofs.lemmas.Grind.{common_steps}
 use Rattle.std.proofs.lemmas.List.{append-nil}
 use Rattle.twkb_num.specs.Cursor.{Reading, passed, IsMoved, IsSound}
 use Rattle.twkb_num.specs.Varint.{Spells, SpellsAll, SpellsMany, IsSigned, SpellsTwoSigned, zigzag_value}
@@ -66,6 +67,12 @@ module _ (levels first metadata : ℕ) (old new : Reading) (sound : IsSound old)
       let m : Malformed = record { offset = old.place; why = why } in
       let back : Reading = record way.0 { place = old.place } in
       (m, back, rw (type_refused levels old way.0 first sound (read_byte old way.0 first way.3 way.1) why m back bad refl refl refl) refl)
+
+-- two bytes were passed: the place is two further
+pub two_back : (old new : Reading) (first metadata : ℕ) → IsMoved old new → passed old new ≡ first ∷ metadata ∷ [] → new.place ≡ old.place + 2
+two_back old new first metadata moved bytes =
+    let long : length (passed old new) ≡ new.place - old.place = grind (arith, common_steps, moved.within) in
+    omega (arith, ap length bytes, long, moved.ahead)
 
 -- of a metadata byte the five lowest bits count
 pub rest_same : (kind : Kind) (xy : ℤ) (m n start : ℕ) (b : Reading) → has_bit m 8 ≡ has_bit n 8 → has_bit m 2 ≡ has_bit n 2 → has_bit m 1 ≡ has_bit n 1 → has_bit m 16 ≡ has_bit n 16 → has_bit m 4 ≡ has_bit n 4

@@ -1,5 +1,5 @@
 //! Reading a header.
-ghost use Rattle.std.specs.Prelude.{◌≡◌, ◌≢◌, ◌↔◌, ℕ, ◌-◌, ◌≤◌, ◌%◌, true, false, not, None, Err, option_map, IfOk, OnOk, IfErr, IfSome, IfNone, IsOk, IsSome};
+ghost use Rattle.std.specs.Prelude.{◌≡◌, ◌≢◌, ◌↔◌, ℕ, ◌-◌, ◌≤◌, ◌%◌, [], ◌∷◌, true, false, not, None, Err, option_map, IfOk, OnOk, IfErr, IfSome, IfNone, IsOk, IsSome};
 ghost use Rattle.twkb_num.specs.Cursor.{Reading, rest, passed, counted, IsMoved, IsSound};
 ghost use Rattle.twkb_num.specs.Units.{IsPrecision};
 ghost use Rattle.twkb_head.specs.BegunHeader.{deepest};
@@ -189,8 +189,27 @@ pub fn begin_head(cursor: &mut Cursor, depth: u8) -> Option<Begun>
     ensures moved { IfNone result (IsMoved cursor.old cursor.new) }
     ensures xy { IfSome result (λ begun. IsPrecision begun.xy) }
 {
-    let start = cursor.place();
+    cursor.place_is_within();
     let (first, metadata) = cursor.two_bytes()?;
+    begun_by(cursor, depth, first, metadata)
+}
+
+/// The header of a geometry at `depth` that begins with these two bytes, which were just read. `None` where there is no such
+/// header.
+// Two bytes are passed on from function to function in registers, which a `Begun` isn't.
+#[inline(always)]
+pub fn begun_by(cursor: &Cursor, depth: u8, first: u8, metadata: u8) -> Option<Begun>
+    requires shallowest { 1 ≤ depth }
+    requires deepest { depth ≤ deepest }
+    requires read { 2 ≤ cursor.now.place }
+    ensures some { IfSome result (λ begun. (before : Reading) → IsSound before → IsMoved before cursor.now
+        → passed before cursor.now ≡ first ∷ metadata ∷ [] → BeginsHead begun depth before cursor.now) }
+    ensures none { (before : Reading) → IsSound before → IsMoved before cursor.now
+        → passed before cursor.now ≡ first ∷ metadata ∷ [] → StartsWithHeader depth (rest before) → IsSome result }
+    ensures xy { IfSome result (λ begun. IsPrecision begun.xy) }
+    ensures metadata { IfSome result (λ begun. begun.metadata ≡ metadata) }
+{
+    let start = cursor.place() - 2;
     let Ok(kind) = kind_at(first, depth) else {
         return None;
     };

@@ -281,10 +281,10 @@ module _ (bytes : List ℕ) (many left done low : ℕ) (l : IsEndsLoop bytes man
     few = omega (arith, fewer, l.few);
   }
 
--- the end of the second number in a word
-pub two_ends : (word : List ℕ) (size : ℕ) → length word ≡ 8 → 2 ≤ ends_to word 8 → IsEnd word 2 size → IsFrontOf word 2 size
-two_ends word size eight both end =
+-- bytes up to the second end in a word spell two numbers
+pub two_spelled : (word : List ℕ) (size : ℕ) → length word ≡ 8 → IsEnd word 2 size → IsFrontOf word 2 size
+two_spelled word size eight end =
     let all : word ≡ take 8 word = sym (ap (λ (n : ℕ). take n word) (sym eight) ∙ take-length word) in
-    let early : 1 ≤ ends_to word 7 = omega (arith, both, ended_once word 7) in
+    let early : 1 ≤ ends_to word 7 = omega (arith, end.count, ends_to_grow word size 8 end.few, ended_once word 7) in
     let here : 0 + size ≡ size = omega arith in
     subst (IsFrontOf word 2) here (ends_here word 2 2 0 (2 ^ 56 - 1) (ends_begin word 2) word all (omega (arith, eight)) (λ e. early) (λ e. absurd (omega (arith, e))) size end)

@@ -13,8 +13,8 @@ use std::marker::Model;
 
 /// A place in bytes, and a count of the bytes read, which stays at `u64::MAX` once there.
 ///
-/// Each byte that a call gives away or passes is counted, and no call lowers the count. Only [`Cursor::go_to`] moves without
-/// counting, and it reads nothing.
+/// Every byte that a caller learns of is counted: a call counts each byte that it gives away or passes. No call lowers the count,
+/// lends the bytes, or answers a second cursor. Only [`Cursor::go_to`] moves without counting, and it reads nothing.
 ///
 /// Numbers may be read or passed by words of eight bytes (as by [`Cursor::svarint_pair`], [`Cursor::pass_varint`],
 /// [`Cursor::pass_varints`]). Then up to seven bytes after them are touched too, as a cache line is, and the count is of
@@ -115,7 +115,7 @@ impl<'a> Cursor<'a> {
         self.place = place;
     }
 
-    /// Goes on from the place where it is, as it is known from elsewhere, so that no read waits for the one before.
+    /// Goes on from its own place, which the caller knows from elsewhere. So the next read needn't wait for the one before.
     #[inline(always)]
     pub fn go_on_from(&mut self, same: usize)
         requires { same ≡ self.old.place }
@@ -219,7 +219,7 @@ impl<'a> Cursor<'a> {
         Err(NumFault::Cut)
     }
 
-    // Counts bytes behind the place.
+    // Counts bytes after the place.
     #[inline(always)]
     fn look_at(&mut self, many: usize)
         ensures { self.new ≡ counted self.old many }

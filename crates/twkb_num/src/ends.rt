@@ -33,10 +33,12 @@ pub fn second_end(bytes: &[u8; 8]) -> Option<usize>
     ensures few { IfSome result (λ size. size ≤ 8) }
     ensures front { IfSome result (IsFrontOf bytes.now 2) }
 {
-    if count_of_ends(bytes) < 2 {
+    let ends = tops_of_ends(bytes);
+    let others = ends & ends.wrapping_sub(1);
+    if others == 0 {
         return None;
     }
-    Some(end_of(bytes, 2))
+    Some((others.trailing_zeros() / 8) as usize + 1)
 }
 
 /// Varints at the front of bytes: how many, and how many bytes they take.

@@ -1,7 +1,7 @@
 //! The numbers of TWKB, and the one way to its bytes.
 //!
-//! A [`Cursor`] reads bytes in order and counts each byte that it reads. It lends no slice of them and can't be cloned, so the
-//! crates above read no byte that isn't counted. Over it are the varints of the format:
+//! A [`Cursor`] reads bytes in order and counts each byte that it reads. It lends no slice of them and can't be cloned, so every
+//! byte that a caller learns of is counted. It reads the varints of the format:
 //!
 //! - [`Cursor::uvarint`] and [`Cursor::svarint`] read the number at the cursor's place, or answer one of two faults
 //!   ([`NumFault`]). They are the hot path: numbers of one and of two bytes take no loop.

@@ -1,18 +1,17 @@
 -- Devices of proofs: nothing public names them.
--- The quick pass: what it is sure of.
+-- The first reading: what it certifies, and what it refuses.
 use Rattle.std.specs.Prelude.{◌≡◌, ◌≢◌, ℕ, ◌+◌, ◌-◌, ◌≤◌, ◌+ℤ◌, ◌≤ℤ◌, Bool, false, List, [], ◌++◌, map, Option, Some, None, Result, Ok, Err, All, AllPairs, IfSome, true, ⊤, is_some, ◌||◌, ◌⊎◌, option_map, ℤ}
 use Rattle.twkb_num.specs.Cursor.{Reading, rest}
 use Rattle.twkb_num.specs.Units.{IsPrecision}
 use Rattle.twkb_head.specs.declared.header.Head.{Head}
 use Rattle.twkb_head.specs.declared.kinds.Kind.{Kind}
 use Rattle.twkb_head.specs.declared.boxes.Bounds.{Bounds}
-use Rattle.twkb_head.specs.declared.header.BoxField.{BoxField}
 use Rattle.twkb_head.specs.declared.boxes.Vertex.{Vertex}
 use Rattle.twkb_head.specs.declared.raw.RawBox.{RawBox}
 use Rattle.twkb_head.specs.declared.raw.RawRange.{RawRange}
 use Rattle.twkb_head.specs.BegunHeader.{deepest, is_collection}
 use Rattle.twkb_head.specs.Raw.{raw_bounds}
-use Rattle.twkb_head.specs.Header.{Header, is_multi}
+use Rattle.twkb_head.specs.Header.{Header}
 use Rattle.twkb_head.specs.Holds.{Holds}
 use Rattle.twkb_head.specs.Shared.Reader.{many_at, Fails}
 use Rattle.twkb_head.specs.declared.refusal.Malformed.{Malformed}
@@ -47,19 +46,6 @@ faultless vertices = record { vertices = vertices; refused = None }
 abbrev pub unseen : Seen
 unseen = record { asked = false; extent = reach_of [] }
 
--- Of this kind, with ids or none, the parts of a body were read, and their points added to a state. It has this many
--- points, and its ids, if any, are true.
-pub record AddsParts {S : Type 0} (step : S → PointValue → S) (kind : Kind) (has_ids : Bool) (axes : ℕ) (old new : Reading) (state state' : S) (vertices : ℕ) : Type 0 where
-  pub list : ListHead
-  pub middle : Reading
-  pub parts : List PolygonValue
-  pub after : Trail
-  pub counted : count_at (is_multi kind) has_ids old ≡ (Ok list, middle)
-  pub found : IsListFound old middle list (record { count = (list.0).0; ids = None })
-  pub read : many_at (list.0).0 ring_sums (part_at kind axes) zeros middle ≡ (Ok parts, new)
-  pub walked : IsWalked step axes (record { last = zeros; points = 0 }) after state state' middle.place new.place (points_of parts)
-  pub vertices_are : vertices ≡ after.points
-
 -- So many parts of this kind were read, and their points added to a state; there are so many of these.
 pub record ReadParts {S : Type 0} (step : S → PointValue → S) (kind : Kind) (axes count : ℕ) (old new : Reading) (state state' : S) (vertices : ℕ) : Type 0 where
   pub parts : List PolygonValue
@@ -77,12 +63,6 @@ abbrev pub AreHeld : Bool → Kind → ℕ → ℕ → RawBox → Reading → Re
 AreHeld all kind axes count box old new vertices =
     (held : Held) × ReadParts (held_then axes) kind axes count old new (record { box = box; inside = true }) held vertices × (held.inside ≡ all)
 
--- The parts of a body were read, and a box of raw numbers holds their points.
-abbrev pub AddsHeld : Kind → Bool → ℕ → RawBox → Reading → Reading → ℕ → Type 0
-AddsHeld kind has_ids axes box old new vertices =
-    (held : Held) × AddsParts (held_then axes) kind has_ids axes old new (record { box = box; inside = true }) held vertices × (held.inside ≡ true)
-
--- what a box above holds, and what is held if there is none
 abbrev pub frame_bounds : Frame → Bounds
 frame_bounds frame = raw_bounds frame.xy frame.z frame.m frame.bounds
 

@@ -40,7 +40,7 @@ pub fn take_count<R: IdRoom>(
     }
 }
 
-/// A header of so many axes that says nothing else.
+/// A header with this kind and this number of axes, and nothing else.
 #[inline(always)]
 pub fn head_of(kind: Kind, axes: usize) -> Head
     requires some { 2 ≤ axes }
@@ -65,7 +65,7 @@ pub fn head_of(kind: Kind, axes: usize) -> Head
     }
 }
 
-/// A body of three axes or four, if a box holds its points.
+/// Reads a body of three axes or four, whose points the box has to hold.
 #[inline(always)]
 pub fn take_boxed(
     cursor: &mut Cursor,
@@ -88,7 +88,7 @@ pub fn take_boxed(
     }
 }
 
-/// A body of `AXES` axes, if a box holds its points.
+/// Reads a body of `AXES` axes, whose points the box has to hold.
 // It isn't inlined, since a function that would grow very large has nothing inlined.
 #[inline(never)]
 fn take_boxed_by<const AXES: usize>(
@@ -114,7 +114,7 @@ fn take_boxed_by<const AXES: usize>(
     Ok(vertices)
 }
 
-/// So many parts of a body of so many axes.
+/// Reads `count` parts whose points have `axes` numbers, and answers how many points there are.
 #[inline(always)]
 pub fn take_parts_of<P: Points>(
     cursor: &mut Cursor,

@@ -1,7 +1,7 @@
-//! Bodies that no box asks for, in the first reading. While numbers are short and points are few no sum can leave 64 bits, so
-//! numbers are passed by their ends. Otherwise coordinates are summed up.
+//! Bodies that no box asks for, in the first reading. If numbers are short and points are few, no sum can leave 64 bits: then all
+//! numbers are passed by their ends. Otherwise coordinates are summed, from the first.
 ghost use Rattle.std.specs.Prelude.{◌≡◌, ◌≤◌, IfOk, IfErr, IfSome, IfNone, OnErr};
-ghost use Rattle.twkb_head.specs.declared.kinds.Kind.TheVariants.{Point};
+ghost use Rattle.twkb_head.specs.declared.kinds.Kind.TheVariants.{Point, LineString};
 ghost use Rattle.twkb_body.specs.Devices.Bare.{unchanged};
 ghost use Rattle.twkb_body.specs.Devices.Sure.{ReadParts, AreMalformed};
 ghost use Rattle.twkb_body.specs.declared.doubt.Doubt.TheVariants.{Refused};
@@ -19,7 +19,7 @@ const MOST: u64 = 1 << 14;
 const MOST_LINES: u64 = 1 << 16;
 
 /// Reads `count` parts of a kind, whose points have `axes` numbers, and answers how many points there are.
-// It isn't inlined, and is handed no header, so that none is set up where a box asks.
+// It isn't inlined, and is handed no header, so that none is set up if a box asks.
 #[inline(never)]
 pub fn take_unboxed(
     cursor: &mut Cursor,
@@ -36,6 +36,20 @@ pub fn take_unboxed(
     match pass_parts(cursor, kind, axes, count) {
         Some(points) => Ok(points),
         None => take_summed(cursor, kind, axes, count),
+    }
+}
+
+/// Reads a line of X and Y as [`take_unboxed`] does.
+// What is compiled for it has no code for other kinds.
+#[inline(never)]
+pub fn take_flat_line(cursor: &mut Cursor) -> Result<usize, Doubt>
+    ensures ok { IfOk result (ReadParts unchanged LineString 2 1 cursor.old cursor.new tt tt) }
+    ensures malformed { OnErr result (AreMalformed LineString 2 1 cursor.old cursor.new) }
+    ensures refused { IfErr result (λ doubt. doubt ≡ Refused) }
+{
+    match pass_parts(cursor, Kind::LineString, 2, 1) {
+        Some(points) => Ok(points),
+        None => take_summed(cursor, Kind::LineString, 2, 1),
     }
 }
 

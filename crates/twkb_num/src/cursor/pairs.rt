@@ -1,4 +1,4 @@
-//! Two signed numbers at a cursor's place, read or passed together.
+//! Two to four signed numbers at a cursor's place, read together, and two numbers passed together.
 ghost use Rattle.std.specs.Prelude.{◌≡◌, ◌↔◌, IfSome, IfNone, OnSome, IsTrue};
 ghost use Rattle.twkb_num.specs.Cursor.{Reading, passed, IsMoved};
 ghost use Rattle.twkb_num.specs.Varint.{SpellsMany, SpellsTwoSigned, IsSigned, IsShort};
@@ -76,7 +76,7 @@ impl<'a> Cursor<'a> {
         Some((pair, one))
     }
 
-    // A copy, which is put in the place of the cursor, or dropped with what it read.
+    // A copy for calls that read all or nothing: it replaces the cursor, or is dropped with what it read.
     #[inline(always)]
     pub(super) fn copied(&self) -> Cursor<'a>
         ensures { result ≡ self.now }

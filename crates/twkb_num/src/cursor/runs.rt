@@ -1,15 +1,15 @@
-//! Runs of varints, each behind a count of its own, passed by their ends.
+//! Runs of varints, each after its own count, passed by their ends.
 ghost use Rattle.std.specs.Prelude.{◌≡◌, ◌≤◌, ◌^◌, IfSome, IfNone, OnSome};
 ghost use Rattle.twkb_num.specs.Cursor.{IsMoved};
 ghost use Rattle.twkb_num.specs.Runs.{PassesRuns, PassesCountedRuns};
 
 use super::Cursor;
 
-/// More runs than this aren't passed ahead.
+/// More runs than this aren't passed at once.
 const MOST_RUNS: u64 = 1 << 16;
 
 impl<'a> Cursor<'a> {
-    /// Passes `runs` runs of varints, or none of them. A run is a count, and behind it that many groups of `each` varints.
+    /// Passes `runs` runs of varints, or none of them. A run is a count, and after it that many groups of `each` varints.
     /// Answers how many groups there were in all.
     ///
     /// It passes nothing and answers `None` if there are more than `most` groups, a count can't be read, or

@@ -1,5 +1,5 @@
 -- Its header announces no box, so its one part decides, and its size if it has one.
-use Rattle.std.proofs.Common.{◌≡◌, ◌≤◌, ℕ, None, refl, ap, subst, ◌∙◌, arith}
+use Rattle.std.proofs.Common.{ℕ, None, refl, ap, subst, ◌∙◌, arith}
 use Rattle.std.proofs.lemmas.Result.{err_from_is_err_and}
 use Rattle.twkb_num.specs.Cursor.{Reading}
 use Rattle.twkb_head.specs.Header.{has_bit}
@@ -26,7 +26,7 @@ returns-in_err-vertices c = λ before sound begins.
     let no_box = c.in-Ok.ensures.no_box (ap (λ (x : Begun). has_bit x.metadata 1) c.announcing.ensures) in
     let kind = c.in-Ok.ensures.kind ∙ ap (λ (x : Begun). x.kind) c.announcing.ensures ∙ c.requires.line in
     let p = err_from_is_err_and c.from_residual.result c.from_residual.ensures.1 in
-    rw (p.1, p.2) (bare_doubts c.in-Ok.raw c.boxless-head.result c.boxless-head.ensures LineString before c.take_rest.new.cursor c.take_unboxed.new.cursor sound s.0 s.1 kind refl refl flat.0 flat.1 full no_box _ c.in_err-vertices.ensures.refused c.in_err-vertices.ensures.malformed)
+    rw (p.1, p.2) (bare_doubts c.in-Ok.raw c.boxless-head.result c.boxless-head.ensures LineString before c.take_rest.new.cursor c.take_flat_line.new.cursor sound s.0 s.1 kind refl refl flat.0 flat.1 full no_box _ c.in_err-vertices.ensures.refused c.in_err-vertices.ensures.malformed)
 
 pub judged-requires : goal.judged-requires
 judged-requires c =
@@ -43,5 +43,5 @@ returns c = λ before sound begins.
     let full = c.in-Ok.ensures.empty ∙ ap (λ (x : Begun). has_bit x.metadata 16) c.announcing.ensures in
     let no_box = c.in-Ok.ensures.no_box (ap (λ (x : Begun). has_bit x.metadata 1) c.announcing.ensures) in
     let kind = c.in-Ok.ensures.kind ∙ ap (λ (x : Begun). x.kind) c.announcing.ensures ∙ c.requires.line in
-    bare_certifies c.in-Ok.raw c.boxless-head.result c.boxless-head.ensures LineString before c.take_rest.new.cursor c.take_unboxed.new.cursor sound s.0 s.1 kind refl refl flat.0 flat.1 full no_box c.in_ok-vertices.vertices c.judged.result c.in_ok-vertices.ensures.ok
+    bare_certifies c.in-Ok.raw c.boxless-head.result c.boxless-head.ensures LineString before c.take_rest.new.cursor c.take_flat_line.new.cursor sound s.0 s.1 kind refl refl flat.0 flat.1 full no_box c.in_ok-vertices.vertices c.judged.result c.in_ok-vertices.ensures.ok
     (subst (λ (stop : ℕ). IsJudged c.boxless-head.result stop c.in_ok-vertices.vertices c.judged.result) c.place.ensures.value c.judged.ensures)

@@ -1,5 +1,5 @@
 -- The points of X and Y lie in the frame, or the body is refuted.
-use Rattle.std.proofs.Common.{◌≡◌, ℕ, Bool, true, false, None, Some, refl, sym, ap, ap₂, subst, ◌∙◌}
+use Rattle.std.proofs.Common.{◌≡◌, ℕ, true, false, None, sym, ap₂, subst, ◌∙◌}
 use Rattle.std.proofs.lemmas.Result.{err_from_is_err_and}
 use Rattle.twkb_num.specs.Cursor.{rest}
 use Rattle.twkb_head.specs.Header.{axes_with, axes_of}

@@ -1,5 +1,4 @@
 -- The points lie in the frame, or the body is refuted.
-use Rattle.std.proofs.Common.{◌≡◌, Bool, true, false, None, Some, refl, sym, ap, subst, ◌∙◌}
 use Rattle.std.proofs.lemmas.Result.{err_from_is_err_and}
 use Rattle.twkb_body.proofs.Refuting.{three_or_four, shape_count_doubts, boxed_certifies, unboxed_certifies}
 use Rattle.twkb_body.proofs.sure.take_further_shape.Goals as goal

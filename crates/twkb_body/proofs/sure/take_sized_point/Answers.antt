@@ -1,5 +1,5 @@
 -- Its header announces no box, so its one part decides, and its size if it has one.
-use Rattle.std.proofs.Common.{◌≡◌, ◌≤◌, ℕ, None, Ok, Err, refl, sym, ap, subst, ◌∙◌, arith}
+use Rattle.std.proofs.Common.{◌≡◌, ℕ, None, Ok, Err, refl, sym, ap, subst, ◌∙◌, arith}
 use Rattle.std.proofs.lemmas.Result.{err_from_is_err_and}
 use Rattle.twkb_num.specs.Cursor.{Reading}
 use Rattle.twkb_head.specs.Header.{has_bit}

@@ -1,10 +1,13 @@
--- Two ends in a word are those of the first two varints.
-use Rattle.std.proofs.Common.{◌≡◌, length, arith}
-use Rattle.twkb_num.proofs.ManySpelled.{two_ends}
+-- The lowest top but one ends the second varint.
+use Rattle.std.proofs.Common.{rules}
+use Rattle.twkb_num.proofs.ManySpelled.{two_spelled}
+use Rattle.twkb_num.proofs.TwoEnds.{second_end_found}
 use Rattle.twkb_num.proofs.ends.second_end.Goals as goal
+
+pub returns-clause-few : goal.returns-clause-few
+returns-clause-few c = (second_end_found c.args.bytes.now c.tops_of_ends-ends.result c.tops_of_ends-ends.type_inv c.tops_of_ends-ends.ensures c.if-others-eq0.false).few
 
 pub returns-clause-front : goal.returns-clause-front
 returns-clause-front c =
-    let bytes = c.args.bytes.now in
-    let long : length bytes ≡ 8 = omega (arith, c.told-bytes) in
-    two_ends bytes c.end_of.result long (omega (arith, c.count_of_ends.ensures, c.if-count_of_ends-lt2.false)) c.end_of.ensures
+    let found = second_end_found c.args.bytes.now c.tops_of_ends-ends.result c.tops_of_ends-ends.type_inv c.tops_of_ends-ends.ensures c.if-others-eq0.false in
+    two_spelled c.args.bytes.now _ (search rules) found
