@@ -18,8 +18,10 @@ TOP = os.path.dirname(os.path.dirname(os.path.abspath(__file__)))
 GATE, APART = "must-fail", "must-fail-apart"
 
 FUNCTION = re.compile(r'^( *)(?:pub(?:\(\w+\))? )?(?:const )?(?:unsafe )?(?:extern "C" )?fn (\w+)', re.MULTILINE)
-# A line of a check's report on a function that isn't proved, not only since one that it calls isn't. The kit tells it so too.
-UNPROVED = re.compile(r"^fn (\S+): (?:not proved|no proof)(?!.*(?:it calls|it passes|a call of))", re.MULTILINE)
+# A line of a check's report on a function that isn't proved, and not only since one that it calls isn't, which is then the first
+# reason that the line gives.
+ELSEWHERE = r"it calls|it passes|a call of|in `\S+`, of this cycle"
+UNPROVED = re.compile(rf"^fn (\S+): (?:not proved|no proof)(?!: (?:{ELSEWHERE}))", re.MULTILINE)
 
 
 class BadEdit(Exception):
