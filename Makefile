@@ -7,7 +7,7 @@ LIBRARY = build/bindings/libtwkb.so
 # The layer that `make try` checks.
 FILE = examples/coast_lines_sized.twkb
 # The libraries that the program uses, each after those that it uses itself.
-LIBRARIES = refusing twkb_num twkb_head plain random_layers twkb_body twkb_layer
+LIBRARIES = refusing twkb_num twkb_head twkb_body twkb_layer
 PREFIX = /usr/local
 # How long `make fuzz` looks. It takes a seed of the clock where none is given by SEED=..
 SECONDS = 600

@@ -17,7 +17,7 @@ import time
 
 from harness import TOP, count, counts, written
 
-LIBRARIES = ["refusing", "twkb_num", "twkb_head", "plain", "random_layers", "twkb_body", "twkb_layer"]
+LIBRARIES = ["refusing", "twkb_num", "twkb_head", "twkb_body", "twkb_layer"]
 # A line for each crate that is begun, and for each that ended: the crate and its words. BESIDE has pairs ONE:OTHER, where ONE waits for
 # OTHER to be begun. HELD names crates that wait for a file, FAILS one that isn't proved, and SLOW one that goes on until it is stopped.
 # What waits in vain for half a minute fails.
@@ -107,9 +107,7 @@ def stands_on():
 
 def proved(folder):
     """Each crate is proved once, after those that it uses; and those that have nothing to do with one another at once."""
-    beside = (("refusing", "twkb_num"), ("plain", "random_layers"))
-    pairs = " ".join(f"{one}:{other} {other}:{one}" for one, other in beside)
-    done, calls = make(folder, "build", BESIDE=pairs)
+    done, calls = make(folder, "build", BESIDE="refusing:twkb_num twkb_num:refusing")
     count("make build, where some wait for one another", (done.returncode, done.stderr), (0, ""))
     words = {crate: words for what, crate, words in calls if what == "begun"}
     wanted = dict.fromkeys(LIBRARIES, "lib") | {"twkb_tool": "run -- check /dev/null"}
@@ -138,7 +136,7 @@ def told(folder):
     run, marks = side_by_side(folder, "--every", "0.1", *LIBRARIES, HELD=" ".join(held))
     lines = []
     for row in run.stdout:
-        match = re.fullmatch(r"\d+ min: (\d) of 7 proved, at work on (\w+(?: and \w+)*)", row.rstrip("\n"))
+        match = re.fullmatch(r"\d+ min: (\d) of 5 proved, at work on (\w+(?: and \w+)*)", row.rstrip("\n"))
         if match:
             lines.append(int(match[1]))
             for crate in set(held) & set(match[2].split(" and ")):
@@ -170,12 +168,12 @@ def is_gone(number):
 
 def fails(folder):
     """A crate that isn't proved is named with what was said of it, what runs beside it is stopped, and nothing more is begun."""
-    run, marks = side_by_side(folder, *LIBRARIES, FAILS="plain", SLOW="random_layers", BESIDE="plain:random_layers")
-    slow = process(marks, "random_layers")
+    run, marks = side_by_side(folder, *LIBRARIES, FAILS="twkb_num", SLOW="refusing", BESIDE="twkb_num:refusing")
+    slow = process(marks, "refusing")
     out, error = run.communicate()
     count("the slow one is begun and stopped", (slow is not None, slow is None or is_gone(slow)), (True, True))
-    count("a crate that fails", (run.returncode, error), (1, "plain says something\nprove.py: plain isn't proved\n"))
-    count("what isn't begun", [crate for crate in LIBRARIES if f"proving {crate}," in out], LIBRARIES[:5])
+    count("a crate that fails", (run.returncode, error), (1, "twkb_num says something\nprove.py: twkb_num isn't proved\n"))
+    count("what isn't begun", [crate for crate in LIBRARIES if f"proving {crate}," in out], LIBRARIES[:2])
     done, _ = make(folder, "build", FAILS="twkb_num")
     count("make, a crate that fails", (done.returncode, "prove.py: twkb_num isn't proved" in done.stderr), (2, True))
 

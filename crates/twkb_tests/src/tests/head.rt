@@ -5,7 +5,6 @@ use std::process::Abort;
 use twkb_head::*;
 
 mod raw_heads;
-mod short_heads;
 
 const KINDS: [Kind; 7] = [
     Kind::Point,

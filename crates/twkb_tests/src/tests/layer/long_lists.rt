@@ -182,21 +182,13 @@ fn each_growth_is_refused(rt: HostRuntime) {
     };
     for &list in &LISTS {
         for is_tight in [false, true] {
-            for step in [MIXED, FALLING] {
+            for step in [RISING, MIXED, FALLING] {
                 let ids = different(step);
                 assert!(&rt; growths_of(&rt, rt.alloc(), &list, &ids, is_tight, None) > 1);
             }
             let refused = growths_of(&rt, rt.alloc(), &list, &two_equal, is_tight, EQUAL_IDS);
             assert!(&rt; refused > 1);
         }
-        // Ids that rise need no memory, but in tight checking.
-        let ids = different(RISING);
-        equal(
-            &rt,
-            growths_of(&rt, rt.alloc(), &list, &ids, false, None),
-            0,
-        );
-        assert!(&rt; growths_of(&rt, rt.alloc(), &list, &ids, true, None) > 1);
     }
 }
 
@@ -229,7 +221,7 @@ fn lent_room(rt: HostRuntime) -> Result<(), Fail> {
     };
     for &list in &LISTS {
         for is_tight in [false, true] {
-            for step in [MIXED, FALLING] {
+            for step in [RISING, MIXED, FALLING] {
                 let bytes = layer(rt.alloc(), &list, &different(step))?;
                 equal(&rt, refusal_in_enough(&bytes, is_tight), None);
                 equal(
@@ -246,15 +238,6 @@ fn lent_room(rt: HostRuntime) -> Result<(), Fail> {
                 Some(Refusal::Memory),
             );
         }
-        // Ids that rise want no room, but in tight checking.
-        let bytes = layer(rt.alloc(), &list, &different(RISING))?;
-        equal(&rt, refusal_with(&mut [], &bytes, false), None);
-        equal(
-            &rt,
-            refusal_with(&mut [], &bytes, true),
-            Some(Refusal::Memory),
-        );
-        equal(&rt, refusal_in_enough(&bytes, true), None);
     }
     Ok(())
 }

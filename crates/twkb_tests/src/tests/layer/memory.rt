@@ -22,7 +22,7 @@ fn runs_out<A: Allocator>(rt: &impl Abort, memory: &A, bytes: &[u8]) -> bool {
     }
 }
 
-// A list of more than sixteen ids that don't rise.
+// A list of more than sixteen ids.
 #[test]
 fn each_allocation_is_refused(rt: HostRuntime) {
     let mut refusals = 0u64;

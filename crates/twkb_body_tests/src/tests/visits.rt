@@ -1,0 +1,115 @@
+//! Visits of points at random, each vertex against that of the plain reader: numbers of each length, with a size or a box and
+//! with none, at the end of the bytes and before others.
+use super::bytes::put_bytes;
+use super::random_bodies::geometry;
+use super::*;
+use random_layers::Dice;
+use std::alloc::{AllocError, Global};
+use std::process::Abort;
+
+// Whether it is shown these vertices, one after another. Its contract says nothing of them: they are compared below.
+#[derive(Drop)]
+struct Expecting<'a> {
+    vertices: &'a [Vertex],
+    shown: usize,
+    wrong: usize,
+}
+
+impl<'a> Visit for Expecting<'a> {
+    ghost use Rattle.std.specs.Prelude.{false, true, ◌≡◌};
+    ghost use Rattle.std.proofs.Common.{refl};
+
+    ghost State = { Unit {0} };
+
+    ghost state = { λ s. tt };
+
+    ghost step = { λ s v. s };
+
+    ghost passes = { λ s b. false };
+
+    ghost sound = { λ s b v e h. refl };
+
+    fn point(&mut self, v: &Vertex) {
+        if self.vertices.get(self.shown) != Some(v) {
+            self.wrong = self.wrong.saturating_add(1);
+        }
+        self.shown = self.shown.saturating_add(1);
+    }
+
+    fn skips(&self, _b: &Bounds) -> bool {
+        false
+    }
+}
+
+// A skim of the blob shows the vertices of the layer that a plain reader found there.
+fn are_shown(rt: &impl Abort, alloc: Global, bytes: &[u8], layer: &plain::Layer) {
+    let mut expecting = Expecting {
+        vertices: &layer.vertices,
+        shown: 0,
+        wrong: 0,
+    };
+    let end = skims::skimmed(alloc, bytes, &mut expecting);
+    let whole = layer.geometries.first().map_or(0, |blob| blob.whole);
+    equal(rt, (end, bytes), (Some((whole, whole as u64)), bytes));
+    equal(rt, (expecting.shown, bytes), (layer.vertices.len(), bytes));
+    equal(rt, (expecting.wrong, bytes), (0, bytes));
+}
+
+#[test]
+fn random_points_are_shown(rt: HostRuntime) -> Result<(), Fail> {
+    let mut visited = 0usize;
+    for seed in 0..3000 {
+        let bytes = geometry(rt.alloc(), &mut Dice::new(seed))?;
+        if let Ok(layer) = plain::read_blob(rt.alloc(), &bytes) {
+            are_shown(&rt, rt.alloc(), &bytes, &layer);
+            visited = visited.saturating_add(1);
+        }
+    }
+    // What is cut, sums that leave 64 bits and boxes that miss a vertex are left out.
+    assert!(rt; visited > 1000, "{visited}");
+    Ok(())
+}
+
+// Points whose differences are all one number, of one byte or two, with a size or none, and so many other bytes behind.
+fn even_line(
+    alloc: Global,
+    difference: &[u8],
+    count: u8,
+    has_size: bool,
+    behind: usize,
+) -> Result<Vec<u8>, AllocError> {
+    let mut out = Vec::new(alloc);
+    let numbers = usize::from(count).saturating_mul(2);
+    out.extend_from_slice(&[0x02, if has_size { 0x02 } else { 0x00 }])?;
+    if has_size {
+        let size = numbers.saturating_mul(difference.len()).saturating_add(1);
+        out.push((size % 128) as u8)?;
+    }
+    out.push(count)?;
+    for _ in 0..numbers {
+        out.extend_from_slice(difference)?;
+    }
+    put_bytes(&mut out, 0xFF, behind)?;
+    Ok(out)
+}
+
+#[test]
+fn words_up_to_the_end(rt: HostRuntime) -> Result<(), Fail> {
+    let mut visited = 0usize;
+    let differences: [&[u8]; 3] = [&[0x01], &[0x7E], &[0x81, 0x01]];
+    for difference in differences {
+        for count in 0..18 {
+            for has_size in [false, true] {
+                for behind in 0..9 {
+                    let bytes = even_line(rt.alloc(), difference, count, has_size, behind)?;
+                    if let Ok(layer) = plain::read_blob(rt.alloc(), &bytes) {
+                        are_shown(&rt, rt.alloc(), &bytes, &layer);
+                        visited = visited.saturating_add(1);
+                    }
+                }
+            }
+        }
+    }
+    equal(&rt, visited, 972);
+    Ok(())
+}
