@@ -1,16 +1,15 @@
 -- What the first reading of a blob says of it: a point with a size, a bare line, and that a blob which it refutes isn't certified.
-use Rattle.std.proofs.Common.{◌≡◌, ℕ, ◌-◌, ◌%◌, false, List, ◌++◌, Option, None, option_map, Result, Ok, Err, refl, sym, ap, ap₂, subst, ◌∙◌, arith}
+use Rattle.std.proofs.Common.{◌≡◌, ℕ, ◌-◌, false, List, ◌++◌, Option, None, option_map, Result, Ok, Err, refl, sym, ap, ap₂, subst, ◌∙◌, arith}
 use Rattle.twkb_num.specs.Cursor.{Reading, rest, passed, IsMoved, IsSound}
 use Rattle.twkb_num.proofs.CursorLemmas.{rest-passed}
 use Rattle.twkb_head.specs.declared.header.Head.{Head}
 use Rattle.twkb_head.specs.declared.kinds.Kind.{Kind}
 use Rattle.twkb_head.specs.declared.raw.Fields.{Fields}
 use Rattle.twkb_head.specs.declared.raw.RawBox.{RawBox}
-use Rattle.twkb_head.specs.declared.read.Begun.{Begun}
 use Rattle.twkb_head.specs.BegunHeader.{deepest, is_collection}
 use Rattle.twkb_head.specs.Head.{IsHeadAt}
 use Rattle.twkb_head.specs.Header.{axes_of, axes_with, is_multi}
-use Rattle.twkb_head.specs.Raw.{BeginsHead, head_said, boxless}
+use Rattle.twkb_head.specs.Raw.{head_said, boxless}
 use Rattle.twkb_head.specs.Shared.Reader.{Answer}
 use Rattle.twkb_body.specs.declared.doubt.Doubt.{Doubt}
 use Rattle.twkb_body.specs.declared.doubt.Doubt.TheVariants.{Refused}
@@ -29,22 +28,6 @@ use Rattle.twkb_body.proofs.ClaimPlaces.{claims_move_by}
 use Rattle.twkb_body.proofs.Refuting.{adds_parts, parts_refute, malformed_keeps, body_doubts, judged_certifies}
 use Rattle.twkb_body.proofs.ShapeSteps.{one_alone}
 use Rattle.twkb_body.proofs.SureSteps.{body_unboxed, frame_alone}
-
--- of the metadata byte the five lowest bits count
-pub announced_begins : (begun other : Begun) (depth : ℕ) (before now : Reading) (metadata : ℕ) → begun.metadata % 32 ≡ metadata → metadata % 32 ≡ metadata → other ≡ record begun { metadata = metadata } → BeginsHead begun depth before now
-    → BeginsHead other depth before now
-announced_begins begun other depth before now metadata is low same b =
-    subst (λ (x : Begun). BeginsHead x depth before now) (sym same) (record {
-      type_byte = b.type_byte;
-      metadata = b.metadata;
-      bytes = b.bytes;
-      moved = b.moved;
-      kind = b.kind;
-      allowed = b.allowed;
-      precision = b.precision;
-      announced = b.announced ∙ is ∙ sym low;
-      start = b.start;
-    })
 
 -- ---- a blob of X and Y with one part and no box
 module _ (raw : Fields) (plain : Head) (same : plain ≡ boxless raw) (kind : Kind) (r mid new : Reading) (sound : IsSound r) (at : IsHeadAt (head_said raw) 1 r.place (passed r mid)) (moved : IsMoved r mid)

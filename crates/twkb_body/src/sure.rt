@@ -29,7 +29,7 @@ use crate::lists::take_list;
 use crate::rooms::IdRoom;
 use crate::seen::Seen;
 use twkb_head::{
-    Axes, Begun, BoxField, Head, Kind, RawBox, RawRange, SizeField, begun_by, take_rest,
+    Axes, Begun, BoxField, Head, Kind, RawBox, RawRange, SizeField, begun_as, begun_by, take_rest,
 };
 use twkb_num::Cursor;
 
@@ -45,61 +45,40 @@ pub fn take_blob<R: IdRoom>(room: &mut R, cursor: &mut Cursor) -> Result<(usize,
     let Some((first, metadata)) = cursor.two_bytes() else {
         return Err(Doubt::Refused);
     };
-    if is_plain(first, metadata) {
-        return take_plain(room, cursor, first, metadata);
+    if let Some(begun) = begun_as(cursor, Kind::Point, SIZE_ALONE, first, metadata) {
+        return take_plain_point(cursor, begun);
     }
-    let vertices = take_flat(room, cursor, 1, &None, first, metadata)?;
-    Ok((vertices, cursor.place()))
-}
-
-/// Whether a header begins so that there is no box: of a point with a size, or of a line without one.
-#[inline(always)]
-fn is_plain(first: u8, metadata: u8) -> bool {
-    (first % 16 == 1 && metadata % 32 == 2) || (first % 16 == 2 && metadata % 32 == 0)
-}
-
-/// A blob that begins with these two bytes, which were passed. It is read fastest if it is [`is_plain`].
-#[inline(always)]
-fn take_plain<R: IdRoom>(
-    room: &mut R,
-    cursor: &mut Cursor,
-    first: u8,
-    metadata: u8,
-) -> Result<(usize, usize), Doubt>
-    requires read { 2 ≤ cursor.old.place }
-    requires before { (before : Reading) × IsSound before × IsMoved before cursor.old
-        × (passed before cursor.old ≡ first ∷ metadata ∷ []) }
-    ensures certified { (before : Reading) → IsSound before → IsMoved before cursor.old
-        → passed before cursor.old ≡ first ∷ metadata ∷ []
-        → Certifies 1 None before (counted_in result) cursor.new }
-    ensures stop { IfOk result (λ both. both.1 ≡ cursor.new.place) }
-{
-    let Some(begun) = begun_by(cursor, 1, first, metadata) else {
-        return Err(Doubt::Refused);
-    };
-    if begun.is_sized_point() {
-        return take_sized_point(cursor, begun);
+    if let Some(begun) = begun_as(cursor, Kind::Point, NO_FIELD, first, metadata) {
+        return take_plain_point(cursor, begun);
     }
-    let vertices = if begun.is_bare_line() {
-        take_bare_line(cursor, begun)?
-    } else {
-        take_flat(room, cursor, 1, &None, first, metadata)?
+    let vertices = match begun_as(cursor, Kind::LineString, NO_FIELD, first, metadata) {
+        Some(begun) => take_plain_line(cursor, begun)?,
+        None => take_flat(room, cursor, 1, &None, first, metadata)?,
     };
     Ok((vertices, cursor.place()))
 }
 
-/// A point that has a size and nothing else, after its first two bytes.
+/// The lowest five bits of a metadata byte that announces a size and no other field, of a geometry that isn't empty (TWKB
+/// specification, "Metadata Header").
+const SIZE_ALONE: u8 = 2;
+
+/// The lowest five bits of one that announces no field.
+const NO_FIELD: u8 = 0;
+
+/// A point of X and Y without a box, after its first two bytes.
 #[inline(always)]
-fn take_sized_point(cursor: &mut Cursor, begun: Begun) -> Result<(usize, usize), Doubt>
+fn take_plain_point(cursor: &mut Cursor, begun: Begun) -> Result<(usize, usize), Doubt>
     requires xy { IsPrecision begun.xy }
-    requires announced { begun.metadata % 32 ≡ 2 }
+    requires flat { has_bit begun.metadata 8 ≡ false }
+    requires full { has_bit begun.metadata 16 ≡ false }
+    requires no_box { has_bit begun.metadata 1 ≡ false }
     requires point { begun.kind ≡ Point }
     requires before { (before : Reading) × IsSound before × BeginsHead begun 1 before cursor.old }
     ensures certified { (before : Reading) → IsSound before → BeginsHead begun 1 before cursor.old
         → Certifies 1 None before (counted_in result) cursor.new }
     ensures stop { IfOk result (λ both. both.1 ≡ cursor.new.place) }
 {
-    let Ok(raw) = take_rest(cursor, begun.announcing(2)) else {
+    let Ok(raw) = take_rest(cursor, begun) else {
         return Err(Doubt::Refused);
     };
     let vertices = take_bare_point(cursor)?;
@@ -108,17 +87,19 @@ fn take_sized_point(cursor: &mut Cursor, begun: Begun) -> Result<(usize, usize),
     Ok((vertices, stop))
 }
 
-/// A line of X and Y with neither a size nor a box, after its first two bytes.
+/// A line of X and Y without a box, after its first two bytes.
 #[inline(always)]
-fn take_bare_line(cursor: &mut Cursor, begun: Begun) -> Result<usize, Doubt>
+fn take_plain_line(cursor: &mut Cursor, begun: Begun) -> Result<usize, Doubt>
     requires xy { IsPrecision begun.xy }
-    requires announced { begun.metadata % 32 ≡ 0 }
+    requires flat { has_bit begun.metadata 8 ≡ false }
+    requires full { has_bit begun.metadata 16 ≡ false }
+    requires no_box { has_bit begun.metadata 1 ≡ false }
     requires line { begun.kind ≡ LineString }
     requires before { (before : Reading) × IsSound before × BeginsHead begun 1 before cursor.old }
     ensures { (before : Reading) → IsSound before → BeginsHead begun 1 before cursor.old
         → Certifies 1 None before result cursor.new }
 {
-    let Ok(raw) = take_rest(cursor, begun.announcing(0)) else {
+    let Ok(raw) = take_rest(cursor, begun) else {
         return Err(Doubt::Refused);
     };
     let head = raw.boxless();

@@ -1,5 +1,7 @@
 -- The steps of a header.
-use Rattle.std.proofs.Common.{◌≡◌, ℕ, ◌+◌, ◌-◌, ◌/◌, ◌%◌, ◌==◌, List, [], ◌∷◌, ◌++◌, length, Option, Some, None, option_map, is_some, Bool, true, false, ◌&&◌, ◌||◌, ℤ, ◌+ℤ◌, Result, Ok, Err, refl, sym, ap, ap₂, subst, ◌∙◌, arith}
+use Rattle.std.proofs.Common.{◌≡◌, ℕ, ◌+◌, ◌-◌, ◌*◌, ◌/◌, ◌%◌, ◌<◌, ◌==◌, List, [], ◌∷◌, ◌++◌, length, Option, Some, None, option_map, is_some, Bool, true, false, ◌&&◌, ◌||◌, ℤ, ◌+ℤ◌, Result, Ok, Err, refl, sym, ap, ap₂, subst, ◌∙◌, arith}
+use Rattle.std.specs.Int.Bits.{bit_and}
+use Rattle.std.proofs.lemmas.Nat.{and_block, and_mask}
 use Rattle.std.proofs.lemmas.Grind.{common_steps}
 use Rattle.std.proofs.lemmas.List.{append-nil}
 use Rattle.twkb_num.specs.Cursor.{Reading, passed, IsMoved, IsSound}
@@ -8,7 +10,7 @@ use Rattle.twkb_num.proofs.PairLaws.{IsMoved-two}
 use Rattle.twkb_head.specs.Header.{code_of, has_bit, has_ids, z_in, m_in}
 use Rattle.twkb_head.specs.Shared.Reader.{Answer, Reader, ◌>>=◌, viewed, number_at, optional_at, range_from}
 use Rattle.twkb_head.specs.Devices.HeadReader.{byte_at, head_with, kind_from_type, bounds_from, head_at, rest_at}
-use Rattle.twkb_head.specs.BegunHeader.{deepest}
+use Rattle.twkb_head.specs.BegunHeader.{deepest, IsAllowedAt}
 use Rattle.twkb_head.specs.declared.kinds.Kind.{Kind}
 use Rattle.twkb_head.specs.declared.kinds.Kind.TheVariants.{Point, LineString, Polygon, MultiPoint, MultiLineString, MultiPolygon, GeometryCollection}
 use Rattle.twkb_head.specs.declared.refusal.Why.{Why}
@@ -73,6 +75,18 @@ pub two_back : (old new : Reading) (first metadata : ℕ) → IsMoved old new �
 two_back old new first metadata moved bytes =
     let long : length (passed old new) ≡ new.place - old.place = grind (arith, common_steps, moved.within) in
     omega (arith, ap length bytes, long, moved.ahead)
+
+-- the bits of two bytes that tell the kind and the announced fields
+pub kind_and_fields : (first metadata : ℕ) → first < 256 → bit_and (first + 256 * metadata) 0x1f0f ≡ first % 16 + 256 * (metadata % 32)
+kind_and_fields first metadata low =
+    let split : first + 256 * metadata ≡ metadata * 256 + first = omega arith in
+    let both = and_block 8 metadata 0x1f first 0x0f low (omega arith) in
+    ap (λ x. bit_and x 0x1f0f) split ∙ omega (arith, both, and_mask first 4, and_mask metadata 5)
+
+-- a kind of any code may stand at the first depth
+pub first_allowed : (kind : Kind) → IsAllowedAt kind 1
+first_allowed GeometryCollection = (omega arith, omega arith)
+first_allowed _ = (omega arith, omega arith)
 
 -- of a metadata byte the five lowest bits count
 pub rest_same : (kind : Kind) (xy : ℤ) (m n start : ℕ) (b : Reading) → has_bit m 8 ≡ has_bit n 8 → has_bit m 2 ≡ has_bit n 2 → has_bit m 1 ≡ has_bit n 1 → has_bit m 16 ≡ has_bit n 16 → has_bit m 4 ≡ has_bit n 4

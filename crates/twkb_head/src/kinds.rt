@@ -1,7 +1,7 @@
 //! The seven types of a geometry, and how deep each may be.
 ghost use Rattle.std.specs.Prelude.{◌≡◌, ◌%◌, ◌≤◌, ◌-◌, IfOk, IfErr};
 ghost use Rattle.twkb_head.specs.BegunHeader.{is_collection, deepest};
-ghost use Rattle.twkb_head.specs.Header.{is_multi};
+ghost use Rattle.twkb_head.specs.Header.{is_multi, code_of};
 ghost use Rattle.twkb_head.specs.Shared.Plan.{kind_of_code, judge_kind};
 
 use crate::refusal::Why;
@@ -26,6 +26,22 @@ pub enum Kind {
 }
 
 impl Kind {
+    /// The number of the type, from 1 to 7 (TWKB specification, "Type & Precision").
+    #[inline(always)]
+    pub fn code(self) -> u8
+        ensures { result ≡ code_of self }
+    {
+        match self {
+            Kind::Point => 1,
+            Kind::LineString => 2,
+            Kind::Polygon => 3,
+            Kind::MultiPoint => 4,
+            Kind::MultiLineString => 5,
+            Kind::MultiPolygon => 6,
+            Kind::GeometryCollection => 7,
+        }
+    }
+
     /// Whether the body is a list, of parts or of members: types 4 to 7.
     #[inline(always)]
     pub fn is_multi(self) -> bool

@@ -1,17 +1,17 @@
 //! Reading a header.
-ghost use Rattle.std.specs.Prelude.{◌≡◌, ◌≢◌, ◌↔◌, ℕ, ◌-◌, ◌≤◌, ◌%◌, [], ◌∷◌, true, false, not, None, Err, option_map, IfOk, OnOk, IfErr, IfSome, IfNone, IsOk, IsSome};
+ghost use Rattle.std.specs.Prelude.{◌≡◌, ◌≢◌, ◌↔◌, ℕ, ◌-◌, ◌≤◌, ◌<◌, ◌%◌, [], ◌∷◌, true, false, not, None, Err, option_map, IfOk, OnOk, IfErr, IfSome, IfNone, IsOk, IsSome};
 ghost use Rattle.twkb_num.specs.Cursor.{Reading, rest, passed, counted, IsMoved, IsSound};
 ghost use Rattle.twkb_num.specs.Units.{IsPrecision};
 ghost use Rattle.twkb_head.specs.BegunHeader.{deepest};
 ghost use Rattle.twkb_head.specs.declared.refusal.Why.TheVariants.{Range};
-ghost use Rattle.twkb_head.specs.declared.kinds.Kind.TheVariants.{Point, LineString};
+ghost use Rattle.twkb_head.specs.declared.kinds.Kind.TheVariants.{Point};
 ghost use Rattle.twkb_head.specs.Head.{StartsWithHeader, IsHeadAt};
 ghost use Rattle.twkb_head.specs.Refusal.{IsRefusedHead, looked_at_until};
 ghost use Rattle.twkb_head.specs.Devices.HeadReader.{byte_at, head_at, rest_at};
 ghost use Rattle.twkb_head.specs.Shared.Reader.{number_at, optional_at};
 ghost use Rattle.twkb_head.specs.Devices.Raw.{made_whole, HasBegun};
 ghost use Rattle.twkb_head.specs.Raw.{head_said, BeginsHead, ReadsHead};
-ghost use Rattle.twkb_head.specs.Header.{has_bit};
+ghost use Rattle.twkb_head.specs.Header.{has_bit, code_of};
 
 use crate::bits::{BOX, EMPTY, EXTENDED, SIZE, has_bit, ids_of, m_of, precision_of, z_of};
 use crate::fields::{take_byte, take_number, take_type};
@@ -102,15 +102,6 @@ impl Begun {
         ensures kind { result ≡ true → self.kind ≡ Point }
     {
         self.metadata % 32 == SIZE && matches!(self.kind, Kind::Point)
-    }
-
-    /// `true` says that it is a line, and that no other field follows, and a body.
-    #[inline(always)]
-    pub fn is_bare_line(self) -> bool
-        ensures metadata { result ≡ true → self.metadata % 32 ≡ 0 }
-        ensures kind { result ≡ true → self.kind ≡ LineString }
-    {
-        self.metadata % 32 == 0 && matches!(self.kind, Kind::LineString)
     }
 
     /// Whether there is no extended dimensions byte, so that the axes are X and Y.
@@ -218,6 +209,32 @@ pub fn begun_by(cursor: &Cursor, depth: u8, first: u8, metadata: u8) -> Option<B
         xy: precision_of(first),
         metadata,
         start,
+    })
+}
+
+/// The header of a blob that begins with these two bytes, which were just read, if it is of this kind and announces these fields.
+/// Its metadata byte is the fields.
+// Where kind and fields are constants, both bytes are compared at once, and the compiler knows which fields there are.
+#[inline(always)]
+pub fn begun_as(cursor: &Cursor, kind: Kind, fields: u8, first: u8, metadata: u8) -> Option<Begun>
+    requires few { fields < 32 }
+    requires read { 2 ≤ cursor.now.place }
+    ensures some { IfSome result (λ begun. (before : Reading) → IsSound before → IsMoved before cursor.now
+        → passed before cursor.now ≡ first ∷ metadata ∷ [] → BeginsHead begun 1 before cursor.now) }
+    ensures only { IsSome result ↔ ((first % 16 ≡ code_of kind) × (metadata % 32 ≡ fields)) }
+    ensures kind { IfSome result (λ begun. begun.kind ≡ kind) }
+    ensures fields { IfSome result (λ begun. begun.metadata ≡ fields) }
+    ensures xy { IfSome result (λ begun. IsPrecision begun.xy) }
+{
+    let both = u16::from(first) + 256 * u16::from(metadata);
+    if both & 0x1f0f != u16::from(kind.code()) + 256 * u16::from(fields) {
+        return None;
+    }
+    Some(Begun {
+        kind,
+        xy: precision_of(first),
+        metadata: fields,
+        start: cursor.place() - 2,
     })
 }
 

@@ -1,5 +1,5 @@
 -- Where fewer than two bytes are left, no blob is there.
-use Rattle.std.proofs.Common.{◌≡◌, ◌≤◌, None, refl, ap, arith}
+use Rattle.std.proofs.Common.{None, refl, ap, arith}
 use Rattle.twkb_num.specs.Cursor.{Reading, rest}
 use Rattle.twkb_head.proofs.HeadLaws.{header_two}
 use Rattle.twkb_head.proofs.HeadSteps.{two_back}
@@ -11,9 +11,6 @@ returns-in_default-clause-certified g c = (
   ap (λ (r : Reading). r.bytes) c.in_default.ensures.none,
   no_header_refutes 1 None c.args.cursor.now (omega arith) (omega arith) c.place_is_within.ensures (λ starts. absurd (omega (arith, c.in_default.ensures.end.0 refl, header_two 1 (rest c.args.cursor.now) starts))),
 )
-
-pub take_plain-requires-clause-read : goal.take_plain-requires-clause-read
-take_plain-requires-clause-read g c = omega (arith, two_back c.args.cursor.now c.two_bytes.new.self _ _ c.in-Some.ensures.moved c.in-Some.ensures.some)
 
 pub take_flat-requires-clause-read : goal.take_flat-requires-clause-read
 take_flat-requires-clause-read g c = omega (arith, two_back c.args.cursor.now c.two_bytes.new.self _ _ c.in-Some.ensures.moved c.in-Some.ensures.some)

@@ -1,5 +1,5 @@
 -- The first two bytes begin a header, or none stands there.
-use Rattle.std.proofs.Common.{◌≤◌, refl, arith}
+use Rattle.std.proofs.Common.{refl, arith}
 use Rattle.twkb_num.specs.Cursor.{rest}
 use Rattle.twkb_head.proofs.HeadLaws.{header_two}
 use Rattle.twkb_head.proofs.HeadSteps.{two_back}

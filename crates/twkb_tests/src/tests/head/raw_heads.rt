@@ -144,7 +144,6 @@ fn every_first_two_bytes(rt: HostRuntime) {
                 1..=7 => Some([
                     metadata & 31 == 3,
                     metadata & 31 == 2 && first & 15 == 1,
-                    metadata & 31 == 0 && first & 15 == 2,
                     metadata & 8 == 0,
                     metadata & 16 != 0,
                 ]),
@@ -154,7 +153,6 @@ fn every_first_two_bytes(rt: HostRuntime) {
                 [
                     begun.is_flat_boxed(),
                     begun.is_sized_point(),
-                    begun.is_bare_line(),
                     begun.is_flat(),
                     begun.is_empty(),
                 ]

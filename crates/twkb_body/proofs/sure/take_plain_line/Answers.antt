@@ -1,0 +1,41 @@
+-- Its header announces no box, so its one part decides, and its size if it has one.
+use Rattle.std.proofs.Common.{ℕ, None, refl, ap, subst, ◌∙◌, arith}
+use Rattle.std.proofs.lemmas.Result.{err_from_is_err_and}
+use Rattle.twkb_num.specs.Cursor.{Reading}
+use Rattle.twkb_head.specs.declared.kinds.Kind.TheVariants.{LineString}
+use Rattle.twkb_body.specs.Devices.Sure.{IsJudged}
+use Rattle.twkb_body.proofs.Refuting.{rest_refutes, flat_ends}
+use Rattle.twkb_body.proofs.FirstReading.{bare_certifies, bare_doubts}
+use Rattle.twkb_body.proofs.sure.take_plain_line.Goals as goal
+
+pub returns-in_default : goal.returns-in_default
+returns-in_default c = λ before sound begins. (
+  ap (λ (r : Reading). r.bytes) (c.in_default.ensures.read 1 before sound begins).1,
+  rest_refutes c.in_default.field-0 1 None before (omega arith) (omega arith) sound (c.in_default.ensures.exact 1 before sound begins),
+)
+
+pub returns-in_err-vertices : goal.returns-in_err-vertices
+returns-in_err-vertices c = λ before sound begins.
+    let s = c.in-Ok.ensures.read 1 before sound begins in
+    let flat = c.in-Ok.ensures.flat c.requires.flat in
+    let full = c.in-Ok.ensures.empty ∙ c.requires.full in
+    let no_box = c.in-Ok.ensures.no_box c.requires.no_box in
+    let kind = c.in-Ok.ensures.kind ∙ c.requires.line in
+    let p = err_from_is_err_and c.from_residual.result c.from_residual.ensures.1 in
+    rw (p.1, p.2) (bare_doubts c.in-Ok.raw c.boxless-head.result c.boxless-head.ensures LineString before c.take_rest.new.cursor c.take_flat_line.new.cursor sound s.0 s.1 kind refl refl flat.0 flat.1 full no_box _ c.in_err-vertices.ensures.refused c.in_err-vertices.ensures.malformed)
+
+pub judged-requires : goal.judged-requires
+judged-requires c =
+    let b = c.requires.before in
+    let s = c.in-Ok.ensures.read 1 b.0 b.1 b.2 in
+    flat_ends c.boxless-head.result c.in-Ok.raw 1 b.0 c.take_rest.new.cursor c.boxless-head.ensures s.0 s.1 _ (omega (arith, c.in_ok-vertices.ensures.ok.walked.ahead, c.place.ensures.value))
+
+pub returns : goal.returns
+returns c = λ before sound begins.
+    let s = c.in-Ok.ensures.read 1 before sound begins in
+    let flat = c.in-Ok.ensures.flat c.requires.flat in
+    let full = c.in-Ok.ensures.empty ∙ c.requires.full in
+    let no_box = c.in-Ok.ensures.no_box c.requires.no_box in
+    let kind = c.in-Ok.ensures.kind ∙ c.requires.line in
+    bare_certifies c.in-Ok.raw c.boxless-head.result c.boxless-head.ensures LineString before c.take_rest.new.cursor c.take_flat_line.new.cursor sound s.0 s.1 kind refl refl flat.0 flat.1 full no_box c.in_ok-vertices.vertices c.judged.result c.in_ok-vertices.ensures.ok
+    (subst (λ (stop : ℕ). IsJudged c.boxless-head.result stop c.in_ok-vertices.vertices c.judged.result) c.place.ensures.value c.judged.ensures)
