@@ -66,9 +66,9 @@ def by_stand_ins(folder, program):
         ("the query dies half way", lines("3|0", ROWS[:2]), 1, "psql ended with status 1"),
         ("it dies, and nobody says so", lines("3|0", ROWS[:2]), 0, "3 rows with a geometry, and the query gave 2"),
         ("it dies in mid-row", "3|0\n01000204\n0100", 0, "3 rows with a geometry, and the query gave 1"),
-        ("encode() is forgotten", lines("3|0", bytea), 0, "row 1 is no blob in hexadecimal digits"),
-        ("half of a digit pair", lines("3|0", [ROWS[0], ROWS[1][:-1], ROWS[2]]), 0, "row 2 is no blob in hexadecimal digits"),
-        ("a row is null", lines("3|0", [ROWS[0], "", ROWS[2]]), 0, "row 2 is no blob in hexadecimal digits"),
+        ("encode() is forgotten", lines("3|0", bytea), 0, "row number 1 is no blob in hexadecimal digits"),
+        ("half of a digit pair", lines("3|0", [ROWS[0], ROWS[1][:-1], ROWS[2]]), 0, "row number 2 is no blob in hexadecimal digits"),
+        ("a row is null", lines("3|0", [ROWS[0], "", ROWS[2]]), 0, "row number 2 is no blob in hexadecimal digits"),
         ("no numbers first", lines("coast", ROWS), 0, "psql gave no number of rows first"),
         ("two blobs in a row", lines("2|0", [ROWS[0] + ROWS[1], ROWS[2]]), 0, "2 rows with a geometry, and the layer is: ok blobs=3"),
     ):

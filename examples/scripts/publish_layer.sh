@@ -37,7 +37,7 @@ tail -n +2 "$part/told" > "$part/text"
 
 # What xxd doesn't understand it passes over without a word. So it is looked for before.
 wrong=$(LC_ALL=C grep -nvxE -m 1 '([0-9a-f]{2})+' "$part/text" | cut -d : -f 1 || true)
-[[ -z $wrong ]] || unpublished "row $wrong is no blob in hexadecimal digits"
+[[ -z $wrong ]] || unpublished "row number $wrong is no blob in hexadecimal digits"
 lines=$(wc -l < "$part/text")
 [[ $lines == "$rows" ]] || unpublished "the table has $rows rows with a geometry, and the query gave $lines"
 xxd -r -p "$part/text" > "$part/layer" || unpublished "xxd ended with status $?"

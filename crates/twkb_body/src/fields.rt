@@ -29,20 +29,3 @@ pub fn take_signed(cursor: &mut Cursor) -> Result<i64, Malformed>
         Err(fault) => Err(malformed(cursor, fault)),
     }
 }
-
-/// Past the two numbers at the place, without asking for them; their ends show in one word of eight bytes, mostly.
-#[inline(always)]
-pub fn pass_two(cursor: &mut Cursor) -> Result<(), Malformed> {
-    match cursor.pass_pair() {
-        Some(()) => Ok(()),
-        None => pass_long_two(cursor),
-    }
-}
-
-/// The same byte by byte.
-#[inline(never)]
-fn pass_long_two(cursor: &mut Cursor) -> Result<(), Malformed> {
-    take_number(cursor)?;
-    take_number(cursor)?;
-    Ok(())
-}

@@ -40,7 +40,7 @@ pub fn take_unboxed(
 }
 
 /// Reads a line of X and Y as [`take_unboxed`] does.
-// What is compiled for it has no code for other kinds.
+// It isn't `take_unboxed` with a constant kind, so that the compiled function has no branches for other kinds.
 #[inline(never)]
 pub fn take_flat_line(cursor: &mut Cursor) -> Result<usize, Doubt>
     ensures ok { IfOk result (ReadParts unchanged LineString 2 1 cursor.old cursor.new tt tt) }

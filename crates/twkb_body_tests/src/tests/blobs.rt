@@ -323,7 +323,7 @@ pub const SEVENTEEN_IDS: [u8; 54] = [
     0, 0, 0, 0, 0, 0, 0, 0, 0, 0,
 ];
 
-/// The same, and the last id is the least.
+/// A list with as many ids as `SEVENTEEN_IDS`, of which the last is the least.
 pub const FALLING_IDS: [u8; 54] = [
     0x04, 0x04, 0x11, 0x00, 0x02, 0x04, 0x06, 0x08, 0x0A, 0x0C, 0x0E, 0x10, 0x12, 0x14, 0x16, 0x18,
     0x1A, 0x1C, 0x1E, 0x01, 0, 0, 0, 0, 0, 0, 0, 0, 0, 0, 0, 0, 0, 0, 0, 0, 0, 0, 0, 0, 0, 0, 0, 0,

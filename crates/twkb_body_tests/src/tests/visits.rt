@@ -65,7 +65,7 @@ fn random_points_are_shown(rt: HostRuntime) -> Result<(), Fail> {
             visited = visited.saturating_add(1);
         }
     }
-    // What is cut, sums that leave 64 bits and boxes that miss a vertex are left out.
+    // Blobs that are cut, whose sums leave 64 bits or whose box misses a vertex aren't visited.
     assert!(rt; visited > 1000, "{visited}");
     Ok(())
 }
