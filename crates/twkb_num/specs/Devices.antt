@@ -2,3 +2,4 @@
 pub mod Varint
 pub mod Ends
 pub mod Word
+pub mod Lanes

@@ -63,6 +63,15 @@ abbrev pub SpellsAll : List ℕ → List ℕ → Type 0
 SpellsAll bytes [] = bytes ≡ []
 SpellsAll bytes (n ∷ ns) = (front behind : List ℕ) × (bytes ≡ front ++ behind) × Spells front n × SpellsAll behind ns
 
+-- the bytes spell numbers that mean these by zigzag, one after another
+abbrev pub SpellsAllSigned : List ℕ → List ℤ → Type 0
+SpellsAllSigned bytes [] = bytes ≡ []
+SpellsAllSigned bytes (z ∷ zs) = (front behind : List ℕ) × (bytes ≡ front ++ behind) × IsSigned z front × SpellsAllSigned behind zs
+
+-- a signed number that two bytes can spell
+abbrev pub IsBrief : ℤ → Type 0
+IsBrief z = (neg_ℤ (pos (2 ^ 13)) ≤ℤ z) × (z <ℤ pos (2 ^ 13))
+
 -- a signed number that four bytes can spell
 abbrev pub IsShort : ℤ → Type 0
 IsShort z = (neg_ℤ (pos (2 ^ 27)) ≤ℤ z) × (z <ℤ pos (2 ^ 27))

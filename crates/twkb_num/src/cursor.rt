@@ -17,9 +17,10 @@ use std::marker::Model;
 /// lends the bytes, or answers a second cursor. Only [`Cursor::go_to`] moves without counting, and it reads nothing.
 ///
 /// Numbers may be read or passed by words of eight bytes (as by [`Cursor::svarint_pair`], [`Cursor::pass_varint`],
-/// [`Cursor::pass_varints`]). Then up to seven bytes after them are touched too, as a cache line is, and the count is of
-/// the bytes that the numbers take. `None` of such a call tells one bit of bytes that aren't counted: the numbers at the place
-/// are too long for it, or too near the end. [`Cursor::pass_varints`] tells this bit of the place where it stops, and
+/// [`Cursor::pass_varints`]), or read into lanes from the next 32 bytes ([`Cursor::svarint_four`], [`Cursor::svarint_pairs`]).
+/// Then bytes after them are touched too, as a cache line is, and the count is of the bytes that the numbers take. `None` of such
+/// a call, or `is_read` being false, tells one bit of bytes that aren't counted: the numbers at the place are too long for it, or
+/// too near the end. [`Cursor::pass_varints`] tells this bit of the place where it stops, and
 /// [`Cursor::pass_short_varints`] of all the numbers that it was asked for, of which there are at most 65,536.
 /// [`Cursor::pass_short_runs`] and [`Cursor::pass_counted_runs`] tell it of all the runs that they were asked for, which have at
 /// most 65,536 numbers, each run with its count before it. There are at most 65,536 runs.
@@ -304,7 +305,10 @@ impl<'a> Cursor<'a> {
     }
 }
 
+mod lanes;
 mod pairs;
 mod runs;
 #[cfg(test)]
 mod tests;
+
+pub use lanes::{Eight, Four};

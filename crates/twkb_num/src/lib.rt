@@ -8,6 +8,8 @@
 //! - [`Cursor::svarint_pair`] reads two signed numbers from one word of eight bytes, if both are short.
 //!   [`Cursor::pass_varint`] passes one number by its end in such a word and [`Cursor::pass_pair`] two. They answer `None` if a
 //!   word doesn't tell. [`Cursor::pass_varints`] passes many, and answers how many words told.
+//! - [`Cursor::svarint_four`] and [`Cursor::svarint_pairs`] read up to eight short signed numbers into the lanes of a vector, or
+//!   none.
 //! - [`Cursor::pass_short_varints`] passes many varints or none, and [`Cursor::pass_short_runs`] and
 //!   [`Cursor::pass_counted_runs`] do so with counts among them, as a line and a polygon have.
 //! - [`zigzag`] and [`unzigzag`] map signed numbers to unsigned ones and back.
@@ -26,14 +28,16 @@
 
 mod cursor;
 mod ends;
+mod lanes;
 mod scale;
 mod signed;
+mod tables;
 #[cfg(test)]
 mod tests;
 mod varint;
 mod word;
 
-pub use cursor::Cursor;
+pub use cursor::{Cursor, Eight, Four};
 pub use scale::{coordinate_of, units};
 pub use signed::{unzigzag, zigzag};
 pub use varint::NumFault;

@@ -1,0 +1,142 @@
+-- Lanes, one by one.
+use Rattle.std.proofs.Common.{◌≡◌, map, eqb, zero, suc, subst, take, drop, replicate, get_or, ℕ, ◌+◌, ◌-◌, ◌*◌, ◌<◌, length, ◌/◌, ◌%◌, ◌^◌, List, [], ◌∷◌, bit_and, refl, sym, ap, ◌∙◌, arith, Fits, w16, w32, inl, inr}
+use Rattle.std.specs.Int.{cast_signed}
+use Rattle.std.specs.Prelude.{ℤ, pos, neg_ℤ, All}
+use Rattle.std.proofs.lemmas.List.{length-map, get_or-map, length-take, get_or-take, get_or-drop}
+use Rattle.std.specs.Int.Bits.{bit_xor, xor_add_and, xor_zero_r}
+use Rattle.std.proofs.lemmas.Nat.{and_mask, and_block, and_le_r, and_shr}
+use Rattle.std.proofs.lemmas.Bool.{cases_lt, cond-true, cond-false, eq-eqb, ne_eqb}
+use Rattle.std.proofs.lemmas.Int.{ints, to_z_pos}
+use Rattle.std.proofs.Math.Facts.{to_z-neg}
+use mir.Syntax.{Width}
+use mir.Val.{bits}
+use lib.Lanes.{Each1}
+use Rattle.twkb_num.specs.Devices.Lanes.{two_groups, four_groups}
+use Rattle.twkb_num.proofs.PairLaws.{zigzag_short}
+use Rattle.twkb_num.proofs.WordLemmas.{firsts_4, seconds_4}
+use Rattle.twkb_num.specs.Varint.{zigzag_value, IsShort, IsBrief}
+
+-- two bytes of a lane of sixteen bits
+pub joined_lane : (n : ℕ) → n < 65536 → (bit_and n 127 + bit_and n 32512 / 2) % 65536 ≡ two_groups n
+joined_lane n h =
+    let e : n ≡ n / 256 * 256 + n % 256 = omega arith in
+    let high = ap (λ x. bit_and x 32512) e ∙ and_block 8 (n / 256) 127 (n % 256) 0 (omega arith) (omega arith) in
+    omega (arith, high, and_mask n 7, and_mask (n / 256) 7, and_le_r (n % 256) 0)
+
+-- the groups of two bytes each, pushed together
+abbrev pub paired : ℕ → ℕ
+paired n = (bit_and n 0x007f007f + bit_and (n / 2 ^ 1) 0x3f803f80) % 4294967296
+
+paired_is : (n : ℕ) → n < 4294967296 → paired n ≡ (n / 65536 % 128 + n / 16777216 % 128 * 128) * 65536 + (n % 128 + n / 256 % 128 * 128)
+paired_is n h =
+    let a : ℕ = n % 256 in
+    let b : ℕ = n / 256 % 256 in
+    let c : ℕ = n / 65536 % 256 in
+    let d : ℕ = n / 16777216 in
+    let split : n ≡ (((0 * 256 + d) * 256 + c) * 256 + b) * 256 + a = omega (arith, h) in
+    let firsts = ap (λ x. bit_and x 0x007f007f) split ∙ firsts_4 a b c (0 * 256 + d) (omega arith) (omega arith) (omega arith) in
+    let seconds = ap (λ x. bit_and x 0x7f007f00) split ∙ seconds_4 a b c d 0 (omega arith) (omega arith) (omega arith) (omega (arith, h)) in
+    let shifted : bit_and n 0x7f007f00 / 2 ^ 1 ≡ bit_and (n / 2 ^ 1) 0x3f803f80 = and_shr n 0x7f007f00 1 in
+    omega (arith, firsts, seconds, shifted)
+
+-- four bytes of a lane of 32 bits
+pub joined_wide_lane : (n : ℕ) → n < 4294967296 → (bit_and (paired n) 0x3fff + bit_and (paired n / 2 ^ 2) 0x0fffc000) % 4294967296 ≡ four_groups n
+joined_wide_lane n h =
+    let m : ℕ = paired n in
+    let is = paired_is n h in
+    let low : bit_and m 0x3fff ≡ m % 16384 = and_mask m 14 in
+    let split : m ≡ m / 65536 * 65536 + m % 65536 = omega arith in
+    let high = ap (λ x. bit_and x 0x3fff0000) split ∙ and_block 16 (m / 65536) 0x3fff (m % 65536) 0 (omega arith) (omega arith) in
+    let shifted : bit_and m 0x3fff0000 / 2 ^ 2 ≡ bit_and (m / 2 ^ 2) 0x0fffc000 = and_shr m 0x3fff0000 2 in
+    omega (arith, is, low, high, shifted, and_mask (m / 65536) 14, and_le_r (m % 65536) 0)
+
+-- zigzag undone in two's complement
+pub sign_16 : (n : ℕ) → n < 65536 → cast_signed w16 (bit_xor (n / 2 ^ 1) ((0 + (65536 - bit_and n 1)) % 65536)) ≡ zigzag_value n
+sign_16 n h =
+    let x : ℕ = (0 + (65536 - bit_and n 1)) % 65536 in
+    let one : bit_and n 1 ≡ n % 2 = and_mask n 1 in
+    elim (cases_lt (n % 2) 1) [
+      | inl even ↦
+          let zero : x ≡ 0 = omega (arith, one, even) in
+          let is : bit_xor (n / 2 ^ 1) x ≡ n / 2 = ap (λ y. bit_xor (n / 2 ^ 1) y) zero ∙ xor_zero_r (n / 2) in
+          let means : pos (n / 2) ≡ zigzag_value n = sym (cond-true (eqb (n % 2) 0) _ _ (eq-eqb (n % 2) 0 (omega (arith, even)))) in
+          ap (cast_signed w16) is ∙ to_z_pos w16 (n / 2) (omega (arith, h)) ∙ means
+      | inr odd ↦
+          let all : x ≡ 65535 = omega (arith, one, odd) in
+          let is : bit_xor (n / 2 ^ 1) x ≡ 65535 - n / 2 = ap (λ y. bit_xor (n / 2 ^ 1) y) all ∙ omega (arith, h, xor_add_and (n / 2) 65535, and_mask (n / 2) 16) in
+          let bits_are : 65535 - n / 2 ≡ 65536 - suc (n / 2) = omega (arith, h) in
+          let up : (n + 1) / 2 ≡ suc (n / 2) = omega (arith, odd) in
+          let low : cast_signed w16 (65535 - n / 2) ≡ neg_ℤ (pos ((n + 1) / 2)) = ap (cast_signed w16) bits_are ∙ to_z-neg w16 (n / 2) (omega (arith, h)) ∙ sym (ap (λ k. neg_ℤ (pos k)) up) in
+          let means : neg_ℤ (pos ((n + 1) / 2)) ≡ zigzag_value n = sym (cond-false (eqb (n % 2) 0) _ _ (ne_eqb (n % 2) 0 (λ e. omega (arith, e, odd)))) in
+          ap (cast_signed w16) is ∙ low ∙ means
+    ]
+
+pub sign_32 : (n : ℕ) → n < 4294967296 → cast_signed w32 (bit_xor (n / 2 ^ 1) ((0 + (4294967296 - bit_and n 1)) % 4294967296)) ≡ zigzag_value n
+sign_32 n h =
+    let x : ℕ = (0 + (4294967296 - bit_and n 1)) % 4294967296 in
+    let one : bit_and n 1 ≡ n % 2 = and_mask n 1 in
+    elim (cases_lt (n % 2) 1) [
+      | inl even ↦
+          let zero : x ≡ 0 = omega (arith, one, even) in
+          let is : bit_xor (n / 2 ^ 1) x ≡ n / 2 = ap (λ y. bit_xor (n / 2 ^ 1) y) zero ∙ xor_zero_r (n / 2) in
+          let means : pos (n / 2) ≡ zigzag_value n = sym (cond-true (eqb (n % 2) 0) _ _ (eq-eqb (n % 2) 0 (omega (arith, even)))) in
+          ap (cast_signed w32) is ∙ to_z_pos w32 (n / 2) (omega (arith, h)) ∙ means
+      | inr odd ↦
+          let all : x ≡ 4294967295 = omega (arith, one, odd) in
+          let is : bit_xor (n / 2 ^ 1) x ≡ 4294967295 - n / 2 = ap (λ y. bit_xor (n / 2 ^ 1) y) all ∙ omega (arith, h, xor_add_and (n / 2) 4294967295, and_mask (n / 2) 32) in
+          let bits_are : 4294967295 - n / 2 ≡ 4294967296 - suc (n / 2) = omega (arith, h) in
+          let up : (n + 1) / 2 ≡ suc (n / 2) = omega (arith, odd) in
+          let low : cast_signed w32 (4294967295 - n / 2) ≡ neg_ℤ (pos ((n + 1) / 2)) = ap (cast_signed w32) bits_are ∙ to_z-neg w32 (n / 2) (omega (arith, h)) ∙ sym (ap (λ k. neg_ℤ (pos k)) up) in
+          let means : neg_ℤ (pos ((n + 1) / 2)) ≡ zigzag_value n = sym (cond-false (eqb (n % 2) 0) _ _ (ne_eqb (n % 2) 0 (λ e. omega (arith, e, odd)))) in
+          ap (cast_signed w32) is ∙ low ∙ means
+    ]
+
+-- two functions that agree below a bound are one on lanes below it
+pub same_where_fits : {A : Type 0} (w : Width) (f g : ℕ → A) → ((n : ℕ) → n < 2 ^ bits w → f n ≡ g n) → (v : List ℕ) → Each1 (Fits w) v → map f v ≡ map g v
+same_where_fits w f g same [] fits = refl
+same_where_fits w f g same (x ∷ xs) fits = ap (λ y. y ∷ map f xs) (same x fits.0.fits) ∙ ap (λ ys. g x ∷ ys) (same_where_fits w f g same xs fits.1)
+
+-- how large a lane's number is
+short_number : (n : ℕ) → n < 2 ^ 28 → IsShort (zigzag_value n)
+short_number n h = zigzag_short n (zigzag_value n) h refl
+
+brief_number : (n : ℕ) → n < 2 ^ 14 → IsBrief (zigzag_value n)
+brief_number n h =
+    elim (cases_lt (n % 2) 1) [
+      | inl even ↦ subst IsBrief (sym (cond-true (eqb (n % 2) 0) (pos (n / 2)) _ (eq-eqb (n % 2) 0 (omega (arith, even))))) (search (arith, ints), search (arith, ints, h))
+      | inr odd ↦ subst IsBrief (sym (cond-false (eqb (n % 2) 0) _ (neg_ℤ (pos ((n + 1) / 2))) (ne_eqb (n % 2) 0 (λ e. omega (arith, e, odd))))) (search (arith, ints, h), search (arith, ints, h))
+    ]
+
+pub all_short : (v : List ℕ) → All IsShort (map zigzag_value (map four_groups v))
+all_short v k d h =
+    let there : k < length v = omega (arith, h, length-map (map four_groups v) zigzag_value, length-map v four_groups) in
+    let is = get_or-map zigzag_value (map four_groups v) k 0 d (omega (arith, there, length-map v four_groups)) ∙ ap zigzag_value (get_or-map four_groups v k 0 0 there) in
+    subst IsShort (sym is) (short_number (four_groups (get_or v k 0)) (omega arith))
+
+pub all_brief : (v : List ℕ) (n : ℕ) → All IsBrief (take n (map zigzag_value (map two_groups v)))
+all_brief v n k d h =
+    let zs : List ℤ = map zigzag_value (map two_groups v) in
+    let many = length-take n zs in
+    let low : k < n = omega (arith, h, many) in
+    let there : k < length v = omega (arith, h, many, length-map (map two_groups v) zigzag_value, length-map v two_groups) in
+    let is = get_or-take n zs k d low ∙ get_or-map zigzag_value (map two_groups v) k 0 d (omega (arith, there, length-map v two_groups)) ∙ ap zigzag_value (get_or-map two_groups v k 0 0 there) in
+    subst IsBrief (sym is) (brief_number (two_groups (get_or v k 0)) (omega arith))
+
+-- zeros have only zeros
+zero_at : (r i : ℕ) → get_or {A = ℕ} (replicate r 0) i 0 ≡ 0
+zero_at zero i = refl
+zero_at (suc r) zero = refl
+zero_at (suc r) (suc i) = zero_at r i
+
+-- lanes of which the first are brief and the others zero are all brief
+pub brief_too : (xs : List ℕ) (m r : ℕ) → All IsBrief (take m (map (cast_signed w16) xs)) → drop m xs ≡ replicate r 0 → All IsBrief (map (cast_signed w16) xs)
+brief_too xs m r brief zeros k d h =
+    let zs : List ℤ = map (cast_signed w16) xs in
+    let there : k < length xs = omega (arith, h, length-map xs (cast_signed w16)) in
+    elim (cases_lt k m) [
+      | inl low ↦ subst IsBrief (get_or-take m zs k d low) (brief k d (omega (arith, h, low, length-take m zs)))
+      | inr high ↦
+          let at : m + (k - m) ≡ k = omega (arith, high) in
+          let is : get_or xs k 0 ≡ 0 = sym (ap (λ i. get_or xs i 0) at) ∙ sym (get_or-drop m xs (k - m) 0) ∙ ap (λ l. get_or l (k - m) 0) zeros ∙ zero_at r (k - m) in
+          subst IsBrief (sym (get_or-map (cast_signed w16) xs k 0 d there ∙ ap (cast_signed w16) is)) (brief_number 0 (omega arith))
+    ]

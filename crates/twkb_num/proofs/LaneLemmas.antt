@@ -1,0 +1,213 @@
+-- Two rows, one after the other, and their lanes.
+use Rattle.std.proofs.Common.{◌≡◌, ℕ, zero, suc, ◌+◌, ◌-◌, ◌*◌, ◌/◌, ◌%◌, ◌<◌, ◌≤◌, ◌^◌, true, eqb, ltb, refl, sym, ap, ◌∙◌, subst, List, [], ◌∷◌, ◌++◌, map, length, take, drop, replicate, get_or, bit_and, arith, inl, inr}
+use Rattle.std.proofs.lemmas.Bool.{eqb-true, ltb-true, lt-ltb, cond-true, or_cases}
+use Rattle.std.proofs.lemmas.List.{take-take, get_or-take, get_or-drop, append_assoc}
+use Rattle.std.proofs.lemmas.Nat.{shr-shr, and_mask, and_le_r}
+use Rattle.std.proofs.lemmas.Simd.{pick_l_whole, get_or_wider, Each1-from_get_or}
+use Rattle.std.proofs.Math.Seq.{take-add}
+use lib.Lanes.{Each1, zip2, number_l, digits_l}
+use Rattle.twkb_num.specs.Varint.{SpellsAll, SpellsAllSigned, zigzag_value}
+use Rattle.twkb_num.specs.Devices.Lanes.{two_groups, four_groups, value_at, values, IsTops, IsFlag}
+use Rattle.twkb_num.specs.declared.tables.narrow.TheConstants.{NARROW_PLACES, NARROW_LEN, NARROW_PAIR_LEN, KEPT}
+use Rattle.twkb_num.specs.declared.tables.wide.TheConstants.{WIDE_PLACES, WIDE_LEN}
+use Rattle.twkb_num.proofs.TableLaws.{is_flag, row_ok, wide_rows, narrow_rows, narrow_pair_rows, wide_flags, narrow_flags, narrow_pair_flags}
+use Rattle.twkb_num.proofs.RowSpells.{IsPicked, row_holds}
+
+-- lengths
+flag_from : (len : ℕ) → is_flag len ≡ true → IsFlag len
+flag_from len h =
+    elim (or_cases (ltb len 9) (eqb len 128) h) [
+      | inl low ↦ inl (omega (arith, ltb-true len 9 low))
+      | inr far ↦ inr (eqb-true len 128 far)
+    ]
+
+pub wide_flag : (tops len : ℕ) → tops < 256 → len ≡ get_or WIDE_LEN tops 0 → IsFlag len
+wide_flag tops len few is = flag_from len (ap is_flag is ∙ wide_flags tops few)
+
+pub narrow_flag : (tops len : ℕ) → tops < 256 → len ≡ get_or NARROW_LEN tops 0 → IsFlag len
+narrow_flag tops len few is = flag_from len (ap is_flag is ∙ narrow_flags tops few)
+
+pub narrow_pair_flag : (tops len : ℕ) → tops < 256 → len ≡ get_or NARROW_PAIR_LEN tops 0 → IsFlag len
+narrow_pair_flag tops len few is = flag_from len (ap is_flag is ∙ narrow_pair_flags tops few)
+
+pub flag_place : (len : ℕ) → IsFlag len → len % 16 ≤ 8
+flag_place len (inl low) = omega (arith, low)
+flag_place len (inr far) = omega (arith, far)
+
+pub flag_le : (len : ℕ) → IsFlag len → len ≤ 128
+flag_le len (inl low) = omega (arith, low)
+flag_le len (inr far) = omega (arith, far)
+
+pub flag_short : (len : ℕ) → IsFlag len → len < 128 → len ≤ 8
+flag_short len (inl low) short = low
+flag_short len (inr far) short = absurd (omega (arith, far, short))
+
+-- rows
+row_spells : (n k : ℕ) (v lanes : List ℕ) (row tops len : ℕ) → IsPicked v row lanes tops → ((i : ℕ) → value_at n lanes i < 2 ^ 64) → row_ok n k row 0 tops 0 len ≡ true → SpellsAll (take len v) (values n k lanes 0)
+row_spells n k v lanes row tops len p small ok =
+    let all : len - 0 ≡ len = omega arith in
+    let held = row_holds v row lanes tops p n small k 0 0 len ok in
+    subst (λ m. SpellsAll (take m v) (values n k lanes 0)) all held.spelled
+
+pub wide_spells : (v lanes : List ℕ) (tops len : ℕ) → tops < 256 → len ≡ get_or WIDE_LEN tops 0 → IsPicked v (get_or WIDE_PLACES tops 0) lanes tops → len < 128 → SpellsAll (take len v) (values 4 2 lanes 0)
+wide_spells v lanes tops len few is p short =
+    let low : get_or WIDE_LEN tops 0 < 128 = omega (arith, is, short) in
+    let ok = sym (cond-true (ltb (get_or WIDE_LEN tops 0) 128) _ _ (lt-ltb (get_or WIDE_LEN tops 0) 128 low)) ∙ wide_rows tops few in
+    row_spells 4 2 v lanes (get_or WIDE_PLACES tops 0) tops len p (λ i. omega arith) (ap (row_ok 4 2 (get_or WIDE_PLACES tops 0) 0 tops 0) is ∙ ok)
+
+pub narrow_spells : (v lanes : List ℕ) (tops len : ℕ) → tops < 256 → len ≡ get_or NARROW_LEN tops 0 → IsPicked v (get_or NARROW_PLACES tops 0) lanes tops → len < 128 → SpellsAll (take len v) (values 2 4 lanes 0)
+narrow_spells v lanes tops len few is p short =
+    let low : get_or NARROW_LEN tops 0 < 128 = omega (arith, is, short) in
+    let ok = sym (cond-true (ltb (get_or NARROW_LEN tops 0) 128) _ _ (lt-ltb (get_or NARROW_LEN tops 0) 128 low)) ∙ narrow_rows tops few in
+    row_spells 2 4 v lanes (get_or NARROW_PLACES tops 0) tops len p (λ i. omega arith) (ap (row_ok 2 4 (get_or NARROW_PLACES tops 0) 0 tops 0) is ∙ ok)
+
+pub narrow_pair_spells : (v lanes : List ℕ) (tops : ℕ) → tops < 256 → IsPicked v (get_or NARROW_PLACES tops 0) lanes tops → get_or NARROW_PAIR_LEN tops 0 < 128 → SpellsAll (take (get_or NARROW_PAIR_LEN tops 0) v) (values 2 2 lanes 0)
+narrow_pair_spells v lanes tops few p low =
+    let ok = sym (cond-true (ltb (get_or NARROW_PAIR_LEN tops 0) 128) _ _ (lt-ltb (get_or NARROW_PAIR_LEN tops 0) 128 low)) ∙ narrow_pair_rows tops few in
+    row_spells 2 2 v lanes (get_or NARROW_PLACES tops 0) tops (get_or NARROW_PAIR_LEN tops 0) p (λ i. omega arith) ok
+
+-- tops
+low_bits : (t i : ℕ) → i < 8 → t % 256 / 2 ^ i % 2 ≡ t / 2 ^ i % 2
+low_bits t zero h = omega arith
+low_bits t (suc zero) h = omega arith
+low_bits t (suc (suc zero)) h = omega arith
+low_bits t (suc (suc (suc zero))) h = omega arith
+low_bits t (suc (suc (suc (suc zero)))) h = omega arith
+low_bits t (suc (suc (suc (suc (suc zero))))) h = omega arith
+low_bits t (suc (suc (suc (suc (suc (suc zero)))))) h = omega arith
+low_bits t (suc (suc (suc (suc (suc (suc (suc zero))))))) h = omega arith
+low_bits t (suc (suc (suc (suc (suc (suc (suc (suc i)))))))) h = absurd (omega (arith, h))
+
+abbrev pub AreTops : ℕ → List ℕ → Type 0
+AreTops tops v = (i : ℕ) → i < 16 → tops / 2 ^ i % 2 ≡ get_or v i 0 / 128
+
+pub first_tops : (tops : ℕ) (v : List ℕ) → AreTops tops v → IsTops (tops % 256) v
+first_tops tops v all i h = low_bits tops i h ∙ all i (omega (arith, h))
+
+pub second_tops : (tops from s : ℕ) (bytes v w : List ℕ) → AreTops tops v → v ≡ take 16 bytes → w ≡ take 16 (drop s bytes) → s ≤ 8 → from ≡ tops / 2 ^ s % 256 → IsTops from w
+second_tops tops from s bytes v w all v_is w_is few is i h =
+    let same : get_or v (s + i) 0 ≡ get_or w i 0 = ap (λ l. get_or l (s + i) 0) v_is ∙ get_or-take 16 bytes (s + i) 0 (omega (arith, h, few)) ∙ sym (get_or-drop s bytes i 0) ∙ sym (get_or-take 16 (drop s bytes) i 0 (omega (arith, h))) ∙ sym (ap (λ l. get_or l i 0) w_is) in
+    ap (λ x. x / 2 ^ i % 2) is ∙ low_bits (tops / 2 ^ s) i h ∙ ap (λ x. x % 2) (shr-shr tops s i) ∙ all (s + i) (omega (arith, h, few)) ∙ ap (λ x. x / 128) same
+
+-- pieces
+pub first_piece : (bytes : List ℕ) → take 16 (take 16 bytes) ≡ take 16 bytes
+first_piece bytes = take-take 16 16 bytes (omega arith)
+
+pub second_piece : (s : ℕ) (bytes : List ℕ) → take 16 (take (s + 16 - s) (drop s bytes)) ≡ take 16 (drop s bytes)
+second_piece s bytes =
+    let many : s + 16 - s ≡ 16 = omega arith in
+    ap (λ k. take 16 (take k (drop s bytes))) many ∙ first_piece (drop s bytes)
+
+-- spellings
+append_all : (bs cs ns ms : List ℕ) → SpellsAll bs ns → SpellsAll cs ms → SpellsAll (bs ++ cs) (ns ++ ms)
+append_all bs cs [] ms a b = subst (λ xs. SpellsAll (xs ++ cs) ms) (sym a) b
+append_all bs cs (n ∷ ns) ms a b = (a.0, a.1 ++ cs, ap (λ xs. xs ++ cs) a.2 ∙ append_assoc a.0 a.1 cs, a.3, append_all a.1 cs ns ms a.4 b)
+
+pub signed_all : (bs ns : List ℕ) → SpellsAll bs ns → SpellsAllSigned bs (map zigzag_value ns)
+signed_all bs [] a = a
+signed_all bs (n ∷ ns) a = (a.0, a.1, a.2, (n, a.3, refl), signed_all a.1 ns a.4)
+
+pub at_front : (bytes v ns : List ℕ) (len : ℕ) → v ≡ take 16 bytes → len ≤ 16 → SpellsAll (take len v) ns → SpellsAll (take len bytes) ns
+at_front bytes v ns len v_is few a = subst (λ xs. SpellsAll xs ns) (ap (take len) v_is ∙ take-take len 16 bytes few) a
+
+pub both : (bytes v w ns ms : List ℕ) (one two : ℕ) → v ≡ take 16 bytes → w ≡ take 16 (drop (one % 16) bytes) → one ≤ 8 → two ≤ 8 → SpellsAll (take one v) ns → SpellsAll (take two w) ms → SpellsAll (take (one + two) bytes) (ns ++ ms)
+both bytes v w ns ms one two v_is w_is few_one few_two a b =
+    let at : one % 16 ≡ one = omega (arith, few_one) in
+    let first = at_front bytes v ns one v_is (omega (arith, few_one)) a in
+    let second = at_front (drop one bytes) w ms two (w_is ∙ ap (λ s. take 16 (drop s bytes)) at) (omega (arith, few_two)) b in
+    subst (λ xs. SpellsAll xs (ns ++ ms)) (sym (take-add one two bytes)) (append_all (take one bytes) (take two (drop one bytes)) ns ms first second)
+
+-- lanes
+cons_same : {A : Type 0} (x y : A) (xs ys : List A) → x ≡ y → xs ≡ ys → x ∷ xs ≡ y ∷ ys
+cons_same x y xs ys e es = ap (λ z. z ∷ xs) e ∙ ap (λ zs. y ∷ zs) es
+
+value_same : (xs ys : List ℕ) (s : ℕ) → ((i : ℕ) → i < 8 → get_or xs (s + i) 0 ≡ get_or ys i 0) → (n i : ℕ) → i + n ≤ 8 → value_at n xs (s + i) ≡ value_at n ys i
+value_same xs ys s same zero i h = refl
+value_same xs ys s same (suc n) i h =
+    let next : suc (s + i) ≡ s + suc i = omega arith in
+    omega (arith, same i (omega (arith, h)), ap (value_at n xs) next, value_same xs ys s same n (suc i) (omega (arith, h)))
+
+wide_lane : (a b c d : ℕ) → a < 256 → b < 256 → c < 256 → d < 256 → four_groups (a + 256 * (b + 256 * (c + 256 * (d + 256 * 0)))) ≡ a % 128 + 128 * (b % 128 + 128 * (c % 128 + 128 * (d % 128 + 128 * 0)))
+wide_lane a b c d in_a in_b in_c in_d = omega (arith, in_a, in_b, in_c, in_d)
+
+narrow_lane : (a b : ℕ) → a < 256 → b < 256 → two_groups (a + 256 * (b + 256 * 0)) ≡ a % 128 + 128 * (b % 128 + 128 * 0)
+narrow_lane a b in_a in_b = omega (arith, in_a, in_b)
+
+-- four lanes of four bytes
+wide_lanes : (bytes : List ℕ) → length bytes ≡ 16 → ((i : ℕ) → i < 16 → get_or bytes i 0 < 256) → map four_groups (digits_l 4294967296 4 (number_l 256 bytes)) ≡ values 4 4 bytes 0
+wide_lanes bytes long fit =
+    let fits = Each1-from_get_or (λ x. x < 256) bytes 0 (λ i h. fit i (omega (arith, h, long))) in
+    let listed = sym (pick_l_whole 0 bytes 16 long) in
+    let g = λ (i : ℕ). get_or bytes i 0 in
+    let lane = λ (j : ℕ) (h : j < 4). get_or_wider 256 4 4294967296 4 bytes j refl fits h ∙ ap (λ l. number_l 256 (take 4 (drop (4 * j) l))) listed in
+    cons_same _ _ _ _ (ap four_groups (lane 0 (omega arith)) ∙ wide_lane (g 0) (g 1) (g 2) (g 3) (fit 0 (omega arith)) (fit 1 (omega arith)) (fit 2 (omega arith)) (fit 3 (omega arith)))
+    (cons_same _ _ _ _ (ap four_groups (lane 1 (omega arith)) ∙ wide_lane (g 4) (g 5) (g 6) (g 7) (fit 4 (omega arith)) (fit 5 (omega arith)) (fit 6 (omega arith)) (fit 7 (omega arith)))
+    (cons_same _ _ _ _ (ap four_groups (lane 2 (omega arith)) ∙ wide_lane (g 8) (g 9) (g 10) (g 11) (fit 8 (omega arith)) (fit 9 (omega arith)) (fit 10 (omega arith)) (fit 11 (omega arith)))
+    (cons_same _ _ _ _ (ap four_groups (lane 3 (omega arith)) ∙ wide_lane (g 12) (g 13) (g 14) (g 15) (fit 12 (omega arith)) (fit 13 (omega arith)) (fit 14 (omega arith)) (fit 15 (omega arith))) refl)))
+
+-- eight lanes of two
+narrow_lanes : (bytes : List ℕ) → length bytes ≡ 16 → ((i : ℕ) → i < 16 → get_or bytes i 0 < 256) → map two_groups (digits_l 65536 8 (number_l 256 bytes)) ≡ values 2 8 bytes 0
+narrow_lanes bytes long fit =
+    let fits = Each1-from_get_or (λ x. x < 256) bytes 0 (λ i h. fit i (omega (arith, h, long))) in
+    let listed = sym (pick_l_whole 0 bytes 16 long) in
+    let g = λ (i : ℕ). get_or bytes i 0 in
+    let lane = λ (j : ℕ) (h : j < 8). get_or_wider 256 2 65536 8 bytes j refl fits h ∙ ap (λ l. number_l 256 (take 2 (drop (2 * j) l))) listed in
+    cons_same _ _ _ _ (ap two_groups (lane 0 (omega arith)) ∙ narrow_lane (g 0) (g 1) (fit 0 (omega arith)) (fit 1 (omega arith)))
+    (cons_same _ _ _ _ (ap two_groups (lane 1 (omega arith)) ∙ narrow_lane (g 2) (g 3) (fit 2 (omega arith)) (fit 3 (omega arith)))
+    (cons_same _ _ _ _ (ap two_groups (lane 2 (omega arith)) ∙ narrow_lane (g 4) (g 5) (fit 4 (omega arith)) (fit 5 (omega arith)))
+    (cons_same _ _ _ _ (ap two_groups (lane 3 (omega arith)) ∙ narrow_lane (g 6) (g 7) (fit 6 (omega arith)) (fit 7 (omega arith)))
+    (cons_same _ _ _ _ (ap two_groups (lane 4 (omega arith)) ∙ narrow_lane (g 8) (g 9) (fit 8 (omega arith)) (fit 9 (omega arith)))
+    (cons_same _ _ _ _ (ap two_groups (lane 5 (omega arith)) ∙ narrow_lane (g 10) (g 11) (fit 10 (omega arith)) (fit 11 (omega arith)))
+    (cons_same _ _ _ _ (ap two_groups (lane 6 (omega arith)) ∙ narrow_lane (g 12) (g 13) (fit 12 (omega arith)) (fit 13 (omega arith)))
+    (cons_same _ _ _ _ (ap two_groups (lane 7 (omega arith)) ∙ narrow_lane (g 14) (g 15) (fit 14 (omega arith)) (fit 15 (omega arith))) refl)))))))
+
+-- what was low_halves
+pub record IsJoined (both lo hi : List ℕ) : Type 0 where
+  pub long : length both ≡ 16
+  pub fit : (i : ℕ) → i < 16 → get_or both i 0 < 256
+  pub low : (i : ℕ) → i < 8 → get_or both i 0 ≡ get_or lo i 0
+  pub high : (i : ℕ) → i < 8 → get_or both (8 + i) 0 ≡ get_or hi i 0
+
+pub wide_values : (all lo hi : List ℕ) → IsJoined all lo hi → map four_groups (digits_l 4294967296 4 (number_l 256 all)) ≡ values 4 2 lo 0 ++ values 4 2 hi 0
+wide_values all lo hi j =
+    let low = value_same all lo 0 (λ i h. let e : 0 + i ≡ i = omega arith in ap (λ k. get_or all k 0) e ∙ j.low i h) 4 in
+    let high = value_same all hi 8 j.high 4 in
+    wide_lanes all j.long j.fit ∙
+    cons_same _ _ _ _ (low 0 (omega arith)) (cons_same _ _ _ _ (low 4 (omega arith)) (cons_same _ _ _ _ (high 0 (omega arith)) (cons_same _ _ _ _ (high 4 (omega arith)) refl)))
+
+pub narrow_values : (all lo hi : List ℕ) → IsJoined all lo hi → map two_groups (digits_l 65536 8 (number_l 256 all)) ≡ values 2 4 lo 0 ++ values 2 4 hi 0
+narrow_values all lo hi j =
+    let low = value_same all lo 0 (λ i h. let e : 0 + i ≡ i = omega arith in ap (λ k. get_or all k 0) e ∙ j.low i h) 2 in
+    let high = value_same all hi 8 j.high 2 in
+    narrow_lanes all j.long j.fit ∙
+    cons_same _ _ _ _ (low 0 (omega arith)) (cons_same _ _ _ _ (low 2 (omega arith)) (cons_same _ _ _ _ (low 4 (omega arith)) (cons_same _ _ _ _ (low 6 (omega arith))
+    (cons_same _ _ _ _ (high 0 (omega arith)) (cons_same _ _ _ _ (high 2 (omega arith)) (cons_same _ _ _ _ (high 4 (omega arith)) (cons_same _ _ _ _ (high 6 (omega arith)) refl)))))))
+
+-- what is kept
+zeros_kept : (r : ℕ) (xs : List ℕ) → length xs ≡ r → zip2 bit_and xs (replicate r 0) ≡ replicate r 0
+zeros_kept zero [] long = refl
+zeros_kept zero (x ∷ xs) long = absurd (omega (arith, long))
+zeros_kept (suc r) [] long = absurd (omega (arith, long))
+zeros_kept (suc r) (x ∷ xs) long =
+    let none : bit_and x 0 ≡ 0 = omega (arith, and_le_r x 0) in
+    cons_same (bit_and x 0) 0 _ _ none (zeros_kept r xs (omega (arith, long)))
+
+pub kept_front : (m r : ℕ) (xs : List ℕ) → length xs ≡ m + r → Each1 (λ x. x < 65536) xs → take m (zip2 bit_and xs (replicate m 65535 ++ replicate r 0)) ≡ take m xs
+kept_front zero r xs long fits = refl
+kept_front (suc m) r [] long fits = absurd (omega (arith, long))
+kept_front (suc m) r (x ∷ xs) long fits =
+    let same : bit_and x 65535 ≡ x = omega (arith, and_mask x 16, fits.0) in
+    cons_same (bit_and x 65535) x _ _ same (kept_front m r xs (omega (arith, long)) fits.1)
+
+pub kept_behind : (m r : ℕ) (xs : List ℕ) → length xs ≡ m + r → drop m (zip2 bit_and xs (replicate m 65535 ++ replicate r 0)) ≡ replicate r 0
+kept_behind zero r xs long = zeros_kept r xs (omega (arith, long))
+kept_behind (suc m) r [] long = absurd (omega (arith, long))
+kept_behind (suc m) r (x ∷ xs) long = kept_behind m r xs (omega (arith, long))
+
+pub kept_rows : (pairs : ℕ) → pairs < 5 → get_or KEPT pairs [] ≡ replicate (2 * pairs) 65535 ++ replicate (8 - 2 * pairs) 0
+kept_rows zero h = refl
+kept_rows (suc zero) h = refl
+kept_rows (suc (suc zero)) h = refl
+kept_rows (suc (suc (suc zero))) h = refl
+kept_rows (suc (suc (suc (suc zero)))) h = refl
+kept_rows (suc (suc (suc (suc (suc pairs))))) h = absurd (omega (arith, h))

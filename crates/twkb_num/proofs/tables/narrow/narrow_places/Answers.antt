@@ -1,0 +1,14 @@
+-- The bytes of the row, lowest first.
+use Rattle.std.proofs.Common.{◌≡◌, ◌∷◌, [], ◌+◌, ◌<◌, ℕ, get_or, ap, refl, ◌∙◌, ◌*◌, rules, arith}
+use Rattle.std.proofs.lemmas.Simd.{get_or_narrower}
+use lib.Lanes.{number_l, digits_l}
+use Rattle.twkb_num.specs.declared.tables.narrow.TheConstants.{NARROW_PLACES}
+use Rattle.twkb_num.proofs.tables.narrow.narrow_places.Goals as goal
+
+pub returns : goal.returns
+returns c i h =
+    let row : ℕ = get_or NARROW_PLACES c.args.bits 0 in
+    let at : i ≡ 8 * 0 + i = omega arith in
+    let fits : row < 18446744073709551616 = search rules in
+    ap (λ k. get_or (digits_l 256 16 (number_l 18446744073709551616 (row ∷ 0 ∷ []))) k 0) at ∙
+    get_or_narrower 18446744073709551616 8 256 16 (row ∷ 0 ∷ []) 0 i refl (fits, (omega arith, tt)) h (omega (arith, h))

@@ -1,0 +1,37 @@
+-- Devices of proofs: nothing public names them.
+-- Varints in the lanes of vectors.
+use Rattle.std.specs.Prelude.{◌≡◌, ℕ, zero, suc, ◌+◌, ◌*◌, ◌/◌, ◌%◌, ◌^◌, ◌<◌, ◌≤◌, if◌then◌else◌, nat_lt, List, [], ◌∷◌, slice_index, ◌⊎◌}
+
+-- the groups of seven bits of two bytes, joined
+abbrev pub two_groups : ℕ → ℕ
+two_groups n = n % 128 + n / 256 % 128 * 128
+
+-- the groups of seven bits of four bytes, joined
+abbrev pub four_groups : ℕ → ℕ
+four_groups n = n % 128 + n / 256 % 128 * 128 + n / 65536 % 128 * 16384 + n / 16777216 % 128 * 2097152
+
+-- the byte at a place of sixteen, or zero at a place from 128 on
+abbrev pub byte_at : List ℕ → ℕ → ℕ
+byte_at bytes place = if nat_lt place 128 then slice_index bytes (place % 16) else 0
+
+-- the i-th byte of a word, where the lowest is the first
+abbrev pub byte_of : ℕ → ℕ → ℕ
+byte_of word i = word / 256 ^ i % 256
+
+-- the number that the low seven bits of n bytes make, from place i on, lowest group first
+abbrev pub value_at : ℕ → List ℕ → ℕ → ℕ
+value_at zero bytes i = 0
+value_at (suc n) bytes i = slice_index bytes i % 128 + 128 * value_at n bytes (suc i)
+
+-- k such numbers, one after another
+abbrev pub values : ℕ → ℕ → List ℕ → ℕ → List ℕ
+values n zero bytes i = []
+values n (suc k) bytes i = value_at n bytes i ∷ values n k bytes (i + n)
+
+-- the lowest eight bits are the top bits of the first eight bytes
+abbrev pub IsTops : ℕ → List ℕ → Type 0
+IsTops tops bytes = (i : ℕ) → i < 8 → tops / 2 ^ i % 2 ≡ slice_index bytes i / 128
+
+-- a length of at most eight, or 128 for numbers that are too long
+abbrev pub IsFlag : ℕ → Type 0
+IsFlag len = (len ≤ 8) ⊎ (len ≡ 128)
