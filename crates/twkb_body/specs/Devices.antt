@@ -5,6 +5,7 @@ pub mod Pass
 pub mod Ranges
 pub mod Walk
 pub mod Boxed
+pub mod Quads
 pub mod Numbers
 pub mod Found
 pub mod Seen

@@ -9,7 +9,7 @@ use Rattle.twkb_num.specs.Varint.{Spells, SpellsAll, SpellsMany, IsSigned, Spell
 use Rattle.twkb_num.proofs.PairLaws.{IsMoved-two}
 use Rattle.twkb_head.specs.Header.{code_of, has_bit, has_ids, z_in, m_in}
 use Rattle.twkb_head.specs.Shared.Reader.{Answer, Reader, ◌>>=◌, viewed, number_at, optional_at, range_from}
-use Rattle.twkb_head.specs.Devices.HeadReader.{byte_at, head_with, kind_from_type, bounds_from, head_at, rest_at}
+use Rattle.twkb_head.specs.Devices.HeadReader.{byte_at, head_with, kind_from_type, bounds_from, box_behind, head_at, rest_at}
 use Rattle.twkb_head.specs.BegunHeader.{deepest, IsAllowedAt}
 use Rattle.twkb_head.specs.declared.kinds.Kind.{Kind}
 use Rattle.twkb_head.specs.declared.kinds.Kind.TheVariants.{Point, LineString, Polygon, MultiPoint, MultiLineString, MultiPolygon, GeometryCollection}
@@ -177,13 +177,12 @@ two_spelled bytes s = go s.numbers s.count s.spelled
     go (n ∷ m ∷ k ∷ ns) count all = absurd (omega (arith, count))
 
 -- a range of an axis for each that is there is a box
-pub box_read : (xy : ℤ) (z m : Option ℕ) (box : RawBox) (r a b c d : Reading) → range_from r ≡ (Ok (ends_of box.x), a) → range_from a ≡ (Ok (ends_of box.y), b) → IsRangeIf (is_some z || is_some m) box.third b c
+pub box_read : (xy : ℤ) (z m : Option ℕ) (box : RawBox) (r b c d : Reading) → bounds_from xy z m r ≡ box_behind xy z m (Ok (box.x, box.y)) b → IsRangeIf (is_some z || is_some m) box.third b c
     → IsRangeIf (is_some z && is_some m) box.fourth c d → bounds_from xy z m r ≡ (Ok (raw_bounds xy z m box), d)
-unfolding bounds_from
-box_read xy None None box r a b c d x y (_, third) (_, fourth) = rw (x, y, fourth, third) refl
-box_read xy None (Some q) box r a b c d x y third (_, fourth) = rw (x, y, third, fourth) refl
-box_read xy (Some p) None box r a b c d x y third (_, fourth) = rw (x, y, third, fourth) refl
-box_read xy (Some p) (Some q) box r a b c d x y third fourth = rw (x, y, third, fourth) refl
+box_read xy None None box r b c d e (_, third) (_, fourth) = e ∙ rw (fourth, third) refl
+box_read xy None (Some q) box r b c d e third (_, fourth) = e ∙ rw (third, fourth) refl
+box_read xy (Some p) None box r b c d e third (_, fourth) = e ∙ rw (third, fourth) refl
+box_read xy (Some p) (Some q) box r b c d e third fourth = e ∙ rw (third, fourth) refl
 
 -- a box of raw numbers in units, and where it stands
 pub box_seen : (p q : ℤ) (z y m n : Option ℕ) (offset place : ℕ) → p ≡ q → z ≡ y → m ≡ n → offset ≡ place → (o : Option RawBox)

@@ -1,12 +1,12 @@
 -- Two spellings that one move passes, as two moves.
-use Rattle.std.proofs.Common.{◌≡◌, ℕ, ◌+◌, ◌-◌, ◌%◌, ◌^◌, ◌<◌, ◌≤◌, ◌⊎◌, inl, inr, ℤ, List, ◌++◌, length, take, sym, ap, refl, ◌∙◌, arith, length-append}
+use Rattle.std.proofs.Common.{◌≡◌, ℕ, ◌+◌, ◌-◌, ◌%◌, ◌^◌, ◌<◌, ◌≤◌, ◌⊎◌, inl, inr, ℤ, List, [], ◌∷◌, ◌++◌, length, take, sym, ap, subst, refl, ◌∙◌, arith, length-append, append_assoc}
 use Rattle.std.proofs.lemmas.Grind.{common_steps}
 use Rattle.std.proofs.lemmas.Bool.{cases_lt}
 use Rattle.std.proofs.lemmas.Bool.Decides.{nat_tests}
 use Rattle.std.proofs.lemmas.Int.{ints}
-use Rattle.std.proofs.lemmas.List.{append_cancel_left, take_at}
+use Rattle.std.proofs.lemmas.List.{append-nil, append_cancel_left, take_at}
 use Rattle.twkb_num.specs.Cursor.{Reading, passed, added, IsMoved}
-use Rattle.twkb_num.specs.Varint.{zigzag_value, IsShort}
+use Rattle.twkb_num.specs.Varint.{zigzag_value, SpellsAllSigned, SpellsTwoSigned, IsShort}
 use Rattle.twkb_num.proofs.CursorLemmas.{passed-append}
 
 -- between two moves that pass together two parts there is a reading that is behind the first part
@@ -22,6 +22,30 @@ IsMoved-two a c front behind m e =
     let long : length (passed a b) ≡ n = grind (arith, common_steps, there.within) in
     let first : passed a b ≡ front = sym (take_at (passed a b) (passed b c) n long) ∙ ap (take n) both ∙ take_at front behind n refl in
     (b, there, back, first, append_cancel_left front (passed b c) behind (ap (λ x. x ++ passed b c) (sym first) ∙ both))
+
+-- numbers that one move passes, the first two and the others, are two moves
+pub pair_and_others : (a c : Reading) (x y : ℤ) (zs : List ℤ) → SpellsAllSigned (passed a c) (x ∷ y ∷ zs) → IsMoved a c
+    → (b : Reading) × SpellsTwoSigned (passed a b) x y × IsMoved a b × SpellsAllSigned (passed b c) zs × IsMoved b c
+pair_and_others a c x y zs all m =
+    let first : List ℕ = all.0 in
+    let more = all.4 in
+    let second : List ℕ = more.0 in
+    let others : List ℕ = more.1 in
+    let whole : passed a c ≡ (first ++ second) ++ others = all.2 ∙ ap (λ bytes. first ++ bytes) more.2 ∙ sym (append_assoc first second others) in
+    let way = IsMoved-two a c (first ++ second) others m whole in
+    let two : SpellsTwoSigned (first ++ second) x y = (all.3.0, more.3.0, record { front = first; behind = second; whole = refl; first = all.3.1; second = more.3.1 }, all.3.2, more.3.2) in
+    (way.0, subst (λ bytes. SpellsTwoSigned bytes x y) (sym way.3) two, way.1, subst (λ bytes. SpellsAllSigned bytes zs) (sym way.4) more.4, way.2)
+
+-- the last two
+pub last_pair : (a c : Reading) (x y : ℤ) → SpellsAllSigned (passed a c) (x ∷ y ∷ []) → SpellsTwoSigned (passed a c) x y
+last_pair a c x y all =
+    let more = all.4 in (all.3.0, more.3.0, record {
+      front = all.0;
+      behind = more.0;
+      whole = all.2 ∙ ap (λ bytes. all.0 ++ bytes) (more.2 ∙ ap (λ bytes. more.0 ++ bytes) more.4 ∙ append-nil more.0);
+      first = all.3.1;
+      second = more.3.1;
+    }, all.3.2, more.3.2)
 
 -- a number below 2^28 means a short one
 pub zigzag_short : (n : ℕ) (z : ℤ) → n < 2 ^ 28 → z ≡ zigzag_value n → IsShort z

@@ -1,11 +1,14 @@
 -- Devices of proofs: nothing public names them.
 -- Headers read from a cursor as the code does it, one field after another.
-use Rattle.std.specs.Prelude.{ℕ, ◌/◌, ℤ, pos, Option, option_map, Some, None, Ok}
+use Rattle.std.specs.Prelude.{ℕ, ◌/◌, ℤ, pos, Option, option_map, Some, None, Result, Ok, Err}
 use Rattle.twkb_num.specs.Varint.{zigzag_value}
 use Rattle.twkb_head.specs.declared.kinds.Kind.{Kind}
 use Rattle.twkb_head.specs.declared.boxes.Span.{Span}
 use Rattle.twkb_head.specs.declared.boxes.Bounds.{Bounds}
 use Rattle.twkb_head.specs.declared.header.Head.{Head}
+use Rattle.twkb_head.specs.declared.raw.RawRange.{RawRange}
+use Rattle.twkb_head.specs.declared.refusal.Malformed.{Malformed}
+use Rattle.twkb_head.specs.Raw.{ends_of}
 use Rattle.twkb_head.specs.Header.{has_bit, has_ids, z_in, m_in}
 use Rattle.twkb_head.specs.Head.{span_at}
 use Rattle.twkb_head.specs.Shared.HeadPlan.{kind_from}
@@ -36,6 +39,13 @@ bounds_from xy z m r =
     (viewed (span_at xy) (range_from a) >>= λ y b.
     (axis_from z b >>= λ z c.
     viewed (λ m. record { x = x; y = y; z = z; m = m }) (axis_from m c)))
+
+-- what is left of a box after its ranges of X and Y, or the fault of one of these
+abbrev pub box_behind : ℤ → Option ℕ → Option ℕ → Result (RawRange × RawRange) Malformed → Reader Bounds
+box_behind xy z m (Err w) b = (Err w, b)
+box_behind xy z m (Ok both) b =
+    axis_from z b >>= λ z c.
+    viewed (λ m. record { x = span_at xy (ends_of both.0); y = span_at xy (ends_of both.1); z = z; m = m }) (axis_from m c)
 
 -- the code's form of a header, from the fields that were read
 abbrev pub head_with : Kind → ℤ → ℕ → Option ℕ → Option ℕ → Option Bounds → ℕ → ℕ → ℕ → ℕ → Head

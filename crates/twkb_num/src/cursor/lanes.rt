@@ -1,5 +1,5 @@
 //! Signed numbers at a cursor's place, read together into the lanes of a vector.
-ghost use Rattle.std.specs.Prelude.{◌≡◌, ◌*◌, ◌-◌, ◌≤◌, false, map, take, drop, replicate, All, IsTrue};
+ghost use Rattle.std.specs.Prelude.{◌≡◌, ◌*◌, ◌-◌, ◌≤◌, [], ◌∷◌, false, map, take, drop, replicate, All, IsTrue};
 ghost use Rattle.std.specs.Int.{w16, w32, cast_signed};
 ghost use Rattle.twkb_num.specs.Cursor.{passed, IsMoved};
 ghost use Rattle.twkb_num.specs.Varint.{SpellsAllSigned, IsShort, IsBrief};
@@ -20,6 +20,28 @@ pub struct Four {
 pub struct Eight {
     pub lanes: u16x8,
     pub is_read: bool,
+}
+
+impl Four {
+    /// The numbers, two by two.
+    #[inline(always)]
+    pub(super) fn two_pairs(self) -> ((i64, i64), (i64, i64))
+        ensures { map (cast_signed w32) self.lanes ≡ (result.0).0 ∷ (result.0).1 ∷ (result.1).0 ∷ (result.1).1 ∷ [] }
+    {
+        let lanes = self.lanes.to_array();
+        (
+            (signed(lanes[0]), signed(lanes[1])),
+            (signed(lanes[2]), signed(lanes[3])),
+        )
+    }
+}
+
+/// What a lane means in two's complement.
+#[inline(always)]
+fn signed(lane: u32) -> i64
+    ensures { result ≡ cast_signed w32 lane }
+{
+    i64::from(lane.cast_signed())
 }
 
 impl<'a> Cursor<'a> {

@@ -35,10 +35,27 @@ impl<'a> Cursor<'a> {
         Some((both.first, both.second))
     }
 
-    /// Reads four signed varints, two after two, if [`Cursor::svarint_pair`] can read both pairs. Otherwise it answers `None` and
-    /// has read nothing.
+    /// Reads four signed varints, two after two, if [`Cursor::svarint_four`] can read them or [`Cursor::svarint_pair`] both pairs.
+    /// Otherwise it answers `None` and has read nothing.
     #[inline(always)]
     pub fn svarint_two_pairs(&mut self) -> Option<((i64, i64), (i64, i64))>
+        ensures some { IfSome result (λ two. (middle : Reading)
+            × SpellsTwoSigned (passed self.old middle) (two.0).0 (two.0).1 × IsMoved self.old middle
+            × SpellsTwoSigned (passed middle self.new) (two.1).0 (two.1).1 × IsMoved middle self.new) }
+        ensures first { IfSome result (λ two. IsShort (two.0).0 × IsShort (two.0).1) }
+        ensures second { IfSome result (λ two. IsShort (two.1).0 × IsShort (two.1).1) }
+        ensures none { IfNone result (self.new ≡ self.old) }
+    {
+        let four = self.svarint_four();
+        if four.is_read {
+            return Some(four.two_pairs());
+        }
+        self.two_word_pairs()
+    }
+
+    // Two pairs, each from one word of eight bytes.
+    #[inline(always)]
+    fn two_word_pairs(&mut self) -> Option<((i64, i64), (i64, i64))>
         ensures some { IfSome result (λ two. (middle : Reading)
             × SpellsTwoSigned (passed self.old middle) (two.0).0 (two.0).1 × IsMoved self.old middle
             × SpellsTwoSigned (passed middle self.new) (two.1).0 (two.1).1 × IsMoved middle self.new) }

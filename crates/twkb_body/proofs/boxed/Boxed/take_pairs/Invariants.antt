@@ -2,7 +2,7 @@
 use Rattle.std.proofs.Common.{◌-◌, ◌≤◌}
 use Rattle.twkb_body.specs.Devices.Inside.{of_head}
 use Rattle.twkb_body.proofs.BoxedRuns.{IsBoxedRun}
-use Rattle.twkb_body.proofs.boxed.Boxed.take_flat_run.Given as goal
+use Rattle.twkb_body.proofs.boxed.Boxed.take_pairs.Given as goal
 
 abbrev pub invariant-loop-inside : goal.invariant-loop-inside
 invariant-loop-inside l = record {

@@ -1,0 +1,147 @@
+-- Sums in lanes, in two's complement.
+use Rattle.std.proofs.Common.{◌≡◌, ℕ, suc, ◌+◌, ◌-◌, ◌*◌, ◌<◌, ◌%◌, ◌^◌, List, [], ◌∷◌, map, ℤ, pos, negsuc, neg_ℤ, ◌+ℤ◌, ◌≤ℤ◌, ◌<ℤ◌, refl, sym, ap, ap₂, subst, ◌∙◌, arith, Fits, w16, w32, Bool, true, false, ◌&&◌, nat_eq, nat_le}
+use Rattle.std.proofs.lemmas.Int.{ints, of_z-to_z}
+use Rattle.std.specs.Int.{cast_signed, cast_unsigned}
+use mir.Syntax.{Width}
+use Rattle.std.proofs.lemmas.Bool.{leb-true, le-leb}
+use Rattle.std.proofs.lemmas.Bool.Decides.{Decides-and, leb_tells}
+use Rattle.std.specs.Bool.{Decides}
+use Rattle.std.specs.Prelude.{int_le, if◌then◌else◌, nat_lt, ◌≤◌}
+use lib.Lanes.{Each1, mask_l}
+use Rattle.twkb_num.specs.Varint.{IsBrief, IsShort}
+use Rattle.twkb_body.specs.Devices.Boxed.{reaches}
+use Rattle.twkb_body.specs.Devices.Quads.{IsInLane, IsLaneExtent, IsMetInLane}
+use Rattle.twkb_body.proofs.BoxedRuns.{reaches_decides, both_true}
+
+pub same_truth : (a b : Bool) → (a ≡ true → b ≡ true) → (b ≡ true → a ≡ true) → a ≡ b
+same_truth true b to from = sym (to refl)
+same_truth false true to from = from refl
+same_truth false false to from = refl
+
+four_fits : (w : Width) (d : List ℕ) → Each1 (Fits w) d → map (cast_unsigned w) (map (cast_signed w) d) ≡ d
+four_fits w [] fits = refl
+four_fits w (n ∷ d) fits = ap₂ (λ (m : ℕ) (ms : List ℕ). m ∷ ms) (of_z-to_z w n fits.0.fits) (four_fits w d fits.1)
+
+-- lanes are what their signed numbers say
+pub lanes_are : (w : Width) (d : List ℕ) (zs : List ℤ) → Each1 (Fits w) d → map (cast_signed w) d ≡ zs → d ≡ map (cast_unsigned w) zs
+lanes_are w d zs fits e = sym (four_fits w d fits) ∙ ap (map (cast_unsigned w)) e
+
+-- a lane of 16 bits, of the sum of numbers that two bytes can spell
+sum_16 : (p q : ℤ) → neg_ℤ (pos 16384) ≤ℤ p → p <ℤ pos 16384 → neg_ℤ (pos 16384) ≤ℤ q → q <ℤ pos 16384 → (cast_unsigned w16 p + cast_unsigned w16 q) % 65536 ≡ cast_unsigned w16 (p +ℤ q)
+sum_16 p q h i j k = omega (arith, ints, h, i, j, k)
+
+none_16 : (p : ℤ) → neg_ℤ (pos 32768) ≤ℤ p → p <ℤ pos 32768 → (cast_unsigned w16 p + 0) % 65536 ≡ cast_unsigned w16 p
+none_16 p h i = omega (arith, ints, h, i)
+
+-- a lane of 32 bits, of a distance and such a sum
+lane_sum : (z x y : ℤ) → neg_ℤ (pos 32768) ≤ℤ z → z <ℤ pos 32768 → IsInLane x → y ≡ x +ℤ z → ((cast_unsigned w16 z + 32768) % 65536 + (cast_unsigned w32 x + (4294967296 - 32768)) % 4294967296) % 4294967296 ≡ cast_unsigned w32 y
+lane_sum z x y h i l e =
+    let value : pos ((cast_unsigned w16 z + 32768) % 65536) ≡ z +ℤ pos 32768 = omega (arith, ints, h, i) in
+    omega (arith, ints, value, h, i, l.0, l.1, e)
+
+-- the lanes of four points, one after another
+pub first_lane : (a x : ℤ) → IsBrief a → IsInLane x → ((((cast_unsigned w16 a + 0) % 65536 + 0) % 65536 + 32768) % 65536 + (cast_unsigned w32 x + (4294967296 - 32768)) % 4294967296) % 4294967296 ≡ cast_unsigned w32 (x +ℤ a)
+first_lane a x brief l =
+    let one = none_16 a (omega (arith, ints, brief.0)) (omega (arith, ints, brief.1)) in
+    ap (λ (s : ℕ). ((s + 32768) % 65536 + (cast_unsigned w32 x + (4294967296 - 32768)) % 4294967296) % 4294967296) (ap (λ (s : ℕ). (s + 0) % 65536) one ∙ one)
+    ∙ lane_sum a x (x +ℤ a) (omega (arith, ints, brief.0)) (omega (arith, ints, brief.1)) l refl
+
+pub second_lane : (a b x : ℤ) → IsBrief a → IsBrief b → IsInLane x → ((((cast_unsigned w16 b + cast_unsigned w16 a) % 65536 + 0) % 65536 + 32768) % 65536 + (cast_unsigned w32 x + (4294967296 - 32768)) % 4294967296) % 4294967296 ≡ cast_unsigned w32 ((x +ℤ a) +ℤ b)
+second_lane a b x one two l =
+    let both = sum_16 b a (omega (arith, ints, two.0)) (omega (arith, ints, two.1)) (omega (arith, ints, one.0)) (omega (arith, ints, one.1)) in
+    let none = none_16 (b +ℤ a) (omega (arith, ints, one.0, two.0)) (omega (arith, ints, one.1, two.1)) in
+    ap (λ (s : ℕ). ((s + 32768) % 65536 + (cast_unsigned w32 x + (4294967296 - 32768)) % 4294967296) % 4294967296) (ap (λ (s : ℕ). (s + 0) % 65536) both ∙ none)
+    ∙ lane_sum (b +ℤ a) x ((x +ℤ a) +ℤ b) (omega (arith, ints, one.0, two.0)) (omega (arith, ints, one.1, two.1)) l (omega (arith, ints))
+
+pub third_lane : (a b c x : ℤ) → IsBrief a → IsBrief b → IsBrief c → IsInLane x
+    → ((((cast_unsigned w16 c + cast_unsigned w16 b) % 65536 + (cast_unsigned w16 a + 0) % 65536) % 65536 + 32768) % 65536 + (cast_unsigned w32 x + (4294967296 - 32768)) % 4294967296) % 4294967296 ≡ cast_unsigned w32 (((x +ℤ a) +ℤ b) +ℤ c)
+third_lane a b c x one two three l =
+    let both = sum_16 c b (omega (arith, ints, three.0)) (omega (arith, ints, three.1)) (omega (arith, ints, two.0)) (omega (arith, ints, two.1)) in
+    let none = none_16 a (omega (arith, ints, one.0)) (omega (arith, ints, one.1)) in
+    let all = sum_16 (c +ℤ b) a (omega (arith, ints, two.0, three.0)) (omega (arith, ints, two.1, three.1)) (omega (arith, ints, one.0)) (omega (arith, ints, one.1)) in
+    ap (λ (s : ℕ). ((s + 32768) % 65536 + (cast_unsigned w32 x + (4294967296 - 32768)) % 4294967296) % 4294967296) (ap₂ (λ (s t : ℕ). (s + t) % 65536) both none ∙ all)
+    ∙ lane_sum ((c +ℤ b) +ℤ a) x (((x +ℤ a) +ℤ b) +ℤ c) (omega (arith, ints, one.0, two.0, three.0)) (omega (arith, ints, one.1, two.1, three.1)) l (omega (arith, ints))
+
+pub fourth_lane : (a b c d x : ℤ) → IsBrief a → IsBrief b → IsBrief c → IsBrief d → IsInLane x
+    → ((((cast_unsigned w16 d + cast_unsigned w16 c) % 65536 + (cast_unsigned w16 b + cast_unsigned w16 a) % 65536) % 65536 + 32768) % 65536 + (cast_unsigned w32 x + (4294967296 - 32768)) % 4294967296) % 4294967296 ≡ cast_unsigned w32 ((((x +ℤ a) +ℤ b) +ℤ c) +ℤ d)
+fourth_lane a b c d x one two three four l =
+    let front = sum_16 b a (omega (arith, ints, two.0)) (omega (arith, ints, two.1)) (omega (arith, ints, one.0)) (omega (arith, ints, one.1)) in
+    let back = sum_16 d c (omega (arith, ints, four.0)) (omega (arith, ints, four.1)) (omega (arith, ints, three.0)) (omega (arith, ints, three.1)) in
+    let all : (cast_unsigned w16 (d +ℤ c) + cast_unsigned w16 (b +ℤ a)) % 65536 ≡ cast_unsigned w16 ((d +ℤ c) +ℤ (b +ℤ a)) = omega (arith, ints, one.0, one.1, two.0, two.1, three.0, three.1, four.0, four.1) in
+    ap (λ (s : ℕ). ((s + 32768) % 65536 + (cast_unsigned w32 x + (4294967296 - 32768)) % 4294967296) % 4294967296) (ap₂ (λ (s t : ℕ). (s + t) % 65536) back front ∙ all)
+    ∙ lane_sum ((d +ℤ c) +ℤ (b +ℤ a)) x ((((x +ℤ a) +ℤ b) +ℤ c) +ℤ d) (omega (arith, ints, one.0, two.0, three.0, four.0)) (omega (arith, ints, one.1, two.1, three.1, four.1)) l (omega (arith, ints))
+
+-- the lanes of two points
+pub first_wide : (a x : ℤ) → IsShort a → IsInLane x → ((cast_unsigned w32 a + 0) % 4294967296 + cast_unsigned w32 x) % 4294967296 ≡ cast_unsigned w32 (x +ℤ a)
+first_wide a x short l = omega (arith, ints, short.0, short.1, l.0, l.1)
+
+pub second_wide : (a b x : ℤ) → IsShort a → IsShort b → IsInLane x → ((cast_unsigned w32 b + cast_unsigned w32 a) % 4294967296 + cast_unsigned w32 x) % 4294967296 ≡ cast_unsigned w32 ((x +ℤ a) +ℤ b)
+second_wide a b x one two l =
+    let both : (cast_unsigned w32 b + cast_unsigned w32 a) % 4294967296 ≡ cast_unsigned w32 (b +ℤ a) = omega (arith, ints, one.0, one.1, two.0, two.1) in
+    ap (λ (s : ℕ). (s + cast_unsigned w32 x) % 4294967296) both ∙ omega (arith, ints, one.0, one.1, two.0, two.1, l.0, l.1)
+
+-- one comparison without signs
+pub lane_reaches : (extent z : ℤ) → IsLaneExtent extent → IsMetInLane z → nat_le (cast_unsigned w32 z) (cast_unsigned w32 extent) ≡ reaches extent z
+lane_reaches extent z e m =
+    same_truth (nat_le (cast_unsigned w32 z) (cast_unsigned w32 extent)) (reaches extent z)
+    (λ le. let low : cast_unsigned w32 z ≤ cast_unsigned w32 extent = leb-true _ _ le in (reaches_decides extent z).1 (omega (arith, ints, low, e.0, e.1, m.0, m.1), omega (arith, ints, low, e.0, e.1, m.0, m.1)))
+    (λ r. let in_it = (reaches_decides extent z).0 r in le-leb _ _ (omega (arith, ints, in_it.0, in_it.1, e.0, e.1, m.0, m.1)))
+
+-- the greater of two is within where both are
+pub greater_within : (a b w : ℕ) → nat_le (if nat_lt a b then b else a) w ≡ (nat_le a w && nat_le b w)
+greater_within a b w =
+    same_truth (nat_le (if nat_lt a b then b else a) w) (nat_le a w && nat_le b w) (λ e. grind (arith, e, leb_tells)) (λ e. grind (arith, e, leb_tells))
+
+and_true : (a b : Bool) → a ≡ true → b ≡ true → a && b ≡ true
+and_true a b e f = ap₂ (λ (p q : Bool). p && q) e f
+
+-- points that are compared two by two, one after another
+pub one_by_one : (x1 y1 x2 y2 : Bool) → (x1 && y1) && (x2 && y2) ≡ (x1 && y1) && ((x2 && y2) && true)
+one_by_one false y1 x2 y2 = refl
+one_by_one true false x2 y2 = refl
+one_by_one true true false y2 = refl
+one_by_one true true true false = refl
+one_by_one true true true true = refl
+
+pub each_of_four : (x1 y1 x2 y2 x3 y3 x4 y4 : Bool) → ((x1 && x3) && (y1 && y3)) && ((x2 && x4) && (y2 && y4)) ≡ (x1 && y1) && ((x2 && y2) && ((x3 && y3) && ((x4 && y4) && true)))
+each_of_four x1 y1 x2 y2 x3 y3 x4 y4 =
+    same_truth (((x1 && x3) && (y1 && y3)) && ((x2 && x4) && (y2 && y4))) ((x1 && y1) && ((x2 && y2) && ((x3 && y3) && ((x4 && y4) && true))))
+    (λ e.
+      let two = both_true ((x1 && x3) && (y1 && y3)) ((x2 && x4) && (y2 && y4)) e in
+      let odd = both_true (x1 && x3) (y1 && y3) two.0 in
+      let even = both_true (x2 && x4) (y2 && y4) two.1 in
+      let x = both_true x1 x3 odd.0 in
+      let y = both_true y1 y3 odd.1 in
+      let u = both_true x2 x4 even.0 in
+      let v = both_true y2 y4 even.1 in
+      and_true (x1 && y1) ((x2 && y2) && ((x3 && y3) && ((x4 && y4) && true))) (and_true x1 y1 x.0 y.0)
+      (and_true (x2 && y2) ((x3 && y3) && ((x4 && y4) && true)) (and_true x2 y2 u.0 v.0)
+      (and_true (x3 && y3) ((x4 && y4) && true) (and_true x3 y3 x.1 y.1) (and_true (x4 && y4) true (and_true x4 y4 u.1 v.1) refl))))
+    (λ e.
+      let one = both_true (x1 && y1) ((x2 && y2) && ((x3 && y3) && ((x4 && y4) && true))) e in
+      let two = both_true (x2 && y2) ((x3 && y3) && ((x4 && y4) && true)) one.1 in
+      let three = both_true (x3 && y3) ((x4 && y4) && true) two.1 in
+      let a = both_true x1 y1 one.0 in
+      let b = both_true x2 y2 two.0 in
+      let c = both_true x3 y3 three.0 in
+      let d = both_true x4 y4 (both_true (x4 && y4) true three.1).0 in
+      and_true ((x1 && x3) && (y1 && y3)) ((x2 && x4) && (y2 && y4)) (and_true (x1 && x3) (y1 && y3) (and_true x1 x3 a.0 c.0) (and_true y1 y3 a.1 c.1))
+      (and_true (x2 && x4) (y2 && y4) (and_true x2 x4 b.0 d.0) (and_true y2 y4 b.1 d.1)))
+
+pub four_set : (p q r s : Bool) → nat_eq (mask_l (p ∷ q ∷ r ∷ s ∷ []) % 18446744073709551616) 15 ≡ (p && q) && (r && s)
+four_set true true true true = refl
+four_set true true true false = refl
+four_set true true false true = refl
+four_set true true false false = refl
+four_set true false true true = refl
+four_set true false true false = refl
+four_set true false false true = refl
+four_set true false false false = refl
+four_set false true true true = refl
+four_set false true true false = refl
+four_set false true false true = refl
+four_set false true false false = refl
+four_set false false true true = refl
+four_set false false true false = refl
+four_set false false false true = refl
+four_set false false false false = refl

@@ -1,0 +1,16 @@
+-- The points so far are a run that the box holds; the lanes are the last one's distances from the minima.
+use Rattle.std.proofs.Common.{◌≡◌, ◌-◌, ◌≤◌, true}
+use Rattle.std.specs.Prelude.{ℤ}
+use Rattle.twkb_body.specs.Devices.Inside.{of_head}
+use Rattle.twkb_body.specs.Devices.Quads.{lanes_at}
+use Rattle.twkb_body.proofs.QuadRuns.{IsQuadRun}
+use Rattle.twkb_body.proofs.boxed.Boxed.take_quads.Given as goal
+
+abbrev pub invariant-loop-inside : goal.invariant-loop-inside
+invariant-loop-inside l = record {
+  run : IsQuadRun (of_head l._head) l.fn.trail l.fn.self l.fn.cursor l.self-inside.bounds l.at l.inside l.cursor l.done;
+  few : l.done ≤ l.most;
+}
+
+abbrev pub decreases-loop-inside : goal.decreases-loop-inside
+decreases-loop-inside l = l.most - l.done

@@ -1,0 +1,63 @@
+use Rattle.std.proofs.Common.{◌≡◌, ℕ, ◌+◌, ◌%◌, ◌&&◌, Bool, [], ◌∷◌, List, ap, ap₂, subst, ◌∙◌, w16, w32, arith, pos}
+use Rattle.std.proofs.lemmas.Int.{ints}
+use Rattle.std.specs.Int.{cast_unsigned}
+use Rattle.std.specs.Prelude.{ℤ, ◌+ℤ◌, All}
+use Rattle.twkb_num.specs.Varint.{IsBrief}
+use Rattle.twkb_body.specs.Devices.Boxed.{reaches}
+use Rattle.twkb_body.specs.Devices.Quads.{IsMetInLane}
+use Rattle.twkb_body.proofs.LaneSums.{lanes_are, first_lane, second_lane, third_lane, fourth_lane, lane_reaches, greater_within, each_of_four}
+use Rattle.twkb_body.proofs.positions.four_more.Goals as goal
+
+pub returns : goal.returns
+returns k x y w h a1 b1 a2 b2 a3 b3 a4 b4 at extent means short x_in y_in w_fits h_fits =
+    let all = subst (All IsBrief) means short in
+    let a1_short : IsBrief a1 = all 0 (pos 0) (omega arith) in
+    let b1_short : IsBrief b1 = all 1 (pos 0) (omega arith) in
+    let a2_short : IsBrief a2 = all 2 (pos 0) (omega arith) in
+    let b2_short : IsBrief b2 = all 3 (pos 0) (omega arith) in
+    let a3_short : IsBrief a3 = all 4 (pos 0) (omega arith) in
+    let b3_short : IsBrief b3 = all 5 (pos 0) (omega arith) in
+    let a4_short : IsBrief a4 = all 6 (pos 0) (omega arith) in
+    let b4_short : IsBrief b4 = all 7 (pos 0) (omega arith) in
+    let more = lanes_are w16 k.args.differences (a1 ∷ b1 ∷ a2 ∷ b2 ∷ a3 ∷ b3 ∷ a4 ∷ b4 ∷ []) k.fits-differences.1 means in
+    let sums = k.biased-sums.ensures _ _ _ _ _ _ _ _ (k.with_half_before.ensures _ _ _ _ _ _ _ _ (k.with_pair_before.ensures _ _ _ _ _ _ _ _ more)) in
+    let x1 = first_lane a1 x a1_short x_in in
+    let y1 = first_lane b1 y b1_short y_in in
+    let x2 = second_lane a1 a2 x a1_short a2_short x_in in
+    let y2 = second_lane b1 b2 y b1_short b2_short y_in in
+    let x3 = third_lane a1 a2 a3 x a1_short a2_short a3_short x_in in
+    let y3 = third_lane b1 b2 b3 y b1_short b2_short b3_short y_in in
+    let x4 = fourth_lane a1 a2 a3 a4 x a1_short a2_short a3_short a4_short x_in in
+    let y4 = fourth_lane b1 b2 b3 b4 y b1_short b2_short b3_short b4_short y_in in
+    let first : k.unbiased_sum-first.result ≡ cast_unsigned w32 (x +ℤ a1) ∷ cast_unsigned w32 (y +ℤ b1) ∷ cast_unsigned w32 ((x +ℤ a1) +ℤ a2) ∷ cast_unsigned w32 ((y +ℤ b1) +ℤ b2) ∷ []
+    = k.unbiased_sum-first.ensures _ _ _ _ _ _ _ _ (k.first_half.ensures _ _ _ _ _ _ _ _ sums) at ∙ (λ j. x1 j ∷ y1 j ∷ x2 j ∷ y2 j ∷ []) in
+    let second : k.unbiased_sum-second.result ≡ cast_unsigned w32 (((x +ℤ a1) +ℤ a2) +ℤ a3) ∷ cast_unsigned w32 (((y +ℤ b1) +ℤ b2) +ℤ b3) ∷ cast_unsigned w32 ((((x +ℤ a1) +ℤ a2) +ℤ a3) +ℤ a4) ∷ cast_unsigned w32 ((((y +ℤ b1) +ℤ b2) +ℤ b3) +ℤ b4) ∷ []
+    = k.unbiased_sum-second.ensures _ _ _ _ _ _ _ _ (k.second_half.ensures _ _ _ _ _ _ _ _ sums) at ∙ (λ j. x3 j ∷ y3 j ∷ x4 j ∷ y4 j ∷ []) in
+    let x1_met : IsMetInLane (x +ℤ a1) = (omega (arith, ints, x_in.0, a1_short.0), omega (arith, ints, x_in.1, a1_short.1)) in
+    let y1_met : IsMetInLane (y +ℤ b1) = (omega (arith, ints, y_in.0, b1_short.0), omega (arith, ints, y_in.1, b1_short.1)) in
+    let x2_met : IsMetInLane ((x +ℤ a1) +ℤ a2) = (omega (arith, ints, x_in.0, a1_short.0, a2_short.0), omega (arith, ints, x_in.1, a1_short.1, a2_short.1)) in
+    let y2_met : IsMetInLane ((y +ℤ b1) +ℤ b2) = (omega (arith, ints, y_in.0, b1_short.0, b2_short.0), omega (arith, ints, y_in.1, b1_short.1, b2_short.1)) in
+    let x3_met : IsMetInLane (((x +ℤ a1) +ℤ a2) +ℤ a3) = (omega (arith, ints, x_in.0, a1_short.0, a2_short.0, a3_short.0), omega (arith, ints, x_in.1, a1_short.1, a2_short.1, a3_short.1)) in
+    let y3_met : IsMetInLane (((y +ℤ b1) +ℤ b2) +ℤ b3) = (omega (arith, ints, y_in.0, b1_short.0, b2_short.0, b3_short.0), omega (arith, ints, y_in.1, b1_short.1, b2_short.1, b3_short.1)) in
+    let x4_met : IsMetInLane ((((x +ℤ a1) +ℤ a2) +ℤ a3) +ℤ a4) = (omega (arith, ints, x_in.0, a1_short.0, a2_short.0, a3_short.0, a4_short.0), omega (arith, ints, x_in.1, a1_short.1, a2_short.1, a3_short.1, a4_short.1)) in
+    let y4_met : IsMetInLane ((((y +ℤ b1) +ℤ b2) +ℤ b3) +ℤ b4) = (omega (arith, ints, y_in.0, b1_short.0, b2_short.0, b3_short.0, b4_short.0), omega (arith, ints, y_in.1, b1_short.1, b2_short.1, b3_short.1, b4_short.1)) in
+    let rx1 = lane_reaches w (x +ℤ a1) w_fits x1_met in
+    let ry1 = lane_reaches h (y +ℤ b1) h_fits y1_met in
+    let rx2 = lane_reaches w ((x +ℤ a1) +ℤ a2) w_fits x2_met in
+    let ry2 = lane_reaches h ((y +ℤ b1) +ℤ b2) h_fits y2_met in
+    let rx3 = lane_reaches w (((x +ℤ a1) +ℤ a2) +ℤ a3) w_fits x3_met in
+    let ry3 = lane_reaches h (((y +ℤ b1) +ℤ b2) +ℤ b3) h_fits y3_met in
+    let rx4 = lane_reaches w ((((x +ℤ a1) +ℤ a2) +ℤ a3) +ℤ a4) w_fits x4_met in
+    let ry4 = lane_reaches h ((((y +ℤ b1) +ℤ b2) +ℤ b3) +ℤ b4) h_fits y4_met in
+    let gx = greater_within (cast_unsigned w32 (x +ℤ a1)) (cast_unsigned w32 (((x +ℤ a1) +ℤ a2) +ℤ a3)) (cast_unsigned w32 w) in
+    let gy = greater_within (cast_unsigned w32 (y +ℤ b1)) (cast_unsigned w32 (((y +ℤ b1) +ℤ b2) +ℤ b3)) (cast_unsigned w32 h) in
+    let gu = greater_within (cast_unsigned w32 ((x +ℤ a1) +ℤ a2)) (cast_unsigned w32 ((((x +ℤ a1) +ℤ a2) +ℤ a3) +ℤ a4)) (cast_unsigned w32 w) in
+    let gv = greater_within (cast_unsigned w32 ((y +ℤ b1) +ℤ b2)) (cast_unsigned w32 ((((y +ℤ b1) +ℤ b2) +ℤ b3) +ℤ b4)) (cast_unsigned w32 h) in
+    record {
+      at_is = k.last_twice.ensures _ _ _ _ second;
+      inside_is = k.are_both_within.ensures _ _ _ _ _ _ (k.greater.ensures _ _ _ _ _ _ _ _ first second) extent
+          ∙ (λ j. (gx j && gy j) && (gu j && gv j))
+          ∙ (λ j. ((rx1 j && rx3 j) && (ry1 j && ry3 j)) && ((rx2 j && rx4 j) && (ry2 j && ry4 j)))
+          ∙ each_of_four (reaches w (x +ℤ a1)) (reaches h (y +ℤ b1)) (reaches w ((x +ℤ a1) +ℤ a2)) (reaches h ((y +ℤ b1) +ℤ b2)) (reaches w (((x +ℤ a1) +ℤ a2) +ℤ a3)) (reaches h (((y +ℤ b1) +ℤ b2) +ℤ b3))
+          (reaches w ((((x +ℤ a1) +ℤ a2) +ℤ a3) +ℤ a4)) (reaches h ((((y +ℤ b1) +ℤ b2) +ℤ b3) +ℤ b4));
+    }

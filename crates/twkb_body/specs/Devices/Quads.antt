@@ -1,0 +1,56 @@
+-- Devices of proofs: nothing public names them.
+-- Points of X and Y that are compared with a box up to four at once: their distances from its minima are in lanes of 32 bits.
+use Rattle.std.specs.Prelude.{◌≡◌, ℕ, ◌≤◌, ◌^◌, Bool, true, ◌&&◌, List, [], ◌∷◌, length, ℤ, pos, neg_ℤ, ◌+ℤ◌, ◌≤ℤ◌, ◌<ℤ◌}
+use Rattle.std.specs.Int.{w32, cast_unsigned}
+use Rattle.twkb_num.specs.Cursor.{Reading, passed, IsMoved}
+use Rattle.twkb_num.specs.Varint.{SpellsTwoSigned, IsShort}
+use Rattle.twkb_body.specs.Devices.Boxed.{reaches}
+
+-- two distances in lanes, in two's complement, twice
+abbrev pub lanes_at : ℤ → ℤ → List ℕ
+lanes_at x y = cast_unsigned w32 x ∷ cast_unsigned w32 y ∷ cast_unsigned w32 x ∷ cast_unsigned w32 y ∷ []
+
+-- a distance from which four short differences lead to one that a lane holds
+abbrev pub IsInLane : ℤ → Type 0
+IsInLane z = (neg_ℤ (pos (2 ^ 30)) ≤ℤ z) × (z <ℤ pos (2 ^ 30))
+
+-- a distance that a lane holds
+abbrev pub IsMetInLane : ℤ → Type 0
+IsMetInLane z = (neg_ℤ (pos (2 ^ 31)) ≤ℤ z) × (z <ℤ pos (2 ^ 31))
+
+-- an extent whose points are all at distances from which a run goes on in lanes
+abbrev pub IsLaneExtent : ℤ → Type 0
+IsLaneExtent z = (pos 0 ≤ℤ z) × (z <ℤ pos (2 ^ 30))
+
+-- the distance in X after these differences, each of a point in X and Y
+abbrev pub x_after : ℤ → List (ℤ × ℤ) → ℤ
+x_after x [] = x
+x_after x (d ∷ ds) = x_after (x +ℤ d.0) ds
+
+-- the distance in Y
+abbrev pub y_after : ℤ → List (ℤ × ℤ) → ℤ
+y_after y [] = y
+y_after y (d ∷ ds) = y_after (y +ℤ d.1) ds
+
+-- the distances of each point on the way lie within the extents
+abbrev pub all_reach : ℤ → ℤ → ℤ → ℤ → List (ℤ × ℤ) → Bool
+all_reach w h x y [] = true
+all_reach w h x y (d ∷ ds) = (reaches w (x +ℤ d.0) && reaches h (y +ℤ d.1)) && all_reach w h (x +ℤ d.0) (y +ℤ d.1) ds
+
+-- The differences lead to these lanes, and the extents hold all points on the way, or not.
+pub record HaveReached (w h x y : ℤ) (differences : List (ℤ × ℤ)) (at : List ℕ) (inside : Bool) : Type 0 where
+  pub at_is : at ≡ lanes_at (x_after x differences) (y_after y differences)
+  pub inside_is : inside ≡ all_reach w h x y differences
+
+-- These differences were read, one pair after another, and each is short.
+abbrev pub ReadsPairs : List (ℤ × ℤ) → Reading → Reading → Type 0
+ReadsPairs [] old new = new ≡ old
+ReadsPairs (d ∷ ds) old new = (middle : Reading) × SpellsTwoSigned (passed old middle) d.0 d.1 × IsMoved old middle × IsShort d.0 × IsShort d.1 × ReadsPairs ds middle new
+
+-- This many points were read, four at most, from these distances on.
+pub record IsQuadStep (w h x y : ℤ) (old new : Reading) (points : ℕ) (at : List ℕ) (inside : Bool) : Type 0 where
+  pub differences : List (ℤ × ℤ)
+  pub many : length differences ≡ points
+  pub few : points ≤ 4
+  pub read : ReadsPairs differences old new
+  pub reached : HaveReached w h x y differences at inside

@@ -1,0 +1,181 @@
+//! Where points of X and Y are, in lanes of 32 bits, and whether a box holds them.
+//!
+//! A lane holds a point's distance from the minimum of the box. So one comparison without signs tells whether the point is in the
+//! box: a distance below zero is a great number then.
+ghost use Rattle.std.specs.Prelude.{◌≡◌, ◌+◌, ◌-◌, ◌%◌, ◌&&◌, ℕ, ℤ, map, [], ◌∷◌, nat_le, nat_lt, if◌then◌else◌, All, IsTrue};
+ghost use Rattle.std.specs.Int.{w16, w32, cast_signed};
+ghost use Rattle.twkb_num.specs.Varint.{IsBrief, IsShort};
+ghost use Rattle.twkb_body.specs.Devices.Quads.{lanes_at, IsInLane, IsMetInLane, IsLaneExtent, HaveReached};
+
+use std::simd::prelude::*;
+
+/// Distances from -2^30 on and below 2^30 stay within a lane for four short differences.
+const NEAR: i64 = 1 << 30;
+
+/// The last of some points, and whether a box holds them all.
+#[derive(Clone, Copy)]
+pub struct Reached {
+    /// The point's distances from the minima of the box, twice.
+    pub at: u32x4,
+    pub inside: bool,
+}
+
+/// Whether a run of points may go on in lanes from a distance.
+#[inline(always)]
+pub fn is_in_lane(distance: i64) -> bool
+    ensures { IsTrue result → IsInLane distance }
+{
+    -NEAR <= distance && distance < NEAR
+}
+
+/// Whether distances within an extent are told in lanes.
+#[inline(always)]
+pub fn is_lane_extent(extent: i64) -> bool
+    ensures { IsTrue result → IsLaneExtent extent }
+{
+    0 <= extent && extent < NEAR
+}
+
+/// Two distances in lanes, twice.
+#[inline(always)]
+pub fn lanes_of(x: i64, y: i64) -> u32x4
+    requires x { IsInLane x }
+    requires y { IsInLane y }
+    ensures { result ≡ lanes_at x y }
+{
+    let x = (x.cast_unsigned() % (1 << 32)) as u32;
+    let y = (y.cast_unsigned() % (1 << 32)) as u32;
+    u32x4::from_array([x, y, x, y])
+}
+
+/// The distances in the first two lanes.
+#[inline(always)]
+pub fn distances_in(at: u32x4) -> (i64, i64)
+    ensures { (x y : ℤ) → at ≡ lanes_at x y → IsMetInLane x → IsMetInLane y → (result.0 ≡ x) × (result.1 ≡ y) }
+{
+    let lanes = at.to_array();
+    (
+        i64::from(lanes[0].cast_signed()),
+        i64::from(lanes[1].cast_signed()),
+    )
+}
+
+/// Four points more, by differences of at most two bytes.
+#[inline(always)]
+pub fn four_more(differences: u16x8, at: u32x4, extent: u32x4) -> Reached
+    ensures { (x y w h a1 b1 a2 b2 a3 b3 a4 b4 : ℤ) → at ≡ lanes_at x y → extent ≡ lanes_at w h
+        → map (cast_signed w16) differences ≡ a1 ∷ b1 ∷ a2 ∷ b2 ∷ a3 ∷ b3 ∷ a4 ∷ b4 ∷ []
+        → All IsBrief (map (cast_signed w16) differences) → IsInLane x → IsInLane y → IsLaneExtent w → IsLaneExtent h
+        → HaveReached w h x y ((a1, b1) ∷ (a2, b2) ∷ (a3, b3) ∷ (a4, b4) ∷ []) result.at result.inside }
+{
+    let sums = biased(with_half_before(with_pair_before(differences)));
+    let first = unbiased_sum(first_half(sums), at);
+    let second = unbiased_sum(second_half(sums), at);
+    Reached {
+        at: last_twice(second),
+        inside: are_both_within(greater(first, second), extent),
+    }
+}
+
+/// Two points more, by differences of at most four bytes.
+#[inline(always)]
+pub fn two_more(differences: u32x4, at: u32x4, extent: u32x4) -> Reached
+    ensures { (x y w h a1 b1 a2 b2 : ℤ) → at ≡ lanes_at x y → extent ≡ lanes_at w h
+        → map (cast_signed w32) differences ≡ a1 ∷ b1 ∷ a2 ∷ b2 ∷ []
+        → All IsShort (map (cast_signed w32) differences) → IsInLane x → IsInLane y → IsLaneExtent w → IsLaneExtent h
+        → HaveReached w h x y ((a1, b1) ∷ (a2, b2) ∷ []) result.at result.inside }
+{
+    let points = two_points(differences, at);
+    Reached {
+        at: last_twice(points),
+        inside: are_both_within(points, extent),
+    }
+}
+
+/// Adds to each pair of lanes the pair before it.
+#[inline(always)]
+fn with_pair_before(d: u16x8) -> u16x8
+    ensures { (a b c d' e f g h : ℕ) → d ≡ a ∷ b ∷ c ∷ d' ∷ e ∷ f ∷ g ∷ h ∷ []
+        → result ≡ ((a + 0) % 65536) ∷ ((b + 0) % 65536) ∷ ((c + a) % 65536) ∷ ((d' + b) % 65536) ∷ ((e + c) % 65536) ∷ ((f + d') % 65536) ∷ ((g + e) % 65536) ∷ ((h + f) % 65536) ∷ [] }
+{
+    d + d.shuffle(u16x8::splat(0), [8, 9, 0, 1, 2, 3, 4, 5])
+}
+
+/// Adds the first four lanes to the last four.
+#[inline(always)]
+fn with_half_before(d: u16x8) -> u16x8
+    ensures { (a b c d' e f g h : ℕ) → d ≡ a ∷ b ∷ c ∷ d' ∷ e ∷ f ∷ g ∷ h ∷ []
+        → result ≡ ((a + 0) % 65536) ∷ ((b + 0) % 65536) ∷ ((c + 0) % 65536) ∷ ((d' + 0) % 65536) ∷ ((e + a) % 65536) ∷ ((f + b) % 65536) ∷ ((g + c) % 65536) ∷ ((h + d') % 65536) ∷ [] }
+{
+    d + d.shuffle(u16x8::splat(0), [8, 9, 10, 11, 0, 1, 2, 3])
+}
+
+/// Adds 2^15 to each lane, so that signed sums become numbers without sign.
+#[inline(always)]
+fn biased(d: u16x8) -> u16x8
+    ensures { (a b c d' e f g h : ℕ) → d ≡ a ∷ b ∷ c ∷ d' ∷ e ∷ f ∷ g ∷ h ∷ []
+        → result ≡ ((a + 32768) % 65536) ∷ ((b + 32768) % 65536) ∷ ((c + 32768) % 65536) ∷ ((d' + 32768) % 65536) ∷ ((e + 32768) % 65536) ∷ ((f + 32768) % 65536) ∷ ((g + 32768) % 65536) ∷ ((h + 32768) % 65536) ∷ [] }
+{
+    d + u16x8::splat(0x8000)
+}
+
+/// The first four lanes, widened.
+#[inline(always)]
+fn first_half(d: u16x8) -> u32x4
+    ensures { (a b c d' e f g h : ℕ) → d ≡ a ∷ b ∷ c ∷ d' ∷ e ∷ f ∷ g ∷ h ∷ [] → result ≡ a ∷ b ∷ c ∷ d' ∷ [] }
+{
+    d.extract::<0, 4>().cast::<u32>()
+}
+
+/// The last four lanes, widened.
+#[inline(always)]
+fn second_half(d: u16x8) -> u32x4
+    ensures { (a b c d' e f g h : ℕ) → d ≡ a ∷ b ∷ c ∷ d' ∷ e ∷ f ∷ g ∷ h ∷ [] → result ≡ e ∷ f ∷ g ∷ h ∷ [] }
+{
+    d.extract::<4, 4>().cast::<u32>()
+}
+
+/// The sums of lanes, less 2^15.
+#[inline(always)]
+fn unbiased_sum(d: u32x4, at: u32x4) -> u32x4
+    ensures { (a b c d' w x y z : ℕ) → d ≡ a ∷ b ∷ c ∷ d' ∷ [] → at ≡ w ∷ x ∷ y ∷ z ∷ []
+        → result ≡ ((a + (w + (4294967296 - 32768)) % 4294967296) % 4294967296) ∷ ((b + (x + (4294967296 - 32768)) % 4294967296) % 4294967296)
+        ∷ ((c + (y + (4294967296 - 32768)) % 4294967296) % 4294967296) ∷ ((d' + (z + (4294967296 - 32768)) % 4294967296) % 4294967296) ∷ [] }
+{
+    d + (at - u32x4::splat(0x8000))
+}
+
+/// The greater of each two lanes.
+#[inline(always)]
+fn greater(first: u32x4, second: u32x4) -> u32x4
+    ensures { (a b c d e f g h : ℕ) → first ≡ a ∷ b ∷ c ∷ d ∷ [] → second ≡ e ∷ f ∷ g ∷ h ∷ []
+        → result ≡ (if nat_lt a e then e else a) ∷ (if nat_lt b f then f else b) ∷ (if nat_lt c g then g else c) ∷ (if nat_lt d h then h else d) ∷ [] }
+{
+    first.simd_max(second)
+}
+
+/// Whether no lane is greater than the extent in its axis.
+#[inline(always)]
+fn are_both_within(points: u32x4, extent: u32x4) -> bool
+    ensures { (a b c d w x : ℕ) → points ≡ a ∷ b ∷ c ∷ d ∷ [] → extent ≡ w ∷ x ∷ w ∷ x ∷ []
+        → result ≡ (nat_le a w && nat_le b x) && (nat_le c w && nat_le d x) }
+{
+    points.simd_le(extent).to_bitmask() == 15
+}
+
+/// The last point's lanes, twice.
+#[inline(always)]
+fn last_twice(points: u32x4) -> u32x4
+    ensures { (a b c d : ℕ) → points ≡ a ∷ b ∷ c ∷ d ∷ [] → result ≡ c ∷ d ∷ c ∷ d ∷ [] }
+{
+    points.swizzle([2, 3, 2, 3])
+}
+
+/// The places of two points, by their differences.
+#[inline(always)]
+fn two_points(more: u32x4, at: u32x4) -> u32x4
+    ensures { (a b c d x y : ℕ) → more ≡ a ∷ b ∷ c ∷ d ∷ [] → at ≡ x ∷ y ∷ x ∷ y ∷ []
+        → result ≡ (((a + 0) % 4294967296 + x) % 4294967296) ∷ (((b + 0) % 4294967296 + y) % 4294967296) ∷ (((c + a) % 4294967296 + x) % 4294967296) ∷ (((d + b) % 4294967296 + y) % 4294967296) ∷ [] }
+{
+    more + more.shuffle(u32x4::splat(0), [4, 5, 0, 1]) + at
+}

@@ -1,0 +1,85 @@
+//! Points of X and Y read up to four at once, and compared with a box.
+ghost use Rattle.std.specs.Prelude.{◌≡◌, ◌≤◌, ℤ, true};
+ghost use Rattle.twkb_body.specs.Devices.Quads.{lanes_at, IsInLane, IsLaneExtent, IsQuadStep};
+
+use crate::positions::{Reached, four_more, two_more};
+use std::simd::prelude::*;
+use twkb_num::Cursor;
+
+/// How many points were read, and what they reached.
+#[derive(Clone, Copy)]
+pub struct Step {
+    pub points: u64,
+    pub reached: Reached,
+}
+
+impl Step {
+    /// No point.
+    #[inline(always)]
+    fn none(at: u32x4) -> Step
+        ensures points { result.points ≡ 0 }
+        ensures at { result.reached.at ≡ at }
+        ensures inside { result.reached.inside ≡ true }
+    {
+        Step {
+            points: 0,
+            reached: Reached { at, inside: true },
+        }
+    }
+}
+
+/// Reads four points at the place, or two, by their distances from the minima of a box, in lanes. It reads none if only one is
+/// left, if a difference takes more than four bytes, or near the end of the bytes.
+#[inline(always)]
+pub fn next_points(cursor: &mut Cursor, left: u64, at: u32x4, extent: u32x4) -> Step
+    requires { 1 ≤ left }
+    ensures few { result.points ≤ left }
+    ensures step { (x y w h : ℤ) → at ≡ lanes_at x y → extent ≡ lanes_at w h → IsInLane x → IsInLane y → IsLaneExtent w → IsLaneExtent h
+        → IsQuadStep w h x y cursor.old cursor.new result.points result.reached.at result.reached.inside }
+{
+    if 4 <= left {
+        let step = next_four(cursor, at, extent);
+        if step.points != 0 {
+            return step;
+        }
+    }
+    if left == 1 {
+        return Step::none(at);
+    }
+    next_two(cursor, at, extent)
+}
+
+/// Reads four points, or none.
+#[inline(always)]
+fn next_four(cursor: &mut Cursor, at: u32x4, extent: u32x4) -> Step
+    ensures few { result.points ≤ 4 }
+    ensures none { result.points ≡ 0 → cursor.new ≡ cursor.old }
+    ensures step { (x y w h : ℤ) → at ≡ lanes_at x y → extent ≡ lanes_at w h → IsInLane x → IsInLane y → IsLaneExtent w → IsLaneExtent h
+        → IsQuadStep w h x y cursor.old cursor.new result.points result.reached.at result.reached.inside }
+{
+    let differences = cursor.svarint_pairs(4);
+    if !differences.is_read {
+        return Step::none(at);
+    }
+    Step {
+        points: 4,
+        reached: four_more(differences.lanes, at, extent),
+    }
+}
+
+/// Reads two points, or none.
+#[inline(always)]
+fn next_two(cursor: &mut Cursor, at: u32x4, extent: u32x4) -> Step
+    ensures few { result.points ≤ 2 }
+    ensures step { (x y w h : ℤ) → at ≡ lanes_at x y → extent ≡ lanes_at w h → IsInLane x → IsInLane y → IsLaneExtent w → IsLaneExtent h
+        → IsQuadStep w h x y cursor.old cursor.new result.points result.reached.at result.reached.inside }
+{
+    let differences = cursor.svarint_four();
+    if !differences.is_read {
+        return Step::none(at);
+    }
+    Step {
+        points: 2,
+        reached: two_more(differences.lanes, at, extent),
+    }
+}
