@@ -6,6 +6,9 @@ ghost use Rattle.twkb_body.specs.Devices.Inside.{of_head};
 ghost use Rattle.twkb_body.specs.Devices.Numbers.{listed, Each, is_four, axes_by, placed_at};
 ghost use Rattle.twkb_body.specs.Devices.Walk.{IsRun};
 
+mod holding;
+
+use self::holding::is_in_box;
 use crate::numbers::{Numbers, take_differences};
 use crate::points::Points;
 use crate::positions::{distances_in, is_in_lane, is_lane_extent, lanes_of};
@@ -112,9 +115,9 @@ impl Boxed {
         }
         // The proof knows from here that the place fits its type, and so does the number of points.
         let _stop = cursor.place();
-        let (across, up) = distances_in(at);
-        trail.last[0] = x.minimum + across;
-        trail.last[1] = y.minimum + up;
+        let (x_apart, y_apart) = distances_in(at);
+        trail.last[0] = x.minimum + x_apart;
+        trail.last[1] = y.minimum + y_apart;
         trail.points += done as usize;
         self.inside = inside;
         done
@@ -249,60 +252,6 @@ fn reach_both(bounds: &RawBox, across: i64, up: i64) -> bool
     ensures { result ≡ (reaches bounds.now.x.extent across && reaches bounds.now.y.extent up) }
 {
     reaches(bounds.x.extent, across) && reaches(bounds.y.extent, up)
-}
-
-/// Whether a range holds a coordinate.
-#[inline(always)]
-fn is_in_range(range: &RawRange, coordinate: i64) -> bool
-    ensures { result ≡ is_in_range range.now coordinate }
-{
-    let distance = i128::from(coordinate) - i128::from(range.minimum);
-    0 <= distance && distance <= i128::from(range.extent)
-}
-
-/// Whether a coordinate is within reach in an axis that a point may lack.
-#[inline(always)]
-fn is_in_axis(is_there: bool, range: &RawRange, coordinate: i64) -> bool
-    ensures { result ≡ is_in_axis is_there range.now coordinate }
-{
-    !is_there || is_in_range(range, coordinate)
-}
-
-/// Whether a box holds the X and the Y of a point.
-#[inline(always)]
-fn is_in_flat(bounds: &RawBox, point: &[i64; 4]) -> bool
-    ensures { result ≡ is_in_flat bounds.now point.now }
-{
-    is_in_range(&bounds.x, point[0]) && is_in_range(&bounds.y, point[1])
-}
-
-/// Whether a box holds the other coordinates of a point that has so many axes.
-// It isn't inlined: few points have these axes, and most of those that have are read in runs.
-#[inline(never)]
-fn is_in_further(axes: usize, bounds: &RawBox, point: &[i64; 4]) -> bool
-    ensures { result ≡ is_in_further axes bounds.now point.now }
-{
-    is_in_axis(2 < axes, &bounds.third, point[2]) && is_in_axis(3 < axes, &bounds.fourth, point[3])
-}
-
-/// Whether the coordinates in Z and M are within reach, of the axes that there are.
-#[inline(always)]
-fn is_in_others(axes: usize, bounds: &RawBox, point: &[i64; 4]) -> bool
-    ensures { result ≡ is_in_further axes bounds.now point.now }
-{
-    if axes <= 2 {
-        true
-    } else {
-        is_in_further(axes, bounds, point)
-    }
-}
-
-/// Whether a box holds all coordinates of a point that has so many axes.
-#[inline(always)]
-fn is_in_box(axes: usize, bounds: &RawBox, point: &[i64; 4]) -> bool
-    ensures { result ≡ is_in_box axes bounds.now point.now }
-{
-    is_in_others(axes, bounds, point) && is_in_flat(bounds, point)
 }
 
 /// Whether the ranges behind that of Y are near, and so are the coordinates of a point.

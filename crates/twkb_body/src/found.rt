@@ -59,8 +59,9 @@ pub fn judge_size(size: Option<SizeField>, stop: usize) -> Option<FalseClaim>
 {
     match size {
         Some(size) => {
-            let length = (stop - size.after) as u64;
-            claimed(size.value == length, size.offset, Claim::Size)
+            // Where the size says that the geometry ends, even beyond 64 bits. An end that is true is summed up once this way.
+            let end = (size.after as u64).wrapping_add(size.value);
+            claimed(end == stop as u64, size.offset, Claim::Size)
         }
         None => None,
     }

@@ -121,7 +121,7 @@ fn counts_of_ends(bytes: &[u8; 8]) -> u64
 fn count_of_ends(bytes: &[u8; 8]) -> u64
     ensures { result ≡ ends_to bytes.now 8 }
 {
-    counts_of_ends(bytes) >> 56
+    u64::from(tops_of_ends(bytes).count_ones())
 }
 
 /// Whether a varint ends in the bytes that a mask has.

@@ -75,13 +75,13 @@ loop-inside-preserved c =
 pub overflow_add-trail : goal.overflow_add-trail
 overflow_add-trail c =
     let l = c.loop-inside.invariant.run in
-    let there = c.distances_in-across.ensures l.across l.up l.at_is l.met_x l.met_y in
+    let there = c.distances_in-x_apart.ensures l.across l.up l.at_is l.met_x l.met_y in
     place_fits c.self.inside.bounds.x _ _ c.self.invariant.0 there.0 l.met_x
 
 pub overflow_add-trail-2 : goal.overflow_add-trail-2
 overflow_add-trail-2 c =
     let l = c.loop-inside.invariant.run in
-    let there = c.distances_in-across.ensures l.across l.up l.at_is l.met_x l.met_y in
+    let there = c.distances_in-x_apart.ensures l.across l.up l.at_is l.met_x l.met_y in
     place_fits c.self.inside.bounds.y _ _ c.self.invariant.1 there.1 l.met_y
 
 pub overflow_add-trail-3 : goal.overflow_add-trail-3
@@ -110,7 +110,7 @@ returns-clause-run c =
     let head = of_head c.args._head.now in
     let start = c.args.trail.now in
     let four : length start.last ≡ 4 = omega arith in
-    let there = c.distances_in-across.ensures l.across l.up l.at_is l.met_x l.met_y in
+    let there = c.distances_in-x_apart.ensures l.across l.up l.at_is l.met_x l.met_y in
     let is_x = place_is box.x _ l.across near.0 there.0 l.met_x in
     let is_y = place_is box.y _ l.up near.1 there.1 l.met_y in
     let w_fits = lane_extent box.x near.0 (c.if-not-is_lane_extent.ensures refl) in
