@@ -44,7 +44,7 @@ pub extern "C" fn twkb_certify_tight(alloc: Global, bytes: &[u8]) -> Verdict
     twkb_call::certify_tight(&alloc, bytes)
 }
 
-/// Puts a row for each blob into the room, in file order, as many as fit, and answers how many blobs there are.
+/// Puts a row for each blob into the room, in file order, as many as fit, and returns how many blobs there are.
 #[unsafe(no_mangle)]
 pub extern "C" fn twkb_list(layer: &Layer, room: &mut [Row]) -> usize
     requires { IsCounted layer.now.bytes.now layer.now.blobs layer.now.vertices }
@@ -54,7 +54,7 @@ pub extern "C" fn twkb_list(layer: &Layer, room: &mut [Row]) -> usize
     twkb_call::list(layer, room)
 }
 
-/// Parses a window. The answer is 0, or 1 if the text doesn't have the form of one, or 2 if a lower bound is above its upper
+/// Parses a window. The result is 0, or 1 if the text doesn't have the form of one, or 2 if a lower bound is above its upper
 /// bound.
 #[unsafe(no_mangle)]
 pub extern "C" fn twkb_window_parse(text: &[u8], window: &mut Window) -> u32
@@ -81,8 +81,8 @@ pub extern "C" fn twkb_scan(layer: &Layer, window: &Window, room: &mut [Hit]) ->
     twkb_call::scan(layer, window, room)
 }
 
-/// Puts a directory of the layer into the room, and answers how many slots it has: at most two for each blob. It goes in whole
-/// or not at all; two places for each blob always suffice. If it doesn't fit, the answer is how many places are wanted, which is
+/// Puts a directory of the layer into the room, and returns how many slots it has: at most two for each blob. It goes in whole
+/// or not at all; two places for each blob always suffice. If it doesn't fit, the result is how many places are wanted, which is
 /// more than the room has.
 #[unsafe(no_mangle)]
 pub extern "C" fn twkb_directory_build(layer: &Layer, room: &mut [Slot]) -> usize

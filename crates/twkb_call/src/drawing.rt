@@ -74,7 +74,7 @@ impl<'a> Visit for Pen<'a> {
     }
 }
 
-/// Puts X and Y of each vertex into the room, in reading order, as many as fit, and answers how many vertices there are.
+/// Puts X and Y of each vertex into the room, in reading order, as many as fit, and returns how many vertices there are.
 pub fn draw(layer: &Layer, room: &mut [Point]) -> usize
     requires { IsCounted layer.now.bytes.now layer.now.blobs layer.now.vertices }
     ensures answer { OfLayer layer.now.bytes.now (λ trees. result ≡ vertex_count trees) }

@@ -9,7 +9,7 @@ use crate::layer::Layer;
 use crate::window::Window;
 use twkb_layer::Hit;
 
-/// The answer of a scan.
+/// The result of a scan.
 #[repr(C)]
 #[derive(Clone, Copy, Debug, PartialEq, Eq)]
 pub struct Scanned {

@@ -59,7 +59,7 @@ pub fn certify_tight<A: Allocator>(alloc: &A, bytes: &[u8]) -> Verdict
     }
 }
 
-/// Certifies the bytes as a layer with no memory but room for the ids of a list, which it overwrites. The answer may be out of
+/// Certifies the bytes as a layer with no memory but room for the ids of a list, which it overwrites. The result may be out of
 /// memory if a list has more ids than the room has places, and more than sixteen.
 pub fn certify_lent(bytes: &[u8], ids: &mut [i64]) -> Verdict
     ensures says { Says IsTrueClaim result bytes.now }

@@ -117,7 +117,7 @@ impl Window {
     }
 }
 
-/// Parses a window of the form `x=A..B,y=C..D[,z=E..F][,m=G..H]`, exactly. The answer is 0, or 1 if the text doesn't have
+/// Parses a window of the form `x=A..B,y=C..D[,z=E..F][,m=G..H]`, exactly. The result is 0, or 1 if the text doesn't have
 /// this form, or 2 if a lower bound is above its upper bound. If it isn't 0, the window stays as it was.
 pub fn parse_window(text: &[u8], window: &mut Window) -> u32
     ensures answers { result ≤ 2 }

@@ -22,7 +22,7 @@ ghost use Rattle.twkb_call.specs.Window.{ranges_of};
 
 use twkb_call::{Hit, Layer, Point, Row, Scanned, Verdict, Window};
 
-/// Certifies the bytes as a layer, with room for the ids of a list. The answer may be out of memory if a list has more ids than
+/// Certifies the bytes as a layer, with room for the ids of a list. The result may be out of memory if a list has more ids than
 /// the room has places, and more than sixteen.
 #[unsafe(no_mangle)]
 pub extern "C" fn twkb_certify(bytes: &[u8], ids: &mut [i64]) -> Verdict
@@ -43,7 +43,7 @@ pub extern "C" fn twkb_certify_tight(bytes: &[u8], ids: &mut [i64]) -> Verdict
     twkb_call::certify_tight_lent(bytes, ids)
 }
 
-/// Puts a row for each blob into the room, in file order, as many as fit, and answers how many blobs there are.
+/// Puts a row for each blob into the room, in file order, as many as fit, and returns how many blobs there are.
 #[unsafe(no_mangle)]
 pub extern "C" fn twkb_list(layer: &Layer, room: &mut [Row]) -> usize
     requires { IsCounted layer.now.bytes.now layer.now.blobs layer.now.vertices }
@@ -53,7 +53,7 @@ pub extern "C" fn twkb_list(layer: &Layer, room: &mut [Row]) -> usize
     twkb_call::list(layer, room)
 }
 
-/// Parses a window. The answer is 0, or 1 if the text doesn't have the form of one, or 2 if a lower bound is above its upper
+/// Parses a window. The result is 0, or 1 if the text doesn't have the form of one, or 2 if a lower bound is above its upper
 /// bound.
 #[unsafe(no_mangle)]
 pub extern "C" fn twkb_window_parse(text: &[u8], window: &mut Window) -> u32
@@ -80,7 +80,7 @@ pub extern "C" fn twkb_scan(layer: &Layer, window: &Window, room: &mut [Hit]) ->
     twkb_call::scan(layer, window, room)
 }
 
-/// Puts X and Y of each vertex into the room, in reading order, as many as fit, and answers how many vertices there are.
+/// Puts X and Y of each vertex into the room, in reading order, as many as fit, and returns how many vertices there are.
 #[unsafe(no_mangle)]
 pub extern "C" fn twkb_draw(layer: &Layer, room: &mut [Point]) -> usize
     requires { IsCounted layer.now.bytes.now layer.now.blobs layer.now.vertices }
