@@ -1,4 +1,4 @@
-//! Certifies a layer of TWKB blobs, or names its first false claim.
+//! Certifies a layer of TWKB blobs, or names the first blob that is wrong, and where.
 //!
 //! The command line is parsed first (`words`). Then the file is opened, and `run` reads it whole, checks its bytes and writes the
 //! text. `run` is generic in its streams (`streams`), so its contract is about the bytes that came in and went out; here it runs
