@@ -23,7 +23,7 @@ ends_of range = (range.minimum, range.minimum +ℤ range.extent)
 abbrev pub ranges_in : RawBox → List (ℤ × ℤ)
 ranges_in box = ends_of box.x ∷ ends_of box.y ∷ ends_of box.third ∷ ends_of box.fourth ∷ []
 
--- a raw range whose minimum and width are at most 2^61 from zero, so that its maximum and numbers beyond it fit 64 bits
+-- a raw range whose minimum and width are at most 2^61 from zero, so that sums of them fit 64 bits
 pub record IsNear (range : RawRange) : Type 0 where
   pub low : neg_ℤ (pos (2 ^ 61)) ≤ℤ range.minimum
   pub high : range.minimum ≤ℤ pos (2 ^ 61)
