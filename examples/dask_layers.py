@@ -1,16 +1,16 @@
 #!/usr/bin/env python3
-"""Certifies each layer below a folder on a Dask cluster, and scans it where windows are given.
+"""Certifies each layer below a folder on a Dask cluster, and scans it if windows are given.
 
 usage: dask_layers.py [--scheduler ADDRESS | --workers N] [--tight] FOLDER [WINDOW ..]
 
-A layer is a task, and no state goes from task to task. So a task whose worker is lost is run again by another worker, and
-each layer is answered once. Writes what `twkb_tool check` prints of a layer, or `twkb_tool scan` for each window alone,
-with the file's name and a tab before each line. The layers are in the order in which they are done. One line of
-progress goes to standard error. The status is 0 where all are certified, 1 where some are refused, 2 for bad words, and
-3 where some weren't judged, or there is no layer at all: standard error says why.
+Each layer is a task, and tasks share no state. So if a worker is lost, another one runs its task again, and each layer has
+one result. Prints what `twkb_tool check` prints for a layer, or `twkb_tool scan` for each window separately, with the
+file's name and a tab before each line. Layers are printed in the order in which they are done. Standard error gets one line
+of progress. The exit status is 0 if all layers are certified, 1 if some are refused, 2 for a bad command line, and 3 if some
+weren't judged, or if there is no layer at all: standard error says why.
 
-Without --scheduler the cluster is N processes of this machine, which end with the script. Where N is left out, they are
-as many as it has cores. With it, the workers reach FOLDER under the same name, and have dozhemik and its library:
+Without --scheduler the cluster is N processes of this machine, which end with the script; by default N is the number of
+cores. With --scheduler, every worker has to see FOLDER under this name, and to have dozhemik and its library:
 
     dask-scheduler
     PYTHONPATH=bindings/python TWKB_LIBRARY=build/bindings/libtwkb.so dask-worker ADDRESS    (on each machine)

@@ -1,6 +1,6 @@
 #!/bin/sh
-# Shows what the program says of the layers beside this script.
-# usage: examples/demo.sh [PROGRAM]   (build/twkb_tool where it is left out)
+# Runs the program on the layers beside this script.
+# usage: examples/demo.sh [PROGRAM]   (build/twkb_tool by default)
 set -eu
 program=${1:-build/twkb_tool}
 here=$(dirname "$0")
@@ -10,7 +10,7 @@ shown() {
     "$@"
 }
 
-# Some lines of what a command gives. It is kept first, so that the script ends where the command fails.
+# Some lines of a command's output. The output is kept first, so that the script ends if the command fails.
 some() {
     lines=$1
     shift

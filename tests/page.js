@@ -83,6 +83,16 @@ window.leadLines = () => {
   return Math.round(lines.reduce((one, other) => one + other, 0));
 };
 
+// Commands that go on in another line.
+window.brokenCodes = () =>
+  [...document.querySelectorAll("code.short")].filter((at) => at.getClientRects().length > 1).map((at) => at.textContent);
+
+// How many lines the longest head of a row has in a table.
+window.headLines = (id) => {
+  const lines = [...$(id).querySelectorAll("tbody th")].map((at) => at.clientHeight / parseFloat(getComputedStyle(at).lineHeight));
+  return Math.max(...lines);
+};
+
 // The texts of a table's rows, cell by cell.
 window.rowsOf = (id) => [...($(id).tBodies[0]?.rows ?? [])].map((row) => [...row.cells].map((cell) => cell.textContent));
 

@@ -296,7 +296,7 @@ def same_bytes(module, folder):
     shutil.copy(os.path.join(TOP, "VERSION"), copy)
     make = os.path.join(copy, "bindings", "web", "make_page.py")
     subprocess.run([sys.executable, make, module, made[0]], check=True, stdout=subprocess.DEVNULL)
-    with open(made[0], encoding="utf-8") as file:
+    with open(made[0], encoding="latin-1") as file:
         count("no repository: the commit is unknown", "commit unknown" in file.read(), True)
 
 

@@ -166,6 +166,7 @@ def formats(page):
             has(page, name, text, f"This looks like {what}", ", not TWKB.", how)
             repair = page.run('[$("repair").textContent, $("bytes").checkVisibility()]')
             count(page.name(f"{name}: its repair"), (how in repair[0], repair[1]), (True, False))
+            count(page.name(f"{name}: no command is broken at a line's end"), page.run("brokenCodes()"), [])
         else:
             count(page.name(f"{name} is refused"), text, "Refused")
     with open(os.path.join(TOP, "docs", "hops.svg"), "rb") as file:

@@ -94,6 +94,7 @@ def tables(page):
     """No table is cut without a way to scroll, and no caption scrolls away; on a desktop the loosest boxes fit."""
     states = [
         ("certified", example("coast_lines_sized.twkb")),
+        ("points", example("points_sized.twkb")),
         ("loose", widened(example("coast_lines_sized.twkb"), 10**7)),
         ("refused", bytes.fromhex("020309020602080202020808")),
         ("range", bytes.fromhex("020002FEFFFFFFFFFFFFFFFF01000200")),
@@ -102,6 +103,7 @@ def tables(page):
         page.drop(f"{name}.twkb", layer)
         count(page.name(f"{name}: tables"), page.run("cutTables()"), [])
         count(page.name(f"{name}: the page isn't wider than the screen"), page.run("document.documentElement.scrollWidth <= innerWidth"), True)
+        count(page.name(f"{name}: the window's text isn't cut"), page.run('$("text").scrollWidth <= $("text").clientWidth'), True)
         if name == "loose" and page.run("innerWidth") > NARROW:
             wide = '(({ scrollWidth, clientWidth }) => scrollWidth <= clientWidth)($("loosest").closest(".wide"))'
             count(page.name("the loosest boxes aren't cut"), page.run(wide), True)
@@ -153,6 +155,8 @@ def shares(page):
     count(page.name("what was read is summed up before what was not"), [cell.replace(",", "") for cell in total], ["read in all", *whole])
     legend = page.run('[...document.querySelectorAll("#stripkeys li")].map((at) => at.textContent)')
     count(page.name("the words of table and legend"), ([row[0] for row in rows], legend), (DONE, DONE))
+    lines = page.run('headLines("sums")')
+    count(page.name(f"the words of the table take {lines:.1f} lines at most"), lines < 3, True)
     parts = page.run('[...document.querySelectorAll("#shares > [data-share]")].map((at) => at.getBoundingClientRect().width)')
     named = page.run('[...document.querySelectorAll("#shared li")].map((at) => at.textContent.split(":")[0])')
     count(page.name("the words of the bar"), named, ["blobs read, hit or not", *DONE[2:]])
@@ -304,6 +308,7 @@ PICTURES = [
 
 def pictures(page, name):
     """A picture of each state, for people to look at."""
+    page.reload()
     page.picture(f"{name}-start", "document.body")
     for what, layer in PICTURES:
         page.drop(f"{what}.twkb", layer)

@@ -38,7 +38,7 @@ COMMANDS = [
     (["scan", WINDOW, WINDOW], HIT + HIT),
 ]
 NOBODY = 65534
-A_FILE = b"  A file of TWKB blobs, one after another\n"
+A_FILE = b"  A file of TWKB geometries, one after another\n"
 GREATEST_FILE, GREATEST_WINDOWS = 268435456, 64
 # Layers that PostGIS wrote, with their blobs and vertices.
 EXAMPLES = [
@@ -132,14 +132,15 @@ def words_of_clap(program, layer):
         (["list", layer, WINDOW], b"unexpected argument"),
         (["list", "--tight", layer], b"unexpected argument '--tight' found"),
         (["scan", layer, WINDOW, "--tight"], b"unexpected argument '--tight' found"),
+        (["--help"], b"Check, list and scan layers: files of TWKB geometries\n"),
         (["--help"], b"Usage: twkb_tool <COMMAND>"),
         (["--version"], b"unexpected argument '--version' found"),
         (["-V"], b"unexpected argument '-V' found"),
-        (["check", "--help"], b"Certifies a layer, or names its first false claim\n"),
-        (["list", "--help"], b"Says of each blob of a certified layer what it is\n"),
-        (["scan", "--help"], b"Names the blobs of a certified layer that have a vertex inside, for each window\n"),
-        (["scan", "--help"], b"  x=A..B,y=C..D[,z=E..F][,m=G..H], ends included\n"),
-        (["check", "--help"], b"--tight  Refuses boxes that are true and larger than they have to be, too\n"),
+        (["check", "--help"], b"Certify a layer, or name the first blob that is wrong, and where\n"),
+        (["list", "--help"], b"List every blob: offset, length, type, precision, vertex count\n"),
+        (["scan", "--help"], b"Find the blobs that have a vertex inside each window\n"),
+        (["scan", "--help"], b"  x=A..B,y=C..D[,z=E..F][,m=G..H], both ends included\n"),
+        (["check", "--help"], b"--tight  Also refuse boxes that are larger than they have to be\n"),
         (["check", "--help"], A_FILE),
         (["list", "--help"], A_FILE),
         (["scan", "--help"], A_FILE),

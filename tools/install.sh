@@ -1,8 +1,8 @@
 #!/bin/sh
 # Installs what this folder holds: the program with its manual page and completions, and the library with its header and its
 # pkg-config file. usage: install.sh PREFIX   (/usr/local, say)
-# Wants nothing but a shell and coreutils. The files are compared with SHA256SUMS before: where one differs, nothing is installed
-# and the status is 1. It is 2 where PREFIX is missing.
+# Needs only a shell and coreutils. The files are first compared with SHA256SUMS: if one differs, nothing is installed and the exit
+# status is 1. It is 2 if PREFIX is missing.
 set -eu
 here=$(cd "$(dirname "$0")" && pwd)
 if [ $# -ne 1 ] || [ -z "$1" ]; then

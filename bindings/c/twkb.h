@@ -1,23 +1,23 @@
 /* Layers of TWKB geometries for C: certified once, then scanned and listed, by the proved library.
  *
- * docs/FORMAT.md of the repository says what a layer is and when it is certified, docs/PROVED.md what is proved. The header
- * is written by hand beside crates/twkb_c/src/lib.rt, whose contracts say what each call answers; layout.c checks sizes and
- * offsets of the structs.
+ * docs/FORMAT.md of the repository says what a layer is and when it is certified, and docs/PROVED.md what is proved. This
+ * header is written by hand. The contracts of the calls are in crates/twkb_c/src/lib.rt; layout.c checks the sizes of the
+ * structs and the offsets of their fields.
  *
- * What the caller guarantees at each call, which nothing checks:
- * - a pointer to bytes, rows, hits or slots is valid for as many as the number after it says, and isn't NULL, even if that
- *   number is 0; a pointer to a layer or a window is valid for one; all are aligned as C aligns them;
- * - a pointer and its number span at most 2^63 - 1 bytes;
- * - nobody writes the bytes, the layer, the slots or the window while the call runs, and memory that the call writes
+ * The caller has to guarantee at each call (nothing checks it):
+ * - a pointer to bytes, rows, hits or slots is valid for as many elements as the number after it says, and isn't NULL, even
+ *   if that number is 0; a pointer to a layer or a window is valid for one; all are aligned as C requires;
+ * - these elements take at most 2^63 - 1 bytes;
+ * - nobody writes to the bytes, the layer, the slots or the window while the call runs, and memory that the call writes to
  *   overlaps nothing else. It needn't be initialized;
- * - a window has each field set, and its flags are 0 or 1;
- * - a layer is made from a verdict TWKB_CERTIFIED and the very bytes that it is about, and nobody has written them since. A
- *   layer or slots made in any other way may make a call read out of bounds;
+ * - every field of a window is set, and its flags are 0 or 1;
+ * - a layer is made from a verdict TWKB_CERTIFIED and the bytes that were certified, and nobody has written to them since.
+ *   With a layer or slots made in any other way a call may read out of bounds;
  * - malloc, realloc and free are of one allocator, and no call is made from a signal handler.
  *
- * In return a call returns, keeps no pointer, has no state, and may run in many threads at once. Certifying takes memory
- * by malloc only for a list of more than sixteen ids, and frees it; no other call takes memory. The code needs a processor
- * of x86-64-v2. */
+ * Every call ends, keeps no pointer and has no state, and calls may run in many threads at once. Certifying allocates memory
+ * by malloc only for a list of more than sixteen ids, and frees it; no other call allocates. The code needs a processor of
+ * the level x86-64-v2. */
 #ifndef TWKB_H
 #define TWKB_H
 
@@ -39,10 +39,10 @@ extern "C" {
  * isn't proved; it is C. */
 const char *twkb_version(void);
 
-/* What a verdict answers. */
+/* The values of `answer` in a verdict. */
 enum { TWKB_CERTIFIED = 0, TWKB_REFUSED = 1, TWKB_NO_MEMORY = 2 };
 
-/* Why bytes are refused. The last is named by twkb_certify_tight alone. */
+/* The kinds of refusals. Only twkb_certify_tight returns the last one. */
 enum {
     TWKB_CUT = 1,
     TWKB_VARINT = 2,
@@ -55,7 +55,7 @@ enum {
     TWKB_LOOSE = 9
 };
 
-/* The verdict on bytes. Numbers that don't belong to the answer are 0. */
+/* The verdict on bytes. Fields that the answer doesn't use are 0. */
 struct twkb_verdict {
     uint32_t answer;
     uint32_t kind;   /* of a refusal: its kind */
@@ -65,14 +65,15 @@ struct twkb_verdict {
     size_t offset;   /* of a refusal: the offset of what is wrong in it */
 };
 
-/* Certifies the bytes as a layer: every size is the number of bytes after it, every box holds the vertices below it,
- * and the ids of each list differ. TWKB_NO_MEMORY only if a list of more than sixteen ids finds no memory. */
+/* Certifies the bytes as a layer: every size is the number of bytes of its geometry after it, every box holds all vertices
+ * of its geometry, and the ids of each list differ. Returns TWKB_NO_MEMORY only if there is no memory for a list of more than
+ * sixteen ids. */
 struct twkb_verdict twkb_certify(const uint8_t *bytes, size_t len);
 
-/* Certifies as twkb_certify does, and also refuses loose boxes, which scans would rarely hop over. */
+/* Certifies as twkb_certify does, and also refuses boxes that are larger than they have to be, which scans rarely skip. */
 struct twkb_verdict twkb_certify_tight(const uint8_t *bytes, size_t len);
 
-/* A certified layer, in storage of the caller. It borrows its bytes. */
+/* A certified layer, in storage of the caller. It borrows the bytes. */
 struct twkb_layer {
     const uint8_t *bytes;
     size_t len;
@@ -92,7 +93,8 @@ struct twkb_row {
     bool has_box;
 };
 
-/* Writes a row for each blob, in order, as many as fit. Returns how many blobs there are. */
+/* Writes a row for each blob to `rows`, in file order, as many as fit; `room` is how many fit. Returns how many blobs there
+ * are. */
 size_t twkb_list(const struct twkb_layer *layer, struct twkb_row *rows, size_t room);
 
 /* A number of units of 10^-7: high * 2^64 + low. */
@@ -121,7 +123,7 @@ struct twkb_window {
 enum { TWKB_WINDOW = 0, TWKB_BAD_FORM = 1, TWKB_BAD_ORDER = 2 };
 
 /* Parses a window of the form x=A..B,y=C..D[,z=E..F][,m=G..H], with up to seven decimals, exactly. Unless it returns
- * TWKB_WINDOW, the window stays as it was. TWKB_BAD_ORDER means a lower bound above its upper bound. */
+ * TWKB_WINDOW, the window is unchanged. TWKB_BAD_ORDER: a lower bound is above its upper bound. */
 uint32_t twkb_window_parse(const uint8_t *text, size_t len, struct twkb_window *window);
 
 /* A blob with a vertex inside a window. */
@@ -130,13 +132,14 @@ struct twkb_hit {
     size_t offset; /* its offset */
 };
 
-/* The answer of a scan: how many blobs have a vertex inside, and how many bytes it read. */
+/* The result of a scan: how many blobs have a vertex inside, and how many bytes it read. */
 struct twkb_scanned {
     size_t hits;
     uint64_t bytes_read;
 };
 
-/* Writes a hit for each blob with a vertex inside the window, in order, as many as fit. */
+/* Writes a hit for each blob with a vertex inside the window to `hits`, in file order, as many as fit; `room` is how many
+ * fit. */
 struct twkb_scanned twkb_scan(const struct twkb_layer *layer, const struct twkb_window *window,
                               struct twkb_hit *hits, size_t room);
 
@@ -147,13 +150,13 @@ struct twkb_slot {
     int64_t second[2];
 };
 
-/* Writes a directory of the layer, and returns how many slots it has: at most two for each blob. It is written whole or not
- * at all; two slots for each blob always suffice. If it doesn't fit, the result is how many slots are wanted, which is more
- * than the room has. */
+/* Writes a directory of the layer to `slots`, which has room for `room` slots, and returns how many slots it has: at most two
+ * for each blob. It is written whole or not at all; two slots for each blob always suffice. If it doesn't fit, the result is
+ * how many slots are needed, which is more than `room`. */
 size_t twkb_directory_build(const struct twkb_layer *layer, struct twkb_slot *slots, size_t room);
 
 /* Scans as twkb_scan does, and reads nothing of a blob whose box misses the window. The slots are those that
- * twkb_directory_build wrote for this layer, as many as it answered. */
+ * twkb_directory_build wrote for this layer, and `count` is what it returned. */
 struct twkb_scanned twkb_directory_scan(const struct twkb_layer *layer, const struct twkb_slot *slots, size_t count,
                                         const struct twkb_window *window, struct twkb_hit *hits, size_t room);
 

@@ -3,10 +3,11 @@
 
 usage: bindings/web/make_page.py MODULE OUT
 
-The scripts of `page/` are joined in an order in which each imports from those before it alone, without comments and
-indentation. The module, the scripts and the examples are compressed, and all examples but the first shortened by whole blobs, so
-that the page stays below LARGEST bytes. It names the version, from the file VERSION, and the commit, where git knows one. A commit has
-one page, byte for byte.
+The scripts of `page/` are joined, without comments and indentation, in an order in which each imports only from those before it. The
+module, the scripts and the examples are compressed, and all examples but the first are shortened by whole blobs, so that the page stays
+below LARGEST bytes. It names the version, from the file VERSION, and the commit, if git knows one. A commit has one page, byte for byte.
+
+The page is in CHARSET, which has a letter for each of the 256 bytes. So a compressed byte takes one byte of the page.
 """
 import bisect
 import functools
@@ -25,6 +26,12 @@ MAIN = [
     *("paint.js", "strip.js", "map.js", "table.js", "main.js"),
 ]
 LARGEST = 150_000
+# As browsers read it. Python calls it CODEC, and knows no letter for five of its bytes, which the page's texts don't use.
+CHARSET = "windows-1252"
+CODEC = "cp1252"
+# Bytes that a script of HTML wouldn't keep or that could end it, and the sign itself, are written as the sign and a byte SHIFT higher.
+SIGN, SHIFT = b"=", 64
+ESCAPED = b"\0\r<" + SIGN
 sys.path.insert(0, os.path.join(TOP, "tests"))
 import plain  # noqa: E402
 
@@ -86,16 +93,9 @@ def body(module, modules):
 
 
 def packed(data):
-    """Compressed, seven bits to a letter. A letter that HTML wouldn't keep, or that could end the script, is written 128 higher."""
+    """Compressed, and with the sign before each byte of ESCAPED, which is written higher."""
     data = gzip.compress(data, 9, mtime=0)
-    letters, held, bits = [], 0, 0
-    for byte in data + b"\0":
-        held, bits = (held << 8 | byte) & 0xFFFF, bits + 8
-        while bits >= 7:
-            bits -= 7
-            letters.append(held >> bits & 127)
-    kept = letters[: -(-8 * len(data) // 7)]
-    return "".join(chr(letter + 128 if letter in b"\0\r<&" else letter) for letter in kept)
+    return re.sub(b"[" + re.escape(ESCAPED) + b"]", lambda match: SIGN + bytes([match[0][0] + SHIFT]), data)
 
 
 @functools.cache
@@ -125,10 +125,10 @@ def layers(parts):
     whole = [(*WORLD, example(WORLD[0]))]
     short = [(name, title, shortened(name, blobs * parts)) for name, title, blobs in EXAMPLES]
     scripts = [
-        f'<script type="text/plain" id="{name[:-5]}" data-example="{name}" data-title="{title}">{packed(data)}</script>'
+        f'<script type="text/plain" id="{name[:-5]}" data-example="{name}" data-title="{title}">'.encode() + packed(data) + b"</script>"
         for name, title, data in whole + short
     ]
-    return "\n".join(scripts + broken(WORLD[0]))
+    return b"\n".join(scripts + [script.encode() for script in broken(WORLD[0])])
 
 
 def broken(name):
@@ -162,12 +162,14 @@ def main(module, out):
     with open(module, "rb") as file:
         code = packed(file.read())
     style = re.sub(r"^\s+|\n", "", text_of(PAGE, "style.css"), flags=re.MULTILINE)
-    texts = {"STYLE": style, "MODULE": code, "VERSION": version(), "COMMIT": commit(), "LOADER": body("loader.js", [])}
-    texts.update(WORKER=packed(joined(WORKER).encode()), MAIN=packed(joined(MAIN).encode()))
+    texts = {"CHARSET": CHARSET, "STYLE": style, "VERSION": version(), "COMMIT": commit(), "LOADER": body("loader.js", [])}
+    parts_of = {name: text.encode(CODEC) for name, text in texts.items()}
+    parts_of.update(MODULE=code, WORKER=packed(joined(WORKER).encode()), MAIN=packed(joined(MAIN).encode()))
 
     def page(parts):
-        texts["EXAMPLES"] = layers(parts)
-        return re.sub("@([A-Z]+)@", lambda match: texts[match[1]], text_of(PAGE, "index.html")).encode()
+        parts_of["EXAMPLES"] = layers(parts)
+        html = text_of(PAGE, "index.html").encode(CODEC)
+        return re.sub(b"@([A-Z]+)@", lambda match: parts_of[match[1].decode()], html)
 
     fits = bisect.bisect_left(range(1, MOST_PARTS + 1), LARGEST + 1, key=lambda parts: len(page(parts)))
     if not fits:

@@ -1,9 +1,9 @@
 #!/bin/sh
-# Certifies each layer below a folder, on all cores, and prints a line for each: its status, its path and what was said.
-# usage: certify_all.sh FOLDER [PROGRAM]   (twkb_tool where it is left out)
-# Layers are what is named *.twkb. Links to files are followed, and FOLDER may be a link; links to folders below it aren't followed.
-# The status is 0 where all are certified, 1 where some are refused, 2 for bad words, and 3 where some couldn't be judged: where
-# there is no layer at all, or FOLDER or a folder below it can't be read, too.
+# Certifies each layer below a folder, on all cores, and prints a line for each: its status, its path and the program's output.
+# usage: certify_all.sh FOLDER [PROGRAM]   (PROGRAM is twkb_tool by default)
+# Layers are the files named *.twkb. Links to files are followed, and FOLDER may be a link; links to folders below it aren't followed.
+# The exit status is 0 if all layers are certified, 1 if some are refused, 2 for a bad command line, and 3 if some couldn't be judged,
+# if there is no layer at all, or if FOLDER or a folder below it can't be read.
 set -eu
 if [ $# -lt 1 ] || [ $# -gt 2 ]; then
     echo "usage: certify_all.sh FOLDER [PROGRAM]" >&2

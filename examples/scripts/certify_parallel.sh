@@ -1,11 +1,11 @@
 #!/bin/sh
 # Certifies each layer below a folder by GNU parallel, on this machine and on others, and prints a line for each: its path
-# and what was said.
+# and the program's output.
 # usage: certify_parallel.sh FOLDER JOBLOG [MACHINE ..]   (twkb_tool is in PATH on each MACHINE too, which ssh reaches)
-# Layers are what is named *.twkb. Links to files are followed, and FOLDER may be a link; links to folders below it aren't followed.
-# JOBLOG gets a line for each layer, with its status (Exitval) and its time. The status is 0 where all are certified, 1 where some
-# are refused, 2 for bad words, and 3 where some couldn't be judged: where there is no layer at all, or FOLDER or a folder below it
-# can't be read, too.
+# Layers are the files named *.twkb. Links to files are followed, and FOLDER may be a link; links to folders below it aren't followed.
+# JOBLOG gets a line for each layer, with its status (Exitval) and its time. The exit status is 0 if all layers are certified, 1 if
+# some are refused, 2 for a bad command line, and 3 if some couldn't be judged, if there is no layer at all, or if FOLDER or a folder
+# below it can't be read.
 set -eu
 if [ $# -lt 2 ]; then
     echo "usage: certify_parallel.sh FOLDER JOBLOG [MACHINE ..]" >&2

@@ -1,11 +1,11 @@
 #!/usr/bin/env python3
-"""Certifies layers in object storage on a Spark cluster: a layer a task, and no state between tasks.
+"""Certifies layers in object storage on a Spark cluster. Each layer is a task, and tasks share no state.
 
 usage: spark-submit --files /usr/local/bin/twkb_tool certify_spark.py s3a://BUCKET/layers/*.twkb s3a://BUCKET/verdicts
 
-Writes a line for each layer: its status, its path and what was said, with tabs between. The status of the job is 0 where
-all are certified, 1 where some are refused, 2 for bad words, and 3 where some couldn't be judged or there is no layer at all. A
-task holds its layer in memory twice, as Spark's and as the program's.
+Writes a line for each layer: its status, its path and the program's output, separated by tabs. The exit status of the job is 0
+if all layers are certified, 1 if some are refused, 2 for a bad command line, and 3 if some couldn't be judged or there is no layer
+at all. A task holds its layer in memory twice: once for Spark and once for the program.
 """
 import subprocess
 import sys

@@ -1,10 +1,10 @@
 #!/usr/bin/env bash
-# Writes the rows of a table as a layer by PostGIS, and puts it where it is served only once it is certified and has a blob for each
-# of these rows. Until then FILE stays what it was.
-# usage: publish_layer.sh TABLE FILE [PROGRAM]   (twkb_tool where it is left out; psql reaches the database by its PG variables)
-# TABLE has the columns id, which is unique, and geom. Rows with no geometry are left out, and counted. The status is 0 where FILE
-# is the new layer, 1 where twkb_tool refuses it, 2 for bad words, and 3 where it isn't known what was written: the query failed,
-# or what it gave isn't what it says. Then, too, standard error says why.
+# Writes the rows of a table as a layer by PostGIS, and replaces FILE with it only if it is certified and has a blob for each of these
+# rows. Otherwise FILE is unchanged.
+# usage: publish_layer.sh TABLE FILE [PROGRAM]   (PROGRAM is twkb_tool by default; psql finds the database by its PG variables)
+# TABLE has the columns id, which is unique, and geom. Rows without a geometry are left out, and counted. The exit status is 0 if FILE
+# is the new layer, 1 if twkb_tool refuses it, 2 for a bad command line, and 3 if the query failed or returned something unexpected.
+# Standard error says why.
 set -euo pipefail
 # Decimals of X and Y, of Z and of M.
 precisions='4, 0, 0'

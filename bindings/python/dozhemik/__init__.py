@@ -1,7 +1,8 @@
 """Certifies layers of TWKB geometries, lists them and scans them for windows, by the proved library libtwkb.so.
 
-A layer is the bytes of TWKB blobs, one after another. It is certified if each size is the number of bytes after it,
-each box holds the vertices below it, and the ids of each list differ. Only then is it listed and scanned:
+A layer is the bytes of TWKB geometries (blobs), one after another. It is certified if each size is the number of bytes
+of its geometry after it, each box holds all vertices of its geometry, and the ids of each list differ. Only a certified
+layer can be listed and scanned:
 
     from dozhemik import Refused, certify
 
@@ -17,8 +18,8 @@ each box holds the vertices below it, and the ids of each list differ. Only then
         for hit in scan:
             print(hit.blob, hit.offset)
 
-The library's answers are proved. This package isn't: it passes the bytes, and turns the answers into Python values. It
-loads the file that the environment variable TWKB_LIBRARY names, or libtwkb.so beside its modules, or else the system's
+The library is proved. This package isn't: it passes the bytes, and converts the results to Python values. It loads the
+file that the environment variable TWKB_LIBRARY names, or libtwkb.so beside its modules, or else the system's
 libtwkb.so.0.
 """
 from ._layer import Directory, Hit, Layer, Refused, Row, Scan, certify

@@ -1,4 +1,4 @@
-"""Layers, and what lists and scans of them answer."""
+"""Layers, and what lists and scans of them return."""
 import ctypes
 from typing import List, NamedTuple, NoReturn, Optional, Sequence, Tuple, Union, overload
 
@@ -89,7 +89,7 @@ class Scan(Sequence[Hit]):
 
 
 class Layer:
-    """A certified layer, which holds its bytes. Made by `certify` alone. Any number of threads may use it at once.
+    """A certified layer, which holds its bytes. Only `certify` makes it. Any number of threads may use it at once.
 
     `close` releases the bytes, and so does the end of a `with`. After that every use but `close` raises ValueError.
     """
@@ -158,7 +158,7 @@ class Layer:
         return _scan(self._open, _window(window, x, y, z, m))
 
     def directory(self) -> "Directory":
-        """A directory, whose scans read nothing of a blob whose box misses. It takes 80 bytes for each blob."""
+        """A directory: its scans read nothing of a blob whose box misses the window. It takes 80 bytes a blob."""
         layer = self._open
         slots = (_library.Slot * (2 * layer.blobs))()
         count = library.twkb_directory_build(ctypes.byref(layer), slots, len(slots))
@@ -183,7 +183,7 @@ class Layer:
 
 
 class Directory:
-    """The offsets and boxes of a layer's blobs. Made by `Layer.directory` alone.
+    """The offsets and boxes of a layer's blobs. Only `Layer.directory` makes it.
 
     Any number of threads may use it at once. It holds its layer. If that is closed, a scan raises ValueError.
     """

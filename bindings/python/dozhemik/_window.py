@@ -21,9 +21,9 @@ class BadWindow(ValueError):
 class Window:
     """A range of X and of Y, and of Z and M if they are bounded, both ends included.
 
-    A float stands for the shortest decimal text that gives it, as `repr` writes it: 0.1 is a tenth. Nothing is rounded.
-    A number that takes more than seven decimals is refused. So is one of more than 27 digits before the point, a NaN
-    and an infinity. Round such a number first, to the side that you mean.
+    A float is taken as its shortest decimal text, which `repr` prints: 0.1 is a tenth. Nothing is rounded. A number of
+    more than seven decimals is refused, and so are one of more than 27 digits before the point, a NaN and an infinity.
+    Round a number of more decimals first, down for a lower bound and up for an upper bound.
     """
 
     __slots__ = ("_struct", "_text")
@@ -36,7 +36,7 @@ class Window:
 
     @classmethod
     def parse(cls, text: str) -> "Window":
-        """The window of a text of the form x=A..B,y=C..D[,z=E..F][,m=G..H], with decimals of up to seven places."""
+        """Parses a text of the form x=A..B,y=C..D[,z=E..F][,m=G..H], with up to seven decimals."""
         if not isinstance(text, str):
             raise TypeError(f"the text of a window is a str, not {type(text).__name__}")
         window = cls.__new__(cls)
@@ -93,7 +93,7 @@ def _number_text(value: object) -> str:
 
 
 def _decimal_text(value: Decimal) -> str:
-    """The text of just this number, without an exponent. No arithmetic of Decimal is used, since that may round."""
+    """The exact text of a number, without an exponent. No arithmetic of Decimal is used, since that may round."""
     if not value.is_finite():
         raise BadWindow(f"{value} is no number")
     if not value:

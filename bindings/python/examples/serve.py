@@ -1,7 +1,7 @@
 #!/usr/bin/env python3
-"""Serves window queries of one layer over HTTP, on this machine alone.
+"""Serves window queries of one layer over HTTP, to this machine only.
 
-usage: serve.py FILE [PORT]   (8000 where it is left out; 0 is any that is free)
+usage: serve.py FILE [PORT]   (8000 by default; 0 means any free port)
 
     GET /scan?x=10..30&y=35..45[&z=E..F][&m=G..H]   the hits, and how many bytes were read, of how many
     GET /list                                       a row for each blob

@@ -67,8 +67,8 @@ impl<'a> Directory<'a> {
         scan_growing(&self.layer, |room| self.scan_spare(window, room))
     }
 
-    /// Writes what [`scan`](Directory::scan) finds into the front of the room, as [`Layer::scan_into`] does. It takes
-    /// no memory and can't fail.
+    /// Writes what [`scan`](Directory::scan) finds to `room`, as [`Layer::scan_into`] does. It allocates no memory and
+    /// can't fail.
     pub fn scan_into(&self, window: &Window, room: &mut [Hit]) -> Scanned {
         // Sound: the room is borrowed by this call alone, and hits are written as hits.
         unsafe { self.scan_raw(window, room.as_mut_ptr(), room.len()) }
@@ -81,7 +81,7 @@ impl<'a> Directory<'a> {
 
     /// # Safety
     ///
-    /// The room is good for so many hits, and nobody else uses it meanwhile.
+    /// `room` is valid for this many hits, and nobody else uses it during the call.
     unsafe fn scan_raw(&self, window: &Window, hits: *mut Hit, room: usize) -> Scanned {
         let (layer, window, slots) = (self.layer.lent(), window.lent(), &self.slots);
         // Sound: the layer is certified, the slots were built for it, and nobody can write either. The rest is the

@@ -7,9 +7,9 @@ use std::mem::{size_of, MaybeUninit};
 
 /// A certified layer. It borrows its bytes, and is as small as a slice and two numbers.
 ///
-/// A layer is only made from bytes that were certified, and the borrow keeps them unchanged, so each answer is about
-/// what was certified. It may be copied, and used by many threads at once. A program that keeps its layers for as
-/// long as it runs may give their bytes away: `Layer::certify(Vec::leak(bytes))` is a `Layer<'static>`.
+/// A layer is only made from bytes that were certified, and the borrow keeps them unchanged. So every result is about
+/// the certified bytes. A layer may be copied, and used by many threads at once. A program that keeps its layers for as
+/// long as it runs may leak their bytes: `Layer::certify(Vec::leak(bytes))` is a `Layer<'static>`.
 ///
 /// It can't outlive its bytes:
 ///
@@ -32,7 +32,7 @@ use std::mem::{size_of, MaybeUninit};
 /// layer.list().unwrap();
 /// ```
 ///
-/// A file that is mapped into memory, and that another process may write, is no `&[u8]` to begin with.
+/// Don't pass a mapped file that another process may write to: it isn't a valid `&[u8]`.
 #[derive(Clone, Copy)]
 pub struct Layer<'a> {
     bytes: &'a [u8],
@@ -41,13 +41,13 @@ pub struct Layer<'a> {
 }
 
 impl<'a> Layer<'a> {
-    /// Certifies bytes as a layer: every size is the number of bytes after it, every box holds the vertices below it,
-    /// and the ids of each list differ.
+    /// Certifies bytes as a layer: every size is the number of bytes of its geometry after it, every box holds all
+    /// vertices of its geometry, and the ids of each list differ.
     ///
     /// # Errors
     ///
     /// [`CertifyError::Refused`] names the first blob that is malformed or has a false claim, the offset and the kind.
-    /// [`CertifyError::NoMemory`] is returned only if a list of more than sixteen ids finds no memory.
+    /// [`CertifyError::NoMemory`] is returned only if there is no memory for a list of more than sixteen ids.
     pub fn certify(bytes: &'a [u8]) -> Result<Layer<'a>, CertifyError> {
         // Sound: a slice's pointer is good for its length and isn't null, and nobody writes what is borrowed.
         let verdict = unsafe { ffi::twkb_certify(bytes.as_ptr(), bytes.len()) };
@@ -57,7 +57,7 @@ impl<'a> Layer<'a> {
     /// Certifies as [`certify`](Layer::certify) does, and also refuses boxes that are true and larger than they have to
     /// be.
     ///
-    /// Scans rarely hop over a loose box. What they find doesn't change.
+    /// Such a box is *loose*. Scans rarely skip it, but find the same hits.
     ///
     /// # Errors
     ///
@@ -100,7 +100,7 @@ impl<'a> Layer<'a> {
     ///
     /// # Errors
     ///
-    /// There is no memory for the rows, which take 40 bytes each.
+    /// If there is no memory for the rows, which take 40 bytes each.
     pub fn list(&self) -> Result<Vec<Row>, TryReserveError> {
         let mut rows = Vec::new();
         rows.try_reserve_exact(self.blobs)?;
@@ -127,11 +127,11 @@ impl<'a> Layer<'a> {
     /// # }
     /// ```
     ///
-    /// It first takes as much memory for hits as the layer itself has bytes. If there are more hits, it scans again.
+    /// It first allocates as many bytes for hits as the layer has. If there are more hits, it scans again.
     ///
     /// # Errors
     ///
-    /// There is no memory for the hits, which take 16 bytes each, or for that room.
+    /// If there is no memory for the hits, which take 16 bytes each, or for the first allocation.
     pub fn scan(&self, window: &Window) -> Result<Scan, TryReserveError> {
         scan_growing(self, |room| self.scan_spare(window, room))
     }
@@ -140,13 +140,13 @@ impl<'a> Layer<'a> {
     ///
     /// # Errors
     ///
-    /// There is no memory for it: it takes 80 bytes for each blob.
+    /// If there is no memory for it: it takes 80 bytes for each blob.
     pub fn directory(&self) -> Result<Directory<'a>, TryReserveError> {
         Directory::of(*self)
     }
 
-    /// Writes the blobs that have a vertex inside the window into the front of the room, in the order of the layer, as
-    /// many as fit. It takes no memory and can't fail.
+    /// Writes the blobs that have a vertex inside the window to `room`, from its start on, in the order of the layer,
+    /// as many as fit. It allocates no memory and can't fail.
     ///
     /// ```
     /// # use dozhemik::{Hit, Layer, Window};
@@ -160,7 +160,7 @@ impl<'a> Layer<'a> {
     /// # }
     /// ```
     ///
-    /// The answer may be more than the room has places. The other places stay as they were.
+    /// The number of hits may be greater than the length of `room`. The places after the hits are unchanged.
     pub fn scan_into(&self, window: &Window, room: &mut [Hit]) -> Scanned {
         let window = window.lent();
         // Sound: the layer is certified, the window is this function's, and the room is borrowed by it alone.

@@ -1,10 +1,11 @@
 //! Layers of TWKB geometries: certified once, then scanned and listed, by a proved library.
 //!
-//! TWKB (Tiny Well-Known Binary) is the compact integer encoding of geometries, and a layer is a run of its blobs. A
-//! blob may have a size and a bounding box, and a scan hops over it if the box misses the window. [`Layer::certify`] reads a
-//! layer whole and says whether each size is true, each box holds the vertices below it, and the ids of each list
-//! differ. Otherwise it names the first blob that is wrong, and in it the offset and the kind of what is wrong. A certified
-//! layer is then [listed](Layer::list), and [scanned](Layer::scan) for the blobs that have a vertex inside a [`Window`].
+//! TWKB (Tiny Well-Known Binary) is a compact encoding of geometries by integers. A layer is a file of such geometries,
+//! one after another; each of them is a blob. A blob may have a size and a bounding box, and a scan skips it if the box
+//! misses the window. [`Layer::certify`] reads a whole layer and checks that each size is true, that each box holds the
+//! vertices of its geometry, and that the ids of each list differ. Otherwise it names the first blob that is wrong, and
+//! the offset and the kind of the error. A certified layer can be [listed](Layer::list), and [scanned](Layer::scan) for
+//! the blobs that have a vertex inside a [`Window`].
 //!
 //! Certifying, listing, scanning and the parsing of windows are proved, in Rattle, and linked as `libtwkb.a`. What this
 //! crate adds is trusted: one `extern` block, and types that guarantee what the library requires of its callers.
@@ -21,7 +22,7 @@
 //! let layer = Layer::certify(&bytes)?;
 //! assert_eq!((layer.blobs(), layer.vertices()), (2, 3));
 //!
-//! // The line is hopped over: fifteen bytes are read of twenty.
+//! // The line is skipped after its header: fifteen of twenty bytes are read.
 //! let window: Window = "x=9.5..12,y=10..10".parse()?;
 //! let scan = layer.scan(&window)?;
 //! assert_eq!(scan.hits, [Hit { blob: 1, offset: 12 }]);
@@ -38,20 +39,20 @@
 //!
 //! # Numbers
 //!
-//! Coordinates are compared as numbers of *units*, of which ten million are one, and no call rounds. See [`Span`] for
-//! how a window's bounds are turned into units.
+//! Coordinates are compared in *units* of 10^-7, and no call rounds. See [`Span`] for how a window's bounds are
+//! converted to units.
 //!
 //! # Memory and time
 //!
-//! Certifying takes time in proportion to the bytes, and memory only for a list of more than sixteen ids, while it reads
-//! it. A scan reads the header of each blob, and the rest of those that it can't hop over. For many windows a
-//! [`Directory`] takes 80 bytes a blob, and its scans read nothing of a blob whose box misses the window.
-//! [`Layer::scan_into`] takes no memory at all. If memory is refused, a call returns an error and never aborts.
+//! Certifying takes time in proportion to the bytes, and memory only for a list of more than sixteen ids, while it
+//! reads it. A scan reads the header of each blob, and the rest of those that it can't skip. For many windows, build a
+//! [`Directory`]: it takes 80 bytes for each blob, and its scans read nothing of a blob whose box misses the window.
+//! [`Layer::scan_into`] takes no memory at all. If an allocation fails, a call returns an error and never aborts.
 //!
 //! # Building
 //!
 //! The environment variable `TWKB_LIB` names the folder of `libtwkb.a`, which `make library` builds in the repository.
-//! It is code for x86-64 with the instructions of x86-64-v2.
+//! The library needs a processor of the level x86-64-v2.
 #![warn(missing_docs, missing_debug_implementations, unreachable_pub, rust_2018_idioms)]
 #![deny(unsafe_op_in_unsafe_fn)]
 

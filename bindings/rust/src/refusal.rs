@@ -8,7 +8,7 @@ use std::fmt;
 pub enum CertifyError {
     /// The bytes aren't a certified layer.
     Refused(Refusal),
-    /// A list of more than sixteen ids found no memory. Nothing is known of the bytes.
+    /// There is no memory for a list of more than sixteen ids. Nothing is known about the bytes.
     NoMemory,
 }
 
@@ -38,9 +38,9 @@ pub enum RefusalKind {
     Depth,
     /// A coordinate doesn't fit 64 bits.
     Range,
-    /// A size isn't the number of bytes after it.
+    /// A size isn't the number of bytes of its geometry after it.
     Size,
-    /// A box doesn't hold a vertex below it.
+    /// A box doesn't hold a vertex of its geometry.
     Box,
     /// Two ids of a list are equal.
     Ids,
@@ -50,7 +50,7 @@ pub enum RefusalKind {
 }
 
 impl RefusalKind {
-    /// The kind of a number of the library.
+    /// The kind for a number that the library returns.
     pub(crate) fn numbered(number: u32) -> RefusalKind {
         match number {
             1 => RefusalKind::Cut,

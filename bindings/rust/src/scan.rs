@@ -40,7 +40,7 @@ impl<'s> IntoIterator for &'s Scan {
     }
 }
 
-/// What [`Layer::scan_into`](crate::Layer::scan_into) answers.
+/// What [`Layer::scan_into`](crate::Layer::scan_into) returns.
 #[repr(C)]
 #[derive(Clone, Copy, Debug, PartialEq, Eq, Hash)]
 pub struct Scanned {

@@ -8,11 +8,10 @@ use std::str::FromStr;
 
 /// A range in units, both ends included, whose lower end is never above its upper one.
 ///
-/// Ten million units are one: a bound of 35.5 is 355,000,000 units. There are two ways to make a span, and neither
-/// rounds:
+/// A unit is 10^-7: a bound of 35.5 is 355,000,000 units. There are two ways to make a span, and neither rounds:
 ///
-/// - [from units](Span::from_units), which are taken as they are;
-/// - [from coordinates](Span::from_coordinates), which are taken for their decimal text.
+/// - [from units](Span::from_units);
+/// - [from coordinates](Span::from_coordinates), by their shortest decimal text.
 ///
 /// ```
 /// # use dozhemik::{BadWindow, Span};
@@ -43,16 +42,15 @@ impl Span {
 
     /// The span of coordinates.
     ///
-    /// A float means the number that its shortest decimal text writes, the one that `{}` prints: `0.1` is a tenth, and
-    /// not the float's binary value, which lies a little above it. That text is read by the library as the text of a
-    /// window is. So a float gives just the units that its text says, or is refused: nothing is rounded, outward or
-    /// inward. A number that was computed often has more decimals than seven, so round it first, to the side that you
-    /// mean. An `f32` that was widened mostly has more of them too.
+    /// A float is taken as its shortest decimal text, which `{}` prints: `0.1` is a tenth, and not the float's binary
+    /// value, which is a little greater. The library parses this text. So a float is converted exactly, or refused:
+    /// nothing is rounded. Computed numbers often have more than seven decimals, and so have most `f32` values that
+    /// were converted to `f64`. Round them first, down for a lower bound and up for an upper bound.
     ///
     /// # Errors
     ///
     /// [`BadWindow::NotFinite`], [`BadWindow::TooLarge`] and [`BadWindow::MoreThanSevenDecimals`], if an end can't be
-    /// written so. [`BadWindow::Order`], if the lower end is above the upper one.
+    /// converted. [`BadWindow::Order`], if the lower end is above the upper one.
     pub fn from_coordinates(coordinates: RangeInclusive<f64>) -> Result<Span, BadWindow> {
         let mut text = Text::new();
         text.push("x=");
@@ -85,8 +83,8 @@ impl Span {
 /// A window: a range for X and one for Y, and perhaps for Z and for M.
 ///
 /// A vertex is inside if it has each axis that the window bounds, with a value in its range. A window is made from
-/// [spans](Span), or from a text of the form `x=A..B,y=C..D[,z=E..F][,m=G..H]` by [`str::parse`]. A number of such a text
-/// is an optional minus, 1 to 27 digits, and optionally a point and 1 to 7 digits. The text is parsed exactly.
+/// [spans](Span), or from a text of the form `x=A..B,y=C..D[,z=E..F][,m=G..H]` by [`str::parse`]. A number of such a
+/// text is an optional minus, 1 to 27 digits, and optionally a point and 1 to 7 digits. The text is parsed exactly.
 ///
 /// ```
 /// # use dozhemik::{BadWindow, Span, Window};
@@ -172,14 +170,14 @@ impl FromStr for Window {
     ///
     /// # Errors
     ///
-    /// [`BadWindow::Form`] or [`BadWindow::Order`]. The form is judged over the whole text before the order of any
-    /// range is.
+    /// [`BadWindow::Form`] or [`BadWindow::Order`]. The form of the whole text is checked before the order of any
+    /// range.
     fn from_str(text: &str) -> Result<Window, BadWindow> {
         parse(text.as_bytes())
     }
 }
 
-/// Why a text or coordinates give no window.
+/// Why a text or coordinates don't make a window.
 #[derive(Clone, Copy, Debug, PartialEq, Eq, Hash)]
 pub enum BadWindow {
     /// The text doesn't have the form of a window.
@@ -233,10 +231,10 @@ fn parse(text: &[u8]) -> Result<Window, BadWindow> {
 
 // ---- the decimal text of a float
 
-/// A coordinate from which on more than 27 digits stand before the point.
+/// The least coordinate that has more than 27 digits before the point.
 const TOO_LARGE: f64 = 1e27;
 
-/// How many digits may stand behind the point.
+/// How many digits a number may have after the point.
 const MOST_DECIMALS: usize = 7;
 
 /// A text in place, with room for two numbers of 27 digits and seven decimals, and all that stands round them.

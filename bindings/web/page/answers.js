@@ -16,10 +16,11 @@ export function showVerdict(told, name) {
   box.replaceChildren(first, ...sentences.map(withCode), printed);
 }
 
-// A paragraph in which words between backquotes are code.
+// A paragraph in which words between backquotes are code. What is short, such as a command, stays in one line.
+const SHORT = 24;
 function withCode(text) {
   const made = element("p");
-  text.split("`").forEach((part, i) => made.append(i % 2 ? element("code", part) : part));
+  text.split("`").forEach((part, i) => made.append(i % 2 ? element("code", part, part.length < SHORT ? "short" : "") : part));
   return made;
 }
 

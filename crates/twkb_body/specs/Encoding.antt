@@ -64,13 +64,13 @@ abbrev pub Accumulates : List PointValue → List PointValue → Type 0
 Accumulates points numbers = (i axis : ℕ) (point : PointValue) (c : ℤ) → slice_get points i ≡ Some point
     → slice_get point axis ≡ Some c → (c ≡ total axis (take (suc i) numbers)) × FitsSigned w64 c
 
--- as many rings in each polygon, points in each ring and numbers in each point
+-- two lists have equally many polygons, rings in each polygon, points in each ring and numbers in each point
 pub record SameForm (a b : List PolygonValue) : Type 0 where
   pub polygons : map length a ≡ map length b
   pub rings : map length (flat_map (λ polygon. polygon) a) ≡ map length (flat_map (λ polygon. polygon) b)
   pub points : map length (points_of a) ≡ map length (points_of b)
 
--- the body of a kind that is no collection: numbers, which run on over all its parts
+-- the body of a kind that is no collection: numbers, whose sums continue over all its parts
 pub record IsShape (h : Header) (l : Lengths) (ids : Option (List ℤ)) (polygons : List PolygonValue) (bytes : List ℕ)
     : Type 0 where
   pub numbers : List PolygonValue

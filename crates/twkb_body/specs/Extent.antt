@@ -10,13 +10,13 @@ abbrev pub span_of : List ℤ → Option Span
 span_of [] = None
 span_of (c ∷ cs) = Some (record { lo = fold int_min c cs; hi = fold int_max c cs })
 
--- the least and the greatest of both sides, as far as they have it
+-- the range that both ranges span together; if one is missing, the other
 abbrev pub joined : Option Span → Option Span → Option Span
 joined None b = b
 joined (Some a) None = Some a
 joined (Some a) (Some b) = Some (record { lo = int_min a.lo b.lo; hi = int_max a.hi b.hi })
 
--- per axis nothing, or the least and the greatest number
+-- for each axis nothing, or the least and the greatest number
 pub record Reach : Type 0 where
   pub x : Option Span
   pub y : Option Span
@@ -36,7 +36,7 @@ reach_of vs = record {
 abbrev pub both : Reach → Reach → Reach
 both a b = record { x = joined a.x b.x; y = joined a.y b.y; z = joined a.z b.z; m = joined a.m b.m }
 
--- what was reached is within the span, where there are both
+-- what was reached is within the span, if there are both
 abbrev pub IsCovered : Option Span → Option Span → Type 0
 IsCovered None reached = ⊤
 IsCovered (Some span) None = ⊤

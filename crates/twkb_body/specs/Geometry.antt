@@ -26,8 +26,8 @@ pub record Lengths : Type 0 where
   pub list : ℕ
   pub whole : ℕ
 
--- The members of a collection are geometries. What another kind has is a list of polygons: a line is one ring
--- of one polygon, a point one point of one ring.
+-- A collection has members, which are geometries. A geometry of another kind has a list of polygons: a line is one ring
+-- of one polygon, and a point is one point of one ring.
 mutual
   pub data Geometry : Type 0 where
     geometry : Header → Lengths → Option (List ℤ) → List PolygonValue → Members → Geometry
@@ -53,7 +53,7 @@ member_count (more g gs) = suc (member_count gs)
 abbrev pub points_of : List PolygonValue → List PointValue
 points_of polygons = flat_map (λ polygon. flat_map (λ ring. ring) polygon) polygons
 
--- the coordinate of a point on an axis, which is 0 where there is none
+-- the coordinate of a point on an axis, or 0 if the point has none
 abbrev pub coordinate : PointValue → ℕ → ℤ
 coordinate point axis = unwrap_or (slice_get point axis) (pos 0)
 
@@ -66,7 +66,7 @@ vertex_of h point = record {
   m = option_map (λ p. units_of (coordinate point (m_axis h.z)) (pos p)) h.m;
 }
 
--- the precisions lie in their ranges
+-- each precision is in its range
 abbrev pub HavePrecisions : Axes → Type 0
 HavePrecisions axes = IsPrecision axes.xy × IfSome axes.z (λ p. p ≤ 7) × IfSome axes.m (λ p. p ≤ 7)
 

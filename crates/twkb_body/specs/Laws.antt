@@ -22,12 +22,12 @@ OneDue = (p : List ℕ) (a b : Field) → IsBegun 1 p a → IsBegun 1 p b → a 
 abbrev pub NoneDue : Type 0
 NoneDue = (p : List ℕ) (g : Geometry) (due : Field) → Blob g p 1 → IsBegun 1 p due → ⊥
 
--- Viable bytes that go on after a begun prefix go on by one field of the kind that is due, and are viable up to its end.
+-- If viable bytes go on after a begun prefix, one field of the kind due comes next, and they are viable up to its end.
 abbrev pub GoesOn : Type 0
 GoesOn = (p rest : List ℕ) (due : Field) → IsBegun 1 p due → IsViable (p ++ rest) → rest ≢ []
     → (front : List ℕ) × (behind : List ℕ) × (rest ≡ front ++ behind) × IsField due front × IsViable (p ++ front)
 
--- what ends right after the seventeenth id of a list is begun
+-- bytes that end right after the seventeenth id of a list are a begun blob
 abbrev pub LongListsAreBegun : Type 0
 LongListsAreBegun = (p : List ℕ) → EndsInIds 17 1 p → (due : Field) × IsBegun 1 p due
 
@@ -49,7 +49,7 @@ abbrev pub RisingClaims : Type 0
 RisingClaims = (g : Geometry) (bytes : List ℕ) (start : ℕ) → Blob g bytes 1
     → AllPairs (λ c d. offset_of c ≤ offset_of d) (claims g start)
 
--- tight checking takes all claims for true exactly of a certified geometry that has no loose box
+-- tight checking takes all claims of a geometry for true exactly if it is certified and has no loose box
 abbrev pub TightClaimsAreBoth : Type 0
 TightClaimsAreBoth = (g : Geometry) (start : ℕ) → All IsTightlyTrue (claims g start)
     ↔ (IsCertified g × HasTightBoxes g)
@@ -58,7 +58,7 @@ TightClaimsAreBoth = (g : Geometry) (start : ℕ) → All IsTightlyTrue (claims 
 abbrev pub ExtentsJoin : Type 0
 ExtentsJoin = (vs ws : List Vertex) → reach_of (vs ++ ws) ≡ both (reach_of vs) (reach_of ws)
 
--- a box holds the reach of vertices exactly where it holds each of them
+-- a box holds the reach of vertices exactly if it holds each of them
 abbrev pub ExtentsStandForAll : Type 0
 ExtentsStandForAll = (vs : List Vertex) (box : Bounds) → IsReachWithin (reach_of vs) box ↔ All (Holds box) vs
 
@@ -67,7 +67,7 @@ abbrev pub WalksWithin : {S : Type 0} → (S → Vertex → S) → (S → Bounds
 WalksWithin {S} step skips =
     (g : Geometry) (bytes : List ℕ) (s : S) → Blob g bytes 1 → walk g S step skips s ≤ length bytes
 
--- where it skips no box, a walk reads all of the blob
+-- if it skips no box, a walk reads all of the blob
 abbrev pub WalksThrough : {S : Type 0} → (S → Vertex → S) → (S → Bounds → Bool) → Type 0
 WalksThrough {S} step skips = ((s : S) (box : Bounds) → skips s box ≡ false)
     → (g : Geometry) (bytes : List ℕ) (s : S) → Blob g bytes 1 → walk g S step skips s ≡ length bytes

@@ -5,10 +5,10 @@ ghost use Rattle.twkb_head.specs.Shared.Reader.{number_at, signed_at};
 use twkb_head::{Malformed, malformed};
 use twkb_num::Cursor;
 
-/// Reads the unsigned number at the place, or answers where and why it is malformed.
+/// Reads the unsigned number at the place, or returns where and why it is malformed.
 ///
-/// On `Ok` the cursor is after the number. On `Err` the place is unmoved, which is the offset of the refusal. Its reason is
-/// `Cut` or `Varint`, and the bytes looked at are counted.
+/// On `Ok` the cursor is after the number. On `Err` the place is unchanged, and is the offset of the refusal. Its reason is `Cut`
+/// or `Varint`, and the bytes looked at are counted.
 #[inline(always)]
 pub fn take_number(cursor: &mut Cursor) -> Result<u64, Malformed>
     ensures { number_at cursor.old ≡ (result, cursor.new) }

@@ -15,7 +15,7 @@ use crate::visit::Visit;
 use twkb_head::{Begun, Fields, begin_head, take_rest};
 use twkb_num::Cursor;
 
-/// Shows the vertices of the certified blob at the place to a visitor, as [`skim`](crate::skim) does, and answers its header.
+/// Shows the vertices of the certified blob at the place to a visitor, as [`skim`](crate::skim) does, and returns its header.
 #[inline(always)]
 pub fn read_and_skim<V: Visit>(cursor: &mut Cursor, visitor: &mut V) -> Fields
     requires { (g : Geometry) × StandsAt g 1 cursor.old.bytes cursor.old.place }
@@ -35,10 +35,10 @@ pub fn read_and_skim<V: Visit>(cursor: &mut Cursor, visitor: &mut V) -> Fields
     raw
 }
 
-/// Moves past the certified blob at the place, and answers its header.
+/// Moves past the certified blob at the place, and returns its header.
 ///
-/// Of a blob with a size it reads the header, once, and nothing else. Any other is passed by the ends of its numbers, and its
-/// members by their sizes where they have boxes too.
+/// Of a blob with a size it reads the header, once, and nothing else. In any other blob it passes numbers without decoding them,
+/// and hops over members that have a size and a box.
 #[inline(always)]
 pub fn read_and_pass(cursor: &mut Cursor) -> Fields
     requires { (g : Geometry) × StandsAt g 1 cursor.old.bytes cursor.old.place }

@@ -24,7 +24,7 @@ pub trait Points {
         requires precisions { HasPrecisions head.now }
         ensures { state self.new ≡ step (of_head head.now) (state self.old) point.now };
 
-    /// Reads some of the points at the place, `most` of them or fewer, from words of eight bytes. Answers how many it read, which
+    /// Reads some of the points at the place, `most` of them or fewer, from words of eight bytes. Returns how many it read, which
     /// may be none.
     fn take_run(
         &mut self,

@@ -11,7 +11,7 @@ use twkb_num::Cursor;
 
 /// What the ids of one list are held in while they are judged.
 pub trait IdRoom {
-    /// Reads `count` ids, and answers whether they are distinct.
+    /// Reads `count` ids, and returns whether they are distinct.
     fn take_ids(&mut self, cursor: &mut Cursor, count: u64) -> Result<bool, Stopped>
         ensures { ReadsIds count cursor.old result cursor.new };
 }

@@ -21,7 +21,7 @@ use crate::visit::Visit;
 use twkb_head::{Head, Kind};
 use twkb_num::Cursor;
 
-/// Shows `count` points, or fewer where the visitor is settled before. It answers how many it showed.
+/// Shows `count` points, or fewer where the visitor is settled before. It returns how many it showed.
 #[inline(always)]
 fn show_some<V: Visit>(
     cursor: &mut Cursor,

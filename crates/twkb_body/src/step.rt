@@ -14,7 +14,7 @@ use crate::visit::Visit;
 use twkb_head::{Axes, Begun, Fields, Kind, RawBox, RawRange, begin_head, take_rest};
 use twkb_num::Cursor;
 
-/// Reads a header and then the points after it, or the list of members up to the first, or jumps over all of them. It answers
+/// Reads a header and then the points after it, or the list of members up to the first, or jumps over all of them. It returns
 /// how many members follow.
 #[inline(always)]
 pub fn enter<V: Visit>(cursor: &mut Cursor, visitor: &mut V) -> u64

@@ -33,7 +33,7 @@ use twkb_head::{
 };
 use twkb_num::Cursor;
 
-/// Reads the blob at the place, and answers how many vertices it has and where it ends. A doubt says that it isn't certified,
+/// Reads the blob at the place, and returns how many vertices it has and where it ends. A doubt says that it isn't certified,
 /// or that a list of ids lacks memory.
 // Where a point ends is known by its size, so that the next blob needn't wait for the ends of its numbers.
 #[inline(always)]

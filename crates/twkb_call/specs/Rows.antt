@@ -1,4 +1,4 @@
--- Rows in a form that crosses to other languages: in numbers and flags alone.
+-- Rows in a form that can be passed to other languages: only numbers and flags.
 use Rattle.twkb_head.specs.Header.{code_of}
 use Rattle.twkb_layer.specs.declared.row.Row as layer
 use Rattle.twkb_call.specs.declared.rows.Row.{Row}

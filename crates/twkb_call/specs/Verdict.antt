@@ -13,7 +13,7 @@ yes blobs vertices = record { answer = 0; kind = 0; blobs = blobs; vertices = ve
 abbrev pub no : (blob offset kind : ℕ) → Verdict
 no blob offset kind = record { answer = 1; kind = kind; blobs = 0; vertices = 0; blob = blob; offset = offset }
 
--- the verdict if a list of ids wants more memory than there is
+-- the verdict if a list of ids needs more memory than there is
 abbrev pub no_memory : Verdict
 no_memory = record { answer = 2; kind = 0; blobs = 0; vertices = 0; blob = 0; offset = 0 }
 

@@ -1,4 +1,4 @@
--- Vertices in a form that crosses to other languages.
+-- Vertices in a form that can be passed to other languages.
 use Rattle.std.specs.Prelude.{ℤ, ◌^◌, pos, unsigned_abs}
 use Rattle.std.specs.Int.{int_div_euclid, int_rem_euclid}
 use Rattle.twkb_head.specs.declared.boxes.Vertex.{Vertex}

@@ -1,4 +1,4 @@
--- Windows in a form that crosses to other languages.
+-- Windows in a form that can be passed to other languages.
 use Rattle.std.specs.Prelude.{ℤ, ◌+ℤ◌, ◌*ℤ◌, ◌^◌, pos, if◌then◌else◌, Some, None}
 use Rattle.twkb_head.specs.declared.boxes.Span.{Span}
 use Rattle.twkb_head.specs.declared.boxes.Bounds.{Bounds}

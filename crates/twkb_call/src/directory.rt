@@ -16,9 +16,9 @@ const SIZE: usize = std::mem::size_of::<Slot>();
 
 const _: () = prove!(SIZE == 40);
 
-/// Puts a directory of the layer into the room, and answers how many slots it has: at most two for each blob. It goes in whole
-/// or not at all; two places for each blob always suffice. If it doesn't fit, the answer is how many places are wanted, which is
-/// more than the room has.
+/// Writes a directory of the layer to `room`, and returns how many slots it has: at most two for each blob. It is written whole or
+/// not at all; two places for each blob always suffice. If it doesn't fit, the result is how many places are needed, which is more
+/// than `room` has.
 pub fn build_directory(layer: &Layer, room: &mut [Slot]) -> usize
     requires { IsCounted layer.now.bytes.now layer.now.blobs layer.now.vertices }
     ensures directory { result ≤ length room.old

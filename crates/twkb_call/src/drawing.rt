@@ -1,4 +1,4 @@
-//! The vertices of layers, for those that draw them.
+//! The vertices of layers, for drawing them.
 ghost use Rattle.std.specs.Prelude.{◌≡◌, map};
 ghost use Rattle.twkb_layer.specs.Hits.{filled};
 ghost use Rattle.twkb_layer.specs.Layer.{IsCounted, OfLayer, vertex_count};
@@ -74,7 +74,7 @@ impl<'a> Visit for Pen<'a> {
     }
 }
 
-/// Puts X and Y of each vertex into the room, in reading order, as many as fit, and answers how many vertices there are.
+/// Writes X and Y of each vertex to `room`, in reading order, as many as fit, and returns how many vertices there are.
 pub fn draw(layer: &Layer, room: &mut [Point]) -> usize
     requires { IsCounted layer.now.bytes.now layer.now.blobs layer.now.vertices }
     ensures answer { OfLayer layer.now.bytes.now (λ trees. result ≡ vertex_count trees) }

@@ -6,7 +6,7 @@ use twkb_layer::Certified;
 
 /// A certified layer in the caller's storage: its bytes, which it borrows, and the two numbers of their verdict.
 ///
-/// The caller guarantees that the verdict was for these bytes and that nobody has written them since.
+/// The caller guarantees that the verdict was for these bytes and that nobody has written to them since.
 #[repr(C)]
 #[derive(Clone, Copy)]
 pub struct Layer<'a> {

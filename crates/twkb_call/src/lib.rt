@@ -1,5 +1,5 @@
-//! The library in a form that other languages can call: bytes as slices, what is known of a layer as numbers, and memory that
-//! the caller lends.
+//! The library in a form that other languages can call: bytes as slices, a certified layer as its bytes and two numbers, and
+//! results in memory that the caller lends.
 //!
 //! `twkb_c` exports these functions with the allocator of the C library, and `twkb_web` without one.
 #![tactic(auto)]

@@ -67,7 +67,7 @@ fn code_of(kind: Kind) -> u8
     }
 }
 
-/// Puts a row for each blob into the room, in file order, as many as fit, and answers how many blobs there are.
+/// Writes a row for each blob to `room`, in file order, as many as fit, and returns how many blobs there are.
 pub fn list(layer: &Layer, room: &mut [Row]) -> usize
     requires { IsCounted layer.now.bytes.now layer.now.blobs layer.now.vertices }
     ensures answer { OfLayer layer.now.bytes.now (λ trees. result ≡ length trees) }

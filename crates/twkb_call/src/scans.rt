@@ -9,7 +9,7 @@ use crate::layer::Layer;
 use crate::window::Window;
 use twkb_layer::Hit;
 
-/// The answer of a scan.
+/// The result of a scan.
 #[repr(C)]
 #[derive(Clone, Copy, Debug, PartialEq, Eq)]
 pub struct Scanned {
@@ -23,7 +23,7 @@ const SIZES: (usize, usize) = (std::mem::size_of::<Scanned>(), std::mem::size_of
 
 const _: () = prove!(SIZES.0 == 16 && SIZES.1 == 16);
 
-/// Finds the blobs that have a vertex inside the window, and puts them into the room in file order, as many as fit.
+/// Finds the blobs that have a vertex inside the window, and writes them to `room` in file order, as many as fit.
 pub fn scan(layer: &Layer, window: &Window, room: &mut [Hit]) -> Scanned
     requires { IsCounted layer.now.bytes.now layer.now.blobs layer.now.vertices }
     ensures hits { OfLayer layer.now.bytes.now (λ trees. result.hits ≡ length (hits trees (ranges_of window.now))) }

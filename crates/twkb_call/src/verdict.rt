@@ -11,7 +11,7 @@ ghost use Rattle.twkb_call.specs.Devices.Verdict.{verdict_on};
 use std::alloc::Allocator;
 use twkb_layer::{Certified, Cursor, Refusal, certify_in, certify_tight_in};
 
-/// The verdict on bytes. Numbers that don't belong to the answer are 0.
+/// The verdict on bytes. Fields that the answer doesn't use are 0.
 #[repr(C)]
 #[derive(Clone, Copy, Debug, PartialEq, Eq)]
 pub struct Verdict {
@@ -59,8 +59,8 @@ pub fn certify_tight<A: Allocator>(alloc: &A, bytes: &[u8]) -> Verdict
     }
 }
 
-/// Certifies the bytes as a layer with no memory but room for the ids of a list, which it overwrites. The answer may be out of
-/// memory if a list has more ids than the room has places, and more than sixteen.
+/// Certifies the bytes as a layer with no memory but a buffer for the ids of a list, which it overwrites. The verdict may be "out
+/// of memory" if a list has more ids than the buffer has places, and more than sixteen.
 pub fn certify_lent(bytes: &[u8], ids: &mut [i64]) -> Verdict
     ensures says { Says IsTrueClaim result bytes.now }
     ensures complete { (trees : List Geometry) → IsCertifiedLayer trees bytes.now
@@ -72,7 +72,7 @@ pub fn certify_lent(bytes: &[u8], ids: &mut [i64]) -> Verdict
     }
 }
 
-/// Certifies the bytes as a layer without a loose box, with lent room as in [`certify_lent`].
+/// Certifies the bytes as a layer without a loose box, with a lent buffer as in [`certify_lent`].
 pub fn certify_tight_lent(bytes: &[u8], ids: &mut [i64]) -> Verdict
     ensures says { Says IsTightlyTrue result bytes.now }
     ensures tight { result.answer ≡ 0 → (trees : List Geometry) × IsTightLayer trees bytes.now }

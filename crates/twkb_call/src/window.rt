@@ -12,11 +12,11 @@ use twkb_layer::{BadWindow, Span};
 #[derive(Clone, Copy, Debug, PartialEq, Eq)]
 pub struct Units {
     pub low: u64,
-    /// It weighs 2^64.
+    /// The high word, which counts 2^64 each.
     pub high: i64,
 }
 
-/// Both ends are in it.
+/// A range. Both ends belong to it.
 #[repr(C)]
 #[derive(Clone, Copy, Debug, PartialEq, Eq)]
 pub struct Range {
@@ -117,8 +117,8 @@ impl Window {
     }
 }
 
-/// Parses a window of the form `x=A..B,y=C..D[,z=E..F][,m=G..H]`, exactly. The answer is 0, or 1 if the text doesn't have
-/// this form, or 2 if a lower bound is above its upper bound. If it isn't 0, the window stays as it was.
+/// Parses a window of the form `x=A..B,y=C..D[,z=E..F][,m=G..H]`, exactly. The result is 0, or 1 if the text doesn't have this
+/// form, or 2 if a lower bound is above its upper bound. If it isn't 0, the window stays as it was.
 pub fn parse_window(text: &[u8], window: &mut Window) -> u32
     ensures answers { result ≤ 2 }
     ensures window { result ≡ 0

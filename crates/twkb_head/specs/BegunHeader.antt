@@ -11,8 +11,8 @@ abbrev pub is_collection : Kind → Bool
 is_collection GeometryCollection = true
 is_collection _ = false
 
--- A kind is allowed at a depth, where no geometry may be deeper than the limit: a blob has depth 1, a member of a
--- collection one more than the collection, so a collection has to leave a depth for its members.
+-- A kind is allowed at a depth, if no geometry may be deeper than the limit. A blob has depth 1, a member of a
+-- collection one more than the collection. So a collection has to be less deep than the limit.
 abbrev pub IsAllowedUnder : ℕ → Kind → ℕ → Type 0
 IsAllowedUnder limit kind depth = (1 ≤ depth) × (depth + (if is_collection kind then 1 else 0) ≤ limit)
 

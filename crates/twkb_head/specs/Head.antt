@@ -1,4 +1,4 @@
--- What a header in code says of the header in the bytes.
+-- Headers as the code has them, with boxes in units and with places.
 use Rattle.std.specs.Prelude.{◌≡◌, ℕ, ◌+◌, if◌then◌else◌, is_some, List, ◌++◌, length, slice_get, ℤ, pos, Option, unwrap_or, option_map}
 use Rattle.twkb_num.specs.Units.{units_of}
 use Rattle.twkb_head.specs.declared.boxes.Span.{Span}

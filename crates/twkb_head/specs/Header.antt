@@ -41,7 +41,7 @@ axes_with z m = 2 + (if is_some z then 1 else 0) + (if is_some m then 1 else 0)
 abbrev pub axes_of : Header → ℕ
 axes_of h = axes_with h.z h.m
 
--- whether a bit of a byte is set, where the bit is named by its value, as 1, 2, 4, 8
+-- whether a bit of a byte is set; the bit is named by its value, such as 1, 2, 4, 8
 abbrev pub has_bit : ℕ → ℕ → Bool
 has_bit byte value = byte / value % 2 == 1
 
@@ -49,11 +49,11 @@ has_bit byte value = byte / value % 2 == 1
 abbrev pub IsByte : ℕ → List ℕ → Type 0
 IsByte b bytes = bytes ≡ b ∷ []
 
--- the precision of Z that the extended dimensions byte states, where there is one and it has a Z
+-- the precision of Z that the extended dimensions byte states, if there is one and it has a Z
 abbrev pub z_in : Option ℕ → Option ℕ
 z_in extended = option_and_then (λ e. if has_bit e 1 then Some (e / 4 % 8) else None) extended
 
--- the precision of M that the extended dimensions byte states, where there is one and it has an M
+-- the precision of M that the extended dimensions byte states, if there is one and it has an M
 abbrev pub m_in : Option ℕ → Option ℕ
 m_in extended = option_and_then (λ e. if has_bit e 2 then Some (e / 32) else None) extended
 

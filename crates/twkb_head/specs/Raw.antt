@@ -23,7 +23,7 @@ ends_of range = (range.minimum, range.minimum +ℤ range.extent)
 abbrev pub ranges_in : RawBox → List (ℤ × ℤ)
 ranges_in box = ends_of box.x ∷ ends_of box.y ∷ ends_of box.third ∷ ends_of box.fourth ∷ []
 
--- a raw range whose minimum and width are at most 2^61 from zero, so that its maximum and numbers beyond it fit 64 bits
+-- a raw range whose minimum and width are at most 2^61 from zero, so that sums of them fit 64 bits
 pub record IsNear (range : RawRange) : Type 0 where
   pub low : neg_ℤ (pos (2 ^ 61)) ≤ℤ range.minimum
   pub high : range.minimum ≤ℤ pos (2 ^ 61)
@@ -68,8 +68,8 @@ head_said f = record {
 abbrev pub boxless : Fields → Head
 boxless f = record (head_said f) { bounds = None }
 
--- A header that is allowed at the depth was begun: its first two bytes were read. Of the metadata byte the five lowest
--- bits count.
+-- The first two bytes of a header that is allowed at the depth were read. Only the five lowest bits of the metadata byte
+-- matter.
 pub record BeginsHead (begun : Begun) (depth : ℕ) (before now : Reading) : Type 0 where
   pub type_byte : ℕ
   pub metadata : ℕ
@@ -81,7 +81,7 @@ pub record BeginsHead (begun : Begun) (depth : ℕ) (before now : Reading) : Typ
   pub announced : metadata % 32 ≡ begun.metadata % 32
   pub start : begun.start ≡ before.place
 
--- From its start the header was read; or a field can't follow, and the cursor is at that field, with the bytes looked at counted.
+-- The header was read from its start; or a field can't follow, and the cursor is at that field, with the bytes looked at counted.
 abbrev pub ReadsHead : ℕ → Reading → Reading → Result Fields Malformed → Type 0
 ReadsHead depth before new (Ok raw) = IsHeadAt (head_said raw) depth before.place (passed before new) × IsMoved before new
 ReadsHead depth before new (Err m) = IsRefusedHead m depth before.place (rest before)

@@ -1,6 +1,6 @@
 //! The fields of a header, each read by itself.
 //!
-//! Each reader answers as the reader of the same name in `specs/` does (`byte_at`, `number_at`, ..): with the value, past
+//! Each reader returns what the reader of this name in `specs/` does (`byte_at`, `number_at`, ..): with the value, past
 //! the field, or with the field's place and what is wrong there.
 ghost use Rattle.std.specs.Prelude.{◌≡◌, ◌≤◌, ◌-◌, IfOk};
 ghost use Rattle.twkb_num.specs.Units.{IsPrecision};
@@ -47,10 +47,10 @@ pub fn take_byte(cursor: &mut Cursor) -> Result<u8, Malformed>
     }
 }
 
-/// Reads the unsigned number at the place, or answers where and why it is malformed.
+/// Reads the unsigned number at the place, or returns where and why it is malformed.
 ///
-/// On `Ok` the cursor is after the number. On `Err` the place is unmoved, which is the offset of the refusal. Its reason is
-/// `Cut` or `Varint`, and the bytes looked at are counted.
+/// On `Ok` the cursor is after the number. On `Err` the place is unchanged, and is the offset of the refusal. Its reason is `Cut`
+/// or `Varint`, and the bytes looked at are counted.
 #[inline(always)]
 pub fn take_number(cursor: &mut Cursor) -> Result<u64, Malformed>
     ensures { number_at cursor.old ≡ (result, cursor.new) }
@@ -72,7 +72,7 @@ pub fn take_signed(cursor: &mut Cursor) -> Result<i64, Malformed>
     }
 }
 
-/// The refusal that a fault of the number at the place is.
+/// Makes the refusal for this fault of the number at the place.
 #[cold]
 pub fn malformed(cursor: &Cursor, fault: NumFault) -> Malformed
     ensures offset { result.offset ≡ cursor.now.place }

@@ -45,7 +45,7 @@ pub struct Head {
     pub bounds: Option<BoxField>,
     /// Whether the body has ids.
     pub ids: bool,
-    /// Whether the geometry is empty and has no body. A size and a box that its header announces are there all the same (this
+    /// Whether the geometry is empty and has no body. Even then a size and a box that its header announces are there (this
     /// project's choice).
     pub empty: bool,
     /// The place of the header's first byte.

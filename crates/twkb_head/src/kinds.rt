@@ -59,8 +59,8 @@ impl Kind {
     }
 }
 
-/// The greatest depth of a geometry. A blob has depth 1, and a member of a collection one more than the collection. A
-/// collection may be at most one level less deep (this project's choice).
+/// The greatest depth of a geometry. A blob has depth 1, and a member of a collection one more than the collection. The greatest
+/// depth of a collection is one less (this project's choice).
 pub const DEEPEST: u8 = 64;
 
 /// The kind that a type byte names, if it is allowed at `depth`.

@@ -9,13 +9,14 @@ pub fn deepest_level_is_the_limit()
     ensures { DEEPEST ≡ deepest }
 {}
 
-/// A limit of depth may be raised: what is allowed under it stays allowed, and a header that is begun stays begun.
+/// The limit of depth may be raised: what is allowed under a limit is allowed under any greater one, and a begun header is begun
+/// under it too.
 pub fn limits_may_be_raised()
     ensures allowed { AllowedUnderGreater }
     ensures begun { BegunUnderGreater }
 {}
 
-/// Given bytes begin with at most one header, and it has one end.
+/// Given bytes begin with at most one header, which has one end.
 pub fn headers_are_unique()
     ensures { OneHeader }
 {}

@@ -9,10 +9,10 @@
 //! - On `Err` a [`Malformed`] names the first field that can't follow the bytes before it, and [`Why`]. The cursor is back at its
 //!   place, and only the count has changed.
 //!
-//! [`read_raw`] reads a header with its box in raw integers ([`Fields`]). [`begin_head`] and [`take_rest`] read one in two steps:
-//! the first two bytes, and the rest. Audits and skims branch between the two.
+//! [`read_raw`] reads a header with its box in raw integers ([`Fields`]), which are the numbers in the file. [`begin_head`] and
+//! [`take_rest`] read a header in two steps: the first two bytes, and the rest. Audits and skims branch between the two.
 //!
-//! [`malformed`] makes a refusal of a fault of a number, also for numbers of the body.
+//! [`malformed`] makes a refusal out of a fault of a number, also for numbers of the body.
 //!
 //! A header has at most 93 bytes: three single ones, a size of ten, and a box of eight numbers of ten bytes each.
 //!
@@ -20,10 +20,10 @@
 //!     let head = read_head(&mut cursor, 1)?;
 //!     // A line with a size and a box: head.size is 9, head.bounds X and Y from 1 to 5 in units, head.stop is 7.
 //!
-//! The definitions: `specs/Header.antt` says which bytes are a header (`IsHeader`), `specs/BegunHeader.antt` how a header that is
-//! begun may go on, `specs/Head.antt` and `specs/Refusal.antt` what the answers of `read_head` mean. [`laws`] has what holds of
-//! these alone. Contracts of private functions also name `specs/Shared/`, here and in the crates above, and `specs/Devices/`, here
-//! alone: reading as a plan of fields (`Plan`, `HeadPlan`), and as the code does it, one field after another (`Reader`,
+//! The definitions: `specs/Header.antt` says which bytes are a header (`IsHeader`), `specs/BegunHeader.antt` how a begun header
+//! may go on, `specs/Head.antt` and `specs/Refusal.antt` what the results of `read_head` mean. [`laws`] has laws about these
+//! definitions alone. Contracts of private functions also name `specs/Shared/`, here and in the crates above, and
+//! `specs/Devices/`, only here: reading as a plan of fields (`Plan`, `HeadPlan`), and step by step from a cursor (`Reader`,
 //! `HeadReader`).
 #![tactic(auto)]
 

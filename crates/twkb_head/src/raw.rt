@@ -1,4 +1,4 @@
-//! Boxes and headers in raw numbers, which compare without units if their precision is the same. `ranges` and `read` read them.
+//! Boxes and headers in raw numbers. Numbers of one precision compare without units. `ranges` and `read` read them.
 ghost use Rattle.std.specs.Prelude.{◌≡◌, ◌≤◌, ◌^◌, ◌≤ℤ◌, pos, neg_ℤ, None, true, option_map, IfSome};
 ghost use Rattle.twkb_num.specs.Units.{IsPrecision};
 ghost use Rattle.twkb_head.specs.Raw.{ends_of, ranges_in, flat_box, raw_bounds, head_said, boxless, IsNear, HasNearRanges};
@@ -30,7 +30,7 @@ pub struct RawBox {
     pub fourth: RawRange,
 }
 
-/// The precisions of a header's axes: X and Y, and Z and M where they are there.
+/// The precisions of a header's axes: X and Y, and Z and M if it has them.
 #[derive(Clone, Copy, Debug, PartialEq, Eq)]
 pub struct Axes {
     pub xy: i8,
@@ -45,7 +45,7 @@ pub struct Fields {
     pub axes: Axes,
     pub size: Option<SizeField>,
     pub bounds: Option<RawBox>,
-    /// The place of the first byte of the box, where there is one.
+    /// The place of the first byte of the box, if there is one.
     pub box_place: usize,
     pub ids: bool,
     pub empty: bool,
@@ -54,7 +54,7 @@ pub struct Fields {
 }
 
 impl RawRange {
-    /// `true` says that both numbers are at most 2^61 from zero, so that sums of two have 64 bits.
+    /// If `true`, both numbers are at most 2^61 from zero, so their sum fits 64 bits. `false` says nothing.
     #[inline(always)]
     pub fn is_near(&self) -> bool
         ensures { result ≡ true → IsNear self.now }
@@ -119,7 +119,7 @@ impl RawBox {
         }
     }
 
-    /// `true` says that all its numbers are at most 2^61 from zero, so that sums of two have 64 bits.
+    /// If `true`, all its numbers are at most 2^61 from zero, so sums of two fit 64 bits. `false` says nothing.
     #[inline(always)]
     pub fn is_near(&self) -> bool
         ensures { result ≡ true → HasNearRanges self.now }
@@ -165,7 +165,7 @@ impl Axes {
         }
     }
 
-    /// `true` says that there is neither Z nor M.
+    /// If `true`, there is neither Z nor M. `false` says nothing.
     #[inline(always)]
     pub fn is_flat(&self) -> bool
         ensures z { result ≡ true → self.now.z ≡ None }
@@ -185,7 +185,7 @@ impl Axes {
 }
 
 impl Fields {
-    /// `true` says that it is a point of X and Y alone.
+    /// If `true`, it is the header of a point in X and Y. `false` says nothing.
     #[inline(always)]
     pub fn is_flat_point(&self) -> bool
         ensures kind { result ≡ true → self.now.kind ≡ Point }

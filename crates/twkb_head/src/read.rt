@@ -51,7 +51,7 @@ pub fn read_head(cursor: &mut Cursor, depth: u8) -> Result<Head, Malformed>
     Ok(raw.whole())
 }
 
-/// The header at the place as [`read_head`] reads it, with its box in raw numbers.
+/// Reads the header at the place as [`read_head`] does, with its box in raw numbers.
 #[inline(always)]
 pub fn read_raw(cursor: &mut Cursor, depth: u8) -> Result<Fields, Malformed>
     requires shallowest { 1 ≤ depth }
@@ -120,8 +120,8 @@ impl Begun {
         has_bit(self.metadata, EMPTY)
     }
 
-    /// This header under another metadata byte, which announces the same fields: the bits from 32 on announce none. Where the
-    /// byte is a constant, the compiler knows which fields there are.
+    /// This header with another metadata byte that announces these fields too; the bits from 32 on announce none. If the byte is a
+    /// constant, the compiler knows which fields there are.
     #[inline(always)]
     pub fn announcing(self, metadata: u8) -> Begun
         requires { self.metadata % 32 ≡ metadata }
@@ -169,8 +169,8 @@ fn take_begun(cursor: &mut Cursor, depth: u8) -> Result<Begun, Malformed>
     })
 }
 
-/// Reads the first two bytes of the header at the place, of a geometry at `depth`. `None` where no such header stands there. Then
-/// the cursor is after the bytes that were read, two of them or none.
+/// Reads the first two bytes of the header at the place, of a geometry at `depth`. Returns `None` if no such header begins there.
+/// Then the cursor is after the bytes that were read, two of them or none.
 #[inline(always)]
 pub fn begin_head(cursor: &mut Cursor, depth: u8) -> Option<Begun>
     requires shallowest { 1 ≤ depth }

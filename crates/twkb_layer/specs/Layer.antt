@@ -10,8 +10,8 @@ use Rattle.twkb_body.specs.Claims.{IsCertified}
 abbrev pub size_of : Geometry → ℕ
 size_of tree = (lengths_of tree).whole
 
--- The bytes are these blobs, one after another, under a limit of depth. Each is cut off by its own length, so that no
--- cut has to be named: `Laws` says that any cuts that give blobs are these.
+-- The bytes are these blobs, one after another, under a limit of depth. Each ends by the length in its tree, so no ends
+-- have to be named: `Laws` says that the bytes can be cut into blobs in no other way.
 abbrev pub IsLayerUnder : ℕ → List Geometry → List ℕ → Type 0
 IsLayerUnder limit [] bytes = bytes ≡ []
 IsLayerUnder limit (tree ∷ trees) bytes =
@@ -30,7 +30,7 @@ pub record IsCertifiedLayerUnder (limit : ℕ) (trees : List Geometry) (bytes : 
 abbrev pub IsCertifiedLayer : List Geometry → List ℕ → Type 0
 IsCertifiedLayer = IsCertifiedLayerUnder deepest
 
--- what holds of the trees of a certified layer with these bytes
+-- P holds of the trees, if the bytes are a certified layer
 abbrev pub OfLayer : List ℕ → (List Geometry → Type 0) → Type 0
 OfLayer bytes P = (trees : List Geometry) → IsCertifiedLayer trees bytes → P trees
 
@@ -45,7 +45,7 @@ pub record IsCounted (bytes : List ℕ) (blobs vertices : ℕ) : Type 0 where
   pub blobs_are : blobs ≡ length trees
   pub vertices_are : vertices ≡ vertex_count trees
 
--- in file order, what is said of each blob by its number, its offset and its tree, from this number and offset on
+-- in file order, what `says` gives of each blob's number, offset and tree; the first has this number and offset
 abbrev pub told_from : {A : Type 0} → (ℕ → ℕ → Geometry → A) → ℕ → ℕ → List Geometry → List A
 told_from says blob offset [] = []
 told_from says blob offset (tree ∷ trees) =
@@ -55,7 +55,7 @@ told_from says blob offset (tree ∷ trees) =
 abbrev pub blob_by_blob : {A : Type 0} → (ℕ → ℕ → Geometry → A) → List Geometry → List A
 blob_by_blob says trees = told_from says 0 0 trees
 
--- a count grew by no more than this, or came to the greatest number and stays there
+-- a count grew by no more than this, or reached the greatest number and stays there
 pub record AddsAtMost (most old new : ℕ) : Type 0 where
   pub read : ℕ
   pub few : read ≤ most

@@ -18,7 +18,7 @@ number_of_why Kind = 3
 number_of_why Depth = 4
 number_of_why Range = 5
 
--- blobs of which the check takes all claims for true begin the bytes, and end at start, before the bytes do
+-- the bytes begin with blobs of which the check takes all claims for true; these end at start, before the bytes end
 pub record Begins (IsTrue : Claim → Type 0) (before : List Geometry) (start : ℕ) (bytes : List ℕ) : Type 0 where
   pub more : start < length bytes
   pub layer : IsLayer before (take start bytes)

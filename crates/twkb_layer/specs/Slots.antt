@@ -13,20 +13,20 @@ precision_of code = pos code -ℤ pos 8
 abbrev pub range_at : ℤ → ℤ × ℤ → Span
 range_at p numbers = span_at p (numbers.0, numbers.0 +ℤ numbers.1)
 
--- The range that a slot of a form keeps by a code of a precision and two numbers: its ends, in form 0, or a minimum and a
--- width. Form 2 has none, and in form 3 a code below 8 says that there is none.
+-- The range in a slot of this form, with this code of a precision and two numbers: its ends in form 0, otherwise a minimum
+-- and a width. Form 2 has no range, and in form 3 a code below 8 says that there is none.
 abbrev pub range_in : ℕ → ℕ → ℤ × ℤ → Option Span
 range_in form code numbers =
     if form == 0 then Some (span_at (precision_of code) numbers)
     else if (form == 1) || ((form == 3) && nat_lt 7 code) then Some (range_at (precision_of code) numbers)
     else None
 
--- what a slot says: of X and Y of a blob, or, beyond that, of Z and M of the next slot's
+-- what a slot says: X and Y of its blob's box; or, in form 3, Z and M of the box of the next slot's blob
 pub record Said : Type 0 where
   pub beyond : Bool
-  -- whether the slot before says more of its blob
+  -- whether the slot before has more of its blob's box
   pub deep : Bool
-  -- the offset of the blob, or what is added to the offset that the next slot says
+  -- the offset of the blob, or what is added to the offset in the next slot
   pub offset : ℕ
   pub first : Option Span
   pub second : Option Span
@@ -83,7 +83,7 @@ abbrev pub entries_from : Said → List Said → List Entry
 entries_from beyond [] = []
 entries_from beyond (slot ∷ slots) = cond slot.beyond (entries_from slot slots) (entry_with beyond slot ∷ entries_from beyond slots)
 
--- `entries_from` the first slot on, before which nothing was said
+-- `entries_from` the first slot on, which no slot precedes
 abbrev pub entries_of : List Said → List Entry
 entries_of slots = entries_from (unboxed 0) slots
 

@@ -1,4 +1,4 @@
--- What certifying in tight checking says besides.
+-- What certifying says in tight checking.
 use Rattle.std.specs.Prelude.{ℕ, List, All}
 use Rattle.twkb_body.specs.Geometry.{Geometry}
 use Rattle.twkb_body.specs.Tight.{HasTightBoxes}

@@ -1,4 +1,4 @@
--- Runs of varints: a count, and behind it that many groups of varints, with as many in each.
+-- Runs of varints: a count, and after it that many groups of varints, all groups of one length.
 use Rattle.std.specs.Prelude.{◌≡◌, ℕ, zero, suc, ◌+◌, ◌*◌}
 use Rattle.twkb_num.specs.Cursor.{Reading, passed, IsMoved}
 use Rattle.twkb_num.specs.Varint.{Spells, SpellsMany}
@@ -8,14 +8,14 @@ pub record PassesNumber (old new : Reading) (n : ℕ) : Type 0 where
   pub spelled : Spells (passed old new) n
   pub moved : IsMoved old new
 
--- one run was passed: a count of groups, and then the varints of the groups, `each` to a group
+-- one run was passed: a count of groups, and then the groups, with `each` varints in a group
 pub record PassesRun (each : ℕ) (old new : Reading) (groups : ℕ) : Type 0 where
   pub middle : Reading
   pub counted : PassesNumber old middle groups
   pub spelled : SpellsMany (passed middle new) (groups * each)
   pub moved : IsMoved middle new
 
--- this many runs were passed, one after another, with this many groups in all
+-- runs were passed, one after another: how many, and how many groups they have in all
 abbrev pub PassesRuns : ℕ → ℕ → Reading → Reading → ℕ → Type 0
 PassesRuns each zero old new groups = (new ≡ old) × (groups ≡ 0)
 PassesRuns each (suc runs) old new groups =

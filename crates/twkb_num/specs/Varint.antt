@@ -3,7 +3,7 @@ use Rattle.std.specs.Prelude.{◌≡◌, ℕ, ◌+◌, ◌-◌, ◌*◌, ◌/◌
 use Rattle.twkb_num.specs.declared.varint.NumFault.{NumFault}
 use Rattle.twkb_num.specs.declared.varint.NumFault.TheVariants.{Cut, Long}
 
--- the sum of each byte's low seven bits times 128 to the power of its place, where the first byte has place k
+-- the sum of each byte's low seven bits times 128 to the power of its place, if the first byte has place k
 abbrev pub sum_of_groups : ℕ → List ℕ → ℕ
 sum_of_groups k [] = 0
 sum_of_groups k (b ∷ bs) = (b % 128) * 128 ^ k + sum_of_groups (k + 1) bs
@@ -33,7 +33,7 @@ abbrev pub Faults : NumFault → List ℕ → Type 0
 Faults Cut bytes = IsCut bytes
 Faults Long bytes = IsLong bytes
 
--- how many of the bytes from the place on are looked at until a fault is seen, its own among them
+-- how many bytes are looked at to find this fault: of a number cut short all that are left, of a long one ten
 abbrev pub looked_at : NumFault → List ℕ → ℕ
 looked_at Cut bytes = length bytes
 looked_at Long bytes = 10

@@ -11,22 +11,24 @@ use crate::signed::unzigzag;
 use crate::varint::{NumFault, decode};
 use std::marker::Model;
 
-/// A place in bytes, and a count of the bytes read, which stays at `u64::MAX` once there.
+/// A position in bytes, and a count of the bytes read, which saturates at `u64::MAX`.
 ///
-/// Every byte that a caller learns of is counted: a call counts each byte that it gives away or passes. No call lowers the count,
-/// lends the bytes, or answers a second cursor. Only [`Cursor::go_to`] moves without counting, and it reads nothing.
+/// Every byte that a caller learns of is counted: a call counts each byte that it returns or passes. No call lowers the count,
+/// lends the bytes, or returns a second cursor. Only [`Cursor::go_to`] moves without counting, and it reads nothing.
 ///
-/// Numbers may be read or passed by words of eight bytes (as by [`Cursor::svarint_pair`], [`Cursor::pass_varint`],
-/// [`Cursor::pass_varints`]), or read into lanes from the next 32 bytes ([`Cursor::svarint_four`], [`Cursor::svarint_pairs`]).
-/// Then bytes after them are touched too, as a cache line is, and the count is of the bytes that the numbers take. `None` of such
-/// a call, or `is_read` being false, tells one bit of bytes that aren't counted: the numbers at the place are too long for it, or
-/// too near the end. [`Cursor::pass_varints`] tells this bit of the place where it stops, and
-/// [`Cursor::pass_short_varints`] of all the numbers that it was asked for, of which there are at most 65,536.
-/// [`Cursor::pass_short_runs`] and [`Cursor::pass_counted_runs`] tell it of all the runs that they were asked for, which have at
-/// most 65,536 numbers, each run with its count before it. There are at most 65,536 runs.
+/// Some calls read or pass numbers by words of eight bytes, such as [`Cursor::svarint_pair`], [`Cursor::pass_varint`] and
+/// [`Cursor::pass_varints`], or by vectors from the next 32 bytes, as [`Cursor::svarint_four`] and [`Cursor::svarint_eight`] do. They
+/// touch bytes after the numbers too, as reading a cache line does, but count only the bytes of the numbers. If such a call returns
+/// `None`, or vectors that weren't read, the caller learns one bit about bytes that aren't counted: the numbers at the place are
+/// too long for the call, or too near the end.
 ///
-/// A contract sees it as a `Reading`. Each call takes constant space. It also takes constant time, since a varint has at most
-/// ten bytes; only a call that passes many varints takes time for each byte that it looks at.
+/// - [`Cursor::pass_varints`] tells this bit of the place where it stops.
+/// - [`Cursor::pass_short_varints`] tells it of all the numbers that were requested, at most 65,536.
+/// - [`Cursor::pass_short_runs`] and [`Cursor::pass_counted_runs`] tell it of all the runs that were requested: at most 65,536
+///   numbers, in at most 65,536 runs, with a count before each.
+///
+/// Contracts see a cursor as a `Reading`. Each call takes constant space. Calls that pass many varints take time in proportion to
+/// the bytes that they look at. All others take constant time, since a varint has at most ten bytes.
 #[derive(Drop)]
 pub struct Cursor<'a> {
     bytes: &'a [u8],
@@ -80,7 +82,7 @@ impl<'a> Cursor<'a> {
         self.place
     }
 
-    /// Does nothing: a proof knows from here on that the place is within the bytes, and that each number fits its type.
+    /// Does nothing. After it a proof knows that the place is within the bytes, and that each number fits its type.
     #[inline(always)]
     pub fn place_is_within(&self)
         ensures { IsSound self.now }
@@ -96,7 +98,7 @@ impl<'a> Cursor<'a> {
         self.bytes.len()
     }
 
-    /// How many bytes were read so far, those that a fault looked at among them.
+    /// How many bytes were read so far, including those that were looked at to find a fault.
     #[inline]
     pub fn read_count(&self) -> u64
         ensures { result ≡ self.now.count }
@@ -116,7 +118,8 @@ impl<'a> Cursor<'a> {
         self.place = place;
     }
 
-    /// Goes on from its own place, which the caller knows from elsewhere. So the next read needn't wait for the one before.
+    /// Sets the place to `same`, which is the place already. The processor can then begin the next read before the last one has
+    /// told where it ends.
     #[inline(always)]
     pub fn go_on_from(&mut self, same: usize)
         requires { same ≡ self.old.place }
@@ -125,7 +128,7 @@ impl<'a> Cursor<'a> {
         self.place = same;
     }
 
-    /// The byte at the place, which it moves past. `None` is the end.
+    /// Reads the byte at the place. Returns `None` at the end.
     #[inline(always)]
     pub fn byte(&mut self) -> Option<u8>
         ensures some { IfSome result (λ byte. passed self.old self.new ≡ byte ∷ []) }
@@ -138,7 +141,7 @@ impl<'a> Cursor<'a> {
         Some(byte)
     }
 
-    /// The two bytes at the place, which it moves past. `None` where fewer are left, and the cursor is as it was.
+    /// Reads the two bytes at the place. If fewer are left, it returns `None`, and the cursor is as it was.
     #[inline(always)]
     pub fn two_bytes(&mut self) -> Option<(u8, u8)>
         ensures some { IfSome result (λ two. passed self.old self.new ≡ two.0 ∷ two.1 ∷ []) }
@@ -151,9 +154,9 @@ impl<'a> Cursor<'a> {
         Some((two[0], two[1]))
     }
 
-    /// The unsigned varint at the place, which it moves past (TWKB specification, "VarInt Encode").
+    /// Reads the unsigned varint at the place (TWKB specification, "VarInt Encode").
     ///
-    /// A spelling may be longer than it has to be. After a fault the place is unmoved, and the bytes looked at are counted.
+    /// A varint may be longer than it has to be. After a fault the place is unchanged, and the bytes looked at are counted.
     #[inline(always)]
     pub fn uvarint(&mut self) -> Result<u64, NumFault>
         ensures ok { IfOk result (λ n. Spells (passed self.old self.new) n) }
@@ -228,9 +231,9 @@ impl<'a> Cursor<'a> {
         self.counted_before = self.counted_before.saturating_add(many as u64);
     }
 
-    /// The signed varint at the place, which it moves past: an unsigned one, read by zigzag.
+    /// Reads the signed varint at the place: an unsigned one, decoded by zigzag (TWKB specification, "ZigZag Encode").
     ///
-    /// After a fault the place is unmoved, and the bytes looked at are counted.
+    /// After a fault the place is unchanged, and the bytes looked at are counted.
     #[inline(always)]
     pub fn svarint(&mut self) -> Result<i64, NumFault>
         ensures ok { IfOk result (λ z. IsSigned z (passed self.old self.new)) }
@@ -244,8 +247,8 @@ impl<'a> Cursor<'a> {
         Ok(unzigzag(self.uvarint()?))
     }
 
-    /// Past the varint at the place, without asking for its number. Its end is found in one word of eight bytes; where fewer
-    /// are left, or it takes more, `None`, and the cursor is as it was. `None` tells this one bit of bytes that aren't counted.
+    /// Moves past the varint at the place without decoding it, if it takes at most eight bytes and eight bytes are left. Otherwise
+    /// it returns `None`, and the cursor is as it was. `None` tells this one bit of bytes that aren't counted.
     #[inline(always)]
     pub fn pass_varint(&mut self) -> Option<()>
         ensures some { OnSome result ((n : ℕ) × Spells (passed self.old self.new) n) }
@@ -257,12 +260,12 @@ impl<'a> Cursor<'a> {
         Some(())
     }
 
-    /// Passes varints, `many` at most, without asking for their numbers, and answers how many it passed. Their ends are counted
-    /// in words of eight bytes. Where fewer bytes are left, or half a word has no end, it stops after the last varint that ends
-    /// before. So each varint that it passes takes at most seven bytes.
+    /// Moves past at most `many` varints without decoding them, and returns how many it passed. It finds their ends in words of
+    /// eight bytes. If fewer bytes are left, or no varint ends in half a word, it stops after the last varint that ends before. So
+    /// each varint that it passes takes at most seven bytes.
     ///
-    /// All bytes that it passes are counted. An answer less than `many` tells one bit of the next eleven bytes, which aren't
-    /// counted: four of them, one after another, end no varint, or fewer than eleven are left.
+    /// All bytes that it passes are counted. A result less than `many` tells one bit of the next eleven bytes, which aren't
+    /// counted: no varint ends in four consecutive ones of them, or fewer than eleven are left.
     #[inline(always)]
     pub fn pass_varints(&mut self, many: u64) -> u64
         ensures few { result ≤ many }
@@ -274,9 +277,8 @@ impl<'a> Cursor<'a> {
         run.many
     }
 
-    /// Passes so many varints, or none: if words of eight bytes don't tell all their ends, as [`Cursor::pass_varints`] finds
-    /// them, it answers `None`, and the cursor is as it was. `None` tells this one bit of bytes that aren't counted. Where fewer
-    /// bytes are left than varints are asked for, it looks at none.
+    /// Moves past `many` varints, or past none: if [`Cursor::pass_varints`] would pass fewer, it returns `None`, and the cursor is
+    /// as it was. `None` tells this one bit of bytes that aren't counted. If fewer than `many` bytes are left, it looks at none.
     #[inline(always)]
     pub fn pass_short_varints(&mut self, many: u64) -> Option<()>
         requires { many ≤ 2 ^ 16 }

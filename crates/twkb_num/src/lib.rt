@@ -1,17 +1,17 @@
-//! The numbers of TWKB, and the one way to its bytes.
+//! The numbers of TWKB, and the cursor that reads its bytes.
 //!
 //! A [`Cursor`] reads bytes in order and counts each byte that it reads. It lends no slice of them and can't be cloned, so every
 //! byte that a caller learns of is counted. It reads the varints of the format:
 //!
-//! - [`Cursor::uvarint`] and [`Cursor::svarint`] read the number at the cursor's place, or answer one of two faults
+//! - [`Cursor::uvarint`] and [`Cursor::svarint`] read the number at the cursor's place, or return one of two faults
 //!   ([`NumFault`]). They are the hot path: numbers of one and of two bytes take no loop.
-//! - [`Cursor::svarint_pair`] reads two signed numbers from one word of eight bytes, if both are short.
-//!   [`Cursor::pass_varint`] passes one number by its end in such a word and [`Cursor::pass_pair`] two. They answer `None` if a
-//!   word doesn't tell. [`Cursor::pass_varints`] passes many, and answers how many words told.
-//! - [`Cursor::svarint_four`] and [`Cursor::svarint_pairs`] read up to eight short signed numbers into the lanes of a vector, or
+//! - [`Cursor::svarint_pair`] reads two signed numbers from one word of eight bytes, if both are short. [`Cursor::pass_varint`]
+//!   moves past one number without decoding it, and [`Cursor::pass_pair`] past two, if they end in such a word. Otherwise these
+//!   calls return `None`. [`Cursor::pass_varints`] moves past many, and returns how many.
+//! - [`Cursor::svarint_four`] and [`Cursor::svarint_eight`] read four or eight short signed numbers into the lanes of a vector, or
 //!   none.
-//! - [`Cursor::pass_short_varints`] passes many varints or none, and [`Cursor::pass_short_runs`] and
-//!   [`Cursor::pass_counted_runs`] do so with counts among them, as a line and a polygon have.
+//! - [`Cursor::pass_short_varints`] moves past a given number of varints or past none. [`Cursor::pass_short_runs`] and
+//!   [`Cursor::pass_counted_runs`] do this with counts among the numbers, as a line and a polygon have them.
 //! - [`zigzag`] and [`unzigzag`] map signed numbers to unsigned ones and back.
 //! - [`units`] scales a coordinate of any precision to units of 10^-7, in which boxes and windows are compared.
 //!

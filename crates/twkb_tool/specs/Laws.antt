@@ -4,7 +4,7 @@ use Rattle.twkb_tool.specs.Output.{IsOutput}
 use Rattle.twkb_tool.specs.declared.judge.Verdict.{Verdict}
 use Rattle.twkb_tool.specs.declared.request.Request.{Request}
 
--- of a request and given bytes there is one text at most, and one verdict
+-- given bytes and a request have at most one text and one verdict
 abbrev pub OneOutput : Type 0
 OneOutput = (request : Request) (bytes text other : List ℕ) (verdict decision : Verdict)
     → IsOutput request bytes text verdict → IsOutput request bytes other decision

@@ -2,7 +2,7 @@
 use Rattle.std.specs.Prelude.{ℕ, ◌+◌, ◌^◌, ◌-◌, ◌==◌, ◌||◌, ◌&&◌, Bool, false, Option, Some, None, nat_lt, if◌then◌else◌}
 use Rattle.twkb_tool.specs.Streams.{SourceState, SinkState}
 
--- the call of this number, where it has one, is the one that fails
+-- the call with this number, if it has one, is the one that fails
 abbrev pub is_failing : Option ℕ → Option ℕ → Bool
 is_failing (Some number) (Some fail_at) = number == fail_at
 is_failing (Some number) None = false

@@ -79,12 +79,12 @@ end_line found read len =
 
 -- ---- the text for a certified layer of this length
 
--- the lines of a window, where `reads` is how many bytes are read of each blob
+-- the lines of a window; `reads` is how many bytes are read of each blob
 abbrev pub window_text : (Bounds → Geometry → ℕ) → List Geometry → ℕ → Bounds → List ℕ
 window_text reads trees len w =
     flat_map hit_line (hits trees w) ++ end_line (length (hits trees w)) (sum_by (reads w) trees) len
 
--- how many bytes are read of a blob: one window is looked for blob after blob, more of them with a directory
+-- how many bytes are read of a blob: for one window by a scan, for several by a scan with a directory
 abbrev pub reading : List Bounds → Bounds → Geometry → ℕ
 reading (window ∷ []) = cost
 reading windows = directory_cost

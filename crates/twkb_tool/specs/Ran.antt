@@ -1,4 +1,4 @@
--- What a run leaves.
+-- What a run did.
 use Rattle.std.specs.Prelude.{◌≡◌, ℕ, ◌+◌, ◌≤◌, List, [], length, take, Result, Ok, Err, IsTrue, false, true}
 use Rattle.twkb_tool.specs.Streams.{SourceState, SinkState, Gives, Takes}
 use Rattle.twkb_tool.specs.Output.{IsOutput}
@@ -9,14 +9,14 @@ use Rattle.twkb_tool.specs.declared.run.RunFault.TheVariants.{Read, TooLarge, Me
 
 -- ---- reading
 
--- the source gave these bytes, at most this many, has none to come, and its last call did not fail
+-- the source gave these bytes, at most `limit`, has no more, and its last call did not fail
 pub record GivesAll (limit : ℕ) (s t : SourceState) (given : List ℕ) : Type 0 where
   pub gives : Gives s t given
   pub ends : IsTrue s.tells → t.rest ≡ []
   pub fine : t.failed ≡ false
   pub within : length given ≤ limit
 
--- reading stopped, and why: the last call failed, or one byte more than the limit came, or, for `Memory`, neither of these
+-- reading stopped, for this reason: the last call failed; the source gave one byte more than the limit; or, for `Memory`, neither
 abbrev pub StopsReading : ℕ → RunFault → SourceState → SourceState → Type 0
 StopsReading limit Read s t = (given : List ℕ) × Gives s t given × (length given ≤ limit) × IsTrue t.failed
 StopsReading limit TooLarge s t = (given : List ℕ) × Gives s t given × (length given ≡ limit + 1) × (t.failed ≡ false)
@@ -25,13 +25,13 @@ StopsReading limit (Write done) s t = ⊥
 
 -- ---- writing
 
--- the sink took the text whole, and a flush came last and did not fail
+-- the sink took the whole text, and its last call was a flush, which did not fail
 pub record PutsAll (text : List ℕ) (k m : SinkState) : Type 0 where
   pub takes : Takes k m text
   pub fine : m.failed ≡ false
   pub flushed : m.flushing ≡ true
 
--- the sink took the first bytes of the text, and its last call failed: where that was the flush, it had taken all
+-- the sink took the first bytes of the text, and its last call failed; if that was the flush, it had taken all
 pub record PutsSome (text : List ℕ) (done : ℕ) (k m : SinkState) : Type 0 where
   pub within : done ≤ length text
   pub takes : Takes k m (take done text)
@@ -40,7 +40,7 @@ pub record PutsSome (text : List ℕ) (done : ℕ) (k m : SinkState) : Type 0 wh
 
 -- ---- the whole run
 
--- what a run did, by its answer: it read all and put all, or stopped reading, or stopped writing
+-- what a run did, by its result: it read all and put all, or stopped reading, or stopped writing
 abbrev pub Ran : Request → ℕ → SourceState → SourceState → SinkState → SinkState → Result Verdict RunFault → Type 0
 Ran request limit s t k m (Ok verdict) = (given : List ℕ) × (text : List ℕ)
     × GivesAll limit s t given × IsOutput request given text verdict × PutsAll text k m

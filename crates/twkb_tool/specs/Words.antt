@@ -1,4 +1,4 @@
--- What the words of a command line ask for.
+-- What the words of a command line request.
 use Rattle.std.specs.Prelude.{◌≡◌, ◌≢◌, ◌⊎◌, ℕ, ◌+◌, ◌<◌, ◌≤◌, ◌==◌, Bool, not, true, false, List, [], ◌∷◌, ◌++◌, length, Option, Some, None, Result, Ok, Err, codes, string_bytes, IsErrAnd}
 use Rattle.clap.specs.Lexer.{usize_max}
 use Rattle.clap.specs.Values.{kind_of}
@@ -67,7 +67,7 @@ pub record IsWindow (text : Text) (window : Bounds) : Type 0 where
   pub text_is : IsWindowText text window
   pub rises : in_order window ≡ true
 
--- why a text is no window: it has the form of none, or of one with a lower bound above its upper one
+-- why a text is no window: it doesn't have the form of one, or a lower bound is above its upper bound
 abbrev pub IsBadText : Text → BadWindow → Type 0
 IsBadText text Form = (window : Bounds) → IsWindowText text window → ⊥
 IsBadText text Order = (window : Bounds) × IsWindowText text window × (in_order window ≡ false)
@@ -108,7 +108,7 @@ windows_in rows = all_of (codes "WINDOW") rows
 abbrev pub IsGiven : Text → List Row → Type 0
 IsGiven name rows = first_of name rows ≡ Some (codes "true")
 
--- the subcommand of this name, with its matches, asks for the request
+-- the subcommand of this name, with its matches, requests this
 abbrev pub AsksFor : Text → List Row → Request → Type 0
 AsksFor name rows Check = (name ≡ codes "check") × (IsGiven (codes "tight") rows → ⊥)
 AsksFor name rows CheckTight = (name ≡ codes "check") × IsGiven (codes "tight") rows
@@ -121,7 +121,7 @@ abbrev pub LacksWord : Text → List Row → Type 0
 LacksWord name rows = ((name ≢ codes "check") × (name ≢ codes "list") × (name ≢ codes "scan"))
     ⊎ ((name ≡ codes "scan") × ((windows_in rows ≡ None) ⊎ (windows_in rows ≡ Some [])))
 
--- the subcommand asks for nothing, and why: a word is missing, there are too many windows, one isn't a window, or memory ran out
+-- the subcommand requests nothing, and why: a word is missing, there are too many windows, one is no window, or memory ran out
 abbrev pub IsRefused : Text → List Row → Usage → Type 0
 IsRefused name rows (Words (Some error)) = ⊥
 IsRefused name rows (Words None) = LacksWord name rows
@@ -131,13 +131,13 @@ IsRefused name rows (NoWindow number why) = (name ≡ codes "scan") × (texts : 
     × (length texts ≤ most_windows) × IsFirstBad texts number why
 IsRefused name rows Memory = Unit {0}
 
--- what the subcommand comes to with this file, or with none
+-- the result for the subcommand with this file, or with none
 abbrev pub ReadsWith : Option Text → Text → List Row → Result Line Usage → Type 0
 ReadsWith None name rows r = r ≡ Err (Words None)
 ReadsWith (Some file) name rows (Ok line) = (string_bytes line.path ≡ file) × AsksFor name rows line.request
 ReadsWith (Some file) name rows (Err usage) = IsRefused name rows usage
 
--- what the matches of the subcommand of this name come to, with the file among them
+-- the result for the matches of the subcommand of this name, which have the file
 abbrev pub Reads : Text → List Row → Result Line Usage → Type 0
 Reads name rows r = ReadsWith (first_of (codes "FILE") rows) name rows r
 
@@ -151,7 +151,7 @@ IsRefusalOrMemory kinds TooMany = ⊥
 IsRefusalOrMemory kinds (NoWindow number why) = ⊥
 IsRefusalOrMemory kinds Memory = Unit {0}
 
--- what words that parse come to, by the subcommand that they name and its matches: without one a word is missing
+-- the result for words that parse, by the subcommand that they name and its matches; without one a word is missing
 abbrev pub Answers : Option (Text × List Row) → Result Line Usage → Type 0
 Answers None r = IsErrAnd r (λ usage. (usage ≡ Words None) ⊎ (usage ≡ Memory))
 Answers (Some p) r = Reads p.0 p.1 r ⊎ (r ≡ Err Memory)

@@ -7,7 +7,7 @@ use crate::run::RunFault;
 use crate::words::Usage;
 use thiserror::Error;
 
-/// What the host refused before a run.
+/// A fault before a run: the command line can't be read, or the file can't be opened.
 #[derive(Clone, Copy, Debug, PartialEq, Eq, Error)]
 pub enum HostFault {
     /// The words can't be fetched.
@@ -39,7 +39,7 @@ pub fn usage_status(usage: &Usage) -> u8
     }
 }
 
-/// The status of what the host refused: 3.
+/// The status after a fault before a run: 3.
 pub fn host_status(fault: HostFault) -> u8
     ensures { result ≡ status_of_host fault }
 {

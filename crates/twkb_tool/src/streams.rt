@@ -17,8 +17,8 @@ pub struct SourceFailed;
 #[error("the sink failed")]
 pub struct SinkFailed;
 
-/// Gives bytes, a piece at a time. An implementation says whether it states its bytes. One that does states those still to
-/// come.
+/// An input: gives bytes, a piece at a time. An implementation says whether its contract states its bytes; if so, it states those
+/// that are still to come.
 pub trait Source {
     ghost state: { Self → SourceState };
 
@@ -40,8 +40,8 @@ pub trait Source {
         ensures { result ≡ (state self.now).moved };
 }
 
-/// Takes bytes, a piece at a time. An implementation says whether it states its bytes. One that does states those that were
-/// put.
+/// An output: takes bytes, a piece at a time. An implementation says whether its contract states its bytes; if so, it states those
+/// that were put.
 pub trait Sink {
     ghost state: { Self → SinkState };
 

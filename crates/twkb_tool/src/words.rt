@@ -1,7 +1,7 @@
 //! What a command line requests.
 //!
 //! `clap` parses the words by the command (`command`). What it found (`found`) becomes a [`Line`], whose windows are parsed from
-//! their texts (`windows`). `specs/Words.antt` defines what each of these answers.
+//! their texts (`windows`). `specs/Words.antt` defines what each of these returns.
 ghost use Rattle.std.specs.List.{list_all};
 ghost use Rattle.std.specs.Prelude.{◌≡◌, ◌≢◌, List, [], ◌∷◌, map, codes, true, IfOk, IfErr, OnOk, IsErrAnd};
 ghost use Rattle.clap.specs.Words.{Text, fault_of, found_of, rows_of, subcommand_of, subcommand_rows_of};
@@ -23,7 +23,7 @@ use twkb_layer::BadWindow;
 pub use windows::MAX_WINDOWS;
 use windows::windows_of;
 
-/// Why a command line requests nothing. The first of these that applies is answered.
+/// Why a command line requests nothing. The first of these that applies is returned.
 #[derive(Debug, Drop, Error)]
 pub enum Usage {
     /// `clap` refused the words, or they ask for help. `None` if they parsed and a required word is missing.

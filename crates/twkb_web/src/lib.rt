@@ -1,4 +1,4 @@
-//! The library for a web page. It has no heap and no state: all memory that a call wants is lent by the page.
+//! The library for a web page. It has no heap and no state: the page lends all memory that a call needs.
 //!
 //! A call takes a slice as a pointer and a length. Bytes are copied into the module's memory first.
 #![tactic(auto)]
@@ -22,8 +22,8 @@ ghost use Rattle.twkb_call.specs.Window.{ranges_of};
 
 use twkb_call::{Hit, Layer, Point, Row, Scanned, Verdict, Window};
 
-/// Certifies the bytes as a layer, with room for the ids of a list. The answer may be out of memory if a list has more ids than
-/// the room has places, and more than sixteen.
+/// Certifies the bytes as a layer, with a buffer for the ids of a list. The verdict may be "out of memory" if a list has more ids
+/// than the buffer has places, and more than sixteen.
 #[unsafe(no_mangle)]
 pub extern "C" fn twkb_certify(bytes: &[u8], ids: &mut [i64]) -> Verdict
     ensures says { Says IsTrueClaim result bytes.now }
@@ -43,7 +43,7 @@ pub extern "C" fn twkb_certify_tight(bytes: &[u8], ids: &mut [i64]) -> Verdict
     twkb_call::certify_tight_lent(bytes, ids)
 }
 
-/// Puts a row for each blob into the room, in file order, as many as fit, and answers how many blobs there are.
+/// Writes a row for each blob to `room`, in file order, as many as fit, and returns how many blobs there are.
 #[unsafe(no_mangle)]
 pub extern "C" fn twkb_list(layer: &Layer, room: &mut [Row]) -> usize
     requires { IsCounted layer.now.bytes.now layer.now.blobs layer.now.vertices }
@@ -53,7 +53,7 @@ pub extern "C" fn twkb_list(layer: &Layer, room: &mut [Row]) -> usize
     twkb_call::list(layer, room)
 }
 
-/// Parses a window. The answer is 0, or 1 if the text doesn't have the form of one, or 2 if a lower bound is above its upper
+/// Parses a window. The result is 0, or 1 if the text doesn't have the form of a window, or 2 if a lower bound is above its upper
 /// bound.
 #[unsafe(no_mangle)]
 pub extern "C" fn twkb_window_parse(text: &[u8], window: &mut Window) -> u32
@@ -67,7 +67,7 @@ pub extern "C" fn twkb_window_parse(text: &[u8], window: &mut Window) -> u32
     twkb_call::parse_window(text, window)
 }
 
-/// Finds the blobs that have a vertex inside the window, and puts them into the room in file order, as many as fit.
+/// Finds the blobs that have a vertex inside the window, and writes them to `room` in file order, as many as fit.
 #[unsafe(no_mangle)]
 pub extern "C" fn twkb_scan(layer: &Layer, window: &Window, room: &mut [Hit]) -> Scanned
     requires { IsCounted layer.now.bytes.now layer.now.blobs layer.now.vertices }
@@ -80,7 +80,7 @@ pub extern "C" fn twkb_scan(layer: &Layer, window: &Window, room: &mut [Hit]) ->
     twkb_call::scan(layer, window, room)
 }
 
-/// Puts X and Y of each vertex into the room, in reading order, as many as fit, and answers how many vertices there are.
+/// Writes X and Y of each vertex to `room`, in reading order, as many as fit, and returns how many vertices there are.
 #[unsafe(no_mangle)]
 pub extern "C" fn twkb_draw(layer: &Layer, room: &mut [Point]) -> usize
     requires { IsCounted layer.now.bytes.now layer.now.blobs layer.now.vertices }

@@ -114,7 +114,7 @@ fn take_boxed_by<const AXES: usize>(
     Ok(vertices)
 }
 
-/// Reads `count` parts whose points have `axes` numbers, and answers how many points there are.
+/// Reads `count` parts whose points have `axes` numbers, and returns how many points there are.
 #[inline(always)]
 pub fn take_parts_of<P: Points>(
     cursor: &mut Cursor,

@@ -18,7 +18,7 @@ const MOST: u64 = 1 << 14;
 /// Up to this many lines are passed at once.
 const MOST_LINES: u64 = 1 << 16;
 
-/// Reads `count` parts of a kind, whose points have `axes` numbers, and answers how many points there are.
+/// Reads `count` parts of a kind, whose points have `axes` numbers, and returns how many points there are.
 // It isn't inlined, and is handed no header, so that none is set up if a box asks.
 #[inline(never)]
 pub fn take_unboxed(
@@ -67,7 +67,7 @@ pub fn take_bare_point(cursor: &mut Cursor) -> Result<usize, Doubt>
     }
 }
 
-/// Passes the parts by the ends of their numbers, and answers how many points there are. It answers `None` and passes nothing
+/// Passes the parts by the ends of their numbers, and returns how many points there are. It returns `None` and passes nothing
 /// if a number is too long, if there are too many, or if bytes are too few.
 #[inline(always)]
 fn pass_parts(cursor: &mut Cursor, kind: Kind, axes: usize, count: u64) -> Option<usize>

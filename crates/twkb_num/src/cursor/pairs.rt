@@ -8,8 +8,8 @@ use crate::ends::second_end;
 use crate::word::{next_mixed_pair, next_pair};
 
 impl<'a> Cursor<'a> {
-    /// Reads the two signed varints at the place, if each takes at most four bytes and eight bytes are left. Otherwise it answers
-    /// `None` and has read nothing; read the two one after the other then.
+    /// Reads the two signed varints at the place, if each takes at most four bytes and eight bytes are left. Otherwise it returns
+    /// `None`, and the cursor is as it was; read them one after the other then.
     #[inline(always)]
     pub fn svarint_pair(&mut self) -> Option<(i64, i64)>
         ensures some { IfSome result (λ pair. SpellsTwoSigned (passed self.old self.new) pair.0 pair.1) }
@@ -35,8 +35,8 @@ impl<'a> Cursor<'a> {
         Some((both.first, both.second))
     }
 
-    /// Reads four signed varints, two after two, if [`Cursor::svarint_four`] can read them or [`Cursor::svarint_pair`] both pairs.
-    /// Otherwise it answers `None` and has read nothing.
+    /// Reads four signed varints, if [`Cursor::svarint_four`] can read them, or [`Cursor::svarint_pair`] both pairs. Otherwise it
+    /// returns `None`, and the cursor is as it was.
     #[inline(always)]
     pub fn svarint_two_pairs(&mut self) -> Option<((i64, i64), (i64, i64))>
         ensures some { IfSome result (λ two. (middle : Reading)
@@ -70,8 +70,8 @@ impl<'a> Cursor<'a> {
         Some((first, second))
     }
 
-    /// Reads a pair as [`Cursor::svarint_pair`] does, and the signed varint after it if it is in the range of four bytes. Otherwise
-    /// it answers `None` and has read nothing.
+    /// Reads a pair as [`Cursor::svarint_pair`] does, and the signed varint after it, if its number fits four bytes. Otherwise it
+    /// returns `None`, and the cursor is as it was.
     #[inline(always)]
     pub fn svarint_pair_and_one(&mut self) -> Option<((i64, i64), i64)>
         ensures some { IfSome result (λ three. (middle : Reading)
@@ -106,7 +106,7 @@ impl<'a> Cursor<'a> {
         }
     }
 
-    /// Moves past the two varints at the place without decoding them, if both end in the next eight bytes. Otherwise it answers
+    /// Moves past the two varints at the place without decoding them, if both end in the next eight bytes. Otherwise it returns
     /// `None`, and the cursor is as it was.
     #[inline(always)]
     pub fn pass_pair(&mut self) -> Option<()>

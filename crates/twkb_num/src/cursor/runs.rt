@@ -9,12 +9,12 @@ use super::Cursor;
 const MOST_RUNS: u64 = 1 << 16;
 
 impl<'a> Cursor<'a> {
-    /// Passes `runs` runs of varints, or none of them. A run is a count, and after it that many groups of `each` varints.
-    /// Answers how many groups there were in all.
+    /// Moves past `runs` runs of varints, or past none of them. A run is a count, and after it that many groups of `each` varints.
+    /// Returns how many groups there were in all.
     ///
-    /// It passes nothing and answers `None` if there are more than `most` groups, a count can't be read, or
+    /// It passes nothing and returns `None` if there are more than `most` groups, if a count can't be read, or if
     /// [`Cursor::pass_short_varints`] doesn't pass the varints of a run. All bytes that it passes are counted. `None` tells this
-    /// one bit of bytes that aren't counted: at most `runs` counts, and `most` groups of short varints.
+    /// one bit of bytes that aren't counted: those of at most `runs` counts and `most` groups.
     #[inline(always)]
     pub fn pass_short_runs(&mut self, runs: u64, each: u64, most: u64) -> Option<u64>
         requires runs { runs ≤ 2 ^ 16 }
@@ -42,11 +42,11 @@ impl<'a> Cursor<'a> {
         Some(groups)
     }
 
-    /// Passes a count of runs, and then that many runs as [`Cursor::pass_short_runs`] does, or nothing. Answers how many groups
-    /// there were in all.
+    /// Moves past a count of runs and that many runs, as [`Cursor::pass_short_runs`] does, or past nothing. Returns how many
+    /// groups there were in all.
     ///
-    /// It answers `None` for more than 65,536 runs, too. `None` tells one bit of bytes that aren't counted: those of the count,
-    /// and those of which [`Cursor::pass_short_runs`] tells it.
+    /// It returns `None` for more than 65,536 runs, too. `None` tells one bit of bytes that aren't counted: those of the count of
+    /// runs, and those about which [`Cursor::pass_short_runs`] tells one.
     #[inline(always)]
     pub fn pass_counted_runs(&mut self, each: u64, most: u64) -> Option<u64>
         requires each { each ≤ 4 }

@@ -1,4 +1,4 @@
-//! The command, as `clap` is told it.
+//! The command as it is defined for `clap`.
 ghost use Rattle.std.specs.Prelude.{◌≡◌, false, IfOk};
 ghost use Rattle.clap.specs.Words.{app_of, rule_of};
 ghost use Rattle.clap.specs.declared.builder.command.Command.TheViews.{out-Command};
@@ -17,7 +17,7 @@ pub fn tool_command<'a>(alloc: Global) -> Result<Command<'a>, AllocError>
         .subcommand(file_command(
             alloc,
             "list",
-            "Says of each blob of a certified layer what it is",
+            "List every blob: offset, length, type, precision, vertex count",
         )?)?
         .subcommand(scan_command(alloc)?)
 }
@@ -27,11 +27,11 @@ fn bare_command<'a>(alloc: Global) -> Command<'a>
     ensures local { (out-Command result).has_globals ≡ false }
 {
     Command::new(alloc, "twkb_tool")
-        .about("Checks, lists and scans layers of TWKB blobs")
+        .about("Check, list and scan layers: files of TWKB geometries")
         .subcommand_required(true)
 }
 
-/// A subcommand of this name whose one word is a file.
+/// A subcommand of this name whose one argument is a file.
 fn file_command<'a>(alloc: Global, name: &'a str, about: &'a str) -> Result<Command<'a>, AllocError>
     ensures app { IfOk result (λ c. app_of c ≡ file_app name.entry.now) }
     ensures local { IfOk result (λ c. (out-Command c).has_globals ≡ false) }
@@ -43,7 +43,7 @@ fn check_command<'a>(alloc: Global) -> Result<Command<'a>, AllocError>
     ensures app { IfOk result (λ c. app_of c ≡ check_app) }
     ensures local { IfOk result (λ c. (out-Command c).has_globals ≡ false) }
 {
-    let about = "Certifies a layer, or names its first false claim";
+    let about = "Certify a layer, or name the first blob that is wrong, and where";
     file_command(alloc, "check", about)?.arg(tight_arg(alloc))
 }
 
@@ -51,7 +51,7 @@ fn scan_command<'a>(alloc: Global) -> Result<Command<'a>, AllocError>
     ensures app { IfOk result (λ c. app_of c ≡ scan_app) }
     ensures local { IfOk result (λ c. (out-Command c).has_globals ≡ false) }
 {
-    let about = "Names the blobs of a certified layer that have a vertex inside, for each window";
+    let about = "Find the blobs that have a vertex inside each window";
     file_command(alloc, "scan", about)?.arg(window_arg(alloc))
 }
 
@@ -61,7 +61,7 @@ fn file_arg<'a>(alloc: Global) -> Arg<'a>
 {
     Arg::new(alloc, "FILE")
         .required(true)
-        .help("A file of TWKB blobs, one after another")
+        .help("A file of TWKB geometries, one after another")
 }
 
 fn tight_arg<'a>(alloc: Global) -> Arg<'a>
@@ -71,10 +71,10 @@ fn tight_arg<'a>(alloc: Global) -> Arg<'a>
     Arg::new(alloc, "tight")
         .long("tight")
         .action(ArgAction::SetTrue)
-        .help("Refuses boxes that are true and larger than they have to be, too")
+        .help("Also refuse boxes that are larger than they have to be")
 }
 
-/// Its number of values has no upper end: of too many windows `scan_of` says so itself.
+/// It takes any number of values: `scan_of` itself refuses too many windows.
 fn window_arg<'a>(alloc: Global) -> Arg<'a>
     ensures rule { rule_of result ≡ window_rule }
     ensures local { result.global ≡ false }
@@ -82,5 +82,5 @@ fn window_arg<'a>(alloc: Global) -> Arg<'a>
     Arg::new(alloc, "WINDOW")
         .required(true)
         .num_args(1..)
-        .help("x=A..B,y=C..D[,z=E..F][,m=G..H], ends included")
+        .help("x=A..B,y=C..D[,z=E..F][,m=G..H], both ends included")
 }
