@@ -88,13 +88,15 @@ class Change:
         self.pairs = list(self.read_pairs(os.path.join(TOP, "crates", crate, kind, name + ".edit")))
         if not self.pairs:
             raise BadEdit("it has no pair of lines 'old:' and 'new:'")
-        self.lines, self.functions = set(), set()
-        for file, old, _ in self.pairs:
-            text = source(crate, file)
+        self.lines, self.functions, changed = set(), set(), {}
+        for file, old, new in self.pairs:
+            # An old text that the file has more than once has to be its only one after the pairs before.
+            text = source(crate, file) if source(crate, file).count(old) == 1 else changed.get(file, "")
             if text.count(old) == 1:
                 place = text.index(old)
                 self.lines.add((file, text.count("\n", 0, place) + 1))
                 self.functions.add((file, function_at(text, place + len(old) - 1)))
+            changed[file] = changed.get(file, source(crate, file)).replace(old, new)
         self.changes_nothing = all(text == source(crate, file) for file, text in self.applied_to({}).items())
 
     @staticmethod

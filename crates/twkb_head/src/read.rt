@@ -145,8 +145,8 @@ fn take_head(cursor: &mut Cursor, depth: u8) -> Result<Fields, Malformed>
     ensures z_high { IfOk result (λ raw. IfSome raw.axes.z (λ p. p ≤ 7)) }
     ensures m_high { IfOk result (λ raw. IfSome raw.axes.m (λ p. p ≤ 7)) }
 {
-    let begun = take_begun(cursor, depth)?;
-    take_fields(cursor, begun)
+    let first_two = take_begun(cursor, depth)?;
+    take_fields(cursor, first_two)
 }
 
 /// The first two bytes of the header at the place.

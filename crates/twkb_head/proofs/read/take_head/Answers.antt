@@ -1,8 +1,8 @@
--- What is read behind the first two bytes is what is read of the header.
+-- What is read after the first two bytes is what is read of the header.
 use Rattle.std.proofs.Common.{◌-◌}
 use Rattle.twkb_head.specs.BegunHeader.{deepest}
 use Rattle.twkb_head.proofs.HeadSteps.{head_of_rest}
 use Rattle.twkb_head.proofs.read.take_head.Goals as goal
 
 pub returns-clause-read : goal.returns-clause-read
-returns-clause-read c = head_of_rest (deepest - c.args.depth) c.in_ok-begun.begun _ _ _ _ c.in_ok-begun.ensures.ok c.take_fields.ensures.read
+returns-clause-read c = head_of_rest (deepest - c.args.depth) c.in_ok-first_two.first_two _ _ _ _ c.in_ok-first_two.ensures.ok c.take_fields.ensures.read

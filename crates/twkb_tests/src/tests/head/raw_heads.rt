@@ -162,6 +162,37 @@ fn every_first_two_bytes(rt: HostRuntime) {
     }
 }
 
+// Two bytes begin a header of a kind and of fields exactly if they say both. The bits from 32 on of the second byte say nothing.
+#[test]
+fn headers_begun_as_one_kind(rt: HostRuntime) {
+    for (kind, code) in [
+        (Kind::Point, 1),
+        (Kind::LineString, 2),
+        (Kind::GeometryCollection, 7),
+    ] {
+        for fields in 0..32u8 {
+            for both in 0..=u16::MAX {
+                let bytes = both.to_le_bytes();
+                let [first, metadata] = bytes;
+                let mut cursor = Cursor::new(&bytes);
+                cursor.go_to(2);
+                let expected = if first & 15 == code && metadata & 31 == fields {
+                    Some(Begun {
+                        kind,
+                        xy: PRECISIONS[usize::from(first / 16)],
+                        metadata: fields,
+                        start: 0,
+                    })
+                } else {
+                    None
+                };
+                let answer = begun_as(&cursor, kind, fields, first, metadata);
+                equal(&rt, (answer, bytes, fields), (expected, bytes, fields));
+            }
+        }
+    }
+}
+
 // Numbers are near up to 2^61 on both sides of zero.
 #[test]
 fn near_numbers(rt: HostRuntime) {
