@@ -10,7 +10,7 @@ use std::thread;
 const TWO: [u8; 20] = [2, 3, 9, 2, 8, 2, 8, 2, 2, 2, 8, 8, 1, 1, 20, 0, 20, 0, 20, 20];
 /// The first of them alone.
 const LINE: usize = 12;
-const NO_HIT: Hit = Hit { blob: usize::MAX, offset: usize::MAX };
+const NO_HIT: Hit = Hit { blob: usize::MAX, offset: usize::MAX, bytes: usize::MAX };
 
 fn window(text: &str) -> Window {
     text.parse().expect("a window")
@@ -175,9 +175,9 @@ fn lists_every_type_and_precision() {
 fn scans_hop() {
     let layer = Layer::certify(&TWO).unwrap();
     let scan = layer.scan(&window("x=10..10,y=10..10")).unwrap();
-    assert_eq!((&scan.hits[..], scan.bytes_read), (&[Hit { blob: 1, offset: 12 }][..], 15));
+    assert_eq!((&scan.hits[..], scan.bytes_read), (&[Hit { blob: 1, offset: 12, bytes: 8 }][..], 15));
     let all = layer.scan(&window("x=0..10,y=0..10")).unwrap();
-    assert_eq!(all.hits, [Hit { blob: 0, offset: 0 }, Hit { blob: 1, offset: 12 }]);
+    assert_eq!(all.hits, [Hit { blob: 0, offset: 0, bytes: 12 }, Hit { blob: 1, offset: 12, bytes: 8 }]);
     assert_eq!((&all).into_iter().map(|hit| hit.blob).collect::<Vec<_>>(), [0, 1]);
     assert_eq!(all.into_iter().map(|hit| hit.offset).collect::<Vec<_>>(), [0, 12]);
     assert_eq!(layer.scan(&window("x=2..3,y=2..3")).unwrap().hits, []);
@@ -237,7 +237,7 @@ fn more_hits_than_bytes_for_them_are_found_all() {
     let bytes = points(60);
     let layer = Layer::certify(&bytes).unwrap();
     let scan = layer.scan(&window("x=0..100,y=0..100")).unwrap();
-    assert_eq!(scan.hits, (0..60).map(|blob| Hit { blob, offset: 4 * blob }).collect::<Vec<_>>());
+    assert_eq!(scan.hits, (0..60).map(|blob| Hit { blob, offset: 4 * blob, bytes: 4 }).collect::<Vec<_>>());
     assert_eq!(scan.bytes_read, 240);
     assert_eq!(scan.hits.capacity(), 60);
 }
