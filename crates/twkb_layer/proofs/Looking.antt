@@ -14,15 +14,15 @@ use Rattle.twkb_body.specs.Geometry.{Geometry, geometry, vertices}
 use Rattle.twkb_body.specs.Standing.{StandsAt}
 use Rattle.twkb_body.proofs.Entering.{reaches, boxed_holds}
 use Rattle.twkb_layer.specs.Directory.{Entry, box_of, entry_of, entries, directory_cost}
-use Rattle.twkb_layer.specs.Hits.{hits, cost, filled}
+use Rattle.twkb_layer.specs.Hits.{hits, found_blobs, cost, filled}
 use Rattle.twkb_layer.specs.Layer.{IsCertifiedLayer, size_of, told_from}
 use Rattle.twkb_layer.specs.Slots.{Said, Written, slot_says, unboxed, entry_with, entries_from, entries_of}
 use Rattle.twkb_layer.specs.Devices.Seeking.{outside}
 use Rattle.twkb_layer.specs.Window.{is_inside, box_misses, is_missed}
-use Rattle.twkb_layer.specs.declared.hits.Hit.{Hit}
+use Rattle.twkb_layer.specs.declared.hits.Found.{Found}
 use Rattle.twkb_layer.proofs.Layers.{blob_some, layer_once, layer_short}
 use Rattle.twkb_layer.proofs.Filling.{filled-nil}
-use Rattle.twkb_layer.proofs.Scanning.{hits_from, Next, next_of, hits_go_on, found_goes_on, room_goes_on, found_fits, added_twice, counted_none}
+use Rattle.twkb_layer.proofs.Scanning.{hits_from, Next, next_of, hits_go_on, found_goes_on, room_goes_on, found_fits, added_twice, counted_none, as_many}
 
 -- ---- a box that misses
 
@@ -48,63 +48,6 @@ missed_none w (geometry h l ids polygons members) bytes place at miss =
     none_of w (bounds_of h.xy h.z h.m k.ranges) (vertices (geometry h l ids polygons members)) k.misses (recursion_from_All (Holds (bounds_of h.xy h.z h.m k.ranges)) (vertices (geometry h l ids polygons members)) boxed)
 
 -- ---- a scan with slots
-pub record Looking (w : Bounds) (bytes : List ℕ) (count0 : ℕ) (room0 : List Hit) (beyond : Said) (slots : List Said) (count blob found : ℕ) (room : List Hit) : Type 0 where
-  pub trees : List Geometry
-  pub whole : IsCertifiedLayer trees bytes
-  pub rest : List Geometry
-  pub place : ℕ
-  pub seen : List Hit
-  pub left : IsCertifiedLayer rest (drop place bytes)
-  pub entries_are : entries_from beyond slots ≡ told_from entry_of blob place rest
-  pub hits_are : hits trees w ≡ seen ++ hits_from blob place rest w
-  pub found_is : found ≡ length seen
-  pub room_is : room ≡ filled seen room0
-  pub count_is : added count (sum_by (directory_cost w) rest) ≡ added count0 (sum_by (directory_cost w) trees)
-  pub count_fits : count ≤ 2 ^ 64 - 1
-  pub found_small : found ≤ blob
-  pub within : place ≤ length bytes
-  pub blob_is : blob + length rest ≡ length trees
-
-pub look_begins : (w : Bounds) (bytes : List ℕ) (count0 : ℕ) (room0 : List Hit) (slots : List Said) (trees : List Geometry) → IsCertifiedLayer trees bytes → entries_of slots ≡ entries trees → count0 < 2 ^ 64 → Looking w bytes count0 room0 (unboxed 0) slots count0 0 0 room0
-look_begins w bytes count0 room0 slots trees whole are small = record {
-  trees = trees;
-  whole = whole;
-  rest = trees;
-  place = 0;
-  seen = [];
-  left = whole;
-  entries_are = are;
-  hits_are = refl;
-  found_is = refl;
-  room_is = filled-nil room0;
-  count_is = refl;
-  count_fits = omega (arith, small);
-  found_small = omega arith;
-  within = omega arith;
-  blob_is = omega arith;
-}
-
--- a slot of Z and M: what it says goes on
-pub look_beyond : (w : Bounds) (bytes : List ℕ) (count0 : ℕ) (room0 : List Hit) (beyond slot : Said) (slots : List Said) (count blob found : ℕ) (room : List Hit) → Looking w bytes count0 room0 beyond (slot ∷ slots) count blob found room → true ≡ slot.beyond
-    → Looking w bytes count0 room0 slot slots count blob found room
-look_beyond w bytes count0 room0 beyond slot slots count blob found room s is = record {
-  trees = s.trees;
-  whole = s.whole;
-  rest = s.rest;
-  place = s.place;
-  seen = s.seen;
-  left = s.left;
-  entries_are = ap (λ (b : Bool). cond b (entries_from slot slots) (entry_with beyond slot ∷ entries_from beyond slots)) is ∙ s.entries_are;
-  hits_are = s.hits_are;
-  found_is = s.found_is;
-  room_is = s.room_is;
-  count_is = s.count_is;
-  count_fits = s.count_fits;
-  found_small = s.found_small;
-  within = s.within;
-  blob_is = s.blob_is;
-}
-
 -- the blob of a slot
 pub record Here (rest : List Geometry) (bytes : List ℕ) (place : ℕ) (beyond : Said) (slots : List Said) (blob : ℕ) (e : Entry) : Type 0 where
   pub next : Next rest bytes place
@@ -122,72 +65,131 @@ first_of_entries rest bytes place beyond slots blob e is n =
     let first : e ≡ record { offset = place; bounds = box_of n.tree } = cc (both) in
     record { next = n; offset = ap (λ (p : Entry). p.offset) first; bounds = ap (λ (p : Entry). p.bounds) first; others = cc (both) }
 
-pub here_of : (w : Bounds) (bytes : List ℕ) (count0 : ℕ) (room0 : List Hit) (beyond slot : Said) (slots : List Said) (count blob found : ℕ) (room : List Hit) (s : Looking w bytes count0 room0 beyond (slot ∷ slots) count blob found room) (e : Entry) → e ≡ entry_with beyond slot → false ≡ slot.beyond
-    → Here s.rest bytes s.place beyond slots blob e
-here_of w bytes count0 room0 beyond slot slots count blob found room s e is own =
-    let left : e ∷ entries_from beyond slots ≡ told_from entry_of blob s.place s.rest = ap (λ (p : Entry). p ∷ entries_from beyond slots) is ∙ (ap (λ (b : Bool). cond b (entries_from slot slots) (entry_with beyond slot ∷ entries_from beyond slots)) own ∙ s.entries_are) in
-    first_of_entries s.rest bytes s.place beyond slots blob e left (next_of s.rest bytes s.place s.left (some_left s.rest bytes blob s.place _ _ left s.left))
-
 -- it stands there
 pub here_stands : (rest : List Geometry) (bytes now : List ℕ) (place : ℕ) (beyond : Said) (slots : List Said) (blob : ℕ) (e : Entry) (h : Here rest bytes place beyond slots blob e) → now ≡ bytes → StandsAt h.next.tree 1 now e.offset
 here_stands rest bytes now place beyond slots blob e h same = rw (same, h.offset) h.next.stands
-
--- and its number fits
-pub here_fits : (w : Bounds) (bytes : List ℕ) (count0 : ℕ) (room0 : List Hit) (beyond slot : Said) (slots : List Said) (count blob found : ℕ) (room : List Hit) (s : Looking w bytes count0 room0 beyond (slot ∷ slots) count blob found room) (e : Entry) → Here s.rest bytes s.place beyond slots blob e
-    → blob < length bytes
-here_fits w bytes count0 room0 beyond slot slots count blob found room s e h = omega (arith, s.blob_is, ap length h.next.is, layer_short s.trees bytes s.whole.layer)
-
-pub look_goes_on : (w : Bounds) (bytes : List ℕ) (count0 : ℕ) (room0 : List Hit) (beyond slot : Said) (slots : List Said) (count blob found : ℕ) (room : List Hit) (s : Looking w bytes count0 room0 beyond (slot ∷ slots) count blob found room) (e : Entry) (n : Here s.rest bytes s.place beyond slots blob e)
-    (reported : Hit) → reported ≡ record { blob = blob; offset = e.offset } → (new : ℕ) → new ≡ added count (directory_cost w n.next.tree) → (b : Bool) → b ≡ list_any (is_inside w) (vertices n.next.tree)
-    → Looking w bytes count0 room0 beyond slots new (blob + 1) (cond b (found + 1) found) (cond b (slice_set room found reported) room)
-look_goes_on w bytes count0 room0 beyond slot slots count blob found room s e h reported is_hit new adds b is =
-    let n = h.next in
-    let place = s.place in
-    let hit : Hit = record { blob = blob; offset = place } in
-    let named : reported ≡ hit = is_hit ∙ (λ j. record { blob = blob; offset = h.offset j }) in
-    record {
-      trees = s.trees;
-      whole = s.whole;
-      rest = n.after;
-      place = place + size_of n.tree;
-      seen = s.seen ++ cond b (hit ∷ []) [];
-      left = n.goes_on;
-      entries_are = h.others;
-      hits_are = s.hits_are ∙ (ap (λ ts. s.seen ++ hits_from blob place ts w) n.is ∙ (ap (λ hs. s.seen ++ hs) (hits_go_on w blob place n.tree n.after b is) ∙ sym (append_assoc s.seen (cond b (hit ∷ []) []) (hits_from (blob + 1) (place + size_of n.tree) n.after w))));
-      found_is = found_goes_on s.seen found hit b s.found_is;
-      room_is = ap (λ (h : Hit). cond b (slice_set room found h) room) named ∙ room_goes_on s.seen room0 room found hit b s.found_is s.room_is;
-      count_is = ap (λ (c : ℕ). added c (sum_by (directory_cost w) n.after)) adds ∙ (added_twice count (directory_cost w n.tree) (sum_by (directory_cost w) n.after) ∙ (ap (added count) (sym (sum_by-cons (directory_cost w) n.tree n.after)) ∙ (ap (λ ts. added count (sum_by (directory_cost w) ts)) (sym n.is) ∙ s.count_is)));
-      count_fits = omega (arith, adds);
-      found_small = found_fits b found blob s.found_small;
-      within = n.within;
-      blob_is = omega (arith, s.blob_is, ap length n.is);
-    }
-
--- the slot of this number, and those behind it
-pub slot_next : (w : Bounds) (bytes : List ℕ) (count0 : ℕ) (room0 : List Hit) (beyond : Said) (slots : List Written) (at : ℕ) (count blob found : ℕ) (room : List Hit) → Looking w bytes count0 room0 beyond (map slot_says (drop at slots)) count blob found room
-    → (slot : Written) → slot ≡ get_or slots at slot → at < length slots → Looking w bytes count0 room0 beyond (slot_says slot ∷ map slot_says (drop (at + 1) slots)) count blob found room
-slot_next w bytes count0 room0 beyond slots at count blob found room s slot is lt =
-    subst (λ ls. Looking w bytes count0 room0 beyond (map slot_says ls) count blob found room) (drop_more slots at slot lt ∙ ap (λ (l : Written). l ∷ drop (at + 1) slots) (sym is)) s
-
--- what a scan with slots found
-pub record Found (w : Bounds) (count0 : ℕ) (room0 : List Hit) (count found : ℕ) (room : List Hit) (trees : List Geometry) : Type 0 where
-  pub answer : found ≡ length (hits trees w)
-  pub room_is : room ≡ filled (hits trees w) room0
-  pub count_is : count ≡ added count0 (sum_by (directory_cost w) trees)
 
 no_entries : (blob place : ℕ) (rest : List Geometry) → [] ≡ told_from entry_of blob place rest → rest ≡ []
 no_entries blob place [] e = refl
 no_entries blob place (t ∷ ts) e = absurd (cc (e))
 
-pub look_ends : (w : Bounds) (bytes : List ℕ) (count0 : ℕ) (room0 : List Hit) (beyond : Said) (slots : List Written) (at count blob found : ℕ) (room : List Hit) → Looking w bytes count0 room0 beyond (map slot_says (drop at slots)) count blob found room → length slots ≤ at
-    → (trees : List Geometry) → IsCertifiedLayer trees bytes → Found w count0 room0 count found room trees
-look_ends w bytes count0 room0 beyond slots at count blob found room s le trees h =
-    let none = no_entries blob s.place s.rest (sym (ap (λ ls. entries_from beyond (map slot_says ls)) (drop_all at slots le)) ∙ s.entries_are) in
-    let same : s.trees ≡ trees = layer_once s.trees trees bytes s.whole.layer h.layer in
-    let all : hits s.trees w ≡ s.seen = s.hits_are ∙ (ap (λ ts. s.seen ++ hits_from blob s.place ts w) none ∙ append-nil s.seen) in
-    let counts : count ≡ added count0 (sum_by (directory_cost w) s.trees) = counted_none count s.count_fits ∙ (ap (λ ts. added count (sum_by (directory_cost w) ts)) (sym none) ∙ s.count_is) in
-    subst (Found w count0 room0 count found room) same
-    (record { answer = s.found_is ∙ ap length (sym all); room_is = s.room_is ∙ ap (λ hs. filled hs room0) (sym all); count_is = counts })
+-- It puts what it finds in whatever form.
+module _ {S : Type 0} (of : Found → S) where
+  pub record Looking (w : Bounds) (bytes : List ℕ) (count0 : ℕ) (room0 : List S) (beyond : Said) (slots : List Said) (count blob found : ℕ) (room : List S) : Type 0 where
+    pub trees : List Geometry
+    pub whole : IsCertifiedLayer trees bytes
+    pub rest : List Geometry
+    pub place : ℕ
+    pub seen : List S
+    pub left : IsCertifiedLayer rest (drop place bytes)
+    pub entries_are : entries_from beyond slots ≡ told_from entry_of blob place rest
+    pub hits_are : map of (found_blobs trees w) ≡ seen ++ hits_from of blob place rest w
+    pub found_is : found ≡ length seen
+    pub room_is : room ≡ filled seen room0
+    pub count_is : added count (sum_by (directory_cost w) rest) ≡ added count0 (sum_by (directory_cost w) trees)
+    pub count_fits : count ≤ 2 ^ 64 - 1
+    pub found_small : found ≤ blob
+    pub within : place ≤ length bytes
+    pub blob_is : blob + length rest ≡ length trees
+
+  pub look_begins : (w : Bounds) (bytes : List ℕ) (count0 : ℕ) (room0 : List S) (slots : List Said) (trees : List Geometry) → IsCertifiedLayer trees bytes → entries_of slots ≡ entries trees → count0 < 2 ^ 64 → Looking w bytes count0 room0 (unboxed 0) slots count0 0 0 room0
+  look_begins w bytes count0 room0 slots trees whole are small = record {
+    trees = trees;
+    whole = whole;
+    rest = trees;
+    place = 0;
+    seen = [];
+    left = whole;
+    entries_are = are;
+    hits_are = refl;
+    found_is = refl;
+    room_is = filled-nil room0;
+    count_is = refl;
+    count_fits = omega (arith, small);
+    found_small = omega arith;
+    within = omega arith;
+    blob_is = omega arith;
+  }
+
+  -- a slot of Z and M: what it says goes on
+  pub look_beyond : (w : Bounds) (bytes : List ℕ) (count0 : ℕ) (room0 : List S) (beyond slot : Said) (slots : List Said) (count blob found : ℕ) (room : List S) → Looking w bytes count0 room0 beyond (slot ∷ slots) count blob found room → true ≡ slot.beyond
+      → Looking w bytes count0 room0 slot slots count blob found room
+  look_beyond w bytes count0 room0 beyond slot slots count blob found room s is = record {
+    trees = s.trees;
+    whole = s.whole;
+    rest = s.rest;
+    place = s.place;
+    seen = s.seen;
+    left = s.left;
+    entries_are = ap (λ (b : Bool). cond b (entries_from slot slots) (entry_with beyond slot ∷ entries_from beyond slots)) is ∙ s.entries_are;
+    hits_are = s.hits_are;
+    found_is = s.found_is;
+    room_is = s.room_is;
+    count_is = s.count_is;
+    count_fits = s.count_fits;
+    found_small = s.found_small;
+    within = s.within;
+    blob_is = s.blob_is;
+  }
+
+  pub here_of : (w : Bounds) (bytes : List ℕ) (count0 : ℕ) (room0 : List S) (beyond slot : Said) (slots : List Said) (count blob found : ℕ) (room : List S) (s : Looking w bytes count0 room0 beyond (slot ∷ slots) count blob found room) (e : Entry) → e ≡ entry_with beyond slot → false ≡ slot.beyond
+      → Here s.rest bytes s.place beyond slots blob e
+  here_of w bytes count0 room0 beyond slot slots count blob found room s e is own =
+      let left : e ∷ entries_from beyond slots ≡ told_from entry_of blob s.place s.rest = ap (λ (p : Entry). p ∷ entries_from beyond slots) is ∙ (ap (λ (b : Bool). cond b (entries_from slot slots) (entry_with beyond slot ∷ entries_from beyond slots)) own ∙ s.entries_are) in
+      first_of_entries s.rest bytes s.place beyond slots blob e left (next_of s.rest bytes s.place s.left (some_left s.rest bytes blob s.place _ _ left s.left))
+
+  -- and its number fits
+  pub here_fits : (w : Bounds) (bytes : List ℕ) (count0 : ℕ) (room0 : List S) (beyond slot : Said) (slots : List Said) (count blob found : ℕ) (room : List S) (s : Looking w bytes count0 room0 beyond (slot ∷ slots) count blob found room) (e : Entry) → Here s.rest bytes s.place beyond slots blob e
+      → blob < length bytes
+  here_fits w bytes count0 room0 beyond slot slots count blob found room s e h = omega (arith, s.blob_is, ap length h.next.is, layer_short s.trees bytes s.whole.layer)
+
+  pub look_goes_on : (w : Bounds) (bytes : List ℕ) (count0 : ℕ) (room0 : List S) (beyond slot : Said) (slots : List Said) (count blob found : ℕ) (room : List S) (s : Looking w bytes count0 room0 beyond (slot ∷ slots) count blob found room) (e : Entry) (n : Here s.rest bytes s.place beyond slots blob e)
+      (reported : S) → reported ≡ of (record { blob = blob; offset = e.offset; bytes = size_of n.next.tree }) → (new : ℕ) → new ≡ added count (directory_cost w n.next.tree) → (b : Bool) → b ≡ list_any (is_inside w) (vertices n.next.tree)
+      → Looking w bytes count0 room0 beyond slots new (blob + 1) (cond b (found + 1) found) (cond b (slice_set room found reported) room)
+  look_goes_on w bytes count0 room0 beyond slot slots count blob found room s e h reported is_hit new adds b is =
+      let n = h.next in
+      let place = s.place in
+      let hit : S = of (record { blob = blob; offset = place; bytes = size_of n.tree }) in
+      let named : reported ≡ hit = is_hit ∙ (λ j. of (record { blob = blob; offset = h.offset j; bytes = size_of n.tree })) in
+      record {
+        trees = s.trees;
+        whole = s.whole;
+        rest = n.after;
+        place = place + size_of n.tree;
+        seen = s.seen ++ cond b (hit ∷ []) [];
+        left = n.goes_on;
+        entries_are = h.others;
+        hits_are = s.hits_are ∙ (ap (λ ts. s.seen ++ hits_from of blob place ts w) n.is ∙ (ap (λ hs. s.seen ++ hs) (hits_go_on of w blob place n.tree n.after b is) ∙ sym (append_assoc s.seen (cond b (hit ∷ []) []) (hits_from of (blob + 1) (place + size_of n.tree) n.after w))));
+        found_is = found_goes_on of s.seen found hit b s.found_is;
+        room_is = ap (λ (h : S). cond b (slice_set room found h) room) named ∙ room_goes_on of s.seen room0 room found hit b s.found_is s.room_is;
+        count_is = ap (λ (c : ℕ). added c (sum_by (directory_cost w) n.after)) adds ∙ (added_twice count (directory_cost w n.tree) (sum_by (directory_cost w) n.after) ∙ (ap (added count) (sym (sum_by-cons (directory_cost w) n.tree n.after)) ∙ (ap (λ ts. added count (sum_by (directory_cost w) ts)) (sym n.is) ∙ s.count_is)));
+        count_fits = omega (arith, adds);
+        found_small = found_fits b found blob s.found_small;
+        within = n.within;
+        blob_is = omega (arith, s.blob_is, ap length n.is);
+      }
+
+  -- the slot of this number, and those behind it
+  pub slot_next : (w : Bounds) (bytes : List ℕ) (count0 : ℕ) (room0 : List S) (beyond : Said) (slots : List Written) (at : ℕ) (count blob found : ℕ) (room : List S) → Looking w bytes count0 room0 beyond (map slot_says (drop at slots)) count blob found room
+      → (slot : Written) → slot ≡ get_or slots at slot → at < length slots → Looking w bytes count0 room0 beyond (slot_says slot ∷ map slot_says (drop (at + 1) slots)) count blob found room
+  slot_next w bytes count0 room0 beyond slots at count blob found room s slot is lt =
+      subst (λ ls. Looking w bytes count0 room0 beyond (map slot_says ls) count blob found room) (drop_more slots at slot lt ∙ ap (λ (l : Written). l ∷ drop (at + 1) slots) (sym is)) s
+
+  -- what a scan with slots found
+  pub record LookedUp (w : Bounds) (count0 : ℕ) (room0 : List S) (count found : ℕ) (room : List S) (trees : List Geometry) : Type 0 where
+    pub answer : found ≡ length (hits trees w)
+    pub room_is : room ≡ filled (map of (found_blobs trees w)) room0
+    pub count_is : count ≡ added count0 (sum_by (directory_cost w) trees)
+
+  pub look_ends : (w : Bounds) (bytes : List ℕ) (count0 : ℕ) (room0 : List S) (beyond : Said) (slots : List Written) (at count blob found : ℕ) (room : List S) → Looking w bytes count0 room0 beyond (map slot_says (drop at slots)) count blob found room → length slots ≤ at
+      → (trees : List Geometry) → IsCertifiedLayer trees bytes → LookedUp w count0 room0 count found room trees
+  look_ends w bytes count0 room0 beyond slots at count blob found room s le trees h =
+      let none = no_entries blob s.place s.rest (sym (ap (λ ls. entries_from beyond (map slot_says ls)) (drop_all at slots le)) ∙ s.entries_are) in
+      let same : s.trees ≡ trees = layer_once s.trees trees bytes s.whole.layer h.layer in
+      let all : map of (found_blobs s.trees w) ≡ s.seen = s.hits_are ∙ (ap (λ ts. s.seen ++ hits_from of blob s.place ts w) none ∙ append-nil s.seen) in
+      let counts : count ≡ added count0 (sum_by (directory_cost w) s.trees) = counted_none count s.count_fits ∙ (ap (λ ts. added count (sum_by (directory_cost w) ts)) (sym none) ∙ s.count_is) in
+      subst (LookedUp w count0 room0 count found room) same
+      (record { answer = s.found_is ∙ (ap length (sym all) ∙ as_many of s.trees w); room_is = s.room_is ∙ ap (λ hs. filled hs room0) (sym all); count_is = counts })
 
 -- a blob that isn't looked at costs nothing
 pub missed_costs : (w : Bounds) (g : Geometry) (count : ℕ) → count < 2 ^ 64 → is_missed w (box_of g) ≡ true → count ≡ added count (directory_cost w g)

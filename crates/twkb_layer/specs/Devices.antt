@@ -7,3 +7,4 @@ pub mod Raw
 pub mod Slots
 pub mod Collecting
 pub mod TextReader
+pub mod Decimals

@@ -5,8 +5,8 @@ use Rattle.twkb_layer.proofs.Looking.{Looking}
 use Rattle.twkb_layer.proofs.scans.scan_slots.Given as goal
 
 abbrev pub invariant-loop-slot : goal.invariant-loop-slot
-invariant-loop-slot l = record {
+invariant-loop-slot g l = record {
   bytes : l.cursor.bytes ≡ l.fn.cursor.bytes;
   small : length l.fn.cursor.bytes < 2 ^ 64;
-  going : Looking l.window l.fn.cursor.bytes l.fn.cursor.count l.fn.room (slot_says l.beyond) (map slot_says (drop l.slot-index l.slots)) l.cursor.count l.blob l.found l.room;
+  going : Looking g.R.FromFound.of l.window l.fn.cursor.bytes l.fn.cursor.count l.fn.room (slot_says l.beyond) (map slot_says (drop l.slot-index l.slots)) l.cursor.count l.blob l.found l.room;
 }

@@ -1,6 +1,8 @@
--- Behind the scan the layer is certified still, with the same numbers.
-use Rattle.std.proofs.Common.{rules}
+-- What is put into the room without lengths is the hits.
+use Rattle.std.proofs.Common.{ap, sym, ◌∙◌}
+use Rattle.twkb_layer.specs.Hits.{filled}
+use Rattle.twkb_layer.proofs.Scanning.{hits_found}
 use Rattle.twkb_layer.proofs.certified.Certified.scan.Goals as goal
 
-pub invariant_of-self : goal.invariant_of-self
-invariant_of-self c = search rules
+pub returns-clause-room : goal.returns-clause-room
+returns-clause-room c = λ trees h. c.scan_into.ensures.room trees h ∙ ap (λ hs. filled hs c.args.room.now) (sym (hits_found trees c.args.window.now))

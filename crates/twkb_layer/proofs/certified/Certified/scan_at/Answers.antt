@@ -1,0 +1,8 @@
+-- What is put into the room without lengths is the hits.
+use Rattle.std.proofs.Common.{ap, sym, ◌∙◌}
+use Rattle.twkb_layer.specs.Hits.{filled}
+use Rattle.twkb_layer.proofs.Scanning.{hits_found}
+use Rattle.twkb_layer.proofs.certified.Certified.scan_at.Goals as goal
+
+pub returns-clause-room : goal.returns-clause-room
+returns-clause-room c = λ trees h. c.scan_at_into.ensures.room trees h ∙ ap (λ hs. filled hs c.args.room.now) (sym (hits_found trees c.args.window.now))

@@ -1,0 +1,6 @@
+-- Behind the scan the layer is certified still, with the same numbers.
+use Rattle.std.proofs.Common.{rules}
+use Rattle.twkb_layer.proofs.certified.Certified.scan_into.Goals as goal
+
+pub invariant_of-self : goal.invariant_of-self
+invariant_of-self g c = search rules

@@ -1,0 +1,12 @@
+-- Rounded away from 0 if it has a minus.
+use Rattle.std.proofs.Common.{◌*◌, ◌^◌, Bool, min, ap, ◌∙◌, rules}
+use Rattle.std.proofs.lemmas.Int.{to_z-of_z}
+use Rattle.std.specs.Int.{w128}
+use Rattle.twkb_layer.specs.Decimals.{Decimal, signed, farthest}
+use Rattle.twkb_layer.proofs.Rounding.{up_by, lowered_is}
+use Rattle.twkb_layer.proofs.decimal.Decimal.rounded_down.Goals as goal
+
+pub returns : goal.returns
+returns c =
+    let d = c.args.self.now in
+    to_z-of_z w128 c.rounded.result (search rules) ∙ (c.rounded.ensures ∙ (ap (λ (b : Bool). signed d.minus (min (up_by b (d.number * 10 ^ 7) (10 ^ d.places)) farthest)) (ap (λ (e : Decimal). e.minus) c.self.view_is) ∙ lowered_is d.minus d.number d.places))

@@ -1,0 +1,6 @@
+-- It ends at the place.
+use Rattle.std.proofs.Common.{rules}
+use Rattle.twkb_layer.proofs.scans.passed.Goals as goal
+
+pub returns : goal.returns
+returns c = search rules

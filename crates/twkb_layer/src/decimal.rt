@@ -1,0 +1,220 @@
+//! Decimals of any length, as ends of windows.
+ghost use Rattle.std.specs.Prelude.{◌≡◌, ◌+◌, ◌*◌, ◌/◌, ◌%◌, ◌^◌, ◌==◌, ◌&&◌, min, cond, not, pos, neg_ℤ, ◌+ℤ◌, ◌-ℤ◌, ◌*ℤ◌, ◌≤ℤ◌, if◌then◌else◌, Ok, Err, IfOk, Some, IfSome, true, false};
+ghost use Rattle.std.specs.Str.Parse.{digits_value, AllDigits};
+ghost use Rattle.twkb_layer.specs.Devices.Decimals.{leaning};
+ghost use Rattle.twkb_layer.specs.Decimals.{Decimal, IsDecimalText, is_less, rational_of, rounded_up, rounded_down, signed, farthest, span_of_decimals};
+
+use crate::text::Text;
+use std::marker::Model;
+use thiserror::Error;
+use twkb_body::Span;
+
+/// The decimals of a unit: 10^-7.
+const UNIT_PLACES: usize = 7;
+
+/// The farthest end from 0, in units. No coordinate is as far.
+const FARTHEST: u128 = 10_000_000_000_000_000_000_000_000_000_000_000;
+
+/// Why two texts are no range.
+#[derive(Clone, Copy, Debug, PartialEq, Eq, Error)]
+pub enum BadRange {
+    /// One of them isn't a decimal.
+    #[error("not of the form [-]digits[.digits]")]
+    Form = 1,
+    /// The lower bound is above the upper bound.
+    #[error("lower bound above upper bound")]
+    Order = 2,
+}
+
+/// The range in units between two decimals: its lower end is rounded up, and its upper end down. A coordinate is a whole number
+/// of units, so it's in this range exactly if it's between the decimals. A range with no unit in it has `lo` above `hi`.
+///
+/// A decimal is an optional minus, one digit or more, and optionally a point and one digit or more. Its value may be farther
+/// from 0 than any coordinate; the end is then 10^34 units, or -10^34. No memory is taken.
+///
+/// # Errors
+///
+/// [`BadRange::Form`] if a text isn't a decimal, and otherwise [`BadRange::Order`] if the lower one is greater.
+pub fn span_of_decimals(lo: &[u8], hi: &[u8]) -> Result<Span, BadRange>
+    ensures ok { IfOk result (λ span. (a b : Decimal) × IsDecimalText lo.now a × IsDecimalText hi.now b
+        × (is_less (rational_of b) (rational_of a) ≡ false) × (span ≡ span_of_decimals a b)) }
+    ensures order { result ≡ Err BadRange.Order → (a b : Decimal) × IsDecimalText lo.now a
+        × IsDecimalText hi.now b × (is_less (rational_of b) (rational_of a) ≡ true) }
+    ensures exact { (a b : Decimal) → IsDecimalText lo.now a → IsDecimalText hi.now b
+        → result ≡ (if is_less (rational_of b) (rational_of a) then Err BadRange.Order else Ok (span_of_decimals a b)) }
+{
+    let Some(lo) = Decimal::parse(lo) else {
+        return Err(BadRange::Form);
+    };
+    let Some(hi) = Decimal::parse(hi) else {
+        return Err(BadRange::Form);
+    };
+    if lo.is_above(&hi) {
+        return Err(BadRange::Order);
+    }
+    Ok(Span {
+        lo: lo.rounded_up(),
+        hi: hi.rounded_down(),
+    })
+}
+
+/// A decimal, by its digits before and after the point.
+#[derive(Drop)]
+pub struct Decimal<'t> {
+    minus: bool,
+    whole: &'t [u8],
+    fraction: &'t [u8],
+}
+
+impl<'t> Model for Decimal<'t> {
+    ghost use Rattle.std.specs.Prelude.{◌+◌, ◌^◌, ◌<◌, ◌++◌, length};
+    ghost use Rattle.std.specs.Str.Parse.{digits_value, AllDigits};
+    ghost use Rattle.twkb_layer.specs.Decimals.{Decimal};
+    ghost use Rattle.twkb_layer.specs.Devices.Decimals.{AreDigits};
+
+    ghost Value = { Decimal };
+
+    ghost view = { λ d. record {
+      minus = d.minus;
+      number = digits_value 10 (d.whole.now ++ d.fraction.now);
+      places = length d.fraction.now;
+    } };
+
+    ghost invariant = { λ d. AreDigits d.whole.now d.fraction.now };
+}
+
+impl<'t> Decimal<'t> {
+    /// Reads a decimal: the whole text is one, or it is `None`.
+    pub fn parse(text: &'t [u8]) -> Option<Decimal<'t>>
+        ensures some { IfSome result (λ d. IsDecimalText text.now d) }
+        ensures exact { (d : Decimal) → IsDecimalText text.now d → result ≡ Some d }
+    {
+        let mut rest = Text::new(text);
+        let minus = rest.skip(b"-");
+        let whole = rest.digits();
+        let fraction = rest.fraction();
+        if whole.is_empty() || !rest.is_empty() {
+            return None;
+        }
+        Some(Decimal {
+            minus,
+            whole,
+            fraction,
+        })
+    }
+
+    /// The least number of units that isn't less, as far as [`FARTHEST`].
+    pub fn rounded_up(&self) -> i128
+        ensures { result ≡ rounded_up (rational_of self.now) }
+    {
+        self.rounded(!self.minus)
+    }
+
+    /// The greatest number of units that isn't greater, as far as [`FARTHEST`].
+    pub fn rounded_down(&self) -> i128
+        ensures { result ≡ rounded_down (rational_of self.now) }
+    {
+        self.rounded(self.minus)
+    }
+
+    /// Whether it is greater than the other one.
+    pub fn is_above(&self, other: &Decimal) -> bool
+        ensures { result ≡ is_less (rational_of other.now) (rational_of self.now) }
+    {
+        let (places, others) = (self.fraction.len(), other.fraction.len());
+        let mut behind = self.whole.len().max(other.whole.len()) + places + others;
+        let mut ahead: i64 = 0;
+        while behind > 0 {
+            behind -= 1;
+            let digit = self.signed_digit(others, behind);
+            ahead = leaning(ahead, digit, other.signed_digit(places, behind));
+        }
+        ahead > 0
+    }
+
+    /// The units, rounded away from 0 or towards it, as far as [`FARTHEST`].
+    fn rounded(&self, away: bool) -> i128
+        ensures { let units = self.now.number * 10 ^ 7 in let one = 10 ^ self.now.places in
+            result ≡ signed self.now.minus (min (units / one + cond (away && not (units % one == 0)) 1 0) farthest) }
+    {
+        let mut amount = self.amount();
+        if away && self.is_between_units() {
+            amount = (amount + 1).min(FARTHEST);
+        }
+        let amount = amount as i128;
+        if self.minus { -amount } else { amount }
+    }
+
+    /// The units without the sign, rounded towards 0, as far as [`FARTHEST`].
+    fn amount(&self) -> u128
+        ensures { result ≡ min (self.now.number * 10 ^ 7 / 10 ^ self.now.places) farthest }
+    {
+        let places = self.fraction.len();
+        let mut behind = self.whole.len() + places + UNIT_PLACES;
+        let mut amount = 0;
+        while behind > places {
+            behind -= 1;
+            amount = (amount * 10 + u128::from(self.digit(UNIT_PLACES, behind))).min(FARTHEST);
+        }
+        amount
+    }
+
+    /// Whether it isn't a whole number of units.
+    fn is_between_units(&self) -> bool
+        ensures { result ≡ not (self.now.number * 10 ^ 7 % 10 ^ self.now.places == 0) }
+    {
+        for behind in 0..self.fraction.len() {
+            if self.digit(UNIT_PLACES, behind) != 0 {
+                return true;
+            }
+        }
+        false
+    }
+
+    /// The digit with its sign.
+    fn signed_digit(&self, zeros: usize, behind: usize) -> i64
+        ensures { result ≡ signed self.now.minus (self.now.number * 10 ^ zeros / 10 ^ behind % 10) }
+    {
+        let digit = i64::from(self.digit(zeros, behind));
+        if self.minus { -digit } else { digit }
+    }
+
+    /// The digit with so many digits behind it, of all digits without the point and so many zeros.
+    fn digit(&self, zeros: usize, behind: usize) -> u8
+        ensures { result ≡ self.now.number * 10 ^ zeros / 10 ^ behind % 10 }
+    {
+        if behind < zeros {
+            return 0;
+        }
+        let behind = behind - zeros;
+        let places = self.fraction.len();
+        if behind < places {
+            digit_of(self.fraction, behind)
+        } else {
+            digit_of(self.whole, behind - places)
+        }
+    }
+}
+
+/// Which way a difference goes, at most by 2, with one digit more of each number.
+// No later digits turn a difference of 2 round.
+fn leaning(ahead: i64, digit: i64, other: i64) -> i64
+    requires ahead { (neg_ℤ (pos 2) ≤ℤ ahead) × (ahead ≤ℤ pos 2) }
+    requires digit { (neg_ℤ (pos 9) ≤ℤ digit) × (digit ≤ℤ pos 9) }
+    requires other { (neg_ℤ (pos 9) ≤ℤ other) × (other ≤ℤ pos 9) }
+    ensures { result ≡ leaning (ahead *ℤ pos 10 +ℤ (digit -ℤ other)) }
+{
+    (ahead * 10 + (digit - other)).clamp(-2, 2)
+}
+
+/// The digit with so many digits behind it, or 0 where there is none.
+fn digit_of(digits: &[u8], behind: usize) -> u8
+    requires { AllDigits 10 digits.now }
+    ensures { result ≡ digits_value 10 digits.now / 10 ^ behind % 10 }
+{
+    if behind < digits.len() {
+        digits[digits.len() - 1 - behind] - b'0'
+    } else {
+        0
+    }
+}
