@@ -29,7 +29,7 @@ static struct twkb_window tile(int number) {
     char text[64];
     int x = 9 * (number % 40) - 180, y = 7 * (number / 40) - 90;
     int len = snprintf(text, sizeof text, "x=%d..%d,y=%d..%d", x, x + 9, y, y + 7);
-    if (twkb_window_parse((const uint8_t *)text, (size_t)len, &window) != TWKB_WINDOW) abort();
+    if (twkb_window_parse(text, (size_t)len, &window) != TWKB_WINDOW) abort();
     return window;
 }
 
@@ -89,10 +89,10 @@ static void time_calls(void) {
     const struct twkb_layer layer = {line, sizeof line, 1, 2};
     const char *text = "x=0..1,y=0..1";
     struct twkb_window window;
-    if (twkb_window_parse((const uint8_t *)text, strlen(text), &window) != TWKB_WINDOW) abort();
+    if (twkb_window_parse(text, strlen(text), &window) != TWKB_WINDOW) abort();
     start = nanoseconds();
     size_t hits = 0;
-    for (int i = 0; i < CALLS; i++) hits += twkb_scan(&layer, &window, &(struct twkb_hit){0, 0}, 1).hits;
+    for (int i = 0; i < CALLS; i++) hits += twkb_scan(&layer, &window, &(struct twkb_hit){0}, 1).hits;
     printf("scan, a call on seven bytes: %.1f ns, %zu hits\n", (nanoseconds() - start) / CALLS, hits);
 }
 

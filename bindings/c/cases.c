@@ -43,7 +43,7 @@ static enum asked words(int count, char **word, int *file) {
 /* Reads the texts of windows. Answers a status, 0 where each of them is one. */
 static int read_windows(char **texts, int count, struct twkb_window *windows) {
     for (int i = 0; i < count; i++) {
-        uint32_t answer = twkb_window_parse((const uint8_t *)texts[i], strlen(texts[i]), &windows[i]);
+        uint32_t answer = twkb_window_parse(texts[i], strlen(texts[i]), &windows[i]);
         if (answer == TWKB_WINDOW) continue;
         bool order = answer == TWKB_BAD_ORDER;
         const char *why = order ? "lower bound above upper bound" : "not of the form x=A..B,y=C..D[,z=E..F][,m=G..H]";
@@ -54,22 +54,19 @@ static int read_windows(char **texts, int count, struct twkb_window *windows) {
 }
 
 static int print_refusal(const struct twkb_verdict *verdict) {
-    static const char *const kinds[] = {"", "cut", "varint", "type", "depth", "range", "size", "box", "ids", "loose"};
     if (verdict->kind < TWKB_CUT || verdict->kind > TWKB_LOOSE) return fault(3, "a kind that is none");
-    printf("no blob=%zu offset=%zu kind=%s\n", verdict->blob, verdict->offset, kinds[verdict->kind]);
+    printf("no blob=%zu offset=%zu kind=%s\n", verdict->blob, verdict->offset, twkb_kind_name(verdict->kind).text);
     return 1;
 }
 
 static int print_rows(const struct twkb_layer *layer) {
-    static const char *const names[] = {
-        "", "point", "linestring", "polygon", "multipoint", "multilinestring", "multipolygon", "geometrycollection"};
     struct twkb_row *rows = calloc(layer->blobs + 1, sizeof *rows);
     if (!rows) return no_memory();
     size_t count = twkb_list(layer, rows, layer->blobs);
     for (size_t i = 0; i < count; i++) {
         struct twkb_row row = rows[i];
         const char *size = yes_no(row.has_size), *box = yes_no(row.has_box);
-        printf("blob=%zu offset=%zu bytes=%zu type=%s ", row.blob, row.offset, row.bytes, names[row.kind]);
+        printf("blob=%zu offset=%zu bytes=%zu type=%s ", row.blob, row.offset, row.bytes, twkb_type_name(row.type).text);
         printf("precision=%d vertices=%zu size=%s box=%s\n", row.precision, row.vertices, size, box);
     }
     free(rows);

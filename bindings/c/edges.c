@@ -24,7 +24,7 @@ static struct twkb_layer certified(const uint8_t *bytes, size_t len) {
 
 static struct twkb_window window_of(const char *text) {
     struct twkb_window window;
-    CHECK(twkb_window_parse((const uint8_t *)text, strlen(text), &window) == TWKB_WINDOW);
+    CHECK(twkb_window_parse(text, strlen(text), &window) == TWKB_WINDOW);
     return window;
 }
 
@@ -73,7 +73,7 @@ static void no_window(void) {
     for (size_t i = 0; i < sizeof texts / sizeof *texts; i++) {
         /* Without the end of a C string. */
         size_t len = strlen(texts[i].text);
-        uint8_t *text = guarded_copy(texts[i].text, len);
+        char *text = guarded_copy(texts[i].text, len);
         struct twkb_window window, before;
         memset(&window, 0x5a, sizeof window);
         memcpy(&before, &window, sizeof window);
@@ -115,8 +115,75 @@ static void large_numbers(void) {
     struct twkb_layer layer = certified(point, sizeof point);
     for (size_t i = 0; i < sizeof windows / sizeof *windows; i++) {
         struct twkb_window window = window_of(windows[i].text);
-        CHECK(twkb_scan(&layer, &window, &(struct twkb_hit){0, 0}, 1).hits == windows[i].hits);
+        CHECK(twkb_scan(&layer, &window, &(struct twkb_hit){0}, 1).hits == windows[i].hits);
     }
+}
+
+static uint32_t span_of(const char *lo, const char *hi, struct twkb_span *span) {
+    return twkb_span_of_decimals(lo, strlen(lo), hi, strlen(hi), span);
+}
+
+/* Ends of any length, each at a page that nobody may touch, are rounded inward. */
+static void decimals(void) {
+    static const struct {
+        const char *lo, *hi;
+        uint32_t answer;
+        int64_t least, greatest;
+    } ranges[] = {
+        {"0", "1", TWKB_SPAN, 0, 10000000},
+        {"-0.00000019", "0.00000019", TWKB_SPAN, -1, 1},
+        {"0.1000000000000000055511151231257827", "0.30000000000000004", TWKB_SPAN, 1000001, 3000000},
+        {"0.00000001", "0.00000002", TWKB_SPAN, 1, 0},
+        {"0.00000002", "0.00000001", TWKB_BAD_ORDER, 0, 0},
+        {"1", "0.99999999999999999999", TWKB_BAD_ORDER, 0, 0},
+        {"", "1", TWKB_BAD_FORM, 0, 0},
+        {"0", "1e3", TWKB_BAD_FORM, 0, 0},
+        {"2", "1x", TWKB_BAD_FORM, 0, 0},
+    };
+    for (size_t i = 0; i < sizeof ranges / sizeof *ranges; i++) {
+        size_t lo_len = strlen(ranges[i].lo), hi_len = strlen(ranges[i].hi);
+        char *lo = guarded_copy(ranges[i].lo, lo_len), *hi = guarded_copy(ranges[i].hi, hi_len);
+        struct twkb_span span, before;
+        memset(&span, 0x5a, sizeof span);
+        memcpy(&before, &span, sizeof span);
+        CHECK(twkb_span_of_decimals(lo, lo_len, hi, hi_len, &span) == ranges[i].answer);
+        if (ranges[i].answer == TWKB_SPAN) {
+            CHECK(are(span.lo, (uint64_t)ranges[i].least, ranges[i].least < 0 ? -1 : 0));
+            CHECK(are(span.hi, (uint64_t)ranges[i].greatest, ranges[i].greatest < 0 ? -1 : 0));
+        } else {
+            CHECK(memcmp(&span, &before, sizeof span) == 0);
+        }
+        free_guarded(lo, lo_len);
+        free_guarded(hi, hi_len);
+    }
+}
+
+/* The farthest vertex is inside ranges that begin or end far beyond it, and outside those that begin beyond it. */
+static void far_decimals(void) {
+    static const uint8_t point[] = {0xf1, 0x00, 0x80, 0x89, 0x7a, 0x80, 0x89, 0x7a};
+    const char *beyond = "10000000000000000000000000000000000000000", *below = "-10000000000000000000000000000000000000000";
+    struct twkb_layer layer = certified(point, sizeof point);
+    struct twkb_window window = {0};
+    struct twkb_hit hit = {0};
+    CHECK(span_of(below, beyond, &window.x) == TWKB_SPAN && span_of("100000000000000.000", beyond, &window.y) == TWKB_SPAN);
+    CHECK(twkb_scan(&layer, &window, &hit, 1).hits == 1 && hit.bytes == sizeof point);
+    CHECK(span_of("100000000000000.00000000000000000001", beyond, &window.y) == TWKB_SPAN);
+    CHECK(twkb_scan(&layer, &window, &hit, 1).hits == 0);
+    CHECK(span_of(beyond, beyond, &window.y) == TWKB_SPAN);
+    CHECK(twkb_scan(&layer, &window, &hit, 1).hits == 0);
+}
+
+/* ---- names */
+
+static void names(void) {
+    static const char *const kinds[] = {"", "cut", "varint", "type", "depth", "range", "size", "box", "ids", "loose", ""};
+    static const char *const types[] = {"", "point", "linestring", "polygon", "multipoint", "multilinestring", "multipolygon",
+                                        "geometrycollection", ""};
+    static const char *const answers[] = {"certified", "refused", "no memory", ""};
+    for (uint32_t i = 0; i < sizeof kinds / sizeof *kinds; i++) CHECK(strcmp(twkb_kind_name(i).text, kinds[i]) == 0);
+    for (uint32_t i = 0; i < sizeof types / sizeof *types; i++) CHECK(strcmp(twkb_type_name(i).text, types[i]) == 0);
+    for (uint32_t i = 0; i < sizeof answers / sizeof *answers; i++) CHECK(strcmp(twkb_answer_name(i).text, answers[i]) == 0);
+    CHECK(*twkb_kind_name(UINT32_MAX).text == 0 && *twkb_type_name(UINT32_MAX).text == 0 && *twkb_answer_name(UINT32_MAX).text == 0);
 }
 
 /* A range upside down, which no text names, holds nothing. */
@@ -124,7 +191,7 @@ static void upside_down(const struct twkb_layer *layer) {
     struct twkb_window window = whole_world();
     struct twkb_span x = window.x;
     window.x = (struct twkb_span){x.hi, x.lo};
-    CHECK(twkb_scan(layer, &window, &(struct twkb_hit){0, 0}, 1).hits == 0);
+    CHECK(twkb_scan(layer, &window, &(struct twkb_hit){0}, 1).hits == 0);
 }
 
 /* ---- rooms */
@@ -164,11 +231,21 @@ static void rows_add_up(const struct twkb_layer *layer, const struct twkb_row *r
     size_t offset = 0, vertices = 0;
     bool in_order = true;
     for (size_t i = 0; i < layer->blobs; i++) {
-        in_order = in_order && rows[i].blob == i && rows[i].offset == offset && rows[i].kind >= 1 && rows[i].kind <= 7;
+        in_order = in_order && rows[i].blob == i && rows[i].offset == offset && rows[i].type >= 1 && rows[i].type <= 7;
         offset += rows[i].bytes;
         vertices += rows[i].vertices;
     }
     CHECK(in_order && offset == layer->len && vertices == layer->vertices);
+}
+
+/* A hit has the offset and the length of its blob's row. */
+static void hits_are_rows(const struct twkb_hit *hits, size_t count, const struct twkb_row *rows) {
+    bool same = true;
+    for (size_t i = 0; i < count; i++) {
+        const struct twkb_row *row = &rows[hits[i].blob];
+        same = same && hits[i].offset == row->offset && hits[i].bytes == row->bytes;
+    }
+    CHECK(same);
 }
 
 static void rooms(const struct twkb_layer *layer) {
@@ -179,6 +256,7 @@ static void rooms(const struct twkb_layer *layer) {
     rows_add_up(layer, rows);
     struct twkb_scanned scanned = twkb_scan(layer, &window, hits, layer->blobs);
     CHECK(scanned.hits <= layer->blobs && scanned.bytes_read <= layer->len);
+    hits_are_rows(hits, scanned.hits, rows);
     size_t sizes[] = {0, 1, 2, layer->blobs / 2, layer->blobs - 1, layer->blobs, layer->blobs + 3};
     for (size_t i = 0; layer->blobs > 0 && i < sizeof sizes / sizeof *sizes; i++) {
         list_rooms(layer, rows, sizes[i]);
@@ -250,7 +328,7 @@ static void judge(const uint8_t *bytes, size_t len) {
     CHECK(tight.answer == TWKB_CERTIFIED || tight.kind == TWKB_LOOSE);
     struct twkb_layer layer = {bytes, len, verdict.blobs, verdict.vertices};
     struct twkb_window window = whole_world();
-    CHECK(twkb_scan(&layer, &window, &(struct twkb_hit){0, 0}, 1).bytes_read <= len);
+    CHECK(twkb_scan(&layer, &window, &(struct twkb_hit){0}, 1).bytes_read <= len);
     CHECK(twkb_list(&layer, &(struct twkb_row){.blob = 0}, 1) == layer.blobs);
 }
 
@@ -303,7 +381,7 @@ static void *deep(void *nothing) {
         struct twkb_hit hit;
         struct twkb_row row;
         CHECK(twkb_scan(&layer, &window, &hit, 1).hits == 1 && hit.blob == 0 && hit.offset == 0);
-        CHECK(twkb_list(&layer, &row, 1) == 1 && row.kind == 7 && row.vertices == (i % 2 ? 2u : 1u));
+        CHECK(twkb_list(&layer, &row, 1) == 1 && row.type == 7 && row.vertices == (i % 2 ? 2u : 1u));
     }
     return nothing;
 }
@@ -351,7 +429,7 @@ static void threads(const struct twkb_layer *layer) {
     shared.windows[0] = whole_world();
     shared.windows[1] = window_of("x=0..20,y=0..60");
     shared.windows[2] = window_of("x=-80..-60,y=-60..0,z=0..9");
-    for (int i = 0; i < 3; i++) shared.wanted[i] = twkb_scan(layer, &shared.windows[i], &(struct twkb_hit){0, 0}, 0);
+    for (int i = 0; i < 3; i++) shared.wanted[i] = twkb_scan(layer, &shared.windows[i], &(struct twkb_hit){0}, 0);
     pthread_t all[THREADS];
     int begun = 0;
     while (begun < THREADS && pthread_create(&all[begun], NULL, use, &shared) == 0) begun++;
@@ -370,6 +448,9 @@ int main(int argc, char **argv) {
     no_window();
     numbers();
     large_numbers();
+    decimals();
+    far_decimals();
+    names();
     struct twkb_layer layer = certified(bytes, len);
     upside_down(&layer);
     rooms(&layer);

@@ -20,10 +20,8 @@ static bool taken(void *into, size_t size) {
 }
 
 static void print_verdict(struct twkb_verdict verdict) {
-    static const char *const kinds[] = {"?", "cut", "varint", "type", "depth", "range", "size", "box", "ids", "loose"};
     if (verdict.answer == TWKB_REFUSED) {
-        const char *kind = verdict.kind <= TWKB_LOOSE ? kinds[verdict.kind] : "?";
-        printf("no blob=%zu offset=%zu kind=%s\n", verdict.blob, verdict.offset, kind);
+        printf("no blob=%zu offset=%zu kind=%s\n", verdict.blob, verdict.offset, twkb_kind_name(verdict.kind).text);
     } else if (verdict.answer == TWKB_CERTIFIED) {
         printf("ok blobs=%zu vertices=%zu\n", verdict.blobs, verdict.vertices);
     } else {
@@ -36,14 +34,12 @@ static const char *yes_no(bool is) {
 }
 
 static void print_rows(const struct twkb_layer *layer) {
-    static const char *const names[] = {
-        "?", "point", "linestring", "polygon", "multipoint", "multilinestring", "multipolygon", "geometrycollection"};
     size_t size = layer->blobs * sizeof(struct twkb_row);
     struct twkb_row *rows = guarded(size);
     size_t count = twkb_list(layer, rows, layer->blobs);
     for (size_t i = 0; i < count; i++) {
-        const char *name = rows[i].kind <= 7 ? names[rows[i].kind] : "?";
-        printf("blob=%zu offset=%zu bytes=%zu type=%s ", rows[i].blob, rows[i].offset, rows[i].bytes, name);
+        printf("blob=%zu offset=%zu bytes=%zu type=%s ", rows[i].blob, rows[i].offset, rows[i].bytes,
+               twkb_type_name(rows[i].type).text);
         printf("precision=%d vertices=%zu ", rows[i].precision, rows[i].vertices);
         printf("size=%s box=%s\n", yes_no(rows[i].has_size), yes_no(rows[i].has_box));
     }
@@ -99,7 +95,7 @@ static bool take_window(struct twkb_window *window, char *said, size_t size) {
     char *text = guarded(len);
     if (!taken(text, len)) return false;
     struct twkb_window read = {0};
-    uint32_t answered = twkb_window_parse((const uint8_t *)text, len, &read);
+    uint32_t answered = twkb_window_parse(text, len, &read);
     snprintf(said, size, "%" PRIu32 " %s\n", answered, same(&read, window) ? "same" : "other");
     free_guarded(text, len);
     return true;

@@ -18,6 +18,9 @@ PLACE(twkb_verdict, vertices, 16, 8);
 PLACE(twkb_verdict, blob, 24, 8);
 PLACE(twkb_verdict, offset, 32, 8);
 
+SIZE(twkb_name, 24);
+PLACE(twkb_name, text, 0, 24);
+
 SIZE(twkb_layer, 32);
 PLACE(twkb_layer, bytes, 0, 8);
 PLACE(twkb_layer, len, 8, 8);
@@ -29,7 +32,7 @@ PLACE(twkb_row, blob, 0, 8);
 PLACE(twkb_row, offset, 8, 8);
 PLACE(twkb_row, bytes, 16, 8);
 PLACE(twkb_row, vertices, 24, 8);
-PLACE(twkb_row, kind, 32, 1);
+PLACE(twkb_row, type, 32, 1);
 PLACE(twkb_row, precision, 33, 1);
 PLACE(twkb_row, has_size, 34, 1);
 PLACE(twkb_row, has_box, 35, 1);
@@ -50,9 +53,10 @@ PLACE(twkb_window, m, 96, 32);
 PLACE(twkb_window, has_z, 128, 1);
 PLACE(twkb_window, has_m, 129, 1);
 
-SIZE(twkb_hit, 16);
+SIZE(twkb_hit, 24);
 PLACE(twkb_hit, blob, 0, 8);
 PLACE(twkb_hit, offset, 8, 8);
+PLACE(twkb_hit, bytes, 16, 8);
 
 SIZE(twkb_scanned, 16);
 PLACE(twkb_scanned, hits, 0, 8);

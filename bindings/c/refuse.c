@@ -118,7 +118,7 @@ static void others_take_nothing(const struct bytes *layer) {
     struct twkb_row row;
     struct twkb_hit hit;
     refuse(1);
-    CHECK(twkb_window_parse((const uint8_t *)text, strlen(text), &window) == TWKB_WINDOW);
+    CHECK(twkb_window_parse(text, strlen(text), &window) == TWKB_WINDOW);
     window.has_z = window.has_m = false;
     CHECK(twkb_list(&certified, &row, 1) == 1 && row.vertices == IDS);
     CHECK(twkb_scan(&certified, &window, &hit, 1).hits == 1);

@@ -5,7 +5,7 @@
  * offsets of the structs.
  *
  * What the caller guarantees at each call, which nothing checks:
- * - a pointer to bytes, rows, hits or slots is valid for as many as the number after it says, and isn't NULL, even if that
+ * - a pointer to bytes, text, rows, hits or slots is valid for as many as the number after it says, and isn't NULL, even if that
  *   number is 0; a pointer to a layer or a window is valid for one; all are aligned as C aligns them;
  * - a pointer and its number span at most 2^63 - 1 bytes;
  * - nobody writes the bytes, the layer, the slots or the window while the call runs, and memory that the call writes
@@ -58,7 +58,7 @@ enum {
 /* The verdict on bytes. Numbers that don't belong to the answer are 0. */
 struct twkb_verdict {
     uint32_t answer;
-    uint32_t kind;   /* of a refusal: its kind */
+    uint32_t kind;   /* of a refusal: its kind, such as TWKB_BOX */
     size_t blobs;    /* of a certified layer: how many blobs */
     size_t vertices; /* of a certified layer: how many vertices */
     size_t blob;     /* of a refusal: the number of the first blob that is wrong, from 0 */
@@ -71,6 +71,17 @@ struct twkb_verdict twkb_certify(const uint8_t *bytes, size_t len);
 
 /* Certifies as twkb_certify does, and also refuses loose boxes, which scans would rarely hop over. */
 struct twkb_verdict twkb_certify_tight(const uint8_t *bytes, size_t len);
+
+/* A word, ended by a 0. */
+struct twkb_name {
+    char text[24];
+};
+
+/* The words for what a verdict answers, for a refusal's kind and for a geometry's type, as the program prints them: "refused",
+ * "box", "point". For any other number the text is empty. As in printf("%s", twkb_kind_name(verdict.kind).text). */
+struct twkb_name twkb_answer_name(uint32_t answer);
+struct twkb_name twkb_kind_name(uint32_t kind);
+struct twkb_name twkb_type_name(uint32_t type);
 
 /* A certified layer, in storage of the caller. It borrows its bytes. */
 struct twkb_layer {
@@ -86,7 +97,7 @@ struct twkb_row {
     size_t offset;     /* its offset */
     size_t bytes;      /* its length in bytes */
     size_t vertices;   /* how many vertices it has, at all depths */
-    uint8_t kind;      /* its type, from 1 (point) to 7 (collection) */
+    uint8_t type;      /* from 1 (point) to 7 (collection) */
     int8_t precision;  /* of X and Y, from -8 to 7 */
     bool has_size;
     bool has_box;
@@ -122,12 +133,28 @@ enum { TWKB_WINDOW = 0, TWKB_BAD_FORM = 1, TWKB_BAD_ORDER = 2 };
 
 /* Parses a window of the form x=A..B,y=C..D[,z=E..F][,m=G..H], with up to seven decimals, exactly. Unless it returns
  * TWKB_WINDOW, the window stays as it was. TWKB_BAD_ORDER means a lower bound above its upper bound. */
-uint32_t twkb_window_parse(const uint8_t *text, size_t len, struct twkb_window *window);
+uint32_t twkb_window_parse(const char *text, size_t len, struct twkb_window *window);
+
+/* What making a range of decimals returns, besides TWKB_BAD_FORM and TWKB_BAD_ORDER. */
+enum { TWKB_SPAN = 0 };
+
+/* Makes the range between two decimals, [-]digits[.digits] of any length, in units: the lower end is rounded up, and the upper
+ * end down. Each coordinate is a whole number of units, so the range holds exactly the coordinates between the two decimals. If
+ * there is none, lo is above hi. An end that is farther from 0 than any coordinate becomes 10^34 units, or -10^34.
+ *
+ * Unless it returns TWKB_SPAN, the span stays as it was. TWKB_BAD_FORM means that a text is no decimal, and TWKB_BAD_ORDER that
+ * the lower one is greater. A window is made by one call for each axis:
+ *
+ *     struct twkb_window window = {0};
+ *     twkb_span_of_decimals("0.1", 3, "0.30000000000000004", 19, &window.x);
+ */
+uint32_t twkb_span_of_decimals(const char *lo, size_t lo_len, const char *hi, size_t hi_len, struct twkb_span *span);
 
 /* A blob with a vertex inside a window. */
 struct twkb_hit {
     size_t blob;   /* its number, from 0 */
     size_t offset; /* its offset */
+    size_t bytes;  /* its length in bytes */
 };
 
 /* The answer of a scan: how many blobs have a vertex inside, and how many bytes it read. */

@@ -2,7 +2,7 @@
 // The layouts are written by hand beside crates/twkb_call, which proves the sizes.
 const KINDS = ["", "cut", "varint", "type", "depth", "range", "size", "box", "ids", "loose"];
 const PAGE = 65536;
-const VERDICT = 40, LAYER = 32, WINDOW = 136, HIT = 16, ROW = 40, POINT = 32, ID = 8;
+const VERDICT = 40, LAYER = 32, WINDOW = 136, HIT = 24, ROW = 40, POINT = 32, ID = 8;
 
 export function load(module) {
   return new Library(new WebAssembly.Instance(new WebAssembly.Module(module), {}).exports);

@@ -30,7 +30,7 @@ class Row(ctypes.Structure):
         ("offset", c_size_t),
         ("bytes", c_size_t),
         ("vertices", c_size_t),
-        ("kind", c_uint8),
+        ("type", c_uint8),
         ("precision", c_int8),
         ("has_size", c_bool),
         ("has_box", c_bool),
@@ -50,7 +50,7 @@ class Window(ctypes.Structure):
 
 
 class Hit(ctypes.Structure):
-    _fields_ = [("blob", c_size_t), ("offset", c_size_t)]
+    _fields_ = [("blob", c_size_t), ("offset", c_size_t), ("bytes", c_size_t)]
 
 
 class Scanned(ctypes.Structure):
@@ -62,7 +62,7 @@ class Slot(ctypes.Structure):
 
 
 # The numbers of a row and of a hit, for reading many of them at once.
-ROW, HIT = struct.Struct("@NNNNBb??4x"), struct.Struct("@NN")
+ROW, HIT = struct.Struct("@NNNNBb??4x"), struct.Struct("@NN8x")
 
 # The sizes of the header's structs in bytes.
 _SIZES = (
@@ -72,7 +72,7 @@ _SIZES = (
     (Units, 16),
     (Span, 32),
     (Window, 136),
-    (Hit, 16),
+    (Hit, 24),
     (Scanned, 16),
     (Slot, 40),
 )
@@ -104,8 +104,8 @@ def _loaded() -> ctypes.CDLL:
     for kind, size in _SIZES:
         if ctypes.sizeof(kind) != size:
             raise ImportError(f"a {kind.__name__} has {ctypes.sizeof(kind)} bytes here, and {size} in libtwkb.so")
-    if (ROW.size, HIT.size) != (40, 16):
-        raise ImportError(f"a row and a hit have {ROW.size} and {HIT.size} bytes here, and 40 and 16 in libtwkb.so")
+    if (ROW.size, HIT.size) != (40, 24):
+        raise ImportError(f"a row and a hit have {ROW.size} and {HIT.size} bytes here, and 40 and 24 in libtwkb.so")
     try:
         found = ctypes.CDLL(_place())
         for name, takes, answers in _CALLS:

@@ -54,7 +54,7 @@ impl<'a> Directory<'a> {
     /// let directory = layer.directory()?;
     /// let window = "x=9..12,y=9..12".parse()?;
     /// let scan = directory.scan(&window)?;
-    /// assert_eq!(scan.hits, [Hit { blob: 1, offset: 8 }]);
+    /// assert_eq!(scan.hits, [Hit { blob: 1, offset: 8, bytes: 8 }]);
     /// assert!(scan.bytes_read < layer.scan(&window)?.bytes_read);
     /// # Ok(())
     /// # }

@@ -1,6 +1,7 @@
 //! The border to the proved library, as `bindings/c/twkb.h` says it.
 
 use crate::{Hit, Row, Scanned};
+use std::os::raw::c_char;
 
 mod layout;
 
@@ -69,7 +70,7 @@ extern "C" {
     pub(crate) fn twkb_certify(bytes: *const u8, len: usize) -> Verdict;
     pub(crate) fn twkb_certify_tight(bytes: *const u8, len: usize) -> Verdict;
     pub(crate) fn twkb_list(layer: *const Layer, rows: *mut Row, room: usize) -> usize;
-    pub(crate) fn twkb_window_parse(text: *const u8, len: usize, window: *mut Window) -> u32;
+    pub(crate) fn twkb_window_parse(text: *const c_char, len: usize, window: *mut Window) -> u32;
     pub(crate) fn twkb_scan(layer: *const Layer, window: *const Window, hits: *mut Hit, room: usize) -> Scanned;
     pub(crate) fn twkb_directory_build(layer: *const Layer, slots: *mut Slot, room: usize) -> usize;
     pub(crate) fn twkb_directory_scan(

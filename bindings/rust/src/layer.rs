@@ -155,7 +155,7 @@ impl<'a> Layer<'a> {
     /// // A room that is kept for all windows, and has a place for each blob.
     /// let mut room = vec![Hit::default(); layer.blobs()];
     /// let scanned = layer.scan_into(&"x=0..1,y=0..2".parse()?, &mut room);
-    /// assert_eq!(&room[..scanned.hits], [Hit { blob: 0, offset: 0 }]);
+    /// assert_eq!(&room[..scanned.hits], [Hit { blob: 0, offset: 0, bytes: 4 }]);
     /// # Ok(())
     /// # }
     /// ```

@@ -24,7 +24,7 @@
 //! // The line is hopped over: fifteen bytes are read of twenty.
 //! let window: Window = "x=9.5..12,y=10..10".parse()?;
 //! let scan = layer.scan(&window)?;
-//! assert_eq!(scan.hits, [Hit { blob: 1, offset: 12 }]);
+//! assert_eq!(scan.hits, [Hit { blob: 1, offset: 12, bytes: 8 }]);
 //! assert_eq!(scan.bytes_read, 15);
 //!
 //! // With its last vertex at 5 6 the line isn't in its box any more.

@@ -8,6 +8,8 @@ pub struct Hit {
     pub blob: usize,
     /// Its offset.
     pub offset: usize,
+    /// Its length in bytes.
+    pub bytes: usize,
 }
 
 /// What [`Layer::scan`](crate::Layer::scan) finds: the blobs with a vertex inside the window, in the order of the

@@ -223,7 +223,7 @@ const fn joined(units: &ffi::Units) -> i128 {
 fn parse(text: &[u8]) -> Result<Window, BadWindow> {
     let mut window = Window::new(NOTHING, NOTHING).lent();
     // Sound: a slice's pointer is good for its length and isn't null, and the window is this function's own.
-    match unsafe { ffi::twkb_window_parse(text.as_ptr(), text.len(), &mut window) } {
+    match unsafe { ffi::twkb_window_parse(text.as_ptr().cast(), text.len(), &mut window) } {
         ffi::WINDOW => Ok(Window::taken(&window)),
         ffi::BAD_FORM => Err(BadWindow::Form),
         ffi::BAD_ORDER => Err(BadWindow::Order),

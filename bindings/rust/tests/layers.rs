@@ -175,9 +175,9 @@ fn lists_every_type_and_precision() {
 fn scans_hop() {
     let layer = Layer::certify(&TWO).unwrap();
     let scan = layer.scan(&window("x=10..10,y=10..10")).unwrap();
-    assert_eq!((&scan.hits[..], scan.bytes_read), (&[Hit { blob: 1, offset: 12 }][..], 15));
+    assert_eq!((&scan.hits[..], scan.bytes_read), (&[Hit { blob: 1, offset: 12, bytes: 8 }][..], 15));
     let all = layer.scan(&window("x=0..10,y=0..10")).unwrap();
-    assert_eq!(all.hits, [Hit { blob: 0, offset: 0 }, Hit { blob: 1, offset: 12 }]);
+    assert_eq!(all.hits, [Hit { blob: 0, offset: 0, bytes: 12 }, Hit { blob: 1, offset: 12, bytes: 8 }]);
     assert_eq!((&all).into_iter().map(|hit| hit.blob).collect::<Vec<_>>(), [0, 1]);
     assert_eq!(all.into_iter().map(|hit| hit.offset).collect::<Vec<_>>(), [0, 12]);
     assert_eq!(layer.scan(&window("x=2..3,y=2..3")).unwrap().hits, []);

@@ -7,7 +7,7 @@ import { BOX, COLLECTION, EXTENDED, SIZE, Walk } from "./parts.js";
 
 const PAGE = 65536;
 // Bytes of each form, as in the module.
-const ROW = 40, HIT = 16, POINT = 32, WINDOW = 136;
+const ROW = 40, HIT = 24, POINT = 32, WINDOW = 136;
 // Places of the small forms after the base.
 const ANSWER = 0, LAYER = 64, WINDOW_AT = 128, TEXT = 384, SMALL = 4096;
 const LONGEST_TEXT = SMALL - TEXT;

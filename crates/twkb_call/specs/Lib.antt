@@ -2,5 +2,7 @@
 pub mod Verdict
 pub mod Window
 pub mod Rows
+pub mod Hits
+pub mod Names
 pub mod Vertices
 pub mod Devices

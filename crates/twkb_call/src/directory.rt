@@ -1,16 +1,17 @@
 //! Directories of layers in memory that the caller lends.
-ghost use Rattle.std.specs.Prelude.{◌≡◌, ◌*◌, ◌<◌, ◌≤◌, length, take, sum_by};
+ghost use Rattle.std.specs.Prelude.{◌≡◌, ◌*◌, ◌<◌, ◌≤◌, length, map, take, sum_by};
 ghost use Rattle.twkb_num.specs.Cursor.{added};
 ghost use Rattle.twkb_layer.specs.Directory.{IsDirectoryOf, directory_cost};
-ghost use Rattle.twkb_layer.specs.Hits.{hits, filled};
+ghost use Rattle.twkb_layer.specs.Hits.{hits, found_blobs, filled};
 ghost use Rattle.twkb_layer.specs.Layer.{IsCounted, OfLayer};
 ghost use Rattle.twkb_layer.specs.Slots.{entries_kept};
+ghost use Rattle.twkb_call.specs.Hits.{hit_from};
 ghost use Rattle.twkb_call.specs.Window.{ranges_of};
 
 use crate::layer::Layer;
-use crate::scans::Scanned;
+use crate::scans::{Hit, Scanned};
 use crate::window::Window;
-use twkb_layer::{Hit, Slot};
+use twkb_layer::Slot;
 
 const SIZE: usize = std::mem::size_of::<Slot>();
 
@@ -37,12 +38,12 @@ pub fn scan_directory(layer: &Layer, slots: &[Slot], window: &Window, room: &mut
     requires directory { IsDirectoryOf (entries_kept slots.now) layer.now.bytes.now }
     ensures hits { OfLayer layer.now.bytes.now (λ trees. result.hits ≡ length (hits trees (ranges_of window.now))) }
     ensures room { OfLayer layer.now.bytes.now (λ trees.
-        room.new ≡ filled (hits trees (ranges_of window.now)) room.old) }
+        room.new ≡ filled (map hit_from (found_blobs trees (ranges_of window.now))) room.old) }
     ensures read { OfLayer layer.now.bytes.now (λ trees.
         result.bytes_read ≡ added 0 (sum_by (directory_cost (ranges_of window.now)) trees)) }
 {
     let mut certified = layer.certified();
-    let hits = certified.scan_at(slots, &window.checked(), room);
+    let hits = certified.scan_at_into(slots, &window.checked(), room);
     Scanned {
         hits,
         bytes_read: certified.read_count(),

@@ -1,11 +1,12 @@
 //! Windows in a form for other languages.
 ghost use Rattle.std.specs.Prelude.{◌≡◌, ◌≢◌, ◌≤◌, if◌then◌else◌, true, false};
 ghost use Rattle.twkb_head.specs.declared.boxes.Bounds.{Bounds};
+ghost use Rattle.twkb_layer.specs.Decimals.{Decimal, IsDecimalText, is_less, rational_of, span_of_decimals};
 ghost use Rattle.twkb_layer.specs.WindowText.{IsWindowText, in_order};
 ghost use Rattle.twkb_call.specs.Vertices.{words_of};
 ghost use Rattle.twkb_call.specs.Window.{value_of, span_from, ranges_of};
 
-use twkb_layer::{BadWindow, Span};
+use twkb_layer::{BadRange, BadWindow, Span};
 
 /// A number of units in two words, since no 128-bit number crosses to other languages.
 #[repr(C)]
@@ -134,5 +135,28 @@ pub fn parse_window(text: &[u8], window: &mut Window) -> u32
         }
         Err(BadWindow::Form) => 1,
         Err(BadWindow::Order) => 2,
+    }
+}
+
+/// Makes the range in units between two decimals of any length: its lower end is rounded up, and its upper end down. The answer
+/// is 0, or 1 if one of them isn't of the form `[-]digits[.digits]`, or 2 if the lower one is greater. If it isn't 0, the range
+/// stays as it was.
+pub fn span_of_decimals(lo: &[u8], hi: &[u8], range: &mut Range) -> u32
+    ensures answers { result ≤ 2 }
+    ensures range { result ≡ 0 → (a b : Decimal) × IsDecimalText lo.now a × IsDecimalText hi.now b
+        × (is_less (rational_of b) (rational_of a) ≡ false) × (span_from range.new ≡ span_of_decimals a b) }
+    ensures order { result ≡ 2 → (a b : Decimal) × IsDecimalText lo.now a × IsDecimalText hi.now b
+        × (is_less (rational_of b) (rational_of a) ≡ true) }
+    ensures exact { (a b : Decimal) → IsDecimalText lo.now a → IsDecimalText hi.now b
+        → result ≡ (if is_less (rational_of b) (rational_of a) then 2 else 0) }
+    ensures kept { result ≢ 0 → range.new ≡ range.old }
+{
+    match twkb_layer::span_of_decimals(lo, hi) {
+        Ok(span) => {
+            *range = Range::of(&span);
+            0
+        }
+        Err(BadRange::Form) => 1,
+        Err(BadRange::Order) => 2,
     }
 }

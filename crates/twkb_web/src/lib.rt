@@ -9,18 +9,20 @@ ghost use Rattle.twkb_head.specs.declared.boxes.Bounds.{Bounds};
 ghost use Rattle.twkb_body.specs.Claims.{IsTrueClaim};
 ghost use Rattle.twkb_body.specs.Geometry.{Geometry};
 ghost use Rattle.twkb_body.specs.Tight.{IsTightlyTrue};
+ghost use Rattle.twkb_layer.specs.Decimals.{Decimal, IsDecimalText, is_less, rational_of, span_of_decimals};
 ghost use Rattle.twkb_layer.specs.Layer.{IsCounted, OfLayer, vertex_count};
-ghost use Rattle.twkb_layer.specs.Hits.{hits, cost, filled};
+ghost use Rattle.twkb_layer.specs.Hits.{hits, found_blobs, cost, filled};
 ghost use Rattle.twkb_layer.specs.Rows.{rows};
 ghost use Rattle.twkb_layer.specs.Tight.{IsTightLayer};
 ghost use Rattle.twkb_layer.specs.Vertices.{all_vertices};
 ghost use Rattle.twkb_layer.specs.WindowText.{IsWindowText, in_order};
+ghost use Rattle.twkb_call.specs.Hits.{hit_from};
 ghost use Rattle.twkb_call.specs.Rows.{in_numbers};
 ghost use Rattle.twkb_call.specs.Verdict.{Says};
 ghost use Rattle.twkb_call.specs.Vertices.{point_of};
-ghost use Rattle.twkb_call.specs.Window.{ranges_of};
+ghost use Rattle.twkb_call.specs.Window.{ranges_of, span_from};
 
-use twkb_call::{Hit, Layer, Point, Row, Scanned, Verdict, Window};
+use twkb_call::{Hit, Layer, Point, Range, Row, Scanned, Verdict, Window};
 
 /// Certifies the bytes as a layer, with room for the ids of a list. The answer may be out of memory if a list has more ids than
 /// the room has places, and more than sixteen.
@@ -67,13 +69,29 @@ pub extern "C" fn twkb_window_parse(text: &[u8], window: &mut Window) -> u32
     twkb_call::parse_window(text, window)
 }
 
+/// Makes the range in units between two decimals of any length, rounded inward. The answer is 0, or 1 if one of them isn't of the
+/// form `[-]digits[.digits]`, or 2 if the lower one is greater.
+#[unsafe(no_mangle)]
+pub extern "C" fn twkb_span_of_decimals(lo: &[u8], hi: &[u8], span: &mut Range) -> u32
+    ensures answers { result ≤ 2 }
+    ensures span { result ≡ 0 → (a b : Decimal) × IsDecimalText lo.now a × IsDecimalText hi.now b
+        × (is_less (rational_of b) (rational_of a) ≡ false) × (span_from span.new ≡ span_of_decimals a b) }
+    ensures order { result ≡ 2 → (a b : Decimal) × IsDecimalText lo.now a × IsDecimalText hi.now b
+        × (is_less (rational_of b) (rational_of a) ≡ true) }
+    ensures exact { (a b : Decimal) → IsDecimalText lo.now a → IsDecimalText hi.now b
+        → result ≡ (if is_less (rational_of b) (rational_of a) then 2 else 0) }
+    ensures kept { result ≢ 0 → span.new ≡ span.old }
+{
+    twkb_call::span_of_decimals(lo, hi, span)
+}
+
 /// Finds the blobs that have a vertex inside the window, and puts them into the room in file order, as many as fit.
 #[unsafe(no_mangle)]
 pub extern "C" fn twkb_scan(layer: &Layer, window: &Window, room: &mut [Hit]) -> Scanned
     requires { IsCounted layer.now.bytes.now layer.now.blobs layer.now.vertices }
     ensures hits { OfLayer layer.now.bytes.now (λ trees. result.hits ≡ length (hits trees (ranges_of window.now))) }
     ensures room { OfLayer layer.now.bytes.now (λ trees.
-        room.new ≡ filled (hits trees (ranges_of window.now)) room.old) }
+        room.new ≡ filled (map hit_from (found_blobs trees (ranges_of window.now))) room.old) }
     ensures read { OfLayer layer.now.bytes.now (λ trees.
         result.bytes_read ≡ added 0 (sum_by (cost (ranges_of window.now)) trees)) }
 {

@@ -8,8 +8,9 @@ use refusing::Refusing;
 use std::alloc::Allocator;
 use std::process::Abort;
 use twkb_call::{
-    Hit, Layer, Point, Range, Row, Scanned, Units, Verdict, Window, certify, certify_lent,
-    certify_tight, certify_tight_lent, draw, list, parse_window, scan,
+    Hit, Layer, Point, Range, Row, Scanned, Units, Verdict, Window, answer_name, certify,
+    certify_lent, certify_tight, certify_tight_lent, draw, kind_name, list, parse_window, scan,
+    span_of_decimals, type_name,
 };
 
 // A line with a size that is one too many.
@@ -275,22 +276,57 @@ fn texts_that_are_no_window(rt: HostRuntime) {
     }
 }
 
-const NO_HIT: Hit = Hit { blob: 9, offset: 9 };
+#[test]
+fn ranges_of_decimals(rt: HostRuntime) {
+    let table: [(&[u8], &[u8], u32); 4] = [
+        (b"-0.00000019", b"1", 0),
+        (b"0.1", b"0.30000000000000004", 0),
+        (b"1", b"x", 1),
+        (b"1", b"0.999999999999", 2),
+    ];
+    for (lo, hi, answer) in table {
+        let mut range = UNREAD.x;
+        equal(&rt, span_of_decimals(lo, hi, &mut range), answer);
+        equal(&rt, range == UNREAD.x, answer != 0);
+    }
+    let mut range = UNREAD.x;
+    equal(&rt, span_of_decimals(b"-0.00000019", b"1", &mut range), 0);
+    let lo = Units {
+        low: u64::MAX,
+        high: -1,
+    };
+    let hi = Units {
+        low: 10_000_000,
+        high: 0,
+    };
+    equal(&rt, range, Range { lo, hi });
+}
+
+const NO_HIT: Hit = Hit {
+    blob: 9,
+    offset: 9,
+    bytes: 9,
+};
+
+// The two blobs of `TWO_BLOBS`.
+const LINE: Hit = Hit {
+    blob: 0,
+    offset: 0,
+    bytes: 12,
+};
+
+const POINT: Hit = Hit {
+    blob: 1,
+    offset: 12,
+    bytes: 8,
+};
 
 #[test]
 fn hits_that_fit(rt: HostRuntime) {
     let layer = layer_of(&rt, &rt.alloc(), &TWO_BLOBS);
     let table: [(&[u8], usize, u64, [Hit; 1]); 4] = [
-        (b"x=5..10,y=5..10", 2, 20, [Hit { blob: 0, offset: 0 }]),
-        (
-            b"x=6..10,y=5..10",
-            1,
-            15,
-            [Hit {
-                blob: 1,
-                offset: 12,
-            }],
-        ),
+        (b"x=5..10,y=5..10", 2, 20, [LINE]),
+        (b"x=6..10,y=5..10", 1, 15, [POINT]),
         (b"x=6..9,y=0..9", 0, 15, [NO_HIT]),
         (b"x=5..10,y=5..10,z=0..1", 0, 20, [NO_HIT]),
     ];
@@ -304,6 +340,18 @@ fn hits_that_fit(rt: HostRuntime) {
         equal(&rt, scan(&layer, &window, &mut one), scanned);
         equal(&rt, one, first);
     }
+}
+
+// The names are those that the program prints, with zeros after them.
+#[test]
+fn names(rt: HostRuntime) {
+    let name = |text: &[u8; 24]| text.iter().take_while(|byte| **byte != 0).count();
+    equal(&rt, name(type_name(1)), b"point".len());
+    equal(&rt, name(type_name(7)), b"geometrycollection".len());
+    equal(&rt, name(type_name(8)), 0);
+    equal(&rt, name(kind_name(0)), 0);
+    equal(&rt, name(kind_name(9)), b"loose".len());
+    equal(&rt, name(answer_name(2)), b"no memory".len());
 }
 
 // A line from (-1 1) to (3 -2).

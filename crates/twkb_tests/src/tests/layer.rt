@@ -8,6 +8,7 @@ use twkb_layer::{Bounds, Certified, Cursor, Hit, Refusal, Window, certify};
 use worked::Case;
 
 mod cuts;
+mod decimals;
 mod depths;
 mod directories;
 mod layers;
