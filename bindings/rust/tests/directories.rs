@@ -5,7 +5,7 @@ use std::thread;
 
 /// A line from 1 1 to 5 5 that has a size and a box, and a point at 10 10 that has a box.
 const TWO: [u8; 20] = [2, 3, 9, 2, 8, 2, 8, 2, 2, 2, 8, 8, 1, 1, 20, 0, 20, 0, 20, 20];
-const NO_HIT: Hit = Hit { blob: usize::MAX, offset: usize::MAX };
+const NO_HIT: Hit = Hit { blob: usize::MAX, offset: usize::MAX, bytes: usize::MAX };
 const WINDOWS: [&str; 5] = [
     "x=-1000..1000,y=-1000..1000",
     "x=9.5..12,y=10..10",
@@ -57,6 +57,18 @@ fn fills_rooms_as_far_as_they_go() {
             assert_eq!(hits[..fit], all.hits[..fit]);
             assert!(hits[fit..].iter().all(|hit| *hit == NO_HIT));
         }
+    }
+}
+
+#[test]
+fn a_clone_finds_the_same() {
+    let bytes = many();
+    let directory = Layer::certify(&bytes).unwrap().directory().unwrap();
+    let copy = directory.clone();
+    let scans: Vec<_> = WINDOWS.iter().map(|text| directory.scan(&window(text)).unwrap()).collect();
+    drop(directory);
+    for (text, wanted) in WINDOWS.iter().zip(scans) {
+        assert_eq!(copy.scan(&window(text)).unwrap(), wanted);
     }
 }
 
