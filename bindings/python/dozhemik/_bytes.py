@@ -47,6 +47,8 @@ _release_buffer.argtypes, _release_buffer.restype = (POINTER(_Buffer),), None
 
 def held(data: Data) -> memoryview:
     """A view of the bytes of a layer, which keeps them. Raises TypeError if they may be written, or aren't bytes."""
+    if type(data) is bytes:
+        return memoryview(data)
     if isinstance(data, os.PathLike):
         with open(data, "rb") as file:
             data = file.read()

@@ -1,6 +1,6 @@
 #!/usr/bin/env python3
-"""Times certifying and listing a layer, scanning it for a thousand windows, with a directory and without, by one thread
-and by four, and calls on a layer of seven bytes.
+"""Times certifying and listing a layer, scanning it for a thousand windows, with a directory and without, by one thread,
+by four and by four processes, and calls on a layer of seven bytes.
 
 usage: bench.py FILE
 
@@ -54,11 +54,26 @@ def time_scans(layer: dozhemik.Layer, windows: List[dozhemik.Window]) -> None:
     print(f"directory: {took * 1e3:.1f} ms")
     alone, answer = timed(lambda: sums(directory.scan_many(windows)))
     show("directory scan", alone, answer)
-    show("directory scan a call each", *timed(lambda: sums(map(directory.scan, windows))))
+    show("directory scan one by one", *timed(lambda: sums(map(directory.scan, windows))))
     with ThreadPoolExecutor(THREADS) as pool:
-        together, answers = timed(lambda: list(pool.map(lambda _: sums(directory.scan_many(windows)), range(THREADS))))
+        threads, answers = timed(lambda: list(pool.map(lambda _: sums(directory.scan_many(windows)), range(THREADS))))
     assert answers == [answer] * THREADS
-    print(f"directory scan by {THREADS} threads, to one: {THREADS * alone / together:.2f} times")
+    processes, _ = timed(lambda: in_processes(lambda: directory.scan_many(windows)))
+    print(f"directory scan by {THREADS} threads, to one: {THREADS * alone / threads:.2f} times")
+    print(f"directory scan by {THREADS} threads, to {THREADS} processes: {processes / threads:.2f} times")
+
+
+def in_processes(work: Callable[[], object]) -> None:
+    """The work by as many processes at once as there are threads, which share no lock."""
+    children = []
+    for _ in range(THREADS):
+        child = os.fork()
+        if child == 0:
+            work()
+            os._exit(0)
+        children.append(child)
+    for child in children:
+        os.waitpid(child, 0)
 
 
 def time_calls() -> None:
