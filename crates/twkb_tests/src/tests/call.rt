@@ -309,13 +309,13 @@ const NO_HIT: Hit = Hit {
 };
 
 // The two blobs of `TWO_BLOBS`.
-const LINE: Hit = Hit {
+const LINE_HIT: Hit = Hit {
     blob: 0,
     offset: 0,
     bytes: 12,
 };
 
-const POINT: Hit = Hit {
+const POINT_HIT: Hit = Hit {
     blob: 1,
     offset: 12,
     bytes: 8,
@@ -325,8 +325,8 @@ const POINT: Hit = Hit {
 fn hits_that_fit(rt: HostRuntime) {
     let layer = layer_of(&rt, &rt.alloc(), &TWO_BLOBS);
     let table: [(&[u8], usize, u64, [Hit; 1]); 4] = [
-        (b"x=5..10,y=5..10", 2, 20, [LINE]),
-        (b"x=6..10,y=5..10", 1, 15, [POINT]),
+        (b"x=5..10,y=5..10", 2, 20, [LINE_HIT]),
+        (b"x=6..10,y=5..10", 1, 15, [POINT_HIT]),
         (b"x=6..9,y=0..9", 0, 15, [NO_HIT]),
         (b"x=5..10,y=5..10,z=0..1", 0, 20, [NO_HIT]),
     ];
