@@ -4,9 +4,12 @@
 usage: bench/callers.py TOOL [RUNS]   (bindings/build.sh has built the library; wants gcc, cargo and python3)
 
 On 40 MB of lines and of the mix: certifying, listing, a directory, and a thousand windows, with a directory and without.
-Then calls on a layer of seven bytes. The program reads and certifies its file in each run, and takes 64 windows at most.
-So a thousand windows are sixteen runs of it, each of which makes a directory and puts its hits as text. All take turns, of
-each the best time of RUNS is kept, and the ratios are over C. Where two answers differ, the run fails.
+Then calls on a layer of seven bytes. Python lists into a table, and once more into an object for each row. It scans for the
+thousand windows by scan_many, once more by scan for each window, and by four threads. The program reads and certifies its
+file in each run, and takes 64 windows at most. So a thousand windows are sixteen runs of it, each of which makes a directory
+and puts its hits as text. All take turns, of each the best time of RUNS is kept, and the ratios are over C. Where two answers
+differ, the run fails. It fails, too, where a thousand windows by a directory take Rust or Python more than 1.1 times C, or a
+table takes more than 1.5 times: the machine has to be quiet for that.
 """
 import os
 import re
@@ -23,6 +26,12 @@ LIBRARY = os.path.join(layers.TOP, "build", "bindings")
 WINDOWS, AT_ONCE = 1000, 64
 SCANS = [f"scan, {WINDOWS} windows", f"directory scan, {WINDOWS} windows"]
 STEPS = ["certify", "list", SCANS[0], "directory", SCANS[1]]
+# What Python has beside, and what it is compared with in C.
+MORE = {"list, an object a row": "list", f"directory scan one by one, {WINDOWS} windows": SCANS[1]}
+# Four threads scan about four times as much as one if four processors are idle, and about as much as four processes anyway.
+THREADS = "directory scan by 4 threads, to one", "directory scan by 4 threads, to 4 processes"
+# How many times C a step may take in a language.
+MOST = {("list", "Python"): 1.5, (SCANS[1], "Rust"): 1.1, (SCANS[1], "Python"): 1.1}
 CALLS = ["certify, a call on seven bytes", "scan, a call on seven bytes"]
 LANGUAGES = ["C", "Rust", "Python", "the program"]
 
@@ -52,10 +61,10 @@ def built(folder):
 def note(bests, language, command):
     """One run of a bench program: a line a step, with its time and then what was found."""
     for line in programs.run(command)[0]:
-        title, time, answer = re.fullmatch(r"(.*): (\S+) [mn]s,?(.*)", line).groups()
+        title, time, answer = re.fullmatch(r"(.*): (\S+) (?:[mn]s|times),?(.*)", line).groups()
         title = title.replace(" into a room", "")
         # What a step finds is compared where each language says it.
-        bests.setdefault((title, language), Times()).note(float(time), answer if title in ("certify", *SCANS) else "")
+        bests.setdefault((title, language), Times()).note(float(time), answer if title in ("certify", *SCANS) or MORE.get(title) in SCANS else "")
 
 
 def note_program(bests, tool, layer):
@@ -77,11 +86,15 @@ def note_program(bests, tool, layer):
 
 
 def row(title, kind, unit, bests):
-    """A row of the table: times, and ratios over C."""
+    """A row of the table: times, and ratios over C. Answers what takes more times than it may."""
+    over = bests[MORE.get(title, title), "C"].best
     times = [bests[title, language].best if (title, language) in bests else None for language in LANGUAGES]
+    ratios = {language: time / over for language, time in zip(LANGUAGES, times) if time is not None}
     shown = ["" if time is None else f"{time:,.1f}" for time in times]
-    ratios = ["" if time is None else f"{time / times[0]:.2f}" for time in times[1:]]
-    print("| " + " | ".join([title, kind, unit, *shown, *ratios]) + " |")
+    shown += [f"{ratios[language]:.2f}" if language in ratios else "" for language in LANGUAGES[1:]]
+    print("| " + " | ".join([title, kind, unit, *shown]) + " |")
+    return [f"{title}, {kind}: {language} takes {ratio:.2f} times C, more than {MOST[title, language]}"
+            for language, ratio in ratios.items() if ratio > MOST.get((title, language), ratio)]
 
 
 def main():
@@ -89,6 +102,7 @@ def main():
     print("| Work | Layer | |" + "".join(f" {name} |" for name in LANGUAGES)
           + "".join(f" {name} to C |" for name in LANGUAGES[1:]))
     print("|---" * (2 + 2 * len(LANGUAGES)) + "|")
+    slow = []
     with tempfile.TemporaryDirectory() as folder:
         commands, calls = built(folder), {}
         for kind in ("lines", "the mix"):
@@ -99,13 +113,19 @@ def main():
                     note(bests, language, [*command, layer])
                 note_program(bests, tool, layer)
             for step in STEPS:
-                the_same(*(times for (title, _), times in bests.items() if title == step))
-                row(step, kind, "ms", bests)
+                the_same(*(times for (title, _), times in bests.items() if MORE.get(title, title) == step))
+            for step in (*STEPS, *MORE):
+                slow += row(step, kind, "ms", bests)
+            for title in THREADS:
+                print(f"| {title} | {kind} | times | | | {max(bests[title, 'Python'].taken):.2f} | | | | |")
             os.remove(layer)
             for key, times in bests.items():
                 calls.setdefault(key, Times()).note(times.best, "")
         for step in CALLS:
             row(step, "", "ns", calls)
+    for line in slow:
+        print(line, file=sys.stderr)
+    sys.exit(len(slow) > 0)
 
 
 main()

@@ -10,6 +10,7 @@ this machine lacks is named in one line, with the command that brings it, and it
 and last a line `N passed, M failed`; the status is 1 where any failed.
 """
 import os
+import re
 import shutil
 import subprocess
 import sys
@@ -33,6 +34,8 @@ NEEDS = {
     "g++": "apt-get install g++",
     "valgrind": "apt-get install valgrind",
     "cargo": "apt-get install cargo",
+    "pkg-config": "apt-get install pkg-config",
+    "mypy": "apt-get install mypy",
 }
 
 
@@ -117,11 +120,47 @@ def test_rust(program, folder):
     succeeds("Rust, tests", ["cargo", "test", "--offline", "--quiet"], cwd=source, env=environment)
     succeeds("Rust, examples", ["cargo", "build", "--release", "--examples", "--offline", "--quiet"], cwd=source, env=environment)
     drive("Rust", [os.path.join(target, "release", "examples", "cases")], program, folder)
+    if has("pkg-config"):
+        rust_by_pkg_config(source, folder)
+
+
+def rust_by_pkg_config(source, folder):
+    """Without TWKB_LIB the crate is linked with the library that pkg-config finds, if its version is the crate's."""
+    prefix, layer = os.path.join(folder, "prefix"), os.path.join(TOP, "examples", "coast_lines_sized.twkb")
+    pages = os.path.join(prefix, "lib", "pkgconfig")
+    os.makedirs(pages)
+    with open(os.path.join(BINDINGS, "c", "twkb.pc"), "rb") as file:
+        told = file.read()
+    environment = {name: value for name, value in os.environ.items() if name != "TWKB_LIB"}
+    environment.update(CARGO_TARGET_DIR=os.path.join(folder, "cargo-pkg-config"), PKG_CONFIG_LIBDIR=pages)
+    environment.pop("PKG_CONFIG_PATH", None)
+    words = ["cargo", "run", "--offline", "--quiet", "--example", "scan", layer, *"10 30 35 45".split()]
+
+    def refused(name, said):
+        done = subprocess.run(words, cwd=source, env=environment, capture_output=True, text=True, timeout=MINUTES)
+        count(f"Rust, {name}", (done.returncode != 0, said in done.stderr), (True, True))
+
+    refused("no library anywhere", "TWKB_LIB is not set")
+    written(pages, "twkb.pc", told)
+    refused("no archive", "there is no libtwkb.a in it")
+    shutil.copy(ARCHIVE, os.path.join(prefix, "lib"))
+    done = subprocess.run(words, cwd=source, env=environment, capture_output=True, text=True, timeout=MINUTES)
+    wanted = ["44 of them have a vertex inside; 24857 of 84045 bytes were read."]
+    count("Rust, by pkg-config", (done.returncode, done.stdout.splitlines()[-1:]), (0, wanted))
+    written(pages, "twkb.pc", re.sub(rb"(?m)^Version: .*$", b"Version: 0.9.0", told))
+    refused("a library of another version", "pkg-config finds twkb 0.9.0")
+    environment["PKG_CONFIG"] = os.path.join(folder, "missing")
+    refused("no pkg-config", "can't be run")
+    environment["TWKB_LIB"] = folder
+    refused("a folder without it", "there is no libtwkb.a in")
 
 
 def test_python(program, folder):
     source = os.path.join(BINDINGS, "python")
     environment = {**os.environ, "TWKB_LIBRARY": SHARED, "PYTHONDONTWRITEBYTECODE": "1"}
+    if has("mypy"):
+        words = ["mypy", "--strict", f"--cache-dir={folder}/mypy", "dozhemik", "tests", "examples"]
+        succeeds("Python, types", words, cwd=source)
     succeeds("Python, tests", [sys.executable, "-m", "unittest", "discover", "-s", "tests"], cwd=source, env=environment)
     os.environ.update(TWKB_LIBRARY=SHARED, PYTHONDONTWRITEBYTECODE="1")
     drive("Python", [sys.executable, os.path.join(source, "tests", "cases.py")], program, folder)

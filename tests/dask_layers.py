@@ -1,5 +1,6 @@
 #!/usr/bin/env python3
-"""Runs examples/dask_layers.py on local clusters, of which one loses a worker in mid-run: each layer is answered once.
+"""Runs examples/dask_layers.py on local clusters, of which one loses a worker in mid-run, and one has a layer that ends each worker:
+each layer is answered once.
 
 usage: tests/dask_layers.py [PROGRAM]   (build/twkb_tool where it is left out)
 
@@ -8,6 +9,7 @@ layers. Where the interpreter has no distributed, Debian's is tried, and where t
 the script says what brings it. Prints each difference, and last a line `N passed, M failed`; the status is 1 where any
 failed.
 """
+import importlib.util
 import itertools
 import json
 import os
@@ -110,7 +112,7 @@ def certified_alone(folder):
 def words_refused(folder):
     os.mkdir(folder + " with none")
     tried = [([], 2), ([folder, "x=1..0,y=0..1"], 2), ([folder + "/missing"], 3), ([folder + " with none"], 3)]
-    for workers, (words, status) in [*(("1", one) for one in tried), ("0", ([folder], 2)), ("-2", ([folder], 2))]:
+    for workers, (words, status) in [*(("1", one) for one in tried), ("0", ([folder], 2)), ("-2", ([folder], 2)), ("1", (["--batch", "0", folder], 2))]:
         done = subprocess.run(script("--workers", workers, *words), env=ENVIRONMENT, capture_output=True, text=True, timeout=60)
         count(f"bad words: --workers {workers} {words}", (done.returncode, done.stdout), (status, ""))
 
@@ -121,6 +123,81 @@ def link_to_nothing(folder):
     os.symlink("nothing", os.path.join(folder, "lost.twkb"))
     done = subprocess.run(script("--workers", "1", folder), env=ENVIRONMENT, capture_output=True, text=True)
     count("a link to nothing", (done.returncode, done.stdout, "lost.twkb\tnot judged" in done.stderr), (3, "", True))
+
+
+def unreadable(folder):
+    """A layer that no memory holds, beside one that is read."""
+    os.mkdir(folder)
+    written(folder, "point.twkb", bytes.fromhex("01000204"))
+    with open(os.path.join(folder, "vast.twkb"), "wb") as file:
+        file.truncate(1 << 43)
+    done = subprocess.run(script("--workers", "1", folder), env=ENVIRONMENT, capture_output=True, text=True)
+    said = f"{folder}/vast.twkb\tnot judged: MemoryError" in done.stderr
+    count("a layer that no memory holds", (done.returncode, done.stdout, said), (3, f"{folder}/point.twkb\tok blobs=1 vertices=1\n", True))
+
+
+# Ends the process that certifies a certain layer, as a layer would that no memory of its worker holds.
+POISON = """
+import os
+import dozhemik
+
+certify_it = dozhemik.certify
+
+
+def certify(data, **words):
+    if data == b"poison":
+        os._exit(9)
+    return certify_it(data, **words)
+
+
+dozhemik.certify = certify
+"""
+
+
+def poisoned(folder):
+    """A batch that ends each of its workers is run again layer by layer, and only the layer that does it isn't judged."""
+    layers, place = os.path.join(folder, "layers"), os.path.join(folder, "place")
+    os.makedirs(layers)
+    os.mkdir(place)
+    written(place, "sitecustomize.py", POISON.encode())
+    for number in range(4):
+        written(layers, f"{number}.twkb", bytes.fromhex("01000204"))
+    written(layers, "2 poison.twkb", b"poison")
+    path = os.pathsep.join((place, ENVIRONMENT["PYTHONPATH"]))
+    done = subprocess.run(script("--workers", "2", layers), env=ENVIRONMENT | {"PYTHONPATH": path}, capture_output=True, text=True)
+    wanted = [f"{layers}/{number}.twkb\tok blobs=1 vertices=1" for number in range(4)]
+    count("a batch with a layer that ends its workers", (done.returncode, sorted(done.stdout.splitlines())), (3, wanted))
+    count("that layer", done.stderr.count(f"{layers}/2 poison.twkb\tnot judged: KilledWorker"), 1)
+
+
+def batches():
+    """Runs of layers, each once and in order, of as many bytes as are asked for or of one layer."""
+    sys.path.insert(0, os.path.dirname(SCRIPT))
+    sys.path.insert(0, ENVIRONMENT["PYTHONPATH"])
+    from dask_layers import BATCH, OPENING, batches_of
+
+    for sizes in ([], [0], [10**9], [0] * 250, [5, 10**7, 5, 10**7], [1_000_000] * 10, list(range(0, 3_000_000, 70_000))):
+        layers = [(f"{number}", size) for number, size in enumerate(sizes)]
+        found = list(batches_of(layers, BATCH)) if layers else []
+        count(f"batches of {len(sizes)}: all, in order", [path for batch in found for path in batch], [path for path, _ in layers])
+        weights = [sum(sizes[int(path)] + OPENING for path in batch) for batch in found]
+        count(f"batches of {len(sizes)}: not too large", [len(batch) for batch, weight in zip(found, weights) if weight > BATCH and len(batch) > 1], [])
+        full = [weight + sizes[int(after[0])] + OPENING > BATCH for weight, after in zip(weights, found[1:])]
+        count(f"batches of {len(sizes)}: full", all(full), True)
+
+
+def by_fsspec(program, folder):
+    """The same layers by an address."""
+    if importlib.util.find_spec("fsspec") is None:
+        print("fsspec is missing, so no address was tried: apt-get install python3-fsspec")
+        return
+    done = subprocess.run(script("--workers", "2", f"file://{folder}", *WINDOWS), env=ENVIRONMENT, capture_output=True, text=True)
+    lines, status = wanted(program, folder, WINDOWS)
+    count("by an address: its status", done.returncode, status)
+    compare("by an address", folder, done.stdout.replace("file://", ""), lines)
+    for address, said in ((f"file://{folder}/missing", "no layer"), ("nosuch://layers", "dask_layers.py: nosuch://layers: ValueError")):
+        done = subprocess.run(script("--workers", "1", address), env=ENVIRONMENT, capture_output=True, text=True)
+        count(f"by an address: {address}", (done.returncode, done.stdout, said in done.stderr), (3, "", True))
 
 
 def started(words, **options):
@@ -222,6 +299,10 @@ def main():
             certified_alone(os.path.join(folder, "certified"))
             words_refused(layers)
             link_to_nothing(os.path.join(folder, "links"))
+            unreadable(os.path.join(folder, "vast"))
+            poisoned(os.path.join(folder, "poisoned"))
+            batches()
+            by_fsspec(program, layers)
             one_lost(program, layers, folder)
     print(f"{counts['passed']} passed, {counts['failed']} failed")
     return int(counts["failed"] > 0)

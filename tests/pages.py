@@ -17,7 +17,7 @@ from sizes import NAMES, all_sizes
 from trusted import QUESTIONS, Reach, answers
 
 # Where pages are. A folder that is left out is one of what was built.
-FOLDERS = ("", "docs", "examples", os.path.join("bindings", "python"))
+FOLDERS = ("", "docs", "examples", os.path.join("bindings", "python"), os.path.join("bindings", "rust"))
 # The pages that have the headline, word for word.
 HEADLINED = ("README.md", os.path.join("docs", "PROVED.md"))
 HEADLINE = (

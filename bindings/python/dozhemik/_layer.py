@@ -1,91 +1,15 @@
-"""Layers, and what lists and scans of them return."""
+"""Certified layers, and directories of them."""
 import ctypes
-from typing import List, NamedTuple, NoReturn, Optional, Sequence, Tuple, Union, overload
+from typing import Iterable, Iterator, List, NoReturn, Optional, Tuple, Union, overload
 
 from . import _library
+from ._answers import KINDS, TYPES, Hit, Refused, Row, Scan
+from ._bytes import Data, address_of, held
 from ._library import library
-from ._window import Range, Window
+from ._window import Box, Range, Window
 
-_KINDS = ("", "cut", "varint", "type", "depth", "range", "size", "box", "ids", "loose")
-_TYPES = (
-    "",
-    "point",
-    "linestring",
-    "polygon",
-    "multipoint",
-    "multilinestring",
-    "multipolygon",
-    "geometrycollection",
-)
 # A scan with more hits than this is run a second time, with as much room as it wants.
 _FIRST_ROOM = 4096
-
-
-class Refused(ValueError):
-    """Bytes that aren't a certified layer: the first blob that is wrong, the offset of what is wrong in it, and its kind.
-
-    A kind is "cut", "varint", "type", "depth", "range", "size", "box" or "ids", and with tight=True also
-    "loose". docs/USAGE.md says what to repair for each.
-    """
-
-    def __init__(self, blob: int, offset: int, kind: str) -> None:
-        super().__init__(blob, offset, kind)
-        self.blob, self.offset, self.kind = blob, offset, kind
-
-    def __str__(self) -> str:
-        return f"blob={self.blob} offset={self.offset} kind={self.kind}"
-
-
-class Row(NamedTuple):
-    """A row of a list: the number of a blob from 0, its offset, its length, and its vertex count at all depths."""
-
-    blob: int
-    offset: int
-    bytes: int
-    vertices: int
-    kind: str
-    precision: int
-    has_size: bool
-    has_box: bool
-
-    def __str__(self) -> str:
-        size, box = ("yes" if has else "no" for has in (self.has_size, self.has_box))
-        place = f"blob={self.blob} offset={self.offset} bytes={self.bytes}"
-        return f"{place} type={self.kind} precision={self.precision} vertices={self.vertices} size={size} box={box}"
-
-
-class Hit(NamedTuple):
-    """A blob with a vertex inside a window: its number from 0, and its offset."""
-
-    blob: int
-    offset: int
-
-    def __str__(self) -> str:
-        return f"blob={self.blob} offset={self.offset}"
-
-
-class Scan(Sequence[Hit]):
-    """The hits of a window in the order of the layer, and how many of the layer's bytes were read to find them."""
-
-    __slots__ = ("_hits", "bytes_read")
-
-    def __init__(self, hits: Tuple[Hit, ...], bytes_read: int) -> None:
-        self._hits, self.bytes_read = hits, bytes_read
-
-    def __len__(self) -> int:
-        return len(self._hits)
-
-    @overload
-    def __getitem__(self, place: int) -> Hit: ...
-
-    @overload
-    def __getitem__(self, place: slice) -> Tuple[Hit, ...]: ...
-
-    def __getitem__(self, place: Union[int, slice]) -> Union[Hit, Tuple[Hit, ...]]:
-        return self._hits[place]
-
-    def __repr__(self) -> str:
-        return f"<Scan of {len(self)} hits, {self.bytes_read} bytes read>"
 
 
 class Layer:
@@ -131,19 +55,39 @@ class Layer:
 
     def list(self) -> List[Row]:
         """A row for each blob, in order."""
+        return [
+            Row(blob, offset, size, vertices, TYPES[number], *rest)
+            for blob, offset, size, vertices, number, *rest in _library.ROW.iter_unpack(self.table())
+        ]
+
+    def table(self) -> memoryview:
+        """The rows of `list` as bytes that can't be written, 40 for each, as the C struct twkb_row has them.
+
+        `numpy.frombuffer(layer.table(), dozhemik.ROW_DTYPE)` is an array of them, which `pandas.DataFrame` takes. Their
+        types are numbers there: `dozhemik.TYPES` has the words.
+        """
         layer = self._open
         room = (_library.Row * layer.blobs)()
         library.twkb_list(ctypes.byref(layer), room, len(room))
-        return [
-            Row(blob, offset, size, vertices, _TYPES[kind], precision, has_size, has_box)
-            for blob, offset, size, vertices, kind, precision, has_size, has_box in _library.ROW.iter_unpack(room)
-        ]
+        return memoryview(room).cast("B").toreadonly()
+
+    def blob(self, hit: Union[Hit, Row]) -> bytes:
+        """The bytes of a blob, of a hit or a row of this layer."""
+        layer = self._open
+        if not isinstance(hit, (Hit, Row)):
+            raise TypeError(f"a blob is named by a Hit or a Row, not by {type(hit).__name__}")
+        if not 0 <= hit.offset <= hit.offset + hit.bytes <= layer.len:
+            raise ValueError(f"the layer has {layer.len} bytes, and this is of another: {hit!r}")
+        return bytes(layer.view[hit.offset : hit.offset + hit.bytes])
 
     @overload
     def scan(self, window: Union[Window, str]) -> Scan: ...
 
     @overload
     def scan(self, *, x: Range, y: Range, z: Optional[Range] = None, m: Optional[Range] = None) -> Scan: ...
+
+    @overload
+    def scan(self, *, bbox: Box, z: Optional[Range] = None, m: Optional[Range] = None) -> Scan: ...
 
     def scan(
         self,
@@ -153,9 +97,14 @@ class Layer:
         y: Optional[Range] = None,
         z: Optional[Range] = None,
         m: Optional[Range] = None,
+        bbox: Optional[Box] = None,
     ) -> Scan:
-        """The blobs with a vertex inside a window, which is a Window, or its text, or its ranges."""
-        return _scan(self._open, _window(window, x, y, z, m))
+        """The blobs with a vertex inside a window, which is a Window, or its text, or its ranges, or its bbox."""
+        return _scan(self._open, _window(window, x, y, z, m, bbox))
+
+    def scan_many(self, windows: Iterable[Union[Window, str]]) -> List[Scan]:
+        """A scan for each window, by a directory that is made for them. For later windows keep `directory()`."""
+        return self.directory().scan_many(windows)
 
     def directory(self) -> "Directory":
         """A directory: its scans read nothing of a blob whose box misses the window. It takes 80 bytes a blob."""
@@ -205,6 +154,9 @@ class Directory:
     @overload
     def scan(self, *, x: Range, y: Range, z: Optional[Range] = None, m: Optional[Range] = None) -> Scan: ...
 
+    @overload
+    def scan(self, *, bbox: Box, z: Optional[Range] = None, m: Optional[Range] = None) -> Scan: ...
+
     def scan(
         self,
         window: Union[Window, str, None] = None,
@@ -213,27 +165,59 @@ class Directory:
         y: Optional[Range] = None,
         z: Optional[Range] = None,
         m: Optional[Range] = None,
+        bbox: Optional[Box] = None,
     ) -> Scan:
         """Finds what `Layer.scan` finds. It reads nothing of a blob whose box misses the window."""
-        return _scan(self._layer._open, _window(window, x, y, z, m), self)
+        return _scan(self._layer._open, _window(window, x, y, z, m, bbox), self)
+
+    def scan_many(self, windows: Iterable[Union[Window, str]]) -> List[Scan]:
+        """A scan for each window. The scans share memory, which is let go with the last of them."""
+        layer = self._layer._open
+        if isinstance(windows, (str, Window)):
+            raise TypeError("several windows are wanted, as a list of them")
+        wanted = [_one_window(window)._struct for window in windows]
+        scans: List[Scan] = []
+        while len(scans) < len(wanted):
+            scans += self._scan_some(layer, wanted[len(scans) :])
+        return scans
+
+    def _scan_some(self, layer: _library.Layer, windows: List[_library.Window]) -> Iterator[Scan]:
+        """Scans for the first of the windows, of one at least: no window has more hits than there are blobs."""
+        room = (_library.Hit * max(layer.blobs, _FIRST_ROOM))()
+        table, end = memoryview(room).cast("B").toreadonly(), 0
+        for window in windows:
+            scanned = _scan_into(layer, window, self, room, end)
+            start, end = end, end + scanned.hits
+            if end > len(room):
+                break
+            yield Scan(table[start * _library.HIT.size : end * _library.HIT.size], scanned.bytes_read)
 
     def __repr__(self) -> str:
         return f"<Directory of {self._layer!r}>"
 
 
-def certify(data: bytes, *, tight: bool = False) -> Layer:
-    """Certifies bytes as a layer. Raises Refused if they aren't one, and with `tight` also if a box is loose."""
-    # A subclass may lie about its length. What isn't bytes may change while the library reads it.
-    if type(data) is not bytes:
-        raise TypeError(f"a layer is made of bytes, which nobody can change, not of {type(data).__name__}")
-    verdict = (library.twkb_certify_tight if tight else library.twkb_certify)(data, len(data))
+def certify(data: Data, *, tight: bool = False) -> Layer:
+    """Certifies bytes as a layer. Raises Refused if they aren't one, and with `tight` also if a box is loose.
+
+    `data` is bytes, or the path of a file (os.PathLike), which is read whole, or a buffer of bytes that can't be
+    written: a file mapped with access=mmap.ACCESS_READ, a memoryview of bytes, a NumPy array of uint8 that isn't
+    writeable. The layer holds it. If a mapped file is changed meanwhile, a later call may crash.
+    """
+    view = held(data)
+    address = address_of(view)
+    verdict = (library.twkb_certify_tight if tight else library.twkb_certify)(address, len(view))
     if verdict.answer == _library.REFUSED:
-        raise Refused(verdict.blob, verdict.offset, _KINDS[verdict.kind])
+        raise Refused(verdict.blob, verdict.offset, KINDS[verdict.kind])
     if verdict.answer != _library.CERTIFIED:
         raise MemoryError("there is no memory for a list of ids")
     layer = Layer.__new__(Layer)
-    layer._held = _library.Layer(data, len(data), verdict.blobs, verdict.vertices)
+    layer._held = _library.Layer(address, len(view), verdict.blobs, verdict.vertices)
+    layer._held.view = view
     return layer
+
+
+def _one_window(window: Union[Window, str]) -> Window:
+    return window if isinstance(window, Window) else Window.parse(window)
 
 
 def _window(
@@ -242,16 +226,20 @@ def _window(
     y: Optional[Range],
     z: Optional[Range],
     m: Optional[Range],
+    bbox: Optional[Box],
 ) -> _library.Window:
-    if window is None:
-        if x is None or y is None:
-            raise TypeError("a window is wanted, or the ranges of x and y")
-        window = Window(x, y, z, m)
-    elif not (x is None and y is None and z is None and m is None):
-        raise TypeError("a window is wanted, or ranges, not both")
-    elif not isinstance(window, Window):
-        window = Window.parse(window)
-    return window._struct
+    ranges: Tuple[object, ...] = (x, y, z, m, bbox)
+    if window is not None:
+        if any(one is not None for one in ranges):
+            raise TypeError("a window is wanted, or ranges, or a bbox, and only one of them")
+        return _one_window(window)._struct
+    if bbox is not None:
+        if x is not None or y is not None:
+            raise TypeError("a bbox is wanted, or the ranges of x and y, not both")
+        return Window.from_bbox(bbox, z=z, m=m)._struct
+    if x is None or y is None:
+        raise TypeError("a window is wanted, or the ranges of x and y, or a bbox")
+    return Window(x, y, z, m)._struct
 
 
 def _scan(layer: _library.Layer, window: _library.Window, directory: Optional[Directory] = None) -> Scan:
@@ -260,8 +248,9 @@ def _scan(layer: _library.Layer, window: _library.Window, directory: Optional[Di
     if scanned.hits > len(room):
         room = (_library.Hit * scanned.hits)()
         scanned = _scan_into(layer, window, directory, room)
-    filled = memoryview(room).cast("B")[: scanned.hits * _library.HIT.size]
-    return Scan(tuple(map(Hit._make, _library.HIT.iter_unpack(filled))), scanned.bytes_read)
+    # A copy, so that a scan takes no more memory than its hits.
+    filled = bytes(memoryview(room).cast("B")[: scanned.hits * _library.HIT.size])
+    return Scan(memoryview(filled), scanned.bytes_read)
 
 
 def _scan_into(
@@ -269,8 +258,14 @@ def _scan_into(
     window: _library.Window,
     directory: Optional[Directory],
     room: "ctypes.Array[_library.Hit]",
+    start: int = 0,
 ) -> _library.Scanned:
+    """Scans into the places of the room from one on."""
     held, wanted = ctypes.byref(layer), ctypes.byref(window)
+    places = ctypes.addressof(room) + start * _library.HIT.size, len(room) - start
+    scanned: _library.Scanned
     if directory is None:
-        return library.twkb_scan(held, wanted, room, len(room))
-    return library.twkb_directory_scan(held, directory._slots, directory._count, wanted, room, len(room))
+        scanned = library.twkb_scan(held, wanted, *places)
+    else:
+        scanned = library.twkb_directory_scan(held, directory._slots, directory._count, wanted, *places)
+    return scanned

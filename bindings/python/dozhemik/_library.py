@@ -2,7 +2,7 @@
 import ctypes
 import os
 import struct
-from ctypes import POINTER, c_bool, c_char_p, c_int8, c_int64, c_size_t, c_uint8, c_uint32, c_uint64
+from ctypes import POINTER, c_bool, c_char_p, c_int8, c_int64, c_size_t, c_uint8, c_uint32, c_uint64, c_void_p
 
 CERTIFIED, REFUSED, NO_MEMORY = 0, 1, 2
 WINDOW, BAD_FORM, BAD_ORDER = 0, 1, 2
@@ -20,8 +20,9 @@ class Verdict(ctypes.Structure):
 
 
 class Layer(ctypes.Structure):
-    # A field of c_char_p keeps the bytes that it is set to.
-    _fields_ = [("bytes", c_char_p), ("len", c_size_t), ("blobs", c_size_t), ("vertices", c_size_t)]
+    _fields_ = [("bytes", c_void_p), ("len", c_size_t), ("blobs", c_size_t), ("vertices", c_size_t)]
+    # The bytes that the address is of, kept for as long as the struct is.
+    view: memoryview
 
 
 class Row(ctypes.Structure):
@@ -62,7 +63,7 @@ class Slot(ctypes.Structure):
 
 
 # The numbers of a row and of a hit, for reading many of them at once.
-ROW, HIT = struct.Struct("@NNNNBb??4x"), struct.Struct("@NN8x")
+ROW, HIT = struct.Struct("@NNNNBb??4x"), struct.Struct("@NNN")
 
 # The sizes of the header's structs in bytes.
 _SIZES = (
@@ -77,18 +78,20 @@ _SIZES = (
     (Slot, 40),
 )
 
-_BYTES = (c_char_p, c_size_t)
+_BYTES, _TEXT = (c_void_p, c_size_t), (c_char_p, c_size_t)
 # What each call takes, and what it answers.
 _CALLS = (
     ("twkb_certify", _BYTES, Verdict),
     ("twkb_certify_tight", _BYTES, Verdict),
     ("twkb_list", (POINTER(Layer), POINTER(Row), c_size_t), c_size_t),
-    ("twkb_window_parse", (*_BYTES, POINTER(Window)), c_uint32),
-    ("twkb_scan", (POINTER(Layer), POINTER(Window), POINTER(Hit), c_size_t), Scanned),
+    ("twkb_window_parse", (*_TEXT, POINTER(Window)), c_uint32),
+    ("twkb_span_of_decimals", (*_TEXT, *_TEXT, POINTER(Span)), c_uint32),
+    # The address of hits is a number: a room is filled from any place on.
+    ("twkb_scan", (POINTER(Layer), POINTER(Window), c_void_p, c_size_t), Scanned),
     ("twkb_directory_build", (POINTER(Layer), POINTER(Slot), c_size_t), c_size_t),
     (
         "twkb_directory_scan",
-        (POINTER(Layer), POINTER(Slot), c_size_t, POINTER(Window), POINTER(Hit), c_size_t),
+        (POINTER(Layer), POINTER(Slot), c_size_t, POINTER(Window), c_void_p, c_size_t),
         Scanned,
     ),
 )

@@ -1,112 +1,190 @@
 """Windows, and the exact texts of coordinates."""
 import ctypes
-import re
 from decimal import Decimal
+from numbers import Integral, Real
 from typing import Callable, Optional, Tuple, Union
 
 from . import _library
+from ._library import library
 
 Coordinate = Union[int, float, Decimal, str]
 Range = Tuple[Coordinate, Coordinate]
+Box = Tuple[Coordinate, Coordinate, Coordinate, Coordinate]
+# The two ends of a range in units, or None.
+Ends = Optional[Tuple[int, int]]
 
-# A text of one of these alone can't be taken for more of a window than one number. The library judges its length.
-_NUMBER = re.compile(r"-?[0-9]+(\.[0-9]+)?")
-_WHOLE_DIGITS, _DECIMALS = 27, 7
+# The digits of a number whose text is made here. Only a Decimal or an int of an extreme exponent has more.
+_MOST_DIGITS = 2_000_000
 
 
 class BadWindow(ValueError):
-    """A window, or a coordinate of one, that can't be represented exactly. Its text says why in one line."""
+    """A window, or a coordinate of one, that is none. Its text says why in one line."""
 
 
 class Window:
     """A range of X and of Y, and of Z and M if they are bounded, both ends included.
 
-    A float is taken as its shortest decimal text, which `repr` prints: 0.1 is a tenth. Nothing is rounded. A number of
-    more than seven decimals is refused, and so are one of more than 27 digits before the point, a NaN and an infinity.
-    Round a number of more decimals first, down for a lower bound and up for an upper bound.
+    A bound is an int, a float, a Decimal or a decimal in a string, of any number of digits, and is taken exactly: the
+    float 0.1 is a little more than a tenth, and Decimal("0.1") or "0.1" is a tenth. Coordinates are whole numbers of
+    10^-7, called units. So the library rounds a range inward to units, the lower bound up and the upper bound down,
+    which changes no hit. A range that contains no unit has no vertices.
     """
 
-    __slots__ = ("_struct", "_text")
+    __slots__ = ("_struct",)
+    _struct: _library.Window
 
     def __init__(self, x: Range, y: Range, z: Optional[Range] = None, m: Optional[Range] = None) -> None:
-        named = (("x", x), ("y", y), ("z", z), ("m", m))
-        bounded = [(axis, ends) for axis, ends in named if ends is not None or axis in "xy"]
-        self._text = ",".join(f"{axis}={_range_text(axis, ends)}" for axis, ends in bounded)
-        self._struct = _parsed(self._text)
+        struct = _library.Window(has_z=z is not None, has_m=m is not None)
+        struct.x, struct.y = _span_of("x", x), _span_of("y", y)
+        if z is not None:
+            struct.z = _span_of("z", z)
+        if m is not None:
+            struct.m = _span_of("m", m)
+        self._struct = struct
+
+    @classmethod
+    def from_bbox(cls, bbox: Box, *, z: Optional[Range] = None, m: Optional[Range] = None) -> "Window":
+        """The window of a box (xmin, ymin, xmax, ymax), as GeoJSON and most libraries order it."""
+        if not isinstance(bbox, (tuple, list)) or len(bbox) != 4:
+            raise TypeError(f"a bbox is (xmin, ymin, xmax, ymax), not {bbox!r}")
+        xmin, ymin, xmax, ymax = bbox
+        return cls((xmin, xmax), (ymin, ymax), z, m)
 
     @classmethod
     def parse(cls, text: str) -> "Window":
         """Parses a text of the form x=A..B,y=C..D[,z=E..F][,m=G..H], with up to seven decimals."""
         if not isinstance(text, str):
             raise TypeError(f"the text of a window is a str, not {type(text).__name__}")
+        struct, data = _library.Window(), _ascii(text)
+        answer = library.twkb_window_parse(data, len(data), ctypes.byref(struct))
+        if answer == _library.BAD_FORM:
+            raise BadWindow(f"{_shown(text)} is not of the form x=A..B,y=C..D[,z=E..F][,m=G..H]")
+        if answer == _library.BAD_ORDER:
+            raise BadWindow(f"{_shown(text)} has a lower bound above its upper bound")
         window = cls.__new__(cls)
-        window._text = text
-        window._struct = _parsed(text)
+        window._struct = struct
         return window
 
+    @property
+    def x(self) -> Tuple[Decimal, Decimal]:
+        """The range of X, rounded inward to units. If it has none, the lower end is above the upper one."""
+        return _decimals(self._struct.x)
+
+    @property
+    def y(self) -> Tuple[Decimal, Decimal]:
+        """The range of Y, as `x` has that of X."""
+        return _decimals(self._struct.y)
+
+    @property
+    def z(self) -> Optional[Tuple[Decimal, Decimal]]:
+        """The range of Z, or None if it isn't bounded."""
+        return _decimals(self._struct.z) if self._struct.has_z else None
+
+    @property
+    def m(self) -> Optional[Tuple[Decimal, Decimal]]:
+        """The range of M, or None if it isn't bounded."""
+        return _decimals(self._struct.m) if self._struct.has_m else None
+
+    def _key(self) -> Tuple[Ends, Ends, Ends, Ends]:
+        struct = self._struct
+        z = _ends(struct.z) if struct.has_z else None
+        return _ends(struct.x), _ends(struct.y), z, _ends(struct.m) if struct.has_m else None
+
+    def __eq__(self, other: object) -> bool:
+        if not isinstance(other, Window):
+            return NotImplemented
+        return self._key() == other._key()
+
+    def __hash__(self) -> int:
+        return hash(self._key())
+
     def __str__(self) -> str:
-        return self._text
+        named = (("x", self.x), ("y", self.y), ("z", self.z), ("m", self.m))
+        return ",".join(f"{axis}={ends[0]:f}..{ends[1]:f}" for axis, ends in named if ends)
 
     def __repr__(self) -> str:
-        return f"Window.parse({self._text!r})"
+        return f"<Window {self}>"
 
-    def __reduce__(self) -> Tuple[Callable[[str], "Window"], Tuple[str]]:
-        return Window.parse, (self._text,)
-
-
-def _parsed(text: str) -> _library.Window:
-    # What isn't ASCII becomes a question mark, which stands in no window.
-    data = str.encode(text, "ascii", "replace")
-    struct = _library.Window()
-    answer = _library.library.twkb_window_parse(data, len(data), ctypes.byref(struct))
-    if answer == _library.BAD_FORM:
-        raise BadWindow(f"{text!r} is not of the form x=A..B,y=C..D[,z=E..F][,m=G..H]")
-    if answer == _library.BAD_ORDER:
-        raise BadWindow(f"{text!r} has a lower bound above its upper bound")
-    return struct
+    def __reduce__(self) -> Tuple[Callable[..., "Window"], Tuple[Ends, Ends, Ends, Ends]]:
+        return _of_units, self._key()
 
 
-def _range_text(axis: str, ends: object) -> str:
+def _of_units(x: Tuple[int, int], y: Tuple[int, int], z: Ends, m: Ends) -> Window:
+    """A window of what `_key` answers, for pickle and copy."""
+    window = Window.__new__(Window)
+    window._struct = _library.Window(
+        _span(x), _span(y), _span(z or (0, 0)), _span(m or (0, 0)), z is not None, m is not None
+    )
+    return window
+
+
+def _span(ends: Tuple[int, int]) -> _library.Span:
+    lo, hi = ((number & (1 << 64) - 1, number >> 64) for number in ends)
+    return _library.Span(lo, hi)
+
+
+def _ends(span: _library.Span) -> Tuple[int, int]:
+    lo, hi = (number.high << 64 | number.low for number in (span.lo, span.hi))
+    return lo, hi
+
+
+def _decimals(span: _library.Span) -> Tuple[Decimal, Decimal]:
+    lo, hi = map(_decimal, _ends(span))
+    return lo, hi
+
+
+def _decimal(units: int) -> Decimal:
+    """Units as a coordinate, without zeros at its end. No arithmetic of Decimal is used, since that may round."""
+    text = f"{abs(units):08}"
+    fraction = text[-7:].rstrip("0")
+    return Decimal("-" * (units < 0) + text[:-7] + ("." + fraction if fraction else ""))
+
+
+def _span_of(axis: str, ends: object) -> _library.Span:
+    """The range of two coordinates, which the library reads and rounds inward."""
     # A str of two characters would unpack as well.
     if not isinstance(ends, (tuple, list)) or len(ends) != 2:
         raise TypeError(f"the range of {axis} is a pair (lo, hi), not {ends!r}")
-    lo, hi = ends
-    return f"{_number_text(lo)}..{_number_text(hi)}"
+    lo, hi = (_ascii(_number_text(axis, end)) for end in ends)
+    span = _library.Span()
+    answer = library.twkb_span_of_decimals(lo, len(lo), hi, len(hi), ctypes.byref(span))
+    if answer == _library.BAD_FORM:
+        raise BadWindow(f"{axis}={_shown(ends[0])}..{_shown(ends[1])}: an end is no decimal such as -12.5")
+    if answer == _library.BAD_ORDER:
+        raise BadWindow(f"{axis}={_shown(ends[0])}..{_shown(ends[1])}: the lower bound is above the upper bound")
+    return span
 
 
-def _number_text(value: object) -> str:
+def _ascii(text: str) -> bytes:
+    # What isn't ASCII becomes a question mark, which stands in no number and no window.
+    return str.encode(text, "ascii", "replace")
+
+
+def _shown(value: object) -> str:
+    """A value in one line, and not too long."""
+    text = repr(value)
+    return text if len(text) <= 80 else f"{text[:80]}.."
+
+
+def _number_text(axis: str, value: object) -> str:
+    """The text of just this number, without an exponent."""
     if isinstance(value, str):
-        if not _NUMBER.fullmatch(value):
-            raise BadWindow(f"{value!r} is no decimal number")
         return value
-    if isinstance(value, bool):
-        raise TypeError("a bool is no coordinate")
-    if isinstance(value, int):
-        if abs(value) >= 10**_WHOLE_DIGITS:
-            raise BadWindow(f"a number has more than {_WHOLE_DIGITS} digits")
-        return int.__repr__(value)
-    if isinstance(value, float):
-        return _decimal_text(Decimal(float.__repr__(value)))
-    if isinstance(value, Decimal):
-        return _decimal_text(value)
-    raise TypeError(f"a coordinate is an int, a float, a Decimal or a str, not {type(value).__name__}")
+    exact = _exact(value)
+    if not exact.is_finite():
+        raise BadWindow(f"an end of the range of {axis} is {exact}, which is no number")
+    if exact and max(exact.adjusted(), -int(exact.as_tuple().exponent)) >= _MOST_DIGITS:
+        raise BadWindow(f"an end of the range of {axis} has more than {_MOST_DIGITS:,} digits on a side of the point")
+    return format(exact, "f") if exact else "0"
 
 
-def _decimal_text(value: Decimal) -> str:
-    """The exact text of a number, without an exponent. No arithmetic of Decimal is used, since that may round."""
-    if not value.is_finite():
-        raise BadWindow(f"{value} is no number")
-    if not value:
-        return "0"
-    if value.adjusted() >= _WHOLE_DIGITS:
-        raise BadWindow(f"{value} has more than {_WHOLE_DIGITS} digits before the point")
-    sign, figures, exponent = value.as_tuple()
-    digits = "".join(map(str, figures))
-    # The number is 0.digits * 10^point, and zeros at its end say nothing.
-    point = len(digits) + int(exponent)
-    digits = digits.rstrip("0")
-    if len(digits) - point > _DECIMALS:
-        raise BadWindow(f"{value} has more than seven decimals")
-    whole = digits[: max(point, 0)].ljust(point, "0") or "0"
-    fraction = "0" * -point + digits[max(point, 0) :]
-    return "-" * sign + whole + ("." + fraction if fraction else "")
+def _exact(value: object) -> Decimal:
+    """Just this number. Decimal takes an int, a float or a Decimal exactly, whatever the context says."""
+    if isinstance(value, (int, float, Decimal)) and not isinstance(value, bool):
+        return Decimal(value)
+    # The numbers of NumPy, for instance. A float32 is a float.
+    if isinstance(value, Real) and not isinstance(value, bool):
+        number: Union[int, float] = int(value) if isinstance(value, Integral) else float(value)
+        if number == value or number != number:
+            return Decimal(number)
+    raise TypeError(f"a coordinate is an int, a float, a Decimal or a str, not {_shown(value)}")

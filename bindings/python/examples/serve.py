@@ -4,69 +4,103 @@
 usage: serve.py FILE [PORT]   (8000 by default; 0 means any free port)
 
     GET /scan?x=10..30&y=35..45[&z=E..F][&m=G..H]   the hits, and how many bytes were read, of how many
+    GET /blobs?x=10..30&y=35..45[&z=E..F][&m=G..H]  the bytes of the hits, which are a certified layer again
     GET /list                                       a row for each blob
 
-Answers are JSON. A window that can't be read gets 400, and any other path 404, each with a line that says why. The
-layer is certified once, before the first query, and all threads share it.
+In place of x and y a query may have bbox=XMIN,YMIN,XMAX,YMAX. Numbers are decimals of any length. /scan and /list
+answer in JSON, /blobs in bytes. A query that can't be read gets 400, and any other path 404, each with a line that says
+what is wrong. HEAD is answered as GET is, without the body. The layer is certified once, before the first query. All
+threads share it and its directory, so a query reads nothing of a blob whose box misses the window.
 """
 import json
 import sys
 from functools import partial
 from http.server import BaseHTTPRequestHandler, ThreadingHTTPServer
-from typing import Dict
+from pathlib import Path
+from typing import Dict, Iterable, List
 from urllib.parse import parse_qsl, urlsplit
 
-from dozhemik import BadWindow, Layer, Range, Refused, Window, certify
+from dozhemik import BadWindow, Directory, Layer, Range, Refused, Window, certify
+
+TEXT, JSON, BYTES = "text/plain; charset=utf-8", "application/json", "application/octet-stream"
+FORMS = "?x=A..B&y=C..D[&z=E..F][&m=G..H], or bbox=XMIN,YMIN,XMAX,YMAX for x and y"
 
 
 def window_of(query: str) -> Window:
-    ranges: Dict[str, Range] = {}
-    for axis, text in parse_qsl(query, keep_blank_values=True):
-        if axis not in ("x", "y", "z", "m") or axis in ranges:
-            raise BadWindow("a window has one x and one y, at most one z and one m, and nothing else")
-        lo, _, hi = text.partition("..")
-        ranges[axis] = (lo, hi)
-    if "x" not in ranges or "y" not in ranges:
-        raise BadWindow("a window has an x and a y: /scan?x=A..B&y=C..D")
-    return Window(**ranges)
+    """The window of a query. Raises BadWindow, which says what is wrong with it."""
+    given: Dict[str, str] = {}
+    for name, text in parse_qsl(query, keep_blank_values=True):
+        if name not in ("x", "y", "z", "m", "bbox"):
+            raise BadWindow(f"{name!r} is no part of a window: {FORMS}")
+        if name in given:
+            raise BadWindow(f"{name} is given twice")
+        given[name] = text
+    if "bbox" in given:
+        given.update(box_of(given.pop("bbox"), given))
+    missing = [name for name in "xy" if name not in given]
+    if missing:
+        raise BadWindow(f"{' and '.join(missing)} missing: {FORMS}")
+    return Window(**{name: range_of(name, text) for name, text in given.items()})
 
 
-def scanned(layer: Layer, query: str) -> Dict[str, object]:
-    scan = layer.scan(window_of(query))
-    return {"hits": [hit._asdict() for hit in scan], "read": scan.bytes_read, "of": layer.size}
+def box_of(text: str, given: Iterable[str]) -> Dict[str, str]:
+    """The ranges of x and y of a bbox."""
+    ends = text.split(",")
+    if "x" in given or "y" in given:
+        raise BadWindow("a bbox says what x and y are, so neither is given beside it")
+    if len(ends) != 4:
+        raise BadWindow(f"bbox={text!r} isn't XMIN,YMIN,XMAX,YMAX")
+    return {"x": f"{ends[0]}..{ends[2]}", "y": f"{ends[1]}..{ends[3]}"}
 
 
-def listed(layer: Layer) -> Dict[str, object]:
-    return {"rows": [row._asdict() for row in layer.list()]}
+def range_of(name: str, text: str) -> Range:
+    lo, dots, hi = text.partition("..")
+    if not dots:
+        raise BadWindow(f"{name}={text!r} is no range: {name}=A..B")
+    return lo, hi
 
 
 class Handler(BaseHTTPRequestHandler):
     # A client that says nothing for so many seconds is left.
     timeout = 30
 
-    def __init__(self, layer: Layer, *rest: object) -> None:
-        self.layer = layer
+    def __init__(self, layer: Layer, directory: Directory, *rest: object) -> None:
+        self.layer, self.directory = layer, directory
         super().__init__(*rest)  # type: ignore[arg-type]
 
     def do_GET(self) -> None:
         try:
             address = urlsplit(self.path)
             if address.path == "/scan":
-                self.answer(200, "application/json", json.dumps(scanned(self.layer, address.query)))
+                self.tell(200, JSON, json.dumps(self.scanned(address.query)))
+            elif address.path == "/blobs":
+                self.answer(200, BYTES, self.blobs(address.query))
             elif address.path == "/list":
-                self.answer(200, "application/json", json.dumps(listed(self.layer)))
+                self.tell(200, JSON, json.dumps({"rows": [row._asdict() for row in self.layer.list()]}))
             else:
-                self.answer(404, "text/plain; charset=utf-8", "there are /scan and /list")
+                self.tell(404, TEXT, "there are /scan, /blobs and /list")
         except ValueError as why:
-            self.answer(400, "text/plain; charset=utf-8", str(why))
+            self.tell(400, TEXT, str(why))
 
-    def answer(self, status: int, kind: str, text: str) -> None:
-        data = f"{text}\n".encode()
+    do_HEAD = do_GET
+
+    def scanned(self, query: str) -> Dict[str, object]:
+        scan = self.directory.scan(window_of(query))
+        return {"hits": [hit._asdict() for hit in scan], "read": scan.bytes_read, "of": self.layer.size}
+
+    def blobs(self, query: str) -> List[bytes]:
+        return [self.layer.blob(hit) for hit in self.directory.scan(window_of(query))]
+
+    def tell(self, status: int, kind: str, text: str) -> None:
+        self.answer(status, kind, [f"{text}\n".encode()])
+
+    def answer(self, status: int, kind: str, parts: List[bytes]) -> None:
         self.send_response(status)
         self.send_header("Content-Type", kind)
-        self.send_header("Content-Length", str(len(data)))
+        self.send_header("Content-Length", str(sum(map(len, parts))))
         self.end_headers()
-        self.wfile.write(data)
+        if self.command != "HEAD":
+            self.wfile.writelines(parts)
 
 
 def main() -> int:
@@ -75,14 +109,13 @@ def main() -> int:
         return 2
     path, port = sys.argv[1], int(sys.argv[2]) if len(sys.argv) == 3 else 8000
     try:
-        with open(path, "rb") as file:
-            layer = certify(file.read())
-        server = ThreadingHTTPServer(("127.0.0.1", port), partial(Handler, layer))
+        layer = certify(Path(path))
+        server = ThreadingHTTPServer(("127.0.0.1", port), partial(Handler, layer, layer.directory()))
     except Refused as why:
         print(f"serve.py: {path} is refused: {why}", file=sys.stderr)
         return 1
-    except (OSError, OverflowError) as why:
-        print(f"serve.py: {why}", file=sys.stderr)
+    except (OSError, OverflowError, MemoryError) as why:
+        print(f"serve.py: {str(why) or 'out of memory'}", file=sys.stderr)
         return 3
     print(f"{path} at http://127.0.0.1:{server.server_port}", flush=True)
     try:

@@ -7,7 +7,8 @@ As the program does, it makes a directory first where there are two windows or m
 """
 import os
 import sys
-from typing import Iterator, List, Tuple
+from pathlib import Path
+from typing import Iterable, Iterator, List, Tuple
 
 sys.path.insert(0, os.path.join(os.path.dirname(os.path.abspath(__file__)), ".."))
 import dozhemik
@@ -37,9 +38,8 @@ def lines(layer: dozhemik.Layer, command: str, windows: List[dozhemik.Window]) -
         yield f"ok blobs={layer.blobs} vertices={layer.vertices}"
     if command == "list":
         yield from map(str, layer.list())
-    scanned = layer.directory() if len(windows) > 1 else layer
-    for window in windows:
-        scan = scanned.scan(window)
+    scans: Iterable[dozhemik.Scan] = layer.scan_many(windows) if len(windows) > 1 else map(layer.scan, windows)
+    for scan in scans:
         yield from (f"hit {hit}" for hit in scan)
         yield f"hits={len(scan)} read={scan.bytes_read} of={layer.size}"
 
@@ -47,10 +47,8 @@ def lines(layer: dozhemik.Layer, command: str, windows: List[dozhemik.Window]) -
 def answered(words: List[str]) -> Tuple[int, str]:
     """The status and the text of a run with these words."""
     command, tight, path, windows = asked(words)
-    with open(path, "rb") as file:
-        data = file.read()
     try:
-        with dozhemik.certify(data, tight=tight) as layer:
+        with dozhemik.certify(Path(path), tight=tight) as layer:
             return 0, "".join(f"{line}\n" for line in lines(layer, command, windows))
     except dozhemik.Refused as why:
         return 1, f"no {why}\n"

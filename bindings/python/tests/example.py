@@ -1,6 +1,8 @@
-"""What the tests share: the package in reach, and the layers of the repository."""
+"""What the tests share: the package in reach, the layers of the repository, and packages that may be missing."""
+import importlib
 import os
 import sys
+from typing import Any
 
 HERE = os.path.dirname(os.path.abspath(__file__))
 PACKAGE = os.path.dirname(HERE)
@@ -19,3 +21,11 @@ def path_of(name: str) -> str:
 def example(name: str) -> bytes:
     with open(path_of(name), "rb") as file:
         return file.read()
+
+
+def package(name: str) -> Any:
+    """A package, or None where it is missing."""
+    try:
+        return importlib.import_module(name)
+    except ImportError:
+        return None

@@ -3,8 +3,9 @@ import os
 import pickle
 import unittest
 from concurrent.futures import ThreadPoolExecutor
+from typing import List, Union
 
-from dozhemik import Directory, Window, certify
+from dozhemik import BadWindow, Directory, Window, certify
 
 EXAMPLES = os.path.join(os.path.dirname(os.path.abspath(__file__)), "..", "..", "..", "examples")
 WINDOWS = ("x=10..30,y=35..45", "x=100..140,y=-10..10", "x=-1000..1000,y=-1000..1000", "x=0..20,y=0..60,z=0..9")
@@ -28,9 +29,32 @@ class Directories(unittest.TestCase):
 
     def test_reads_what_the_program_says(self) -> None:
         directory = certify(example("coast_lines_sized.twkb")).directory()
-        ranges = {"x": (10, 30), "y": (35, 45)}
-        for scan in (directory.scan(**ranges), directory.scan(Window(**ranges)), directory.scan(WINDOWS[0])):
+        for scan in (directory.scan(x=(10, 30), y=(35, 45)), directory.scan(Window((10, 30), (35, 45))), directory.scan(WINDOWS[0])):
             self.assertEqual((len(scan), scan.bytes_read), (44, 2272))
+
+    def test_many_windows(self) -> None:
+        for name in ("coast_collections.twkb", "coast_lines_sized.twkb", "coast_z.twkb", "points_sized.twkb"):
+            layer = certify(example(name))
+            directory = layer.directory()
+            wanted = [directory.scan(text) for text in WINDOWS]
+            windows: List[Union[Window, str]] = [Window.parse(text) for text in WINDOWS[:2]]
+            windows += WINDOWS[2:]
+            for scans in (directory.scan_many(windows), layer.scan_many(windows), directory.scan_many(iter(windows))):
+                self.assertEqual([list(scan) for scan in scans], [list(scan) for scan in wanted])
+                self.assertEqual([scan.bytes_read for scan in scans], [scan.bytes_read for scan in wanted])
+            self.assertEqual(directory.scan_many([]), [])
+
+    def test_more_hits_than_a_room_has(self) -> None:
+        # The room of a call has a place for each blob, or 4096. Each of these windows has a hit for each blob or each second.
+        for count in (3, 4095, 4096, 4097, 9000):
+            layer = certify((b"\1\0\2\4" + b"\1\0\4\4") * (count // 2) + b"\1\0\2\4" * (count % 2))
+            all_, half, none = "x=0..9,y=0..9", "x=2..9,y=0..9", "x=7..9,y=0..9"
+            texts = [all_, half, none, half, half, all_, all_, none, none]
+            scans = layer.scan_many(texts)
+            for text, scan in zip(texts, scans):
+                wanted = {all_: range(count), half: range(1, count, 2), none: range(0)}[text]
+                self.assertEqual([hit.blob for hit in scan], list(wanted))
+                self.assertEqual([hit.offset for hit in scan], [4 * blob for blob in wanted])
 
     def test_threads(self) -> None:
         directory = certify(example("coast_lines_sized.twkb")).directory()
@@ -44,7 +68,13 @@ class Directories(unittest.TestCase):
         self.assertRaises(TypeError, Directory)
         self.assertRaises(TypeError, pickle.dumps, directory)
         self.assertRaises(TypeError, directory.scan)
+        for windows in (None, 5, [5], [None], [b"x=0..1,y=0..1"], [(0, 0, 1, 1)], WINDOWS[0], Window.parse(WINDOWS[0])):
+            self.assertRaises(TypeError, directory.scan_many, windows)
+        for text in ("x=1..0,y=0..1", "", "x"):
+            self.assertRaises(BadWindow, directory.scan_many, [WINDOWS[0], text])
         layer.close()
+        self.assertRaises(ValueError, directory.scan_many, [WINDOWS[0]])
+        self.assertRaises(ValueError, directory.scan_many, [])
         self.assertRaises(ValueError, layer.directory)
         self.assertRaises(ValueError, directory.scan, WINDOWS[0])
         self.assertEqual(repr(directory), "<Directory of <Layer, closed>>")

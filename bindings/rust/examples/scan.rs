@@ -23,8 +23,7 @@ fn main() -> ExitCode {
 fn run(words: &[String]) -> Result<(), Box<dyn Error>> {
     match words {
         [file, x_from, x_to, y_from, y_to] => {
-            let x = Span::from_coordinates(x_from.parse()?..=x_to.parse()?)?;
-            let y = Span::from_coordinates(y_from.parse()?..=y_to.parse()?)?;
+            let (x, y) = (Span::from_decimals(x_from, x_to)?, Span::from_decimals(y_from, y_to)?);
             scan(&fs::read(file)?, &Window::new(x, y))
         }
         _ => Err("usage: scan FILE X_FROM X_TO Y_FROM Y_TO".into()),

@@ -19,24 +19,17 @@ use std::mem::MaybeUninit;
 /// directory.scan(&"x=0..1,y=0..2".parse().unwrap()).unwrap();
 /// ```
 ///
-/// It may be used by many threads at once.
+/// It may be used by many threads at once. An [`OwnedDirectory`](crate::OwnedDirectory) holds its bytes too. A clone has
+/// slots of its own; like a clone of a `Vec`, it ends the program if there is no memory for them.
+#[derive(Clone)]
 pub struct Directory<'a> {
     layer: Layer<'a>,
-    slots: Vec<ffi::Slot>,
+    slots: Slots,
 }
 
 impl<'a> Directory<'a> {
     pub(crate) fn of(layer: Layer<'a>) -> Result<Directory<'a>, TryReserveError> {
-        let mut slots = Vec::new();
-        // A blob takes a byte at least, and no slice has more than 2^63 - 1: so this doesn't overflow.
-        slots.try_reserve_exact(2 * layer.blobs())?;
-        let room: &mut [MaybeUninit<ffi::Slot>] = slots.spare_capacity_mut();
-        // Sound: the layer is certified, and the room is the vector's own; it is written and never read.
-        let count = unsafe { ffi::twkb_directory_build(&layer.lent(), room.as_mut_ptr().cast(), room.len()) };
-        assert!(count <= room.len(), "two slots for each blob are enough");
-        // Sound: the library has written as many slots as it answers, as there was room for them.
-        unsafe { slots.set_len(count) };
-        Ok(Directory { layer, slots })
+        Ok(Directory { layer, slots: Slots::of(&layer)? })
     }
 
     /// The layer of this directory.
@@ -64,29 +57,15 @@ impl<'a> Directory<'a> {
     ///
     /// Those of [`Layer::scan`].
     pub fn scan(&self, window: &Window) -> Result<Scan, TryReserveError> {
-        scan_growing(&self.layer, |room| self.scan_spare(window, room))
+        // Sound: the slots were built for this layer.
+        unsafe { self.slots.scan(&self.layer, window) }
     }
 
     /// Writes what [`scan`](Directory::scan) finds to `room`, as [`Layer::scan_into`] does. It allocates no memory and
     /// can't fail.
     pub fn scan_into(&self, window: &Window, room: &mut [Hit]) -> Scanned {
-        // Sound: the room is borrowed by this call alone, and hits are written as hits.
-        unsafe { self.scan_raw(window, room.as_mut_ptr(), room.len()) }
-    }
-
-    fn scan_spare(&self, window: &Window, room: &mut [MaybeUninit<Hit>]) -> Scanned {
-        // Sound: the same, and the library writes the room and never reads it.
-        unsafe { self.scan_raw(window, room.as_mut_ptr().cast(), room.len()) }
-    }
-
-    /// # Safety
-    ///
-    /// `room` is valid for this many hits, and nobody else uses it during the call.
-    unsafe fn scan_raw(&self, window: &Window, hits: *mut Hit, room: usize) -> Scanned {
-        let (layer, window, slots) = (self.layer.lent(), window.lent(), &self.slots);
-        // Sound: the layer is certified, the slots were built for it, and nobody can write either. The rest is the
-        // caller's.
-        unsafe { ffi::twkb_directory_scan(&layer, slots.as_ptr(), slots.len(), &window, hits, room) }
+        // Sound: the slots were built for this layer.
+        unsafe { self.slots.scan_into(&self.layer, window, room) }
     }
 }
 
@@ -94,5 +73,55 @@ impl fmt::Debug for Directory<'_> {
     /// Its layer, and how many slots it has.
     fn fmt(&self, f: &mut fmt::Formatter<'_>) -> fmt::Result {
         write!(f, "Directory {{ layer: {:?}, slots: [..; {}] }}", self.layer, self.slots.len())
+    }
+}
+
+/// The slots of a directory, apart from its layer.
+#[derive(Clone)]
+pub(crate) struct Slots(Vec<ffi::Slot>);
+
+impl Slots {
+    pub(crate) fn of(layer: &Layer<'_>) -> Result<Slots, TryReserveError> {
+        let mut slots = Vec::new();
+        // A blob takes a byte at least, and no slice has more than 2^63 - 1: so this doesn't overflow.
+        slots.try_reserve_exact(2 * layer.blobs())?;
+        let room: &mut [MaybeUninit<ffi::Slot>] = slots.spare_capacity_mut();
+        // Sound: the layer is certified, and the room is the vector's own; it is written and never read.
+        let count = unsafe { ffi::twkb_directory_build(&layer.lent(), room.as_mut_ptr().cast(), room.len()) };
+        assert!(count <= room.len(), "two slots for each blob are enough");
+        // Sound: the library has written as many slots as it answers, as there was room for them.
+        unsafe { slots.set_len(count) };
+        Ok(Slots(slots))
+    }
+
+    pub(crate) fn len(&self) -> usize {
+        self.0.len()
+    }
+
+    /// # Safety
+    ///
+    /// The slots were built for this layer.
+    pub(crate) unsafe fn scan(&self, layer: &Layer<'_>, window: &Window) -> Result<Scan, TryReserveError> {
+        scan_growing(layer, |room: &mut [MaybeUninit<Hit>]| {
+            // Sound: the library writes the room and never reads it. The rest is the caller's.
+            unsafe { self.scan_raw(layer, window, room.as_mut_ptr().cast(), room.len()) }
+        })
+    }
+
+    /// # Safety
+    ///
+    /// The slots were built for this layer.
+    pub(crate) unsafe fn scan_into(&self, layer: &Layer<'_>, window: &Window, room: &mut [Hit]) -> Scanned {
+        // Sound: the room is borrowed by this call alone, and hits are written as hits. The rest is the caller's.
+        unsafe { self.scan_raw(layer, window, room.as_mut_ptr(), room.len()) }
+    }
+
+    /// # Safety
+    ///
+    /// The slots were built for this layer. `hits` is valid for `room` hits, and nobody else uses it during the call.
+    unsafe fn scan_raw(&self, layer: &Layer<'_>, window: &Window, hits: *mut Hit, room: usize) -> Scanned {
+        let (layer, window) = (layer.lent(), window.lent());
+        // Sound: the layer is certified, and nobody can write its bytes or the slots. The rest is the caller's.
+        unsafe { ffi::twkb_directory_scan(&layer, self.0.as_ptr(), self.len(), &window, hits, room) }
     }
 }

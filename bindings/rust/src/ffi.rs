@@ -9,7 +9,7 @@ pub(crate) const CERTIFIED: u32 = 0;
 pub(crate) const REFUSED: u32 = 1;
 pub(crate) const NO_MEMORY: u32 = 2;
 
-pub(crate) const WINDOW: u32 = 0;
+pub(crate) const READ: u32 = 0;
 pub(crate) const BAD_FORM: u32 = 1;
 pub(crate) const BAD_ORDER: u32 = 2;
 
@@ -71,6 +71,13 @@ extern "C" {
     pub(crate) fn twkb_certify_tight(bytes: *const u8, len: usize) -> Verdict;
     pub(crate) fn twkb_list(layer: *const Layer, rows: *mut Row, room: usize) -> usize;
     pub(crate) fn twkb_window_parse(text: *const c_char, len: usize, window: *mut Window) -> u32;
+    pub(crate) fn twkb_span_of_decimals(
+        lo: *const c_char,
+        lo_len: usize,
+        hi: *const c_char,
+        hi_len: usize,
+        span: *mut Span,
+    ) -> u32;
     pub(crate) fn twkb_scan(layer: *const Layer, window: *const Window, hits: *mut Hit, room: usize) -> Scanned;
     pub(crate) fn twkb_directory_build(layer: *const Layer, slots: *mut Slot, room: usize) -> usize;
     pub(crate) fn twkb_directory_scan(

@@ -8,8 +8,8 @@ use std::mem::{size_of, MaybeUninit};
 /// A certified layer. It borrows its bytes, and is as small as a slice and two numbers.
 ///
 /// A layer is only made from bytes that were certified, and the borrow keeps them unchanged. So every result is about
-/// the certified bytes. A layer may be copied, and used by many threads at once. A program that keeps its layers for as
-/// long as it runs may leak their bytes: `Layer::certify(Vec::leak(bytes))` is a `Layer<'static>`.
+/// the certified bytes. A layer may be copied, and used by many threads at once. An [`OwnedLayer`](crate::OwnedLayer)
+/// holds its bytes.
 ///
 /// It can't outlive its bytes:
 ///
@@ -81,6 +81,15 @@ impl<'a> Layer<'a> {
         }
     }
 
+    /// A layer of bytes that were certified before.
+    ///
+    /// # Safety
+    ///
+    /// These bytes were certified with these numbers.
+    pub(crate) const unsafe fn certified(bytes: &'a [u8], blobs: usize, vertices: usize) -> Layer<'a> {
+        Layer { bytes, blobs, vertices }
+    }
+
     /// The bytes that were certified.
     pub const fn bytes(&self) -> &'a [u8] {
         self.bytes
@@ -131,9 +140,26 @@ impl<'a> Layer<'a> {
     ///
     /// # Errors
     ///
-    /// If there is no memory for the hits, which take 16 bytes each, or for the first allocation.
+    /// If there is no memory for the hits, which take 24 bytes each, or for the first allocation.
     pub fn scan(&self, window: &Window) -> Result<Scan, TryReserveError> {
         scan_growing(self, |room| self.scan_spare(window, room))
+    }
+
+    /// The bytes of a blob, by a [`Hit`] or a [`Row`] of this layer. Returns `None` if it extends beyond the layer.
+    ///
+    /// ```
+    /// # use dozhemik::Layer;
+    /// # fn main() -> Result<(), Box<dyn std::error::Error>> {
+    /// let layer = Layer::certify(&[1, 0, 2, 4, 1, 0, 6, 8])?;
+    /// let scan = layer.scan(&"x=3..3,y=0..9".parse()?)?;
+    /// assert_eq!(layer.blob(&scan.hits[0]), Some(&[1, 0, 6, 8][..]));
+    /// assert_eq!(layer.blob(&layer.list()?[0]), Some(&[1, 0, 2, 4][..]));
+    /// # Ok(())
+    /// # }
+    /// ```
+    pub fn blob(&self, hit: impl Into<Hit>) -> Option<&'a [u8]> {
+        let hit = hit.into();
+        self.bytes.get(hit.offset..hit.offset.checked_add(hit.bytes)?)
     }
 
     /// A directory, whose scans read nothing of a blob whose box misses the window.

@@ -39,8 +39,7 @@
 //!
 //! # Numbers
 //!
-//! Coordinates are compared in *units* of 10^-7, and no call rounds. See [`Span`] for how a window's bounds are
-//! converted to units.
+//! Coordinates are compared in *units* of 10^-7. See [`Span`] for how a window's bounds are converted to units.
 //!
 //! # Memory and time
 //!
@@ -51,22 +50,35 @@
 //!
 //! # Building
 //!
-//! The environment variable `TWKB_LIB` names the folder of `libtwkb.a`, which `make library` builds in the repository.
-//! The library needs a processor of the level x86-64-v2.
+//! The environment variable `TWKB_LIB` names the folder of `libtwkb.a`, which `make library` builds in the repository. If
+//! it isn't set, the build script asks `pkg-config` for the library that `make install-library` installs. The library
+//! needs a processor of the level x86-64-v2.
 #![warn(missing_docs, missing_debug_implementations, unreachable_pub, rust_2018_idioms)]
 #![deny(unsafe_op_in_unsafe_fn)]
 
+mod bad_window;
+mod bytes;
+mod decimals;
 mod directory;
 mod ffi;
 mod layer;
+mod owned;
 mod refusal;
 mod row;
 mod scan;
 mod window;
 
+pub use bad_window::{BadWindow, BadWindowKind};
+pub use bytes::{FixedBytes, Vouched};
 pub use directory::Directory;
 pub use layer::Layer;
+pub use owned::{OwnedDirectory, OwnedLayer};
 pub use refusal::{CertifyError, Refusal, RefusalKind};
 pub use row::{Kind, Row};
 pub use scan::{Hit, Scan, Scanned};
-pub use window::{BadWindow, Span, Window};
+pub use window::{Span, Window};
+
+// The example of the README is compiled with the tests.
+#[cfg(doctest)]
+#[doc = include_str!("../README.md")]
+struct Readme;

@@ -5,6 +5,7 @@ use std::fmt;
 
 /// Why [`Layer::certify`](crate::Layer::certify) returns no layer.
 #[derive(Clone, Copy, Debug, PartialEq, Eq, Hash)]
+#[non_exhaustive]
 pub enum CertifyError {
     /// The bytes aren't a certified layer.
     Refused(Refusal),
@@ -27,6 +28,7 @@ pub struct Refusal {
 
 /// Why a blob is refused. It is displayed as the program's word: `cut`, `varint` and so on.
 #[derive(Clone, Copy, Debug, PartialEq, Eq, Hash)]
+#[non_exhaustive]
 pub enum RefusalKind {
     /// The bytes end within the blob.
     Cut,

@@ -1,5 +1,7 @@
 //! What a scan finds.
 
+use crate::Row;
+
 /// A blob with a vertex inside a window.
 #[repr(C)]
 #[derive(Clone, Copy, Debug, Default, PartialEq, Eq, Hash)]
@@ -10,6 +12,24 @@ pub struct Hit {
     pub offset: usize,
     /// Its length in bytes.
     pub bytes: usize,
+}
+
+impl From<&Hit> for Hit {
+    fn from(hit: &Hit) -> Hit {
+        *hit
+    }
+}
+
+impl From<&Row> for Hit {
+    fn from(row: &Row) -> Hit {
+        Hit { blob: row.blob, offset: row.offset, bytes: row.bytes }
+    }
+}
+
+impl From<Row> for Hit {
+    fn from(row: Row) -> Hit {
+        Hit::from(&row)
+    }
 }
 
 /// What [`Layer::scan`](crate::Layer::scan) finds: the blobs with a vertex inside the window, in the order of the

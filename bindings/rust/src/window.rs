@@ -1,23 +1,28 @@
 //! Windows, and the numbers that bound them.
 
-use crate::ffi;
-use std::error::Error;
-use std::fmt::{self, Write};
+use crate::decimals::Text;
+use crate::{ffi, BadWindow, BadWindowKind};
 use std::ops::RangeInclusive;
 use std::str::FromStr;
 
-/// A range in units, both ends included, whose lower end is never above its upper one.
+/// A range in units, both ends included.
 ///
-/// A unit is 10^-7: a bound of 35.5 is 355,000,000 units. There are two ways to make a span, and neither rounds:
+/// A unit is 10^-7: a bound of 35.5 is 355,000,000 units. There are three ways to make a span:
 ///
 /// - [from units](Span::from_units);
-/// - [from coordinates](Span::from_coordinates), by their shortest decimal text.
+/// - [from coordinates](Span::from_coordinates), any finite floats;
+/// - [from decimals](Span::from_decimals), in texts of any length.
+///
+/// Each bound is taken exactly. Coordinates of a layer are whole numbers of units, so the library rounds a range inward
+/// to units: the lower bound up, and the upper bound down. No vertex is lost or gained by this.
 ///
 /// ```
 /// # use dozhemik::{BadWindow, Span};
-/// let span = Span::from_coordinates(-0.1..=35.5)?;
-/// assert_eq!(span, Span::from_units(-1_000_000..=355_000_000)?);
-/// assert_eq!(Span::from_coordinates(0.0..=0.1 + 0.2), Err(BadWindow::MoreThanSevenDecimals));
+/// let span = Span::from_coordinates(-128.8..=-128.8 + 1.0)?;
+/// assert_eq!(span, Span::from_units(-1_288_000_000..=-1_278_000_001)?);
+/// // The float is a little above a tenth, and the text is a tenth.
+/// assert_eq!(Span::from_coordinates(0.1..=35.5)?.lo(), 1_000_001);
+/// assert_eq!(Span::from_decimals("0.1", "35.5")?.lo(), 1_000_000);
 /// # Ok::<(), BadWindow>(())
 /// ```
 #[derive(Clone, Copy, Debug, PartialEq, Eq, Hash)]
@@ -31,37 +36,48 @@ impl Span {
     ///
     /// # Errors
     ///
-    /// [`BadWindow::Order`], if the lower end is above the upper one.
+    /// [`BadWindowKind::Order`], if the lower end is above the upper one.
     pub const fn from_units(units: RangeInclusive<i128>) -> Result<Span, BadWindow> {
         let (lo, hi) = (*units.start(), *units.end());
         if lo > hi {
-            return Err(BadWindow::Order);
+            return Err(BadWindow::new(BadWindowKind::Order));
         }
         Ok(Span { lo, hi })
     }
 
-    /// The span of coordinates.
+    /// The span of coordinates, rounded inward.
     ///
-    /// A float is taken as its shortest decimal text, which `{}` prints: `0.1` is a tenth, and not the float's binary
-    /// value, which is a little greater. The library parses this text. So a float is converted exactly, or refused:
-    /// nothing is rounded. Computed numbers often have more than seven decimals, and so have most `f32` values that
-    /// were converted to `f64`. Round them first, down for a lower bound and up for an upper bound.
+    /// A float is its exact binary value, so `0.1` is a little more than a tenth, and with this lower bound a vertex at
+    /// 0.1 is outside. Pass decimals that somebody wrote [as texts](Span::from_decimals).
     ///
     /// # Errors
     ///
-    /// [`BadWindow::NotFinite`], [`BadWindow::TooLarge`] and [`BadWindow::MoreThanSevenDecimals`], if an end can't be
-    /// converted. [`BadWindow::Order`], if the lower end is above the upper one.
+    /// [`BadWindowKind::NotFinite`], if an end is infinite or not a number. [`BadWindowKind::Order`], if the lower end is
+    /// above the upper one.
     pub fn from_coordinates(coordinates: RangeInclusive<f64>) -> Result<Span, BadWindow> {
-        let mut text = Text::new();
-        text.push("x=");
-        text.push_decimal(*coordinates.start())?;
-        text.push("..");
-        text.push_decimal(*coordinates.end())?;
-        text.push(",y=0..0");
-        Ok(parse(text.as_bytes())?.x)
+        let (lo, hi) = (*coordinates.start(), *coordinates.end());
+        let span = match (Text::of(lo), Text::of(hi)) {
+            (Some(lo), Some(hi)) => span_of(lo.as_bytes(), hi.as_bytes()),
+            _ => Err(BadWindowKind::NotFinite),
+        };
+        span.map_err(|kind| BadWindow::of(kind, format_args!("{lo}..{hi}")))
     }
 
-    /// The lower end in units.
+    /// The span of two decimals, rounded inward. Each is an optional minus, digits, and optionally a point and digits.
+    ///
+    /// # Errors
+    ///
+    /// [`BadWindowKind::Form`], if a text is no decimal. [`BadWindowKind::Order`], if the lower end is above the upper one.
+    pub fn from_decimals(lo: &str, hi: &str) -> Result<Span, BadWindow> {
+        span_of(lo.as_bytes(), hi.as_bytes()).map_err(|kind| BadWindow::of(kind, format_args!("{lo}..{hi}")))
+    }
+
+    /// Whether it contains no unit, as a range between two units does after rounding inward. Nothing is inside.
+    pub const fn is_empty(&self) -> bool {
+        self.lo > self.hi
+    }
+
+    /// The lower end in units. If the span is empty, it is above the upper one.
     pub const fn lo(&self) -> i128 {
         self.lo
     }
@@ -87,12 +103,13 @@ impl Span {
 /// text is an optional minus, 1 to 27 digits, and optionally a point and 1 to 7 digits. The text is parsed exactly.
 ///
 /// ```
-/// # use dozhemik::{BadWindow, Span, Window};
+/// # use dozhemik::{BadWindow, BadWindowKind, Span, Window};
 /// let text: Window = "x=10..30,y=35..45.5,z=0..100".parse()?;
-/// let window = Window::new(Span::from_coordinates(10.0..=30.0)?, Span::from_coordinates(35.0..=45.5)?);
+/// let window = Window::new(Span::from_coordinates(10.0..=30.0)?, Span::from_decimals("35", "45.5")?);
 /// assert_eq!(text, window.with_z(Span::from_units(0..=1_000_000_000)?));
+/// assert_eq!(window, Window::from_bbox([10.0, 35.0, 30.0, 45.5])?);
 ///
-/// assert_eq!("x=30..10,y=35..45.5".parse::<Window>(), Err(BadWindow::Order));
+/// assert_eq!("x=30..10,y=35..45.5".parse::<Window>().unwrap_err().kind(), BadWindowKind::Order);
 /// # Ok::<(), BadWindow>(())
 /// ```
 #[derive(Clone, Copy, Debug, PartialEq, Eq, Hash)]
@@ -107,6 +124,16 @@ impl Window {
     /// A window of these ranges in X and Y.
     pub const fn new(x: Span, y: Span) -> Window {
         Window { x, y, z: None, m: None }
+    }
+
+    /// The window of a box: the least X, the least Y, the greatest X and the greatest Y, as GeoJSON and most libraries order
+    /// them. Each pair is taken as [`Span::from_coordinates`] takes it.
+    ///
+    /// # Errors
+    ///
+    /// Those of [`Span::from_coordinates`].
+    pub fn from_bbox([x_min, y_min, x_max, y_max]: [f64; 4]) -> Result<Window, BadWindow> {
+        Ok(Window::new(Span::from_coordinates(x_min..=x_max)?, Span::from_coordinates(y_min..=y_max)?))
     }
 
     /// This window with a range for Z.
@@ -170,41 +197,16 @@ impl FromStr for Window {
     ///
     /// # Errors
     ///
-    /// [`BadWindow::Form`] or [`BadWindow::Order`]. The form of the whole text is checked before the order of any
+    /// [`BadWindowKind::Form`] or [`BadWindowKind::Order`]. The form of the whole text is checked before the order of any
     /// range.
     fn from_str(text: &str) -> Result<Window, BadWindow> {
-        parse(text.as_bytes())
+        let mut window = Window::new(NOTHING, NOTHING).lent();
+        // Sound: a slice's pointer is good for its length and isn't null, and the window is this function's own.
+        let answer = unsafe { ffi::twkb_window_parse(text.as_ptr().cast(), text.len(), &mut window) };
+        accepted(answer).map_err(|kind| BadWindow::of(kind, text))?;
+        Ok(Window::taken(&window))
     }
 }
-
-/// Why a text or coordinates don't make a window.
-#[derive(Clone, Copy, Debug, PartialEq, Eq, Hash)]
-pub enum BadWindow {
-    /// The text doesn't have the form of a window.
-    Form,
-    /// A lower bound is above its upper one.
-    Order,
-    /// A coordinate is infinite, or not a number.
-    NotFinite,
-    /// A coordinate has more than 27 digits before the point.
-    TooLarge,
-    /// The shortest decimal text of a coordinate has more than seven digits after the point.
-    MoreThanSevenDecimals,
-}
-
-impl fmt::Display for BadWindow {
-    fn fmt(&self, f: &mut fmt::Formatter<'_>) -> fmt::Result {
-        f.write_str(match self {
-            BadWindow::Form => "not of the form x=A..B,y=C..D[,z=E..F][,m=G..H]",
-            BadWindow::Order => "lower bound above upper bound",
-            BadWindow::NotFinite => "not finite",
-            BadWindow::TooLarge => "more than 27 digits before the point",
-            BadWindow::MoreThanSevenDecimals => "more than seven decimals",
-        })
-    }
-}
-
-impl Error for BadWindow {}
 
 // ---- across the border
 
@@ -218,69 +220,22 @@ const fn joined(units: &ffi::Units) -> i128 {
     (units.high as i128) << 64 | units.low as i128
 }
 
-fn parse(text: &[u8]) -> Result<Window, BadWindow> {
-    let mut window = Window::new(NOTHING, NOTHING).lent();
-    // Sound: a slice's pointer is good for its length and isn't null, and the window is this function's own.
-    match unsafe { ffi::twkb_window_parse(text.as_ptr().cast(), text.len(), &mut window) } {
-        ffi::WINDOW => Ok(Window::taken(&window)),
-        ffi::BAD_FORM => Err(BadWindow::Form),
-        ffi::BAD_ORDER => Err(BadWindow::Order),
+/// The span of two decimals of any length, rounded inward.
+fn span_of(lo: &[u8], hi: &[u8]) -> Result<Span, BadWindowKind> {
+    let mut span = NOTHING.lent();
+    let (lo_text, hi_text) = (lo.as_ptr().cast(), hi.as_ptr().cast());
+    // Sound: a slice's pointer is good for its length and isn't null, and the span is this function's own.
+    let answer = unsafe { ffi::twkb_span_of_decimals(lo_text, lo.len(), hi_text, hi.len(), &mut span) };
+    accepted(answer)?;
+    Ok(Span::taken(&span))
+}
+
+/// Whether a text was read.
+fn accepted(answer: u32) -> Result<(), BadWindowKind> {
+    match answer {
+        ffi::READ => Ok(()),
+        ffi::BAD_FORM => Err(BadWindowKind::Form),
+        ffi::BAD_ORDER => Err(BadWindowKind::Order),
         _ => unreachable!("the library has three answers to a text"),
-    }
-}
-
-// ---- the decimal text of a float
-
-/// The least coordinate that has more than 27 digits before the point.
-const TOO_LARGE: f64 = 1e27;
-
-/// How many digits a number may have after the point.
-const MOST_DECIMALS: usize = 7;
-
-/// A text in place, with room for two numbers of 27 digits and seven decimals, and all that stands round them.
-struct Text {
-    bytes: [u8; 128],
-    len: usize,
-}
-
-impl Text {
-    fn new() -> Text {
-        Text { bytes: [0; 128], len: 0 }
-    }
-
-    fn as_bytes(&self) -> &[u8] {
-        &self.bytes[..self.len]
-    }
-
-    fn push(&mut self, piece: &str) {
-        self.write_str(piece).expect("there is room for what stands round the numbers");
-    }
-
-    /// Pushes the shortest decimal text of a coordinate.
-    fn push_decimal(&mut self, coordinate: f64) -> Result<(), BadWindow> {
-        if !coordinate.is_finite() {
-            return Err(BadWindow::NotFinite);
-        }
-        if coordinate.abs() >= TOO_LARGE {
-            return Err(BadWindow::TooLarge);
-        }
-        let start = self.len;
-        // With as few digits before the point, what finds no room has too many behind it.
-        write!(self, "{coordinate}").map_err(|_| BadWindow::MoreThanSevenDecimals)?;
-        let text = &self.bytes[start..self.len];
-        let decimals = text.iter().rev().position(|&code| code == b'.').unwrap_or(0);
-        if decimals > MOST_DECIMALS {
-            return Err(BadWindow::MoreThanSevenDecimals);
-        }
-        Ok(())
-    }
-}
-
-impl Write for Text {
-    fn write_str(&mut self, piece: &str) -> fmt::Result {
-        let room = self.bytes[self.len..].get_mut(..piece.len()).ok_or(fmt::Error)?;
-        room.copy_from_slice(piece.as_bytes());
-        self.len += piece.len();
-        Ok(())
     }
 }

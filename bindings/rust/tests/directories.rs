@@ -61,6 +61,18 @@ fn fills_rooms_as_far_as_they_go() {
 }
 
 #[test]
+fn a_clone_finds_the_same() {
+    let bytes = many();
+    let directory = Layer::certify(&bytes).unwrap().directory().unwrap();
+    let copy = directory.clone();
+    let scans: Vec<_> = WINDOWS.iter().map(|text| directory.scan(&window(text)).unwrap()).collect();
+    drop(directory);
+    for (text, wanted) in WINDOWS.iter().zip(scans) {
+        assert_eq!(copy.scan(&window(text)).unwrap(), wanted);
+    }
+}
+
+#[test]
 fn is_shared_by_threads_and_outlives_its_layer() {
     let bytes = many();
     let directory = Layer::certify(&bytes).unwrap().directory().unwrap();

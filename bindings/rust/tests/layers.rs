@@ -99,7 +99,7 @@ fn every_front_is_certified_or_cut() {
         match Layer::certify(&TWO[..len]) {
             Ok(layer) => assert!(matches!((len, layer.blobs()), (0, 0) | (LINE, 1) | (20, 2))),
             Err(CertifyError::Refused(refusal)) => assert_eq!(refusal.kind, RefusalKind::Cut),
-            Err(CertifyError::NoMemory) => panic!("no list is there"),
+            Err(other) => panic!("no list is there: {other}"),
         }
     }
 }
@@ -261,6 +261,22 @@ fn a_layer_goes_to_other_threads() {
             });
         }
     });
+}
+
+#[test]
+fn blobs_are_cut_out_by_hits_and_rows() {
+    let layer = Layer::certify(&TWO).unwrap();
+    let rows = layer.list().unwrap();
+    let hits = layer.scan(&window("x=0..10,y=0..10")).unwrap().hits;
+    assert_eq!(hits, rows.iter().map(Hit::from).collect::<Vec<_>>());
+    for (hit, row) in hits.iter().zip(&rows) {
+        assert_eq!(layer.blob(hit), Some(&TWO[row.offset..row.offset + row.bytes]));
+        assert_eq!((layer.blob(*hit), layer.blob(*row)), (layer.blob(row), layer.blob(row)));
+    }
+    // Those of another layer.
+    for (offset, bytes) in [(0, 21), (20, 1), (21, 0), (1, usize::MAX), (usize::MAX, 1), (usize::MAX, usize::MAX)] {
+        assert_eq!(layer.blob(Hit { blob: 0, offset, bytes }), None);
+    }
 }
 
 #[test]

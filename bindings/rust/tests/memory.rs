@@ -1,9 +1,13 @@
 //! Memory that is refused: what takes it says so, and what takes none goes on.
 
-use dozhemik::{Hit, Layer, Span, Window};
+use dozhemik::{Hit, Layer, OwnedLayer, Span, Window};
 use std::alloc::{GlobalAlloc, Layout, System};
 use std::cell::Cell;
 use std::ptr;
+use std::str::FromStr;
+
+/// A text of no window, with more than an error keeps.
+const LONG: &str = "x=10..9,y=000000000000000000000000000000000000000000000000000000000000000000000000000000000000000000000000000000000000000000000000000000000000";
 
 /// The system's memory, of which a thread may be refused all calls but the first few.
 struct Refusing;
@@ -87,6 +91,19 @@ fn a_directory_takes_memory_once() {
 }
 
 #[test]
+fn holding_bytes_takes_no_memory() {
+    let bytes = points(10);
+    let layer = given(0, || OwnedLayer::certify(bytes)).unwrap();
+    let window = "x=0..9,y=0..9".parse().unwrap();
+    let directory = given(1, || layer.into_directory()).unwrap();
+    let mut room = [Hit::default(); 10];
+    assert_eq!(given(0, || directory.scan_into(&window, &mut room)).hits, 10);
+    assert!(given(0, || directory.scan(&window)).is_err());
+    let layer = given(0, || directory.into_layer());
+    assert!(given(0, || layer.into_directory()).is_err());
+}
+
+#[test]
 fn the_rest_takes_no_memory() {
     let bytes = points(10);
     let mut room = [Hit::default(); 10];
@@ -96,7 +113,12 @@ fn the_rest_takes_no_memory() {
         assert_eq!(layer.scan_into(&"x=0..9,y=0..9".parse().unwrap(), &mut room).hits, 10);
         let span = Span::from_coordinates(0.5..=9.25).unwrap();
         assert_eq!(layer.scan_into(&Window::new(span, span), &mut []).hits, 10);
-        assert!(Span::from_coordinates(0.0..=5e-324).is_err());
+        assert!(Span::from_coordinates(-f64::MAX..=5e-324).is_ok());
+        assert!(Span::from_decimals("0.1", "0.12345678901234567890").is_ok());
+        // Nor does an error, whose text is kept in place.
+        assert!(Window::from_bbox([0.0, 0.0, -1.0, f64::NAN]).is_err());
+        assert!(Window::from_str(LONG).is_err() && Span::from_decimals(LONG, LONG).is_err());
+        assert_eq!(layer.blob(room[9]), Some(&[1, 0, 2, 4][..]));
         let empty = Layer::certify(&[]).unwrap();
         assert!(empty.list().unwrap().is_empty());
     });

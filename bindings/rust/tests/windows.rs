@@ -1,6 +1,6 @@
 //! Windows, of texts, of units and of coordinates.
 
-use dozhemik::{BadWindow, Span, Window};
+use dozhemik::{BadWindow, BadWindowKind, Layer, Span, Window};
 use std::error::Error;
 use std::ops::RangeInclusive;
 
@@ -12,12 +12,14 @@ fn units(lo: i128, hi: i128) -> Span {
     Span::from_units(lo..=hi).expect("in order")
 }
 
-/// The units of one coordinate.
-fn of(coordinate: f64) -> Result<i128, BadWindow> {
-    Span::from_coordinates(coordinate..=coordinate).map(|span| {
-        assert_eq!(span.lo(), span.hi());
-        span.lo()
-    })
+/// The units of one coordinate as a lower end and as an upper one.
+fn of(coordinate: f64) -> (i128, i128) {
+    let span = Span::from_coordinates(coordinate..=coordinate).unwrap();
+    (span.lo(), span.hi())
+}
+
+fn kind<T: std::fmt::Debug>(answer: Result<T, BadWindow>) -> BadWindowKind {
+    answer.unwrap_err().kind()
 }
 
 #[test]
@@ -63,17 +65,20 @@ fn texts_of_another_form_are_refused() {
         "x=1..0,y=0..",
     ];
     for text in texts {
-        assert_eq!(parsed(text), Err(BadWindow::Form), "{text}");
+        assert_eq!(kind(parsed(text)), BadWindowKind::Form, "{text}");
     }
 }
 
 #[test]
 fn upside_down_is_refused() {
     for text in ["x=1..0,y=0..1", "x=0..1,y=0..-0.0000001", "x=0..1,y=0..1,z=2..1", "x=0..1,y=0..1,m=2..1"] {
-        assert_eq!(parsed(text), Err(BadWindow::Order), "{text}");
+        assert_eq!(kind(parsed(text)), BadWindowKind::Order, "{text}");
     }
-    assert_eq!(Span::from_units(RangeInclusive::new(1, 0)), Err(BadWindow::Order));
-    assert_eq!(Span::from_coordinates(RangeInclusive::new(0.1, 0.0)), Err(BadWindow::Order));
+    assert_eq!(kind(Span::from_units(RangeInclusive::new(1, 0))), BadWindowKind::Order);
+    assert_eq!(kind(Span::from_coordinates(RangeInclusive::new(0.1, 0.0))), BadWindowKind::Order);
+    assert_eq!(kind(Span::from_decimals("0.00000002", "0.00000001")), BadWindowKind::Order);
+    assert_eq!(kind(Window::from_bbox([10.0, 0.0, 0.0, 1.0])), BadWindowKind::Order);
+    assert_eq!(kind(Window::from_bbox([0.0, 10.0, 1.0, 0.0])), BadWindowKind::Order);
     assert!(Span::from_coordinates(0.0..=-0.0).is_ok());
 }
 
@@ -89,63 +94,99 @@ fn units_are_kept() {
 }
 
 #[test]
-fn coordinates_are_their_shortest_decimal_text() {
+fn coordinates_are_their_exact_values_rounded_inward() {
     let known = [
-        (0.0, 0),
-        (-0.0, 0),
-        (0.1, 1_000_000),
-        (-0.1, -1_000_000),
-        (0.0000001, 1),
-        (-0.0000001, -1),
-        (35.5, 355_000_000),
-        (179.9999999, 1_799_999_999),
-        (0.3, 3_000_000),
-        (123456789.1234567, 1_234_567_891_234_567),
-        (1e15, 10_i128.pow(22)),
-        // The float is 8,388,608 less than this text.
-        (1e23, 10_i128.pow(30)),
-        (9e26, 9 * 10_i128.pow(33)),
-        (f64::from(u32::MAX), 42_949_672_950_000_000),
+        (0.0, 0, 0),
+        (-0.0, 0, 0),
+        (35.5, 355_000_000, 355_000_000),
+        // A little above a tenth, a little below seven tenths.
+        (0.1, 1_000_001, 1_000_000),
+        (0.7, 7_000_000, 6_999_999),
+        (0.1 + 0.2, 3_000_001, 3_000_000),
+        (f64::from(0.1_f32), 1_000_001, 1_000_000),
+        (0.00000001, 1, 0),
+        (f64::MIN_POSITIVE, 1, 0),
+        (5e-324, 1, 0),
+        (1e15, 10_i128.pow(22), 10_i128.pow(22)),
+        // The float is 8,388,608 less than this number.
+        (1e23, 10_i128.pow(30) - 83_886_080_000_000, 10_i128.pow(30) - 83_886_080_000_000),
+        (f64::from(u32::MAX), 42_949_672_950_000_000, 42_949_672_950_000_000),
     ];
-    for (coordinate, units) in known {
-        assert_eq!(of(coordinate), Ok(units), "{coordinate}");
-        assert_eq!(of(-coordinate), Ok(-units), "{coordinate}");
+    for (coordinate, lo, hi) in known {
+        assert_eq!(of(coordinate), (lo, hi), "{coordinate}");
+        assert_eq!(of(-coordinate), (-hi, -lo), "{coordinate}");
     }
 }
 
 #[test]
-fn coordinates_are_what_their_text_is() {
+fn coordinates_of_few_bits_are_decimals_of_few_digits() {
     for i in -2000_i32..2000 {
-        let (low, high) = (f64::from(i) / 1000.0, f64::from(i + 7) / 64.0 + 40.0);
+        let (low, high) = (f64::from(i) / 128.0, f64::from(i + 7) / 64.0 + 40.0);
         let text = parsed(&format!("x={low}..{high},y=0..1")).unwrap();
         assert_eq!(Span::from_coordinates(low..=high), Ok(text.x()), "{low} {high}");
+        assert_eq!(Span::from_decimals(&low.to_string(), &high.to_string()), Ok(text.x()), "{low} {high}");
     }
 }
 
 #[test]
-fn nothing_is_rounded() {
-    let refused = [
-        (0.1 + 0.2, BadWindow::MoreThanSevenDecimals),
-        (0.00000001, BadWindow::MoreThanSevenDecimals),
-        (0.12345678, BadWindow::MoreThanSevenDecimals),
-        (f64::from(0.1_f32), BadWindow::MoreThanSevenDecimals),
-        (std::f64::consts::PI, BadWindow::MoreThanSevenDecimals),
-        (f64::MIN_POSITIVE, BadWindow::MoreThanSevenDecimals),
-        (5e-324, BadWindow::MoreThanSevenDecimals),
-        (1e27, BadWindow::TooLarge),
-        (f64::MAX, BadWindow::TooLarge),
-        (f64::INFINITY, BadWindow::NotFinite),
-        (f64::NAN, BadWindow::NotFinite),
-    ];
-    for (coordinate, why) in refused {
-        for (low, high) in [(coordinate, 1.0), (-coordinate, 1.0), (-1.0, coordinate), (-1.0, -coordinate)] {
-            assert_eq!(Span::from_coordinates(low..=high), Err(why), "{low} {high}");
+fn coordinates_that_were_computed_are_taken() {
+    let mut x = -180.0_f64;
+    while x < 180.0 {
+        let span = Span::from_coordinates(x..=x + 1.0).unwrap();
+        // One is ten million units, less at most one at each end.
+        assert!((10_000_000 - 1..=10_000_001).contains(&(span.hi() - span.lo() + 1)), "{x}");
+        let units = x * 1e7;
+        assert!((span.lo() as f64 - units).abs() <= 1.5, "{x}");
+        x += 0.1;
+    }
+}
+
+#[test]
+fn ends_beyond_all_coordinates_are_taken() {
+    // The greatest coordinate is less than 2^63 times 10^8.
+    let most = (1_i128 << 63) * 10_i128.pow(15);
+    for great in [1e27, 1e100, f64::MAX] {
+        assert!(of(great).0 >= most.min(10_i128.pow(34)) && of(-great).1 <= -most.min(10_i128.pow(34)), "{great}");
+    }
+    let long = "9".repeat(5000);
+    assert!(Span::from_decimals(&format!("-{long}"), &long).unwrap().hi() >= most);
+}
+
+#[test]
+fn decimals_have_any_length() {
+    let zeros = "0".repeat(5000);
+    assert_eq!(Span::from_decimals(&format!("0.{zeros}1"), "1"), Ok(units(1, 10_000_000)));
+    assert_eq!(Span::from_decimals("-0.99999999", &format!("{zeros}1.5{zeros}")), Ok(units(-9_999_999, 15_000_000)));
+    for text in
+        ["", "-", "+1", "1.", ".5", "1e5", " 1", "1 ", "1\n", "1_0", "0x1", "nan", "\u{661}", "1\0", "1..2", "1,2"]
+    {
+        assert_eq!(kind(Span::from_decimals(text, "1")), BadWindowKind::Form, "{text}");
+        assert_eq!(kind(Span::from_decimals("1", text)), BadWindowKind::Form, "{text}");
+    }
+}
+
+#[test]
+fn a_range_without_a_unit_is_empty() {
+    let empty = Span::from_decimals("1.00000001", "1.00000002").unwrap();
+    assert!(empty.is_empty() && !units(1, 1).is_empty());
+    let layer = Layer::certify(&[1, 0, 2, 4]).unwrap();
+    assert_eq!(layer.scan(&Window::new(empty, units(0, 1 << 40))).unwrap().hits, []);
+    assert_eq!(layer.directory().unwrap().scan(&Window::new(units(0, 1 << 40), empty)).unwrap().hits, []);
+    assert_eq!(layer.scan(&Window::new(units(0, 1 << 40), units(0, 1 << 40))).unwrap().hits.len(), 1);
+}
+
+#[test]
+fn what_is_not_finite_is_refused() {
+    for coordinate in [f64::INFINITY, f64::NEG_INFINITY, f64::NAN] {
+        for (lo, hi) in [(coordinate, 1.0), (-1.0, coordinate), (coordinate, coordinate)] {
+            assert_eq!(kind(Span::from_coordinates(lo..=hi)), BadWindowKind::NotFinite, "{lo} {hi}");
         }
     }
-    // The greatest float below 10^27 has 27 digits.
-    let greatest = f64::from_bits(1e27_f64.to_bits() - 1);
-    assert!(of(greatest).unwrap() > 9 * 10_i128.pow(33) && of(greatest).unwrap() < 10_i128.pow(34));
-    assert_eq!(Span::from_coordinates(-greatest..=greatest).unwrap().lo(), -of(greatest).unwrap());
+}
+
+#[test]
+fn boxes_are_least_and_greatest_corners() {
+    assert_eq!(Window::from_bbox([10.0, 35.0, 30.0, 45.5]), parsed("x=10..30,y=35..45.5"));
 }
 
 #[test]
@@ -158,10 +199,25 @@ fn axes_are_given_one_by_one() {
 }
 
 #[test]
-fn errors_are_in_the_program_s_words() {
+fn errors_show_the_text() {
     let error: Box<dyn Error + Send + Sync> = parsed("x").unwrap_err().into();
-    assert_eq!(error.to_string(), "not of the form x=A..B,y=C..D[,z=E..F][,m=G..H]");
-    assert_eq!(BadWindow::Order.to_string(), "lower bound above upper bound");
-    assert_eq!(BadWindow::MoreThanSevenDecimals.to_string(), "more than seven decimals");
-    assert_eq!(BadWindow::NotFinite.to_string(), "not finite");
+    assert_eq!(error.to_string(), r#""x": not of the form x=A..B,y=C..D[,z=E..F][,m=G..H]"#);
+    let told = |answer: Result<Span, BadWindow>| answer.unwrap_err().to_string();
+    assert_eq!(parsed("").unwrap_err().to_string(), r#""": not of the form x=A..B,y=C..D[,z=E..F][,m=G..H]"#);
+    assert_eq!(
+        told(Span::from_coordinates(RangeInclusive::new(1.5, 0.1))),
+        r#""1.5..0.1": lower bound above upper bound"#
+    );
+    assert_eq!(told(Span::from_coordinates(0.0..=f64::NAN)), r#""0..NaN": not finite"#);
+    assert_eq!(told(Span::from_units(RangeInclusive::new(1, 0))), "lower bound above upper bound");
+    // In one line, whatever the text is, and not too long.
+    let line = parsed("x=0..1,\ny=\u{e9}").unwrap_err().to_string();
+    assert_eq!(
+        line,
+        r#""x=0..1,\ny=\u{e9}": not of the form x=A..B,y=C..D[,z=E..F][,m=G..H]"#.replace(r"\u{e9}", "\u{e9}")
+    );
+    for text in ["0".repeat(120), "0".repeat(121), "\u{e9}".repeat(100), format!("0{}", "\u{20ac}".repeat(100))] {
+        let line = parsed(&text).unwrap_err().to_string();
+        assert!(line.len() < 200 && line.contains("\"..: ") == (text.len() > 120), "{line}");
+    }
 }
