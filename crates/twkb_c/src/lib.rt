@@ -135,7 +135,7 @@ pub extern "C" fn twkb_directory_scan(
     twkb_call::scan_directory(layer, slots, window, room)
 }
 
-/// The name of a geometry's type, with zeros after it. A number that is no type has an empty one.
+/// The name of a geometry's type, followed by zeros. It is empty if the number is no type.
 #[unsafe(no_mangle)]
 pub extern "C" fn twkb_type_name(number: u32) -> Name
     ensures { result.text ≡ with_zeros (type_name number) }
@@ -145,7 +145,7 @@ pub extern "C" fn twkb_type_name(number: u32) -> Name
     }
 }
 
-/// The name of a refusal's kind, with zeros after it. A number that is no kind has an empty one.
+/// The name of a refusal's kind, followed by zeros. It is empty if the number is no kind.
 #[unsafe(no_mangle)]
 pub extern "C" fn twkb_kind_name(number: u32) -> Name
     ensures { result.text ≡ with_zeros (kind_name number) }
@@ -155,7 +155,7 @@ pub extern "C" fn twkb_kind_name(number: u32) -> Name
     }
 }
 
-/// The name of a verdict's answer, with zeros after it. A number that is no answer has an empty one.
+/// The name of a verdict's answer, followed by zeros. It is empty if the number is no answer.
 #[unsafe(no_mangle)]
 pub extern "C" fn twkb_answer_name(number: u32) -> Name
     ensures { result.text ≡ with_zeros (answer_name number) }

@@ -2,7 +2,7 @@
 ghost use Rattle.std.specs.Prelude.{◌≡◌};
 ghost use Rattle.twkb_call.specs.Names.{type_name, kind_name, answer_name, with_zeros};
 
-/// A word of less than 24 bytes, with zeros after it.
+/// A word of fewer than 24 bytes, followed by zeros.
 #[repr(C)]
 #[derive(Clone, Copy, Debug, PartialEq, Eq)]
 pub struct Name {
@@ -13,7 +13,7 @@ const SIZE: usize = std::mem::size_of::<Name>();
 
 const _: () = prove!(SIZE == 24);
 
-/// The name of a geometry's type. A number that is no type has an empty one.
+/// The name of a geometry's type. It is empty if the number is no type.
 #[tactic(auto, unfolding(crate::specs::Names::type_name, crate::specs::Names::with_zeros))]
 pub fn type_name(number: u32) -> &'static [u8; 24]
     ensures { result.now ≡ with_zeros (type_name number) }
@@ -30,7 +30,7 @@ pub fn type_name(number: u32) -> &'static [u8; 24]
     }
 }
 
-/// The name of a refusal's kind. A number that is no kind has an empty one.
+/// The name of a refusal's kind. It is empty if the number is no kind.
 #[tactic(auto, unfolding(crate::specs::Names::kind_name, crate::specs::Names::with_zeros))]
 pub fn kind_name(number: u32) -> &'static [u8; 24]
     ensures { result.now ≡ with_zeros (kind_name number) }
@@ -49,7 +49,7 @@ pub fn kind_name(number: u32) -> &'static [u8; 24]
     }
 }
 
-/// The name of a verdict's answer. A number that is no answer has an empty one.
+/// The name of a verdict's answer. It is empty if the number is no answer.
 #[tactic(auto, unfolding(crate::specs::Names::answer_name, crate::specs::Names::with_zeros))]
 pub fn answer_name(number: u32) -> &'static [u8; 24]
     ensures { result.now ≡ with_zeros (answer_name number) }

@@ -1,4 +1,4 @@
-//! Decimals of any length, as ends of windows.
+//! Decimals of any length, as bounds of windows.
 ghost use Rattle.std.specs.Prelude.{◌≡◌, ◌+◌, ◌*◌, ◌/◌, ◌%◌, ◌^◌, ◌==◌, ◌&&◌, min, cond, not, pos, neg_ℤ, ◌+ℤ◌, ◌-ℤ◌, ◌*ℤ◌, ◌≤ℤ◌, if◌then◌else◌, Ok, Err, IfOk, Some, IfSome, true, false};
 ghost use Rattle.std.specs.Str.Parse.{digits_value, AllDigits};
 ghost use Rattle.twkb_layer.specs.Devices.Decimals.{leaning};
@@ -9,13 +9,13 @@ use std::marker::Model;
 use thiserror::Error;
 use twkb_body::Span;
 
-/// The decimals of a unit: 10^-7.
+/// How many decimals a unit has: it is 10^-7.
 const UNIT_PLACES: usize = 7;
 
-/// The farthest end from 0, in units. No coordinate is as far.
+/// The bound that is farthest from 0, in units. Every coordinate is nearer to 0.
 const FARTHEST: u128 = 10_000_000_000_000_000_000_000_000_000_000_000;
 
-/// Why two texts are no range.
+/// Why two texts don't make a range.
 #[derive(Clone, Copy, Debug, PartialEq, Eq, Error)]
 pub enum BadRange {
     /// One of them isn't a decimal.
@@ -26,11 +26,11 @@ pub enum BadRange {
     Order = 2,
 }
 
-/// The range in units between two decimals: its lower end is rounded up, and its upper end down. A coordinate is a whole number
-/// of units, so it's in this range exactly if it's between the decimals. A range with no unit in it has `lo` above `hi`.
+/// Makes the range in units between two decimals: its lower bound is rounded up, and its upper bound down. A coordinate is a whole
+/// number of units, so it is in this range if and only if it is between the decimals. If no unit is, `lo` is above `hi`.
 ///
-/// A decimal is an optional minus, one digit or more, and optionally a point and one digit or more. Its value may be farther
-/// from 0 than any coordinate; the end is then 10^34 units, or -10^34. No memory is taken.
+/// A decimal is an optional minus, one or more digits, and optionally a point and one or more digits. Its value may be farther
+/// from 0 than any coordinate; the bound is then 10^34 units, or -10^34. Nothing is allocated.
 ///
 /// # Errors
 ///
@@ -84,7 +84,7 @@ impl<'t> Model for Decimal<'t> {
 }
 
 impl<'t> Decimal<'t> {
-    /// Reads a decimal: the whole text is one, or it is `None`.
+    /// Parses a decimal. Returns `None` if the whole text isn't one.
     pub fn parse(text: &'t [u8]) -> Option<Decimal<'t>>
         ensures some { IfSome result (λ d. IsDecimalText text.now d) }
         ensures exact { (d : Decimal) → IsDecimalText text.now d → result ≡ Some d }
@@ -103,21 +103,21 @@ impl<'t> Decimal<'t> {
         })
     }
 
-    /// The least number of units that isn't less, as far as [`FARTHEST`].
+    /// The value rounded up to units, at most [`FARTHEST`] from 0.
     pub fn rounded_up(&self) -> i128
         ensures { result ≡ rounded_up (rational_of self.now) }
     {
         self.rounded(!self.minus)
     }
 
-    /// The greatest number of units that isn't greater, as far as [`FARTHEST`].
+    /// The value rounded down to units, at most [`FARTHEST`] from 0.
     pub fn rounded_down(&self) -> i128
         ensures { result ≡ rounded_down (rational_of self.now) }
     {
         self.rounded(self.minus)
     }
 
-    /// Whether it is greater than the other one.
+    /// Whether it is greater than the other decimal.
     pub fn is_above(&self, other: &Decimal) -> bool
         ensures { result ≡ is_less (rational_of other.now) (rational_of self.now) }
     {
@@ -132,7 +132,7 @@ impl<'t> Decimal<'t> {
         ahead > 0
     }
 
-    /// The units, rounded away from 0 or towards it, as far as [`FARTHEST`].
+    /// The value rounded to units, away from 0 or towards it, at most [`FARTHEST`] from 0.
     fn rounded(&self, away: bool) -> i128
         ensures { let units = self.now.number * 10 ^ 7 in let one = 10 ^ self.now.places in
             result ≡ signed self.now.minus (min (units / one + cond (away && not (units % one == 0)) 1 0) farthest) }
@@ -145,7 +145,7 @@ impl<'t> Decimal<'t> {
         if self.minus { -amount } else { amount }
     }
 
-    /// The units without the sign, rounded towards 0, as far as [`FARTHEST`].
+    /// The absolute value in units, rounded down, at most [`FARTHEST`].
     fn amount(&self) -> u128
         ensures { result ≡ min (self.now.number * 10 ^ 7 / 10 ^ self.now.places) farthest }
     {
@@ -171,7 +171,7 @@ impl<'t> Decimal<'t> {
         false
     }
 
-    /// The digit with its sign.
+    /// A digit, as in [`digit`](Decimal::digit), with the sign of the decimal.
     fn signed_digit(&self, zeros: usize, behind: usize) -> i64
         ensures { result ≡ signed self.now.minus (self.now.number * 10 ^ zeros / 10 ^ behind % 10) }
     {
@@ -179,7 +179,7 @@ impl<'t> Decimal<'t> {
         if self.minus { -digit } else { digit }
     }
 
-    /// The digit with so many digits behind it, of all digits without the point and so many zeros.
+    /// The digit that has `behind` digits after it, in all digits without the point and with `zeros` zeros appended.
     fn digit(&self, zeros: usize, behind: usize) -> u8
         ensures { result ≡ self.now.number * 10 ^ zeros / 10 ^ behind % 10 }
     {
@@ -196,8 +196,8 @@ impl<'t> Decimal<'t> {
     }
 }
 
-/// Which way a difference goes, at most by 2, with one digit more of each number.
-// No later digits turn a difference of 2 round.
+/// The difference of two numbers with one more digit each, limited to the range from -2 to 2.
+// Later digits can't change the sign of a difference of 2.
 fn leaning(ahead: i64, digit: i64, other: i64) -> i64
     requires ahead { (neg_ℤ (pos 2) ≤ℤ ahead) × (ahead ≤ℤ pos 2) }
     requires digit { (neg_ℤ (pos 9) ≤ℤ digit) × (digit ≤ℤ pos 9) }
@@ -207,7 +207,7 @@ fn leaning(ahead: i64, digit: i64, other: i64) -> i64
     (ahead * 10 + (digit - other)).clamp(-2, 2)
 }
 
-/// The digit with so many digits behind it, or 0 where there is none.
+/// The digit that has `behind` digits after it, or 0 if there are fewer digits.
 fn digit_of(digits: &[u8], behind: usize) -> u8
     requires { AllDigits 10 digits.now }
     ensures { result ≡ digits_value 10 digits.now / 10 ^ behind % 10 }
