@@ -1,8 +1,9 @@
 -- Raw integers against units: quotients rounded up and down, and boxes that miss a window.
-use Rattle.std.proofs.Common.{◌≡◌, ℕ, zero, suc, negsuc, ◌+◌, ◌%◌, ◌^◌, ◌<◌, ◌-◌, ◌==◌, if◌then◌else◌, unsigned_abs, ◌⊎◌, inl, inr, true, false, ◌||◌, List, length, get_or, set, subst, ℤ, pos, ◌<ℤ◌, ◌≤ℤ◌, ◌+ℤ◌, ◌-ℤ◌, ◌*ℤ◌, neg_ℤ, int_lt, sym, ap, ◌∙◌, to_z, of_z, arith}
-use Rattle.std.proofs.Math.IntN.{suc_ℤ-*ℤ, *ℤ_comm, *ℤ-zero}
+use Rattle.std.proofs.Common.{◌≡◌, ℕ, zero, suc, negsuc, ◌+◌, ◌*◌, ◌%◌, ◌^◌, ◌<◌, ◌≤◌, ◌-◌, ◌==◌, if◌then◌else◌, unsigned_abs, ◌⊎◌, inl, inr, true, false, ◌||◌, List, length, get_or, set, subst, ℤ, pos, ◌<ℤ◌, ◌≤ℤ◌, ◌+ℤ◌, ◌-ℤ◌, ◌*ℤ◌, neg_ℤ, int_lt, sym, ap, ◌∙◌, to_z, of_z, mul_assoc, arith}
+use Rattle.std.proofs.Math.IntN.{suc_ℤ-*ℤ, *ℤ_comm, *ℤ-zero, zero-*ℤ, pos-*ℤ-pos, negsuc-*ℤ-pos}
+use Rattle.std.proofs.lemmas.Nat.{pow-add}
 use Rattle.std.proofs.lemmas.Bool.{cases_eq}
-use Rattle.std.specs.Int.{w128}
+use Rattle.std.specs.Int.{w64, w128}
 use Rattle.std.specs.Int.RustNames.{FitsSigned, int_div, int_rem}
 use Rattle.std.proofs.lemmas.Int.{ints, by_lt_z, quot-rem, rem_below, quot_fits, to_z-of_z}
 use Rattle.std.proofs.lemmas.List.{get_or-set_same, get_or-set_other}
@@ -12,7 +13,7 @@ use Rattle.twkb_head.specs.declared.boxes.Bounds.{Bounds}
 use Rattle.twkb_head.specs.Head.{span_at}
 use Rattle.twkb_layer.specs.declared.raw.RawEnds.{RawEnds}
 use Rattle.twkb_layer.specs.declared.raw.RawWindow.{RawWindow}
-use Rattle.twkb_layer.specs.Devices.Raw.{IsRawEnds, IsRawWindow}
+use Rattle.twkb_layer.specs.Devices.Raw.{IsRawEnds, IsRawWindow, IsExactEnds, IsExactWindow}
 use Rattle.twkb_layer.specs.Devices.Slots.{IsInner, AreInner, HasInnerEnds, IsJudged}
 use Rattle.twkb_layer.specs.Slots.{precision_of, Said, Written, range_in, slot_says, unpacked}
 use Rattle.twkb_layer.specs.Window.{lie_apart}
@@ -183,3 +184,95 @@ raw_more window raws i raw within is before code less nowhere = go (cases_eq cod
     go : (code ≡ i) ⊎ (code ≡ i → ⊥) → IsRawWindow (precision_of code) window (get_or (set raws i raw) code nowhere)
     go (inl e) = subst (λ n. IsRawWindow (precision_of n) window (get_or (set raws i raw) n nowhere)) (sym e) (subst (IsRawWindow (precision_of i) window) (sym (get_or-set_same raws i raw nowhere within)) is)
     go (inr other) = subst (IsRawWindow (precision_of code) window) (sym (get_or-set_other raws i code raw nowhere other)) (before code (omega (arith, other)) nowhere)
+
+-- ---- each precision from the next finer one
+pub exact_raw : (p : ℤ) (window : Bounds) (raw : RawWindow) → IsExactWindow p window raw → IsRawWindow p window raw
+exact_raw p window raw e = record {
+  x = record { below = λ c inner. e.x.below c; above = λ c inner. e.x.above c };
+  y = record { below = λ c inner. e.y.below c; above = λ c inner. e.y.above c };
+}
+
+-- a step of the coarser precision is ten of the finer one
+ten_steps : (c p : ℤ) → p ≤ℤ pos 7 → units_of c (p -ℤ pos 1) ≡ units_of (c *ℤ pos 10) p
+ten_steps c p le =
+    let distance = unsigned_abs (pos 7 -ℤ p) in
+    let more : unsigned_abs (pos 7 -ℤ (p -ℤ pos 1)) ≡ distance + 1 = omega (arith, ints, le) in
+    ap (λ (k : ℕ). c *ℤ pos (10 ^ k)) more ∙ (ap (λ (n : ℕ). c *ℤ pos n) (pow-add 10 distance 1) ∙ regroup c (10 ^ distance))
+  where
+    regroup : (c : ℤ) (k : ℕ) → c *ℤ pos (k * 10) ≡ c *ℤ pos 10 *ℤ pos k
+    regroup (pos a) k = pos-*ℤ-pos a (k * 10) ∙ (ap pos (along a k) ∙ (sym (pos-*ℤ-pos (a * 10) k) ∙ ap (λ (z : ℤ). z *ℤ pos k) (sym (pos-*ℤ-pos a 10))))
+      where
+        along : (a k : ℕ) → a * (k * 10) ≡ a * 10 * k
+        along a k = omega (arith, mul_assoc a k 10)
+    regroup (negsuc a) k = negsuc-*ℤ-pos a (k * 10) ∙ (ap (λ (n : ℕ). neg_ℤ (pos n)) (along (suc a) k) ∙ (sym (product (suc a * 10) k) ∙ ap (λ (z : ℤ). z *ℤ pos k) (sym (negsuc-*ℤ-pos a 10))))
+      where
+        along : (a k : ℕ) → a * (k * 10) ≡ a * 10 * k
+        along a k = omega (arith, mul_assoc a k 10)
+
+        product : (n k : ℕ) → neg_ℤ (pos n) *ℤ pos k ≡ neg_ℤ (pos (n * k))
+        product zero k = zero-*ℤ (pos k) ∙ (λ j. neg_ℤ (pos (none j)))
+          where
+            none : 0 ≡ 0 * k
+            none = omega arith
+        product (suc n) k = negsuc-*ℤ-pos n k
+
+pub coarser_ends : (p : ℤ) (range : Span) (raw coarse : RawEnds) → p ≤ℤ pos 7 → IsExactEnds p range raw
+    → ((c : ℤ) → int_lt (c *ℤ pos 10) raw.least ≡ int_lt c coarse.least) → ((c : ℤ) → int_lt raw.greatest (c *ℤ pos 10) ≡ int_lt coarse.greatest c) → IsExactEnds (p -ℤ pos 1) range coarse
+coarser_ends p range raw coarse le e up down = record {
+  below = λ c. ap (λ (u : ℤ). int_lt u range.lo) (ten_steps c p le) ∙ (e.below (c *ℤ pos 10) ∙ up c);
+  above = λ c. ap (int_lt range.hi) (ten_steps c p le) ∙ (e.above (c *ℤ pos 10) ∙ down c);
+}
+
+times_one : (c : ℤ) → c *ℤ pos 1 ≡ c
+times_one c = omega (arith, ints)
+
+pub finest_ends : (range : Span) (raw : RawEnds) → raw.least ≡ range.lo → raw.greatest ≡ range.hi → IsExactEnds (pos 7) range raw
+finest_ends range raw lo hi = record {
+  below = λ c. (λ j. int_lt (times_one c j) (sym lo j));
+  above = λ c. (λ j. int_lt (sym hi j) (times_one c j));
+}
+
+-- those of the codes from i on
+abbrev pub AreRawFrom : ℕ → Bounds → List RawWindow → Type 0
+AreRawFrom i window raws = (code : ℕ) → i ≤ code → code < 16 → (nowhere : RawWindow) → IsRawWindow (precision_of code) window (get_or raws code nowhere)
+
+pub raw_before : (window : Bounds) (raws : List RawWindow) (i : ℕ) (raw : RawWindow) → i < length raws → IsRawWindow (precision_of i) window raw → AreRawFrom (i + 1) window raws → AreRawFrom i window (set raws i raw)
+raw_before window raws i raw within is after code from less nowhere = go (cases_eq code i)
+  where
+    go : (code ≡ i) ⊎ (code ≡ i → ⊥) → IsRawWindow (precision_of code) window (get_or (set raws i raw) code nowhere)
+    go (inl e) = subst (λ n. IsRawWindow (precision_of n) window (get_or (set raws i raw) n nowhere)) (sym e) (subst (IsRawWindow (precision_of i) window) (sym (get_or-set_same raws i raw nowhere within)) is)
+    go (inr other) = subst (IsRawWindow (precision_of code) window) (sym (get_or-set_other raws i code raw nowhere other)) (after code (omega (arith, from, other)) less nowhere)
+
+-- a tenth, as 64 bits compute it
+module _ (number : ℤ) (fits : FitsSigned w64 number) where
+  ten : pos 0 <ℤ pos 10
+  ten = omega (arith, ints)
+
+  pub tenth_is : to_z w64 (of_z w64 (int_div (to_z w64 (of_z w64 number)) (pos 10))) ≡ int_div number (pos 10)
+  tenth_is = (λ j. to_z w64 (of_z w64 (int_div (to_z-of_z w64 number fits j) (pos 10)))) ∙ to_z-of_z w64 (int_div number (pos 10)) (quot_fits w64 number (pos 10) fits ten)
+
+  pub left_is : to_z w64 (of_z w64 (int_rem (to_z w64 (of_z w64 number)) (pos 10))) ≡ int_rem number (pos 10)
+  left_is =
+      let few = rem_below number (pos 10) (omega arith) in
+      let small : FitsSigned w64 (int_rem number (pos 10)) = omega (arith, ints, few) in
+      (λ j. to_z w64 (of_z w64 (int_rem (to_z-of_z w64 number fits j) (pos 10)))) ∙ to_z-of_z w64 (int_rem number (pos 10)) small
+
+  pub tenth_up_is : (tenth rest c : ℤ) → tenth ≡ int_div number (pos 10) → rest ≡ int_rem number (pos 10) → int_lt (pos 0) rest ≡ true → int_lt (c *ℤ pos 10) number ≡ int_lt c (to_z w64 (of_z w64 (tenth +ℤ pos 1)))
+  tenth_up_is tenth rest c q r some =
+      let left : int_lt (pos 0) (int_rem number (pos 10)) ≡ true = ap (int_lt (pos 0)) (sym r) ∙ some in
+      let whole = quot-rem number (pos 10) in
+      let close : FitsSigned w64 (int_div number (pos 10) +ℤ pos 1) = let quotient = quot_fits w64 number (pos 10) fits ten in omega (arith, ints, whole, quotient, fits, left) in
+      least_up number (pos 10) c ten left ∙ ap (int_lt c) (sym ((λ j. to_z w64 (of_z w64 (q j +ℤ pos 1))) ∙ to_z-of_z w64 (int_div number (pos 10) +ℤ pos 1) close))
+
+  pub tenth_down_is : (tenth rest c : ℤ) → tenth ≡ int_div number (pos 10) → rest ≡ int_rem number (pos 10) → int_lt rest (pos 0) ≡ true → int_lt number (c *ℤ pos 10) ≡ int_lt (to_z w64 (of_z w64 (tenth -ℤ pos 1))) c
+  tenth_down_is tenth rest c q r some =
+      let left : int_lt (int_rem number (pos 10)) (pos 0) ≡ true = ap (λ (z : ℤ). int_lt z (pos 0)) (sym r) ∙ some in
+      let whole = quot-rem number (pos 10) in
+      let close : FitsSigned w64 (int_div number (pos 10) -ℤ pos 1) = let quotient = quot_fits w64 number (pos 10) fits ten in omega (arith, ints, whole, quotient, fits, left) in
+      greatest_down number (pos 10) c ten left ∙ ap (λ (z : ℤ). int_lt z c) (sym ((λ j. to_z w64 (of_z w64 (q j -ℤ pos 1))) ∙ to_z-of_z w64 (int_div number (pos 10) -ℤ pos 1) close))
+
+  pub tenth_whole_up : (tenth rest c : ℤ) → tenth ≡ int_div number (pos 10) → rest ≡ int_rem number (pos 10) → int_lt (pos 0) rest ≡ false → int_lt (c *ℤ pos 10) number ≡ int_lt c tenth
+  tenth_whole_up tenth rest c q r none = least_as_it_is number (pos 10) c ten (ap (int_lt (pos 0)) (sym r) ∙ none) ∙ ap (int_lt c) (sym q)
+
+  pub tenth_whole_down : (tenth rest c : ℤ) → tenth ≡ int_div number (pos 10) → rest ≡ int_rem number (pos 10) → int_lt rest (pos 0) ≡ false → int_lt number (c *ℤ pos 10) ≡ int_lt tenth c
+  tenth_whole_down tenth rest c q r none = greatest_as_it_is number (pos 10) c ten (ap (λ (z : ℤ). int_lt z (pos 0)) (sym r) ∙ none) ∙ ap (λ (z : ℤ). int_lt z c) (sym q)

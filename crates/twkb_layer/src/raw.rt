@@ -1,14 +1,15 @@
 //! Windows in raw integers: the numbers as headers and bodies have them, which mean units by a precision.
-ghost use Rattle.std.specs.Prelude.{◌≡◌, ◌<◌, ◌<ℤ◌, ◌*ℤ◌, ◌||◌, ◌∷◌, [], ℤ, pos, int_lt, true};
+ghost use Rattle.std.specs.Prelude.{◌≡◌, ◌<◌, ◌<ℤ◌, ◌≤ℤ◌, ◌*ℤ◌, ◌-ℤ◌, ◌||◌, ◌∷◌, [], ℤ, pos, int_lt, true, IfSome};
 ghost use Rattle.std.specs.Int.RustNames.{int_div, int_rem};
 ghost use Rattle.twkb_num.specs.Units.{IsPrecision};
-ghost use Rattle.twkb_layer.specs.Devices.Raw.{IsRawEnds, IsRawWindow, misses_beyond};
+ghost use Rattle.twkb_layer.specs.Devices.Raw.{IsRawEnds, IsRawWindow, IsExactEnds, IsExactWindow, AreRawWindows, misses_beyond};
 ghost use Rattle.twkb_layer.specs.Devices.Slots.{IsInner};
 ghost use Rattle.twkb_layer.specs.Slots.{precision_of};
 ghost use Rattle.twkb_layer.specs.Window.{is_inside, box_misses};
 ghost use Rattle.twkb_head.specs.Head.{span_at};
 ghost use Rattle.twkb_head.specs.Raw.{ends_of, raw_bounds, IsNear, HasNearRanges};
 ghost use Rattle.twkb_head.specs.declared.boxes.Bounds.{Bounds};
+ghost use Rattle.twkb_head.specs.declared.boxes.Span.{Span};
 ghost use Rattle.twkb_body.specs.Geometry.{HavePrecisions, vertex_at};
 
 use crate::window::Window;
@@ -37,6 +38,27 @@ impl RawEnds {
         }
     }
 
+    /// The ends of a range in units at the finest precision, at which a number is a unit, if they have 64 bits.
+    pub fn finest(range: &Span) -> Option<RawEnds>
+        ensures { IfSome result (IsExactEnds (pos 7) range.now) }
+    {
+        match (i64::try_from(range.lo), i64::try_from(range.hi)) {
+            (Ok(least), Ok(greatest)) => Some(RawEnds { least, greatest }),
+            _ => None,
+        }
+    }
+
+    /// The ends at the next coarser precision.
+    #[inline(always)]
+    fn coarser(&self) -> RawEnds
+        ensures { (p : ℤ) (range : Span) → p ≤ℤ pos 7 → IsExactEnds p range self.now → IsExactEnds (p -ℤ pos 1) range result }
+    {
+        RawEnds {
+            least: tenth_up(self.least),
+            greatest: tenth_down(self.greatest),
+        }
+    }
+
     /// Whether the range between two numbers lies apart.
     #[inline(always)]
     pub fn misses(&self, ends: (i64, i64)) -> bool
@@ -54,6 +76,17 @@ pub struct RawWindow {
 }
 
 impl RawWindow {
+    /// The window at the next coarser precision.
+    #[inline(always)]
+    fn coarser(&self) -> RawWindow
+        ensures { (p : ℤ) (window : Bounds) → p ≤ℤ pos 7 → IsExactWindow p window self.now → IsExactWindow (p -ℤ pos 1) window result }
+    {
+        RawWindow {
+            x: self.x.coarser(),
+            y: self.y.coarser(),
+        }
+    }
+
     /// Whether the box between these numbers in X and in Y lies apart. An axis is only compared where the one before it
     /// doesn't tell.
     #[inline(always)]
@@ -85,21 +118,14 @@ impl<'w> Model for RawWindows<'w> {
 }
 
 impl<'w> RawWindows<'w> {
-    /// Converts a window: at most 64 divisions, once a scan, of 64 bits if its ends fit.
+    /// Converts a window, once a scan.
     pub fn new(window: &'w Window) -> RawWindows<'w>
         ensures { result ≡ window.now }
     {
-        let nowhere = RawEnds {
-            least: 0,
-            greatest: 0,
+        let raws = match by_tenths(window) {
+            Some(raws) => raws,
+            None => by_divisions(window),
         };
-        let mut raws = [RawWindow {
-            x: nowhere,
-            y: nowhere,
-        }; 16];
-        for code in 0..16 {
-            raws[code] = window.raw(code as i8 - 8);
-        }
         RawWindows { window, raws }
     }
 
@@ -191,6 +217,60 @@ impl<'w> RawWindows<'w> {
     {
         self.raws[code]
     }
+}
+
+/// A window at each precision, by the codes of precisions, if its ends have 64 bits: each from the next finer one. A division by
+/// ten is a multiplication, so this takes a fraction of the time of [`by_divisions`].
+#[inline(always)]
+fn by_tenths(window: &Window) -> Option<[RawWindow; 16]>
+    ensures { IfSome result (AreRawWindows window.now) }
+{
+    let mut raw = window.finest()?;
+    let mut raws = [raw; 16];
+    let mut code = 16;
+    while code > 0 {
+        code -= 1;
+        raws[code] = raw;
+        raw = raw.coarser();
+    }
+    Some(raws)
+}
+
+/// A window at each precision, by the codes of precisions: 64 divisions, of 128 bits if its ends don't fit in 64.
+#[inline(never)]
+fn by_divisions(window: &Window) -> [RawWindow; 16]
+    ensures { AreRawWindows window.now result }
+{
+    let nowhere = RawEnds {
+        least: 0,
+        greatest: 0,
+    };
+    let mut raws = [RawWindow {
+        x: nowhere,
+        y: nowhere,
+    }; 16];
+    for code in 0..16 {
+        raws[code] = window.raw(code as i8 - 8);
+    }
+    raws
+}
+
+/// A tenth, rounded up.
+#[inline(always)]
+fn tenth_up(number: i64) -> i64
+    ensures { (c : ℤ) → int_lt (c *ℤ pos 10) number ≡ int_lt c result }
+{
+    let (tenth, rest) = (number / 10, number % 10);
+    if rest > 0 { tenth + 1 } else { tenth }
+}
+
+/// A tenth, rounded down.
+#[inline(always)]
+fn tenth_down(number: i64) -> i64
+    ensures { (c : ℤ) → int_lt number (c *ℤ pos 10) ≡ int_lt result c }
+{
+    let (tenth, rest) = (number / 10, number % 10);
+    if rest < 0 { tenth - 1 } else { tenth }
 }
 
 /// Whether a number is neither the least nor the greatest of 64 bits.

@@ -21,6 +21,16 @@ pub record IsRawWindow (p : ℤ) (window : Bounds) (raw : RawWindow) : Type 0 wh
   pub x : IsRawEnds p window.x raw.x
   pub y : IsRawEnds p window.y raw.y
 
+-- `IsRawEnds` for all numbers, also the ends of 64 bits and beyond
+pub record IsExactEnds (p : ℤ) (range : Span) (raw : RawEnds) : Type 0 where
+  pub below : (c : ℤ) → int_lt (units_of c p) range.lo ≡ int_lt c raw.least
+  pub above : (c : ℤ) → int_lt range.hi (units_of c p) ≡ int_lt raw.greatest c
+
+-- `IsExactEnds` for a window in X and in Y
+pub record IsExactWindow (p : ℤ) (window : Bounds) (raw : RawWindow) : Type 0 where
+  pub x : IsExactEnds p window.x raw.x
+  pub y : IsExactEnds p window.y raw.y
+
 -- a raw window for each code of a precision
 pub record AreRawWindows (window : Bounds) (raws : List RawWindow) : Type 0 where
   pub all : length raws ≡ 16

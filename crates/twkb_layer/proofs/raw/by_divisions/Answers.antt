@@ -5,7 +5,7 @@ use Rattle.std.proofs.lemmas.Int.{ints}
 use Rattle.std.proofs.Math.ListN.{length-set}
 use Rattle.twkb_layer.specs.Devices.Raw.{IsRawWindow}
 use Rattle.twkb_layer.proofs.Raws.{raw_more}
-use Rattle.twkb_layer.proofs.raw.RawWindows.new.Goals as goal
+use Rattle.twkb_layer.proofs.raw.by_divisions.Goals as goal
 
 pub loop-code-init : goal.loop-code-init
 loop-code-init c = (refl, λ code less. absurd (omega arith))
@@ -19,5 +19,5 @@ loop-code-preserved c =
       raw_more c.args.window.now c.loop-code.raws code c.raw.result (omega (arith, inv.0)) (subst (λ p. IsRawWindow p c.args.window.now c.raw.result) precision c.raw.ensures) inv.1,
     )
 
-pub invariant_of-result : goal.invariant_of-result
-invariant_of-result c = record { all = c.loop-code.invariant.0; each = λ code less. c.loop-code.invariant.1 code (omega arith) }
+pub returns : goal.returns
+returns c = record { all = c.loop-code.invariant.0; each = λ code less. c.loop-code.invariant.1 code (omega arith) }
