@@ -1,4 +1,4 @@
--- Hits in a form that crosses to other languages.
+-- Hits as other languages get them.
 use Rattle.twkb_layer.specs.declared.hits.Found.{Found}
 use Rattle.twkb_call.specs.declared.scans.Hit.{Hit}
 

@@ -27,7 +27,7 @@ kind_name kind =
     else if kind == 9 then codes "loose"
     else []
 
--- what a verdict answers, by its number
+-- the answer of a verdict, by its number
 unfoldable pub answer_name : ℕ → List ℕ
 answer_name answer =
     if answer == 0 then codes "certified"
@@ -35,6 +35,6 @@ answer_name answer =
     else if answer == 2 then codes "no memory"
     else []
 
--- a word of less than 24 bytes, and zeros up to these
+-- a word of fewer than 24 bytes, with zeros up to 24
 unfoldable pub with_zeros : List ℕ → List ℕ
 with_zeros word = word ++ replicate (24 - length word) 0

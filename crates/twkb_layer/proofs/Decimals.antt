@@ -68,7 +68,7 @@ no_digit ds k h le =
     sym (ap (λ (n : ℕ). n % 10) (div-eq_of_lt small))
 
 -- ---- digits as quotients
--- the zeros that are put behind a number
+-- zeros appended to a number
 pub zero_digit : (n z k : ℕ) → k < z → n * 10 ^ z / 10 ^ k % 10 ≡ 0
 zero_digit n z k lt =
     let one : z ≡ (z - k - 1) + 1 + k = omega (arith, lt) in
@@ -152,7 +152,7 @@ pub is_some : (r : ℕ) → r ≢ 0 → true ≡ not (r == 0)
 is_some zero h = absurd (h refl)
 is_some (suc r) h = grind (arith, nat_tests)
 
--- the least of a quotient and a bound, with one digit more
+-- the minimum of a quotient and a bound, with one digit more
 pub least_goes_on : (q amount digit new r most : ℕ) → amount ≡ min q most → new ≡ min (amount * 10 + digit) most → r ≡ q * 10 + digit → new ≡ min r most
 least_goes_on q amount digit new r most a b e = omega (arith, a, b, e)
 
@@ -164,7 +164,7 @@ pub top_none : (minus : Bool) (whole fraction : List ℕ) (d : Decimal) (zeros t
     → d.number * 10 ^ zeros / 10 ^ top ≡ 0
 top_none minus whole fraction d zeros top view digits le = ap (λ (e : Decimal). e.number * 10 ^ zeros / 10 ^ top) (sym view) ∙ none_before whole fraction zeros top digits.whole_digits digits.fraction_digits le
 
--- ---- the text of a decimal, read in one way
+-- ---- the text of a decimal, parsed in one way
 sign_once : (old mid : List ℕ) (minus : Bool) → OnTrue minus (old ≡ 45 ∷ mid) → OnFalse minus (mid ≡ old) → ((behind : List ℕ) → old ≡ 45 ∷ behind → (minus ≡ true) × (mid ≡ behind))
     → (m : Bool) (amount : List ℕ) → old ≡ cond m (45 ∷ []) [] ++ amount → starts_digit amount ≡ true → (minus ≡ m) × (mid ≡ amount)
 sign_once old mid minus taken still exact true amount e starts = exact amount e
@@ -178,7 +178,7 @@ whole_starts : (whole behind : List ℕ) → AllDigits 10 whole → 0 < length w
 whole_starts [] behind h some = absurd (omega (arith, some))
 whole_starts (c ∷ cs) behind h some = is_digit c h.0
 
--- what was read is what the text has
+-- the parsed decimal is the text's
 pub record IsRead (text : List ℕ) (d : Decimal) (minus : Bool) (whole fraction new : List ℕ) : Type 0 where
   pub text_is : IsDecimalText text d
   pub minus_is : minus ≡ d.minus

@@ -1,4 +1,4 @@
--- Windows with rational ends, and the windows in units that hold the same vertices.
+-- Windows with rational bounds, and the windows in units that contain the same vertices.
 use Rattle.std.proofs.Common.{◌≡◌, ℕ, suc, negsuc, ◌+◌, ◌*◌, ◌/◌, ◌^◌, ◌<◌, ◌≤◌, Bool, true, false, not, ◌&&◌, ℤ, pos, neg_ℤ, ◌+ℤ◌, ◌-ℤ◌, ◌*ℤ◌, ◌<ℤ◌, ◌≤ℤ◌, int_lt, int_le, unsigned_abs, Option, Some, None, refl, ap, sym, ◌∙◌, arith}
 use Rattle.std.specs.Prelude.{IfSome, option_map}
 use Rattle.std.specs.Int.{int_div_euclid, int_max, int_min}
@@ -47,7 +47,7 @@ floor_high (negsuc a) d some =
     one_more : (q d : ℕ) → suc q * d ≡ q * d + d
     one_more q d = omega arith
 
--- a number is less than a multiple exactly where the quotient is less than the factor
+-- a number is less than a multiple if and only if the quotient is less than the factor
 floor_less : (z v : ℤ) (d : ℕ) → 0 < d → int_lt z (v *ℤ pos d) ≡ int_lt (int_div_euclid z (pos d)) v
 floor_less z v d some =
     let low = floor_low z d some in

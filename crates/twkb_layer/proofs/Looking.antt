@@ -73,7 +73,7 @@ no_entries : (blob place : ℕ) (rest : List Geometry) → [] ≡ told_from entr
 no_entries blob place [] e = refl
 no_entries blob place (t ∷ ts) e = absurd (cc (e))
 
--- It puts what it finds in whatever form.
+-- It converts what it finds to any type.
 module _ {S : Type 0} (of : Found → S) where
   pub record Looking (w : Bounds) (bytes : List ℕ) (count0 : ℕ) (room0 : List S) (beyond : Said) (slots : List Said) (count blob found : ℕ) (room : List S) : Type 0 where
     pub trees : List Geometry
@@ -169,7 +169,7 @@ module _ {S : Type 0} (of : Found → S) where
         blob_is = omega (arith, s.blob_is, ap length n.is);
       }
 
-  -- the slot of this number, and those behind it
+  -- the slot of this number, and those after it
   pub slot_next : (w : Bounds) (bytes : List ℕ) (count0 : ℕ) (room0 : List S) (beyond : Said) (slots : List Written) (at : ℕ) (count blob found : ℕ) (room : List S) → Looking w bytes count0 room0 beyond (map slot_says (drop at slots)) count blob found room
       → (slot : Written) → slot ≡ get_or slots at slot → at < length slots → Looking w bytes count0 room0 beyond (slot_says slot ∷ map slot_says (drop (at + 1) slots)) count blob found room
   slot_next w bytes count0 room0 beyond slots at count blob found room s slot is lt =

@@ -136,7 +136,7 @@ lean_answers m l n o p q k ahead none is =
     ap (int_lt (pos 0)) (is ∙ (λ j. leaning (signed m (x j) -ℤ signed l (y j))))
     ∙ (lean_sign (signed m (n * q)) (signed l (o * p)) ∙ (λ j. int_lt (sym (signed_product l o p) j) (sym (signed_product m n q) j)))
 
--- ---- what is answered of two texts
+-- ---- the result for two texts
 order_is : (a b lo hi : Decimal) (told : Bool) → lo ≡ a → hi ≡ b → is_less (rational_of hi) (rational_of lo) ≡ told → is_less (rational_of b) (rational_of a) ≡ told
 order_is a b lo hi told l h is = (λ j. is_less (rational_of (sym h j)) (rational_of (sym l j))) ∙ is
 

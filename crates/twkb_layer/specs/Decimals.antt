@@ -1,4 +1,4 @@
--- Decimals of any length as the ends of windows: what their texts mean, and what they are in units.
+-- Decimals of any length as bounds of windows: what their texts mean, and what they are in units.
 use Rattle.std.specs.Prelude.{◌≡◌, ℕ, ◌^◌, ◌<◌, cond, Bool, true, false, not, ◌&&◌, List, [], ◌∷◌, ◌++◌, length, ℤ, pos, neg_ℤ, ◌*ℤ◌, int_lt, unsigned_abs, Option, Some, None, IfSome, option_map}
 use Rattle.std.specs.Int.{int_div_euclid, int_max, int_min}
 use Rattle.std.specs.Str.Parse.{digits_value, AllDigits}
@@ -16,7 +16,7 @@ pub record Decimal : Type 0 where
   pub number : ℕ
   pub places : ℕ
 
--- The text is perhaps a minus, one digit or more, and perhaps a point and one digit or more.
+-- The text is an optional minus, one or more digits, and optionally a point and one or more digits.
 pub record IsDecimalText (text : List ℕ) (d : Decimal) : Type 0 where
   pub whole : List ℕ
   pub fraction : List ℕ
@@ -60,8 +60,8 @@ floor_units r = int_div_euclid (r.numerator *ℤ pos (10 ^ 7)) (pos r.denominato
 abbrev pub ceil_units : Rational → ℤ
 ceil_units r = neg_ℤ (int_div_euclid (neg_ℤ (r.numerator *ℤ pos (10 ^ 7))) (pos r.denominator))
 
--- The farthest that an end has to be from 0, in units. Coordinates are nearer: at most 2^63 at the coarsest precision, which is
--- 10^15 units a step.
+-- The greatest distance of a bound from 0, in units. Coordinates are nearer: at most 2^63 steps, and a step of the coarsest
+-- precision is 10^15 units.
 abbrev pub farthest : ℕ
 farthest = 10 ^ 34
 
@@ -118,7 +118,7 @@ in_rationals_if_any None value = true
 in_rationals_if_any (Some range) None = false
 in_rationals_if_any (Some range) (Some value) = in_rationals range value
 
--- A vertex is inside where each axis that the window bounds is there and in range.
+-- A vertex is inside if and only if it has each axis that the window bounds, and is in its range.
 abbrev pub is_inside_rationals : RationalWindow → Vertex → Bool
 is_inside_rationals w v = in_rationals w.x v.x
     && (in_rationals w.y v.y && (in_rationals_if_any w.z v.z && in_rationals_if_any w.m v.m))

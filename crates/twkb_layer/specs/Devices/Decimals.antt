@@ -10,6 +10,6 @@ pub record AreDigits (whole fraction : List ℕ) : Type 0 where
   pub fraction_digits : AllDigits 10 fraction
   pub short : length whole + length fraction < 2 ^ 63
 
--- which way a difference goes, at most by 2
+-- a difference, limited to the range from -2 to 2
 abbrev pub leaning : ℤ → ℤ
 leaning difference = int_max (neg_ℤ (pos 2)) (int_min difference (pos 2))

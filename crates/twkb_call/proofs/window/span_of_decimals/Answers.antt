@@ -1,4 +1,4 @@
--- A lower end that is greater is answered 2.
+-- If the lower end is greater, the result is 2.
 use Rattle.twkb_layer.specs.Decimals.{is_less, rational_of, span_of_decimals}
 use Rattle.twkb_call.proofs.Windows.{spans_order}
 use Rattle.twkb_call.proofs.window.span_of_decimals.Goals as goal

@@ -1,4 +1,4 @@
--- Each text is read in one way, so the answer is that of its decimals.
+-- Each text is parsed in one way, so its decimals determine the result.
 use Rattle.std.proofs.Common.{◌≡◌, sym, ◌∙◌, rules}
 use Rattle.std.proofs.lemmas.Int.{to_z-of_z}
 use Rattle.std.specs.Int.{w128}

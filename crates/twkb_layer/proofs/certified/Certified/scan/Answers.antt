@@ -1,4 +1,4 @@
--- What is put into the room without lengths is the hits.
+-- What is written to the room without lengths is the hits.
 use Rattle.std.proofs.Common.{ap, sym, ◌∙◌}
 use Rattle.twkb_layer.specs.Hits.{filled}
 use Rattle.twkb_layer.proofs.Scanning.{hits_found}

@@ -1,4 +1,4 @@
--- Behind the scan the layer is certified still, with the same numbers.
+-- After the scan the layer is still certified, with the same numbers.
 use Rattle.std.proofs.Common.{rules}
 use Rattle.twkb_layer.proofs.certified.Certified.scan_into.Goals as goal
 

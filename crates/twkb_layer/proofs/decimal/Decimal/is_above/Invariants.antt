@@ -1,4 +1,4 @@
--- Which way the difference so far goes.
+-- The sign of the difference so far.
 use Rattle.std.proofs.Common.{◌≡◌, ◌*◌, ◌/◌, ◌^◌, ◌-ℤ◌}
 use Rattle.twkb_layer.specs.Decimals.{signed}
 use Rattle.twkb_layer.specs.Devices.Decimals.{leaning}

@@ -1,4 +1,4 @@
--- A digit that isn't 0 leaves a rest, and no others do.
+-- A digit that isn't 0 leaves a remainder, and no others do.
 use Rattle.std.proofs.Common.{◌*◌, ◌%◌, ◌^◌, ap, sym, ◌∙◌, arith}
 use Rattle.twkb_layer.specs.Decimals.{Decimal}
 use Rattle.twkb_layer.proofs.Decimals.{no_rest_yet, some_rest, is_some}

@@ -1,4 +1,4 @@
--- No digit so far leaves a rest.
+-- No digit so far leaves a remainder.
 use Rattle.std.proofs.Common.{◌≡◌, ◌*◌, ◌%◌, ◌^◌}
 use Rattle.twkb_layer.proofs.decimal.Decimal.is_between_units.Given as goal
 

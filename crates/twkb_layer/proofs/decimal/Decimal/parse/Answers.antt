@@ -1,4 +1,4 @@
--- A decimal is read in one way.
+-- A decimal is parsed in one way.
 use Rattle.std.proofs.Common.{length, Some, ap, arith}
 use Rattle.std.proofs.lemmas.Bool.Decides.{nat_tests}
 use Rattle.twkb_layer.specs.Decimals.{Decimal}
