@@ -1,11 +1,11 @@
-"""What a layer answers: refusals, rows, hits and scans, and the layouts of their tables."""
+"""What calls on a layer return: refusals, rows, hits and scans, and the layouts of their tables."""
 from typing import Any, Iterator, NamedTuple, Sequence, Tuple, Union, overload
 
 from . import _library
 
 KINDS = ("", "cut", "varint", "type", "depth", "range", "size", "box", "ids", "loose")
 
-# The words for the types of geometries, by the numbers that a table of rows has.
+# The words for the types of geometries, by their numbers in a table of rows.
 TYPES = (
     "",
     "point",
@@ -17,7 +17,7 @@ TYPES = (
     "geometrycollection",
 )
 
-# What numpy.frombuffer takes as the dtype of a table of rows, and of one of hits. NumPy has a type of its own for it.
+# The dtypes of a table of rows and of a table of hits, for numpy.frombuffer.
 ROW_DTYPE: Any = {
     "names": ["blob", "offset", "bytes", "vertices", "type", "precision", "has_size", "has_box"],
     "formats": ["u8", "u8", "u8", "u8", "u1", "i1", "?", "?"],
@@ -61,7 +61,7 @@ class Row(NamedTuple):
 
     @property
     def kind(self) -> str:
-        """The type, by the name that it had in version 1.0. Version 2.0 won't have it."""
+        """The type, by its earlier name. Version 2.0 won't have this property."""
         return self.type
 
     def __str__(self) -> str:
@@ -90,7 +90,7 @@ class Scan(Sequence[Hit]):
         self._table, self.bytes_read = table, bytes_read
 
     def table(self) -> memoryview:
-        """The hits as bytes that can't be written, 24 for each: its blob, its offset and its length, of eight bytes.
+        """The hits as read-only bytes, 24 for each: its blob, its offset and its length, of eight bytes each.
 
         `numpy.frombuffer(scan.table(), dozhemik.HIT_DTYPE)` is an array of them, which `pandas.DataFrame` takes.
         """
@@ -106,7 +106,7 @@ class Scan(Sequence[Hit]):
     def __getitem__(self, place: slice) -> Tuple[Hit, ...]: ...
 
     def __getitem__(self, place: Union[int, slice]) -> Union[Hit, Tuple[Hit, ...]]:
-        # A range knows what a place or a slice means.
+        # A range converts an index or a slice to places.
         places = range(len(self))[place]
         return self._at(places) if isinstance(places, int) else tuple(map(self._at, places))
 

@@ -1,4 +1,4 @@
-"""The bytes of a layer: what is taken for them, and where they are in memory."""
+"""The bytes of a layer: which objects are accepted, and where the bytes are in memory."""
 import ctypes
 import mmap
 import os
@@ -7,7 +7,7 @@ from typing import Any, Protocol, Union
 
 
 class Array(Protocol):
-    """What lends its memory and says how many bytes it has: a memoryview, a NumPy array."""
+    """An object that lends its memory and has a number of bytes: a memoryview, a NumPy array."""
 
     @property
     def nbytes(self) -> int: ...
@@ -46,7 +46,7 @@ _release_buffer.argtypes, _release_buffer.restype = (POINTER(_Buffer),), None
 
 
 def held(data: Data) -> memoryview:
-    """A view of the bytes of a layer, which keeps them. Raises TypeError if they may be written, or aren't bytes."""
+    """A view of the bytes of a layer, which keeps them. Raises TypeError if they are writable, or aren't bytes."""
     if type(data) is bytes:
         return memoryview(data)
     if isinstance(data, os.PathLike):
@@ -71,7 +71,7 @@ def held(data: Data) -> memoryview:
 
 
 def _is_fixed(view: memoryview) -> bool:
-    """Whether nobody can write it, neither through it nor through what it is a view of."""
+    """Whether nobody can write to it, neither through it nor through what it is a view of."""
     owner: Any = view
     while owner is not None:
         try:
@@ -85,7 +85,7 @@ def _is_fixed(view: memoryview) -> bool:
 
 
 def address_of(view: memoryview) -> int:
-    """Where the bytes of a view are, for as long as it is kept."""
+    """The address of the bytes of a view, as long as the view is kept."""
     buffer = _Buffer()
     _get_buffer(view, ctypes.byref(buffer), 0)
     # The view holds the same memory, so it stays where it is.

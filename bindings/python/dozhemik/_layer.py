@@ -61,7 +61,7 @@ class Layer:
         ]
 
     def table(self) -> memoryview:
-        """The rows of `list` as bytes that can't be written, 40 for each, as the C struct twkb_row has them.
+        """The rows of `list` as read-only bytes, 40 for each, in the layout of the C struct twkb_row.
 
         `numpy.frombuffer(layer.table(), dozhemik.ROW_DTYPE)` is an array of them, which `pandas.DataFrame` takes. Their
         types are numbers there: `dozhemik.TYPES` has the words.
@@ -72,7 +72,7 @@ class Layer:
         return memoryview(room).cast("B").toreadonly()
 
     def blob(self, hit: Union[Hit, Row]) -> bytes:
-        """The bytes of a blob, of a hit or a row of this layer."""
+        """The bytes of a blob, by a hit or a row of this layer."""
         layer = self._open
         if not isinstance(hit, (Hit, Row)):
             raise TypeError(f"a blob is named by a Hit or a Row, not by {type(hit).__name__}")
@@ -103,7 +103,7 @@ class Layer:
         return _scan(self._open, _window(window, x, y, z, m, bbox))
 
     def scan_many(self, windows: Iterable[Union[Window, str]]) -> List[Scan]:
-        """A scan for each window, by a directory that is made for them. For later windows keep `directory()`."""
+        """A scan for each window, by a directory that is made for this call. Keep `directory()` for more windows."""
         return self.directory().scan_many(windows)
 
     def directory(self) -> "Directory":
@@ -171,7 +171,7 @@ class Directory:
         return _scan(self._layer._open, _window(window, x, y, z, m, bbox), self)
 
     def scan_many(self, windows: Iterable[Union[Window, str]]) -> List[Scan]:
-        """A scan for each window. The scans share memory, which is let go with the last of them."""
+        """A scan for each window. The scans share memory, which is freed with the last of them."""
         layer = self._layer._open
         if isinstance(windows, (str, Window)):
             raise TypeError("several windows are wanted, as a list of them")
@@ -199,9 +199,9 @@ class Directory:
 def certify(data: Data, *, tight: bool = False) -> Layer:
     """Certifies bytes as a layer. Raises Refused if they aren't one, and with `tight` also if a box is loose.
 
-    `data` is bytes, or the path of a file (os.PathLike), which is read whole, or a buffer of bytes that can't be
-    written: a file mapped with access=mmap.ACCESS_READ, a memoryview of bytes, a NumPy array of uint8 that isn't
-    writeable. The layer holds it. If a mapped file is changed meanwhile, a later call may crash.
+    `data` is bytes, or the path of a file (os.PathLike), which is read whole, or a read-only buffer of bytes: a file
+    mapped with access=mmap.ACCESS_READ, a memoryview of bytes, or a NumPy array of uint8 that isn't writeable. The
+    layer holds it. If a mapped file changes while the layer is used, a later call may crash.
     """
     view = held(data)
     address = address_of(view)
@@ -260,7 +260,7 @@ def _scan_into(
     room: "ctypes.Array[_library.Hit]",
     start: int = 0,
 ) -> _library.Scanned:
-    """Scans into the places of the room from one on."""
+    """Scans, and writes the hits to the room from place `start` on."""
     held, wanted = ctypes.byref(layer), ctypes.byref(window)
     places = ctypes.addressof(room) + start * _library.HIT.size, len(room) - start
     scanned: _library.Scanned

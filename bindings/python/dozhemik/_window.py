@@ -18,7 +18,7 @@ _MOST_DIGITS = 2_000_000
 
 
 class BadWindow(ValueError):
-    """A window, or a coordinate of one, that is none. Its text says why in one line."""
+    """A text or coordinates that don't make a window. The message says why in one line."""
 
 
 class Window:
@@ -44,7 +44,7 @@ class Window:
 
     @classmethod
     def from_bbox(cls, bbox: Box, *, z: Optional[Range] = None, m: Optional[Range] = None) -> "Window":
-        """The window of a box (xmin, ymin, xmax, ymax), as GeoJSON and most libraries order it."""
+        """The window of a box (xmin, ymin, xmax, ymax), in the order of GeoJSON and most libraries."""
         if not isinstance(bbox, (tuple, list)) or len(bbox) != 4:
             raise TypeError(f"a bbox is (xmin, ymin, xmax, ymax), not {bbox!r}")
         xmin, ymin, xmax, ymax = bbox
@@ -72,7 +72,7 @@ class Window:
 
     @property
     def y(self) -> Tuple[Decimal, Decimal]:
-        """The range of Y, as `x` has that of X."""
+        """The range of Y, as for `x`."""
         return _decimals(self._struct.y)
 
     @property
@@ -141,7 +141,7 @@ def _decimal(units: int) -> Decimal:
 
 
 def _span_of(axis: str, ends: object) -> _library.Span:
-    """The range of two coordinates, which the library reads and rounds inward."""
+    """The range of two coordinates, which the library parses and rounds inward."""
     # A str of two characters would unpack as well.
     if not isinstance(ends, (tuple, list)) or len(ends) != 2:
         raise TypeError(f"the range of {axis} is a pair (lo, hi), not {ends!r}")
@@ -156,7 +156,7 @@ def _span_of(axis: str, ends: object) -> _library.Span:
 
 
 def _ascii(text: str) -> bytes:
-    # What isn't ASCII becomes a question mark, which stands in no number and no window.
+    # What isn't ASCII becomes a question mark, which is in no number and no window.
     return str.encode(text, "ascii", "replace")
 
 
@@ -167,7 +167,7 @@ def _shown(value: object) -> str:
 
 
 def _number_text(axis: str, value: object) -> str:
-    """The text of just this number, without an exponent."""
+    """The exact text of a number, without an exponent."""
     if isinstance(value, str):
         return value
     exact = _exact(value)
@@ -179,7 +179,7 @@ def _number_text(axis: str, value: object) -> str:
 
 
 def _exact(value: object) -> Decimal:
-    """Just this number. Decimal takes an int, a float or a Decimal exactly, whatever the context says."""
+    """The exact number. Decimal takes an int, a float or a Decimal exactly, in every context."""
     if isinstance(value, (int, float, Decimal)) and not isinstance(value, bool):
         return Decimal(value)
     # The numbers of NumPy, for instance. A float32 is a float.
