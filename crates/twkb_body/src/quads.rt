@@ -57,7 +57,7 @@ fn next_four(cursor: &mut Cursor, at: u32x4, extent: u32x4) -> Step
     ensures step { (x y w h : ℤ) → at ≡ lanes_at x y → extent ≡ lanes_at w h → IsInLane x → IsInLane y → IsLaneExtent w → IsLaneExtent h
         → IsQuadStep w h x y cursor.old cursor.new result.points result.reached.at result.reached.inside }
 {
-    let differences = cursor.svarint_pairs(4);
+    let differences = cursor.svarint_eight();
     if !differences.is_read {
         return Step::none(at);
     }

@@ -1,8 +1,8 @@
 -- Lanes, one by one.
-use Rattle.std.proofs.Common.{◌≡◌, map, eqb, zero, suc, subst, take, drop, replicate, get_or, ℕ, ◌+◌, ◌-◌, ◌*◌, ◌<◌, length, ◌/◌, ◌%◌, ◌^◌, List, [], ◌∷◌, bit_and, refl, sym, ap, ◌∙◌, arith, Fits, w16, w32, inl, inr}
+use Rattle.std.proofs.Common.{◌≡◌, map, eqb, suc, subst, get_or, ℕ, ◌+◌, ◌-◌, ◌*◌, ◌<◌, length, ◌/◌, ◌%◌, ◌^◌, List, [], ◌∷◌, bit_and, refl, sym, ap, ◌∙◌, arith, Fits, w16, w32, inl, inr}
 use Rattle.std.specs.Int.{cast_signed}
-use Rattle.std.specs.Prelude.{ℤ, pos, neg_ℤ, All}
-use Rattle.std.proofs.lemmas.List.{length-map, get_or-map, length-take, get_or-take, get_or-drop}
+use Rattle.std.specs.Prelude.{pos, neg_ℤ, All}
+use Rattle.std.proofs.lemmas.List.{length-map, get_or-map}
 use Rattle.std.specs.Int.Bits.{bit_xor, xor_add_and, xor_zero_r}
 use Rattle.std.proofs.lemmas.Nat.{and_mask, and_block, and_le_r, and_shr}
 use Rattle.std.proofs.lemmas.Bool.{cases_lt, cond-true, cond-false, eq-eqb, ne_eqb}
@@ -113,30 +113,8 @@ all_short v k d h =
     let is = get_or-map zigzag_value (map four_groups v) k 0 d (omega (arith, there, length-map v four_groups)) ∙ ap zigzag_value (get_or-map four_groups v k 0 0 there) in
     subst IsShort (sym is) (short_number (four_groups (get_or v k 0)) (omega arith))
 
-pub all_brief : (v : List ℕ) (n : ℕ) → All IsBrief (take n (map zigzag_value (map two_groups v)))
-all_brief v n k d h =
-    let zs : List ℤ = map zigzag_value (map two_groups v) in
-    let many = length-take n zs in
-    let low : k < n = omega (arith, h, many) in
-    let there : k < length v = omega (arith, h, many, length-map (map two_groups v) zigzag_value, length-map v two_groups) in
-    let is = get_or-take n zs k d low ∙ get_or-map zigzag_value (map two_groups v) k 0 d (omega (arith, there, length-map v two_groups)) ∙ ap zigzag_value (get_or-map two_groups v k 0 0 there) in
+pub all_brief : (v : List ℕ) → All IsBrief (map zigzag_value (map two_groups v))
+all_brief v k d h =
+    let there : k < length v = omega (arith, h, length-map (map two_groups v) zigzag_value, length-map v two_groups) in
+    let is = get_or-map zigzag_value (map two_groups v) k 0 d (omega (arith, there, length-map v two_groups)) ∙ ap zigzag_value (get_or-map two_groups v k 0 0 there) in
     subst IsBrief (sym is) (brief_number (two_groups (get_or v k 0)) (omega arith))
-
--- zeros have only zeros
-zero_at : (r i : ℕ) → get_or {A = ℕ} (replicate r 0) i 0 ≡ 0
-zero_at zero i = refl
-zero_at (suc r) zero = refl
-zero_at (suc r) (suc i) = zero_at r i
-
--- lanes of which the first are brief and the others zero are all brief
-pub brief_too : (xs : List ℕ) (m r : ℕ) → All IsBrief (take m (map (cast_signed w16) xs)) → drop m xs ≡ replicate r 0 → All IsBrief (map (cast_signed w16) xs)
-brief_too xs m r brief zeros k d h =
-    let zs : List ℤ = map (cast_signed w16) xs in
-    let there : k < length xs = omega (arith, h, length-map xs (cast_signed w16)) in
-    elim (cases_lt k m) [
-      | inl low ↦ subst IsBrief (get_or-take m zs k d low) (brief k d (omega (arith, h, low, length-take m zs)))
-      | inr high ↦
-          let at : m + (k - m) ≡ k = omega (arith, high) in
-          let is : get_or xs k 0 ≡ 0 = sym (ap (λ i. get_or xs i 0) at) ∙ sym (get_or-drop m xs (k - m) 0) ∙ ap (λ l. get_or l (k - m) 0) zeros ∙ zero_at r (k - m) in
-          subst IsBrief (sym (get_or-map (cast_signed w16) xs k 0 d there ∙ ap (cast_signed w16) is)) (brief_number 0 (omega arith))
-    ]

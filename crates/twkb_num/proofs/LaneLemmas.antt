@@ -1,16 +1,16 @@
 -- Two rows, one after the other, and their lanes.
-use Rattle.std.proofs.Common.{◌≡◌, ℕ, zero, suc, ◌+◌, ◌-◌, ◌*◌, ◌/◌, ◌%◌, ◌<◌, ◌≤◌, ◌^◌, true, eqb, ltb, refl, sym, ap, ◌∙◌, subst, List, [], ◌∷◌, ◌++◌, map, length, take, drop, replicate, get_or, bit_and, arith, inl, inr}
+use Rattle.std.proofs.Common.{◌≡◌, ℕ, zero, suc, ◌+◌, ◌-◌, ◌*◌, ◌/◌, ◌%◌, ◌<◌, ◌≤◌, ◌^◌, true, eqb, ltb, refl, sym, ap, ◌∙◌, subst, List, [], ◌∷◌, ◌++◌, map, length, take, drop, get_or, arith, inl, inr}
 use Rattle.std.proofs.lemmas.Bool.{eqb-true, ltb-true, lt-ltb, cond-true, or_cases}
 use Rattle.std.proofs.lemmas.List.{take-take, get_or-take, get_or-drop, append_assoc}
-use Rattle.std.proofs.lemmas.Nat.{shr-shr, and_mask, and_le_r}
+use Rattle.std.proofs.lemmas.Nat.{shr-shr}
 use Rattle.std.proofs.lemmas.Simd.{pick_l_whole, get_or_wider, Each1-from_get_or}
 use Rattle.std.proofs.Math.Seq.{take-add}
-use lib.Lanes.{Each1, zip2, number_l, digits_l}
+use lib.Lanes.{number_l, digits_l}
 use Rattle.twkb_num.specs.Varint.{SpellsAll, SpellsAllSigned, zigzag_value}
 use Rattle.twkb_num.specs.Devices.Lanes.{two_groups, four_groups, value_at, values, IsTops, IsFlag}
-use Rattle.twkb_num.specs.declared.tables.narrow.TheConstants.{NARROW_PLACES, NARROW_LEN, NARROW_PAIR_LEN, KEPT}
+use Rattle.twkb_num.specs.declared.tables.narrow.TheConstants.{NARROW_PLACES, NARROW_LEN}
 use Rattle.twkb_num.specs.declared.tables.wide.TheConstants.{WIDE_PLACES, WIDE_LEN}
-use Rattle.twkb_num.proofs.TableLaws.{is_flag, row_ok, wide_rows, narrow_rows, narrow_pair_rows, wide_flags, narrow_flags, narrow_pair_flags}
+use Rattle.twkb_num.proofs.TableLaws.{is_flag, row_ok, wide_rows, narrow_rows, wide_flags, narrow_flags}
 use Rattle.twkb_num.proofs.RowSpells.{IsPicked, row_holds}
 
 -- lengths
@@ -26,9 +26,6 @@ wide_flag tops len few is = flag_from len (ap is_flag is ∙ wide_flags tops few
 
 pub narrow_flag : (tops len : ℕ) → tops < 256 → len ≡ get_or NARROW_LEN tops 0 → IsFlag len
 narrow_flag tops len few is = flag_from len (ap is_flag is ∙ narrow_flags tops few)
-
-pub narrow_pair_flag : (tops len : ℕ) → tops < 256 → len ≡ get_or NARROW_PAIR_LEN tops 0 → IsFlag len
-narrow_pair_flag tops len few is = flag_from len (ap is_flag is ∙ narrow_pair_flags tops few)
 
 pub flag_place : (len : ℕ) → IsFlag len → len % 16 ≤ 8
 flag_place len (inl low) = omega (arith, low)
@@ -60,11 +57,6 @@ narrow_spells v lanes tops len few is p short =
     let low : get_or NARROW_LEN tops 0 < 128 = omega (arith, is, short) in
     let ok = sym (cond-true (ltb (get_or NARROW_LEN tops 0) 128) _ _ (lt-ltb (get_or NARROW_LEN tops 0) 128 low)) ∙ narrow_rows tops few in
     row_spells 2 4 v lanes (get_or NARROW_PLACES tops 0) tops len p (λ i. omega arith) (ap (row_ok 2 4 (get_or NARROW_PLACES tops 0) 0 tops 0) is ∙ ok)
-
-pub narrow_pair_spells : (v lanes : List ℕ) (tops : ℕ) → tops < 256 → IsPicked v (get_or NARROW_PLACES tops 0) lanes tops → get_or NARROW_PAIR_LEN tops 0 < 128 → SpellsAll (take (get_or NARROW_PAIR_LEN tops 0) v) (values 2 2 lanes 0)
-narrow_pair_spells v lanes tops few p low =
-    let ok = sym (cond-true (ltb (get_or NARROW_PAIR_LEN tops 0) 128) _ _ (lt-ltb (get_or NARROW_PAIR_LEN tops 0) 128 low)) ∙ narrow_pair_rows tops few in
-    row_spells 2 2 v lanes (get_or NARROW_PLACES tops 0) tops (get_or NARROW_PAIR_LEN tops 0) p (λ i. omega arith) ok
 
 -- tops
 low_bits : (t i : ℕ) → i < 8 → t % 256 / 2 ^ i % 2 ≡ t / 2 ^ i % 2
@@ -182,32 +174,3 @@ narrow_values all lo hi j =
     narrow_lanes all j.long j.fit ∙
     cons_same _ _ _ _ (low 0 (omega arith)) (cons_same _ _ _ _ (low 2 (omega arith)) (cons_same _ _ _ _ (low 4 (omega arith)) (cons_same _ _ _ _ (low 6 (omega arith))
     (cons_same _ _ _ _ (high 0 (omega arith)) (cons_same _ _ _ _ (high 2 (omega arith)) (cons_same _ _ _ _ (high 4 (omega arith)) (cons_same _ _ _ _ (high 6 (omega arith)) refl)))))))
-
--- what is kept
-zeros_kept : (r : ℕ) (xs : List ℕ) → length xs ≡ r → zip2 bit_and xs (replicate r 0) ≡ replicate r 0
-zeros_kept zero [] long = refl
-zeros_kept zero (x ∷ xs) long = absurd (omega (arith, long))
-zeros_kept (suc r) [] long = absurd (omega (arith, long))
-zeros_kept (suc r) (x ∷ xs) long =
-    let none : bit_and x 0 ≡ 0 = omega (arith, and_le_r x 0) in
-    cons_same (bit_and x 0) 0 _ _ none (zeros_kept r xs (omega (arith, long)))
-
-pub kept_front : (m r : ℕ) (xs : List ℕ) → length xs ≡ m + r → Each1 (λ x. x < 65536) xs → take m (zip2 bit_and xs (replicate m 65535 ++ replicate r 0)) ≡ take m xs
-kept_front zero r xs long fits = refl
-kept_front (suc m) r [] long fits = absurd (omega (arith, long))
-kept_front (suc m) r (x ∷ xs) long fits =
-    let same : bit_and x 65535 ≡ x = omega (arith, and_mask x 16, fits.0) in
-    cons_same (bit_and x 65535) x _ _ same (kept_front m r xs (omega (arith, long)) fits.1)
-
-pub kept_behind : (m r : ℕ) (xs : List ℕ) → length xs ≡ m + r → drop m (zip2 bit_and xs (replicate m 65535 ++ replicate r 0)) ≡ replicate r 0
-kept_behind zero r xs long = zeros_kept r xs (omega (arith, long))
-kept_behind (suc m) r [] long = absurd (omega (arith, long))
-kept_behind (suc m) r (x ∷ xs) long = kept_behind m r xs (omega (arith, long))
-
-pub kept_rows : (pairs : ℕ) → pairs < 5 → get_or KEPT pairs [] ≡ replicate (2 * pairs) 65535 ++ replicate (8 - 2 * pairs) 0
-kept_rows zero h = refl
-kept_rows (suc zero) h = refl
-kept_rows (suc (suc zero)) h = refl
-kept_rows (suc (suc (suc zero))) h = refl
-kept_rows (suc (suc (suc (suc zero)))) h = refl
-kept_rows (suc (suc (suc (suc (suc pairs))))) h = absurd (omega (arith, h))

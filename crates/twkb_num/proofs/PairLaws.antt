@@ -39,13 +39,19 @@ pair_and_others a c x y zs all m =
 -- the last two
 pub last_pair : (a c : Reading) (x y : ℤ) → SpellsAllSigned (passed a c) (x ∷ y ∷ []) → SpellsTwoSigned (passed a c) x y
 last_pair a c x y all =
-    let more = all.4 in (all.3.0, more.3.0, record {
-      front = all.0;
-      behind = more.0;
-      whole = all.2 ∙ ap (λ bytes. all.0 ++ bytes) (more.2 ∙ ap (λ bytes. more.0 ++ bytes) more.4 ∙ append-nil more.0);
-      first = all.3.1;
-      second = more.3.1;
-    }, all.3.2, more.3.2)
+    let more = all.4 in (
+      all.3.0,
+      more.3.0,
+      record {
+        front = all.0;
+        behind = more.0;
+        whole = all.2 ∙ ap (λ bytes. all.0 ++ bytes) (more.2 ∙ ap (λ bytes. more.0 ++ bytes) more.4 ∙ append-nil more.0);
+        first = all.3.1;
+        second = more.3.1;
+      },
+      all.3.2,
+      more.3.2,
+    )
 
 -- a number below 2^28 means a short one
 pub zigzag_short : (n : ℕ) (z : ℤ) → n < 2 ^ 28 → z ≡ zigzag_value n → IsShort z

@@ -1,6 +1,6 @@
 -- The tables of places and lengths are right: computed at each of the 256 masks.
 use Rattle.std.proofs.Common.{◌≡◌, ℕ, zero, suc, ◌+◌, ◌/◌, ◌%◌, ◌<◌, ◌^◌, Bool, true, false, ◌&&◌, ◌||◌, eqb, ltb, cond, refl, get_or}
-use Rattle.twkb_num.specs.declared.tables.narrow.TheConstants.{NARROW_PLACES, NARROW_LEN, NARROW_PAIR_LEN}
+use Rattle.twkb_num.specs.declared.tables.narrow.TheConstants.{NARROW_PLACES, NARROW_LEN}
 use Rattle.twkb_num.specs.declared.tables.wide.TheConstants.{WIDE_PLACES, WIDE_LEN}
 use Rattle.twkb_num.specs.Devices.Lanes.{byte_of}
 use Rattle.twkb_num.proofs.Below.{true_below}
@@ -35,14 +35,8 @@ wide_rows = true_below (λ mask. cond (ltb (get_or WIDE_LEN mask 0) 128) (row_ok
 pub narrow_rows : (mask : ℕ) → mask < 256 → cond (ltb (get_or NARROW_LEN mask 0) 128) (row_ok 2 4 (get_or NARROW_PLACES mask 0) 0 mask 0 (get_or NARROW_LEN mask 0)) true ≡ true
 narrow_rows = true_below (λ mask. cond (ltb (get_or NARROW_LEN mask 0) 128) (row_ok 2 4 (get_or NARROW_PLACES mask 0) 0 mask 0 (get_or NARROW_LEN mask 0)) true) 256 refl
 
-pub narrow_pair_rows : (mask : ℕ) → mask < 256 → cond (ltb (get_or NARROW_PAIR_LEN mask 0) 128) (row_ok 2 2 (get_or NARROW_PLACES mask 0) 0 mask 0 (get_or NARROW_PAIR_LEN mask 0)) true ≡ true
-narrow_pair_rows = true_below (λ mask. cond (ltb (get_or NARROW_PAIR_LEN mask 0) 128) (row_ok 2 2 (get_or NARROW_PLACES mask 0) 0 mask 0 (get_or NARROW_PAIR_LEN mask 0)) true) 256 refl
-
 pub wide_flags : (mask : ℕ) → mask < 256 → is_flag (get_or WIDE_LEN mask 0) ≡ true
 wide_flags = true_below (λ mask. is_flag (get_or WIDE_LEN mask 0)) 256 refl
 
 pub narrow_flags : (mask : ℕ) → mask < 256 → is_flag (get_or NARROW_LEN mask 0) ≡ true
 narrow_flags = true_below (λ mask. is_flag (get_or NARROW_LEN mask 0)) 256 refl
-
-pub narrow_pair_flags : (mask : ℕ) → mask < 256 → is_flag (get_or NARROW_PAIR_LEN mask 0) ≡ true
-narrow_pair_flags = true_below (λ mask. is_flag (get_or NARROW_PAIR_LEN mask 0)) 256 refl

@@ -1,13 +1,10 @@
 //! Varints from the next 32 bytes, read into the lanes of vectors.
-ghost use Rattle.std.specs.Prelude.{◌≡◌, ◌+◌, ◌*◌, ◌-◌, ◌<◌, ◌≤◌, ◌/◌, ◌%◌, ◌^◌, ℕ, map, slice_index, take, drop, replicate, All};
+ghost use Rattle.std.specs.Prelude.{◌≡◌, ◌+◌, ◌<◌, ◌≤◌, ◌/◌, ◌%◌, ◌^◌, ℕ, map, slice_index, take, All};
 ghost use Rattle.std.specs.Int.{w16, w32, cast_signed};
 ghost use Rattle.twkb_num.specs.Varint.{zigzag_value, SpellsAll, SpellsAllSigned, IsShort, IsBrief};
 ghost use Rattle.twkb_num.specs.Devices.Lanes.{two_groups, four_groups, byte_at, IsTops, IsFlag, values};
-ghost use Rattle.twkb_num.specs.declared.tables.narrow.TheConstants.{NARROW_PAIR_LEN};
 
-use crate::tables::{
-    kept_lanes, narrow_len, narrow_pair_len, narrow_places, wide_len, wide_places,
-};
+use crate::tables::{narrow_len, narrow_places, wide_len, wide_places};
 use std::simd::prelude::*;
 
 /// The first numbers of sixteen bytes, the bytes of each in a lane, and how many bytes they take. 128: one is too long.
@@ -24,7 +21,7 @@ pub struct Wide {
     pub len: u32,
 }
 
-/// Up to eight signed numbers, and the length of all spellings together. 128 or more: one is too long.
+/// Eight signed numbers, and the length of all spellings together. 128 or more: one is too long.
 #[derive(Clone, Copy)]
 pub struct Narrow {
     pub lanes: u16x8,
@@ -53,32 +50,23 @@ pub fn wide_four(bytes: &[u8; 32]) -> Wide
     }
 }
 
-/// The pairs of numbers that the front of the bytes spells, if each number takes at most two bytes. The other lanes are zero.
+/// The eight numbers that the front of the bytes spells, if each takes at most two bytes.
 #[inline(always)]
-pub fn narrow_pairs(bytes: &[u8; 32], pairs: usize) -> Narrow
-    requires some { 1 ≤ pairs }
-    requires few { pairs ≤ 4 }
+pub fn narrow_eight(bytes: &[u8; 32]) -> Narrow
     ensures few { result.len < 128 → result.len ≤ 16 }
-    ensures spelled { result.len < 128 → SpellsAllSigned (take result.len bytes.now) (take (2 * pairs) (map (cast_signed w16) result.lanes)) }
-    ensures rest { drop (2 * pairs) result.lanes ≡ replicate (8 - 2 * pairs) 0 }
+    ensures spelled { result.len < 128 → SpellsAllSigned (take result.len bytes.now) (map (cast_signed w16) result.lanes) }
     ensures brief { All IsBrief (map (cast_signed w16) result.lanes) }
 {
     let v = u8x16::from_slice(&bytes[0..16]);
     let tops = continuation_bits(v);
-    let a = (tops % 256) as usize;
-    let first = narrow_four(v, a);
+    let first = narrow_four(v, (tops % 256) as usize);
     let start = (first.len % 16) as usize;
-    let b = bits_from(tops, first.len);
-    let second = narrow_four(u8x16::from_slice(&bytes[start..start + 16]), b);
-    let len = match pairs {
-        1 => narrow_pair_len(a),
-        2 => first.len,
-        3 => first.len + narrow_pair_len(b),
-        _ => first.len + second.len,
-    };
+    let rest = bits_from(tops, first.len);
+    let second = narrow_four(u8x16::from_slice(&bytes[start..start + 16]), rest);
+    let len = first.len + second.len;
     let all = u16x8::from_le_bytes(low_halves(first.lanes, second.lanes));
     Narrow {
-        lanes: unzigzag_narrow(packed_narrow(all)) & kept_lanes(pairs),
+        lanes: unzigzag_narrow(packed_narrow(all)),
         len,
     }
 }
@@ -104,7 +92,6 @@ fn narrow_four(v: u8x16, tops: usize) -> Front
     requires tops { IsTops tops v }
     ensures flag { IsFlag result.len }
     ensures spelled { result.len < 128 → SpellsAll (take result.len v) (values 2 4 result.lanes 0) }
-    ensures pair { slice_index NARROW_PAIR_LEN tops < 128 → SpellsAll (take (slice_index NARROW_PAIR_LEN tops) v) (values 2 2 result.lanes 0) }
 {
     Front {
         lanes: picked(v, narrow_places(tops)),
@@ -177,8 +164,7 @@ fn unzigzag_wide(v: u32x4) -> u32x4
 /// What each lane means by zigzag, in two's complement.
 #[inline(always)]
 fn unzigzag_narrow(v: u16x8) -> u16x8
-    ensures means { map (cast_signed w16) result ≡ map zigzag_value v }
-    ensures fit { (i : ℕ) → i < 8 → slice_index result i < 65536 }
+    ensures { map (cast_signed w16) result ≡ map zigzag_value v }
 {
     (v >> u16x8::splat(1)) ^ (u16x8::splat(0) - (v & u16x8::splat(1)))
 }

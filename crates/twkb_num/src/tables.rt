@@ -6,5 +6,5 @@
 mod narrow;
 mod wide;
 
-pub use narrow::{kept_lanes, narrow_len, narrow_pair_len, narrow_places};
+pub use narrow::{narrow_len, narrow_places};
 pub use wide::{wide_len, wide_places};

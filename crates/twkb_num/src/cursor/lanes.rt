@@ -1,11 +1,11 @@
 //! Signed numbers at a cursor's place, read together into the lanes of a vector.
-ghost use Rattle.std.specs.Prelude.{◌≡◌, ◌*◌, ◌-◌, ◌≤◌, [], ◌∷◌, false, map, take, drop, replicate, All, IsTrue};
+ghost use Rattle.std.specs.Prelude.{◌≡◌, [], ◌∷◌, false, map, replicate, All, IsTrue};
 ghost use Rattle.std.specs.Int.{w16, w32, cast_signed};
 ghost use Rattle.twkb_num.specs.Cursor.{passed, IsMoved};
 ghost use Rattle.twkb_num.specs.Varint.{SpellsAllSigned, IsShort, IsBrief};
 
 use super::Cursor;
-use crate::lanes::{narrow_pairs, wide_four};
+use crate::lanes::{narrow_eight, wide_four};
 use std::simd::prelude::*;
 
 /// Four signed numbers in lanes of 32 bits, in two's complement, if they were read.
@@ -15,7 +15,7 @@ pub struct Four {
     pub is_read: bool,
 }
 
-/// Up to eight signed numbers in lanes of 16 bits, in two's complement, if they were read.
+/// Eight signed numbers in lanes of 16 bits, in two's complement, if they were read.
 #[derive(Clone, Copy)]
 pub struct Eight {
     pub lanes: u16x8,
@@ -71,23 +71,18 @@ impl<'a> Cursor<'a> {
         }
     }
 
-    /// Reads one to four pairs of signed varints at the place, if each varint takes at most two bytes and 32 bytes are left.
-    /// Otherwise `is_read` is false: it has read nothing, and the lanes are zero. Lanes after the last pair are zero too.
-    ///
-    /// Call it with a written-out 4 where four pairs are left: an open number of pairs costs branches.
+    /// Reads the eight signed varints at the place, if each takes at most two bytes and 32 bytes are left. Otherwise `is_read` is
+    /// false: it has read nothing, and the lanes are zero.
     #[inline(always)]
-    pub fn svarint_pairs(&mut self, pairs: usize) -> Eight
-        requires some { 1 ≤ pairs }
-        requires few { pairs ≤ 4 }
-        ensures some { IsTrue result.is_read → SpellsAllSigned (passed self.old self.new) (take (2 * pairs) (map (cast_signed w16) result.lanes)) }
+    pub fn svarint_eight(&mut self) -> Eight
+        ensures some { IsTrue result.is_read → SpellsAllSigned (passed self.old self.new) (map (cast_signed w16) result.lanes) }
         ensures brief { All IsBrief (map (cast_signed w16) result.lanes) }
-        ensures rest { drop (2 * pairs) result.lanes ≡ replicate (8 - 2 * pairs) 0 }
         ensures moved { IsTrue result.is_read → IsMoved self.old self.new }
         ensures none { result.is_read ≡ false → self.new ≡ self.old }
         ensures zero { result.is_read ≡ false → result.lanes ≡ replicate 8 0 }
     {
         if let Some(bytes) = self.bytes[self.place..].first_chunk::<32>() {
-            let eight = narrow_pairs(bytes, pairs);
+            let eight = narrow_eight(bytes);
             if eight.len < 128 {
                 self.place += eight.len as usize;
                 return Eight {

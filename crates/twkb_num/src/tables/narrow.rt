@@ -1,7 +1,7 @@
 //! Four varints of at most two bytes each, by the continuation bits of eight bytes.
-ghost use Rattle.std.specs.Prelude.{◌≡◌, ◌<◌, ℕ, slice_index, slice_index_or, []};
+ghost use Rattle.std.specs.Prelude.{◌≡◌, ◌<◌, ℕ, slice_index};
 ghost use Rattle.twkb_num.specs.Devices.Lanes.{byte_of};
-ghost use Rattle.twkb_num.specs.declared.tables.narrow.TheConstants.{KEPT, NARROW_LEN, NARROW_PAIR_LEN, NARROW_PLACES};
+ghost use Rattle.twkb_num.specs.declared.tables.narrow.TheConstants.{NARROW_LEN, NARROW_PLACES};
 
 use std::simd::prelude::*;
 
@@ -21,24 +21,6 @@ pub fn narrow_len(bits: usize) -> u32
     ensures { result ≡ slice_index NARROW_LEN bits }
 {
     NARROW_LEN[bits] as u32
-}
-
-/// How many bytes the first two of them take.
-#[inline(always)]
-pub fn narrow_pair_len(bits: usize) -> u32
-    requires few { bits < 256 }
-    ensures { result ≡ slice_index NARROW_PAIR_LEN bits }
-{
-    NARROW_PAIR_LEN[bits] as u32
-}
-
-/// All bits in the lanes of the first pairs, and none in the others.
-#[inline(always)]
-pub fn kept_lanes(pairs: usize) -> u16x8
-    requires few { pairs < 5 }
-    ensures { result ≡ slice_index_or KEPT pairs [] }
-{
-    u16x8::from_array(KEPT[pairs])
 }
 
 static NARROW_PLACES: [u64; 256] = [
@@ -313,26 +295,4 @@ static NARROW_LEN: [u8; 256] = [
     128, 5, 6, 128, 128, 5, 6, 6, 128, 128, 128, 128, 128, 4, 6, 6, 128, 6, 128, 128, 128, 128,
     128, 128, 128, 128, 128, 128, 128, 4, 5, 5, 128, 5, 128, 128, 128, 5, 128, 128, 128, 128, 128,
     128, 128, 4, 128, 128, 128, 128, 128, 128, 128, 128, 128, 128, 128, 128, 128, 128, 128,
-];
-
-static NARROW_PAIR_LEN: [u8; 256] = [
-    2, 3, 3, 128, 2, 4, 128, 128, 2, 3, 3, 128, 2, 128, 128, 128, 2, 3, 3, 128, 2, 4, 128, 128, 2,
-    3, 3, 128, 2, 128, 128, 128, 2, 3, 3, 128, 2, 4, 128, 128, 2, 3, 3, 128, 2, 128, 128, 128, 2,
-    3, 3, 128, 2, 4, 128, 128, 2, 3, 3, 128, 2, 128, 128, 128, 2, 3, 3, 128, 2, 4, 128, 128, 2, 3,
-    3, 128, 2, 128, 128, 128, 2, 3, 3, 128, 2, 4, 128, 128, 2, 3, 3, 128, 2, 128, 128, 128, 2, 3,
-    3, 128, 2, 4, 128, 128, 2, 3, 3, 128, 2, 128, 128, 128, 2, 3, 3, 128, 2, 4, 128, 128, 2, 3, 3,
-    128, 2, 128, 128, 128, 2, 3, 3, 128, 2, 4, 128, 128, 2, 3, 3, 128, 2, 128, 128, 128, 2, 3, 3,
-    128, 2, 4, 128, 128, 2, 3, 3, 128, 2, 128, 128, 128, 2, 3, 3, 128, 2, 4, 128, 128, 2, 3, 3,
-    128, 2, 128, 128, 128, 2, 3, 3, 128, 2, 4, 128, 128, 2, 3, 3, 128, 2, 128, 128, 128, 2, 3, 3,
-    128, 2, 4, 128, 128, 2, 3, 3, 128, 2, 128, 128, 128, 2, 3, 3, 128, 2, 4, 128, 128, 2, 3, 3,
-    128, 2, 128, 128, 128, 2, 3, 3, 128, 2, 4, 128, 128, 2, 3, 3, 128, 2, 128, 128, 128, 2, 3, 3,
-    128, 2, 4, 128, 128, 2, 3, 3, 128, 2, 128, 128, 128,
-];
-
-static KEPT: [[u16; 8]; 5] = [
-    [0, 0, 0, 0, 0, 0, 0, 0],
-    [65535, 65535, 0, 0, 0, 0, 0, 0],
-    [65535, 65535, 65535, 65535, 0, 0, 0, 0],
-    [65535, 65535, 65535, 65535, 65535, 65535, 0, 0],
-    [65535, 65535, 65535, 65535, 65535, 65535, 65535, 65535],
 ];

@@ -1,4 +1,4 @@
-use Rattle.std.proofs.Common.{◌≡◌, ℕ, ◌%◌, List, Bool, nat_eq, ap, ap₂, ◌∙◌, w32}
+use Rattle.std.proofs.Common.{ℕ, ◌%◌, List, Bool, nat_eq, ap, ap₂, ◌∙◌, w32}
 use Rattle.std.specs.Prelude.{nat_le}
 use Rattle.std.proofs.lemmas.Simd.{tops_compared}
 use lib.Lanes.{mask_l, zip2}

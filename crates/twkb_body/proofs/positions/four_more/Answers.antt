@@ -1,7 +1,7 @@
-use Rattle.std.proofs.Common.{◌≡◌, ℕ, ◌+◌, ◌%◌, ◌&&◌, Bool, [], ◌∷◌, List, ap, ap₂, subst, ◌∙◌, w16, w32, arith, pos}
+use Rattle.std.proofs.Common.{◌≡◌, ◌&&◌, [], ◌∷◌, subst, ◌∙◌, w16, w32, arith, pos}
 use Rattle.std.proofs.lemmas.Int.{ints}
 use Rattle.std.specs.Int.{cast_unsigned}
-use Rattle.std.specs.Prelude.{ℤ, ◌+ℤ◌, All}
+use Rattle.std.specs.Prelude.{◌+ℤ◌, All}
 use Rattle.twkb_num.specs.Varint.{IsBrief}
 use Rattle.twkb_body.specs.Devices.Boxed.{reaches}
 use Rattle.twkb_body.specs.Devices.Quads.{IsMetInLane}

@@ -1,4 +1,4 @@
-use Rattle.std.proofs.Common.{◌≡◌, ℕ, List, Bool, ap, ap₂, ◌∙◌, w32, refl}
+use Rattle.std.proofs.Common.{ℕ, List, Bool, ap, ap₂, ◌∙◌, w32}
 use Rattle.std.specs.Prelude.{nat_lt}
 use Rattle.std.proofs.lemmas.Simd.{tops_compared}
 use lib.Lanes.{sel_l, zip2}

@@ -2,7 +2,7 @@
 use Rattle.std.proofs.Common.{rules, ◌≡◌, ◌∙◌, [], ◌∷◌, length, map, subst, refl, arith, w16}
 use Rattle.std.proofs.lemmas.List.{length-map}
 use Rattle.std.specs.Int.{cast_signed}
-use Rattle.std.specs.Prelude.{ℤ, List, All, take}
+use Rattle.std.specs.Prelude.{ℤ, List, All}
 use Rattle.twkb_num.specs.Cursor.{passed}
 use Rattle.twkb_num.specs.Varint.{SpellsAllSigned, IsBrief}
 use Rattle.twkb_body.proofs.QuadReads.{not_false, eight_of, four_pairs_read}
@@ -11,13 +11,13 @@ use Rattle.twkb_body.proofs.quads.next_four.Goals as goal
 pub returns-clause-step : goal.returns-clause-step
 returns-clause-step c x y w h at extent x_in y_in w_fits h_fits =
     let old = c.args.cursor.now in
-    let new = c.svarint_pairs-differences.new.self in
-    let read = c.svarint_pairs-differences in
+    let new = c.svarint_eight-differences.new.self in
+    let read = c.svarint_eight-differences in
     let so = not_false read.result.is_read c.if-not-differences.false in
     let long : length read.result.lanes ≡ 8 = search rules in
     let zs : List ℤ = map (cast_signed w16) read.result.lanes in
     let e = eight_of zs (length-map read.result.lanes (cast_signed w16) ∙ long) in
-    let all = subst (λ (ys : List ℤ). SpellsAllSigned (passed old new) (take 8 ys)) e.8 (read.ensures.some so) in
+    let all = subst (λ (ys : List ℤ). SpellsAllSigned (passed old new) ys) e.8 (read.ensures.some so) in
     record {
       differences = (e.0, e.1) ∷ (e.2, e.3) ∷ (e.4, e.5) ∷ (e.6, e.7) ∷ [];
       many = refl;

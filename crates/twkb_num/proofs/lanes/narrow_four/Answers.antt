@@ -1,9 +1,9 @@
--- The row of the tops picks four spellings, or the first two of them.
+-- The row of the tops picks four spellings.
 use Rattle.std.proofs.Common.{get_or, ap, ◌∙◌, arith}
 use Rattle.twkb_num.specs.Devices.Lanes.{byte_at}
 use Rattle.twkb_num.specs.declared.tables.narrow.TheConstants.{NARROW_PLACES}
 use Rattle.twkb_num.proofs.RowSpells.{IsPicked}
-use Rattle.twkb_num.proofs.LaneLemmas.{narrow_flag, narrow_spells, narrow_pair_spells}
+use Rattle.twkb_num.proofs.LaneLemmas.{narrow_flag, narrow_spells}
 use Rattle.twkb_num.proofs.lanes.narrow_four.Goals as goal
 
 pub returns-clause-flag : goal.returns-clause-flag
@@ -17,12 +17,3 @@ returns-clause-spelled c =
       long = omega (arith, c.fits-v.0);
     } in
     narrow_spells c.args.v c.picked.result c.args.tops _ c.requires.few c.narrow_len.ensures p
-
-pub returns-clause-pair : goal.returns-clause-pair
-returns-clause-pair c =
-    let p : IsPicked c.args.v (get_or NARROW_PLACES c.args.tops 0) c.picked.result c.args.tops = record {
-      picks = λ i h. c.picked.ensures i (omega (arith, h)) ∙ ap (byte_at c.args.v) (c.narrow_places.ensures i h);
-      tops = c.requires.tops;
-      long = omega (arith, c.fits-v.0);
-    } in
-    narrow_pair_spells c.args.v c.picked.result c.args.tops c.requires.few p

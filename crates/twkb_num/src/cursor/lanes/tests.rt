@@ -1,6 +1,4 @@
 //! Lanes against reads one by one.
-ghost use Rattle.std.specs.Prelude.{◌≤◌};
-
 use super::*;
 use crate::tests::equal;
 use std::process::Abort;
@@ -52,15 +50,12 @@ fn reads_four(rt: &impl Abort, bytes: &[u8]) {
     ends(rt, &cursor, if is_read { reads.end } else { 0 });
 }
 
-// Pairs of numbers of at most two bytes each are read as one by one, where 32 bytes are left; others aren't.
-fn reads_pairs(rt: &impl Abort, bytes: &[u8], pairs: usize)
-    requires some { 1 ≤ pairs }
-    requires few { pairs ≤ 4 }
-{
-    let reads = read_each(bytes, 2 * pairs);
+// Eight numbers of at most two bytes are read as one by one, where 32 bytes are left; others aren't.
+fn reads_eight(rt: &impl Abort, bytes: &[u8]) {
+    let reads = read_each(bytes, 8);
     let is_read = reads.longest <= 2 && 32 <= bytes.len();
     let mut cursor = Cursor::new(bytes);
-    let eight = cursor.svarint_pairs(pairs);
+    let eight = cursor.svarint_eight();
     equal(rt, eight.is_read, is_read);
     for (lane, number) in i16x8::from_le_bytes(eight.lanes.to_le_bytes())
         .to_array()
@@ -77,13 +72,11 @@ fn ends(rt: &impl Abort, cursor: &Cursor, place: usize) {
     equal(rt, cursor.read_count(), place as u64);
 }
 
-// All calls, with all bytes, with 32 of them and with 31.
-fn reads_all(rt: &impl Abort, bytes: &[u8; 40]) {
+// Both calls, with all bytes, with 32 of them and with 31.
+fn reads_both(rt: &impl Abort, bytes: &[u8; 40]) {
     for bytes in [&bytes[..], &bytes[..32], &bytes[..31]] {
         reads_four(rt, bytes);
-        for pairs in 1..5 {
-            reads_pairs(rt, bytes, pairs);
-        }
+        reads_eight(rt, bytes);
     }
 }
 
@@ -95,7 +88,7 @@ fn each_lane_has_each_length(rt: HostRuntime) {
             for byte in bytes.iter_mut().skip(lane).take(more) {
                 *byte = 0x95;
             }
-            reads_all(&rt, &bytes);
+            reads_both(&rt, &bytes);
         }
     }
 }
@@ -113,6 +106,6 @@ fn lanes_of_many_lengths_are_read_as_one_by_one(rt: HostRuntime) {
             let goes_on = (state >> 48) % 1024 < round;
             *byte = (state >> 57) as u8 + if goes_on { 128 } else { 0 };
         }
-        reads_all(&rt, &bytes);
+        reads_both(&rt, &bytes);
     }
 }

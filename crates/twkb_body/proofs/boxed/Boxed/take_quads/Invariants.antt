@@ -1,8 +1,6 @@
 -- The points so far are a run that the box holds; the lanes are the last one's distances from the minima.
-use Rattle.std.proofs.Common.{◌≡◌, ◌-◌, ◌≤◌, true}
-use Rattle.std.specs.Prelude.{ℤ}
+use Rattle.std.proofs.Common.{◌-◌, ◌≤◌}
 use Rattle.twkb_body.specs.Devices.Inside.{of_head}
-use Rattle.twkb_body.specs.Devices.Quads.{lanes_at}
 use Rattle.twkb_body.proofs.QuadRuns.{IsQuadRun}
 use Rattle.twkb_body.proofs.boxed.Boxed.take_quads.Given as goal
 

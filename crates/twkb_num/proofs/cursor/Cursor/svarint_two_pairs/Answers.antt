@@ -1,6 +1,6 @@
 -- Four numbers are two pairs.
-use Rattle.std.proofs.Common.{[], ◌∷◌, pos, List, subst, arith}
-use Rattle.std.specs.Prelude.{ℤ, All}
+use Rattle.std.proofs.Common.{[], ◌∷◌, pos, subst, arith}
+use Rattle.std.specs.Prelude.{All}
 use Rattle.twkb_num.specs.Cursor.{passed}
 use Rattle.twkb_num.specs.Varint.{SpellsAllSigned, IsShort}
 use Rattle.twkb_num.proofs.PairLaws.{pair_and_others, last_pair}

@@ -1,0 +1,297 @@
+//! Passes over varints without their numbers.
+use super::NUMBERS;
+use crate::cursor::Cursor;
+use crate::tests::equal;
+use std::process::Abort;
+use std::test::Fail;
+
+#[test]
+fn short_numbers_are_passed_together_or_not_at_all(rt: HostRuntime) {
+    let bytes = [1, 2, 0x80, 3, 4, 5, 6, 7, 8, 9, 10];
+    let mut cursor = Cursor::new(&bytes);
+    equal(&rt, cursor.pass_short_varints(3), Some(()));
+    equal(&rt, cursor.place(), 4);
+    equal(&rt, cursor.read_count(), 4);
+    equal(&rt, cursor.pass_short_varints(0), Some(()));
+    equal(&rt, cursor.pass_short_varints(7), None);
+    equal(&rt, cursor.pass_short_varints(65_536), None);
+    equal(&rt, cursor.place(), 4);
+    equal(&rt, cursor.read_count(), 4);
+}
+
+// The cursor is at the place, and has counted all bytes before it.
+fn stands_at(rt: &impl Abort, cursor: &Cursor, place: usize) {
+    equal(rt, cursor.place(), place);
+    equal(rt, cursor.read_count(), place as u64);
+}
+
+#[test]
+fn runs_are_passed_together_or_not_at_all(rt: HostRuntime) {
+    // Two pairs, none, and one, whose second number takes two bytes. Then nine groups are asked for, and seven bytes are left.
+    let bytes = [2, 1, 2, 3, 4, 0, 1, 5, 0x80, 6, 9, 1, 1, 1, 1, 1, 1, 1];
+    let mut cursor = Cursor::new(&bytes);
+    equal(&rt, cursor.pass_short_runs(3, 2, 2), None);
+    stands_at(&rt, &cursor, 0);
+    equal(&rt, cursor.pass_short_runs(3, 2, 3), Some(3));
+    stands_at(&rt, &cursor, 10);
+    equal(&rt, cursor.pass_short_runs(0, 2, 0), Some(0));
+    equal(&rt, cursor.pass_short_runs(1, 1, 8), None);
+    equal(&rt, cursor.pass_short_runs(1, 1, 16_384), None);
+    equal(&rt, cursor.pass_short_runs(65_536, 4, 16_384), None);
+    stands_at(&rt, &cursor, 10);
+    // Where there are no numbers in a group, counts alone are passed.
+    equal(&rt, cursor.pass_short_runs(7, 0, 15), Some(15));
+    stands_at(&rt, &cursor, 17);
+    equal(&rt, cursor.pass_short_runs(1, 0, 16_384), Some(1));
+    equal(&rt, cursor.pass_short_runs(1, 0, 16_384), None);
+    stands_at(&rt, &cursor, 18);
+}
+
+#[test]
+fn a_run_with_a_long_number_is_not_passed(rt: HostRuntime) {
+    // A number of eight bytes, behind one of one byte.
+    let bytes = [
+        2, 1, 0x81, 0x81, 0x81, 0x81, 0x81, 0x81, 0x81, 1, 1, 1, 1, 1, 1, 1, 1, 1,
+    ];
+    let mut cursor = Cursor::new(&bytes);
+    equal(&rt, cursor.pass_short_runs(1, 1, 16_384), None);
+    stands_at(&rt, &cursor, 0);
+    equal(&rt, cursor.pass_counted_runs(0, 16_384), None);
+    stands_at(&rt, &cursor, 0);
+    // One run of one number, which is short.
+    let mut cursor = Cursor::new(&[1, 1, 3, 1, 1, 1, 1, 1, 1, 1]);
+    equal(&rt, cursor.pass_counted_runs(1, 16_384), Some(1));
+    stands_at(&rt, &cursor, 3);
+}
+
+#[test]
+fn counted_runs_are_passed_together_or_not_at_all(rt: HostRuntime) {
+    // Two runs, of one number and of two. Then one of 128 groups of nothing, and last a count of runs that is cut short.
+    let bytes = [2, 1, 0x80, 1, 2, 3, 4, 1, 0x80, 1, 1, 1, 1, 1, 1, 0x81];
+    let mut cursor = Cursor::new(&bytes);
+    equal(&rt, cursor.pass_counted_runs(1, 2), None);
+    stands_at(&rt, &cursor, 0);
+    equal(&rt, cursor.pass_counted_runs(1, 3), Some(3));
+    stands_at(&rt, &cursor, 7);
+    equal(&rt, cursor.pass_counted_runs(0, 16_384), Some(128));
+    stands_at(&rt, &cursor, 10);
+    cursor.go_to(15);
+    equal(&rt, cursor.pass_counted_runs(1, 16_384), None);
+    equal(&rt, cursor.place(), 15);
+    equal(&rt, cursor.read_count(), 10);
+}
+
+#[test]
+fn counted_runs_are_few(rt: HostRuntime) -> Result<(), Fail> {
+    // The count, with a low byte that tells 65,536 runs or one more, and behind it runs of nothing.
+    for (low, answer, place) in [(0x80, Some(0), 65_539), (0x81, None, 0)] {
+        let mut bytes = Vec::new(rt.alloc());
+        bytes.extend_from_slice(&[low, 0x80, 0x04])?;
+        for _ in 0..65_600 {
+            bytes.push(0)?;
+        }
+        let mut cursor = Cursor::new(&bytes);
+        equal(&rt, cursor.pass_counted_runs(2, 16_384), answer);
+        stands_at(&rt, &cursor, place);
+    }
+    Ok(())
+}
+
+// Varints of each length, with eight bytes left, or fewer, or more.
+#[test]
+fn passing_is_reading_without_the_number(rt: HostRuntime) {
+    for place in 0..10 {
+        for left in 0..=18 {
+            let bytes = &NUMBERS[place..place + left];
+            passes_as_it_reads(&rt, bytes, left >= 8 && place >= 2);
+        }
+    }
+}
+
+// The varint at the front is passed, as far as it is read, or the cursor stays as it is.
+fn passes_as_it_reads(rt: &impl Abort, bytes: &[u8], is_passed: bool) {
+    let mut reads = Cursor::new(bytes);
+    let mut passes = Cursor::new(bytes);
+    if is_passed {
+        assert!(rt; reads.uvarint().is_ok());
+        equal(rt, passes.pass_varint(), Some(()));
+    } else {
+        equal(rt, passes.pass_varint(), None);
+    }
+    equal(rt, passes.place(), reads.place());
+    equal(rt, passes.read_count(), reads.read_count());
+}
+
+#[test]
+fn varints_are_passed_up_to_their_ends(rt: HostRuntime) {
+    // Three bytes, one, and eight; then seven are left.
+    let bytes = [
+        0xFF, 0xFF, 0x01, 0x00, 0x80, 0x80, 0x80, 0x80, 0x80, 0x80, 0x80, 0x7F, 0x01, 0x01, 0x01,
+        0x01, 0x01, 0x01, 0x01,
+    ];
+    let mut cursor = Cursor::new(&bytes);
+    for place in [3, 4, 12] {
+        equal(&rt, cursor.pass_varint(), Some(()));
+        equal(&rt, cursor.place(), place);
+        equal(&rt, cursor.read_count(), place as u64);
+    }
+    equal(&rt, cursor.pass_varint(), None);
+    equal(&rt, cursor.place(), 12);
+    equal(&rt, cursor.read_count(), 12);
+}
+
+// A varint of one to seven bytes, eight of one to four in many orders, and bytes behind them.
+#[test]
+fn many_varints_are_passed_as_they_are_read(rt: HostRuntime) -> Result<(), Fail> {
+    for first in 0..7 {
+        for step in 0..16u64 {
+            let mut bytes = Vec::new(rt.alloc());
+            for _ in 0..first {
+                bytes.push(0x81)?;
+            }
+            bytes.push(0x01)?;
+            for i in 0..8u64 {
+                for _ in 0..i.wrapping_mul(step) / 4 % 4 {
+                    bytes.push(0x81)?;
+                }
+                bytes.push(0x01)?;
+            }
+            bytes.extend_from_slice(&[0x01; 8])?;
+            for many in 0..=9 {
+                passes_many_as_it_reads(&rt, &bytes, many);
+            }
+        }
+    }
+    Ok(())
+}
+
+fn passes_many_as_it_reads(rt: &impl Abort, bytes: &[u8], many: u64) {
+    let mut reads = Cursor::new(bytes);
+    for _ in 0..many {
+        assert!(rt; reads.uvarint().is_ok());
+    }
+    passes(rt, bytes, many, many, reads.place());
+}
+
+// A number of varints is passed, up to the place, and the bytes before it are counted.
+fn passes(rt: &impl Abort, bytes: &[u8], many: u64, passed: u64, place: usize) {
+    let mut cursor = Cursor::new(bytes);
+    equal(rt, cursor.pass_varints(many), passed);
+    equal(rt, cursor.place(), place);
+    equal(rt, cursor.read_count(), place as u64);
+}
+
+// Varints of one byte, a longer one after them, and more of one byte. The long one is passed if each half of a word has an end,
+// or of the first word the first seven bytes and the last four. Else the place is after the last end before the word.
+// A row has the number of short varints, of the bytes of the long one that go on, and where it stops.
+#[test]
+fn many_varints_are_passed_up_to_a_long_one(rt: HostRuntime) {
+    let table = [
+        // In the first word.
+        (0, 6, None),
+        (0, 7, Some(0)),
+        (0, 9, Some(0)),
+        (3, 4, None),
+        (3, 8, Some(0)),
+        (4, 3, None),
+        (4, 4, Some(0)),
+        // At the border of the first two words.
+        (5, 6, None),
+        (5, 7, Some(5)),
+        (6, 4, None),
+        (6, 5, None),
+        (6, 6, Some(6)),
+        (7, 4, None),
+        (7, 5, Some(7)),
+        (7, 6, Some(7)),
+        // In the second word, and at its border.
+        (8, 3, None),
+        (8, 4, Some(8)),
+        (11, 4, None),
+        (12, 4, Some(8)),
+        (14, 5, None),
+        (14, 6, Some(14)),
+    ];
+    for (before, goes_on, stop) in table {
+        let mut bytes = [0x01; 40];
+        for byte in bytes.iter_mut().skip(before).take(goes_on) {
+            *byte = 0x81;
+        }
+        for many in 0..=before {
+            passes(&rt, &bytes, many as u64, many as u64, many);
+        }
+        for more in 0..5usize {
+            let many = (before + 1 + more) as u64;
+            match stop {
+                None => passes(&rt, &bytes, many, many, before + goes_on + 1 + more),
+                Some(place) => passes(&rt, &bytes, many, place as u64, place),
+            }
+        }
+    }
+}
+
+#[test]
+fn many_varints_are_passed_by_whole_words(rt: HostRuntime) {
+    let bytes = [0x01; 17];
+    for left in 0..=17usize {
+        let whole = left / 8 * 8;
+        for many in 0..=17usize {
+            let passed = many.min(whole);
+            passes(&rt, &bytes[..left], many as u64, passed as u64, passed);
+        }
+        passes(&rt, &bytes[..left], u64::MAX, whole as u64, whole);
+    }
+}
+
+// The last varint of a word goes on, and fewer than eight bytes are left after the word.
+#[test]
+fn a_varint_that_a_word_cuts_is_left(rt: HostRuntime) {
+    for cut in 1..=3usize {
+        let mut bytes = [0x01; 15];
+        for byte in bytes.iter_mut().skip(8 - cut).take(cut) {
+            *byte = 0x81;
+        }
+        let whole = 8 - cut;
+        passes(&rt, &bytes, whole as u64, whole as u64, whole);
+        passes(&rt, &bytes, whole as u64 + 1, whole as u64, whole);
+        passes(&rt, &bytes, u64::MAX, whole as u64, whole);
+    }
+}
+
+// Behind one byte a varint of so many bytes more than one, and behind it another.
+fn two_varints(first_more: usize, second_more: usize) -> [u8; 18] {
+    let mut bytes = [0x01; 18];
+    for byte in bytes.iter_mut().skip(1).take(first_more) {
+        *byte = 0x81;
+    }
+    let second = first_more.saturating_add(2);
+    for byte in bytes.iter_mut().skip(second).take(second_more) {
+        *byte = 0x81;
+    }
+    bytes
+}
+
+// Varints of one to seven bytes, with seven bytes left, eight and nine.
+#[test]
+fn pairs_are_passed_by_their_ends(rt: HostRuntime) {
+    for first_more in 0..7usize {
+        for second_more in 0..7usize {
+            let bytes = two_varints(first_more, second_more);
+            let many = first_more.saturating_add(second_more).saturating_add(2);
+            let passed = if many <= 8 { Some(many) } else { None };
+            passes_a_pair(&rt, &bytes[..8], None);
+            passes_a_pair(&rt, &bytes[..9], passed);
+            passes_a_pair(&rt, &bytes[..10], passed);
+        }
+    }
+}
+
+// The pair at place 1 takes so many bytes, or the cursor stays as it is.
+fn passes_a_pair(rt: &impl Abort, bytes: &[u8], passed: Option<usize>) {
+    let mut cursor = Cursor::new(bytes);
+    assert!(rt; cursor.byte().is_some());
+    equal(rt, cursor.pass_pair().is_some(), passed.is_some());
+    let place = passed.unwrap_or(0).saturating_add(1);
+    equal(rt, cursor.place(), place);
+    equal(rt, cursor.read_count(), place as u64);
+}
