@@ -19,6 +19,8 @@ mod lent;
 mod lines;
 mod random_bodies;
 mod random_frames;
+mod random_runs;
+mod runs;
 mod sized_points;
 mod skims;
 mod steps;
