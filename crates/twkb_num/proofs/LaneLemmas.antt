@@ -40,10 +40,10 @@ flag_short len (inl low) short = low
 flag_short len (inr far) short = absurd (omega (arith, far, short))
 
 -- rows
-row_spells : (n k : ℕ) (v lanes : List ℕ) (row tops len : ℕ) → IsPicked v row lanes tops → ((i : ℕ) → value_at n lanes i < 2 ^ 64) → row_ok n k row 0 tops 0 len ≡ true → SpellsAll (take len v) (values n k lanes 0)
-row_spells n k v lanes row tops len p small ok =
+row_spells : (n k : ℕ) (v lanes : List ℕ) (places tops len : ℕ) → IsPicked v places lanes tops → ((i : ℕ) → value_at n lanes i < 2 ^ 64) → row_ok n k places 0 tops 0 len ≡ true → SpellsAll (take len v) (values n k lanes 0)
+row_spells n k v lanes places tops len p small ok =
     let all : len - 0 ≡ len = omega arith in
-    let held = row_holds v row lanes tops p n small k 0 0 len ok in
+    let held = row_holds v places lanes tops p n small k 0 0 len ok in
     subst (λ m. SpellsAll (take m v) (values n k lanes 0)) all held.spelled
 
 pub wide_spells : (v lanes : List ℕ) (tops len : ℕ) → tops < 256 → len ≡ get_or WIDE_LEN tops 0 → IsPicked v (get_or WIDE_PLACES tops 0) lanes tops → len < 128 → SpellsAll (take len v) (values 4 2 lanes 0)
