@@ -107,26 +107,26 @@ pub each_of_four : (x1 y1 x2 y2 x3 y3 x4 y4 : Bool) → ((x1 && x3) && (y1 && y3
 each_of_four x1 y1 x2 y2 x3 y3 x4 y4 =
     same_truth (((x1 && x3) && (y1 && y3)) && ((x2 && x4) && (y2 && y4))) ((x1 && y1) && ((x2 && y2) && ((x3 && y3) && ((x4 && y4) && true))))
     (λ e.
-      let two = both_true ((x1 && x3) && (y1 && y3)) ((x2 && x4) && (y2 && y4)) e in
-      let odd = both_true (x1 && x3) (y1 && y3) two.0 in
-      let even = both_true (x2 && x4) (y2 && y4) two.1 in
-      let x = both_true x1 x3 odd.0 in
-      let y = both_true y1 y3 odd.1 in
-      let u = both_true x2 x4 even.0 in
-      let v = both_true y2 y4 even.1 in
-      and_true (x1 && y1) ((x2 && y2) && ((x3 && y3) && ((x4 && y4) && true))) (and_true x1 y1 x.0 y.0)
-      (and_true (x2 && y2) ((x3 && y3) && ((x4 && y4) && true)) (and_true x2 y2 u.0 v.0)
-      (and_true (x3 && y3) ((x4 && y4) && true) (and_true x3 y3 x.1 y.1) (and_true (x4 && y4) true (and_true x4 y4 u.1 v.1) refl))))
+    let two = both_true ((x1 && x3) && (y1 && y3)) ((x2 && x4) && (y2 && y4)) e in
+    let odd = both_true (x1 && x3) (y1 && y3) two.0 in
+    let even = both_true (x2 && x4) (y2 && y4) two.1 in
+    let x = both_true x1 x3 odd.0 in
+    let y = both_true y1 y3 odd.1 in
+    let u = both_true x2 x4 even.0 in
+    let v = both_true y2 y4 even.1 in
+    and_true (x1 && y1) ((x2 && y2) && ((x3 && y3) && ((x4 && y4) && true))) (and_true x1 y1 x.0 y.0)
+    (and_true (x2 && y2) ((x3 && y3) && ((x4 && y4) && true)) (and_true x2 y2 u.0 v.0)
+    (and_true (x3 && y3) ((x4 && y4) && true) (and_true x3 y3 x.1 y.1) (and_true (x4 && y4) true (and_true x4 y4 u.1 v.1) refl))))
     (λ e.
-      let one = both_true (x1 && y1) ((x2 && y2) && ((x3 && y3) && ((x4 && y4) && true))) e in
-      let two = both_true (x2 && y2) ((x3 && y3) && ((x4 && y4) && true)) one.1 in
-      let three = both_true (x3 && y3) ((x4 && y4) && true) two.1 in
-      let a = both_true x1 y1 one.0 in
-      let b = both_true x2 y2 two.0 in
-      let c = both_true x3 y3 three.0 in
-      let d = both_true x4 y4 (both_true (x4 && y4) true three.1).0 in
-      and_true ((x1 && x3) && (y1 && y3)) ((x2 && x4) && (y2 && y4)) (and_true (x1 && x3) (y1 && y3) (and_true x1 x3 a.0 c.0) (and_true y1 y3 a.1 c.1))
-      (and_true (x2 && x4) (y2 && y4) (and_true x2 x4 b.0 d.0) (and_true y2 y4 b.1 d.1)))
+    let one = both_true (x1 && y1) ((x2 && y2) && ((x3 && y3) && ((x4 && y4) && true))) e in
+    let two = both_true (x2 && y2) ((x3 && y3) && ((x4 && y4) && true)) one.1 in
+    let three = both_true (x3 && y3) ((x4 && y4) && true) two.1 in
+    let a = both_true x1 y1 one.0 in
+    let b = both_true x2 y2 two.0 in
+    let c = both_true x3 y3 three.0 in
+    let d = both_true x4 y4 (both_true (x4 && y4) true three.1).0 in
+    and_true ((x1 && x3) && (y1 && y3)) ((x2 && x4) && (y2 && y4)) (and_true (x1 && x3) (y1 && y3) (and_true x1 x3 a.0 c.0) (and_true y1 y3 a.1 c.1))
+    (and_true (x2 && x4) (y2 && y4) (and_true x2 x4 b.0 d.0) (and_true y2 y4 b.1 d.1)))
 
 pub four_set : (p q r s : Bool) → nat_eq (mask_l (p ∷ q ∷ r ∷ s ∷ []) % 18446744073709551616) 15 ≡ (p && q) && (r && s)
 four_set true true true true = refl

@@ -26,11 +26,28 @@ pub four_pairs_read : (a1 b1 a2 b2 a3 b3 a4 b4 : ℤ) (old new : Reading) → Sp
 four_pairs_read a1 b1 a2 b2 a3 b3 a4 b4 old new all moved brief =
     let one = pair_and_others old new a1 b1 (a2 ∷ b2 ∷ a3 ∷ b3 ∷ a4 ∷ b4 ∷ []) all moved in
     let two = pair_and_others one.0 new a2 b2 (a3 ∷ b3 ∷ a4 ∷ b4 ∷ []) one.3 one.4 in
-    let three = pair_and_others two.0 new a3 b3 (a4 ∷ b4 ∷ []) two.3 two.4 in
-    (one.0, one.1, one.2, brief_short a1 (brief 0 (pos 0) (omega arith)), brief_short b1 (brief 1 (pos 0) (omega arith)),
-    (two.0, two.1, two.2, brief_short a2 (brief 2 (pos 0) (omega arith)), brief_short b2 (brief 3 (pos 0) (omega arith)),
-    (three.0, three.1, three.2, brief_short a3 (brief 4 (pos 0) (omega arith)), brief_short b3 (brief 5 (pos 0) (omega arith)),
-    (new, last_pair three.0 new a4 b4 three.3, three.4, brief_short a4 (brief 6 (pos 0) (omega arith)), brief_short b4 (brief 7 (pos 0) (omega arith)), refl))))
+    let three = pair_and_others two.0 new a3 b3 (a4 ∷ b4 ∷ []) two.3 two.4 in (
+      one.0,
+      one.1,
+      one.2,
+      brief_short a1 (brief 0 (pos 0) (omega arith)),
+      brief_short b1 (brief 1 (pos 0) (omega arith)),
+      (
+        two.0,
+        two.1,
+        two.2,
+        brief_short a2 (brief 2 (pos 0) (omega arith)),
+        brief_short b2 (brief 3 (pos 0) (omega arith)),
+        (
+          three.0,
+          three.1,
+          three.2,
+          brief_short a3 (brief 4 (pos 0) (omega arith)),
+          brief_short b3 (brief 5 (pos 0) (omega arith)),
+          (new, last_pair three.0 new a4 b4 three.3, three.4, brief_short a4 (brief 6 (pos 0) (omega arith)), brief_short b4 (brief 7 (pos 0) (omega arith)), refl),
+        ),
+      ),
+    )
 
 -- a list of so many numbers
 pub four_of : (zs : List ℤ) → length zs ≡ 4 → (a b c d : ℤ) × (zs ≡ a ∷ b ∷ c ∷ d ∷ [])

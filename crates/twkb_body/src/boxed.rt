@@ -75,13 +75,7 @@ impl Boxed {
 
     /// A run of points of X and Y, in quads, where their distances from the minima of the box fit lanes of 32 bits.
     #[inline(always)]
-    fn take_quads(
-        &mut self,
-        cursor: &mut Cursor,
-        _head: &Head,
-        most: u64,
-        trail: &mut Trail,
-    ) -> u64
+    fn take_quads(&mut self, cursor: &mut Cursor, _head: &Head, most: u64, trail: &mut Trail) -> u64
         requires flat { axes_with _head.now.z _head.now.m ≡ 2 }
         requires counted { trail.old.points ≤ cursor.old.place }
         ensures few { result ≤ most }
@@ -127,13 +121,7 @@ impl Boxed {
     // All that changes from point to point is in locals. While points are in the box no sum leaves 64 bits, and the first
     // that isn't ends the run.
     #[inline(always)]
-    fn take_pairs(
-        &mut self,
-        cursor: &mut Cursor,
-        _head: &Head,
-        most: u64,
-        trail: &mut Trail,
-    ) -> u64
+    fn take_pairs(&mut self, cursor: &mut Cursor, _head: &Head, most: u64, trail: &mut Trail) -> u64
         requires flat { axes_with _head.now.z _head.now.m ≡ 2 }
         requires counted { trail.old.points ≤ cursor.old.place }
         ensures few { result ≤ most }
