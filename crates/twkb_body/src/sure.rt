@@ -1,36 +1,32 @@
 //! The first reading of a blob, which certifies it or ends in a doubt. It hands down the innermost box, and hands up the number of
 //! vertices.
-ghost use Rattle.std.specs.Prelude.{◌≡◌, ◌≤◌, ◌+◌, ◌-◌, ◌%◌, ℕ, [], ◌∷◌, true, false, Option, None, Some, option_map, is_some, IfSome, OnSome, IfOk, IfErr, Ok};
+ghost use Rattle.std.specs.Prelude.{◌≡◌, ◌≤◌, ◌+◌, ◌-◌, ℕ, [], ◌∷◌, true, false, Option, None, Some, option_map, IfSome, OnSome, IfOk, Ok};
 ghost use Rattle.twkb_num.specs.Cursor.{Reading, passed, IsMoved, IsSound};
-ghost use Rattle.twkb_num.specs.Units.{IsPrecision};
 ghost use Rattle.twkb_head.specs.BegunHeader.{deepest, is_collection, IsAllowedAt};
 ghost use Rattle.twkb_head.specs.Header.{has_bit};
-ghost use Rattle.twkb_head.specs.Raw.{flat_box, BeginsHead};
 ghost use Rattle.twkb_head.specs.declared.header.Head.{Head as HeadOf};
 ghost use Rattle.twkb_head.specs.declared.kinds.Kind.TheVariants.{Point, LineString};
-ghost use Rattle.twkb_head.specs.declared.raw.RawBox.{RawBox as BoxOf};
 ghost use Rattle.twkb_body.specs.declared.doubt.Doubt.TheVariants.{Refused};
 ghost use Rattle.twkb_body.specs.declared.frame.Frame.{Frame as FrameOf};
-ghost use Rattle.twkb_body.specs.Devices.Found.{size_judged};
-ghost use Rattle.twkb_body.specs.Devices.Sure.{counted_in, framed, has_further, IsFramed, IsNearFrame, IsFrameUnder, IsJudged, IsApart, Certifies, CertifiesBehind, CertifiesBody, CertifiesShape};
+ghost use Rattle.twkb_body.specs.Devices.Sure.{counted_in, framed, has_further, IsFramed, IsNearFrame, IsFrameUnder, IsJudged, Certifies, CertifiesBody, CertifiesShape};
 ghost use Rattle.twkb_body.specs.Devices.Walk.{HasPrecisions};
 
+mod apart;
 mod parts;
+mod plain;
 mod unboxed;
 
+use self::apart::{flat_ranges, take_apart, take_apart_flat};
 use self::parts::{take_boxed, take_count, take_parts_of};
-use self::unboxed::{take_bare_point, take_flat_line, take_unboxed};
+use self::plain::{take_plain_line, take_plain_point};
+use self::unboxed::take_unboxed;
 use crate::boxed::Boxed;
 use crate::doubt::Doubt;
 use crate::found::judge_size;
 use crate::frame::Frame;
-use crate::geometry::take_inside;
 use crate::lists::take_list;
 use crate::rooms::IdRoom;
-use crate::seen::Seen;
-use twkb_head::{
-    Axes, Begun, BoxField, Head, Kind, RawBox, RawRange, SizeField, begun_as, begun_by, take_rest,
-};
+use twkb_head::{Head, Kind, RawBox, begun_as, begun_by, take_rest};
 use twkb_num::Cursor;
 
 /// Reads the blob at the place, and returns how many vertices it has and where it ends. A doubt says that it isn't certified,
@@ -64,48 +60,6 @@ const SIZE_ALONE: u8 = 2;
 
 /// The lowest five bits of one that announces no field.
 const NO_FIELD: u8 = 0;
-
-/// A point of X and Y without a box, after its first two bytes.
-#[inline(always)]
-fn take_plain_point(cursor: &mut Cursor, begun: Begun) -> Result<(usize, usize), Doubt>
-    requires xy { IsPrecision begun.xy }
-    requires flat { has_bit begun.metadata 8 ≡ false }
-    requires full { has_bit begun.metadata 16 ≡ false }
-    requires no_box { has_bit begun.metadata 1 ≡ false }
-    requires point { begun.kind ≡ Point }
-    requires before { (before : Reading) × IsSound before × BeginsHead begun 1 before cursor.old }
-    ensures certified { (before : Reading) → IsSound before → BeginsHead begun 1 before cursor.old
-        → Certifies 1 None before (counted_in result) cursor.new }
-    ensures stop { IfOk result (λ both. both.1 ≡ cursor.new.place) }
-{
-    let Ok(raw) = take_rest(cursor, begun) else {
-        return Err(Doubt::Refused);
-    };
-    let vertices = take_bare_point(cursor)?;
-    let stop = judged_stop(raw.size, cursor.place())?;
-    cursor.go_on_from(stop);
-    Ok((vertices, stop))
-}
-
-/// A line of X and Y without a box, after its first two bytes.
-#[inline(always)]
-fn take_plain_line(cursor: &mut Cursor, begun: Begun) -> Result<usize, Doubt>
-    requires xy { IsPrecision begun.xy }
-    requires flat { has_bit begun.metadata 8 ≡ false }
-    requires full { has_bit begun.metadata 16 ≡ false }
-    requires no_box { has_bit begun.metadata 1 ≡ false }
-    requires line { begun.kind ≡ LineString }
-    requires before { (before : Reading) × IsSound before × BeginsHead begun 1 before cursor.old }
-    ensures { (before : Reading) → IsSound before → BeginsHead begun 1 before cursor.old
-        → Certifies 1 None before result cursor.new }
-{
-    let Ok(raw) = take_rest(cursor, begun) else {
-        return Err(Doubt::Refused);
-    };
-    let head = raw.boxless();
-    let vertices = take_flat_line(cursor)?;
-    judged(&head, cursor.place(), vertices)
-}
 
 /// Reads a geometry at `depth` after its first two bytes. The frame above has to hold its points.
 #[cycle(take_flat)]
@@ -255,128 +209,6 @@ fn judged(head: &Head, stop: usize, vertices: usize) -> Result<usize, Doubt>
         return Err(Doubt::Refused);
     }
     Ok(vertices)
-}
-
-/// Where a geometry ends, by its size if it has one and this is true.
-#[inline(always)]
-fn judged_stop(size: Option<SizeField>, stop: usize) -> Result<usize, Doubt>
-    requires { IfSome size (λ size. size.after ≤ stop) }
-    ensures ok { IfOk result (λ end. (end ≡ stop) × (size_judged size stop ≡ None)) }
-    ensures err { IfErr result (λ doubt. (doubt ≡ Refused) × ((f : ℕ × ℕ) × (size_judged size stop ≡ Some f))) }
-{
-    if judge_size(size, stop).is_some() {
-        return Err(Doubt::Refused);
-    }
-    match size {
-        Some(size) => Ok(size.after + size.value as usize),
-        None => Ok(stop),
-    }
-}
-
-/// The ranges in X and Y of a box, or zeros if there is none.
-#[inline(always)]
-fn flat_ranges(bounds: &Option<RawBox>) -> (RawRange, RawRange)
-    ensures { IfSome bounds.now (λ box. (result.0 ≡ box.x) × (result.1 ≡ box.y)) }
-{
-    match bounds {
-        Some(bounds) => (bounds.x, bounds.y),
-        None => {
-            let nothing = RawRange {
-                minimum: 0,
-                extent: 0,
-            };
-            (nothing, nothing)
-        }
-    }
-}
-
-/// Reads the body of a geometry of X and Y as [`take_apart`] does.
-#[inline(never)]
-fn take_apart_flat<R: IdRoom>(
-    room: &mut R,
-    cursor: &mut Cursor,
-    depth: u8,
-    above: &Option<Frame>,
-    kind: Kind,
-    xy: i8,
-    ids: bool,
-    has_box: bool,
-    x: RawRange,
-    y: RawRange,
-) -> Result<usize, Doubt>
-    requires shallowest { 1 ≤ depth }
-    requires allowed { IsAllowedAt kind depth }
-    requires xy { IsPrecision xy }
-    requires near { IfSome above.now IsNearFrame }
-    ensures { (head : HeadOf) (box : Option BoxOf) → is_some box ≡ has_box
-        → IfSome box (λ box. box ≡ flat_box x y)
-        → IsApart head kind xy None None ids box
-        → CertifiesBehind depth head above.now cursor.old result cursor.new }
-{
-    let bounds = if has_box {
-        Some(RawBox::flat(x, y))
-    } else {
-        None
-    };
-    take_apart(
-        room, cursor, depth, above, kind, xy, None, None, ids, &bounds,
-    )
-}
-
-/// Reads the body of a geometry whose frame can't be told, as the exact audit does, with its extent. The frame above has to hold
-/// this extent. The caller judges the size. Only the exact audit names places of claims, so the header has zeros for them.
-#[inline(never)]
-fn take_apart<R: IdRoom>(
-    room: &mut R,
-    cursor: &mut Cursor,
-    depth: u8,
-    above: &Option<Frame>,
-    kind: Kind,
-    xy: i8,
-    z: Option<u8>,
-    m: Option<u8>,
-    ids: bool,
-    bounds: &Option<RawBox>,
-) -> Result<usize, Doubt>
-    requires shallowest { 1 ≤ depth }
-    requires allowed { IsAllowedAt kind depth }
-    requires xy { IsPrecision xy }
-    requires z_high { IfSome z (λ p. p ≤ 7) }
-    requires m_high { IfSome m (λ p. p ≤ 7) }
-    requires near { IfSome above.now IsNearFrame }
-    ensures { (head : HeadOf) → IsApart head kind xy z m ids bounds.now
-        → CertifiesBehind depth head above.now cursor.old result cursor.new }
-{
-    let bounds = match bounds {
-        Some(bounds) => Some(BoxField {
-            bounds: bounds.in_units(Axes { xy, z, m }),
-            offset: 0,
-        }),
-        None => None,
-    };
-    let head = Head {
-        kind,
-        xy,
-        z,
-        m,
-        size: None,
-        bounds,
-        ids,
-        empty: false,
-        start: 0,
-        stop: 0,
-    };
-    let mut seen = Seen::unasked().for_members(above.is_some());
-    let inside = take_inside::<R, false>(room, cursor, depth, &head, &mut seen)?;
-    if inside.boxed.is_some() || inside.ids.is_some() || inside.found.refused.is_some() {
-        return Err(Doubt::Refused);
-    }
-    if let Some(frame) = above {
-        if !seen.extent.within(&frame.in_units()) {
-            return Err(Doubt::Refused);
-        }
-    }
-    Ok(inside.found.vertices)
 }
 
 /// The body of a geometry of X and Y alone.

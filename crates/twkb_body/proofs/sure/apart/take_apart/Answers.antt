@@ -10,8 +10,8 @@ use Rattle.twkb_body.specs.Devices.Inside.{of_head}
 use Rattle.twkb_body.specs.Devices.Sure.{IsHeldBy, body_vertices}
 use Rattle.twkb_body.proofs.Apart.{made_head, some_box, no_box, same_head, same_box, asked_for, frame_holds, frame_within, there_not, seen_is, apart_doubts, found_sure, found_refutes, outside_refutes}
 use Rattle.twkb_body.proofs.Refuting.{none_of}
-use Rattle.twkb_body.proofs.sure.take_apart.Goals.{in-Some, in-None, then-is_some-via-then-is_some, then-is_some-via-else-is_some+then-is_some-2, then-is_some-via-else-is_some+else-is_some-2+then-is_some-3}
-use Rattle.twkb_body.proofs.sure.take_apart.Goals as goal
+use Rattle.twkb_body.proofs.sure.apart.take_apart.Goals.{in-Some, in-None, then-is_some-via-then-is_some, then-is_some-via-else-is_some+then-is_some-2, then-is_some-via-else-is_some+else-is_some-2+then-is_some-3}
+use Rattle.twkb_body.proofs.sure.apart.take_apart.Goals as goal
 
 pub returns-in_err-inside : goal.returns-in_err-inside
 returns-in_err-inside g c = λ head apart.

@@ -9,7 +9,7 @@ use Rattle.twkb_body.specs.Devices.Sure.{IsJudged, Certifies}
 use Rattle.twkb_body.proofs.HeadFacts.{head_size}
 use Rattle.twkb_body.proofs.Refuting.{rest_refutes}
 use Rattle.twkb_body.proofs.FirstReading.{bare_certifies, bare_doubts}
-use Rattle.twkb_body.proofs.sure.take_plain_point.Goals as goal
+use Rattle.twkb_body.proofs.sure.plain.take_plain_point.Goals as goal
 
 pub returns-in_default-clause-certified : goal.returns-in_default-clause-certified
 returns-in_default-clause-certified c = λ before sound begins. (

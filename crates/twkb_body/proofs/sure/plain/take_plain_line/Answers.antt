@@ -6,7 +6,7 @@ use Rattle.twkb_head.specs.declared.kinds.Kind.TheVariants.{LineString}
 use Rattle.twkb_body.specs.Devices.Sure.{IsJudged}
 use Rattle.twkb_body.proofs.Refuting.{rest_refutes, flat_ends}
 use Rattle.twkb_body.proofs.FirstReading.{bare_certifies, bare_doubts}
-use Rattle.twkb_body.proofs.sure.take_plain_line.Goals as goal
+use Rattle.twkb_body.proofs.sure.plain.take_plain_line.Goals as goal
 
 pub returns-in_default : goal.returns-in_default
 returns-in_default c = λ before sound begins. (

@@ -1,0 +1,123 @@
+//! Geometries that break the chain of frames: the first reading reads each as the exact audit does, with its extent.
+ghost use Rattle.std.specs.Prelude.{◌≡◌, ◌≤◌, ◌-◌, false, Option, None, Some, is_some, IfSome, Ok};
+ghost use Rattle.twkb_num.specs.Units.{IsPrecision};
+ghost use Rattle.twkb_head.specs.BegunHeader.{IsAllowedAt};
+ghost use Rattle.twkb_head.specs.Raw.{flat_box};
+ghost use Rattle.twkb_head.specs.declared.header.Head.{Head as HeadOf};
+ghost use Rattle.twkb_head.specs.declared.raw.RawBox.{RawBox as BoxOf};
+ghost use Rattle.twkb_body.specs.declared.doubt.Doubt.TheVariants.{Refused};
+ghost use Rattle.twkb_body.specs.Devices.Sure.{IsNearFrame, IsApart, CertifiesBehind};
+
+use crate::doubt::Doubt;
+use crate::frame::Frame;
+use crate::geometry::take_inside;
+use crate::rooms::IdRoom;
+use crate::seen::Seen;
+use twkb_head::{Axes, BoxField, Head, Kind, RawBox, RawRange};
+use twkb_num::Cursor;
+
+/// The ranges in X and Y of a box, or zeros if there is none.
+#[inline(always)]
+pub fn flat_ranges(bounds: &Option<RawBox>) -> (RawRange, RawRange)
+    ensures { IfSome bounds.now (λ box. (result.0 ≡ box.x) × (result.1 ≡ box.y)) }
+{
+    match bounds {
+        Some(bounds) => (bounds.x, bounds.y),
+        None => {
+            let nothing = RawRange {
+                minimum: 0,
+                extent: 0,
+            };
+            (nothing, nothing)
+        }
+    }
+}
+
+/// Reads the body of a geometry of X and Y as [`take_apart`] does.
+#[inline(never)]
+pub fn take_apart_flat<R: IdRoom>(
+    room: &mut R,
+    cursor: &mut Cursor,
+    depth: u8,
+    above: &Option<Frame>,
+    kind: Kind,
+    xy: i8,
+    ids: bool,
+    has_box: bool,
+    x: RawRange,
+    y: RawRange,
+) -> Result<usize, Doubt>
+    requires shallowest { 1 ≤ depth }
+    requires allowed { IsAllowedAt kind depth }
+    requires xy { IsPrecision xy }
+    requires near { IfSome above.now IsNearFrame }
+    ensures { (head : HeadOf) (box : Option BoxOf) → is_some box ≡ has_box
+        → IfSome box (λ box. box ≡ flat_box x y)
+        → IsApart head kind xy None None ids box
+        → CertifiesBehind depth head above.now cursor.old result cursor.new }
+{
+    let bounds = if has_box {
+        Some(RawBox::flat(x, y))
+    } else {
+        None
+    };
+    take_apart(
+        room, cursor, depth, above, kind, xy, None, None, ids, &bounds,
+    )
+}
+
+/// Reads the body of a geometry whose frame can't be told, as the exact audit does, with its extent. The frame above has to hold
+/// this extent. The caller judges the size. Only the exact audit names places of claims, so the header has zeros for them.
+#[inline(never)]
+pub fn take_apart<R: IdRoom>(
+    room: &mut R,
+    cursor: &mut Cursor,
+    depth: u8,
+    above: &Option<Frame>,
+    kind: Kind,
+    xy: i8,
+    z: Option<u8>,
+    m: Option<u8>,
+    ids: bool,
+    bounds: &Option<RawBox>,
+) -> Result<usize, Doubt>
+    requires shallowest { 1 ≤ depth }
+    requires allowed { IsAllowedAt kind depth }
+    requires xy { IsPrecision xy }
+    requires z_high { IfSome z (λ p. p ≤ 7) }
+    requires m_high { IfSome m (λ p. p ≤ 7) }
+    requires near { IfSome above.now IsNearFrame }
+    ensures { (head : HeadOf) → IsApart head kind xy z m ids bounds.now
+        → CertifiesBehind depth head above.now cursor.old result cursor.new }
+{
+    let bounds = match bounds {
+        Some(bounds) => Some(BoxField {
+            bounds: bounds.in_units(Axes { xy, z, m }),
+            offset: 0,
+        }),
+        None => None,
+    };
+    let head = Head {
+        kind,
+        xy,
+        z,
+        m,
+        size: None,
+        bounds,
+        ids,
+        empty: false,
+        start: 0,
+        stop: 0,
+    };
+    let mut seen = Seen::unasked().for_members(above.is_some());
+    let inside = take_inside::<R, false>(room, cursor, depth, &head, &mut seen)?;
+    if inside.boxed.is_some() || inside.ids.is_some() || inside.found.refused.is_some() {
+        return Err(Doubt::Refused);
+    }
+    if let Some(frame) = above {
+        if !seen.extent.within(&frame.in_units()) {
+            return Err(Doubt::Refused);
+        }
+    }
+    Ok(inside.found.vertices)
+}

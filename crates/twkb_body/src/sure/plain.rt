@@ -1,0 +1,75 @@
+//! Points and lines of X and Y without a box, in the first reading, after their first two bytes.
+ghost use Rattle.std.specs.Prelude.{◌≡◌, ◌≤◌, ◌+◌, ◌%◌, ℕ, false, None, Some, IfSome, IfOk, IfErr};
+ghost use Rattle.twkb_num.specs.Cursor.{Reading, IsSound};
+ghost use Rattle.twkb_num.specs.Units.{IsPrecision};
+ghost use Rattle.twkb_head.specs.Header.{has_bit};
+ghost use Rattle.twkb_head.specs.Raw.{BeginsHead};
+ghost use Rattle.twkb_head.specs.declared.kinds.Kind.TheVariants.{Point, LineString};
+ghost use Rattle.twkb_body.specs.declared.doubt.Doubt.TheVariants.{Refused};
+ghost use Rattle.twkb_body.specs.Devices.Found.{size_judged};
+ghost use Rattle.twkb_body.specs.Devices.Sure.{counted_in, Certifies};
+
+use super::judged;
+use super::unboxed::{take_bare_point, take_flat_line};
+use crate::doubt::Doubt;
+use crate::found::judge_size;
+use twkb_head::{Begun, SizeField, take_rest};
+use twkb_num::Cursor;
+
+/// A point of X and Y without a box, after its first two bytes.
+#[inline(always)]
+pub fn take_plain_point(cursor: &mut Cursor, begun: Begun) -> Result<(usize, usize), Doubt>
+    requires xy { IsPrecision begun.xy }
+    requires flat { has_bit begun.metadata 8 ≡ false }
+    requires full { has_bit begun.metadata 16 ≡ false }
+    requires no_box { has_bit begun.metadata 1 ≡ false }
+    requires point { begun.kind ≡ Point }
+    requires before { (before : Reading) × IsSound before × BeginsHead begun 1 before cursor.old }
+    ensures certified { (before : Reading) → IsSound before → BeginsHead begun 1 before cursor.old
+        → Certifies 1 None before (counted_in result) cursor.new }
+    ensures stop { IfOk result (λ both. both.1 ≡ cursor.new.place) }
+{
+    let Ok(raw) = take_rest(cursor, begun) else {
+        return Err(Doubt::Refused);
+    };
+    let vertices = take_bare_point(cursor)?;
+    let stop = judged_stop(raw.size, cursor.place())?;
+    cursor.go_on_from(stop);
+    Ok((vertices, stop))
+}
+
+/// A line of X and Y without a box, after its first two bytes.
+#[inline(always)]
+pub fn take_plain_line(cursor: &mut Cursor, begun: Begun) -> Result<usize, Doubt>
+    requires xy { IsPrecision begun.xy }
+    requires flat { has_bit begun.metadata 8 ≡ false }
+    requires full { has_bit begun.metadata 16 ≡ false }
+    requires no_box { has_bit begun.metadata 1 ≡ false }
+    requires line { begun.kind ≡ LineString }
+    requires before { (before : Reading) × IsSound before × BeginsHead begun 1 before cursor.old }
+    ensures { (before : Reading) → IsSound before → BeginsHead begun 1 before cursor.old
+        → Certifies 1 None before result cursor.new }
+{
+    let Ok(raw) = take_rest(cursor, begun) else {
+        return Err(Doubt::Refused);
+    };
+    let head = raw.boxless();
+    let vertices = take_flat_line(cursor)?;
+    judged(&head, cursor.place(), vertices)
+}
+
+/// Where a geometry ends, by its size if it has one and this is true.
+#[inline(always)]
+fn judged_stop(size: Option<SizeField>, stop: usize) -> Result<usize, Doubt>
+    requires { IfSome size (λ size. size.after ≤ stop) }
+    ensures ok { IfOk result (λ end. (end ≡ stop) × (size_judged size stop ≡ None)) }
+    ensures err { IfErr result (λ doubt. (doubt ≡ Refused) × ((f : ℕ × ℕ) × (size_judged size stop ≡ Some f))) }
+{
+    if judge_size(size, stop).is_some() {
+        return Err(Doubt::Refused);
+    }
+    match size {
+        Some(size) => Ok(size.after + size.value as usize),
+        None => Ok(stop),
+    }
+}
