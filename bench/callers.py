@@ -86,7 +86,7 @@ def note_program(bests, tool, layer):
 
 
 def row(title, kind, unit, bests):
-    """A row of the table: times, and ratios over C. Answers what takes more times than it may."""
+    """A row of the table: times, and ratios to C. Returns the steps that take longer than they may."""
     over = bests[MORE.get(title, title), "C"].best
     times = [bests[title, language].best if (title, language) in bests else None for language in LANGUAGES]
     ratios = {language: time / over for language, time in zip(LANGUAGES, times) if time is not None}

@@ -35,7 +35,7 @@ for path in pathlib.Path(sys.argv[1]).iterdir():
 
 
 def write_layers(folder, copies, count):
-    """Layers of two kinds by turns, each a file of its own. Answers how many bytes they have."""
+    """Makes layers of two kinds by turns, each in a file of its own. Returns how many bytes they have."""
     kinds = [layers.example(name) * copies for name in ("coast_lines_sized", "coast_collections")]
     for number in range(count):
         with open(os.path.join(folder, f"{number}.twkb"), "wb") as file:
@@ -53,7 +53,7 @@ def engines(tool, folder, log):
     }
     scripts = os.path.join(EXAMPLES, "scripts")
     yield "none: the package in one process", lambda some: [PYTHON, "-c", ALONE, folder] if some == 1 else None, python
-    # xargs starts as many processes as nproc says, which goes by the processors that it may use.
+    # xargs starts as many processes as nproc prints, which is the number of processors that it may use.
     yield "xargs", lambda some: ["taskset", "-c", f"0-{some - 1}", os.path.join(scripts, "certify_all.sh"), folder, tool], path
     if shutil.which("parallel"):
         yield "GNU parallel", lambda some: [os.path.join(scripts, "certify_parallel.sh"), folder, log], path
@@ -61,13 +61,13 @@ def engines(tool, folder, log):
 
 
 def processors():
-    """The seconds of processors that all processes took that have ended."""
+    """The processor seconds of all processes that have ended."""
     used = resource.getrusage(resource.RUSAGE_CHILDREN)
     return used.ru_utime + used.ru_stime
 
 
 def timed(command, more, count):
-    """Seconds by the clock, and of the processors."""
+    """Seconds by the clock, and processor seconds."""
     start, used = time.perf_counter(), processors()
     done = subprocess.run(command, env=os.environ | more, capture_output=True, text=True)
     took = time.perf_counter() - start, processors() - used
@@ -95,7 +95,7 @@ def main():
             print("|---|---|---|---|---|---|---|")
             for name, command, more in engines(tool, folder, os.path.join(place, "log")):
                 for some in filter(command, PROCESSES):
-                    # GNU parallel takes words of its own from this variable.
+                    # GNU parallel takes more arguments from this variable.
                     own = {**more, "PARALLEL": f"--jobs {some}"}
                     row(name, some, [timed(command(some), own, count) for _ in range(RUNS)], count, total)
 

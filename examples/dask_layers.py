@@ -31,7 +31,7 @@ except ImportError:
     sys.exit(3)
 from dozhemik import BadWindow, Refused, Window, certify
 
-# How many bytes a batch has where --batch is left out. A task costs some 12 ms beside its work, and this much takes as long.
+# The default of --batch. A task costs some 12 ms on top of its work, and certifying this many bytes takes as long.
 BATCH = 4_000_000
 # As many bytes are certified in the time that it takes to open a file, so a batch of small layers has a hundred at most.
 OPENING = 40_000
@@ -40,7 +40,7 @@ READERS = 16
 
 
 def answers(paths, windows, tight):
-    """A task: of each layer its status, and its lines."""
+    """A task: returns the status and the lines of each layer."""
     with ThreadPoolExecutor(READERS) as readers:
         return [answer(data, windows, tight) for data in readers.map(content, paths)]
 
@@ -56,7 +56,7 @@ def content(path):
         with fsspec.open(path, "rb") as file:
             return file.read()
     except Exception as why:
-        # What fsspec reads by has errors of its own.
+        # The packages that fsspec uses have errors of their own.
         return why
 
 
@@ -100,7 +100,7 @@ def files_below(folder):
 
     for place, _, names in os.walk(folder, onerror=fail):
         for path in (os.path.join(place, name) for name in names):
-            # A link to nothing is a layer that can't be read. A pipe is none.
+            # A broken link is a layer that can't be read. A pipe is no layer.
             if os.path.isfile(path):
                 yield path, os.path.getsize(path)
             elif not os.path.exists(path):
@@ -116,16 +116,16 @@ def addresses_below(folder):
         system, place = fsspec.core.url_to_fs(folder)
         found = system.find(place, detail=True)
     except Exception as why:
-        # Each package that fsspec reads by has errors of its own.
+        # The packages that fsspec uses have errors of their own.
         raise OSError(f"{folder}: {type(why).__name__}: {why}")
     for path, told in found.items():
-        # What is neither a file nor a link, as a pipe of this machine, is no layer.
+        # What is neither a file nor a link, such as a pipe, is no layer.
         if told["type"] == "file" or told.get("islink"):
             yield system.unstrip_protocol(path), told["size"] or 0
 
 
 def batches_of(layers, most):
-    """The paths of layers, in runs of this many bytes or of one layer."""
+    """The paths of layers, in batches of at most this many bytes or of one layer."""
     batch, weight = [], 0
     for path, size in layers:
         if batch and weight + size + OPENING > most:
@@ -137,26 +137,26 @@ def batches_of(layers, most):
 
 
 class Run:
-    """The batches that are at work, and what became of those that are done."""
+    """The batches that are running, and the results of those that are done."""
 
     def __init__(self, client, windows, tight):
         self.client, self.windows, self.tight = client, windows, tight
         self.batches, self.statuses = {}, {0: 0, 1: 0, 3: 0}
 
     def start(self, paths):
-        # Impure, so that two runs share no answers: the files may have changed.
+        # Not pure, so that two runs share no results: the files may have changed.
         names = [path if "://" in path else os.path.abspath(path) for path in paths]
         future = self.client.submit(answers, names, self.windows, self.tight, pure=False)
         self.batches[future] = paths
         return future
 
     def end(self, future):
-        """Puts the lines of a batch that is done. Answers what is started again in its place."""
+        """Prints the lines of a batch that is done. Returns the batches that are started again instead."""
         paths = self.batches.pop(future)
         try:
             told = future.result()
         except Exception as why:
-            # A batch that has ended several workers in turn, for one.
+            # For example, a batch that has ended several workers in turn.
             if len(paths) > 1:
                 return [self.start([path]) for path in paths]
             told = [(3, [not_judged(why)])]
@@ -170,7 +170,7 @@ class Run:
 
 
 def run(client, layers, words):
-    """Puts the lines of each layer as its batch is done. Answers how many have each status."""
+    """Prints the lines of each layer as its batch is done. Returns how many layers have each status."""
     work, start = Run(client, words.windows, words.tight), time.monotonic()
     futures = as_completed([work.start(batch) for batch in batches_of(layers, words.batch)])
     for future in futures:
