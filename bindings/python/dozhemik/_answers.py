@@ -59,6 +59,11 @@ class Row(NamedTuple):
     has_size: bool
     has_box: bool
 
+    @property
+    def kind(self) -> str:
+        """The type, by its earlier name. Version 2.0 won't have this property."""
+        return self.type
+
     def __str__(self) -> str:
         size, box = ("yes" if has else "no" for has in (self.has_size, self.has_box))
         place = f"blob={self.blob} offset={self.offset} bytes={self.bytes}"

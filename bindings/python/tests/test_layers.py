@@ -69,6 +69,7 @@ class Answers(unittest.TestCase):
         self.assertEqual(rows[0], Row(0, 0, 39, 6, "linestring", 4, True, True))
         self.assertEqual((len(rows), sum(row.bytes for row in rows)), (1715, 84045))
         self.assertEqual(sum(row.vertices for row in rows), 14590)
+        self.assertEqual((rows[0].type, rows[0].kind), ("linestring", "linestring"))
         text = "blob=0 offset=0 bytes=39 type=linestring precision=4 vertices=6 size=yes box=yes"
         self.assertEqual(str(rows[0]), text)
         self.assertIs(type(rows[0].has_size), bool)
