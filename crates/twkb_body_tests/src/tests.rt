@@ -20,6 +20,7 @@ mod lines;
 mod random_bodies;
 mod random_frames;
 mod random_runs;
+mod ranges;
 mod runs;
 mod sized_points;
 mod skims;

@@ -96,6 +96,9 @@ fn random_runs_in_boxes(rt: HostRuntime) -> Result<(), Fail> {
         }
     }
     let refused = blobs.saturating_sub(certified);
-    assert!(&rt; 10000 < certified && 1000 < refused, "{certified} of {blobs}");
+    assert!(&rt;
+        10000 < certified && 1000 < refused,
+        "{certified} of {blobs}"
+    );
     Ok(())
 }

@@ -1,5 +1,4 @@
-//! Points of X and Y in a box, on each side of each condition under which they are read four or two at once, against the plain
-//! reader.
+//! Points of X and Y in a box, with differences of each length at each place, and with few bytes left, against the plain reader.
 use super::bytes::{put_bounds, put_bytes, put_padded, put_unsigned};
 use super::variants::{agrees, both_agree};
 use std::alloc::{AllocError, Global};
@@ -16,7 +15,7 @@ pub type Difference = (i64, u64);
 /// Kinds whose points come in lists: lines, polygons, multipoints, and multilines.
 pub const KINDS: [u8; 4] = [2, 3, 4, 5];
 
-/// So many points, by differences in X and Y in turn.
+/// A list of points, by differences in X and Y in turn.
 pub fn put_list(out: &mut Vec<u8>, differences: &[Difference]) -> Result<(), AllocError> {
     put_unsigned(out, (differences.len() / 2) as u64)?;
     for &(number, least) in differences {
@@ -25,7 +24,7 @@ pub fn put_list(out: &mut Vec<u8>, differences: &[Difference]) -> Result<(), All
     Ok(())
 }
 
-/// A geometry in a box. The points of a multiline are in two lines, of which the first has so many at most.
+/// A geometry in a box. The points of a multiline are in two lines, of which the first has at most `first` of them, modulo 64.
 pub fn in_box(
     alloc: Global,
     kind: u8,
@@ -52,8 +51,8 @@ pub fn in_box(
     Ok(out)
 }
 
-// Each kind, at the end of the bytes and with others behind it. `true` says that all are certified.
-fn kinds_agree(
+/// Each kind, at the end of the bytes and with others after it. `true` says that all are certified.
+pub fn kinds_agree(
     rt: &impl Abort,
     alloc: Global,
     bounds: &Bounds,
@@ -99,8 +98,8 @@ const ENDS: [Difference; 22] = [
     (-1, 10),
 ];
 
-// So many points, each as far from the one before it.
-fn alike(
+/// `count` points, each as far from the one before it.
+pub fn alike(
     alloc: Global,
     count: usize,
     [x, y]: [Difference; 2],
@@ -159,255 +158,6 @@ fn bytes_left_at_each_place(rt: HostRuntime) -> Result<(), Fail> {
                 lengths_agree(&rt, rt.alloc(), kind, 1, &differences)?;
             }
             lengths_agree(&rt, rt.alloc(), 5, 4, &differences)?;
-        }
-    }
-    Ok(())
-}
-
-// The differences of points, in one axis, where the other stays where it begins.
-fn in_axis(
-    alloc: Global,
-    axis: usize,
-    places: &[i64],
-    other: i64,
-) -> Result<Vec<Difference>, AllocError> {
-    let mut differences = Vec::new(alloc);
-    let mut last = 0i64;
-    let mut side = other;
-    for &place in places {
-        let along = (place.wrapping_sub(last), 1);
-        let across = (side, 1);
-        let both = if axis == 0 {
-            [along, across]
-        } else {
-            [across, along]
-        };
-        differences.extend_from_slice(&both)?;
-        last = place;
-        side = 0;
-    }
-    Ok(differences)
-}
-
-// Points in one axis, in a range, and in the other at the only number of its range.
-fn places_agree(
-    rt: &impl Abort,
-    alloc: Global,
-    axis: usize,
-    range: (i64, i64),
-    places: &[i64],
-) -> Result<bool, AllocError> {
-    let other = 100;
-    let bounds = if axis == 0 {
-        [range, (other, 0)]
-    } else {
-        [(other, 0), range]
-    };
-    let differences = in_axis(alloc, axis, places, other)?;
-    kinds_agree(rt, alloc, &bounds, &differences)
-}
-
-// Distances and extents fit a lane below this.
-const LANE: i64 = 1 << 30;
-
-const MINIMA: [i64; 17] = [
-    0,
-    1,
-    -1,
-    LANE - 1,
-    LANE,
-    LANE + 1,
-    1 - LANE,
-    -LANE,
-    -LANE - 1,
-    2 * LANE,
-    -2 * LANE,
-    4 * LANE,
-    -4 * LANE,
-    4 * LANE + 1,
-    -4 * LANE - 1,
-    8 * LANE,
-    -8 * LANE,
-];
-
-const EXTENTS: [i64; 15] = [
-    0,
-    1,
-    LANE - 2,
-    LANE - 1,
-    LANE,
-    LANE + 1,
-    2 * LANE - 1,
-    2 * LANE,
-    2 * LANE + 1,
-    4 * LANE - 1,
-    4 * LANE,
-    4 * LANE + 1,
-    -1,
-    -LANE,
-    -4 * LANE,
-];
-
-// Points about both ends of a range, each near one before it, and such as are far from it.
-fn range_agrees(
-    rt: &impl Abort,
-    alloc: Global,
-    axis: usize,
-    (minimum, extent): (i64, i64),
-) -> Result<(), AllocError> {
-    let maximum = minimum.wrapping_add(extent);
-    for from in [minimum, maximum] {
-        for to in [minimum, maximum, 0] {
-            for beside in [-1, 0, 1] {
-                let there = to.wrapping_add(beside);
-                let places = [from, from, from, there, there, from, from, there, from];
-                places_agree(rt, alloc, axis, (minimum, extent), &places)?;
-            }
-        }
-    }
-    Ok(())
-}
-
-#[test]
-fn ranges_about_what_fits_a_lane(rt: HostRuntime) -> Result<(), Fail> {
-    for axis in 0..2usize {
-        for minimum in MINIMA {
-            for extent in EXTENTS {
-                range_agrees(&rt, rt.alloc(), axis, (minimum, extent))?;
-            }
-        }
-    }
-    Ok(())
-}
-
-// The same number of points, all in the middle of a range but one.
-fn one_agrees(
-    rt: &impl Abort,
-    alloc: Global,
-    axis: usize,
-    (minimum, extent): (i64, i64),
-    (place, there): (usize, i64),
-) -> Result<bool, AllocError> {
-    let mut places = [minimum.wrapping_add(extent / 2); 11];
-    if place < 11 {
-        places[place] = there;
-    }
-    places_agree(rt, alloc, axis, (minimum, extent), &places)
-}
-
-// Points at each end of a range and outside of it by one, as the first, the second, and so on.
-fn ends_agree(
-    rt: &impl Abort,
-    alloc: Global,
-    axis: usize,
-    (minimum, extent): (i64, i64),
-) -> Result<(), AllocError> {
-    let maximum = minimum.wrapping_add(extent);
-    for place in 0..11usize {
-        for (end, out) in [(minimum, -1), (maximum, 1)] {
-            let at_end = one_agrees(rt, alloc, axis, (minimum, extent), (place, end))?;
-            let outside = end.wrapping_add(out);
-            let beyond = one_agrees(rt, alloc, axis, (minimum, extent), (place, outside))?;
-            assert!(rt;
-                at_end && !beyond,
-                "{axis} {minimum} {extent} {place} {end}"
-            );
-        }
-    }
-    Ok(())
-}
-
-// Half of each extent takes a number of one byte, of two, and so on to five.
-#[test]
-fn a_point_outside_by_one(rt: HostRuntime) -> Result<(), Fail> {
-    for axis in 0..2usize {
-        for minimum in [0, -3, 70, -9000, 2000000, -(1 << 29), LANE, 1 - LANE] {
-            for extent in [0, 8, 120, 16000, 2000000, 200000000, LANE - 1] {
-                ends_agree(&rt, rt.alloc(), axis, (minimum, extent))?;
-            }
-        }
-    }
-    Ok(())
-}
-
-// How far a point leaves a box: its distance wraps about 16 bits, 32 bits or 64, or is a negative number of a lane.
-const FAR: [i64; 18] = [
-    1 << 15,
-    -(1 << 15),
-    1 << 16,
-    -(1 << 16),
-    1 << 27,
-    -(1 << 27),
-    1 << 31,
-    -(1 << 31),
-    1 << 32,
-    -(1 << 32),
-    (1 << 32) - 1,
-    1 - (1 << 32),
-    (1 << 32) + 1,
-    -(1 << 32) - 1,
-    1 << 33,
-    1 << 48,
-    i64::MAX,
-    i64::MIN,
-];
-
-#[test]
-fn a_point_that_wraps(rt: HostRuntime) -> Result<(), Fail> {
-    for axis in 0..2usize {
-        for range in [
-            (-5, 10),
-            (-9000, 16000),
-            (-5, LANE - 1),
-            (1 - LANE, LANE - 1),
-        ] {
-            for place in 0..11usize {
-                for far in FAR {
-                    one_agrees(&rt, rt.alloc(), axis, range, (place, far))?;
-                }
-            }
-        }
-    }
-    Ok(())
-}
-
-// Points in steps of one size from zero on, in a box that holds them and no more, or one number less at one end.
-fn steps_agree(
-    rt: &impl Abort,
-    alloc: Global,
-    count: usize,
-    steps: [i64; 2],
-) -> Result<(), AllocError> {
-    let differences = alike(alloc, count, steps.map(|step| (step, 1)))?;
-    let exact = steps.map(|step| {
-        let last = step.wrapping_mul(count as i64);
-        (step.min(last), last.wrapping_sub(step).wrapping_abs())
-    });
-    let certified = kinds_agree(rt, alloc, &exact, &differences)?;
-    assert!(rt; certified, "{count} {steps:?}");
-    for axis in 0..2 {
-        for (low, less) in [(0, -1), (1, -1)] {
-            let mut narrow = exact;
-            let (minimum, extent) = exact[axis];
-            narrow[axis] = (minimum.wrapping_add(low), extent.wrapping_add(less));
-            let certified = kinds_agree(rt, alloc, &narrow, &differences)?;
-            assert!(rt; !certified, "{count} {steps:?} {axis} {low}");
-        }
-    }
-    Ok(())
-}
-
-// The greatest steps of each length, so that sums of four are as far from zero as they can be.
-#[test]
-fn steps_that_add_up(rt: HostRuntime) -> Result<(), Fail> {
-    const STEPS: [i64; 9] = [
-        1, 63, -64, 8191, -8192, 1048575, -1048576, 134217727, -134217728,
-    ];
-    for count in 1..13usize {
-        for x in STEPS {
-            for y in STEPS {
-                steps_agree(&rt, rt.alloc(), count, [x, y])?;
-            }
         }
     }
     Ok(())
