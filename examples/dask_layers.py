@@ -31,7 +31,7 @@ except ImportError:
     sys.exit(3)
 from dozhemik import BadWindow, Refused, Window, certify
 
-# The default of --batch. A task costs some 12 ms on top of its work, and certifying this many bytes takes as long.
+# The default of --batch. A task costs some 7 ms on top of its work, and certifying this many bytes takes about as long.
 BATCH = 4_000_000
 # As many bytes are certified in the time that it takes to open a file, so a batch of small layers has a hundred at most.
 OPENING = 40_000
