@@ -4,12 +4,11 @@ use Rattle.std.proofs.lemmas.List.{flat_map_more, take_all, take_at, take_more}
 use Rattle.std.specs.List.{list_any}
 use Rattle.twkb_head.specs.declared.boxes.Bounds.{Bounds}
 use Rattle.twkb_body.specs.Geometry.{Geometry, vertices}
-use Rattle.twkb_layer.specs.Hits.{hits, filled}
-use Rattle.twkb_layer.specs.Layer.{IsCertifiedLayer, AddsAtMost, size_of}
+use Rattle.twkb_layer.specs.Hits.{hit_of, hits, filled}
+use Rattle.twkb_layer.specs.Layer.{IsCertifiedLayer, AddsAtMost, size_of, told_from}
 use Rattle.twkb_layer.specs.Window.{is_inside}
 use Rattle.twkb_layer.specs.declared.hits.Hit.{Hit}
 use Rattle.twkb_layer.proofs.Layers.{layer_once}
-use Rattle.twkb_layer.proofs.Scanning.{hits_from}
 use Rattle.twkb_layer.specs.declared.row.Row.{Row}
 use Rattle.std.specs.Fmt.{signed_decimal}
 use Rattle.twkb_tool.specs.declared.run.TheConstants.{MAX_FILE}
@@ -18,6 +17,10 @@ use Rattle.twkb_tool.specs.Output.{name_of, yes_no, no_line, row_line, hit_line,
 one_or_none : (b : Bool) (hit : Hit) → length (cond b (hit ∷ []) []) ≤ 1
 one_or_none true hit = omega arith
 one_or_none false hit = omega arith
+
+-- the hits of the blobs that are left
+abbrev hits_from : ℕ → ℕ → List Geometry → Bounds → List Hit
+hits_from blob offset trees w = flat_map (λ hit. hit) (told_from (hit_of w) blob offset trees)
 
 -- no more hits than blobs
 few_hits : (blob offset : ℕ) (trees : List Geometry) (w : Bounds) → length (hits_from blob offset trees w) ≤ length trees

@@ -17,17 +17,17 @@ fn off_by_one(dice: &mut Dice) -> i64 {
     }
 }
 
-// Differences of so many points in X and Y, mostly of few bytes each, and the box that holds the points.
+// The differences of `count` points in X and Y, mostly of few bytes each, and the box that holds the points.
 fn differences(
     alloc: Global,
     dice: &mut Dice,
     count: u64,
 ) -> Result<(Vec<Difference>, Bounds), AllocError> {
-    let lengths = 1 + dice.below(5);
+    let lengths = dice.below(5).wrapping_add(1);
     let mut all = Vec::new(alloc);
     let mut last = [0i64; 2];
     let mut ends = [(i64::MAX, i64::MIN); 2];
-    for k in 0..2 * count {
+    for k in 0..count.saturating_mul(2) {
         let axis = (k % 2) as usize;
         let number = number_of(dice, lengths);
         let least = if dice.once_in(40) { dice.below(6) } else { 1 };
@@ -57,7 +57,7 @@ fn geometry(alloc: Global, dice: &mut Dice) -> Result<Vec<u8>, AllocError> {
 fn layer(alloc: Global, dice: &mut Dice) -> Result<(Vec<u8>, Vec<usize>), AllocError> {
     let mut bytes = Vec::new(alloc);
     let mut starts = Vec::new(alloc);
-    for _ in 0..1 + dice.below(4) {
+    for _ in 0..=dice.below(4) {
         starts.push(bytes.len())?;
         let next = geometry(alloc, dice)?;
         bytes.extend_from_slice(&next)?;

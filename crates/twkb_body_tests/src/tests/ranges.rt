@@ -220,8 +220,9 @@ fn steps_agree(
     steps: [i64; 2],
 ) -> Result<(), AllocError> {
     let differences = alike(alloc, count, steps.map(|step| (step, 1)))?;
+    let times = i64::try_from(count).unwrap_or(0);
     let exact = steps.map(|step| {
-        let last = step.wrapping_mul(count as i64);
+        let last = step.wrapping_mul(times);
         (step.min(last), last.wrapping_sub(step).wrapping_abs())
     });
     let certified = kinds_agree(rt, alloc, &exact, &differences)?;
