@@ -48,7 +48,7 @@ fn geometry(alloc: Global, dice: &mut Dice) -> Result<Vec<u8>, AllocError> {
         let (less, more) = (off_by_one(dice), off_by_one(dice));
         (minimum.wrapping_sub(less), extent.wrapping_add(more))
     });
-    let kind = KINDS[dice.below(4) as usize];
+    let kind = KINDS[(dice.below(4) % 4) as usize];
     let first = dice.below(14) as usize;
     in_box(alloc, kind, &bounds, first, &all)
 }
@@ -90,7 +90,7 @@ fn random_runs_in_boxes(rt: HostRuntime) -> Result<(), Fail> {
         for _ in 0..4 {
             let place = dice.below(bytes.len() as u64) as usize;
             if let Some(byte) = bytes.get_mut(place) {
-                *byte = dice.below(256) as u8;
+                *byte = (dice.below(256) % 256) as u8;
             }
             layer_agrees(&rt, rt.alloc(), &bytes, &starts);
         }
