@@ -83,7 +83,8 @@ def of_the_page(version, folder):
     maker = os.path.join(TOP, "bindings", "web", "make_page.py")
     done = subprocess.run([sys.executable, maker, written(folder, "none.wasm", b""), page], capture_output=True, text=True)
     count("making a page", (done.returncode, done.stderr), (0, ""))
-    with open(page, encoding="utf-8") as file:
+    # make_page.py says why the page isn't in UTF-8. Python knows no letter for some bytes of its compressed parts.
+    with open(page, encoding="cp1252", errors="replace") as file:
         footer = re.search(r"<footer>.*</footer>", file.read(), re.DOTALL)
     count("the page's footer", re.findall(r"Dozhemik (\d\S*), commit ", footer[0]), [version])
 
