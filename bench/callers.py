@@ -3,11 +3,11 @@
 
 usage: bench/callers.py TOOL [RUNS]   (bindings/build.sh has built the library; wants gcc, cargo and python3)
 
-On 40 MB of lines and of the mix: certifying, listing, a directory, and a thousand windows, with a directory and without.
-Then calls on a layer of seven bytes. Python lists into a table, and once more into an object for each row. It scans for the
-thousand windows by scan_many, once more by scan for each window, and by four threads. The program reads and certifies its
-file in each run, and takes 64 windows at most. So a thousand windows are sixteen runs of it, each of which makes a directory
-and puts its hits as text. All take turns, of each the best time of RUNS is kept, and the ratios are over C. Where two answers
+On 40 MB of lines and of the mix: certifying, listing, a directory, and a thousand windows, with a directory and without. With a
+directory the windows are scanned for in one call, and once more in a call for each. Then calls on a layer of seven bytes. Python
+lists into a table, and once more into an object for each row, and scans for the windows by four threads too. The program reads
+and certifies its file in each run, and takes 64 windows at most. So a thousand windows are sixteen runs of it, each of which makes
+a directory and puts its hits as text. All take turns, of each the best time of RUNS is kept, and the ratios are over C. Where two answers
 differ, the run fails. It fails, too, where a thousand windows by a directory take Rust or Python more than 1.1 times C, or a
 table takes more than 1.5 times: the machine has to be quiet for that.
 """
@@ -25,9 +25,11 @@ BINDINGS = os.path.join(layers.TOP, "bindings")
 LIBRARY = os.path.join(layers.TOP, "build", "bindings")
 WINDOWS, AT_ONCE = 1000, 64
 SCANS = [f"scan, {WINDOWS} windows", f"directory scan, {WINDOWS} windows"]
-STEPS = ["certify", "list", SCANS[0], "directory", SCANS[1]]
+# The same windows with a directory, in a call for each.
+ALONE = f"directory scan one by one, {WINDOWS} windows"
+STEPS = ["certify", "list", SCANS[0], "directory", SCANS[1], ALONE]
 # What Python has beside, and what it is compared with in C.
-MORE = {"list, an object a row": "list", f"directory scan one by one, {WINDOWS} windows": SCANS[1]}
+MORE = {"list, an object a row": "list"}
 # Four threads scan about four times as much as one if four processors are idle, and about as much as four processes anyway.
 THREADS = "directory scan by 4 threads, to one", "directory scan by 4 threads, to 4 processes"
 # How many times C a step may take in a language.
@@ -64,7 +66,7 @@ def note(bests, language, command):
         title, time, answer = re.fullmatch(r"(.*): (\S+) (?:[mn]s|times),?(.*)", line).groups()
         title = title.replace(" into a room", "")
         # What a step finds is compared where each language says it.
-        bests.setdefault((title, language), Times()).note(float(time), answer if title in ("certify", *SCANS) or MORE.get(title) in SCANS else "")
+        bests.setdefault((title, language), Times()).note(float(time), answer if title in ("certify", *SCANS, ALONE) else "")
 
 
 def note_program(bests, tool, layer):
@@ -112,8 +114,8 @@ def main():
                 for language, command in commands.items():
                     note(bests, language, [*command, layer])
                 note_program(bests, tool, layer)
-            for step in STEPS:
-                the_same(*(times for (title, _), times in bests.items() if MORE.get(title, title) == step))
+            for steps in (["certify"], [SCANS[0]], [SCANS[1], ALONE]):
+                the_same(*(times for (title, _), times in bests.items() if title in steps))
             for step in (*STEPS, *MORE):
                 slow += row(step, kind, "ms", bests)
             for title in THREADS:

@@ -92,15 +92,18 @@ def test_c(program, folder):
     drive("C, by the second compiler", [build("cases", "-O2", archive=SECOND)], program, folder)
     succeeds("C, memory refused", [build("refuse", "-O2", "-Wl,--wrap=malloc,--wrap=realloc,--wrap=free")])
     test_shared(source, folder)
-    edges = build("edges", "-O2", "-g", "-pthread")
-    sanitized = build("edges", *SANITIZED, "-pthread")
+    programs = {name: build(name, "-O2", "-g", "-pthread") for name in ("edges", "many")}
+    sanitized = {name: build(name, *SANITIZED, "-pthread") for name in programs}
     for layer in EXAMPLES:
         path = os.path.join(TOP, "examples", layer)
-        succeeds(f"C, edges, {layer}", [edges, path])
-        succeeds(f"C, edges with sanitizers, {layer}", [sanitized, path])
+        for name in programs:
+            succeeds(f"C, {name}, {layer}", [programs[name], path])
+            succeeds(f"C, {name} with sanitizers, {layer}", [sanitized[name], path])
     if has("valgrind"):
         path = os.path.join(TOP, "examples", "coast_z.twkb")
-        succeeds("C, edges under valgrind", ["valgrind", "-q", "--error-exitcode=9", "--leak-check=full", edges, path])
+        for name, built in programs.items():
+            words = ["valgrind", "-q", "--error-exitcode=9", "--leak-check=full", built, path]
+            succeeds(f"C, {name} under valgrind", words)
 
 
 def test_shared(source, folder):

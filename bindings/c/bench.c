@@ -1,5 +1,5 @@
-/* Times certifying and listing a layer, scanning it for a thousand windows, with a directory and without, and calls on a
- * layer of seven bytes.
+/* Times certifying and listing a layer, scanning it for a thousand windows, with a directory (in one call, and in a call for
+ * each) and without, and calls on a layer of seven bytes.
  *
  * usage: bench FILE
  *
@@ -47,6 +47,11 @@ static void time_list(const struct twkb_layer *layer) {
     free(rows);
 }
 
+static void print_scans(const char *title, double start, size_t hits, uint64_t bytes_read) {
+    printf("%s, %d windows into a room: %.1f ms, ", title, WINDOWS, milliseconds_since(start));
+    printf("%zu hits, %" PRIu64 " bytes read\n", hits, bytes_read);
+}
+
 /* A thousand scans, with the slots of a directory where there are some. */
 static void time_scans(const char *title, const struct twkb_layer *layer, const struct twkb_slot *slots, size_t count) {
     struct twkb_window windows[WINDOWS];
@@ -62,10 +67,29 @@ static void time_scans(const char *title, const struct twkb_layer *layer, const 
         hits += scanned.hits;
         bytes_read += scanned.bytes_read;
     }
-    double took = milliseconds_since(start);
-    printf("%s, %d windows into a room: %.1f ms, ", title, WINDOWS, took);
-    printf("%zu hits, %" PRIu64 " bytes read\n", hits, bytes_read);
+    print_scans(title, start, hits, bytes_read);
     free(room);
+}
+
+/* All windows at once, and again from the first whose hits don't fit. */
+static void time_many(const struct twkb_layer *layer, const struct twkb_slot *slots, size_t count) {
+    struct twkb_window windows[WINDOWS];
+    struct twkb_scanned scanned[WINDOWS];
+    for (int i = 0; i < WINDOWS; i++) windows[i] = tile(i);
+    double start = nanoseconds();
+    size_t room = 2 * layer->blobs, hits = 0, done = 0;
+    struct twkb_hit *places = room_for(room, sizeof *places);
+    uint64_t bytes_read = 0;
+    while (done < WINDOWS) {
+        done += twkb_directory_scan_many(layer, slots, count, windows + done, WINDOWS - done, scanned + done, WINDOWS - done,
+                                         places, room);
+    }
+    for (int i = 0; i < WINDOWS; i++) {
+        hits += scanned[i].hits;
+        bytes_read += scanned[i].bytes_read;
+    }
+    print_scans("directory scan", start, hits, bytes_read);
+    free(places);
 }
 
 static void time_directory(const struct twkb_layer *layer) {
@@ -74,7 +98,8 @@ static void time_directory(const struct twkb_layer *layer) {
     struct twkb_slot *slots = room_for(most, sizeof *slots);
     size_t count = twkb_directory_build(layer, slots, most);
     printf("directory: %.1f ms, %zu slots\n", milliseconds_since(start), count);
-    time_scans("directory scan", layer, slots, count);
+    time_many(layer, slots, count);
+    time_scans("directory scan one by one", layer, slots, count);
     free(slots);
 }
 

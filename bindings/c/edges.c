@@ -10,23 +10,11 @@
 #include "check.h"
 #include "files.h"
 #include "guard.h"
-#include "twkb.h"
+#include "made.h"
 #include <pthread.h>
 #include <string.h>
 
 enum { THREADS = 16, ROUNDS = 20, LONGEST = 2000, CHANGED = 48 };
-
-static struct twkb_layer certified(const uint8_t *bytes, size_t len) {
-    struct twkb_verdict verdict = twkb_certify(bytes, len);
-    CHECK(verdict.answer == TWKB_CERTIFIED);
-    return (struct twkb_layer){bytes, len, verdict.blobs, verdict.vertices};
-}
-
-static struct twkb_window window_of(const char *text) {
-    struct twkb_window window;
-    CHECK(twkb_window_parse(text, strlen(text), &window) == TWKB_WINDOW);
-    return window;
-}
 
 static struct twkb_window whole_world(void) {
     return window_of("x=-1000..1000,y=-1000..1000");
@@ -195,14 +183,6 @@ static void upside_down(const struct twkb_layer *layer) {
 }
 
 /* ---- rooms */
-
-/* Whether nobody has written the places of a room from here on. */
-static bool still(const void *places, size_t size) {
-    const uint8_t *bytes = places;
-    size_t same = 0;
-    while (same < size && bytes[same] == 0x5a) same++;
-    return same == size;
-}
 
 /* A room is filled as far as it goes, and stays as it was behind what there is. */
 static void list_rooms(const struct twkb_layer *layer, const struct twkb_row *all, size_t room) {

@@ -6,9 +6,10 @@
  *
  * The caller has to guarantee at each call (nothing checks it):
  * - a pointer to bytes, text, rows, hits or slots is valid for as many elements as the number after it says, and isn't NULL,
- *   even if that number is 0; a pointer to a layer, a window or a span is valid for one; all are aligned as C requires;
+ *   even if that number is 0, and so is a pointer to many windows or results; any other pointer to a layer, a window or a span
+ *   is valid for one; all are aligned as C requires;
  * - these elements take at most 2^63 - 1 bytes;
- * - nobody writes to the bytes, the layer, the slots or the window while the call runs, and memory that the call writes to
+ * - nobody writes to the bytes, the layer, the slots or the windows while the call runs, and memory that the call writes to
  *   overlaps nothing else. It needn't be initialized;
  * - every field of a window is set, and its flags are 0 or 1;
  * - a layer is made from a verdict TWKB_CERTIFIED and the bytes that were certified, and nobody has written to them since.
@@ -186,6 +187,26 @@ size_t twkb_directory_build(const struct twkb_layer *layer, struct twkb_slot *sl
  * twkb_directory_build wrote for this layer, and `count` is what it returned. */
 struct twkb_scanned twkb_directory_scan(const struct twkb_layer *layer, const struct twkb_slot *slots, size_t count,
                                         const struct twkb_window *window, struct twkb_hit *hits, size_t room);
+
+/* Scans for `many` windows in one call, each as twkb_directory_scan does. The hits of each window are written to `hits` behind
+ * those of the windows before, as many as fit; `room` is how many fit. scanned[i] is set to what a scan for windows[i] returns;
+ * `results` is how many of these fit, `many` to get them all.
+ *
+ * Returns how many windows are answered. It is `many`, unless the hits of a window don't all fit. Then the call stops there: the
+ * result is the number of this window, from 0. scanned[result] says how many hits it has, and those that fit are written.
+ * Call again for the windows from this one on, with at least so much room. As much room as the layer has blobs suffices for
+ * any window. Nothing else is written to `hits` and `scanned`.
+ *
+ *     size_t done = 0;
+ *     while (done < many) {
+ *         size_t answered = twkb_directory_scan_many(&layer, slots, count, windows + done, many - done, scanned, many - done,
+ *                                                    hits, layer.blobs);
+ *         for (size_t i = 0, start = 0; i < answered; start += scanned[i++].hits) use(&windows[done + i], hits + start, scanned[i].hits);
+ *         done += answered;
+ *     } */
+size_t twkb_directory_scan_many(const struct twkb_layer *layer, const struct twkb_slot *slots, size_t count,
+                                const struct twkb_window *windows, size_t many, struct twkb_scanned *scanned, size_t results,
+                                struct twkb_hit *hits, size_t room);
 
 #ifdef __cplusplus
 }

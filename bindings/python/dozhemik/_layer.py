@@ -1,6 +1,7 @@
 """Certified layers, and directories of them."""
 import ctypes
-from typing import Iterable, Iterator, List, NoReturn, Optional, Tuple, Union, overload
+import mmap
+from typing import Iterable, List, NoReturn, Optional, Tuple, Union, overload
 
 from . import _library
 from ._answers import KINDS, TYPES, Hit, Refused, Row, Scan
@@ -10,6 +11,8 @@ from ._window import Box, Range, Window
 
 # A scan with more hits than this is run a second time, with as much room as it wants.
 _FIRST_ROOM = 4096
+# A call for many windows has room for as many hits as they can have, or for so many if these are fewer.
+_ROOM = 1 << 22
 
 
 class Layer:
@@ -171,26 +174,39 @@ class Directory:
         return _scan(self._layer._open, _window(window, x, y, z, m, bbox), self)
 
     def scan_many(self, windows: Iterable[Union[Window, str]]) -> List[Scan]:
-        """A scan for each window. The scans share memory, which is freed with the last of them."""
+        """A scan for each window, by one call of the library, or a few if there are more than four million hits.
+
+        While it runs, other threads can run Python. The scans share memory, which is freed with the last of them.
+        """
         layer = self._layer._open
         if isinstance(windows, (str, Window)):
             raise TypeError("several windows are wanted, as a list of them")
         wanted = [_one_window(window)._struct for window in windows]
         scans: List[Scan] = []
+        hits = 0
         while len(scans) < len(wanted):
-            scans += self._scan_some(layer, wanted[len(scans) :])
+            hits = self._scan_more(layer, wanted[len(scans) :], scans, hits)
         return scans
 
-    def _scan_some(self, layer: _library.Layer, windows: List[_library.Window]) -> Iterator[Scan]:
-        """Scans for the first of the windows, of one at least: no window has more hits than there are blobs."""
-        room = (_library.Hit * max(layer.blobs, _FIRST_ROOM))()
+    def _scan_more(
+        self, layer: _library.Layer, windows: List[_library.Window], scans: List[Scan], hits: int
+    ) -> int:
+        """Adds a scan for each window until there is no room for the hits of one. Returns how many that one has.
+
+        `hits` is how many the first window has, where a call before this one said so.
+        """
+        many = len(windows)
+        said = (_library.Scanned * many)()
+        room = _room_for(max(hits, min(many * layer.blobs, _ROOM)))
+        slots, wanted = (self._slots, self._count), (_library.Window * many)(*windows)
+        answered = library.twkb_directory_scan_many(
+            ctypes.byref(layer), *slots, wanted, many, said, many, room, len(room)
+        )
         table, end = memoryview(room).cast("B").toreadonly(), 0
-        for window in windows:
-            scanned = _scan_into(layer, window, self, room, end)
-            start, end = end, end + scanned.hits
-            if end > len(room):
-                break
-            yield Scan(table[start * _library.HIT.size : end * _library.HIT.size], scanned.bytes_read)
+        for scanned in said[:answered]:
+            start, end = end, end + scanned.hits * _library.HIT.size
+            scans.append(Scan(table[start:end], scanned.bytes_read))
+        return int(said[answered].hits) if answered < many else 0
 
     def __repr__(self) -> str:
         return f"<Directory of {self._layer!r}>"
@@ -258,14 +274,21 @@ def _scan_into(
     window: _library.Window,
     directory: Optional[Directory],
     room: "ctypes.Array[_library.Hit]",
-    start: int = 0,
 ) -> _library.Scanned:
-    """Scans, and writes the hits to the room from place `start` on."""
     held, wanted = ctypes.byref(layer), ctypes.byref(window)
-    places = ctypes.addressof(room) + start * _library.HIT.size, len(room) - start
     scanned: _library.Scanned
     if directory is None:
-        scanned = library.twkb_scan(held, wanted, *places)
+        scanned = library.twkb_scan(held, wanted, room, len(room))
     else:
-        scanned = library.twkb_directory_scan(held, directory._slots, directory._count, wanted, *places)
+        scanned = library.twkb_directory_scan(held, directory._slots, directory._count, wanted, room, len(room))
     return scanned
+
+
+def _room_for(hits: int) -> "ctypes.Array[_library.Hit]":
+    """Room for so many hits. It takes memory only where hits are written."""
+    count = max(hits, 1)
+    try:
+        pages = mmap.mmap(-1, count * _library.HIT.size, flags=mmap.MAP_PRIVATE | mmap.MAP_ANONYMOUS)
+    except OSError as why:
+        raise MemoryError(f"there is no memory for {count} hits") from why
+    return (_library.Hit * count).from_buffer(pages)

@@ -78,7 +78,8 @@ _SIZES = (
     (Slot, 40),
 )
 
-_BYTES, _TEXT = (c_void_p, c_size_t), (c_char_p, c_size_t)
+_BYTES, _TEXT, _HITS = (c_void_p, c_size_t), (c_char_p, c_size_t), (POINTER(Hit), c_size_t)
+_DIRECTORY = (POINTER(Layer), POINTER(Slot), c_size_t)
 # What each call takes, and what it answers.
 _CALLS = (
     ("twkb_certify", _BYTES, Verdict),
@@ -86,13 +87,13 @@ _CALLS = (
     ("twkb_list", (POINTER(Layer), POINTER(Row), c_size_t), c_size_t),
     ("twkb_window_parse", (*_TEXT, POINTER(Window)), c_uint32),
     ("twkb_span_of_decimals", (*_TEXT, *_TEXT, POINTER(Span)), c_uint32),
-    # The address of hits is a number: a room is filled from any place on.
-    ("twkb_scan", (POINTER(Layer), POINTER(Window), c_void_p, c_size_t), Scanned),
+    ("twkb_scan", (POINTER(Layer), POINTER(Window), *_HITS), Scanned),
     ("twkb_directory_build", (POINTER(Layer), POINTER(Slot), c_size_t), c_size_t),
+    ("twkb_directory_scan", (*_DIRECTORY, POINTER(Window), *_HITS), Scanned),
     (
-        "twkb_directory_scan",
-        (POINTER(Layer), POINTER(Slot), c_size_t, POINTER(Window), c_void_p, c_size_t),
-        Scanned,
+        "twkb_directory_scan_many",
+        (*_DIRECTORY, POINTER(Window), c_size_t, POINTER(Scanned), c_size_t, *_HITS),
+        c_size_t,
     ),
 )
 

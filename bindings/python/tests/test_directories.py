@@ -4,8 +4,9 @@ import pickle
 import unittest
 from concurrent.futures import ThreadPoolExecutor
 from typing import List, Union
+from unittest import mock
 
-from dozhemik import BadWindow, Directory, Window, certify
+from dozhemik import BadWindow, Directory, Window, _layer, _library, certify
 
 EXAMPLES = os.path.join(os.path.dirname(os.path.abspath(__file__)), "..", "..", "..", "examples")
 WINDOWS = ("x=10..30,y=35..45", "x=100..140,y=-10..10", "x=-1000..1000,y=-1000..1000", "x=0..20,y=0..60,z=0..9")
@@ -45,16 +46,35 @@ class Directories(unittest.TestCase):
             self.assertEqual(directory.scan_many([]), [])
 
     def test_more_hits_than_a_room_has(self) -> None:
-        # The room of a call has a place for each blob, or 4096. Each of these windows has a hit for each blob or each second.
-        for count in (3, 4095, 4096, 4097, 9000):
+        # Each of these windows has a hit for each blob, for each second one, or none. A call has room for a few hits, or for all.
+        all_, half, none = "x=0..9,y=0..9", "x=2..9,y=0..9", "x=7..9,y=0..9"
+        texts = [all_, half, none, half, half, all_, all_, none, none]
+        for count in (1, 2, 3, 1000):
             layer = certify((b"\1\0\2\4" + b"\1\0\4\4") * (count // 2) + b"\1\0\2\4" * (count % 2))
-            all_, half, none = "x=0..9,y=0..9", "x=2..9,y=0..9", "x=7..9,y=0..9"
-            texts = [all_, half, none, half, half, all_, all_, none, none]
-            scans = layer.scan_many(texts)
-            for text, scan in zip(texts, scans):
-                wanted = {all_: range(count), half: range(1, count, 2), none: range(0)}[text]
-                self.assertEqual([hit.blob for hit in scan], list(wanted))
-                self.assertEqual([hit.offset for hit in scan], [4 * blob for blob in wanted])
+            wanted = {all_: range(count), half: range(1, count, 2), none: range(0)}
+            for room in (0, 1, 2, count // 2, count - 1, count, count + 1, 3 * count, 1 << 22):
+                with mock.patch.object(_layer, "_ROOM", room):
+                    scans = layer.scan_many(texts)
+                self.assertEqual(len(scans), len(texts))
+                for text, scan in zip(texts, scans):
+                    self.assertEqual([hit.blob for hit in scan], list(wanted[text]))
+                    self.assertEqual([hit.offset for hit in scan], [4 * blob for blob in wanted[text]])
+                    self.assertEqual(scan.bytes_read, layer.directory().scan(text).bytes_read)
+
+    def test_one_call_answers_all_windows(self) -> None:
+        directory = certify(example("coast_lines_sized.twkb")).directory()
+        name = "twkb_directory_scan_many"
+        with mock.patch.object(_library.library, name, wraps=getattr(_library.library, name)) as call:
+            self.assertEqual(len(directory.scan_many(250 * WINDOWS)), 1000)
+            self.assertEqual(call.call_count, 1)
+            directory.scan_many([])
+            self.assertEqual(call.call_count, 1)
+
+    def test_no_memory_for_hits(self) -> None:
+        directory = certify(b"\1\0\2\4").directory()
+        with mock.patch("mmap.mmap", side_effect=OSError(12, "Cannot allocate memory")):
+            self.assertRaises(MemoryError, directory.scan_many, [WINDOWS[2]])
+        self.assertEqual([len(scan) for scan in directory.scan_many([WINDOWS[2]])], [1])
 
     def test_threads(self) -> None:
         directory = certify(example("coast_lines_sized.twkb")).directory()

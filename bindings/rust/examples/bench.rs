@@ -1,12 +1,12 @@
-//! Times certifying and listing a layer, scanning it for a thousand windows, with a directory and without, and calls on a
-//! layer of seven bytes.
+//! Times certifying and listing a layer, scanning it for a thousand windows, with a directory (in one call, and in a call for
+//! each) and without, and calls on a layer of seven bytes.
 //!
 //! usage: bench FILE
 //!
 //! The windows are tiles of the world, nine degrees wide and seven high. `bindings/c/bench.c` times the same, and
 //! prints the same sums.
 
-use dozhemik::{Hit, Layer, Scan, Scanned, Window};
+use dozhemik::{Directory, Hit, Layer, Scan, Scanned, Window};
 use std::collections::TryReserveError;
 use std::error::Error;
 use std::time::Instant;
@@ -37,9 +37,22 @@ fn main() -> Result<(), Box<dyn Error>> {
     let start = Instant::now();
     let directory = layer.directory()?;
     println!("directory: {:.1} ms", milliseconds(start));
-    into_a_room("directory scan", &windows, |window| directory.scan_into(window, &mut room));
-    into_vectors("directory scan", &windows, |window| directory.scan(window))?;
+    at_once(&directory, &windows)?;
+    into_a_room("directory scan one by one", &windows, |window| directory.scan_into(window, &mut room));
+    into_vectors("directory scan one by one", &windows, |window| directory.scan(window))?;
     calls()
+}
+
+/// All windows in one call.
+fn at_once(directory: &Directory<'_>, windows: &[Window]) -> Result<(), TryReserveError> {
+    let start = Instant::now();
+    let (mut hits, mut read) = (0, 0);
+    for scan in directory.scan_many(windows)? {
+        hits += scan.hits.len();
+        read += scan.bytes_read;
+    }
+    println!("directory scan, {WINDOWS} windows: {:.1} ms, {hits} hits, {read} bytes read", milliseconds(start));
+    Ok(())
 }
 
 fn into_a_room(title: &str, windows: &[Window], mut scan: impl FnMut(&Window) -> Scanned) {

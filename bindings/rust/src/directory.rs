@@ -1,6 +1,6 @@
 //! A directory of a layer.
 
-use crate::layer::scan_growing;
+use crate::layer::{copied, first_room, scan_growing};
 use crate::{ffi, Hit, Layer, Scan, Scanned, Window};
 use std::collections::TryReserveError;
 use std::fmt;
@@ -59,6 +59,32 @@ impl<'a> Directory<'a> {
     pub fn scan(&self, window: &Window) -> Result<Scan, TryReserveError> {
         // Sound: the slots were built for this layer.
         unsafe { self.slots.scan(&self.layer, window) }
+    }
+
+    /// A [`scan`](Directory::scan) for each window, in one call of the library, or a few if there are many hits.
+    ///
+    /// ```
+    /// # use dozhemik::Layer;
+    /// # fn main() -> Result<(), Box<dyn std::error::Error>> {
+    /// let layer = Layer::certify(&[1, 1, 2, 0, 2, 0, 2, 2, 1, 1, 20, 0, 20, 0, 20, 20])?;
+    /// let directory = layer.directory()?;
+    /// let windows = ["x=9..12,y=9..12".parse()?, "x=0..12,y=0..12".parse()?];
+    /// let scans = directory.scan_many(&windows)?;
+    /// assert_eq!((scans[0].hits.len(), scans[1].hits.len()), (1, 2));
+    /// # Ok(())
+    /// # }
+    /// ```
+    ///
+    /// It first allocates as many bytes for hits as the layer has. When these are full, it moves the hits to their scans,
+    /// and goes on from the first window whose hits didn't fit.
+    ///
+    /// # Errors
+    ///
+    /// If there is no memory for the hits, which take 24 bytes each, for the first allocation, or for what is known of each
+    /// window.
+    pub fn scan_many(&self, windows: &[Window]) -> Result<Vec<Scan>, TryReserveError> {
+        // Sound: the slots were built for this layer.
+        unsafe { self.slots.scan_many(&self.layer, windows) }
     }
 
     /// Writes what [`scan`](Directory::scan) finds to `room`, as [`Layer::scan_into`] does. It allocates no memory and
@@ -124,4 +150,73 @@ impl Slots {
         // Sound: the layer is certified, and nobody can write its bytes or the slots. The rest is the caller's.
         unsafe { ffi::twkb_directory_scan(&layer, self.0.as_ptr(), self.len(), &window, hits, room) }
     }
+
+    /// # Safety
+    ///
+    /// The slots were built for this layer.
+    pub(crate) unsafe fn scan_many(&self, layer: &Layer<'_>, windows: &[Window]) -> Result<Vec<Scan>, TryReserveError> {
+        let (mut lent, mut said) = (with_room(windows.len())?, with_room(windows.len())?);
+        let (mut scans, mut hits) = (with_room(windows.len())?, with_room(first_room(layer))?);
+        lent.extend(windows.iter().map(Window::lent));
+        while scans.len() < lent.len() {
+            // Sound: the caller guarantees the same, and there is room for what is said of each window.
+            let answered = unsafe { self.scan_more(layer, &lent[scans.len()..], &mut said, &mut hits) };
+            let mut start = 0;
+            for scanned in &said[..answered] {
+                let end = start + scanned.hits;
+                scans.push(Scan { hits: copied(&hits[start..end])?, bytes_read: scanned.bytes_read });
+                start = end;
+            }
+            if answered == 0 {
+                // The window has more hits than there was room for.
+                hits.try_reserve_exact(said[0].hits)?;
+            }
+        }
+        Ok(scans)
+    }
+
+    /// Scans for windows, one at least, until the hits of one don't fit. Returns how many it answered, and leaves what is
+    /// said of them, and of the one that it didn't answer, and their hits.
+    ///
+    /// # Safety
+    ///
+    /// The slots were built for this layer, and `said` has room for as many as there are windows.
+    unsafe fn scan_more(
+        &self,
+        layer: &Layer<'_>,
+        windows: &[ffi::Window],
+        said: &mut Vec<Scanned>,
+        hits: &mut Vec<Hit>,
+    ) -> usize {
+        said.clear();
+        hits.clear();
+        let (layer, many) = (layer.lent(), windows.len());
+        // Sound: the layer is certified, and nobody can write its bytes or the slots. What is written is the vectors' own, and
+        // is never read. The rest is the caller's.
+        let answered = unsafe {
+            ffi::twkb_directory_scan_many(
+                &layer,
+                self.0.as_ptr(),
+                self.len(),
+                windows.as_ptr(),
+                many,
+                said.as_mut_ptr(),
+                many,
+                hits.as_mut_ptr(),
+                hits.capacity(),
+            )
+        };
+        // Sound: something is said of each window that is answered, and of the one after them, if there is one.
+        unsafe { said.set_len(many.min(answered + 1)) };
+        // Sound: all hits of the windows that are answered are written.
+        unsafe { hits.set_len(said[..answered].iter().map(|scanned| scanned.hits).sum()) };
+        answered
+    }
+}
+
+/// An empty vector with room for so many.
+fn with_room<T>(count: usize) -> Result<Vec<T>, TryReserveError> {
+    let mut vector = Vec::new();
+    vector.try_reserve_exact(count)?;
+    Ok(vector)
 }

@@ -88,4 +88,15 @@ extern "C" {
         hits: *mut Hit,
         room: usize,
     ) -> Scanned;
+    pub(crate) fn twkb_directory_scan_many(
+        layer: *const Layer,
+        slots: *const Slot,
+        count: usize,
+        windows: *const Window,
+        many: usize,
+        scanned: *mut Scanned,
+        results: usize,
+        hits: *mut Hit,
+        room: usize,
+    ) -> usize;
 }

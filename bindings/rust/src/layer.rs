@@ -219,7 +219,7 @@ pub(crate) fn scan_growing<F>(layer: &Layer<'_>, scan: F) -> Result<Scan, TryRes
 where
     F: Fn(&mut [MaybeUninit<Hit>]) -> Scanned,
 {
-    let mut room = layer.blobs.min(layer.bytes.len() / size_of::<Hit>() + 1);
+    let mut room = first_room(layer);
     loop {
         let mut hits = Vec::new();
         hits.try_reserve_exact(room)?;
@@ -233,13 +233,23 @@ where
     }
 }
 
+/// How many hits there is room for at first: they take as many bytes as the layer has, or fewer.
+pub(crate) fn first_room(layer: &Layer<'_>) -> usize {
+    layer.blobs.min(layer.bytes.len() / size_of::<Hit>() + 1)
+}
+
 /// The hits, moved to memory of their own size.
 fn fitted(hits: Vec<Hit>) -> Result<Vec<Hit>, TryReserveError> {
     if hits.len() == hits.capacity() {
         return Ok(hits);
     }
-    let mut fitted = Vec::new();
-    fitted.try_reserve_exact(hits.len())?;
-    fitted.extend_from_slice(&hits);
-    Ok(fitted)
+    copied(&hits)
+}
+
+/// The hits, in memory of their own size.
+pub(crate) fn copied(hits: &[Hit]) -> Result<Vec<Hit>, TryReserveError> {
+    let mut copy = Vec::new();
+    copy.try_reserve_exact(hits.len())?;
+    copy.extend_from_slice(hits);
+    Ok(copy)
 }

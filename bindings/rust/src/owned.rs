@@ -125,6 +125,16 @@ impl<B: FixedBytes> OwnedDirectory<B> {
         unsafe { self.slots.scan(&self.layer(), window) }
     }
 
+    /// A scan for each window, as [`Directory::scan_many`](crate::Directory::scan_many) makes them.
+    ///
+    /// # Errors
+    ///
+    /// Those of [`Directory::scan_many`](crate::Directory::scan_many).
+    pub fn scan_many(&self, windows: &[Window]) -> Result<Vec<Scan>, TryReserveError> {
+        // Sound: the slots were built for this layer.
+        unsafe { self.slots.scan_many(&self.layer(), windows) }
+    }
+
     /// Writes what [`scan`](OwnedDirectory::scan) finds to `room`, as [`Layer::scan_into`] does. It allocates no memory and
     /// can't fail.
     pub fn scan_into(&self, window: &Window, room: &mut [Hit]) -> Scanned {

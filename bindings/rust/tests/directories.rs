@@ -61,6 +61,20 @@ fn fills_rooms_as_far_as_they_go() {
 }
 
 #[test]
+fn many_windows_get_what_each_alone_gets() {
+    let all: Vec<Window> = WINDOWS.iter().map(|text| window(text)).collect();
+    // Twice, so that the windows have more hits together than the layer has blobs; and so few points that no hit fits at first.
+    let twice = [&all[..], &all[..]].concat();
+    for bytes in [vec![], TWO.to_vec(), many(), [1, 0, 0, 0].repeat(50)] {
+        let directory = Layer::certify(&bytes).unwrap().directory().unwrap();
+        for windows in [&twice[..], &all[..], &all[..1], &[]] {
+            let wanted: Vec<_> = windows.iter().map(|window| directory.scan(window).unwrap()).collect();
+            assert_eq!(directory.scan_many(windows).unwrap(), wanted);
+        }
+    }
+}
+
+#[test]
 fn a_clone_finds_the_same() {
     let bytes = many();
     let directory = Layer::certify(&bytes).unwrap().directory().unwrap();

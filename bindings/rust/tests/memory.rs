@@ -91,6 +91,21 @@ fn a_directory_takes_memory_once() {
 }
 
 #[test]
+fn scans_for_many_windows_say_that_memory_is_refused() {
+    let bytes = points(10);
+    let directory = Layer::certify(&bytes).unwrap().directory().unwrap();
+    let windows =
+        ["x=0..9,y=0..9".parse().unwrap(), "x=5..9,y=0..9".parse().unwrap(), "x=0..9,y=0..9".parse().unwrap()];
+    let wanted: Vec<_> = windows.iter().map(|window| directory.scan(window).unwrap()).collect();
+    // Four times for what is known of the windows and for the first room, once for a larger one, and twice for hits.
+    for times in 0..7 {
+        assert!(given(times, || directory.scan_many(&windows)).is_err(), "{times}");
+    }
+    assert_eq!(given(7, || directory.scan_many(&windows)).unwrap(), wanted);
+    assert_eq!(given(1, || directory.scan_many(&[])).unwrap(), []);
+}
+
+#[test]
 fn holding_bytes_takes_no_memory() {
     let bytes = points(10);
     let layer = given(0, || OwnedLayer::certify(bytes)).unwrap();

@@ -31,6 +31,9 @@ fn answers_alike<B: FixedBytes + Clone>(bytes: B) {
             assert_eq!(directory.layer().blob(hit), wanted.blob(hit));
         }
     }
+    let windows = WINDOWS.map(window);
+    let scans = directory.scan_many(&windows).unwrap();
+    assert_eq!(scans, wanted.directory().unwrap().scan_many(&windows).unwrap());
     assert_eq!(directory.into_layer().into_bytes().as_ref(), data);
 }
 

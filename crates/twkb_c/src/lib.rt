@@ -4,7 +4,7 @@
 //! any number of threads may call at once.
 #![tactic(auto)]
 
-ghost use Rattle.std.specs.Prelude.{◌≡◌, ◌≢◌, ◌*◌, ◌<◌, ◌≤◌, if◌then◌else◌, true, false, List, length, map, take, sum_by, ◌⊎◌};
+ghost use Rattle.std.specs.Prelude.{◌≡◌, ◌≢◌, ◌+◌, ◌*◌, ◌<◌, ◌≤◌, if◌then◌else◌, true, false, List, length, map, take, sum_by, ◌⊎◌};
 ghost use Rattle.twkb_num.specs.Cursor.{added};
 ghost use Rattle.twkb_head.specs.declared.boxes.Bounds.{Bounds};
 ghost use Rattle.twkb_body.specs.Claims.{IsTrueClaim};
@@ -18,7 +18,7 @@ ghost use Rattle.twkb_layer.specs.Rows.{rows};
 ghost use Rattle.twkb_layer.specs.Slots.{entries_kept};
 ghost use Rattle.twkb_layer.specs.Tight.{IsTightLayer};
 ghost use Rattle.twkb_layer.specs.WindowText.{IsWindowText, in_order};
-ghost use Rattle.twkb_call.specs.Hits.{hit_from};
+ghost use Rattle.twkb_call.specs.Hits.{hit_from, hits_in_all, scanned_with};
 ghost use Rattle.twkb_call.specs.Rows.{in_numbers};
 ghost use Rattle.twkb_call.specs.Names.{type_name, kind_name, answer_name, with_zeros};
 ghost use Rattle.twkb_call.specs.Verdict.{Says};
@@ -133,6 +133,34 @@ pub extern "C" fn twkb_directory_scan(
         result.bytes_read ≡ added 0 (sum_by (directory_cost (ranges_of window.now)) trees)) }
 {
     twkb_call::scan_directory(layer, slots, window, room)
+}
+
+/// Scans for one window after another, each as `twkb_directory_scan` does, until the hits of one don't fit any more. Returns how
+/// many windows it answered: all, or those before that one.
+///
+/// The hits of the windows are written to `room` one after another, and what a scan says of each window to `scanned`, as many as
+/// fit. The window whose hits don't fit is among them: `scanned` says how many it has, and as many as fit are in `room`.
+#[unsafe(no_mangle)]
+pub extern "C" fn twkb_directory_scan_many(
+    layer: &Layer,
+    slots: &[Slot],
+    windows: &[Window],
+    scanned: &mut [Scanned],
+    room: &mut [Hit],
+) -> usize
+    requires layer { IsCounted layer.now.bytes.now layer.now.blobs layer.now.vertices }
+    requires directory { IsDirectoryOf (entries_kept slots.now) layer.now.bytes.now }
+    ensures few { result ≤ length windows.now }
+    ensures scanned { OfLayer layer.now.bytes.now (λ trees.
+        scanned.new ≡ filled (map (scanned_with trees) (take (result + 1) windows.now)) scanned.old) }
+    ensures room { OfLayer layer.now.bytes.now (λ trees.
+        room.new ≡ filled (hits_in_all trees (take (result + 1) windows.now)) room.old) }
+    ensures fit { OfLayer layer.now.bytes.now (λ trees.
+        length (hits_in_all trees (take result windows.now)) ≤ length room.old) }
+    ensures full { OfLayer layer.now.bytes.now (λ trees. result < length windows.now
+        → length room.old < length (hits_in_all trees (take (result + 1) windows.now))) }
+{
+    twkb_call::scan_directory_many(layer, slots, windows, scanned, room)
 }
 
 /// The name of a geometry's type, followed by zeros. It is empty if the number is no type.

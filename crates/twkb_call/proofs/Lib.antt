@@ -2,3 +2,4 @@
 pub mod Windows
 pub mod Points
 pub mod Verdicts
+pub mod Answered

@@ -1,11 +1,11 @@
 //! Directories of layers in memory that the caller lends.
-ghost use Rattle.std.specs.Prelude.{◌≡◌, ◌*◌, ◌<◌, ◌≤◌, length, map, take, sum_by};
+ghost use Rattle.std.specs.Prelude.{◌≡◌, ◌+◌, ◌*◌, ◌<◌, ◌≤◌, length, map, take, sum_by, slice_set};
 ghost use Rattle.twkb_num.specs.Cursor.{added};
 ghost use Rattle.twkb_layer.specs.Directory.{IsDirectoryOf, directory_cost};
 ghost use Rattle.twkb_layer.specs.Hits.{hits, found_blobs, filled};
 ghost use Rattle.twkb_layer.specs.Layer.{IsCounted, OfLayer};
 ghost use Rattle.twkb_layer.specs.Slots.{entries_kept};
-ghost use Rattle.twkb_call.specs.Hits.{hit_from};
+ghost use Rattle.twkb_call.specs.Hits.{hit_from, hits_in_all, scanned_with};
 ghost use Rattle.twkb_call.specs.Window.{ranges_of};
 
 use crate::layer::Layer;
@@ -47,5 +47,50 @@ pub fn scan_directory(layer: &Layer, slots: &[Slot], window: &Window, room: &mut
     Scanned {
         hits,
         bytes_read: certified.read_count(),
+    }
+}
+
+/// Scans for one window after another, each as [`scan_directory`] does, until the hits of one don't fit any more. Returns how many
+/// windows it answered: all, or those before that one.
+///
+/// The hits of the windows are written to `room` one after another, and what a scan says of each window to `scanned`, as many as
+/// fit. The window whose hits don't fit is among them: `scanned` says how many it has, and as many as fit are in `room`.
+pub fn scan_directory_many(
+    layer: &Layer,
+    slots: &[Slot],
+    windows: &[Window],
+    scanned: &mut [Scanned],
+    room: &mut [Hit],
+) -> usize
+    requires layer { IsCounted layer.now.bytes.now layer.now.blobs layer.now.vertices }
+    requires directory { IsDirectoryOf (entries_kept slots.now) layer.now.bytes.now }
+    ensures few { result ≤ length windows.now }
+    ensures scanned { OfLayer layer.now.bytes.now (λ trees.
+        scanned.new ≡ filled (map (scanned_with trees) (take (result + 1) windows.now)) scanned.old) }
+    ensures room { OfLayer layer.now.bytes.now (λ trees.
+        room.new ≡ filled (hits_in_all trees (take (result + 1) windows.now)) room.old) }
+    ensures fit { OfLayer layer.now.bytes.now (λ trees.
+        length (hits_in_all trees (take result windows.now)) ≤ length room.old) }
+    ensures full { OfLayer layer.now.bytes.now (λ trees. result < length windows.now
+        → length room.old < length (hits_in_all trees (take (result + 1) windows.now))) }
+{
+    let mut used = 0;
+    for asked in 0..windows.len() {
+        let one = scan_directory(layer, slots, &windows[asked], &mut room[used..]);
+        report(scanned, asked, one);
+        if one.hits > room.len() - used {
+            return asked;
+        }
+        used += one.hits;
+    }
+    windows.len()
+}
+
+/// Writes what a scan says of a window to its place, if there is one.
+fn report(scanned: &mut [Scanned], place: usize, one: Scanned)
+    ensures { scanned.new ≡ slice_set scanned.old place one }
+{
+    if place < scanned.len() {
+        scanned[place] = one;
     }
 }

@@ -13,7 +13,7 @@ mod scans;
 mod verdict;
 mod window;
 
-pub use directory::{build_directory, scan_directory};
+pub use directory::{build_directory, scan_directory, scan_directory_many};
 pub use drawing::{Point, draw};
 pub use layer::Layer;
 pub use names::{Name, answer_name, kind_name, type_name};
