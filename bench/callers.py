@@ -7,9 +7,9 @@ On 40 MB of lines and of the mix: certifying, listing, a directory, and a thousa
 directory the windows are scanned for in one call, and once more in a call for each. Then calls on a layer of seven bytes. Python
 lists into a table, and once more into an object for each row, and scans for the windows by four threads too. The program reads
 and certifies its file in each run, and takes 64 windows at most. So a thousand windows are sixteen runs of it, each of which makes
-a directory and puts its hits as text. All take turns, of each the best time of RUNS is kept, and the ratios are over C. Where two answers
-differ, the run fails. It fails, too, where a thousand windows by a directory take Rust or Python more than 1.1 times C, or a
-table takes more than 1.5 times: the machine has to be quiet for that.
+a directory and puts its hits as text. All take turns, of each the best time of RUNS is kept, and the ratios are over C. Where two
+answers differ, the run fails. It fails, too, where a thousand windows by a directory take Rust or Python more than 1.1 times C, or
+a table takes more than 1.5 times: the machine has to be quiet for that.
 """
 import os
 import re

@@ -5,9 +5,10 @@ usage: tests/fuzz.py PROGRAM [SECONDS] [SEED]   (60 seconds, and a seed of the c
 
 The layers and windows are those of made.py. On each layer the program runs all its commands. The library is called by
 bindings/c/fuzz.c, built with the sanitizers, whose bytes and rooms end at a page that nobody may touch: both checks, rows, and
-each window by a scan and by a directory, those upside down too, which the program has to refuse. Layer N of a seed is always
-the same. A layer on which anything differs is kept in build/fuzz, as a file, with another beside it that says what differs.
-Prints the seed and what was tried, and last a line `N layers, M differ`; the status is 1 where any does.
+each window by a scan and by a directory, those upside down too, which the program has to refuse. All windows in one call have to
+get what each gets. Layer N of a seed is always the same. A layer on which anything differs is kept in build/fuzz, as a file, with
+another beside it that says what differs. Prints the seed and what was tried, and last a line `N layers, M differ`; the status is
+1 where any does.
 """
 import os
 import random

@@ -52,6 +52,26 @@ static void print_scan(const struct twkb_layer *layer, struct twkb_scanned scann
     printf("hits=%zu read=%" PRIu64 " of=%zu\n", scanned.hits, scanned.bytes_read, layer->len);
 }
 
+/* Names each window to which one call for all of them gives something else than a call for it alone. */
+static void try_many(const struct twkb_layer *layer, const struct twkb_slot *slots, size_t made, uint32_t count, size_t room) {
+    struct twkb_scanned *scanned = guarded(count * sizeof *scanned);
+    struct twkb_hit *hits = guarded(room * sizeof *hits), *alone = guarded(room * sizeof *alone);
+    size_t answered = twkb_directory_scan_many(layer, slots, made, windows, count, scanned, count, hits, room), start = 0;
+    if (answered > count) printf("%zu windows\n", answered);
+    for (uint32_t i = 0; i < count && i <= answered; i++) {
+        size_t left = room - start;
+        struct twkb_scanned one = twkb_directory_scan(layer, slots, made, &windows[i], alone, left);
+        size_t fit = one.hits < left ? one.hits : left;
+        bool same = one.hits == scanned[i].hits && one.bytes_read == scanned[i].bytes_read &&
+                    memcmp(hits + start, alone, fit * sizeof *hits) == 0 && (one.hits > left) == (i == answered);
+        if (!same) printf("other hits in window %" PRIu32 "\n", i);
+        start += fit;
+    }
+    free_guarded(alone, room * sizeof *alone);
+    free_guarded(hits, room * sizeof *hits);
+    free_guarded(scanned, count * sizeof *scanned);
+}
+
 /* Each window, by a scan of the layer and by one of a directory. */
 static void print_scans(const struct twkb_layer *layer, uint32_t count, size_t room) {
     size_t size = 2 * layer->blobs * sizeof(struct twkb_slot), place = room * sizeof(struct twkb_hit);
@@ -64,6 +84,7 @@ static void print_scans(const struct twkb_layer *layer, uint32_t count, size_t r
         print_scan(layer, twkb_directory_scan(layer, slots, made, &windows[i], hits, room), hits, room);
         free_guarded(hits, place);
     }
+    try_many(layer, slots, made, count, room);
     free_guarded(slots, size);
 }
 

@@ -3,7 +3,8 @@
  * usage: many LAYER   (a layer that is certified)
  *
  * Says what isn't so, and last how many checks passed; the status is 1 where one failed. The windows and the rooms end at a page
- * that nobody may touch. To be built with the sanitizers too, which see this side alone, and run under valgrind, which sees both. */
+ * that nobody may touch. To be built with the sanitizers too, which see this side alone, and run under valgrind, which sees
+ * both. */
 #define _DEFAULT_SOURCE
 #include "files.h"
 #include "guard.h"

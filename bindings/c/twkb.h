@@ -192,17 +192,16 @@ struct twkb_scanned twkb_directory_scan(const struct twkb_layer *layer, const st
  * those of the windows before, as many as fit; `room` is how many fit. scanned[i] is set to what a scan for windows[i] returns;
  * `results` is how many of these fit, `many` to get them all.
  *
- * Returns how many windows are answered. It is `many`, unless the hits of a window don't all fit. Then the call stops there: the
- * result is the number of this window, from 0. scanned[result] says how many hits it has, and those that fit are written.
- * Call again for the windows from this one on, with at least so much room. As much room as the layer has blobs suffices for
- * any window. Nothing else is written to `hits` and `scanned`.
+ * Returns how many windows are answered. It is `many`, unless the hits of a window don't all fit. Then the call stops there,
+ * and the result is the number of this window, from 0. scanned[result] says how many hits it has, and those that fit are
+ * written. Nothing else is written to `hits` and `scanned`. Call again for the windows from this one on, with at least so much
+ * room. As much room as the layer has blobs suffices for any window:
  *
- *     size_t done = 0;
- *     while (done < many) {
- *         size_t answered = twkb_directory_scan_many(&layer, slots, count, windows + done, many - done, scanned, many - done,
- *                                                    hits, layer.blobs);
- *         for (size_t i = 0, start = 0; i < answered; start += scanned[i++].hits) use(&windows[done + i], hits + start, scanned[i].hits);
- *         done += answered;
+ *     for (size_t done = 0, answered; done < many; done += answered) {
+ *         answered = twkb_directory_scan_many(&layer, slots, count, windows + done, many - done, scanned, many - done, hits,
+ *                                             layer.blobs);
+ *         const struct twkb_hit *next = hits;
+ *         for (size_t i = 0; i < answered; next += scanned[i++].hits) use(&windows[done + i], next, scanned[i].hits);
  *     } */
 size_t twkb_directory_scan_many(const struct twkb_layer *layer, const struct twkb_slot *slots, size_t count,
                                 const struct twkb_window *windows, size_t many, struct twkb_scanned *scanned, size_t results,
