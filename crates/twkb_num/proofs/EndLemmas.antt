@@ -1,5 +1,5 @@
 -- The first end among eight bytes, by the lowest bit of a word.
-use Rattle.std.proofs.Common.{◌≡◌, ℕ, zero, suc, ◌+◌, ◌-◌, ◌*◌, ◌/◌, ◌^◌, ◌<◌, ◌≤◌, List, length, take, slice_index, Option, Some, None, IfSome, subst, ap, ap₂, ◌∙◌, sym, refl, ◌⊎◌, inl, inr, arith}
+use Rattle.std.proofs.Common.{◌≡◌, ℕ, zero, suc, ◌+◌, ◌-◌, ◌*◌, ◌/◌, ◌^◌, ◌<◌, ◌≤◌, List, length, take, slice_index, Option, Some, None, IfSome, IfNone, subst, ap, ap₂, ◌∙◌, sym, refl, ◌⊎◌, inl, inr, arith}
 use Rattle.std.specs.Int.{Width, w64, from_le_bytes, bit_at, trailing_zeros}
 use mir.Val.{bits}
 use Rattle.std.specs.Int.Bits.{bit_and}
@@ -7,7 +7,7 @@ use Rattle.std.proofs.lemmas.Nat.{and_block, pow_pos}
 use Rattle.std.proofs.lemmas.Nat.Bits.{and_pow, bit_at_cat_low, bit_at-pow_same, bit_at-pow_other, bit_at-trailing_zeros}
 use Rattle.std.proofs.lemmas.Bool.{cases_lt}
 use Rattle.std.proofs.lemmas.List.{get_or-take}
-use Rattle.twkb_num.specs.Varint.{sum_of_groups, Spells}
+use Rattle.twkb_num.specs.Varint.{sum_of_groups, Spells, IsUnended}
 use Rattle.twkb_num.proofs.VarintLemmas.{sum_of_groups-fits, Spells-take}
 use Rattle.twkb_num.specs.Devices.Ends.{IsFirstEnd, ended, four_bytes, eight_bytes}
 
@@ -48,7 +48,7 @@ tops_eight f fit =
     and_block 32 (four_bytes f 4) 0x80808080 (four_bytes f 0) 0x80808080 (omega (arith, fit 0 (omega arith), fit 1 (omega arith), fit 2 (omega arith), fit 3 (omega arith))) (omega arith) in
     halves ∙ ap₂ (λ x y. x * 4294967296 + y) (tops_4 (f 4) (f 5) (f 6) (f 7) (fit 4 (omega arith)) (fit 5 (omega arith)) (fit 6 (omega arith)) (fit 7 (omega arith))) (tops_4 (f 0) (f 1) (f 2) (f 3) (fit 0 (omega arith)) (fit 1 (omega arith)) (fit 2 (omega arith)) (fit 3 (omega arith)))
 
--- a word of bytes turned round is one of the bytes turned round
+-- the complement of a word has the complements of its bytes
 turned_by : (b c : ℕ → ℕ) (word : ℕ) → ((k : ℕ) → b k + c k ≡ 255) → word ≡ eight_bytes b → 2 ^ 64 - 1 - word ≡ eight_bytes c
 turned_by b c word both e =
     let sum : word + eight_bytes c ≡ 18446744073709551615 = omega (arith, e, both 0, both 1, both 2, both 3, both 4, both 5, both 6, both 7) in
@@ -57,7 +57,7 @@ turned_by b c word both e =
 turned : (bs : List ℕ) (word : ℕ) → ((k : ℕ) → slice_index bs k < 256) → word ≡ from_le_bytes w64 bs → 2 ^ 64 - 1 - word ≡ eight_bytes (λ k. 255 - slice_index bs k)
 turned bs word fit e = turned_by (slice_index bs) (λ k. 255 - slice_index bs k) word (λ k. omega (arith, fit k)) (omega (arith, e))
 
--- so its tops are those of the bytes that end
+-- the tops of the complement of a word are set in the bytes that end a varint
 pub ends_are : (bs : List ℕ) (word : ℕ) → ((k : ℕ) → slice_index bs k < 256) → word ≡ from_le_bytes w64 bs → bit_and (2 ^ 64 - 1 - word) 0x8080808080808080 ≡ eight_bytes (λ k. ended bs k * 128)
 ends_are bs word fit e =
     ap (λ x. bit_and x 0x8080808080808080) (turned bs word fit e) ∙ tops_eight (λ k. 255 - slice_index bs k) (λ k h. omega arith)
@@ -72,7 +72,7 @@ is_ended b h = omega (arith, h)
 at_most_one : (b : ℕ) → (255 - b) / 128 ≤ 1
 at_most_one b = omega arith
 
--- one more that is zero
+-- if the values before i are zero, and the i-th is too, the values up to i are zero
 more : (f : ℕ → ℕ) (i : ℕ) → ((k : ℕ) → k < i → f k ≡ 0) → f i ≡ 0 → (k : ℕ) → k < i + 1 → f k ≡ 0
 more f i on here k h =
     elim (cases_lt k i) [
@@ -85,7 +85,7 @@ zero_or_one zero h = inl refl
 zero_or_one (suc zero) h = inr refl
 zero_or_one (suc (suc n)) h = absurd (omega (arith, h))
 
--- the lowest 1 of eight bytes that are each nothing or the top bit
+-- the lowest set bit of eight bytes, each of which is zero or its top bit
 module _ (f : ℕ → ℕ) (n : ℕ) (bound : (k : ℕ) → k < 8 → f k ≤ 1) (is : n ≡ eight_bytes (λ k. f k * 128)) where
   abbrev pub IsLowest : Type 0
   IsLowest = (i : ℕ) × (i < 8) × (trailing_zeros w64 n ≡ 8 * i + 7) × ((k : ℕ) → k < i → f k ≡ 0) × (f i ≡ 1)
@@ -149,8 +149,8 @@ module _ (f : ℕ → ℕ) (n : ℕ) (bound : (k : ℕ) → k < 8 → f k ≤ 1)
         | inr o ↦ (0, omega arith, lowest_at w64 n (n / 2 ^ 8) 7 fits (omega (arith, is, o)), on, o)
       ]
 
-  -- where there is none, all are nothing
-  all_zero : n ≡ 0 → (k : ℕ) → k < 8 → f k ≡ 0
+  -- if no bit is set, all values are zero
+  pub all_zero : n ≡ 0 → (k : ℕ) → k < 8 → f k ≡ 0
   all_zero none zero h = omega (arith, is, none)
   all_zero none (suc zero) h = omega (arith, is, none)
   all_zero none (suc (suc zero)) h = omega (arith, is, none)
@@ -179,7 +179,7 @@ module _ (bs : List ℕ) (word : ℕ) (len : length bs ≡ 8) (fit : (k : ℕ) �
   no_end none k h =
       is_ended (slice_index bs k) (all_zero (ended bs) (bit_and (2 ^ 64 - 1 - word) 0x8080808080808080) (λ k h. at_most_one (slice_index bs k)) (ends_are bs word fit e) none k h)
 
--- the first end in a chunk of bytes is theirs
+-- the first end in a chunk of eight bytes is the first end of the bytes that begin with the chunk
 pub end_in_chunk : (bytes chunk : List ℕ) → chunk ≡ take 8 bytes → 8 ≤ length bytes → (end : Option ℕ) → IfSome end (IsFirstEnd chunk) → IfSome end (IsFirstEnd bytes)
 end_in_chunk bytes chunk same enough None h = tt
 end_in_chunk bytes chunk same enough (Some many) h =
@@ -191,6 +191,11 @@ end_in_chunk bytes chunk same enough (Some many) h =
       goes_on = λ k before. omega (arith, h.goes_on k before, at k (omega (arith, h.few, before)));
       ends = omega (arith, h.ends, at (many - 1) (omega (arith, h.few, h.some)));
     }
+
+-- where none of a chunk's bytes ends a varint, none of the first eight does
+pub none_in_chunk : (bytes chunk : List ℕ) → chunk ≡ take 8 bytes → (end : Option ℕ) → IfNone end ((k : ℕ) → k < 8 → 128 ≤ slice_index chunk k) → IfNone end (IsUnended bytes)
+none_in_chunk bytes chunk same None h = inr (λ k few. omega (arith, h k few, ap (λ bs. slice_index bs k) same ∙ get_or-take 8 bytes k 0 few))
+none_in_chunk bytes chunk same (Some many) h = tt
 
 -- bytes up to the first end spell a number
 pub end_spells : (bytes : List ℕ) (many : ℕ) → IsFirstEnd bytes many → Spells (take many bytes) (sum_of_groups 0 (take many bytes))

@@ -1,4 +1,4 @@
--- Lanes, one by one.
+-- The numbers that the code computes in lanes are the numbers of the definitions, lane by lane.
 use Rattle.std.proofs.Common.{◌≡◌, map, eqb, suc, subst, get_or, ℕ, ◌+◌, ◌-◌, ◌*◌, ◌<◌, length, ◌/◌, ◌%◌, ◌^◌, List, [], ◌∷◌, bit_and, refl, sym, ap, ◌∙◌, arith, Fits, w16, w32, inl, inr}
 use Rattle.std.specs.Int.{cast_signed}
 use Rattle.std.specs.Prelude.{pos, neg_ℤ, All}
@@ -16,7 +16,7 @@ use Rattle.twkb_num.proofs.PairLaws.{zigzag_short}
 use Rattle.twkb_num.proofs.WordLemmas.{firsts_4, seconds_4}
 use Rattle.twkb_num.specs.Varint.{zigzag_value, IsShort, IsBrief}
 
--- two bytes of a lane of sixteen bits
+-- the groups of a lane of sixteen bits, joined from its two bytes
 pub joined_lane : (n : ℕ) → n < 65536 → (bit_and n 127 + bit_and n 32512 / 2) % 65536 ≡ two_groups n
 joined_lane n h =
     let e : n ≡ n / 256 * 256 + n % 256 = omega arith in
@@ -39,7 +39,7 @@ paired_is n h =
     let shifted : bit_and n 0x7f007f00 / 2 ^ 1 ≡ bit_and (n / 2 ^ 1) 0x3f803f80 = and_shr n 0x7f007f00 1 in
     omega (arith, firsts, seconds, shifted)
 
--- four bytes of a lane of 32 bits
+-- the groups of a lane of 32 bits, joined from its four bytes
 pub joined_wide_lane : (n : ℕ) → n < 4294967296 → (bit_and (paired n) 0x3fff + bit_and (paired n / 2 ^ 2) 0x0fffc000) % 4294967296 ≡ four_groups n
 joined_wide_lane n h =
     let m : ℕ = paired n in
@@ -91,12 +91,12 @@ sign_32 n h =
           ap (cast_signed w32) is ∙ low ∙ means
     ]
 
--- two functions that agree below a bound are one on lanes below it
+-- two functions that agree below a bound give equal results on lanes below it
 pub same_where_fits : {A : Type 0} (w : Width) (f g : ℕ → A) → ((n : ℕ) → n < 2 ^ bits w → f n ≡ g n) → (v : List ℕ) → Each1 (Fits w) v → map f v ≡ map g v
 same_where_fits w f g same [] fits = refl
 same_where_fits w f g same (x ∷ xs) fits = ap (λ y. y ∷ map f xs) (same x fits.0.fits) ∙ ap (λ ys. g x ∷ ys) (same_where_fits w f g same xs fits.1)
 
--- how large a lane's number is
+-- a number below 2^28 means a short one by zigzag
 short_number : (n : ℕ) → n < 2 ^ 28 → IsShort (zigzag_value n)
 short_number n h = zigzag_short n (zigzag_value n) h refl
 

@@ -13,7 +13,7 @@ use Rattle.twkb_num.specs.declared.tables.wide.TheConstants.{WIDE_PLACES, WIDE_L
 use Rattle.twkb_num.proofs.TableLaws.{is_flag, row_ok, wide_rows, narrow_rows, wide_flags, narrow_flags}
 use Rattle.twkb_num.proofs.RowSpells.{IsPicked, row_holds}
 
--- lengths
+-- ---- lengths
 flag_from : (len : ℕ) → is_flag len ≡ true → IsFlag len
 flag_from len h =
     elim (or_cases (ltb len 9) (eqb len 128) h) [
@@ -39,7 +39,7 @@ pub flag_short : (len : ℕ) → IsFlag len → len < 128 → len ≤ 8
 flag_short len (inl low) short = low
 flag_short len (inr far) short = absurd (omega (arith, far, short))
 
--- rows
+-- ---- rows
 row_spells : (n k : ℕ) (v lanes : List ℕ) (places tops len : ℕ) → IsPicked v places lanes tops → ((i : ℕ) → value_at n lanes i < 2 ^ 64) → row_ok n k places 0 tops 0 len ≡ true → SpellsAll (take len v) (values n k lanes 0)
 row_spells n k v lanes places tops len p small ok =
     let all : len - 0 ≡ len = omega arith in
@@ -58,7 +58,7 @@ narrow_spells v lanes tops len few is p short =
     let ok = sym (cond-true (ltb (get_or NARROW_LEN tops 0) 128) _ _ (lt-ltb (get_or NARROW_LEN tops 0) 128 low)) ∙ narrow_rows tops few in
     row_spells 2 4 v lanes (get_or NARROW_PLACES tops 0) tops len p (λ i. omega arith) (ap (row_ok 2 4 (get_or NARROW_PLACES tops 0) 0 tops 0) is ∙ ok)
 
--- tops
+-- ---- tops
 low_bits : (t i : ℕ) → i < 8 → t % 256 / 2 ^ i % 2 ≡ t / 2 ^ i % 2
 low_bits t zero h = omega arith
 low_bits t (suc zero) h = omega arith
@@ -81,7 +81,7 @@ second_tops tops from s bytes v w all v_is w_is few is i h =
     let same : get_or v (s + i) 0 ≡ get_or w i 0 = ap (λ l. get_or l (s + i) 0) v_is ∙ get_or-take 16 bytes (s + i) 0 (omega (arith, h, few)) ∙ sym (get_or-drop s bytes i 0) ∙ sym (get_or-take 16 (drop s bytes) i 0 (omega (arith, h))) ∙ sym (ap (λ l. get_or l i 0) w_is) in
     ap (λ x. x / 2 ^ i % 2) is ∙ low_bits (tops / 2 ^ s) i h ∙ ap (λ x. x % 2) (shr-shr tops s i) ∙ all (s + i) (omega (arith, h, few)) ∙ ap (λ x. x / 128) same
 
--- pieces
+-- ---- pieces
 pub first_piece : (bytes : List ℕ) → take 16 (take 16 bytes) ≡ take 16 bytes
 first_piece bytes = take-take 16 16 bytes (omega arith)
 
@@ -90,7 +90,7 @@ second_piece s bytes =
     let many : s + 16 - s ≡ 16 = omega arith in
     ap (λ k. take 16 (take k (drop s bytes))) many ∙ first_piece (drop s bytes)
 
--- spellings
+-- ---- spellings
 append_all : (bs cs ns ms : List ℕ) → SpellsAll bs ns → SpellsAll cs ms → SpellsAll (bs ++ cs) (ns ++ ms)
 append_all bs cs [] ms a b = subst (λ xs. SpellsAll (xs ++ cs) ms) (sym a) b
 append_all bs cs (n ∷ ns) ms a b = (a.0, a.1 ++ cs, ap (λ xs. xs ++ cs) a.2 ∙ append_assoc a.0 a.1 cs, a.3, append_all a.1 cs ns ms a.4 b)
@@ -109,7 +109,7 @@ both bytes v w ns ms one two v_is w_is few_one few_two a b =
     let second = at_front (drop one bytes) w ms two (w_is ∙ ap (λ s. take 16 (drop s bytes)) at) (omega (arith, few_two)) b in
     subst (λ xs. SpellsAll xs (ns ++ ms)) (sym (take-add one two bytes)) (append_all (take one bytes) (take two (drop one bytes)) ns ms first second)
 
--- lanes
+-- ---- lanes
 cons_same : {A : Type 0} (x y : A) (xs ys : List A) → x ≡ y → xs ≡ ys → x ∷ xs ≡ y ∷ ys
 cons_same x y xs ys e es = ap (λ z. z ∷ xs) e ∙ ap (λ zs. y ∷ zs) es
 
@@ -153,7 +153,7 @@ narrow_lanes bytes long fit =
     (cons_same _ _ _ _ (ap two_groups (lane 6 (omega arith)) ∙ narrow_lane (g 12) (g 13) (fit 12 (omega arith)) (fit 13 (omega arith)))
     (cons_same _ _ _ _ (ap two_groups (lane 7 (omega arith)) ∙ narrow_lane (g 14) (g 15) (fit 14 (omega arith)) (fit 15 (omega arith))) refl)))))))
 
--- what was low_halves
+-- sixteen bytes: the first eight of `lo`, and then the first eight of `hi`
 pub record IsJoined (both lo hi : List ℕ) : Type 0 where
   pub long : length both ≡ 16
   pub fit : (i : ℕ) → i < 16 → get_or both i 0 < 256

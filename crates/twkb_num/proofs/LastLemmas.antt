@@ -27,7 +27,7 @@ bytes_are x a b c d e f g h is in_a in_b in_c in_d in_e in_f in_g in_h =
 eight_of : (bs : List ℕ) → length bs ≡ 8 → bs ≡ slice_index bs 0 ∷ slice_index bs 1 ∷ slice_index bs 2 ∷ slice_index bs 3 ∷ slice_index bs 4 ∷ slice_index bs 5 ∷ slice_index bs 6 ∷ slice_index bs 7 ∷ []
 eight_of bs len = grind (arith, common_steps)
 
--- a word without its first so many bytes
+-- the bytes of a word after its first k
 module _ (bs : List ℕ) (word : ℕ) (len : length bs ≡ 8) (fit : (k : ℕ) → slice_index bs k < 256) (is : word ≡ from_le_bytes w64 bs) where
   abbrev byte : ℕ → ℕ
   byte k = slice_index bs k
@@ -53,13 +53,13 @@ module _ (bs : List ℕ) (word : ℕ) (len : length bs ≡ 8) (fit : (k : ℕ) �
       rw e (ap (take 1) (bytes_are (word / 2 ^ 56) (byte 7) 0 0 0 0 0 0 0 (omega (arith, sum, fit 0, fit 1, fit 2, fit 3, fit 4, fit 5, fit 6)) (fit 7) (omega arith) (omega arith) (omega arith) (omega arith) (omega arith) (omega arith) (omega arith)) ∙ sym (ap (drop 7) (eight_of bs len)))
   last_bytes (suc (suc (suc (suc (suc (suc (suc (suc k)))))))) bits some few e = absurd (omega (arith, few))
 
--- what the first bytes of a chunk spell is spelled there
+-- two numbers that the first bytes of a chunk spell are spelled by the bytes that begin with the chunk
 pub first_chunk : (rest chunk : List ℕ) → chunk ≡ take 8 rest → (pair : Option Pair) → IfSome pair (λ p. p.len ≤ 8) → IfSome pair (λ p. SpellsTwoSigned (take p.len chunk) p.first p.second)
     → IfSome pair (λ p. SpellsTwoSigned (take p.len rest) p.first p.second)
 first_chunk rest chunk same None few spells = tt
 first_chunk rest chunk same (Some pair) few spells = rw (← (ap (take pair.len) same ∙ take-take pair.len 8 rest few)) spells
 
--- the bytes behind the front of a chunk are those at its place
+-- the bytes of a chunk after its front are the bytes at the place where the front ends
 pub last_chunk : (bytes word last : List ℕ) (from left place len : ℕ) → left < 8 → len ≤ left → from + (8 - left) ≡ place → word ≡ take 8 (drop from bytes) → take left last ≡ drop (8 - left) word
     → take len last ≡ take len (drop place bytes)
 last_chunk bytes word last from left place len few short there same is =
@@ -68,7 +68,7 @@ last_chunk bytes word last from left place len few short there same is =
     ap (drop (8 - left)) (same ∙ ap (λ n. take n (drop from bytes)) eight) ∙ drop-take (8 - left) left (drop from bytes) ∙ ap (take left) (drop-drop (8 - left) from bytes ∙ ap (λ n. drop n bytes) there) in
     sym (take-take len left last short) ∙ ap (take len) (is ∙ dropped) ∙ take-take len left (drop place bytes) short
 
--- two short numbers that a part spells, by the bytes it was read from
+-- two short numbers that a front spells are spelled by an equal part, also as the code holds them
 pub passed_two : (part front : List ℕ) (pair : Pair) → front ≡ part → SpellsTwoSigned front pair.first pair.second → IsShort pair.first × IsShort pair.second
     → SpellsTwoSigned part (to_z w64 (of_z w64 pair.first)) (to_z w64 (of_z w64 pair.second))
 passed_two part front pair same spells short =

@@ -1,23 +1,23 @@
 -- Bytes whose ends are counted, and the numbers that they spell. A varint may go on from one word into the next.
-use Rattle.std.proofs.Common.{◌≡◌, ℕ, zero, suc, ◌+◌, ◌-◌, ◌^◌, ◌<◌, ◌≤◌, List, [], ◌∷◌, ◌++◌, length, take, drop, slice_index, refl, sym, ap, subst, ◌∙◌, ◌⊎◌, inl, inr, arith, length-append, length-take, length-drop}
+use Rattle.std.proofs.Common.{◌≡◌, ℕ, zero, suc, ◌+◌, ◌-◌, ◌^◌, ◌<◌, ◌≤◌, List, [], ◌∷◌, ◌++◌, length, take, drop, slice_index, refl, sym, ap, subst, ◌∙◌, ◌⊎◌, inl, inr, arith, length-append, length-take, length-drop, true, false}
 use Rattle.std.proofs.Math.ListN.{get_or-append}
 use Rattle.std.proofs.Math.Nat.{pow-le-pow_right}
 use Rattle.std.proofs.Math.Seq.{get_or-append_seam, get_or-append_right, take-add, take-append_seam, take-length}
 use Rattle.std.proofs.lemmas.Bool.{cases_lt}
 use Rattle.std.proofs.lemmas.Grind.{common_steps}
 use Rattle.std.proofs.lemmas.List.Elements.{All-nil, All-cons, All-append}
-use Rattle.std.proofs.lemmas.List.{take_more, append-nil, append_assoc, take-take}
-use Rattle.twkb_num.specs.Varint.{Spells, SpellsAll, sum_of_groups, SpellsMany}
+use Rattle.std.proofs.lemmas.List.{get_or-take, get_or-drop, take_more, append-nil, append_assoc, take-take}
+use Rattle.twkb_num.specs.Varint.{Spells, SpellsAll, sum_of_groups, SpellsMany, IsStuck}
 use Rattle.twkb_num.specs.Devices.Ends.{ended, ends_to, IsEnd, IsLastEnd, IsFrontOf}
 use Rattle.twkb_num.proofs.VarintLemmas.{sum_of_groups-lt}
 use Rattle.twkb_num.proofs.NthEnds.{ended_once}
 
--- so many bytes are passed of a varint that goes on, behind a byte more
+-- how many bytes of an unfinished varint were passed, after one more byte: `begun` and that byte, or 0 if it ends the varint
 abbrev pub begun_then : ℕ → ℕ → ℕ
 begun_then begun zero = begun + 1
 begun_then begun (suc e) = 0
 
--- the same behind the first so many bytes
+-- how many bytes of an unfinished varint were passed after the first k bytes, if before them there were `begun`
 abbrev pub begun_to : ℕ → List ℕ → ℕ → ℕ
 begun_to begun bytes zero = begun
 begun_to begun bytes (suc k) = begun_then (begun_to begun bytes k) (ended bytes k)
@@ -26,12 +26,12 @@ begun_then_few : (begun e : ℕ) → begun_then begun e ≤ begun + 1
 begun_then_few begun zero = omega arith
 begun_then_few begun (suc e) = omega arith
 
--- bytes as many more at most
+-- k more bytes add at most k bytes to an unfinished varint
 begun_grows : (begun : ℕ) (bytes : List ℕ) (k : ℕ) → begun_to begun bytes k ≤ begun + k
 begun_grows begun bytes zero = omega arith
 begun_grows begun bytes (suc k) = omega (arith, begun_grows begun bytes k, begun_then_few (begun_to begun bytes k) (ended bytes k))
 
--- behind an end there are only those since
+-- if a varint ends among the last j bytes, the unfinished one has fewer than j
 begun_since : (begun : ℕ) (bytes : List ℕ) (i n j : ℕ) → n ≡ i + j → ends_to bytes i < ends_to bytes n → begun_to begun bytes n < j
 begun_since begun bytes i n zero is h = let same : n ≡ i = omega (arith, is) in absurd (omega (arith, h, ap (ends_to bytes) same))
 begun_since begun bytes i zero (suc j) is h = absurd (omega (arith, is))
@@ -41,7 +41,7 @@ begun_since begun bytes i (suc n) (suc j) is h = go (ended bytes n) refl (begun_
     go zero none since = rw none (let before : begun_to begun bytes n < j = since (omega (arith, h, none)) in omega (arith, before))
     go (suc e) one since = rw one (omega arith)
 
--- bytes more have as many ends at least
+-- more bytes have no fewer ends
 ends_to_grow : (bytes : List ℕ) (k n : ℕ) → k ≤ n → ends_to bytes k ≤ ends_to bytes n
 ends_to_grow bytes k zero h = let same : k ≡ 0 = omega (arith, h) in omega (arith, ap (ends_to bytes) same)
 ends_to_grow bytes k (suc n) h =
@@ -50,7 +50,7 @@ ends_to_grow bytes k (suc n) h =
       | inr here ↦ let same : k ≡ suc n = omega (arith, h, here) in omega (arith, ap (ends_to bytes) same)
     ]
 
--- where an end comes soon enough, a word's varints take seven bytes at most
+-- if the first end comes within seven bytes, no varint has more than six unfinished bytes within the word
 begun_few : (begun : ℕ) (word : List ℕ) (k : ℕ) → begun + k ≤ 7 → 1 ≤ ends_to word k → (i : ℕ) → i < 8 → begun_to begun word i ≤ 6
 begun_few begun word k soon end i h =
     elim (cases_lt i k) [
@@ -60,7 +60,7 @@ begun_few begun word k soon end i h =
           omega (arith, since, h)
     ]
 
--- The bytes spell so many numbers, each below 2^49, but for so many of the last, which go on.
+-- The bytes spell `many` numbers, each below 2^49, and after these come `begun` bytes of a varint that goes on.
 pub record IsPassed (bytes : List ℕ) (many begun : ℕ) : Type 0 where
   pub front : List ℕ
   pub last : List ℕ
@@ -73,7 +73,7 @@ pub record IsPassed (bytes : List ℕ) (many begun : ℕ) : Type 0 where
 pub passed_none : IsPassed [] 0 0
 passed_none = record { front = []; last = []; whole = refl; spells = record { numbers = []; count = refl; small = All-nil (λ n. n < 2 ^ 49); spelled = refl }; ends = λ some. absurd (omega (arith, some)); goes_on = λ k h. absurd (omega (arith, h)); long = refl }
 
--- a byte more that goes on
+-- one more byte, which goes on
 passed_on : (bytes : List ℕ) (many begun b : ℕ) → 128 ≤ b → IsPassed bytes many begun → IsPassed (bytes ++ b ∷ []) many (begun + 1)
 passed_on bytes many begun b more p = record {
   front = p.front;
@@ -90,13 +90,13 @@ passed_on bytes many begun b more p = record {
   long = omega (arith, length-append p.last (b ∷ []), p.long);
 }
 
--- numbers, and one behind them
+-- numbers, and one more after them
 SpellsAll-push : (bytes back : List ℕ) (ns : List ℕ) (n : ℕ) → SpellsAll bytes ns → Spells back n → SpellsAll (bytes ++ back) (ns ++ n ∷ [])
 SpellsAll-push bytes back [] n all last = (back, [], ap (λ (bs : List ℕ). bs ++ back) all ∙ sym (append-nil back), last, refl)
 SpellsAll-push bytes back (m ∷ ns) n (front, behind, whole, first, all) last =
     (front, behind ++ back, ap (λ (bs : List ℕ). bs ++ back) whole ∙ append_assoc front behind back, first, SpellsAll-push behind back ns n all last)
 
--- six bytes at most that go on, and an end
+-- at most six bytes that go on, and one that ends, spell a number below 2^49
 small_spelled : (last : List ℕ) (b : ℕ) → length last ≤ 6 → ((k : ℕ) → k < length last → 128 ≤ slice_index last k) → b < 128
     → Spells (last ++ b ∷ []) (sum_of_groups 0 (last ++ b ∷ [])) × (sum_of_groups 0 (last ++ b ∷ []) < 2 ^ 49)
 small_spelled last b few on end =
@@ -122,7 +122,7 @@ last_below front last b end =
     let at : length (front ++ (last ++ b ∷ [])) - 1 ≡ length (front ++ last) = omega (arith, length-append front (last ++ b ∷ []), length-append last (b ∷ []), length-append front last) in
     rw at (rw (← append_assoc front last (b ∷ [])) (omega (arith, end, get_or-append_seam (front ++ last) b [] 0)))
 
--- a byte more that is an end, behind six at most
+-- one more byte, which ends a varint of at most six bytes before it
 passed_end : (bytes : List ℕ) (many begun b : ℕ) → b < 128 → begun ≤ 6 → IsPassed bytes many begun → IsPassed (bytes ++ b ∷ []) (many + 1) 0
 passed_end bytes many begun b end few p =
     let (spells, small) = small_spelled p.last b (omega (arith, few, p.long)) p.goes_on end in
@@ -163,11 +163,11 @@ module _ (bytes word : List ℕ) (many begun : ℕ) (p : IsPassed bytes many beg
           rw (is, count) (passed_end (bytes ++ take k word) (many + ends_to word k) (begun_to begun word k) (slice_index word k) (omega (arith, is)) (few k (omega arith)) before)
       go (suc (suc e)) is before = absurd (omega (arith, is, ended_once word k))
 
--- the low bytes of the next word that need an end, where so many bytes go on from the word before
+-- the low bytes of the next word that need an end, if `begun` bytes of a varint were passed before it
 abbrev pub IsLow : ℕ → ℕ → Type 0
 IsLow low begun = ((low ≡ 2 ^ 56 - 1) × (begun ≡ 0)) ⊎ ((low ≡ 2 ^ 32 - 1) × (begun ≤ 3))
 
--- The bytes that are done spell all the numbers but those that are left, as far as they end.
+-- The first `done` bytes spell all but `left` of the numbers, and then perhaps the begin of the next.
 pub record IsEndsLoop (bytes : List ℕ) (many left done low : ℕ) : Type 0 where
   pub begun : ℕ
   pub passed : IsPassed (take done bytes) (many - left) begun
@@ -175,7 +175,7 @@ pub record IsEndsLoop (bytes : List ℕ) (many left done low : ℕ) : Type 0 whe
   pub within : done ≤ length bytes
   pub few : left ≤ many
 
--- what goes on in no byte is whole
+-- if no byte of an unfinished varint was passed, the bytes spell the numbers
 closed : (bytes : List ℕ) (many begun : ℕ) → begun ≡ 0 → IsPassed bytes many begun → SpellsMany bytes many
 closed bytes many begun none p = subst (λ (bs : List ℕ). SpellsMany bs many) (sym (p.whole ∙ ap (λ (bs : List ℕ). p.front ++ bs) (empty p.last (p.long ∙ none)) ∙ append-nil p.front)) p.spells
   where
@@ -196,7 +196,7 @@ ends_begin bytes many = record {
   few = omega arith;
 }
 
--- up to the last end they spell the numbers
+-- the bytes up to the last end spell the numbers
 last_spells : (bytes : List ℕ) (many begun size : ℕ) → IsPassed bytes many begun → IsLastEnd bytes size → SpellsMany (take size bytes) many
 last_spells bytes many begun size p l = subst (λ (bs : List ℕ). SpellsMany bs many) (sym (ap (take size) p.whole ∙ ap (λ (n : ℕ). take n (p.front ++ p.last)) size_is ∙ take-append_seam p.front p.last)) p.spells
   where
@@ -219,7 +219,7 @@ last_spells bytes many begun size p l = subst (λ (bs : List ℕ). SpellsMany bs
           ]
     ]
 
--- where a word doesn't tell, the bytes up to the last end are a front
+-- if a word doesn't show enough ends, the bytes up to the last end before it spell the numbers so far
 ends_stop : (bytes : List ℕ) (many begun done size : ℕ) → IsPassed (take done bytes) many begun → done ≤ length bytes → IsLastEnd (take done bytes) size → IsFrontOf bytes many size
 ends_stop bytes many begun done size p within l =
     let few : size ≤ done = omega (arith, l.within, length-take done bytes, within) in
@@ -233,7 +233,7 @@ loop_stops bytes many left done low size l last = ends_stop bytes (many - left) 
 
 module _ (bytes : List ℕ) (many left done low : ℕ) (l : IsEndsLoop bytes many left done low) (word : List ℕ) (is : word ≡ take 8 (drop done bytes)) (enough : 8 ≤ length (drop done bytes))
     (seven : low ≡ 2 ^ 56 - 1 → 1 ≤ ends_to word 7) (four : low ≡ 2 ^ 32 - 1 → 1 ≤ ends_to word 4) where
-  -- the first end is near
+  -- the varint that is begun ends within seven bytes
   near : (k : ℕ) × (l.begun + k ≤ 7) × (1 ≤ ends_to word k)
   near = elim l.below [
     | inl first ↦ (7, omega (arith, first.1), seven first.0)
@@ -243,7 +243,7 @@ module _ (bytes : List ℕ) (many left done low : ℕ) (l : IsEndsLoop bytes man
   long : length word ≡ 8
   long = ap length is ∙ omega (arith, length-take 8 (drop done bytes), enough)
 
-  -- so many bytes of the word more
+  -- `size` more bytes, which are the first of the word
   passed_in : (size : ℕ) → size ≤ 8 → IsPassed (take (done + size) bytes) (many - left + ends_to word size) (begun_to l.begun word size)
   passed_in size few =
       let front : take size word ≡ take size (drop done bytes) = ap (take size) is ∙ take-take size 8 (drop done bytes) few in
@@ -269,7 +269,7 @@ module _ (bytes : List ℕ) (many left done low : ℕ) (l : IsEndsLoop bytes man
           let at : suc size - 1 ≡ size = omega arith in
           ap (begun_then (begun_to l.begun word size)) (sym (ap (ended word) at) ∙ last)
 
-  -- all numbers of the word, and on to the next
+  -- all numbers that end in the word are passed, and the next word follows
   pub ends_go_on : (here : ℕ) → here ≡ ends_to word 8 → here < left → ends_to word 4 < ends_to word 8 → IsEndsLoop bytes many (left - here) (done + 8) (2 ^ 32 - 1)
   ends_go_on here here_is fewer high = record {
     begun = begun_to l.begun word 8;
@@ -288,3 +288,84 @@ two_spelled word size eight end =
     let early : 1 ≤ ends_to word 7 = omega (arith, end.count, ends_to_grow word size 8 end.few, ended_once word 7) in
     let here : 0 + size ≡ size = omega arith in
     subst (IsFrontOf word 2) here (ends_here word 2 2 0 (2 ^ 56 - 1) (ends_begin word 2) word all (omega (arith, eight)) (λ e. early) (λ e. absurd (omega (arith, e))) size end)
+
+-- ---- where it stops
+-- bytes that no end is among go on
+no_ends : (bytes : List ℕ) (i n k : ℕ) → i ≤ k → k < n → ends_to bytes n ≤ ends_to bytes i → 128 ≤ slice_index bytes k
+no_ends bytes i n k from to none =
+    let below : ends_to bytes i ≤ ends_to bytes k = ends_to_grow bytes i k from in
+    let above : ends_to bytes (suc k) ≤ ends_to bytes n = ends_to_grow bytes (suc k) n (omega (arith, to)) in
+    let is : ended bytes k ≡ 0 = omega (arith, below, above, none) in
+    omega (arith, is)
+
+-- the last end, and what goes on behind it
+last_size : (bytes : List ℕ) (many begun size : ℕ) → IsPassed bytes many begun → IsLastEnd bytes size → size + begun ≡ length bytes
+last_size bytes many begun size p l = omega (arith, size_is, long, p.long)
+  where
+    long : length bytes ≡ length p.front + length p.last
+    long = ap length p.whole ∙ length-append p.front p.last
+
+    before : (k : ℕ) → k < length p.front → slice_index bytes k ≡ slice_index p.front k
+    before k h = ap (λ (bs : List ℕ). slice_index bs k) p.whole ∙ get_or-append p.front p.last 0 k h
+
+    behind : (k : ℕ) → length p.front ≤ k → slice_index bytes k ≡ slice_index p.last (k - length p.front)
+    behind k h = ap (λ (bs : List ℕ). slice_index bs k) p.whole ∙ get_or-append_right p.front p.last k 0 h
+
+    size_is : size ≡ length p.front
+    size_is = elim (cases_lt size (length p.front)) [
+      | inl less ↦ let k : ℕ = length p.front - 1 in absurd (omega (arith, less, long, p.ends (omega (arith, less)), before k (omega (arith, less)), l.goes_on k (omega (arith, less)) (omega (arith, less, long))))
+      | inr more ↦
+          elim (cases_lt (length p.front) size) [
+            | inl over ↦ let k : ℕ = size - 1 in absurd (omega (arith, over, long, l.within, l.ends (omega (arith, over)), behind k (omega (arith, over)), p.goes_on (k - length p.front) (omega (arith, over, long, l.within))))
+            | inr same ↦ omega (arith, more, same)
+          ]
+    ]
+
+module _ (bytes : List ℕ) (many left done low size : ℕ) (l : IsEndsLoop bytes many left done low) (last : IsLastEnd (take done bytes) size) where
+  sum : size + l.begun ≡ done
+  sum = omega (arith, last_size (take done bytes) (many - left) l.begun size l.passed last, length-take done bytes, l.within)
+
+  three : l.begun ≤ 3
+  three = elim l.below [
+    | inl first ↦ omega (arith, first.1)
+    | inr other ↦ other.1
+  ]
+
+  pub stuck_at_end : length (drop done bytes) < 8 → IsStuck bytes size
+  stuck_at_end few = inl (omega (arith, few, sum, three, l.within, length-drop done bytes))
+
+  -- four bytes of the next word have no end
+  stuck_in : (word : List ℕ) → word ≡ take 8 (drop done bytes) → (i : ℕ) → i ≤ 4 → ends_to word (i + 4) ≤ ends_to word i → IsStuck bytes size
+  stuck_in word is i few none = inr (l.begun + i, omega (arith, three, few), go)
+    where
+      go : (k : ℕ) → k < 4 → 128 ≤ slice_index bytes (size + (l.begun + i) + k)
+      go k h =
+          let at : size + (l.begun + i) + k ≡ done + (i + k) = omega (arith, sum) in
+          let there : slice_index word (i + k) ≡ slice_index bytes (done + (i + k)) = ap (λ (bs : List ℕ). slice_index bs (i + k)) is ∙ get_or-take 8 (drop done bytes) (i + k) 0 (omega (arith, few, h)) ∙ get_or-drop done bytes (i + k) 0 in
+          omega (arith, no_ends word i (i + 4) (i + k) (omega arith) (omega (arith, h)) none, there, ap (slice_index bytes) at)
+
+  pub stuck_low : (word : List ℕ) → word ≡ take 8 (drop done bytes) → (low ≡ 2 ^ 56 - 1 → 1 ≤ ends_to word 7 → false ≡ true) → (low ≡ 2 ^ 32 - 1 → 1 ≤ ends_to word 4 → false ≡ true) → IsStuck bytes size
+  stuck_low word is seven four = stuck_in word is 0 (omega arith) (elim (cases_lt (ends_to word 4) 1) [
+    | inl none ↦ omega (arith, none)
+    | inr some ↦ elim l.below [
+      | inl first ↦ absurd (cc (seven first.0 (omega (arith, some, ends_to_grow word 4 7 (omega arith)))))
+      | inr other ↦ absurd (cc (four other.0 some))
+    ]
+  ])
+
+  pub stuck_high : (word : List ℕ) → word ≡ take 8 (drop done bytes) → (ends_to word 4 < ends_to word 8 → false ≡ true) → IsStuck bytes size
+  stuck_high word is high = stuck_in word is 4 (omega arith) (elim (cases_lt (ends_to word 4) (ends_to word 8)) [
+    | inl more ↦ absurd (cc (high more))
+    | inr none ↦ none
+  ])
+
+-- the same from the bytes before
+pub stuck_behind : (bytes : List ℕ) (place size : ℕ) → place ≤ length bytes → IsStuck (drop place bytes) size → IsStuck bytes (place + size)
+stuck_behind bytes place size within (inl few) = inl (omega (arith, few, within, length-drop place bytes))
+stuck_behind bytes place size within (inr (at, low, on)) = inr (
+  at,
+  low,
+  λ k h.
+      let same : place + (size + at + k) ≡ place + size + at + k = omega arith in
+      omega (arith, on k h, get_or-drop place bytes (size + at + k) 0, ap (slice_index bytes) same),
+)

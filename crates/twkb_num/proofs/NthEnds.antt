@@ -5,21 +5,21 @@ use Rattle.std.specs.Int.Bits.{bit_and}
 use Rattle.twkb_num.specs.Devices.Ends.{ended, ends_to, eight_bytes, IsEnd}
 use Rattle.twkb_num.proofs.EndLemmas.{tops_eight, lowest_0}
 
--- a byte ends one varint at most
+-- a byte ends at most one varint
 pub ended_once : (bytes : List ℕ) (k : ℕ) → ended bytes k ≤ 1
 ended_once bytes k = omega arith
 
--- so a byte more is an end more at most
+-- k bytes have at most k ends
 pub ends_to_few : (bytes : List ℕ) (k : ℕ) → ends_to bytes k ≤ k
 ends_to_few bytes zero = omega arith
 ends_to_few bytes (suc k) = omega (arith, ends_to_few bytes k, ended_once bytes k)
 
--- one byte more
+-- the number of ends in one more byte is the number before it and the end that it is, if any
 pub ends_to-suc : (bytes : List ℕ) (k : ℕ) → ends_to bytes (k + 1) ≡ ends_to bytes k + ended bytes k
 ends_to-suc bytes k = let e : k + 1 ≡ suc k = omega arith in ap (ends_to bytes) e
 
 module _ (bytes : List ℕ) (n : ℕ) (some : 1 ≤ n) (there : n ≤ ends_to bytes 8) where
-  -- at least 128 where so many ends are reached, and less before
+  -- at least 128 from the byte on where n ends are reached, and less before it
   abbrev pub lead : ℕ → ℕ
   lead k = ends_to bytes (k + 1) + 128 - n
 

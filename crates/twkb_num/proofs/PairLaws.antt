@@ -9,7 +9,7 @@ use Rattle.twkb_num.specs.Cursor.{Reading, passed, added, IsMoved}
 use Rattle.twkb_num.specs.Varint.{zigzag_value, SpellsAllSigned, SpellsTwoSigned, IsShort}
 use Rattle.twkb_num.proofs.CursorLemmas.{passed-append}
 
--- between two moves that pass together two parts there is a reading that is behind the first part
+-- a move over two parts is two moves: a reading between them is after the first part
 pub IsMoved-two : (a c : Reading) (front behind : List ℕ) → IsMoved a c → passed a c ≡ front ++ behind → (b : Reading) × IsMoved a b × IsMoved b c × (passed a b ≡ front) × (passed b c ≡ behind)
 IsMoved-two a c front behind m e =
     let n : ℕ = length front in
@@ -23,7 +23,7 @@ IsMoved-two a c front behind m e =
     let first : passed a b ≡ front = sym (take_at (passed a b) (passed b c) n long) ∙ ap (take n) both ∙ take_at front behind n refl in
     (b, there, back, first, append_cancel_left front (passed b c) behind (ap (λ x. x ++ passed b c) (sym first) ∙ both))
 
--- numbers that one move passes, the first two and the others, are two moves
+-- a move over two numbers and others is two moves, over the two and over the others
 pub pair_and_others : (a c : Reading) (x y : ℤ) (zs : List ℤ) → SpellsAllSigned (passed a c) (x ∷ y ∷ zs) → IsMoved a c
     → (b : Reading) × SpellsTwoSigned (passed a b) x y × IsMoved a b × SpellsAllSigned (passed b c) zs × IsMoved b c
 pair_and_others a c x y zs all m =
@@ -36,7 +36,7 @@ pair_and_others a c x y zs all m =
     let two : SpellsTwoSigned (first ++ second) x y = (all.3.0, more.3.0, record { front = first; behind = second; whole = refl; first = all.3.1; second = more.3.1 }, all.3.2, more.3.2) in
     (way.0, subst (λ bytes. SpellsTwoSigned bytes x y) (sym way.3) two, way.1, subst (λ bytes. SpellsAllSigned bytes zs) (sym way.4) more.4, way.2)
 
--- the last two
+-- a list of just two numbers is a pair
 pub last_pair : (a c : Reading) (x y : ℤ) → SpellsAllSigned (passed a c) (x ∷ y ∷ []) → SpellsTwoSigned (passed a c) x y
 last_pair a c x y all =
     let more = all.4 in (

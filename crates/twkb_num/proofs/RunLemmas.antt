@@ -4,7 +4,7 @@ use Rattle.twkb_num.specs.Cursor.{Reading, passed, IsMoved}
 use Rattle.twkb_num.specs.Varint.{Spells, SpellsMany}
 use Rattle.twkb_num.specs.Runs.{PassesRun, PassesRuns}
 
--- a run more
+-- runs that were passed, and one more, are runs that were passed
 pub one_run_more : (each runs before count : ℕ) (old last middle new : Reading) → PassesRuns each runs old last before → Spells (passed last middle) count → IsMoved last middle → SpellsMany (passed middle new) (count * each) → IsMoved middle new
     → PassesRuns each (runs + 1) old new (before + count)
 one_run_more each runs before count old last middle new runs_before counted there spelled on =

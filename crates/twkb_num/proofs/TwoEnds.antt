@@ -5,7 +5,8 @@ use Rattle.std.specs.Int.Bits.{bit_and, and_self}
 use Rattle.std.proofs.lemmas.Nat.{and_block, and_le_l, and_mask, pow_pos}
 use Rattle.std.proofs.lemmas.Bool.{cases_lt}
 use Rattle.twkb_num.specs.Devices.Ends.{ended, ends_to, eight_bytes, IsEnd}
-use Rattle.twkb_num.proofs.EndLemmas.{lowest_0}
+use Rattle.twkb_num.specs.Varint.{EndsOnce}
+use Rattle.twkb_num.proofs.EndLemmas.{lowest_0, all_zero}
 use Rattle.twkb_num.proofs.NthEnds.{ended_once, ends_to-suc}
 
 -- a number and the one before it have no 1 in common where its lowest 1 is, and the same bits above
@@ -17,28 +18,28 @@ clear_lowest n q k double over e =
     let zero_right : q * 2 ^ (k + 1) + 0 ≡ q * 2 ^ (k + 1) = omega arith in
     ap₂ bit_and e less ∙ and_block (k + 1) q q (2 ^ k) (2 ^ k - 1) (omega (arith, double, some)) (omega (arith, double, some)) ∙ ap₂ (λ x y. x * 2 ^ (k + 1) + y) (and_self q) none ∙ zero_right
 
--- nothing up to the i-th, and behind it what was there
+-- zero up to the i-th place, and the values of f after it
 abbrev pub cleared : ℕ → (ℕ → ℕ) → ℕ → ℕ
 cleared zero f zero = 0
 cleared zero f (suc k) = f (suc k)
 cleared (suc i) f zero = 0
 cleared (suc i) f (suc k) = cleared i (λ k. f (suc k)) k
 
--- what is one at most still is where some are cleared
+-- a value of at most 1 is at most 1 after some values are cleared
 cleared_few : (i : ℕ) (f : ℕ → ℕ) (k : ℕ) → f k ≤ 1 → cleared i f k ≤ 1
 cleared_few zero f zero h = omega arith
 cleared_few zero f (suc k) h = h
 cleared_few (suc i) f zero h = omega arith
 cleared_few (suc i) f (suc k) h = cleared_few i (λ k. f (suc k)) k h
 
--- behind the last that is cleared nothing changes
+-- after the i-th place the values are unchanged
 cleared_behind : (i : ℕ) (f : ℕ → ℕ) (k : ℕ) → i < k → cleared i f k ≡ f k
 cleared_behind zero f zero h = absurd (omega (arith, h))
 cleared_behind zero f (suc k) h = refl
 cleared_behind (suc i) f zero h = absurd (omega (arith, h))
 cleared_behind (suc i) f (suc k) h = cleared_behind i (λ k. f (suc k)) k (omega (arith, h))
 
--- up to there all are zero
+-- up to the i-th place the values are zero
 cleared_to : (i : ℕ) (f : ℕ → ℕ) (k : ℕ) → k ≤ i → cleared i f k ≡ 0
 cleared_to zero f zero h = refl
 cleared_to zero f (suc k) h = absurd (omega (arith, h))
@@ -67,7 +68,7 @@ none_between bytes i (suc j) h on =
       | inr here ↦ let same : suc j ≡ i = omega (arith, h, here) in ap (ends_to bytes) same
     ]
 
--- the lowest top but one is that of the second end
+-- the lowest top but one is the top of the second end
 second_top_ends : (bytes : List ℕ) (n : ℕ) → n ≡ eight_bytes (λ k. ended bytes k * 128) → (bit_and n (n - 1) ≡ 0 → ⊥) → IsEnd bytes 2 (trailing_zeros w64 (bit_and n (n - 1)) / 8 + 1)
 second_top_ends bytes n is some =
     let f : ℕ → ℕ = ended bytes in
@@ -91,7 +92,7 @@ second_top_ends bytes n is some =
       count = omega (arith, last, before, between, end, ends_to-suc bytes i, ends_to-suc bytes j);
     }
 
--- the same where the number before is as the code has it
+-- the second end, with the predecessor of a number as the code computes it, by wrapping
 pub second_end_found : (bytes : List ℕ) (n : ℕ) → n < 2 ^ 64 → n ≡ eight_bytes (λ k. ended bytes k * 128) → (bit_and n ((n + (2 ^ 64 - 1)) % 2 ^ 64) ≡ 0 → ⊥) → IsEnd bytes 2 (trailing_zeros w64 (bit_and n ((n + (2 ^ 64 - 1)) % 2 ^ 64)) / 8 + 1)
 second_end_found bytes n fits is some =
     let m : ℕ = (n + (2 ^ 64 - 1)) % 2 ^ 64 in
@@ -101,3 +102,30 @@ second_end_found bytes n fits is some =
     ] in
     let before : m ≡ n - 1 = omega (arith, not_zero, fits) in
     rw before (second_top_ends bytes n is (λ none. some (ap (bit_and n) before ∙ none)))
+
+-- where the lowest top is the only one, at most one byte ends
+one_top_ends : (bytes : List ℕ) (n : ℕ) → n ≡ eight_bytes (λ k. ended bytes k * 128) → 1 ≤ n → bit_and n (n - 1) ≡ 0 → EndsOnce bytes
+one_top_ends bytes n is some none =
+    let f : ℕ → ℕ = ended bytes in
+    let not_zero : n ≡ 0 → ⊥ = λ z. omega (arith, z, some) in
+    let (i, few, at, on, end) = lowest_0 f n (λ k h. ended_once bytes k) is not_zero (λ k h. absurd (omega (arith, h))) in
+    let m : ℕ = bit_and n (n - 1) in
+    let is_m = cleared_is f n is i few on end in
+    λ j k before h ends.
+    let from : i ≤ j = elim (cases_lt j i) [
+      | inl h ↦ absurd (omega (arith, on j h, ends))
+      | inr h ↦ h
+    ] in
+    omega (arith, sym (cleared_behind i f k (omega (arith, from, before))) ∙ all_zero (cleared i f) m (λ k h. cleared_few i f k (ended_once bytes k)) is_m none k h)
+
+-- the same where the number before is as the code has it
+pub no_second_end : (bytes : List ℕ) (n : ℕ) → n < 2 ^ 64 → n ≡ eight_bytes (λ k. ended bytes k * 128) → bit_and n ((n + (2 ^ 64 - 1)) % 2 ^ 64) ≡ 0 → EndsOnce bytes
+no_second_end bytes n fits is none =
+    elim (cases_lt 0 n) [
+      | inl some ↦
+          let before : (n + (2 ^ 64 - 1)) % 2 ^ 64 ≡ n - 1 = omega (arith, some, fits) in
+          one_top_ends bytes n is (omega (arith, some)) (sym (ap (bit_and n) before) ∙ none)
+      | inr h ↦
+          let zero : n ≡ 0 = omega (arith, h) in
+          λ i k before few ends. omega (arith, all_zero (ended bytes) n (λ k h. ended_once bytes k) is zero k few)
+    ]

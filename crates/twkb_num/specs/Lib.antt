@@ -1,4 +1,4 @@
--- In reading order.
+-- What the contracts of this crate name, in reading order.
 pub mod Varint
 pub mod Cursor
 pub mod Runs

@@ -1,8 +1,8 @@
 //! A cursor over bytes, which counts what it reads.
-ghost use Rattle.std.specs.Prelude.{◌≡◌, ◌+◌, ◌-◌, ◌<◌, ◌≤◌, ◌^◌, ◌↔◌, ℕ, ℤ, List, [], ◌∷◌, ◌++◌, length, take, IsNone, IfOk, IfErr, IfSome, IfNone, OnOk, OnSome};
+ghost use Rattle.std.specs.Prelude.{◌≡◌, ◌+◌, ◌-◌, ◌<◌, ◌≤◌, ◌^◌, ◌↔◌, ◌⊎◌, ℕ, ℤ, List, [], ◌∷◌, ◌++◌, length, take, IsNone, IfOk, IfErr, IfSome, IfNone, OnOk, OnSome};
 ghost use Rattle.twkb_num.specs.Cursor.{rest, passed, counted, IsMoved, IsSound};
 ghost use Rattle.twkb_num.specs.Devices.Ends.{IsFirstEnd};
-ghost use Rattle.twkb_num.specs.Varint.{SpellsMany, Spells, IsSigned, Faults, IsCut, looked_at};
+ghost use Rattle.twkb_num.specs.Varint.{SpellsMany, Spells, IsSigned, Faults, IsCut, looked_at, IsUnended, IsStuck, StopsBefore};
 ghost use Rattle.twkb_num.specs.declared.varint.NumFault.TheVariants.{Cut};
 ghost use Rattle.twkb_num.specs.Devices.Varint.{IsBegunBy};
 
@@ -19,13 +19,31 @@ use std::marker::Model;
 /// Some calls read or pass numbers by words of eight bytes, such as [`Cursor::svarint_pair`], [`Cursor::pass_varint`] and
 /// [`Cursor::pass_varints`], or by vectors from the next 32 bytes, as [`Cursor::svarint_four`] and [`Cursor::svarint_eight`] do. They
 /// touch bytes after the numbers too, as reading a cache line does, but count only the bytes of the numbers. If such a call returns
-/// `None`, or vectors that weren't read, the caller learns one bit about bytes that aren't counted: the numbers at the place are
-/// too long for the call, or too near the end.
+/// `None`, or vectors that weren't read, or passes fewer numbers than requested, it tells something about bytes that aren't counted:
+/// the numbers at the place are too long for the call, or too near the end. A clause of its contract says what holds then. It
+/// doesn't say that the call reads nothing wherever this holds: that the call tells no other bit there, only its code shows. In this
+/// list a byte goes on if it is at least 128, and four bytes do if each of four, one after another, is.
 ///
-/// - [`Cursor::pass_varints`] tells this bit of the place where it stops.
-/// - [`Cursor::pass_short_varints`] tells it of all the numbers that were requested, at most 65,536.
-/// - [`Cursor::pass_short_runs`] and [`Cursor::pass_counted_runs`] tell it of all the runs that were requested: at most 65,536
-///   numbers, in at most 65,536 runs, with a count before each.
+/// - [`Cursor::pass_varint`]: fewer than eight bytes are left, or the next eight all go on (`told`).
+/// - [`Cursor::pass_pair`]: fewer than eight bytes are left, or at most one of the next eight ends a varint (`told`).
+/// - [`Cursor::svarint_pair`] and [`Cursor::svarint_mixed_pair`]: fewer than eight bytes are left, or four of the next eight go on
+///   (`told`).
+/// - [`Cursor::svarint_pair_and_one`] and [`Cursor::svarint_two_pairs`]: the same of twelve bytes and of sixteen (`told`).
+/// - [`Cursor::svarint_four`]: fewer than 32 bytes are left, or four of the next sixteen go on (`told`).
+/// - [`Cursor::svarint_eight`]: fewer than 32 bytes are left, or two of the next sixteen, one after the other, go on (`told`).
+/// - [`Cursor::pass_varints`]: fewer than eleven bytes are left after the place where it stops, or four of the next eleven go on
+///   (`stops`).
+/// - [`Cursor::pass_short_varints`]: fewer bytes are left than numbers were requested, or fewer numbers stand before a place where
+///   [`Cursor::pass_varints`] may stop (`told`). At most 65,536 numbers are requested.
+/// - [`Cursor::pass_short_runs`] and [`Cursor::pass_counted_runs`]: after fewer runs than were requested a count is a fault, or
+///   greater than the groups that are left, or of its run the same holds as of [`Cursor::pass_short_varints`] (`told`). For the
+///   second the count of runs may be a fault or greater than 65,536, too. At most 65,536 numbers are passed, in at most 65,536 runs,
+///   with a count before each.
+///
+/// The last two compare counts in the bytes with numbers that the caller hands them. So their `None` tells one bit about a count, and
+/// code that calls them several times at one place, with other numbers, can learn more than one bit. For the bytes `[b, 0]`,
+/// `pass_short_runs(1, 0, 126)` returns `None` exactly if b is 127 or 255, and `pass_short_runs(2, 0, 127)` exactly if b is at least
+/// 128: both do exactly if b is 255. No contract here excludes such code.
 ///
 /// Contracts see a cursor as a `Reading`. Each call takes constant space. Calls that pass many varints take time in proportion to
 /// the bytes that they look at. All others take constant time, since a varint has at most ten bytes.
@@ -33,8 +51,8 @@ use std::marker::Model;
 pub struct Cursor<'a> {
     bytes: &'a [u8],
     place: usize,
-    // The count is that of `counted_before` and of the bytes from `start` to the place, so that a read
-    // moves the place alone. A jump starts anew; a fault, whose bytes aren't passed, adds to `counted_before`.
+    // The count is `counted_before` and the number of bytes from `start` to the place, so that a read changes only the place.
+    // A jump moves `start` too. A fault adds to `counted_before`, since the bytes looked at aren't passed.
     start: usize,
     counted_before: u64,
 }
@@ -76,7 +94,7 @@ impl<'a> Cursor<'a> {
     #[inline]
     pub fn place(&self) -> usize
         ensures value { result ≡ self.now.place }
-        // What every cursor keeps: a caller with a loop learns it here.
+        // Every cursor keeps this; a caller with a loop learns it here.
         ensures sound { IsSound self.now }
     {
         self.place
@@ -90,7 +108,7 @@ impl<'a> Cursor<'a> {
         let _place = self.place();
     }
 
-    /// The number of all bytes, those before the place too.
+    /// The number of all bytes, also of the bytes before the place.
     #[inline]
     pub fn len(&self) -> usize
         ensures { result ≡ length self.now.bytes }
@@ -98,7 +116,7 @@ impl<'a> Cursor<'a> {
         self.bytes.len()
     }
 
-    /// How many bytes were read so far, including those that were looked at to find a fault.
+    /// How many bytes were read so far, including bytes that were looked at to find a fault.
     #[inline]
     pub fn read_count(&self) -> u64
         ensures { result ≡ self.now.count }
@@ -184,7 +202,8 @@ impl<'a> Cursor<'a> {
         self.long_uvarint(u64::from(first % 128) + 128 * u64::from(second % 128))
     }
 
-    // The varint whose first two bytes go on, and sum up to `value`. It is inlined, so that the cursor stays in registers.
+    // Reads a varint that its first two bytes don't end; `value` is the sum of their groups. It is inlined, so that the cursor
+    // stays in registers.
     #[inline(always)]
     fn long_uvarint(&mut self, value: u64) -> Result<u64, NumFault>
         requires { IsBegunBy 2 (rest self.old) value }
@@ -254,6 +273,7 @@ impl<'a> Cursor<'a> {
         ensures some { OnSome result ((n : ℕ) × Spells (passed self.old self.new) n) }
         ensures moved { OnSome result (IsMoved self.old self.new) }
         ensures none { IfNone result (self.new ≡ self.old) }
+        ensures told { IfNone result (IsUnended (rest self.old)) }
     {
         let len = self.short_length()?;
         self.place += len;
@@ -264,12 +284,14 @@ impl<'a> Cursor<'a> {
     /// eight bytes. If fewer bytes are left, or no varint ends in half a word, it stops after the last varint that ends before. So
     /// each varint that it passes takes at most seven bytes.
     ///
-    /// All bytes that it passes are counted. A result less than `many` tells one bit of the next eleven bytes, which aren't
-    /// counted: no varint ends in four consecutive ones of them, or fewer than eleven are left.
+    /// All bytes that it passes are counted. A result less than `many` tells this of the bytes after them, which aren't counted:
+    /// the up to three bytes from where it stops to the next multiple of eight, counted from the place before the call, are all at
+    /// least 128, and of the next eleven bytes either fewer are left, or four in a row are at least 128.
     #[inline(always)]
     pub fn pass_varints(&mut self, many: u64) -> u64
         ensures few { result ≤ many }
         ensures passed { SpellsMany (passed self.old self.new) result }
+        ensures stops { result < many → IsStuck self.old.bytes self.new.place }
         ensures moved { IsMoved self.old self.new }
     {
         let run = run_of(&self.bytes[self.place..], many);
@@ -283,6 +305,7 @@ impl<'a> Cursor<'a> {
     pub fn pass_short_varints(&mut self, many: u64) -> Option<()>
         requires { many ≤ 2 ^ 16 }
         ensures some { OnSome result (SpellsMany (passed self.old self.new) many) }
+        ensures told { IfNone result ((length (rest self.old) < many) ⊎ StopsBefore many (rest self.old)) }
         ensures moved { OnSome result (IsMoved self.old self.new) }
         ensures none { IfNone result (self.new ≡ self.old) }
     {
@@ -301,7 +324,8 @@ impl<'a> Cursor<'a> {
     // How many bytes the varint at the place takes, where eight bytes are left and it takes no more.
     #[inline(always)]
     fn short_length(&self) -> Option<usize>
-        ensures { IfSome result (IsFirstEnd (rest self.now)) }
+        ensures some { IfSome result (IsFirstEnd (rest self.now)) }
+        ensures told { IfNone result (IsUnended (rest self.now)) }
     {
         first_end(self.bytes[self.place..].first_chunk::<8>()?)
     }

@@ -1,5 +1,6 @@
 //! Where varints end, found in words of eight bytes.
 ghost use Rattle.std.specs.Prelude.{◌≡◌, ◌↔◌, ◌+◌, ◌*◌, ◌-◌, ◌≤◌, ◌<◌, ◌^◌, ℕ, slice_index, IsTrue, IfSome, IfNone};
+ghost use Rattle.twkb_num.specs.Varint.{IsStuck, EndsOnce};
 ghost use Rattle.twkb_num.specs.Devices.Ends.{IsFirstEnd, ended, ends_to, eight_bytes, IsEnd, IsLastEnd, IsFrontOf};
 
 /// The top bit of each byte of a word, which is set where a varint goes on.
@@ -32,6 +33,7 @@ pub fn first_end(bytes: &[u8; 8]) -> Option<usize>
 pub fn second_end(bytes: &[u8; 8]) -> Option<usize>
     ensures few { IfSome result (λ size. size ≤ 8) }
     ensures front { IfSome result (IsFrontOf bytes.now 2) }
+    ensures told { IfNone result (EndsOnce bytes.now) }
 {
     let ends = tops_of_ends(bytes);
     let others = ends & ends.wrapping_sub(1);
@@ -48,17 +50,18 @@ pub struct Run {
     pub size: usize,
 }
 
-/// The first varints, `many` at most, up to the first word of eight bytes that doesn't tell where they end: each half of a word
-/// has to contain an end, or of the first word seven bytes. So each varint takes at most seven bytes. Ends are counted, and no
-/// step waits for the length of a varint.
+/// Finds the first varints, at most `many`, in words of eight bytes. It stops before a word without an end in its first half, or
+/// of the first word in its first seven bytes. It also stops before a word without an end in its second half, unless the last
+/// varint ends in the word. So each varint takes at most seven bytes. Ends are counted, and no step waits for a varint's length.
 #[inline(always)]
 pub fn run_of(bytes: &[u8], many: u64) -> Run
     ensures few { result.many ≤ many }
     ensures front { IsFrontOf bytes.now result.many result.size }
+    ensures stuck { result.many < many → IsStuck bytes.now result.size }
 {
     let mut left = many;
     let mut done = 0;
-    // Of the varint that goes on from the word before at most three bytes are passed.
+    // A varint that goes on from the word before has at most three bytes there, so later words need an end in the first half.
     let mut low = SEVEN;
     while 0 < left {
         let Some(word) = bytes[done..].first_chunk::<8>() else {
@@ -87,7 +90,7 @@ pub fn run_of(bytes: &[u8], many: u64) -> Run
     }
 }
 
-/// How many bytes there are up to the last end.
+/// The number of bytes up to the last one that ends a varint, or 0 if none does.
 #[cold]
 #[inline(never)]
 fn last_end(bytes: &[u8]) -> usize
@@ -100,7 +103,7 @@ fn last_end(bytes: &[u8]) -> usize
     size
 }
 
-/// The tops of the bytes that end a varint.
+/// The word with the top bit set in each byte that ends a varint, and no other bit.
 #[inline(always)]
 fn tops_of_ends(bytes: &[u8; 8]) -> u64
     ensures { result ≡ eight_bytes (λ k. ended bytes.now k * 128) }
@@ -108,7 +111,7 @@ fn tops_of_ends(bytes: &[u8; 8]) -> u64
     !u64::from_le_bytes(*bytes) & TOPS
 }
 
-/// In each byte, how many of those up to there end a varint.
+/// The word whose byte k is the number of bytes up to byte k, k included, that end a varint.
 #[inline(always)]
 fn counts_of_ends(bytes: &[u8; 8]) -> u64
     ensures { result ≡ eight_bytes (λ k. ends_to bytes.now (k + 1)) }
@@ -124,7 +127,7 @@ fn count_of_ends(bytes: &[u8; 8]) -> u64
     u64::from(tops_of_ends(bytes).count_ones())
 }
 
-/// Whether a varint ends in the bytes that a mask has.
+/// Whether a varint ends in the bytes that the mask `low` selects.
 #[inline(always)]
 fn has_end_below(bytes: &[u8; 8], low: u64) -> bool
     ensures seven { low ≡ 2 ^ 56 - 1 → IsTrue result ↔ 1 ≤ ends_to bytes.now 7 }
@@ -141,7 +144,7 @@ fn has_high_end(bytes: &[u8; 8]) -> bool
     tops_of_ends(bytes) >> 32 != 0
 }
 
-/// How many bytes there are up to the n-th end.
+/// The number of bytes up to the n-th one that ends a varint.
 #[inline(always)]
 fn end_of(bytes: &[u8; 8], n: u64) -> usize
     requires some { 1 ≤ n }

@@ -1,13 +1,13 @@
 //! Varints from the next 32 bytes, read into the lanes of vectors.
 ghost use Rattle.std.specs.Prelude.{◌≡◌, ◌+◌, ◌<◌, ◌≤◌, ◌/◌, ◌%◌, ◌^◌, ℕ, map, slice_index, take, All};
 ghost use Rattle.std.specs.Int.{w16, w32, cast_signed};
-ghost use Rattle.twkb_num.specs.Varint.{zigzag_value, SpellsAll, SpellsAllSigned, IsShort, IsBrief};
+ghost use Rattle.twkb_num.specs.Varint.{zigzag_value, SpellsAll, SpellsAllSigned, IsShort, IsBrief, HasLong};
 ghost use Rattle.twkb_num.specs.Devices.Lanes.{two_groups, four_groups, byte_at, IsTops, IsFlag, values};
 
 use crate::tables::{narrow_len, narrow_places, wide_len, wide_places};
 use std::simd::prelude::*;
 
-/// The first numbers of sixteen bytes, the bytes of each in a lane, and how many bytes they take. 128: one is too long.
+/// The first numbers of sixteen bytes, each with its bytes in a lane, and the length of all. A length of 128: one is too long.
 #[derive(Clone, Copy)]
 struct Front {
     lanes: u8x16,
@@ -34,6 +34,7 @@ pub fn wide_four(bytes: &[u8; 32]) -> Wide
     ensures few { result.len < 128 → result.len ≤ 16 }
     ensures spelled { result.len < 128 → SpellsAllSigned (take result.len bytes.now) (map (cast_signed w32) result.lanes) }
     ensures short { All IsShort (map (cast_signed w32) result.lanes) }
+    ensures long { 128 ≤ result.len → HasLong 4 16 bytes.now }
 {
     let v = u8x16::from_slice(&bytes[0..16]);
     let tops = continuation_bits(v);
@@ -56,6 +57,7 @@ pub fn narrow_eight(bytes: &[u8; 32]) -> Narrow
     ensures few { result.len < 128 → result.len ≤ 16 }
     ensures spelled { result.len < 128 → SpellsAllSigned (take result.len bytes.now) (map (cast_signed w16) result.lanes) }
     ensures brief { All IsBrief (map (cast_signed w16) result.lanes) }
+    ensures long { 128 ≤ result.len → HasLong 2 16 bytes.now }
 {
     let v = u8x16::from_slice(&bytes[0..16]);
     let tops = continuation_bits(v);
@@ -78,6 +80,7 @@ fn wide_two(v: u8x16, tops: usize) -> Front
     requires tops { IsTops tops v }
     ensures flag { IsFlag result.len }
     ensures spelled { result.len < 128 → SpellsAll (take result.len v) (values 4 2 result.lanes 0) }
+    ensures long { result.len ≡ 128 → HasLong 4 8 v }
 {
     Front {
         lanes: picked(v, wide_places(tops)),
@@ -92,6 +95,7 @@ fn narrow_four(v: u8x16, tops: usize) -> Front
     requires tops { IsTops tops v }
     ensures flag { IsFlag result.len }
     ensures spelled { result.len < 128 → SpellsAll (take result.len v) (values 2 4 result.lanes 0) }
+    ensures long { result.len ≡ 128 → HasLong 2 8 v }
 {
     Front {
         lanes: picked(v, narrow_places(tops)),
@@ -107,7 +111,7 @@ fn continuation_bits(v: u8x16) -> u32
     (v.simd_ge(u8x16::splat(128)).to_bitmask() % 65536) as u32
 }
 
-/// The continuation bits of the eight bytes after the first `len`.
+/// The continuation bits of the eight bytes after the first `len`, of the continuation bits of sixteen bytes.
 #[inline(always)]
 fn bits_from(tops: u32, len: u32) -> usize
     requires { IsFlag len }
@@ -122,11 +126,11 @@ fn bits_from(tops: u32, len: u32) -> usize
 fn picked(v: u8x16, places: u8x16) -> u8x16
     ensures { (i : ℕ) → i < 16 → slice_index result i ≡ byte_at v (slice_index places i) }
 {
-    // What `pshufb` reads of a place, so that no comparison is left.
+    // These are the bits of a place that `pshufb` reads, so the compiler makes no comparison.
     v.swizzle_dyn(places & u8x16::splat(0x8f))
 }
 
-/// The first eight bytes of one vector, and then those of another.
+/// The first eight bytes of one vector, and then the first eight of another.
 #[inline(always)]
 fn low_halves(lo: u8x16, hi: u8x16) -> u8x16
     ensures low { (i : ℕ) → i < 8 → slice_index result i ≡ slice_index lo i }

@@ -1,7 +1,7 @@
 //! Two varints from the next eight bytes, read as one word.
-ghost use Rattle.std.specs.Prelude.{◌≡◌, ◌<◌, ◌≤◌, ◌^◌, take, IfSome};
-ghost use Rattle.twkb_num.specs.Varint.{IsShort, SpellsTwo, SpellsTwoSigned, zigzag_value};
-ghost use Rattle.twkb_num.specs.Devices.Word.{IsFront};
+ghost use Rattle.std.specs.Prelude.{◌≡◌, ◌<◌, ◌≤◌, ◌^◌, take, IfSome, IfNone};
+ghost use Rattle.twkb_num.specs.Varint.{IsShort, SpellsTwo, SpellsTwoSigned, zigzag_value, HasLong};
+ghost use Rattle.twkb_num.specs.Devices.Word.{IsFront, AllGoOn};
 
 use crate::signed::unzigzag;
 
@@ -37,7 +37,7 @@ impl Two {
     }
 }
 
-/// The numbers that the front of the eight bytes spells, where both take one byte or both take two. `None` says nothing.
+/// The two numbers that the front of the eight bytes spells, if both take one byte or both take two. `None` says nothing.
 #[inline(always)]
 fn short_two(bytes: &[u8; 8]) -> Option<Two>
     ensures len { IfSome result (λ two. two.len ≤ 8) }
@@ -65,12 +65,13 @@ fn short_two(bytes: &[u8; 8]) -> Option<Two>
 }
 
 /// The two signed numbers that the front of the eight bytes spells, if each takes at most four bytes. `None` says nothing.
-// Zigzag is undone where each length is known: behind both, the compiler would put the two numbers into one register.
+// Each arm undoes zigzag by itself: after the `match`, the compiler would put the two numbers into one register.
 #[inline(always)]
 pub fn next_pair(bytes: &[u8; 8]) -> Option<Pair>
     ensures len { IfSome result (λ pair. pair.len ≤ 8) }
     ensures some { IfSome result (λ pair. SpellsTwoSigned (take pair.len bytes.now) pair.first pair.second) }
     ensures short { IfSome result (λ pair. IsShort pair.first × IsShort pair.second) }
+    ensures told { IfNone result (HasLong 4 8 bytes.now) }
 {
     match short_two(bytes) {
         Some(two) => Some(two.signed()),
@@ -87,6 +88,7 @@ pub fn next_mixed_pair(bytes: &[u8; 8]) -> Option<Pair>
     ensures len { IfSome result (λ pair. pair.len ≤ 8) }
     ensures some { IfSome result (λ pair. SpellsTwoSigned (take pair.len bytes.now) pair.first pair.second) }
     ensures short { IfSome result (λ pair. IsShort pair.first × IsShort pair.second) }
+    ensures told { IfNone result (HasLong 4 8 bytes.now) }
 {
     let two = mixed_two(bytes)?;
     Some(two.signed())
@@ -99,12 +101,13 @@ struct Front {
     bits: u32,
 }
 
-/// Two numbers of which each takes at most four bytes, of any lengths.
+/// The two numbers that the front of the eight bytes spells, if each takes at most four bytes. `None` says nothing.
 #[inline(always)]
 fn mixed_two(bytes: &[u8; 8]) -> Option<Two>
     ensures len { IfSome result (λ two. two.len ≤ 8) }
     ensures some { IfSome result (λ two. SpellsTwo (take two.len bytes.now) two.first two.second) }
     ensures short { IfSome result (λ two. (two.first < 2 ^ 28) × (two.second < 2 ^ 28)) }
+    ensures told { IfNone result (HasLong 4 8 bytes.now) }
 {
     let word = u64::from_le_bytes(*bytes);
     let first = front_of((word % (1 << 32)) as u32)?;
@@ -117,11 +120,12 @@ fn mixed_two(bytes: &[u8; 8]) -> Option<Two>
     })
 }
 
-// The number that the lowest bytes spell, if there is an end among them.
+// The number that the lowest bytes spell, and its length in bits. `None` if no byte of the four ends it.
 #[inline(always)]
 fn front_of(low: u32) -> Option<Front>
     ensures some { IfSome result (λ front. IsFront low front.bits front.value) }
     ensures short { IfSome result (λ front. front.value < 2 ^ 28) }
+    ensures told { IfNone result (AllGoOn low) }
 {
     let ends = !low & 0x8080_8080;
     if ends == 0 {

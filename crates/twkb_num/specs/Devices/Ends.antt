@@ -3,7 +3,7 @@
 use Rattle.std.specs.Prelude.{◌≡◌, ◌+◌, ◌-◌, ◌*◌, ◌/◌, ◌<◌, ◌≤◌, ℕ, zero, suc, List, length, take, slice_index}
 use Rattle.twkb_num.specs.Varint.{SpellsMany}
 
--- the bytes go on up to one below 128, which is the last of the first so many
+-- the first byte below 128 is the last of the first `many` bytes, and `many` is at most 8
 pub record IsFirstEnd (bytes : List ℕ) (many : ℕ) : Type 0 where
   pub some : 1 ≤ many
   pub few : many ≤ 8
@@ -24,11 +24,11 @@ ends_to bytes (suc k) = ends_to bytes k + ended bytes k
 abbrev pub four_bytes : (ℕ → ℕ) → ℕ → ℕ
 four_bytes f i = (f (i + 3) * 256 + f (i + 2)) * 65536 + (f (i + 1) * 256 + f i)
 
--- the same of the first eight
+-- eight numbers as one, each in a byte, the first of them lowest
 abbrev pub eight_bytes : (ℕ → ℕ) → ℕ
 eight_bytes f = four_bytes f 4 * 4294967296 + four_bytes f 0
 
--- this many bytes end with the n-th end
+-- the n-th byte that ends a varint is the last of the first `many` bytes, and `many` is at most 8
 pub record IsEnd (bytes : List ℕ) (n many : ℕ) : Type 0 where
   pub some : 1 ≤ many
   pub few : many ≤ 8

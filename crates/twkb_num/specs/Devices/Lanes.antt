@@ -23,7 +23,7 @@ abbrev pub value_at : ℕ → List ℕ → ℕ → ℕ
 value_at zero bytes i = 0
 value_at (suc n) bytes i = slice_index bytes i % 128 + 128 * value_at n bytes (suc i)
 
--- k such numbers, one after another
+-- k numbers (`value_at`) of n bytes each, one after another, from place i on
 abbrev pub values : ℕ → ℕ → List ℕ → ℕ → List ℕ
 values n zero bytes i = []
 values n (suc k) bytes i = value_at n bytes i ∷ values n k bytes (i + n)

@@ -1,8 +1,8 @@
 //! Signed numbers at a cursor's place, read together into the lanes of a vector.
-ghost use Rattle.std.specs.Prelude.{◌≡◌, [], ◌∷◌, false, map, replicate, All, IsTrue};
+ghost use Rattle.std.specs.Prelude.{◌≡◌, ◌<◌, ◌⊎◌, length, [], ◌∷◌, false, map, replicate, All, IsTrue};
 ghost use Rattle.std.specs.Int.{w16, w32, cast_signed};
-ghost use Rattle.twkb_num.specs.Cursor.{passed, IsMoved};
-ghost use Rattle.twkb_num.specs.Varint.{SpellsAllSigned, IsShort, IsBrief};
+ghost use Rattle.twkb_num.specs.Cursor.{passed, rest, IsMoved};
+ghost use Rattle.twkb_num.specs.Varint.{SpellsAllSigned, IsShort, IsBrief, HasLong};
 
 use super::Cursor;
 use crate::lanes::{narrow_eight, wide_four};
@@ -51,6 +51,7 @@ impl<'a> Cursor<'a> {
     pub fn svarint_four(&mut self) -> Four
         ensures some { IsTrue result.is_read → SpellsAllSigned (passed self.old self.new) (map (cast_signed w32) result.lanes) }
         ensures short { All IsShort (map (cast_signed w32) result.lanes) }
+        ensures told { result.is_read ≡ false → (length (rest self.old) < 32) ⊎ HasLong 4 16 (rest self.old) }
         ensures moved { IsTrue result.is_read → IsMoved self.old self.new }
         ensures none { result.is_read ≡ false → self.new ≡ self.old }
         ensures zero { result.is_read ≡ false → result.lanes ≡ replicate 4 0 }
@@ -77,6 +78,7 @@ impl<'a> Cursor<'a> {
     pub fn svarint_eight(&mut self) -> Eight
         ensures some { IsTrue result.is_read → SpellsAllSigned (passed self.old self.new) (map (cast_signed w16) result.lanes) }
         ensures brief { All IsBrief (map (cast_signed w16) result.lanes) }
+        ensures told { result.is_read ≡ false → (length (rest self.old) < 32) ⊎ HasLong 2 16 (rest self.old) }
         ensures moved { IsTrue result.is_read → IsMoved self.old self.new }
         ensures none { result.is_read ≡ false → self.new ≡ self.old }
         ensures zero { result.is_read ≡ false → result.lanes ≡ replicate 8 0 }

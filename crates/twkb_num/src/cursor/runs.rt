@@ -1,7 +1,7 @@
 //! Runs of varints, each after its own count, passed by their ends.
 ghost use Rattle.std.specs.Prelude.{◌≡◌, ◌≤◌, ◌^◌, IfSome, IfNone, OnSome};
 ghost use Rattle.twkb_num.specs.Cursor.{IsMoved};
-ghost use Rattle.twkb_num.specs.Runs.{PassesRuns, PassesCountedRuns};
+ghost use Rattle.twkb_num.specs.Runs.{PassesRuns, PassesCountedRuns, StopsBeforeRun, RefusesCountedRuns};
 
 use super::Cursor;
 
@@ -14,13 +14,15 @@ impl<'a> Cursor<'a> {
     ///
     /// It passes nothing and returns `None` if there are more than `most` groups, if a count can't be read, or if
     /// [`Cursor::pass_short_varints`] doesn't pass the varints of a run. All bytes that it passes are counted. `None` tells this
-    /// one bit of bytes that aren't counted: those of at most `runs` counts and `most` groups.
+    /// one bit of bytes that aren't counted: the bytes of at most `runs` counts and `most` groups. Since it compares their sum with
+    /// `most`, calls with other arguments can tell more of a count.
     #[inline(always)]
     pub fn pass_short_runs(&mut self, runs: u64, each: u64, most: u64) -> Option<u64>
         requires runs { runs ≤ 2 ^ 16 }
         requires each { each ≤ 4 }
         requires most { most ≤ 2 ^ 14 }
         ensures some { IfSome result (PassesRuns each runs self.old self.new) }
+        ensures told { IfNone result (StopsBeforeRun each runs most self.old) }
         ensures few { IfSome result (λ groups. groups ≤ most) }
         ensures moved { OnSome result (IsMoved self.old self.new) }
         ensures none { IfNone result (self.new ≡ self.old) }
@@ -45,13 +47,14 @@ impl<'a> Cursor<'a> {
     /// Moves past a count of runs and that many runs, as [`Cursor::pass_short_runs`] does, or past nothing. Returns how many
     /// groups there were in all.
     ///
-    /// It returns `None` for more than 65,536 runs, too. `None` tells one bit of bytes that aren't counted: those of the count of
-    /// runs, and those about which [`Cursor::pass_short_runs`] tells one.
+    /// It returns `None` for more than 65,536 runs, too. `None` tells one bit of bytes that aren't counted: the bytes of the
+    /// count of runs, and the bytes of which [`Cursor::pass_short_runs`] tells one bit.
     #[inline(always)]
     pub fn pass_counted_runs(&mut self, each: u64, most: u64) -> Option<u64>
         requires each { each ≤ 4 }
         requires most { most ≤ 2 ^ 14 }
         ensures some { IfSome result (PassesCountedRuns each self.old self.new) }
+        ensures told { IfNone result (RefusesCountedRuns each most self.old) }
         ensures few { IfSome result (λ groups. groups ≤ most) }
         ensures moved { OnSome result (IsMoved self.old self.new) }
         ensures none { IfNone result (self.new ≡ self.old) }

@@ -5,7 +5,7 @@ use std::process::Abort;
 
 mod passes;
 
-// A number of ten bytes, and behind it one of as many: from place k on the first has 10 - k bytes.
+// Two numbers of ten bytes each, and more bytes: from place k on, the first number has 10 - k bytes.
 const NUMBERS: [u8; 28] = [
     0x81, 0x82, 0x83, 0x84, 0x85, 0x86, 0x87, 0x88, 0x89, 0x01, 0x91, 0x92, 0x93, 0x94, 0x95, 0x96,
     0x97, 0x98, 0x99, 0x01, 0xA1, 0xA2, 0xA3, 0xA4, 0xA5, 0xA6, 0xA7, 0xA8,
@@ -110,7 +110,7 @@ fn three_numbers_are_read_together_or_not_at_all(rt: HostRuntime) {
 
 #[test]
 fn a_pair_is_two_reads(rt: HostRuntime) {
-    // Each of one byte, of two, of three and of four, and some of two lengths; then seven bytes are left.
+    // Pairs of one byte each, of two, of three and of four, and pairs of two lengths; then seven bytes are left.
     let bytes = [
         0x02, 0x01, 0xC8, 0x01, 0x81, 0x01, 0x80, 0x80, 0x01, 0x81, 0x80, 0x01, 0xFF, 0xFF, 0xFF,
         0x7F, 0xFE, 0xFF, 0xFF, 0x7F, 0x81, 0x01, 0x80, 0x80, 0x01, 0x80, 0x80, 0x80, 0x01, 0x03,
@@ -153,7 +153,7 @@ fn a_pair_has_four_bytes_each_at_most(rt: HostRuntime) {
     }
 }
 
-// A pair is read at the front, which two reads in turn give too, or none, and nothing is passed.
+// If `is_read`, a pair is read at the front, the two numbers that single reads give. If not, nothing is read or passed.
 fn pair_like_two_reads(rt: &impl Abort, bytes: &[u8], is_read: bool) {
     let mut reads = Cursor::new(bytes);
     let mut pairs = Cursor::new(bytes);

@@ -1,4 +1,4 @@
--- The bytes from there on go on.
+-- All bytes from the size on go on.
 use Rattle.std.proofs.Common.{ℕ, ◌≤◌, ◌<◌, length, slice_index}
 use Rattle.twkb_num.proofs.ends.last_end.Given as goal
 

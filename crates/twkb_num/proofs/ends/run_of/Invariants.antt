@@ -1,4 +1,4 @@
--- The bytes before hold all ends but those left, and what a varint has in them is known.
+-- The bytes before have all ends but the ones left, and it is known how many of them the next varint has.
 use Rattle.twkb_num.proofs.ManySpelled.{IsEndsLoop}
 use Rattle.twkb_num.proofs.ends.run_of.Given as goal
 

@@ -7,6 +7,7 @@ use Rattle.twkb_num.specs.Varint.{SpellsAllSigned, IsBrief, zigzag_value}
 use Rattle.twkb_num.specs.Devices.Lanes.{values}
 use Rattle.twkb_num.proofs.LaneLaws.{all_brief}
 use Rattle.twkb_num.proofs.LaneLemmas.{first_tops, second_tops, first_piece, second_piece, flag_place, flag_short, both, signed_all, IsJoined, narrow_values}
+use Rattle.twkb_num.proofs.LongLemmas.{long_of}
 use Rattle.twkb_num.proofs.lanes.narrow_eight.Goals as goal
 
 pub narrow_four-first-requires-clause-tops : goal.narrow_four-first-requires-clause-tops
@@ -41,3 +42,10 @@ returns-clause-spelled c short =
 
 pub returns-clause-brief : goal.returns-clause-brief
 returns-clause-brief c = subst (All IsBrief) (sym (c.unzigzag_narrow.ensures ∙ ap (map zigzag_value) c.packed_narrow.ensures)) (all_brief (digits_l 65536 8 (number_l 256 c.low_halves-all.result)))
+
+pub returns-clause-long : goal.returns-clause-long
+returns-clause-long c long =
+    let bytes = c.args.bytes.now in
+    let first = c.narrow_four-first in
+    let second = c.narrow_four-second in
+    long_of 2 bytes _ _ first.result.len second.result.len (first_piece bytes) (second_piece (first.result.len % 16) bytes) first.ensures.flag second.ensures.flag first.ensures.long second.ensures.long long

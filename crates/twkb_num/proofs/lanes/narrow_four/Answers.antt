@@ -4,6 +4,7 @@ use Rattle.twkb_num.specs.Devices.Lanes.{byte_at}
 use Rattle.twkb_num.specs.declared.tables.narrow.TheConstants.{NARROW_PLACES}
 use Rattle.twkb_num.proofs.RowSpells.{IsPicked}
 use Rattle.twkb_num.proofs.LaneLemmas.{narrow_flag, narrow_spells}
+use Rattle.twkb_num.proofs.LongLemmas.{narrow_is_long}
 use Rattle.twkb_num.proofs.lanes.narrow_four.Goals as goal
 
 pub returns-clause-flag : goal.returns-clause-flag
@@ -17,3 +18,6 @@ returns-clause-spelled c =
       long = omega (arith, c.fits-v.0);
     } in
     narrow_spells c.args.v c.picked.result c.args.tops _ c.requires.few c.narrow_len.ensures p
+
+pub returns-clause-long : goal.returns-clause-long
+returns-clause-long c long = narrow_is_long c.args.v c.args.tops _ c.requires.few c.narrow_len.ensures c.requires.tops long

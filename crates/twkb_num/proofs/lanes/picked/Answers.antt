@@ -14,7 +14,7 @@ swizzle c =
     SwzOk-from_Each1 w8 16 1 16 0 _ refl (omega (arith, length-zip2 bit_and v (replicate 16 143) c.fits-places.0))
     (Each1-zip2 bit_and (λ j. T (zeroes 16 w8 j || ltb j 16)) v (replicate 16 143) (Each2-splat (λ a b. T (zeroes 16 w8 (bit_and a b) || ltb (bit_and a b) 16)) v 16 143 small))
 
--- what a place becomes
+-- a place that is masked: below 128 it is the place modulo 16, and from 128 on it stays at least 128
 place_law : (p : ℕ) → p < 256 → (cond (leb 128 (bit_and p 143)) (leb 128 p) (ltb p 128 && eqb (bit_and p 143) (p % 16))) ≡ true
 place_law = true_below (λ p. cond (leb 128 (bit_and p 143)) (leb 128 p) (ltb p 128 && eqb (bit_and p 143) (p % 16))) 256 refl
 

@@ -1,4 +1,4 @@
--- Lane by lane.
+-- Zigzag is undone lane by lane, in lanes of 16 bits.
 use Rattle.std.proofs.Common.{◌+◌, ◌-◌, ◌/◌, ◌%◌, ◌^◌, map, bit_and, ap, ◌∙◌, w16}
 use Rattle.std.specs.Int.{cast_signed}
 use Rattle.std.specs.Int.Bits.{bit_xor}

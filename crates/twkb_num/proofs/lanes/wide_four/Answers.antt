@@ -7,6 +7,7 @@ use Rattle.twkb_num.specs.Varint.{SpellsAllSigned, IsShort, zigzag_value}
 use Rattle.twkb_num.specs.Devices.Lanes.{values}
 use Rattle.twkb_num.proofs.LaneLaws.{all_short}
 use Rattle.twkb_num.proofs.LaneLemmas.{first_tops, second_tops, first_piece, second_piece, flag_place, flag_short, both, signed_all, IsJoined, wide_values}
+use Rattle.twkb_num.proofs.LongLemmas.{long_of}
 use Rattle.twkb_num.proofs.lanes.wide_four.Goals as goal
 
 pub wide_two-first-requires-clause-tops : goal.wide_two-first-requires-clause-tops
@@ -41,3 +42,10 @@ returns-clause-spelled c short =
 
 pub returns-clause-short : goal.returns-clause-short
 returns-clause-short c = subst (All IsShort) (sym (c.unzigzag_wide.ensures ∙ ap (map zigzag_value) c.packed_wide.ensures)) (all_short (digits_l 4294967296 4 (number_l 256 c.low_halves-lanes.result)))
+
+pub returns-clause-long : goal.returns-clause-long
+returns-clause-long c long =
+    let bytes = c.args.bytes.now in
+    let first = c.wide_two-first in
+    let second = c.wide_two-second in
+    long_of 4 bytes _ _ first.result.len second.result.len (first_piece bytes) (second_piece (first.result.len % 16) bytes) first.ensures.flag second.ensures.flag first.ensures.long second.ensures.long long

@@ -4,6 +4,7 @@ use Rattle.twkb_num.specs.Devices.Lanes.{byte_at}
 use Rattle.twkb_num.specs.declared.tables.wide.TheConstants.{WIDE_PLACES}
 use Rattle.twkb_num.proofs.RowSpells.{IsPicked}
 use Rattle.twkb_num.proofs.LaneLemmas.{wide_flag, wide_spells}
+use Rattle.twkb_num.proofs.LongLemmas.{wide_is_long}
 use Rattle.twkb_num.proofs.lanes.wide_two.Goals as goal
 
 pub returns-clause-flag : goal.returns-clause-flag
@@ -17,3 +18,6 @@ returns-clause-spelled c =
       long = omega (arith, c.fits-v.0);
     } in
     wide_spells c.args.v c.picked.result c.args.tops _ c.requires.few c.wide_len.ensures p
+
+pub returns-clause-long : goal.returns-clause-long
+returns-clause-long c long = wide_is_long c.args.v c.args.tops _ c.requires.few c.wide_len.ensures c.requires.tops long

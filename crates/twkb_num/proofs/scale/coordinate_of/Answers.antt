@@ -1,4 +1,4 @@
--- Where units are a multiple of a step, the division gives the coordinate back.
+-- If units are a multiple of a step, the division gives the coordinate back.
 use Rattle.std.proofs.Common.{◌≡◌, ℕ, zero, suc, ◌<◌, ◌≤◌, ◌/◌, ◌^◌, true, false, pos, negsuc, ℤ, unsigned_abs, to_z, of_z, ◌-ℤ◌, ◌*ℤ◌, FitsSigned, ap, sym, subst, ◌∙◌, arith, rules}
 use Rattle.std.proofs.lemmas.Int.{ints, to_z-of_z, unsigned_abs-mul}
 use Rattle.std.proofs.Math.Nat.{mul-div_cancel}
@@ -7,7 +7,7 @@ use Rattle.std.specs.Int.Signed.{lt_z}
 use Rattle.twkb_num.specs.Units.{units_of}
 use Rattle.twkb_num.proofs.scale.coordinate_of.Goals as goal
 
--- a multiple divided gives what was multiplied, but for its sign
+-- a multiple, divided by its step, gives the absolute value of the coordinate
 quotient : (c u : ℤ) (power : ℕ) → 0 < power → u ≡ c *ℤ pos power → unsigned_abs u / power ≡ unsigned_abs c
 quotient c u power some e = ap (λ z. unsigned_abs z / power) e ∙ (ap (λ n. n / power) (unsigned_abs-mul c (pos power)) ∙ mul-div_cancel (unsigned_abs c) some)
 
@@ -20,7 +20,7 @@ above (pos n) u power some e up = omega (arith, ints)
 above (negsuc n) u zero some e up = absurd (omega (arith, some))
 above (negsuc n) u (suc p) some e up = absurd (grind (arith, ints, e, up))
 
--- what the code's division gives: the size of each coordinate that has these units
+-- the code's division gives the absolute value of each coordinate that has these units
 divided : (p units one : ℤ) (size power distance : ℕ) → FitsSigned w8 p → FitsSigned w128 units
     → one ≡ pos (10 ^ unsigned_abs (pos 7 -ℤ to_z w8 (of_z w8 p))) → 0 < 10 ^ unsigned_abs (pos 7 -ℤ to_z w8 (of_z w8 p)) → 10 ^ unsigned_abs (pos 7 -ℤ to_z w8 (of_z w8 p)) ≤ 10 ^ 15
     → size ≡ unsigned_abs (to_z w64 (of_z w64 one)) → power ≡ size → distance ≡ unsigned_abs (to_z w128 (of_z w128 units)) → (c : ℤ) → units ≡ units_of c p → distance / power ≡ unsigned_abs c

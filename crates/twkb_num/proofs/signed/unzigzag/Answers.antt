@@ -1,4 +1,4 @@
--- An odd number is that of a negative one.
+-- An odd number means a negative one.
 use Rattle.std.proofs.Common.{rules}
 use Rattle.twkb_num.proofs.signed.unzigzag.Goals as goal
 

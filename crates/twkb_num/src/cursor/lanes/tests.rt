@@ -33,7 +33,7 @@ fn read_each(bytes: &[u8], many: usize) -> Reads {
     }
 }
 
-// Four numbers of at most four bytes are read as one by one, where 32 bytes are left; others aren't.
+// Four numbers of at most four bytes each are read, the ones that single reads give, if 32 bytes are left; others aren't.
 fn reads_four(rt: &impl Abort, bytes: &[u8]) {
     let reads = read_each(bytes, 4);
     let is_read = reads.longest <= 4 && 32 <= bytes.len();
@@ -50,7 +50,7 @@ fn reads_four(rt: &impl Abort, bytes: &[u8]) {
     ends(rt, &cursor, if is_read { reads.end } else { 0 });
 }
 
-// Eight numbers of at most two bytes are read as one by one, where 32 bytes are left; others aren't.
+// Eight numbers of at most two bytes each are read, the ones that single reads give, if 32 bytes are left; others aren't.
 fn reads_eight(rt: &impl Abort, bytes: &[u8]) {
     let reads = read_each(bytes, 8);
     let is_read = reads.longest <= 2 && 32 <= bytes.len();

@@ -39,7 +39,7 @@ fn runs_are_passed_together_or_not_at_all(rt: HostRuntime) {
     equal(&rt, cursor.pass_short_runs(1, 1, 16_384), None);
     equal(&rt, cursor.pass_short_runs(65_536, 4, 16_384), None);
     stands_at(&rt, &cursor, 10);
-    // Where there are no numbers in a group, counts alone are passed.
+    // If a group has no numbers, a run is its count alone.
     equal(&rt, cursor.pass_short_runs(7, 0, 15), Some(15));
     stands_at(&rt, &cursor, 17);
     equal(&rt, cursor.pass_short_runs(1, 0, 16_384), Some(1));
@@ -49,7 +49,7 @@ fn runs_are_passed_together_or_not_at_all(rt: HostRuntime) {
 
 #[test]
 fn a_run_with_a_long_number_is_not_passed(rt: HostRuntime) {
-    // A number of eight bytes, behind one of one byte.
+    // A number of one byte, and after it a number of eight bytes.
     let bytes = [
         2, 1, 0x81, 0x81, 0x81, 0x81, 0x81, 0x81, 0x81, 1, 1, 1, 1, 1, 1, 1, 1, 1,
     ];
@@ -83,7 +83,7 @@ fn counted_runs_are_passed_together_or_not_at_all(rt: HostRuntime) {
 
 #[test]
 fn counted_runs_are_few(rt: HostRuntime) -> Result<(), Fail> {
-    // The count, with a low byte that tells 65,536 runs or one more, and behind it runs of nothing.
+    // The count, with a low byte that makes it 65,536 runs or one more, and after it runs without groups.
     for (low, answer, place) in [(0x80, Some(0), 65_539), (0x81, None, 0)] {
         let mut bytes = Vec::new(rt.alloc());
         bytes.extend_from_slice(&[low, 0x80, 0x04])?;
@@ -108,7 +108,7 @@ fn passing_is_reading_without_the_number(rt: HostRuntime) {
     }
 }
 
-// The varint at the front is passed, as far as it is read, or the cursor stays as it is.
+// If `is_passed`, the varint at the front is passed up to where a read of it ends. If not, the cursor is unchanged.
 fn passes_as_it_reads(rt: &impl Abort, bytes: &[u8], is_passed: bool) {
     let mut reads = Cursor::new(bytes);
     let mut passes = Cursor::new(bytes);
@@ -140,7 +140,7 @@ fn varints_are_passed_up_to_their_ends(rt: HostRuntime) {
     equal(&rt, cursor.read_count(), 12);
 }
 
-// A varint of one to seven bytes, eight of one to four in many orders, and bytes behind them.
+// A varint of one to seven bytes, eight of one to four in many orders, and bytes after them.
 #[test]
 fn many_varints_are_passed_as_they_are_read(rt: HostRuntime) -> Result<(), Fail> {
     for first in 0..7 {
@@ -173,7 +173,7 @@ fn passes_many_as_it_reads(rt: &impl Abort, bytes: &[u8], many: u64) {
     passes(rt, bytes, many, many, reads.place());
 }
 
-// A number of varints is passed, up to the place, and the bytes before it are counted.
+// A pass over at most `many` varints passes `passed` of them, up to `place`, and counts the bytes before it.
 fn passes(rt: &impl Abort, bytes: &[u8], many: u64, passed: u64, place: usize) {
     let mut cursor = Cursor::new(bytes);
     equal(rt, cursor.pass_varints(many), passed);
@@ -258,7 +258,7 @@ fn a_varint_that_a_word_cuts_is_left(rt: HostRuntime) {
     }
 }
 
-// Behind one byte a varint of so many bytes more than one, and behind it another.
+// One byte, then a varint of `first_more` bytes more than one, and then one of `second_more` bytes more than one.
 fn two_varints(first_more: usize, second_more: usize) -> [u8; 18] {
     let mut bytes = [0x01; 18];
     for byte in bytes.iter_mut().skip(1).take(first_more) {
@@ -286,7 +286,7 @@ fn pairs_are_passed_by_their_ends(rt: HostRuntime) {
     }
 }
 
-// The pair at place 1 takes so many bytes, or the cursor stays as it is.
+// The pair at place 1 takes `passed` bytes and is passed, or for `None` the cursor stays at place 1.
 fn passes_a_pair(rt: &impl Abort, bytes: &[u8], passed: Option<usize>) {
     let mut cursor = Cursor::new(bytes);
     assert!(rt; cursor.byte().is_some());

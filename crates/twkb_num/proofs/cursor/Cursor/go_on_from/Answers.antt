@@ -1,4 +1,4 @@
--- Nothing that is read of the cursor changes.
+-- The cursor's reading is unchanged.
 use Rattle.std.proofs.Common.{rules}
 use Rattle.twkb_num.proofs.cursor.Cursor.go_on_from.Goals as goal
 

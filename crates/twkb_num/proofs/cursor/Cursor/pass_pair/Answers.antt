@@ -1,6 +1,7 @@
 -- Two ends in a word are the ends of two varints.
-use Rattle.std.proofs.Common.{◌≡◌, ◌+◌, take, slice_range, arith}
+use Rattle.std.proofs.Common.{◌≡◌, ◌+◌, take, slice_range, inr, arith}
 use Rattle.twkb_num.specs.Varint.{SpellsMany}
+use Rattle.twkb_num.proofs.ToldLemmas.{once_next}
 use Rattle.twkb_num.proofs.CursorLemmas.{take-chunk}
 use Rattle.twkb_num.proofs.cursor.Cursor.pass_pair.Goals as goal
 
@@ -13,3 +14,8 @@ returns-clause-some c =
     let same : take both c.in_ok-first_chunk.field-0.now ≡ slice_range bytes place (place + both) = take-chunk bytes _ place 8 both chunk.same chunk.enough (omega (arith, c.in_ok-both.ensures.few)) in
     let spells : SpellsMany (slice_range bytes place (place + both)) 2 = rw (← same) c.in_ok-both.ensures.front.spells in
     rw (← c.self.view_is) spells
+
+pub returns-in_err-both-clause-told : goal.returns-in_err-both-clause-told
+returns-in_err-both-clause-told c =
+    let told = once_next c.self.inside.bytes.now c.in_ok-first_chunk.field-0.now c.self.inside.place c.in_ok-first_chunk.ensures.cases.same c.in_err-both.ensures.told in
+    rw c.from_residual-in_err-both.ensures (inr (rw (← c.self.view_is) told))

@@ -1,7 +1,7 @@
--- Each turn passes a run more.
-use Rattle.std.proofs.Common.{ℕ, refl, subst, arith}
+-- Each turn of the loop passes one more run.
+use Rattle.std.proofs.Common.{ℕ, inr, refl, subst, arith}
 use Rattle.twkb_num.specs.Cursor.{Reading, IsMoved}
-use Rattle.twkb_num.specs.Runs.{PassesRuns}
+use Rattle.twkb_num.specs.Runs.{PassesRuns, StopsBeforeRun}
 use Rattle.twkb_num.proofs.CursorLemmas.{IsMoved-here, IsMoved-after}
 use Rattle.twkb_num.proofs.RunLemmas.{one_run_more}
 use Rattle.twkb_num.proofs.cursor.Cursor.pass_short_runs.Goals as goal
@@ -30,3 +30,15 @@ returns-clause-few c = c.loop.invariant.few
 
 pub returns-clause-moved : goal.returns-clause-moved
 returns-clause-moved c = c.loop.invariant.moved
+
+pub returns-in_err-pass_short_varints-clause-told : goal.returns-in_err-pass_short_varints-clause-told
+returns-in_err-pass_short_varints-clause-told c =
+    let stops : StopsBeforeRun c.args.each c.args.runs c.args.most c.args.self.now = record {
+      last = c.loop.ahead;
+      before = c.loop.counter;
+      groups = c.loop.groups;
+      fewer = omega arith;
+      ahead = c.loop.invariant.runs;
+      refused = inr (c.uvarint.new.self, c.in-Ok.count, record { spelled = c.in-Ok.ensures.ok; moved = c.in-Ok.ensures.moved }, inr c.in_err-pass_short_varints.ensures.told);
+    } in
+    rw c.from_residual.ensures stops

@@ -11,6 +11,6 @@ returns-clause-some c =
     let old = c.args.self.now in
     let len = c.in_ok-len.len in
     let new : Reading = record { bytes = c.self.inside.bytes.now; place = c.self.inside.place + len; count = added c.self.inside.counted_before (c.self.inside.place + len - c.self.inside.start) } in
-    let within = c.in_ok-len.ensures.within in
+    let within = c.in_ok-len.ensures.some.within in
     let same : passed old new ≡ take len (rest old) = grind (arith, common_steps) in
-    (sum_of_groups 0 (take len (rest old)), rw same (end_spells (rest old) len c.in_ok-len.ensures))
+    (sum_of_groups 0 (take len (rest old)), rw same (end_spells (rest old) len c.in_ok-len.ensures.some))

@@ -1,4 +1,4 @@
--- The count is that of the bytes that were read.
+-- The count is the number of bytes that were read, up to its greatest value.
 use Rattle.std.proofs.Common.{rules}
 use Rattle.twkb_num.proofs.cursor.Cursor.read_count.Goals as goal
 

@@ -1,4 +1,4 @@
--- One byte, two bytes or more: in each case what stands there is spelled, or the fault.
+-- For one byte, two bytes and more, the answer is the number that the bytes there spell, or their fault.
 use Rattle.std.proofs.Common.{◌+◌, ◌-◌, ◌*◌, arith}
 use Rattle.std.proofs.lemmas.Grind.{common_steps}
 use Rattle.twkb_num.specs.Cursor.{Reading, added, passed, IsMoved}
