@@ -1,4 +1,4 @@
--- A body that no frame can hold is read by the exact way: what that finds says whether it is sure.
+-- A body whose frame can't be told is read as the exact audit reads it, and the result decides whether the body is sure.
 use Rattle.std.proofs.Common.{◌≡◌, ℕ, ◌+◌, Bool, true, false, List, [], map, ℤ, Option, Some, None, is_some, option_map, IfSome, All, AllPairs, ◌≢◌, Ok, refl, sym, ap, subst, ◌∙◌}
 use Rattle.std.specs.Prelude.{◌||◌}
 use Rattle.twkb_num.specs.Cursor.{Reading}
@@ -35,13 +35,13 @@ use Rattle.twkb_body.proofs.Passes.{false_among}
 use Rattle.twkb_body.proofs.Reaches.{reach_of-append, all_from_within, within_from_all}
 use Rattle.twkb_body.proofs.Refuting.{doubts_outside}
 
--- ---- what is judged
--- what is refused of a box that holds all vertices,
+-- ---- how a box and ids are judged
+-- a box that holds all vertices isn't refused
 box_none : (h : Header) (box : Option BoxField) (vs : List Vertex) → IfSome box (λ field. All (Holds field.bounds) vs) → box_judged false h box (reach_of vs) ≡ None
 box_none h None vs held = refl
 box_none h (Some field) vs held = ap (λ (b : Bool). first (false_at b field.offset 7) None) ((box_decides field.bounds vs).1 held)
 
--- and what it holds where nothing is refused
+-- a box that isn't refused holds all vertices
 box_holds : (h : Header) (box : Option BoxField) (vs : List Vertex) → box_judged false h box (reach_of vs) ≡ None → IfSome box (λ field. All (Holds field.bounds) vs)
 box_holds h None vs none = tt
 box_holds h (Some field) vs none = (box_decides field.bounds vs).0 (go (is_within (reach_of vs) field.bounds) none)
@@ -50,30 +50,30 @@ box_holds h (Some field) vs none = (box_decides field.bounds vs).0 (go (is_withi
     go true none = refl
     go false none = absurd (cc (none))
 
--- nothing is refused of ids that are distinct,
+-- ids that are distinct aren't refused
 ids_none : (at : ℕ) (ids : Option (List ℤ)) → IfSome ids (λ ids. AllPairs (λ a b. a ≢ b) ids) → ids_refused at ids ≡ None
 ids_none at None pairs = refl
 ids_none at (Some ids) pairs = ap (λ (b : Bool). false_at b at 8) ((distinct_decides ids).1 pairs)
 
--- nor of members whose claims are true
+-- members whose claims are all true aren't refused
 members_none : (gs : Members) (start : ℕ) (refused : Refused) → NamesFirstFalse IsTrueClaim (member_claims gs start) refused → All IsTrueClaim (member_claims gs start) → refused ≡ None
 members_none gs start None names all = refl
 members_none gs start (Some at) names all = absurd (false_among IsTrueClaim (member_claims gs start) names.0 all names.1)
 
--- what has no name is not there
+-- a false claim without a name is none
 unnamed : (o : Option FalseClaim) → named o ≡ None → o ≡ None
 unnamed None e = refl
 unnamed (Some f) e = absurd (cc (e))
 
--- a box with the same bounds
+-- P of the bounds of one box holds of a box with equal bounds
 same_bounds : (P : Bounds → Type 0) (a b : Option BoxField) → option_map (λ (f : BoxField). f.bounds) a ≡ option_map (λ (f : BoxField). f.bounds) b → IfSome b (λ field. P field.bounds) → IfSome a (λ field. P field.bounds)
 same_bounds P None b e h = tt
 same_bounds P (Some f) None e h = absurd (cc (e))
 same_bounds P (Some f) (Some g) e h = let is : g.bounds ≡ f.bounds = cc (e) in subst P is h
 
--- ---- what was found inside, under a header whose box has the same bounds
+-- ---- the result for a body, under a header whose box has equal bounds
 module _ (levels : ℕ) (head made : Head) (above : Option Frame) (old new : Reading) (same : of_head head ≡ of_head made) (bounds : option_map (λ (f : BoxField). f.bounds) head.bounds ≡ option_map (λ (f : BoxField). f.bounds) made.bounds) where
-  -- the body is the same
+  -- both headers are followed by the same body
   same_body : body_at head.empty (is_collection head.kind) (of_head head) (members_under levels) old ≡ body_at made.empty (is_collection made.kind) (of_head made) (members_under levels) old
   same_body = ap (λ (h : Header). body_at h.empty (is_collection h.kind) h (members_under levels) old) same
 
@@ -88,33 +88,33 @@ module _ (levels : ℕ) (head made : Head) (above : Option Frame) (old new : Rea
 
   module _ (before after : Seen) (inside : Inside) (body : Body) (read : body_at made.empty (is_collection made.kind) (of_head made) (members_under levels) old ≡ (Ok body, new))
       (i : IsInside false (of_head made) made.bounds body old.place new.place before after inside) where
-    -- its vertices
+    -- the vertices of the body
     abbrev vs : List Vertex
     vs = body_vertices (of_head head) body
 
-    -- the same under both headers
+    -- the body has the same vertices under both headers
     vertices_same : vs ≡ body_vertices (of_head made) body
     vertices_same = ap (λ (h : Header). body_vertices h body) same
 
-    -- the reach is that of all vertices
+    -- the reach is the reach of all vertices
     reach_is : both (reach_of (map (vertex_of (of_head made)) (points_of body.polygons))) i.below.reach ≡ reach_of vs
     reach_is =
         let own = map (vertex_of (of_head made)) (points_of body.polygons) in
         ap (both (reach_of own)) i.members.reach ∙ sym (reach_of-append own (member_vertices body.members)) ∙ ap reach_of (sym vertices_same)
 
-    -- the box is judged by that reach,
+    -- the box is judged by the reach of all vertices
     box_is : named inside.boxed ≡ box_judged false (of_head made) made.bounds (reach_of vs)
     box_is = i.boxed ∙ ap (box_judged false (of_head made) made.bounds) reach_is
 
-    -- which is also what is seen, where it is asked for
+    -- the boxes above see the reach of all vertices, if they ask
     pub seen_is : before.asked ≡ true → before.extent ≡ reach_of [] → after.extent ≡ reach_of vs
     seen_is asked nothing = i.seen.extent asked ∙ ap (λ (r : Reach). both r (both (reach_of (map (vertex_of (of_head made)) (points_of body.polygons))) i.below.reach)) nothing ∙ reach_is
 
-    -- the bytes stay as they are
+    -- the bytes are unchanged
     keeps : new.bytes ≡ old.bytes
     keeps = read_keeps (body_at made.empty (is_collection made.kind) (of_head made) (members_under levels)) old new body (keeps_body_under levels made.empty (is_collection made.kind) (of_head made)) read
 
-    -- a body of which nothing is false is sure if the frame holds it,
+    -- a body without a false claim is sure if the frame above holds its vertices
     pub found_sure : inside.boxed ≡ None → inside.ids ≡ None → inside.found.refused ≡ None → IsHeldBy above vs → IsSureBehind levels head above old new inside.found.vertices
     found_sure boxed ids refused held = record {
       body = body;
@@ -133,7 +133,7 @@ module _ (levels : ℕ) (head made : Head) (above : Option Frame) (old new : Rea
       held = held;
     }
 
-    -- one of which something is false is refuted,
+    -- a body with a false claim is refuted
     pub found_refutes : ((inside.boxed ≡ None) × (inside.ids ≡ None) × (inside.found.refused ≡ None) → ⊥) → (new.bytes ≡ old.bytes) × IsRefutedBehind levels head above old
     found_refutes some = (keeps, refutes)
       where
@@ -148,7 +148,7 @@ module _ (levels : ℕ) (head made : Head) (above : Option Frame) (old new : Rea
               unnamed inside.found.refused (i.refused ∙ members_none body.members (old.place + body.list) i.below.refused i.members.refused inside_true.1),
             )
 
-    -- and so is one that the frame doesn't hold.
+    -- a body with a vertex that the frame above doesn't hold is refuted
     pub outside_refutes : (IsHeldBy above vs → ⊥) → (new.bytes ≡ old.bytes) × IsRefutedBehind levels head above old
     outside_refutes wrong = (keeps, refutes)
       where
@@ -157,11 +157,11 @@ module _ (levels : ℕ) (head made : Head) (above : Option Frame) (old new : Rea
             let one = one_answer (body_at head.empty (is_collection head.kind) (of_head head) (members_under levels) old) other body stop new e (same_body ∙ read) in
             wrong (subst (λ (b : Body). IsHeldBy above (body_vertices (of_head head) b)) one.0 held)
 
--- ---- the header that the exact way is given
+-- ---- the header that the exact audit is given
 abbrev pub made_head : Kind → ℤ → Option ℕ → Option ℕ → Bool → Option BoxField → Head
 made_head kind xy z m ids bounds = record { kind = kind; xy = xy; z = z; m = m; size = None; bounds = bounds; ids = ids; empty = false; start = 0; stop = 0 }
 
--- its box in units, or none
+-- the box of that header is the raw box in units
 pub some_box : (xy : ℤ) (z m : Option ℕ) (made : Option BoxField) (own : Option RawBox) (field : BoxField) (box : RawBox) → made ≡ Some field → own ≡ Some box → field.bounds ≡ raw_bounds xy z m box
     → option_map (λ (f : BoxField). f.bounds) made ≡ option_map (raw_bounds xy z m) own
 some_box xy z m made own field box is own_is same = ap (option_map (λ (f : BoxField). f.bounds)) is ∙ ap Some same ∙ ap (option_map (raw_bounds xy z m)) (sym own_is)
@@ -169,7 +169,7 @@ some_box xy z m made own field box is own_is same = ap (option_map (λ (f : BoxF
 pub no_box : (xy : ℤ) (z m : Option ℕ) (made : Option BoxField) (own : Option RawBox) → made ≡ None → own ≡ None → option_map (λ (f : BoxField). f.bounds) made ≡ option_map (raw_bounds xy z m) own
 no_box xy z m made own is own_is = ap (option_map (λ (f : BoxField). f.bounds)) is ∙ ap (option_map (raw_bounds xy z m)) (sym own_is)
 
--- It says what the other says.
+-- The header that the exact audit is given says what the header of the blob says, but for size and places.
 module _ (head : Head) (kind : Kind) (xy raw : ℤ) (z m : Option ℕ) (ids : Bool) (own : Option RawBox) (made : Option BoxField) (apart : IsApart head kind xy z m ids own) (xy_is : raw ≡ xy) (box_is : option_map (λ (f : BoxField). f.bounds) made ≡ option_map (raw_bounds raw z m) own) where
   pub same_head : of_head head ≡ of_head (made_head kind raw z m ids made)
   same_head = apart.same ∙ ap (λ (p : ℤ). of_head (made_head kind p z m ids made)) (sym xy_is)
@@ -182,16 +182,16 @@ pub asked_for : (asked other boxed : Bool) (above : Option Frame) (frame : Frame
 asked_for asked true boxed above frame is some there = is
 asked_for asked false boxed above frame is some there = is ∙ some ∙ ap is_some there
 
--- it holds what is seen, if its box does,
+-- the frame above holds the vertices if its box holds their reach
 pub frame_holds : (above : Option Frame) (frame : Frame) (vs : List Vertex) (seen : Reach) (box : Bounds) → above ≡ Some frame → box ≡ frame_bounds frame → seen ≡ reach_of vs → IsReachWithin seen box → IsHeldBy above vs
 frame_holds above frame vs seen box there same is within =
     subst (λ (f : Option Frame). IsHeldBy f vs) (sym there) (all_from_within (frame_bounds frame) vs (subst (λ (b : Bounds). IsReachWithin (reach_of vs) b) same (subst (λ (r : Reach). IsReachWithin r box) is within)))
 
--- and only then
+-- the frame above holds the vertices only if its box holds their reach
 pub frame_within : (above : Option Frame) (frame : Frame) (vs : List Vertex) (seen : Reach) (box : Bounds) → above ≡ Some frame → box ≡ frame_bounds frame → seen ≡ reach_of vs → IsHeldBy above vs → IsReachWithin seen box
 frame_within above frame vs seen box there same is held =
     subst (λ (r : Reach). IsReachWithin r box) (sym is) (subst (λ (b : Bounds). IsReachWithin (reach_of vs) b) (sym same) (within_from_all (frame_bounds frame) vs (subst (λ (f : Option Frame). IsHeldBy f vs) there held)))
 
--- a test that says that something is there
+-- a test that says that a value is there, and none is: a contradiction
 pub there_not : {A : Type 0} (o : Option A) (test : Bool) → test ≡ is_some o → test ≡ true → o ≡ None → ⊥
 there_not {A} o test is there none = let gone : is_some o ≡ is_some {T = A} None = ap is_some none in cc (gone, is, there)

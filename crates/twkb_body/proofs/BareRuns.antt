@@ -28,14 +28,14 @@ use Rattle.twkb_body.proofs.Sums.{rings_sums_flat}
 abbrev pub IsInSteps : ℕ → ℤ → Type 0
 IsInSteps many sum = (neg_ℤ (pos (many * 2 ^ 48)) ≤ℤ sum) × (sum ≤ℤ pos (many * 2 ^ 48))
 
--- this many points of such numbers, 2^14 at most, lead to a trail
+-- at most 2^14 points, each of short numbers, lead to a trail
 pub record IsShortTrail (points : ℕ) (trail : Trail) : Type 0 where
   pub few : points ≤ 2 ^ 14
   pub counted : trail.points ≡ points
   pub four : length trail.last ≡ 4
   pub near : All (IsInSteps points) trail.last
 
--- From each trail of so many points a value is read that leads to one of so many.
+-- From each trail of `before` points a value is read that leads to a trail of `after` points.
 abbrev pub Leads : {A : Type 0} → ℕ → (PointValue → Reader A) → (A → List PointValue) → Reading → Reading → ℕ → ℕ → Type 0
 Leads {A} axes each points_in old new before after =
     (t : Trail) → IsShortTrail before t → (x : A) × (u : Trail) × (each t.last old ≡ (Ok x, new)) × IsWalked unchanged axes t u tt tt old.place new.place (points_in x) × IsShortTrail after u
@@ -43,7 +43,7 @@ Leads {A} axes each points_in old new before after =
 abbrev IsFew : ℕ → Type 0
 IsFew n = n < 2 ^ 49
 
--- a number of seven bytes is near
+-- a number of seven bytes is at most 2^48 from zero
 near_value : (n : ℕ) → n < 2 ^ 49 → IsInSteps 1 (zigzag_value n)
 near_value n h = go (n % 2 == 0)
   where
@@ -57,7 +57,7 @@ near_sum k c z (low, high) (less, more) = (omega (arith, ints, low, less), omega
 near_more : (k : ℕ) (c : ℤ) → IsInSteps k c → IsInSteps (k + 1) c
 near_more k c (low, high) = (omega (arith, ints, low), omega (arith, ints, high))
 
--- a point more
+-- the sums after one more point of short numbers
 near_add : (k : ℕ) (s p : PointValue) → All (IsInSteps k) s → All (IsInSteps 1) p → length p ≤ length s → All (IsInSteps (k + 1)) (add s p) × (length (add s p) ≡ length s)
 near_add k [] [] all few le = (All-nil (IsInSteps (k + 1)), refl)
 near_add k [] (n ∷ p) all few le = absurd (omega (arith, le))
@@ -86,14 +86,14 @@ peel r new n ns (front, rest, whole, first, all) moved =
       subst (λ (bs : List ℕ). SpellsAll bs ns) (sym way.4) all,
     )
 
--- it is read as a coordinate
+-- a short number is read as a coordinate
 one_coordinate : (k : ℕ) (c : ℤ) (n : ℕ) (r mid : Reading) → k < 2 ^ 14 → IsInSteps k c → n < 2 ^ 49 → Spells (passed r mid) n → IsMoved r mid → coordinate_at c r ≡ (Ok (zigzag_value n), mid)
 one_coordinate k c n r mid few near small spells moved =
     let sum = near_sum k c (zigzag_value n) near (near_value n small) in
     coordinate_ok c r mid (zigzag_value n) (fits_true (c +ℤ zigzag_value n) (has_64_bits (c +ℤ zigzag_value n) (omega (arith, ints, sum.0, few)) (omega (arith, ints, sum.1, few))))
     (read_signed r mid (zigzag_value n) (n, spells, refl) moved)
 
--- so many numbers are a point, and more are left
+-- the first `axes` numbers are a point, and `more` numbers are left
 record IsPoint (axes more : ℕ) (s : PointValue) (r new : Reading) : Type 0 where
   point : PointValue
   mid : Reading
@@ -145,7 +145,7 @@ one_point (suc axes) (c ∷ s) k (n ∷ ns) more r new few sound many le near sm
       ahead = let a = coordinate_ahead c (zigzag_value n) r mid one in omega (arith, a, p.ahead);
     }
 
--- a move past no bytes
+-- a move past no bytes leaves the reading as it is
 pub moved_none : (r new : Reading) → IsSound r → IsMoved r new → passed r new ≡ [] → r ≡ new
 moved_none r new sound moved none =
     let long : length (passed r new) ≡ new.place - r.place = grind (arith, common_steps, moved.within) in
@@ -153,7 +153,7 @@ moved_none r new sound moved none =
     let count : r.count ≡ new.count = omega (arith, moved.count, here, sound.count_fits) in
     λ j. record { bytes = sym moved.bytes j; place = here j; count = count j }
 
--- and so on, up to the last
+-- all numbers are `count` points
 record ArePoints (axes count k : ℕ) (s : PointValue) (r new : Reading) : Type 0 where
   points : List PointValue
   read : many_at count add (point_at axes) s r ≡ (Ok points, new)
@@ -191,7 +191,7 @@ many_points axes (suc count) k s ns r new some le few sound many four near small
       ahead = omega (arith, p.ahead, q.ahead, some);
     }
 
--- from each near trail they lead to another
+-- numbers that are passed are points, which lead from each short trail to another
 points_lead : (axes count before : ℕ) (r new : Reading) → 1 ≤ axes → axes ≤ 4 → before + count ≤ 2 ^ 14 → IsSound r → SpellsMany (passed r new) (count * axes) → IsMoved r new
     → Leads axes (λ (s : PointValue). many_at count add (point_at axes) s) (λ (points : List PointValue). points) r new before (before + count)
 points_lead axes count before r new some le few sound spells moved t near =
@@ -214,7 +214,7 @@ points_lead axes count before r new some le few sound spells moved t near =
       },
     )
 
--- a count, and so many points
+-- a count, and as many points as it says
 ring_leads : (axes count before after : ℕ) (r mid new : Reading) → number_at r ≡ (Ok count, mid) → Leads axes (λ (s : PointValue). many_at count add (point_at axes) s) (λ (points : List PointValue). points) mid new before after
     → Leads axes (ring_at axes) (λ (ring : Ring). ring) r new before after
 ring_leads axes count before after r mid new counted leads t near =
@@ -226,7 +226,7 @@ ring_leads axes count before after r mid new counted leads t near =
       nearer,
     )
 
--- a loop over parts, of which each leads on
+-- a loop over parts, each of which leads from one trail to another
 module _ {A : Type 0} (axes : ℕ) (after : PointValue → A → PointValue) (each : PointValue → Reader A) (points_in : A → List PointValue) (after_is : (s : PointValue) (x : A) → after s x ≡ sums s (points_in x))
     (count before : ℕ) (from : Reading) where
   abbrev IsLeadLoop : ℕ → ℕ → Reading → Type 0
@@ -247,7 +247,7 @@ module _ {A : Type 0} (axes : ℕ) (after : PointValue → A → PointValue) (ea
       let (xs, read, walked) = walk_ends unchanged axes after each points_in after_is count t tt from i u tt r end loop in
       (xs, u, read, walked, there)
 
-  -- behind a count
+  -- a count, and the parts that the loop has passed
   lead_counted : (i points : ℕ) (r old : Reading) → number_at old ≡ (Ok count, from) → i ≡ count → IsLeadLoop i points r
       → Leads axes (λ (s : PointValue). λ q. number_at q >>= λ n. many_at n after each s) (λ (xs : List A). flat_map points_in xs) old r before points
   lead_counted i points r old counted end l t near =
@@ -273,12 +273,12 @@ points_as_parts axes (suc count) s r = go (points_as_parts axes count) (point_at
     go others (Err m, q) = refl
     go others (Ok p, q) = ap (viewed (λ (parts : List PolygonValue). single p ∷ parts)) (others (add s p) q) ∙ inner p (many_at count add (point_at axes) (add s p) q)
 
--- and these have the points that were read
+-- points taken as parts have the points that were read
 points_of_parts : (points : List PointValue) → points_of (map single points) ≡ points
 points_of_parts [] = refl
 points_of_parts (p ∷ points) = ap (λ (ps : List PointValue). p ∷ ps) (points_of_parts points)
 
--- numbers that are passed are parts of a point each
+-- numbers that are passed are parts of one point each
 pub single_points_lead : (axes count : ℕ) (r new : Reading) → 1 ≤ axes → axes ≤ 4 → count ≤ 2 ^ 14 → IsSound r → SpellsMany (passed r new) (count * axes) → IsMoved r new
     → Leads axes (λ (s : PointValue). many_at count ring_sums (λ (s : PointValue) (q : Reading). viewed single (point_at axes s q)) s) points_of r new 0 count
 single_points_lead axes count r new some le few sound spells moved t near =
@@ -303,7 +303,7 @@ line_leads axes before after r new leads t near =
       nearer,
     )
 
--- zeros are near
+-- zero is a sum of numbers of seven bytes
 zero_near : (points : ℕ) → IsInSteps points (pos 0)
 zero_near points = (omega (arith, ints), omega (arith, ints))
 
@@ -313,11 +313,11 @@ zeros_near points =
     All-cons (IsInSteps points) (pos 0) (pos 0 ∷ pos 0 ∷ pos 0 ∷ []) one
     (All-cons (IsInSteps points) (pos 0) (pos 0 ∷ pos 0 ∷ []) one (All-cons (IsInSteps points) (pos 0) (pos 0 ∷ []) one (All-cons (IsInSteps points) (pos 0) [] one (All-nil (IsInSteps points)))))
 
--- a trail of so many points
+-- a trail of this many points, which starts at zeros
 some_points : (points : ℕ) → points ≤ 2 ^ 14 → IsShortTrail points (record { last = zeros; points = points })
 some_points points few = record { few = few; counted = refl; four = refl; near = zeros_near points }
 
--- where each part is a run, runs that are passed lead on one after another, and the place stays sound
+-- if each part is a run, runs that are passed lead from trail to trail, and the reading stays sound
 module _ {A : Type 0} (axes : ℕ) (some : 1 ≤ axes) (le : axes ≤ 4) (after : PointValue → A → PointValue) (each : PointValue → Reader A) (points_in : A → List PointValue) (after_is : (s : PointValue) (x : A) → after s x ≡ sums s (points_in x))
     (by_ring : (before more : ℕ) (r new : Reading) → Leads axes (ring_at axes) (λ (ring : Ring). ring) r new before more → Leads axes each points_in r new before more) (count : ℕ) (from : Reading) (sound : IsSound from) where
   abbrev LeadTo : ℕ → ℕ → Reading → Type 0
@@ -342,7 +342,7 @@ lines_lead axes count points r new some le few sound passed =
     let lines = runs_lead axes some le ring_sums (λ (s : PointValue) (q : Reading). viewed (λ (line : Ring). line ∷ []) (ring_at axes s q)) part_points rings_sums_flat (line_leads axes) count r sound count points new (omega arith) few passed in
     lead_ends axes ring_sums (λ (s : PointValue) (q : Reading). viewed (λ (line : Ring). line ∷ []) (ring_at axes s q)) part_points rings_sums_flat count 0 r count points new refl lines.0
 
--- behind their count they are a polygon
+-- runs that are passed after their count are a polygon
 polygon_leads : (axes points : ℕ) (r new : Reading) → 1 ≤ axes → axes ≤ 4 → points ≤ 2 ^ 14 → IsSound r → PassesCountedRuns axes r new points → Leads axes (polygon_at axes) part_points r new 0 points
 polygon_leads axes points r new some le few sound passed =
     let there = passed.counted.moved in
@@ -356,7 +356,7 @@ one_polygon_leads axes points r new some le few sound passed =
     let one = lead_goes_on axes ring_sums (polygon_at axes) part_points rings_sums_flat 1 0 r 0 0 points r new (omega arith) (polygon_leads axes points r new some le few sound passed) begun in
     lead_ends axes ring_sums (polygon_at axes) part_points rings_sums_flat 1 0 r 1 points new refl one
 
--- what leads from no points on are parts that are read
+-- parts that lead on from a trail of no points are parts that were read
 pub parts_read : (kind : Kind) (axes count points : ℕ) (old new : Reading) → Leads axes (λ (s : PointValue). many_at count ring_sums (part_at kind axes) s) points_of old new 0 points → ReadParts unchanged kind axes count old new tt tt points
 parts_read kind axes count points old new leads =
     let (parts, u, read, walked, near) = leads (record { last = zeros; points = 0 }) (some_points 0 (omega arith)) in

@@ -1,4 +1,4 @@
--- Behind the first two bytes of a certified geometry.
+-- What follows the first two bytes of a certified geometry: the rest of its header, and its body or its end.
 use Rattle.std.proofs.Common.{◌≡◌, ℕ, ◌+◌, ◌%◌, ◌<◌, ◌≤◌, ◌^◌, ℤ, Bool, true, false, cond, length, Option, Some, None, refl, sym, ap, ◌∙◌, subst, Ok, Err, arith}
 use Rattle.twkb_num.specs.Cursor.{Reading, passed, IsMoved}
 use Rattle.twkb_head.specs.declared.kinds.Kind.TheVariants.{Point}
@@ -26,7 +26,7 @@ use Rattle.twkb_body.specs.Visit.{SkipsSoundly}
 use Rattle.twkb_body.specs.Devices.Skimmed.{HasCome, HasRead, IsBehind, Entered, hop_of, flat_axes, full_head}
 use Rattle.twkb_body.proofs.HeadStands.{header_starts, hop_fits, hop_within, enter_hops}
 
--- the same header under another metadata byte, which announces the same
+-- a begun header with another metadata byte, which announces the same fields
 pub announced_same : (begun other : Begun) (depth m : ℕ) (before now : Reading) → begun.metadata % 32 ≡ m → other ≡ record begun { metadata = m } → BeginsHead begun depth before now → BeginsHead other depth before now
 announced_same begun other depth m before now same is begins = subst (λ (b : Begun). BeginsHead b depth before now) (sym is) (record {
   type_byte = begins.type_byte;
@@ -46,15 +46,15 @@ module _ (begun : Begun) (g : Geometry) (depth : ℕ) (before now new : Reading)
       let goes = begins_goes_on begun 1 before now come.sound come.begins (Ok head) new e in
       (head_ok 1 (omega arith) (omega arith) before new come.sound (Ok head) goes, head_moved 1 (omega arith) (omega arith) before new come.sound (Ok head) goes)
 
-  -- the rest of its header is read
+  -- the rest of the header of a certified geometry is read
   pub rest_read : (raw : Fields) → ReadsHead 1 before new (Ok raw) → HasRead raw new g depth before
   rest_read raw (at, moved) = record { stands = come.stands; sound = come.sound; at = at; moved = moved }
 
-  -- and nothing is wrong there
+  -- no field of the header of a certified geometry is wrong
   rest_stands : (m : Malformed) → rest_at begun.kind begun.xy begun.metadata begun.start now ≡ (Err m, new) → ⊥
   rest_stands m e = let no = (head_exact 1 (omega arith) (omega arith) before new come.sound (Err m) (begins_goes_on begun 1 before now come.sound come.begins (Err m) new e)).1 (header_starts g depth before come.stands) in cc (no)
 
-  -- its size leads to a place that fits its type
+  -- the size of a certified geometry leads to a place that fits its type
   size_fits_by : (n : ℕ) (d : Reading) → begun.metadata ≡ 3 → number_at now ≡ (Ok n, d) → (head : Head) → rest_at begun.kind begun.xy begun.metadata begun.start now ≡ (Ok head, new) → d.place + n < 2 ^ 64
   size_fits_by n d three number head e =
       let fits = hop_fits g depth before new head come.sound come.stands (head_there head e).0 (head_there head e).1 in
@@ -84,16 +84,16 @@ module _ (begun : Begun) (g : Geometry) (depth : ℕ) (before now : Reading) (co
       let size : SizeField = record { value = n; offset = now.place; after = d.place } in
       rest_read begun g depth before now f come (flat_fields begun size x y f.place) (head_there begun g depth before now f come (head_said (flat_fields begun size x y f.place)) (flat_read begun size x y now d e f three number refl refl first second))
 
--- such a geometry is hopped over where its box is skipped, and only there
+-- a geometry with a size and a box in X and Y is hopped over exactly if its box is skipped
 pub flat_hop : (passes : Bounds → Bool) (begun : Begun) (size : SizeField) (x y : RawRange) (stop : ℕ) (b : Bool) → passes (raw_bounds begun.xy None None (flat_box x y)) ≡ b
     → hop_of passes (head_said (flat_fields begun size x y stop)).size (head_said (flat_fields begun size x y stop)).bounds ≡ cond b (Some (size.after + size.value)) None
 flat_hop passes begun size x y stop b e = ap (λ (b : Bool). cond b (Some (size.after + size.value)) None) e
 
--- it announces no ids
+-- a metadata byte that announces a size and a box alone announces no ids
 no_ids : (kind : Kind) → has_ids kind 3 ≡ false
 no_ids kind = and-false (is_multi kind)
 
--- behind its header, where its box isn't skipped
+-- after the header of a geometry with a size and a box in X and Y that isn't skipped
 pub flat_behind : (passes : Bounds → Bool) (begun : Begun) (g : Geometry) (depth : ℕ) (before now : Reading) (size : SizeField) (x y : RawRange) (axes : Axes)
     → HasRead (flat_fields begun size x y now.place) now g depth before → axes ≡ flat_axes begun.xy → passes (raw_bounds begun.xy None None (flat_box x y)) ≡ false → IsBehind passes begun.kind axes false now g depth before
 flat_behind passes begun g depth before now size x y axes read is stays =
@@ -117,7 +117,7 @@ sized_stops : (begun : Begun) (b d : Reading) (m : Malformed) → begun.metadata
 unfolding rest_at
 sized_stops begun b d m two e = rw (two, e) refl
 
--- its fields, where it is that of a point
+-- the fields of the header of a point with a size and nothing else
 sized_read : (begun : Begun) (n : ℕ) (b d : Reading) → begun.kind ≡ Point → begun.metadata ≡ 2 → number_at b ≡ (Ok n, d)
     → rest_at begun.kind begun.xy begun.metadata begun.start b ≡ (Ok (full_head Point (flat_axes begun.xy) false (Some (record { value = n; offset = b.place; after = d.place })) None begun.start d.place), d)
 unfolding rest_at
@@ -144,7 +144,7 @@ module _ (begun : Begun) (g : Geometry) (depth : ℕ) (before now : Reading) (co
         stays = refl;
       }
 
--- a visitor judges the box of such a geometry, whose ranges were read, by the precision as the code holds it
+-- a visitor judges the box of a geometry with a size and a box in X and Y by the precision as the code holds it
 module _ {S : Type 0} (step : S → Vertex → S) (passes : S → Bounds → Bool) (s : S) {begun : Begun} {g : Geometry} {depth : ℕ} {before now : Reading} (come : HasCome begun now g depth before) (three : begun.metadata ≡ 3)
     {n : ℕ} {d : Reading} (number : number_at now ≡ (Ok n, d)) (x y : RawRange) {e f : Reading} (first : range_from d ≡ (Ok (ends_of x), e)) (second : range_from e ≡ (Ok (ends_of y), f)) (xy : ℤ) (fits : xy ≡ begun.xy) where
   abbrev size : SizeField
@@ -160,14 +160,14 @@ module _ {S : Type 0} (step : S → Vertex → S) (passes : S → Bounds → Boo
     hops : hop_of (passes s) (head_said (flat_fields begun size x y f.place)).size (head_said (flat_fields begun size x y f.place)).bounds ≡ Some (place + n)
     hops = flat_hop (passes s) begun size x y f.place true (judged true skipped) ∙ ap (λ (p : ℕ). Some (p + n)) (sym at)
 
-    -- it is skipped: its end is within the bytes
+    -- if the box is skipped, the geometry's end is within the bytes
     pub box_hop_within : place + n ≤ length f.bytes
     box_hop_within = hop_within step passes s g depth before f (head_said (flat_fields begun size x y f.place)) (place + n) read.stands read.at read.moved hops
 
-    -- and there it is left
+    -- if the box is skipped, the step ends at the geometry's end
     pub box_hop_enters : SkipsSoundly step passes → (new : Reading) → new ≡ record f { place = place + n } → Entered step passes g depth (record { reading = before; state = s }) (record { reading = new; state = s }) 0
     box_hop_enters sound new is = enter_hops step passes s sound g depth before f new (head_said (flat_fields begun size x y f.place)) (place + n) read.stands read.at read.moved hops is
 
-  -- it isn't skipped: its body is behind
+  -- if the box isn't skipped, the body follows
   pub box_behind : passes s (raw_bounds xy None None (flat_box x y)) ≡ false → (axes : Axes) → axes ≡ flat_axes xy → IsBehind (passes s) begun.kind axes false f g depth before
   box_behind stays axes is = flat_behind (passes s) begun g depth before f size x y axes read (is ∙ ap flat_axes fits) (judged false stays)

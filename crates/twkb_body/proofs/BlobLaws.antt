@@ -1,4 +1,4 @@
--- The reader against the definitions, and the laws of blobs.
+-- The reader of blobs agrees with the definitions, and the laws of blobs.
 use Rattle.std.proofs.Common.{◌≡◌, ◌≢◌, ℕ, zero, suc, ◌+◌, ◌-◌, ◌%◌, ◌≤◌, Bool, true, false, cond, List, [], ◌∷◌, ◌++◌, Option, Some, None, Result, Ok, Err, ◌⊎◌, inl, inr, ⊎_elim, refl, sym, ap, subst, ◌∙◌, arith}
 use Rattle.std.proofs.lemmas.List.{append-nil, append_cancel_right}
 use Rattle.twkb_head.specs.declared.kinds.Kind.{Kind}
@@ -29,7 +29,7 @@ module _ (levels depth : ℕ) (deep : depth + levels ≡ deepest) (some : 1 ≤ 
   laws : PlanLaws (geometry_plan levels) (λ g front. Blob g front depth) (IsBegun depth)
   laws = blob_laws deepest levels depth deep some
 
-  -- what is read is a blob
+  -- a geometry that is read is a blob
   pub read_takes : (bytes rest : List ℕ) (g : Geometry) → read_at levels bytes ≡ Ok (g, rest) → (front : List ℕ) × (bytes ≡ front ++ rest) × Blob g front depth
   read_takes bytes rest g e =
       let t = run_takes (geometry_plan levels) bytes (g, rest) e in
@@ -39,7 +39,7 @@ module _ (levels depth : ℕ) (deep : depth + levels ≡ deepest) (some : 1 ≤ 
   pub read_again : (g : Geometry) (front rest : List ℕ) → Blob g front depth → read_at levels (front ++ rest) ≡ Ok (g, rest)
   read_again g front rest b = run_again (geometry_plan levels) g front rest (laws.spelled_back g front b)
 
-  -- what is begun is cut where it ends
+  -- a begun blob is cut where its bytes end
   pub read_begun : (p : List ℕ) (due : Field) → IsBegun depth p due → read_at levels p ≡ Err (fault Cut due [])
   read_begun p due b = run_stops (geometry_plan levels) p due (laws.stops_back p due b)
 
@@ -77,7 +77,7 @@ module _ (levels depth : ℕ) (deep : depth + levels ≡ deepest) (some : 1 ≤ 
   in_viable p (inl (g, b)) = inl (g, laws.spelled g p b)
   in_viable p (inr (due, b)) = inr (due, laws.stops p due b)
 
-  -- something viable goes on, behind a begun prefix, by one field of the kind that is due, and is viable there
+  -- viable bytes go on, after a begun prefix, by one field of the kind that is due, and are viable up to its end
   pub goes_on : (p rest : List ℕ) (due : Field) → IsBegun depth p due → IsViableAt (p ++ rest) → rest ≢ []
       → (front : List ℕ) × (behind : List ℕ) × (rest ≡ front ++ behind) × IsField due front × IsViableAt (p ++ front)
   goes_on p rest due b v more =
@@ -137,14 +137,14 @@ wrong_of p why due f (no_value r front behind is parts field bad none) =
     subst (λ (d : Field). IsWrong why d p f) (sym is)
     (wrong_value r why p front behind f parts (subst (λ (d : Field). IsField d front) is field) bad (not_viable (p ++ front) none))
 
--- where reading fails, a field is due, and the one that stands there has just that fault
+-- if reading fails, a field is due, and the field there has just that fault
 pub read_fails : (bytes : List ℕ) (why : Why) (due : Field) (f : List ℕ) → read_blob bytes ≡ Err (fault why due f)
     → (p : List ℕ) × (bytes ≡ p ++ f) × IsBegun 1 p due × IsWrong why due p f
 read_fails bytes why due f e =
     let t = run_fails (geometry_plan (deepest - 1)) bytes why due f e in
     (t.p, t.parts, top.stops t.p due t.stops, wrong_of t.p why due f t.refused)
 
--- and the other way round
+-- each request for a type byte that names no kind refuses it
 refuses_kind : (b : ℕ) → (b % 16 ≡ 0) ⊎ (8 ≤ b % 16) → (r : Request) → type_field ≡ field_of r → judge r (b ∷ []) ≡ Some BadKind
 refuses_kind b h (type_byte levels) e = ap (judge_kind levels) (none_kind (b % 16) h)
 refuses_kind b h byte e = absurd (cc (e))
@@ -182,7 +182,7 @@ module _ (p f : List ℕ) where
       subst (λ (z : List ℕ). read_blob (p ++ z) ≡ Err (fault why due z)) (sym parts)
       (t.4 ∙ ap (λ (w : Why). Err (fault w due (front ++ behind))) (only t.1 t.0 t.2 t.3))
 
-  -- a kind of field is due after p, and the one at f is wrong: there reading fails, for just that fault
+  -- if a kind of field is due after p, and the field at f is wrong, reading fails there, for just that fault
   pub wrong_fails : (why : Why) (due : Field) → IsBegun 1 p due → IsWrong why due p f → Fails why due
   wrong_fails Cut type_field b w = uncut Cut type_field b (ap cut_byte w)
   wrong_fails Cut byte_field b w = uncut Cut byte_field b (ap cut_byte w)
@@ -207,7 +207,7 @@ module _ (p f : List ℕ) where
   wrong_fails Range number_field b w = absurd w
   wrong_fails Range coordinate_field b (front, behind, n, parts, spells, none) = refused Range coordinate_field front behind b parts (n, spells) none (λ w r e j. refuses_range front w r e j)
 
--- reading fails exactly where no prefix is a blob
+-- if reading fails, no prefix is a blob
 pub fails_none : (bytes : List ℕ) (e : Fault) → read_blob bytes ≡ Err e → BeginsWithNoBlob bytes
 fails_none bytes e fails g front behind parts b =
     apart (ap read_blob parts ∙ read_again (deepest - 1) 1 from_top (omega arith) g front behind b)

@@ -58,11 +58,11 @@ list_laws ids =
     begun_back p due (inl h) = inl h
     begun_back p due (inr (n, (count, rest, split, spells, few))) = inr ((n, length count), (count, rest, split, (spells, refl), few))
 
--- the lengths of a count and ids in place of those that are there
+-- the lengths, with the body's for the count and for the count with the ids
 abbrev pub with_lengths : Lengths → Body → Lengths
 with_lengths l b = record l { count = b.count; list = b.list }
 
--- a count with ids, and members behind them
+-- a count with ids, and members after them
 module _ {h : Header} {Each : List ℕ → Type 0} (l : Lengths) where
   list_is : (x : ListHead) (n : ℕ) (bytes front rest : List ℕ) → bytes ≡ front ++ rest → IsListHead h.ids x front → (x.0).0 ≡ n → Each rest
       → IsList h (record l { count = (x.0).1; list = (x.0).1 + (x.1).1 }) (x.1).0 n Each bytes
@@ -78,7 +78,7 @@ module _ {h : Header} {Each : List ℕ → Type 0} (l : Lengths) where
     list_length = omega (arith, hd.count_length, hd.ids_length);
   }
 
--- such a list begun
+-- a list of members that is begun: in its count, its ids or its members
 module _ {A : Type 0} {ids : Bool} {Q : A → List ℕ → Type 0} {points_in : A → List PointValue} {B : List PointValue → List ℕ → Field → Type 0} where
   pub list_begun : (p : List ℕ) (due : Field) → BegunListHead ids p due → IsBegunList ids Q points_in B [] p due
   list_begun p due (inl (nil, is)) = count_due refl nil is
@@ -106,7 +106,7 @@ record IsNumbersBody (multi : Bool) (h : Header) (l : Lengths) (b : Body) (bytes
   polygons : b.polygons ≡ absolute numbers
   members : b.members ≡ none
 
--- numbers that are begun, whose sums lie in 64 bits
+-- numbers that are begun, whose sums fit 64 bits
 abbrev pub BegunShape : Header → List ℕ → Field → Type 0
 BegunShape h p due = (points : List PointValue) × IsBegunNumbers (is_multi h.kind) h points p due × SumsFit points
 
@@ -200,7 +200,7 @@ MembersLaws members Each Begun = (n : ℕ) → PlanLaws (members n) (λ gs bytes
 abbrev pub IsBodyOf : Header → Lengths → (MemberTrees → List ℕ → Type 0) → Bool → Bool → Body → List ℕ → Type 0
 IsBodyOf h l Each empty collection b bytes = IsBody empty collection h (with_lengths l b) b.ids b.polygons (member_count b.members) (Each b.members) bytes
 
--- a list of members that is begun, in its count and ids or in its members; or a shape that is
+-- a list of members that is begun, in its count and ids or in its members; or a shape that is begun
 abbrev pub BegunBody : Header → (ℕ → List ℕ → Field → Type 0) → Bool → Bool → List ℕ → Field → Type 0
 BegunBody h Begun true collection = λ p due. ⊥
 BegunBody h Begun false true = BegunChain (BegunListHead h.ids) (IsListHead h.ids) (λ x. Begun (x.0).0)

@@ -1,4 +1,4 @@
--- Runs of points of two axes that a box holds: their distances from its minimum are at most its extent, so no sum leaves
+-- Runs of points of two axes that a box holds: their distances from its minima are at most its extents, so no sum leaves
 -- 64 bits.
 use Rattle.std.proofs.Common.{◌≡◌, ℕ, ◌+◌, Bool, true, false, ◌&&◌, ◌∷◌, length, drop, slice_index_or, ℤ, pos, ◌+ℤ◌, ◌-ℤ◌, ◌≤ℤ◌, refl, sym, ap, ap₂, subst, ◌∙◌, arith}
 use Rattle.std.proofs.lemmas.Bool.Decides.{Decides-and}
@@ -28,7 +28,7 @@ reached range distance near e =
 pub met : (distance more : ℤ) → IsClose distance → IsShort more → IsMet (distance +ℤ more)
 met distance more close short = (omega (arith, ints, close.0, short.0), omega (arith, ints, close.1, short.1))
 
--- the coordinate at a distance
+-- a coordinate at a distance, plus a short difference, fits 64 bits
 pub at_fits : (range : RawRange) (distance more : ℤ) → IsNearRange range → IsClose distance → IsShort more → SFits w64 ((range.minimum +ℤ distance) +ℤ more)
 at_fits range distance more near close short =
     has_64_bits ((range.minimum +ℤ distance) +ℤ more) (omega (arith, ints, near.low, close.0, short.0)) (omega (arith, ints, near.high, close.1, short.1))
@@ -42,7 +42,7 @@ both_true true false e = absurd (cc (e))
 both_true false b e = absurd (cc (e))
 
 module _ (h : Header) (start : Trail) (state : Held) (from : Reading) (box : RawBox) where
-  -- so many points were read, which are at these distances from the ends of the box
+  -- i points were read, and the last one is at these distances from the minima of the box
   pub record IsBoxedRun (across up : ℤ) (inside : Bool) (r : Reading) (i : ℕ) : Type 0 where
     pub run : IsFlatRun (held_with h) start state from (box.x.minimum +ℤ across) (box.y.minimum +ℤ up) (record { box = box; inside = inside }) r i
     pub met_x : IsMet across

@@ -22,7 +22,7 @@ use Rattle.twkb_body.specs.Devices.BodyReader.{point_at}
 use Rattle.twkb_body.specs.Devices.Ranges.{raw_of}
 use Rattle.twkb_body.specs.Devices.Walk.{HaveAxes, lasts_from, IsWalked}
 
--- Z and M, where they are there, are among the axes
+-- Z and M are among the axes if they have a precision
 z_among : (z m : Option ℕ) → is_some z ≡ true → 2 < 2 + cond (is_some z) 1 0 + cond (is_some m) 1 0
 z_among None m e = absurd (cc (e))
 z_among (Some p) m e = omega arith
@@ -31,11 +31,11 @@ m_among : (z m : Option ℕ) → is_some m ≡ true → m_axis z < 2 + cond (is_
 m_among z None e = absurd (cc (e))
 m_among z (Some p) e = omega arith
 
--- points of numbers, at their sums from s on
+-- the coordinates of points of differences, by the sums from s on
 abbrev pub placed_from : PointValue → List PointValue → List PointValue
 placed_from s numbers = map_from add place s numbers
 
--- a coordinate that is read takes a byte at least
+-- a coordinate that is read takes at least a byte
 pub coordinate_ahead : (before z : ℤ) (r new : Reading) → coordinate_at before r ≡ (Ok z, new) → r.place < new.place
 unfolding coordinate_at
 coordinate_ahead before z r new e = go (cut_field coordinate_field (rest r)) refl e
@@ -50,7 +50,7 @@ coordinate_ahead before z r new e = go (cut_field coordinate_field (rest r)) ref
     go (Ok x) cut e = whole x (field_takes coordinate_field (rest r) x cut).1 (judge (coordinate_request before) x.0) e
     go (Err w) cut e = absurd (ok_not_err z _ new _ (sym e))
 
--- the coordinate at i, and those behind it
+-- the first of the coordinates from i on is the coordinate at i
 pub first_of-drop : (s : PointValue) (i : ℕ) → first_of (drop i s) ≡ slice_index_or s i (pos 0)
 first_of-drop [] zero = refl
 first_of-drop [] (suc i) = refl
@@ -63,13 +63,13 @@ behind-drop [] (suc i) = refl
 behind-drop (c ∷ s) zero = refl
 behind-drop (c ∷ s) (suc i) = behind-drop s i
 
--- what is not yet added is as before
+-- a coordinate to which nothing was added yet is as before
 pub add-at : (s front : PointValue) → length front < length s → slice_index_or (add s front) (length front) (pos 0) ≡ slice_index_or s (length front) (pos 0)
 add-at s [] h = refl
 add-at [] (n ∷ front) h = absurd (omega (arith, h))
 add-at (c ∷ s) (n ∷ front) h = add-at s front (omega (arith, h))
 
--- one number more
+-- after one more number, the coordinate at its axis is greater by the number
 pub add-more : (s front : PointValue) (z : ℤ) → length front < length s
     → add s (front ++ z ∷ []) ≡ set (add s front) (length front) (slice_index_or s (length front) (pos 0) +ℤ z)
 add-more [] front z h = absurd (omega (arith, h))
@@ -97,7 +97,7 @@ module _ (axes : ℕ) (start : Trail) (from : Reading) where
     ahead = omega arith;
   }
 
-  -- the coordinate that is next
+  -- the coordinate to which the next number is added is the one of the trail
   next_is : (i : ℕ) (now : Trail) (r : Reading) → i < length start.last → (l : IsPointLoop i now r) → first_of (drop i start.last) ≡ slice_index_or now.last i (pos 0)
   next_is i now r lt l =
       let at : slice_index_or (add start.last l.front) i (pos 0) ≡ slice_index_or start.last i (pos 0) =

@@ -1,4 +1,4 @@
--- Distinct ids of a sorted list.
+-- The ids of a list are distinct if the neighbors of the sorted list differ.
 use Rattle.std.proofs.Common.{◌≡◌, ◌≢◌, ℕ, zero, suc, ◌+◌, ◌<◌, Bool, true, false, ℤ, ◌≤ℤ◌, ◌<ℤ◌, Ordering, Less, Equal, Greater, List, [], ◌∷◌, length, get_or, AllPairs, refl, sym, arith}
 use Rattle.std.specs.List.{IsDistinct}
 use Rattle.std.specs.List.Sorted.{IsSorted, IsPermutation}
@@ -34,7 +34,7 @@ distinct_from_pairs (x ∷ xs) h = (
     unequal : (a b : ℤ) → a ≢ b → int_eq a b ≡ false
     unequal a b n = neither (int_eq a b) (λ e. n ((Decides-int_eq a b).0 e))
 
--- in another order
+-- ids that differ also differ in another order
 pub pairs_permuted : (xs ys : List ℤ) → IsPermutation xs ys → AllPairs (λ a b. a ≢ b) xs → AllPairs (λ a b. a ≢ b) ys
 pairs_permuted xs ys p h = pairs_from_distinct ys (IsDistinct-IsPermutation int_eq flips xs ys p (distinct_from_pairs xs h))
   where
@@ -46,7 +46,7 @@ not_above a b Less m e = cc
 not_above a b Equal m e = omega (arith, ints)
 not_above a b Greater m e = omega (arith, ints)
 
--- in a sorted list whose neighbors differ all differ
+-- if the neighbors of a sorted list differ, all its ids differ
 pub pairs_from_sorted : (xs : List ℤ) → IsSorted int_cmp xs → ((k : ℕ) (d : ℤ) → k + 1 < length xs → get_or xs k d ≢ get_or xs (k + 1) d) → AllPairs (λ a b. a ≢ b) xs
 pairs_from_sorted xs up apart i j d lt within same =
     let far = sorted_far (λ x y. is_lt (int_cmp x y)) (ranks_by int_cmp_total (λ x. x)) xs up in

@@ -1,4 +1,4 @@
--- Blobs that are read, and where reading fails.
+-- Examples of blobs that are read, and of bytes where reading fails.
 use Rattle.std.proofs.Common.{◌≡◌, ℕ, List, [], ◌∷◌, None, Ok, Err, pos, false, refl, sym, subst, ◌∙◌, arith, ◌-◌}
 use Rattle.twkb_head.specs.BegunHeader.{deepest, type_field, byte_field, coordinate_field, type_due}
 use Rattle.twkb_head.proofs.Spelling.{fault}
@@ -53,7 +53,7 @@ no_metadata : read_blob (1 ∷ []) ≡ Err (fault Cut byte_field [])
 unfolding geometry_plan
 no_metadata = refl
 
--- ---- the definitions hold of these
+-- ---- the definitions hold of the examples
 alone : (g : Geometry) (bytes : List ℕ) → read_blob bytes ≡ Ok (g, []) → Blob g bytes 1
 alone g bytes e =
     let t = read_takes (deepest - 1) 1 refl (omega arith) bytes [] g e in
@@ -74,6 +74,6 @@ line_begun =
     let t = read_fails (2 ∷ 0 ∷ 2 ∷ 2 ∷ 2 ∷ 8 ∷ []) Cut coordinate_field [] refl in
     subst (λ (z : List ℕ). IsBegun 1 z coordinate_field) (sym (t.1 ∙ append-nil t.0)) t.2
 
--- and from the definition's own constructors: the empty prefix, and a number field in the ids of a collection
+-- begun blobs by the definition's own constructors: the empty prefix, and a number due in the ids of a collection
 nothing_begun : IsBegun 1 [] type_field
 nothing_begun = header_begun 1 [] type_field (type_due refl refl)

@@ -1,4 +1,4 @@
--- What the first reading of a blob says of it: a point with a size, a bare line, and that a blob which it refutes isn't certified.
+-- The first reading of a point and of a line without a box, and that a blob which it refutes isn't certified.
 use Rattle.std.proofs.Common.{◌≡◌, ℕ, ◌-◌, false, List, ◌++◌, Option, None, option_map, Result, Ok, Err, refl, sym, ap, ap₂, subst, ◌∙◌, arith}
 use Rattle.twkb_num.specs.Cursor.{Reading, rest, passed, IsMoved, IsSound}
 use Rattle.twkb_num.proofs.CursorLemmas.{rest-passed}
@@ -66,7 +66,7 @@ module _ (raw : Fields) (plain : Head) (same : plain ≡ boxless raw) (kind : Ki
       subst (λ (e : Doubt). HasDoubt (IsRefuted (deepest - 1) None r) (HasLongList 1 (rest r)) r e new) (sym is)
       (body_doubts raw 1 None r mid (omega arith) (omega arith) sound at moved plain same None under new Refused doubt)
 
--- ---- what is refuted isn't certified
+-- ---- a blob that is refuted isn't certified
 pub none_certified : (r : Reading) → IsSound r → IsRefuted (deepest - 1) None r → (g : Geometry) (front behind : List ℕ) → rest r ≡ front ++ behind → Blob g front 1 → IsCertified g → ⊥
 none_certified r sound wrong g front behind split blob certified = go (geometry_at (deepest - 1) r) refl
   where
@@ -77,6 +77,6 @@ none_certified r sound wrong g front behind split blob certified = go (geometry_
         let once = blob_once (deepest - 1) 1 refl (omega arith) g h front (passed r new) behind (rest new) blob b.0 (sym split ∙ rest-passed r new b.1) in
         wrong h new is (claims_move_by false h 0 r.place (subst IsCertified once.0 certified)) tt
 
--- two readings that begin with the same bytes at one place
+-- two readings of equal bytes at one place have the same bytes left
 pub rests_same : (r s : Reading) → s.bytes ≡ r.bytes → s.place ≡ r.place → rest s ≡ rest r
 rests_same r s bytes place = ap₂ (λ (bs : List ℕ) (p : ℕ). rest (record { bytes = bs; place = p; count = 0 })) bytes place

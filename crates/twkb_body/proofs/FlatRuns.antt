@@ -20,7 +20,7 @@ pub has_64_bits : (z : ℤ) → neg_ℤ (pos (2 ^ 63)) ≤ℤ z → z <ℤ pos (
 has_64_bits (pos n) low high = record { sfits = omega (arith, ints, high) }
 has_64_bits (negsuc n) low high = record { sfits = omega (arith, ints, low) }
 
--- the trail that two sums stand for
+-- the trail after i points, with two sums as its first two coordinates
 abbrev pub flat_trail : Trail → ℤ → ℤ → ℕ → Trail
 flat_trail start x y i = record { last = x ∷ y ∷ drop 2 start.last; points = start.points + i }
 
@@ -32,7 +32,7 @@ two_coordinates x y x_more y_more others r middle new first second =
     ∙ ap (λ (a : Answer ℤ). viewed (λ cs. x_more ∷ cs) (a >>= λ d q. viewed (λ cs. d ∷ cs) (many_at 0 (λ (s : PointValue) (z : ℤ). behind s) (λ s. coordinate_at (first_of s)) others q))) second
 
 module _ {S : Type 0} (step : S → PointValue → S) (start : Trail) (state : S) (from : Reading) where
-  -- so many points were read, and these are the sums
+  -- i points were read, and these are the sums
   abbrev pub IsFlatRun : ℤ → ℤ → S → Reading → ℕ → Type 0
   IsFlatRun x y now r i = IsRun step 2 start (flat_trail start x y i) state now from r i
 
@@ -75,7 +75,7 @@ module _ {S : Type 0} (step : S → PointValue → S) (start : Trail) (state : S
         ahead = let a = coordinate_ahead x x_more r pair.0 pair.1 in let b = coordinate_ahead y y_more pair.0 new pair.2 in omega (arith, a, b);
       }
 
-  -- the trail, as it is written back
+  -- a run that is written back to the trail is a run
   pub flat_ends : (x y : ℤ) (now : S) (r : Reading) (i : ℕ) (after : Trail) (left : S) → length start.last ≡ 4 → after ≡ record { last = set (set start.last 0 x) 1 y; points = start.points + i }
       → left ≡ now → IsFlatRun x y now r i → IsRun step 2 start after state left from r i
   flat_ends x y now r i after left four is left_is run =

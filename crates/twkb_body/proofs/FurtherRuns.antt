@@ -1,4 +1,4 @@
--- Runs of points of three axes or four that a box holds, as those of two, with a number for each axis.
+-- Runs of points of three axes or four that a box holds, with a number for each axis.
 use Rattle.std.proofs.Common.{◌≡◌, ℕ, ◌+◌, Bool, true, false, ◌&&◌, [], ◌∷◌, length, take, ℤ, pos, ◌+ℤ◌, refl, sym, ap, subst, ◌∙◌, arith}
 use Rattle.std.proofs.lemmas.Int.{ints}
 use Rattle.twkb_num.specs.Cursor.{Reading}
@@ -15,7 +15,7 @@ use Rattle.twkb_body.specs.Devices.Walk.{IsWalked, IsRun}
 use Rattle.twkb_body.proofs.BoxedRuns.{reached, met, from_minimum, both_true}
 use Rattle.twkb_body.proofs.Runs.{run_none, run_goes_on}
 
--- the coordinate at a distance, and a short difference more
+-- a coordinate at a distance, plus a short difference, fits 64 bits
 at_in_64 : (range : RawRange) (distance more : ℤ) → IsNearRange range → IsClose distance → IsShort more → IsIn64 ((range.minimum +ℤ distance) +ℤ more)
 at_in_64 range distance more near close short = (omega (arith, ints, near.low, close.0, short.0), omega (arith, ints, near.high, close.1, short.1))
 
@@ -31,7 +31,7 @@ grouped low distance more = omega (arith, ints)
 unmoved : (low distance more : ℤ) → more ≡ pos 0 → low +ℤ (distance +ℤ more) ≡ low +ℤ distance
 unmoved low distance more e = omega (arith, ints, e)
 
--- what the box reaches is in the box
+-- distances within the extents of a box are the distances of a point in the box
 reached_is_in : (has_fourth : Bool) (box : RawBox) (apart : Numbers) → reach_all box has_fourth apart ≡ is_in_box (axes_by has_fourth) box (listed (placed_at box apart))
 reached_is_in true box apart = λ j.
     (reaches box.third.extent (sym (from_minimum box.third.minimum apart.third) j) && reaches box.fourth.extent (sym (from_minimum box.fourth.minimum apart.fourth) j))
@@ -40,7 +40,7 @@ reached_is_in false box apart = λ j.
     (reaches box.third.extent (sym (from_minimum box.third.minimum apart.third) j) && true)
     && (reaches box.x.extent (sym (from_minimum box.x.minimum apart.x) j) && reaches box.y.extent (sym (from_minimum box.y.minimum apart.y) j))
 
--- the point behind a point and its differences
+-- the differences of the next point, added to the distances of a point, are added to its coordinates
 moved_on : (has_fourth : Bool) (box : RawBox) (apart more : Numbers) → (has_fourth ≡ false → more.fourth ≡ pos 0)
     → listed (placed_at box (plus apart more)) ≡ add (listed (placed_at box apart)) (take (axes_by has_fourth) (listed more))
 moved_on true box apart more absent = λ j.
@@ -52,7 +52,7 @@ as_many : (has_fourth : Bool) (more : Numbers) → length (take (axes_by has_fou
 as_many true more = refl
 as_many false more = refl
 
--- an axis that isn't there moves nothing
+-- the distance in the fourth axis stays close, also if the axis isn't there
 fourth_close : (has_fourth : Bool) (box : RawBox) (apart more : Numbers) → IsNearRange box.fourth → IsClose apart.fourth → (has_fourth ≡ false → more.fourth ≡ pos 0) → reach_all box has_fourth (plus apart more) ≡ true → IsClose (apart.fourth +ℤ more.fourth)
 fourth_close true box apart more near close absent e = reached box.fourth _ near (both_true _ _ (both_true _ _ e).0).1
 fourth_close false box apart more near close absent e = let none = absent refl in (omega (arith, ints, none, close.0), omega (arith, ints, none, close.1))
@@ -61,7 +61,7 @@ module _ (h : Header) (start : Trail) (state : Held) (from : Reading) (box : Raw
   abbrev pub trail_at : Numbers → ℕ → Trail
   trail_at apart i = record { last = listed (placed_at box apart); points = start.points + i }
 
-  -- so many points were read, the last of which is at these distances from the minima of the box
+  -- i points were read, and the last one is at these distances from the minima of the box
   pub record IsFurtherRun (apart : Numbers) (inside : Bool) (r : Reading) (i : ℕ) : Type 0 where
     pub run : IsRun (held_with h) (axes_by has_fourth) start (trail_at apart i) state (record { box = box; inside = inside }) from r i
     pub met : Each IsMet apart

@@ -59,7 +59,7 @@ module _ (limit : ℕ) where
 
   module _ (levels depth : ℕ) (deep : depth + levels ≡ limit) (some : 1 ≤ depth) (members : ℕ → Plan Members)
       (each : (k : Kind) → is_collection k ≡ true → IsAllowedWith levels k → MembersLaws members (BlobsAt (suc depth)) (BegunBlobs (suc depth))) where
-    -- the lengths of what stands before a body, where the whole has so many bytes
+    -- the lengths of the parts before a body, in a geometry of `whole` bytes
     abbrev lengths_of : HeadValue × ℕ → ℕ → Lengths
     lengths_of head whole = record { before = (head.0).before; size = (head.0).size; header = head.1; count = 0; list = 0; whole = whole }
 
@@ -77,7 +77,7 @@ module _ (limit : ℕ) where
     parts_at whole = bind_laws_behind (measure_laws (head_laws limit levels depth deep some)) (λ head front is. done_laws (λ (b : Body). (head, b))
         (body_laws (head.0).header (lengths_of head whole) (head.0).header.empty (is_collection (head.0).header.kind) refl (λ c. each (head.0).header.kind c is.0.allowed)))
 
-    -- where the whole is what stands there
+    -- the laws of a header and a body, with the number of their bytes as the length of the whole
     parts_laws : PlanLaws (parts_plan levels members) (λ x bytes. AreParts (length bytes) x bytes) BegunParts
     parts_laws = record {
       spelled = λ x bytes s. (parts_at (length bytes)).spelled x bytes s;

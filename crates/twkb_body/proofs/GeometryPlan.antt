@@ -10,7 +10,7 @@ use Rattle.twkb_head.specs.Shared.HeadPlan.{HeadValue, head_plan}
 use Rattle.twkb_body.specs.Geometry.{Geometry, Members, none, PointValue, Ring, PolygonValue}
 use Rattle.twkb_body.specs.Devices.Body.{Body, ListHead, add, behind, first_of, geometry_from, members_body, members_of, no_body, part_body, parts_body, ring_sums, sums, zeros}
 
--- a difference for each axis
+-- a point: a difference for each axis
 abbrev pub point_plan : ℕ → PointValue → Plan PointValue
 point_plan axes s = many axes (λ s z. behind s) (λ s. coordinate_plan (first_of s)) s
 
@@ -32,7 +32,7 @@ part_plan Polygon axes s = polygon_plan axes s
 part_plan MultiPolygon axes s = polygon_plan axes s
 part_plan GeometryCollection axes s = done []
 
--- the ids behind a count, where they are announced
+-- the ids after a count, if they are announced
 abbrev pub ids_plan : Bool → ℕ × ℕ → Plan ListHead
 ids_plan ids n = bind (measure 0 (optional ids (signeds_plan n.0))) (λ list. done (n, list))
 
@@ -40,7 +40,7 @@ ids_plan ids n = bind (measure 0 (optional ids (signeds_plan n.0))) (λ list. do
 abbrev pub list_plan : Bool → Plan ListHead
 list_plan ids = bind (measure 0 number_plan) (ids_plan ids)
 
--- the parts behind a count and ids
+-- the parts after a count and ids
 abbrev pub after_list : Header → ListHead → Plan Body
 after_list h list = bind (many (list.0).0 ring_sums (part_plan h.kind (axes_of h)) zeros) (λ parts. done (parts_body list parts))
 
@@ -49,7 +49,7 @@ abbrev pub shape_plan : Bool → Header → Plan Body
 shape_plan false h = bind (part_plan h.kind (axes_of h) zeros) (λ part. done (part_body part))
 shape_plan true h = bind (list_plan h.ids) (after_list h)
 
--- the members behind a count and ids
+-- the members after a count and ids
 abbrev pub after_count : (ℕ → Plan Members) → ListHead → Plan Body
 after_count members list = bind (members (list.0).0) (λ gs. done (members_body list gs))
 
@@ -59,7 +59,7 @@ body_plan true collection h members = done no_body
 body_plan false true h members = bind (list_plan h.ids) (after_count members)
 body_plan false false h members = shape_plan (is_multi h.kind) h
 
--- the body behind a header
+-- the body after a header
 abbrev pub after_head : (ℕ → Plan Members) → HeadValue × ℕ → Plan ((HeadValue × ℕ) × Body)
 after_head members head = bind (body_plan (head.0).header.empty (is_collection (head.0).header.kind) (head.0).header members) (λ body. done (head, body))
 
@@ -75,15 +75,15 @@ geometry_with levels members = bind (measure 0 (parts_plan levels members)) (λ 
 abbrev pub members_plan : Plan Geometry → ℕ → Plan Members
 members_plan plan n = bind (many n (λ s g. s) (λ s. plan) (pos 0)) (λ gs. done (members_of gs))
 
--- a geometry with so many levels below it
+-- a geometry with this many levels below it
 unfoldable pub geometry_plan : ℕ → Plan Geometry
 geometry_plan zero = geometry_with zero (λ n. done none)
 geometry_plan (suc levels) = geometry_with (suc levels) (members_plan (geometry_plan levels))
 
--- the geometry at the front of the bytes, with so many levels below it, and what is behind it, or the first fault
+-- the geometry at the front of the bytes, with this many levels below it, and the rest of the bytes, or the first fault
 abbrev pub read_at : ℕ → List ℕ → Result (Geometry × List ℕ) Fault
 read_at levels bytes = run (geometry_plan levels) bytes
 
--- the blob at the front
+-- the blob at the front of the bytes, and the rest of the bytes, or the first fault
 abbrev pub read_blob : List ℕ → Result (Geometry × List ℕ) Fault
 read_blob = read_at (deepest - 1)

@@ -1,4 +1,4 @@
--- The steps of reading a geometry: its header, and what its body gives.
+-- The steps of reading a geometry: its header, its body, and the judging of its claims.
 use Rattle.std.proofs.Common.{◌≡◌, ℕ, zero, suc, ◌+◌, ◌-◌, ◌≤◌, ◌==◌, Bool, true, false, cond, List, [], length, map, ℤ, Option, Some, None, option_map, Ok, refl, sym, ap, ap₂, subst, ◌∙◌, arith}
 use Rattle.twkb_num.specs.Cursor.{Reading, passed, IsMoved}
 use Rattle.twkb_head.specs.declared.header.Head.{Head}
@@ -39,7 +39,7 @@ module _ (levels : ℕ) (r : Reading) where
     bytes = f.bytes;
   }
 
-  -- behind a header
+  -- reading a geometry after its header
   module _ (a : Reading) (x : HeadValue) (headed : read (head_plan levels) r ≡ (Ok x, a)) where
     abbrev pub body_behind : Answer Body
     body_behind = body_at x.header.empty (is_collection x.header.kind) x.header (members_under levels) a
@@ -69,7 +69,7 @@ module _ (h : Header) (members : ℕ → Reader Members) (a : Reading) where
   unfolding body_at
   shape_body e k = ap₂ (λ (b c : Bool). body_at b c h members a) e k
 
--- a shape hangs on what the head says alone
+-- a shape depends on its header only by what the head says
 pub shape_of_head : (head : Head) (h : Header) (start size_place box_place stop : ℕ) → head ≡ head_of h start size_place box_place stop → (r : Reading)
     → shape_at (is_multi head.kind) (of_head head) r ≡ shape_at (is_multi h.kind) h r
 unfolding shape_at
@@ -79,7 +79,7 @@ shape_of_head head h start size_place box_place stop e r = ap (λ (x : Head). sh
     same false = refl
     same true = refl
 
--- and so does every body
+-- a body depends on its header only by what the head says
 pub body_of_head : (head : Head) (h : Header) (start size_place box_place stop : ℕ) → head ≡ head_of h start size_place box_place stop → (members : ℕ → Reader Members) (r : Reading)
     → body_at head.empty (is_collection head.kind) (of_head head) members r ≡ body_at h.empty (is_collection h.kind) h members r
 unfolding body_at shape_at
@@ -95,7 +95,7 @@ body_of_head head h start size_place box_place stop e members r =
     same false true = refl
     same false false = shape (is_multi h.kind)
 
--- the body behind the head of a shape
+-- the body after the head of a shape
 pub shape_behind_head : (head : Head) (h : Header) (start size_place box_place stop : ℕ) → head ≡ head_of h start size_place box_place stop → head.empty ≡ false → is_collection head.kind ≡ false
     → (members : ℕ → Reader Members) (r : Reading) → body_at h.empty (is_collection h.kind) h members r ≡ shape_at (is_multi head.kind) (of_head head) r
 shape_behind_head head h start size_place box_place stop e full single members r = sym (body_of_head head h _ _ _ _ e members r) ∙ shape_body (of_head head) members r full single

@@ -1,4 +1,4 @@
--- Blobs under a greater limit.
+-- A blob under a limit of depth is a blob under a greater one.
 use Rattle.std.proofs.Common.{ℕ, suc, ◌≤◌, Bool, true, false, List, ℤ, Option, arith}
 use Rattle.twkb_head.specs.declared.kinds.Kind.{Kind}
 use Rattle.twkb_head.specs.Header.{Header}

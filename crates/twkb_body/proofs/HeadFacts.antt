@@ -1,4 +1,4 @@
--- What is known of a header that was read.
+-- Facts about a header that was read.
 use Rattle.std.proofs.Common.{◌≡◌, ℕ, ◌+◌, ◌-◌, ◌≤◌, ◌++◌, length, Option, Some, None, IfSome, option_map, sym, ap, subst, ◌∙◌, arith, length-append}
 use Rattle.std.proofs.lemmas.Grind.{common_steps}
 use Rattle.twkb_num.specs.Cursor.{Reading, passed, IsMoved}

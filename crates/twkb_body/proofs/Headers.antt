@@ -1,4 +1,4 @@
--- A certified geometry whose header was read: what that says of it, and where its size leads.
+-- A certified geometry whose header was read: the header is its own, and the size leads to its end.
 use Rattle.std.proofs.Common.{◌≡◌, ℕ, ◌+◌, ◌^◌, ◌<◌, ◌≤◌, true, List, cond, Option, Some, None, is_some, option_map, refl, ap, sym, ◌∙◌, arith, length}
 use Rattle.twkb_num.specs.Cursor.{Reading, added}
 use Rattle.twkb_head.specs.declared.boxes.Vertex.{Vertex}
@@ -18,13 +18,13 @@ use Rattle.twkb_body.proofs.HeadStands.{has_head}
 use Rattle.twkb_body.proofs.Orders.{blob_order}
 use Rattle.twkb_body.proofs.WalkLengths.{walk_most}
 
--- what it says
+-- the header that was read is the header of the geometry
 pub head_stands : (g : Geometry) (depth : ℕ) (before now : Reading) (raw : Fields) → HasRead raw now g depth before → head_said raw ≡ head_standing g before.place
 head_stands (geometry h l ids polygons members) depth before now raw read =
     let hd = has_head h l ids polygons members depth before now (head_said raw) read.stands read.at read.moved in
     hd.head_is ∙ ap (head_of h before.place (before.place + l.before) (before.place + l.before + l.size)) hd.far
 
--- where its size leads: to its end, behind the header
+-- the size leads to the geometry's end, which is within the bytes
 pub record IsSizedEnd (g : Geometry) (before now : Reading) (size : SizeField) : Type 0 where
   pub stop : size.after + size.value ≡ before.place + (lengths_of g).whole
   pub within : before.place + (lengths_of g).whole ≤ length now.bytes
@@ -56,11 +56,11 @@ unsized : (n : Option ℕ) (offset after : ℕ) → option_map (λ value. (let s
 unsized None offset after e = refl
 unsized (Some n) offset after e = absurd (cc (e))
 
--- a visitor that has nothing to see reads no more than the geometry
+-- a visitor that skips every box reads no more bytes than the geometry has
 pub passing_few : (g : Geometry) (bytes : List ℕ) (place : ℕ) → StandsAt g 1 bytes place → walk g (Unit {0}) (λ (s : Unit {0}) (v : Vertex). s) (λ (s : Unit {0}) (b : Bounds). true) tt ≤ (lengths_of g).whole
 passing_few g bytes place at = walk_most (Unit {0}) (λ s v. s) (λ s b. true) g tt (blob_order deepest g at.front 1 at.blob).1
 
--- what passing a geometry reads where it has no size
+-- to pass a geometry without a size reads the bytes of a visitor that skips every box
 pub unsized_reads : (g : Geometry) (depth : ℕ) (before now : Reading) (raw : Fields) → HasRead raw now g depth before → raw.size ≡ None
     → bytes_to_pass g ≡ walk g (Unit {0}) (λ (s : Unit {0}) (v : Vertex). s) (λ (s : Unit {0}) (b : Bounds). true) tt
 unsized_reads (geometry h l ids polygons members) depth before now raw read is =

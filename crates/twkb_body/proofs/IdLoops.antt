@@ -1,4 +1,4 @@
--- Ids that are read one after another.
+-- Reading the ids of a list one after another, with room for them or without.
 use Rattle.std.proofs.Common.{◌≡◌, ◌≢◌, ℕ, zero, suc, ◌+◌, ◌<◌, ◌≤◌, List, [], ◌∷◌, ◌++◌, length, take, drop, ℤ, pos, ◌≤ℤ◌, ◌<ℤ◌, All, AllPairs, Ok, Err, refl, sym, ap, subst, ◌∙◌, append_assoc, arith, length-append}
 use Rattle.std.proofs.lemmas.Int.{ints}
 use Rattle.std.proofs.lemmas.List.{take-append-drop, length-take}
@@ -25,7 +25,7 @@ sequence_split P (x ∷ xs) ys bytes (front, rest, parts, p, s) =
     let t = sequence_split P xs ys rest s in
     (front ++ t.0, t.1, parts ∙ ap (λ (z : List ℕ). front ++ z) t.2 ∙ sym (append_assoc front t.0 t.1), (front, t.0, refl, p, t.3), t.4)
 
--- what was read stands there
+-- the bytes of the signed numbers that were read are at the front of the rest
 signeds_stand : (n : ℕ) (r new : Reading) (ids : List ℤ) → IsSound r → signeds_at n r ≡ (Ok ids, new)
     → (front : List ℕ) × (rest r ≡ front ++ rest new) × Times n IsSigned ids front × (new.bytes ≡ r.bytes)
 signeds_stand n r new ids sound e =
@@ -34,7 +34,7 @@ signeds_stand n r new ids sound e =
     (t.0, t.1, (signeds_laws n).spelled ids t.0 t.2, ok.1.bytes)
 
 module _ (count : ℕ) (from : Reading) where
-  -- so many ids were read, and are held
+  -- i ids were read, and are held
   pub record IsIdLoop (i : ℕ) (held : List ℤ) (r : Reading) : Type 0 where
     pub read : IsLoop (λ s z. s) (λ s. signed_at) count (signeds_at count from) held i (pos 0) r
     pub so_far : signeds_at i from ≡ (Ok held, r)
@@ -61,7 +61,7 @@ module _ (count : ℕ) (from : Reading) where
   pub ids_end : (i : ℕ) (held : List ℤ) (r : Reading) → i ≡ count → IsIdLoop i held r → signeds_at count from ≡ (Ok held, r)
   ids_end i held r end l = loop_ends (λ s z. s) (λ s. signed_at) count (signeds_at count from) held i (pos 0) r (omega (arith, end)) l.read
 
-  -- memory is wanted where there are sixteen ids, and one more
+  -- memory is wanted only for a seventeenth id
   pub ids_many : (i : ℕ) (held : List ℤ) (r new : Reading) (id : ℤ) → IsSound from → i < count → signed_at r ≡ (Ok id, new) → 16 ≤ length held → IsIdLoop i held r
       → (new.bytes ≡ from.bytes) × HasManyIds count (rest from)
   ids_many i held r new id sound lt e full l =
@@ -100,7 +100,7 @@ module _ (count : ℕ) (from : Reading) where
   pass_ends i r end l = (l.front, loop_ends (λ s z. s) (λ s. signed_at) count (signeds_at count from) l.front i (pos 0) r (omega (arith, end)) l.read, tt)
 
 -- ---- ids that rise
--- one more that differs from all
+-- one more id that differs from all others
 pairs_more : (ids : List ℤ) (id : ℤ) → AllPairs (λ a b. a ≢ b) ids → All (λ a. a ≢ id) ids → AllPairs (λ a b. a ≢ b) (ids ++ id ∷ [])
 pairs_more [] id pairs differ = AllPairs-cons (λ a b. a ≢ b) id [] (All-nil (λ b. id ≢ b)) pairs
 pairs_more (a ∷ ids) id pairs differ =
@@ -108,7 +108,7 @@ pairs_more (a ∷ ids) id pairs differ =
     (All-append (λ b. a ≢ b) ids (id ∷ []) (λ k d lt. pairs zero (suc k) d (omega arith) (omega arith)) (All-cons (λ b. a ≢ b) id [] (All-head (λ x. x ≢ id) a ids differ) (All-nil (λ b. a ≢ b))))
     (pairs_more ids id (λ i j d lt within. pairs (suc i) (suc j) d (omega arith) (omega arith)) (All-tail (λ x. x ≢ id) a ids differ))
 
--- what is at most the last is less than one that is greater, and differs from it
+-- ids of at most the last one are less than a greater id, and differ from it
 below_next : (ids : List ℤ) (last id : ℤ) → last <ℤ id → All (λ a. a ≤ℤ last) ids → All (λ a. a ≤ℤ id) ids × All (λ a. a ≢ id) ids
 below_next ids last id lt below = (
   (λ k d within. let low = below k d within in omega (arith, ints)),
@@ -116,7 +116,7 @@ below_next ids last id lt below = (
 )
 
 module _ (count : ℕ) (from : Reading) where
-  -- so many ids were read, which differ, and are at most the last
+  -- i ids were read, which differ, and none is greater than the last
   pub record IsRisingLoop (i : ℕ) (last : ℤ) (r : Reading) : Type 0 where
     pub passed : IsPassLoop count from i r
     pub differ : AllPairs (λ a b. a ≢ b) passed.front

@@ -1,4 +1,4 @@
--- Whatever a reader answers, the bytes are those that it began with.
+-- A reader leaves the bytes unchanged, whether it answers a value or a fault.
 use Rattle.std.proofs.Common.{◌≡◌, ℕ, zero, suc, Bool, true, false, ℤ, pos, List, [], ◌∷◌, length, Option, None, Some, Result, Ok, Err, refl, sym, ap, ◌∙◌}
 use Rattle.twkb_num.specs.Cursor.{Reading}
 use Rattle.twkb_head.specs.declared.kinds.Kind.{Kind}
@@ -137,7 +137,7 @@ keeps_under (suc levels) n r = keeps_members (geometry_at levels) n (keeps_geome
 pub keeps_body_under : (levels : ℕ) (empty collection : Bool) (h : Header) → Keeps (body_at empty collection h (members_under levels))
 keeps_body_under levels empty collection h = keeps_body empty collection h (members_under levels) (keeps_under levels)
 
--- ---- so code that reads keeps them
+-- ---- code that reads as a reader does leaves the bytes unchanged
 pub read_keeps : {A : Type 0} (f : Reader A) (r new : Reading) (x : A) → Keeps f → f r ≡ (Ok x, new) → new.bytes ≡ r.bytes
 read_keeps {A} f r new x keeps e = ap (λ (a : Answer A). a.1.bytes) (sym e) ∙ keeps r
 

@@ -21,24 +21,24 @@ four_fits : (w : Width) (d : List ℕ) → Each1 (Fits w) d → map (cast_unsign
 four_fits w [] fits = refl
 four_fits w (n ∷ d) fits = ap₂ (λ (m : ℕ) (ms : List ℕ). m ∷ ms) (of_z-to_z w n fits.0.fits) (four_fits w d fits.1)
 
--- lanes are what their signed numbers say
+-- lanes are the two's complement of their signed numbers
 pub lanes_are : (w : Width) (d : List ℕ) (zs : List ℤ) → Each1 (Fits w) d → map (cast_signed w) d ≡ zs → d ≡ map (cast_unsigned w) zs
 lanes_are w d zs fits e = sym (four_fits w d fits) ∙ ap (map (cast_unsigned w)) e
 
--- a lane of 16 bits, of the sum of numbers that two bytes can spell
+-- a lane of 16 bits has the sum of two numbers that two bytes can spell
 sum_16 : (p q : ℤ) → neg_ℤ (pos 16384) ≤ℤ p → p <ℤ pos 16384 → neg_ℤ (pos 16384) ≤ℤ q → q <ℤ pos 16384 → (cast_unsigned w16 p + cast_unsigned w16 q) % 65536 ≡ cast_unsigned w16 (p +ℤ q)
 sum_16 p q h i j k = omega (arith, ints, h, i, j, k)
 
 none_16 : (p : ℤ) → neg_ℤ (pos 32768) ≤ℤ p → p <ℤ pos 32768 → (cast_unsigned w16 p + 0) % 65536 ≡ cast_unsigned w16 p
 none_16 p h i = omega (arith, ints, h, i)
 
--- a lane of 32 bits, of a distance and such a sum
+-- a lane of 32 bits has the sum of a distance and a lane of 16 bits
 lane_sum : (z x y : ℤ) → neg_ℤ (pos 32768) ≤ℤ z → z <ℤ pos 32768 → IsInLane x → y ≡ x +ℤ z → ((cast_unsigned w16 z + 32768) % 65536 + (cast_unsigned w32 x + (4294967296 - 32768)) % 4294967296) % 4294967296 ≡ cast_unsigned w32 y
 lane_sum z x y h i l e =
     let value : pos ((cast_unsigned w16 z + 32768) % 65536) ≡ z +ℤ pos 32768 = omega (arith, ints, h, i) in
     omega (arith, ints, value, h, i, l.0, l.1, e)
 
--- the lanes of four points, one after another
+-- the lanes of four points, from the first to the last
 pub first_lane : (a x : ℤ) → IsBrief a → IsInLane x → ((((cast_unsigned w16 a + 0) % 65536 + 0) % 65536 + 32768) % 65536 + (cast_unsigned w32 x + (4294967296 - 32768)) % 4294967296) % 4294967296 ≡ cast_unsigned w32 (x +ℤ a)
 first_lane a x brief l =
     let one = none_16 a (omega (arith, ints, brief.0)) (omega (arith, ints, brief.1)) in
@@ -79,14 +79,14 @@ second_wide a b x one two l =
     let both : (cast_unsigned w32 b + cast_unsigned w32 a) % 4294967296 ≡ cast_unsigned w32 (b +ℤ a) = omega (arith, ints, one.0, one.1, two.0, two.1) in
     ap (λ (s : ℕ). (s + cast_unsigned w32 x) % 4294967296) both ∙ omega (arith, ints, one.0, one.1, two.0, two.1, l.0, l.1)
 
--- one comparison without signs
+-- one comparison without signs decides whether a distance is within an extent
 pub lane_reaches : (extent z : ℤ) → IsLaneExtent extent → IsMetInLane z → nat_le (cast_unsigned w32 z) (cast_unsigned w32 extent) ≡ reaches extent z
 lane_reaches extent z e m =
     same_truth (nat_le (cast_unsigned w32 z) (cast_unsigned w32 extent)) (reaches extent z)
     (λ le. let low : cast_unsigned w32 z ≤ cast_unsigned w32 extent = leb-true _ _ le in (reaches_decides extent z).1 (omega (arith, ints, low, e.0, e.1, m.0, m.1), omega (arith, ints, low, e.0, e.1, m.0, m.1)))
     (λ r. let in_it = (reaches_decides extent z).0 r in le-leb _ _ (omega (arith, ints, in_it.0, in_it.1, e.0, e.1, m.0, m.1)))
 
--- the greater of two is within where both are
+-- the greater of two numbers is within a bound exactly if both are
 pub greater_within : (a b w : ℕ) → nat_le (if nat_lt a b then b else a) w ≡ (nat_le a w && nat_le b w)
 greater_within a b w =
     same_truth (nat_le (if nat_lt a b then b else a) w) (nat_le a w && nat_le b w) (λ e. grind (arith, e, leb_tells)) (λ e. grind (arith, e, leb_tells))

@@ -1,4 +1,4 @@
--- How many bytes stand up to an id of a list: two of a header at least, one of a count, and one of each id.
+-- How many bytes there are up to an id of a list: at least two of a header, one of a count, and one of each id.
 use Rattle.std.proofs.Common.{ℕ, suc, ◌+◌, ◌≤◌, List, [], ◌∷◌, ◌++◌, length, ℤ, ap, arith, length-append}
 use Rattle.twkb_num.specs.Varint.{IsSigned}
 use Rattle.twkb_head.specs.Parts.{Sequence}

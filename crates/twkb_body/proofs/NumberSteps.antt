@@ -1,4 +1,4 @@
--- Numbers of 64 bits, axis by axis, and a point of them.
+-- Numbers of 64 bits, axis by axis, and reading a point of them.
 use Rattle.std.proofs.Common.{◌≡◌, ℕ, suc, ◌+◌, ◌^◌, true, false, [], ◌∷◌, length, slice_index_or, ℤ, pos, ◌+ℤ◌, ◌-ℤ◌, ◌<◌, ◌≤◌, Ok, refl, sym, ap, subst, ◌∙◌, arith}
 use Rattle.std.proofs.lemmas.Int.{ints}
 use mir.Val.{to_z, of_z, SFits, Fits}
@@ -17,7 +17,7 @@ use Rattle.twkb_body.proofs.Coordinates.{coordinate_ahead}
 use Rattle.twkb_body.proofs.FlatRuns.{has_64_bits, two_coordinates}
 use Rattle.twkb_body.proofs.PairReads.{pair_read}
 
--- ---- numbers of 64 bits are as they are
+-- ---- numbers of 64 bits lose nothing in 64 bits
 pub in_bits : (z : ℤ) → IsIn64 z → to_z w64 (of_z w64 z) ≡ z
 in_bits z h = omega (arith, ints, h.0, h.1)
 
@@ -31,7 +31,7 @@ fits_in_64 z h = has_64_bits z h.0 h.1
 near_in_bits : (z : ℤ) → IsNearZero z → to_z w64 (of_z w64 z) ≡ z
 near_in_bits z near = in_bits z (omega (arith, ints, near.0), omega (arith, ints, near.1))
 
--- they are at a distance that fits
+-- the distance between two numbers near zero fits 64 bits
 pub distance_is : (a b : ℤ) → IsNearZero a → IsNearZero b → (a ≡ b +ℤ to_z w64 (of_z w64 (to_z w64 (of_z w64 a) -ℤ to_z w64 (of_z w64 b)))) × IsClose (to_z w64 (of_z w64 (to_z w64 (of_z w64 a) -ℤ to_z w64 (of_z w64 b))))
 distance_is a b near near_b =
     let within : IsIn64 (a -ℤ b) = (omega (arith, ints, near.0, near_b.1), omega (arith, ints, near.1, near_b.0)) in
@@ -40,7 +40,7 @@ distance_is a b near near_b =
     let back : b +ℤ (a -ℤ b) ≡ a = omega (arith, ints) in
     (sym (ap (λ (z : ℤ). b +ℤ z) bits ∙ back), subst IsClose (sym bits) close)
 
--- a distance that is met, from the minimum of a range, is at a coordinate that fits
+-- the coordinate at a distance that is met, from the minimum of a near range, fits 64 bits
 pub met_is : (range : RawRange) (distance : ℤ) → IsNearRange range → IsMet distance → to_z w64 (of_z w64 (to_z w64 (of_z w64 range.minimum) +ℤ to_z w64 (of_z w64 distance))) ≡ range.minimum +ℤ distance
 met_is range distance near met =
     let met_in_bits = in_bits distance (omega (arith, ints, met.0), omega (arith, ints, met.1)) in
@@ -49,7 +49,7 @@ met_is range distance near met =
 pub difference_fits : (a b : ℤ) → IsNearZero a → IsNearZero b → SFits w64 (a -ℤ to_z w64 (of_z w64 b))
 difference_fits a b near near_b = rw (near_in_bits b near_b) (fits_in_64 (a -ℤ b) (omega (arith, ints, near.0, near_b.1), omega (arith, ints, near.1, near_b.0)))
 
--- there are fewer points than bytes
+-- the number of points fits 64 bits, since there are no more points than bytes
 pub points_fit : {many done start stop place points : ℕ} → many ≡ done → many + start ≤ stop → points ≤ start → stop ≡ place → place < 2 ^ 64 → Fits w64 (points + done)
 points_fit {many} {done} {start} {stop} {place} {points} is ahead counted at fits = record { fits = omega (arith, is, ahead, counted, at, fits) }
 
@@ -62,7 +62,7 @@ four_listed (a ∷ b ∷ c ∷ []) e = absurd (omega (arith, e))
 four_listed (a ∷ b ∷ c ∷ d ∷ []) e = refl
 four_listed (a ∷ b ∷ c ∷ d ∷ f ∷ s) e = absurd (omega (arith, e))
 
--- a coordinate more, behind the first two
+-- a point's coordinates after the first two
 then_coordinates : (n : ℕ) (x y x_more y_more : ℤ) (others mores : PointValue) (r middle next new : Reading) → coordinate_at x r ≡ (Ok x_more, middle) → coordinate_at y middle ≡ (Ok y_more, next) → point_at n others next ≡ (Ok mores, new)
     → point_at (suc (suc n)) (x ∷ y ∷ others) r ≡ (Ok (x_more ∷ y_more ∷ mores), new)
 then_coordinates n x y x_more y_more others mores r middle next new first second rest =
@@ -70,7 +70,7 @@ then_coordinates n x y x_more y_more others mores r middle next new first second
     ∙ ap (λ (a : Answer ℤ). viewed (λ cs. x_more ∷ cs) (a >>= λ d q. viewed (λ cs. d ∷ cs) (point_at n others q))) second
     ∙ ap (λ (a : Answer PointValue). viewed (λ cs. x_more ∷ cs) (viewed (λ cs. y_more ∷ cs) a)) rest
 
--- ---- what a point's numbers are read from
+-- ---- the numbers of a point, from the varints that were read
 pub four_read : (x y third fourth : ℤ) (old middle new : Reading) → SpellsTwoSigned (passed old middle) x y → IsShort x × IsShort y → IsMoved old middle
     → SpellsTwoSigned (passed middle new) third fourth → IsShort third × IsShort fourth → IsMoved middle new → AreDifferences true (record { x = x; y = y; third = third; fourth = fourth }) old new
 four_read x y third fourth old middle new first first_short first_moved second second_short second_moved = record {

@@ -1,4 +1,4 @@
--- The parts of a blob stand in order.
+-- The parts of a blob are in order: header, count, ids, members and end.
 use Rattle.std.proofs.Common.{◌≡◌, ℕ, suc, ◌+◌, ◌≤◌, Bool, true, false, List, ◌++◌, length, ℤ, Option, sym, ap, ◌∙◌, arith, length-append}
 use Rattle.twkb_head.specs.Header.{Header, is_multi}
 use Rattle.twkb_head.specs.BegunHeader.{is_collection}
@@ -6,7 +6,7 @@ use Rattle.twkb_body.specs.Geometry.{Geometry, Members, geometry, none, more, Le
 use Rattle.twkb_body.specs.Encoding.{IsNumbers, IsBody, IsHeaderThenBody, BlobUnder, BlobsUnder}
 use Rattle.twkb_body.proofs.TreeSums.{member_total, HasOrder, HaveOrder}
 
--- the header, with its size and its box, and the body behind it
+-- the size and the box are in the header, and the body comes after it
 starts_order : (h : Header) (l : Lengths) (bytes body : List ℕ) → IsHeaderThenBody h l bytes body → (l.before + l.size ≤ l.header) × (l.whole ≡ l.header + length body)
 starts_order h l bytes body s =
     let e = s.header.extended_bytes in
@@ -26,7 +26,7 @@ numbers_order true h l ids parts bytes s =
     (omega (arith, s.count_length, s.list_length), omega (arith, s.list_length, all))
 
 module _ (limit : ℕ) where
-  -- count, ids and members, where what is known of the members follows from their bytes
+  -- count, ids and members are in order, if the members are
   body_order : (empty collection : Bool) (h : Header) (l : Lengths) (ids : Option (List ℤ)) (polygons : List PolygonValue) (gs : Members) (depth : ℕ) (bytes : List ℕ)
       → ((rest : List ℕ) → BlobsUnder limit gs rest depth → (member_total gs ≡ length rest) × HaveOrder gs)
       → IsBody empty collection h l ids polygons (member_count gs) (λ rest. BlobsUnder limit gs rest depth) bytes

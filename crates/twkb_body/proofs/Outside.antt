@@ -17,7 +17,7 @@ use Rattle.twkb_body.proofs.BoxedRuns.{reaches_decides}
 use Rattle.twkb_body.proofs.Judging.{le_decides}
 use Rattle.twkb_body.proofs.Scales.{times_le}
 
--- ---- the scale may be taken off again
+-- ---- units that compare come from coordinates that compare
 times_suc : (a : ℤ) (k : ℕ) → a *ℤ pos (suc k) ≡ a *ℤ pos k +ℤ a
 times_suc a k = *ℤ_comm a (pos (suc k)) ∙ suc_ℤ-*ℤ (pos k) a ∙ ap (λ (z : ℤ). z +ℤ a) (*ℤ_comm (pos k) a)
 
@@ -42,7 +42,7 @@ times_back : (k : ℕ) (a b : ℤ) → 1 ≤ k → (a *ℤ pos k) ≤ℤ (b *ℤ
 times_back k a b some h =
     at_most a b (λ above. let more = times_le k (b +ℤ pos 1) a above in let one = one_more b k in omega (arith, ints, one, more, h, some))
 
--- ---- what a box holds in units, it holds
+-- ---- a box of raw numbers holds the points that it holds in units
 within_raw : (p : ℤ) (range : RawRange) (c : ℤ) → IsWithin (span_at p (ends_of range)) (units_of c p) → is_in_range range c ≡ true
 within_raw p range c (low, high) =
     let some = pow_some (unsigned_abs (pos 7 -ℤ p)) in

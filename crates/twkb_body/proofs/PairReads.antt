@@ -8,7 +8,7 @@ use Rattle.twkb_num.proofs.PairLaws.{IsMoved-two}
 use Rattle.twkb_head.specs.Shared.Reader.{coordinate_at}
 use Rattle.twkb_head.proofs.Steps.{read_signed, coordinate_ok, fits_true}
 
--- two numbers that one move passes are read as two coordinates, where their sums fit
+-- two numbers that one move passes are read as two coordinates, if their sums fit 64 bits
 pub pair_read : (x y x_more y_more : ℤ) (old new : Reading) → SpellsTwoSigned (passed old new) x_more y_more → IsMoved old new → SFits w64 (x +ℤ x_more) → SFits w64 (y +ℤ y_more)
     → (middle : Reading) × (coordinate_at x old ≡ (Ok x_more, middle)) × (coordinate_at y middle ≡ (Ok y_more, new))
 pair_read x y x_more y_more old new spells moved x_fits y_fits =

@@ -15,11 +15,11 @@ use Rattle.twkb_body.specs.Devices.Body.{first_of, behind, add, sums, ring_sums}
 use Rattle.twkb_body.proofs.GeometryPlan.{point_plan, ring_plan, part_plan}
 use Rattle.twkb_body.proofs.Sums.{FitNumber, FitPoint, FitPoints, FitRings, FitPoints-append, append-FitPoints, rings_fit, fit_rings, polygons_fit, fit_polygons, after_points, after_rings, after_polygons}
 
--- points are begun, and fit behind the sums that they start from
+-- points are begun, and their sums fit after the sums that they start from
 abbrev pub BegunFrom : (List PointValue → List ℕ → Field → Type 0) → PointValue → List ℕ → Field → Type 0
 BegunFrom Begun s p due = (points : List PointValue) × Begun points p due × FitPoints s points
 
--- fewer than n members are whole, and one is begun; the points are those of both
+-- fewer than n members are whole, and one is begun; the points are the points of all of them
 pub record BegunMembers {A : Type 0} (n : ℕ) (Q : A → List ℕ → Type 0) (points_in : A → List PointValue) (B : List PointValue → List ℕ → Field → Type 0)
     (points : List PointValue) (p : List ℕ) (due : Field) : Type 0 where
   pub xs : List A

@@ -16,15 +16,15 @@ use Rattle.twkb_body.specs.Devices.Inside.{of_head}
 use Rattle.twkb_body.proofs.FlatRuns.{has_64_bits, two_coordinates}
 use Rattle.twkb_body.proofs.PairReads.{pair_read}
 
--- a short number behind zero is a coordinate
+-- a short number added to zero fits 64 bits
 short_fits : (z : ℤ) → IsShort z → SFits w64 (pos 0 +ℤ z)
 short_fits z short = has_64_bits (pos 0 +ℤ z) (omega (arith, ints, short.0, short.1)) (omega (arith, ints, short.0, short.1))
 
--- the body that two numbers are
+-- the body of a point with two numbers
 abbrev pub point_body : ℤ → ℤ → Body
 point_body x y = part_body (((x ∷ y ∷ []) ∷ []) ∷ [])
 
--- two short numbers behind the header of a point are its body
+-- two short numbers after the header of a point are its body
 pub point_shape : (head : Head) (r new : Reading) (x y : ℤ) → head.kind ≡ Point → head.z ≡ None → head.m ≡ None → SpellsTwoSigned (passed r new) x y → IsMoved r new → IsShort x → IsShort y
     → shape_at (is_multi head.kind) (of_head head) r ≡ (Ok (point_body x y), new)
 unfolding shape_at

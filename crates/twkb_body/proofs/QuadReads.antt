@@ -11,7 +11,7 @@ pub not_false : (b : Bool) → not b ≡ false → b ≡ true
 not_false true e = refl
 not_false false e = absurd (cc (e))
 
--- a number of two bytes is one of four at most
+-- a number that two bytes can spell can be spelled by four
 brief_short : (z : ℤ) → IsBrief z → IsShort z
 brief_short z brief = (omega (arith, ints, brief.0), omega (arith, ints, brief.1))
 
@@ -49,7 +49,7 @@ four_pairs_read a1 b1 a2 b2 a3 b3 a4 b4 old new all moved brief =
       ),
     )
 
--- a list of so many numbers
+-- a list of four numbers, by its numbers
 pub four_of : (zs : List ℤ) → length zs ≡ 4 → (a b c d : ℤ) × (zs ≡ a ∷ b ∷ c ∷ d ∷ [])
 four_of [] e = absurd (omega (arith, e))
 four_of (a ∷ []) e = absurd (omega (arith, e))

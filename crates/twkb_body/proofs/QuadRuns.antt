@@ -29,19 +29,19 @@ within_more k z d w short = record { low = omega (arith, ints, w.low, short.0); 
 pub within_lane : (k : ℕ) (z : ℤ) → k ≤ 4 → IsWithin k z → IsMetInLane z
 within_lane k z few w = (omega (arith, ints, few, w.low), omega (arith, ints, few, w.high))
 
--- the coordinate there
+-- the coordinate at such a distance, plus a short difference, fits 64 bits
 coordinate_fits : (range : RawRange) (k : ℕ) (z d : ℤ) → k ≤ 4 → IsNearRange range → IsWithin k z → IsShort d → SFits w64 ((range.minimum +ℤ z) +ℤ d)
 coordinate_fits range k z d few near w short =
     has_64_bits ((range.minimum +ℤ z) +ℤ d) (omega (arith, ints, few, near.low, w.low, short.0)) (omega (arith, ints, few, near.high, w.high, short.1))
 
--- an extent is as it is in 64 bits
+-- the extent of a near range loses nothing in 64 bits
 pub extent_in_bits : (range : RawRange) → IsNearRange range → to_z w64 (of_z w64 range.extent) ≡ range.extent
 extent_in_bits range near = omega (arith, ints, near.some, near.few)
 
 pub lane_extent : (range : RawRange) → IsNearRange range → IsLaneExtent (to_z w64 (of_z w64 range.extent)) → IsLaneExtent range.extent
 lane_extent range near fits = subst IsLaneExtent (extent_in_bits range near) fits
 
--- and so is a coordinate at a distance that a lane holds
+-- a coordinate at a distance that a lane holds fits 64 bits
 pub place_fits : (range : RawRange) (d z : ℤ) → IsNearRange range → d ≡ z → IsMetInLane z → SFits w64 (to_z w64 (of_z w64 range.minimum) +ℤ to_z w64 (of_z w64 d))
 place_fits range d z near is met = has_64_bits _ (omega (arith, ints, is, met.0, met.1, near.low, near.high)) (omega (arith, ints, is, met.0, met.1, near.low, near.high))
 
@@ -57,7 +57,7 @@ and_true_right false = refl
 and_true_right true = refl
 
 module _ (h : Header) (start : Trail) (state : Held) (from : Reading) (box : RawBox) where
-  -- This many points were read, which are at these distances from the minima of the box.
+  -- i points were read, and the last one is at these distances from the minima of the box
   abbrev pub IsRunAt : ℤ → ℤ → Bool → Reading → ℕ → Type 0
   IsRunAt across up inside r i = IsFlatRun (held_with h) start state from (box.x.minimum +ℤ across) (box.y.minimum +ℤ up) (record { box = box; inside = inside }) r i
 
@@ -77,7 +77,7 @@ module _ (h : Header) (start : Trail) (state : Held) (from : Reading) (box : Raw
       judged = ap₂ (λ (a b : ℤ). inside && (reaches box.x.extent a && reaches box.y.extent b)) (sym (from_minimum box.x.minimum (across +ℤ d.0))) (sym (from_minimum box.y.minimum (up +ℤ d.1)))
           ∙ ap (λ (axes : ℕ). inside && is_in_box axes box point) (sym two)
 
-  -- these points more
+  -- a run goes on by the points of these differences
   pub pairs_go_on : (differences : List (ℤ × ℤ)) (k : ℕ) (across up : ℤ) (inside : Bool) (r new : Reading) (i : ℕ) → length differences + k ≤ 4 → axes_of h ≡ 2 → IsNearBox box → IsWithin k across → IsWithin k up
       → ReadsPairs differences r new → IsRunAt across up inside r i
       → IsRunAt (x_after across differences) (y_after up differences) (inside && all_reach box.x.extent box.y.extent across up differences) new (i + length differences)
@@ -93,7 +93,7 @@ module _ (h : Header) (start : Trail) (state : Held) (from : Reading) (box : Raw
       subst (λ (n : ℕ). IsRunAt (x_after across (d ∷ ds)) (y_after up (d ∷ ds)) (inside && all_reach box.x.extent box.y.extent across up (d ∷ ds)) new n) (omega arith)
       (subst (λ (b : Bool). IsRunAt (x_after across (d ∷ ds)) (y_after up (d ∷ ds)) b new (i + 1 + length ds)) (and_assoc inside reached others) far)
 
-  -- and where they lead
+  -- the distances after these differences
   pub within_after : (differences : List (ℤ × ℤ)) (k : ℕ) (across up : ℤ) (r new : Reading) → IsWithin k across → IsWithin k up → ReadsPairs differences r new
       → IsWithin (length differences + k) (x_after across differences) × IsWithin (length differences + k) (y_after up differences)
   within_after [] k across up r new in_x in_y read = (subst (λ (n : ℕ). IsWithin n across) (omega arith) in_x, subst (λ (n : ℕ). IsWithin n up) (omega arith) in_y)
@@ -101,7 +101,7 @@ module _ (h : Header) (start : Trail) (state : Held) (from : Reading) (box : Raw
       let far = within_after ds (k + 1) (across +ℤ d.0) (up +ℤ d.1) read.0 new (within_more k across d.0 in_x read.3) (within_more k up d.1 in_y read.4) read.5 in
       (subst (λ (n : ℕ). IsWithin n (x_after across (d ∷ ds))) (omega arith) far.0, subst (λ (n : ℕ). IsWithin n (y_after up (d ∷ ds))) (omega arith) far.1)
 
-  -- This many points were read. The lanes are the last one's distances from the minima of the box.
+  -- i points were read, and the lanes are the last one's distances from the minima of the box
   pub record IsQuadRun (at : List ℕ) (inside : Bool) (r : Reading) (i : ℕ) : Type 0 where
     pub across : ℤ
     pub up : ℤ
@@ -125,7 +125,7 @@ module _ (h : Header) (start : Trail) (state : Held) (from : Reading) (box : Raw
     close = λ e. (in_x, in_y);
   }
 
-  -- where extents hold all points, they hold the last
+  -- if extents hold all points, the last one's distances stay in lanes
   last_reached : (w h' : ℤ) (differences : List (ℤ × ℤ)) (x y : ℤ) → IsLaneExtent w → IsLaneExtent h' → IsInLane x → IsInLane y → all_reach w h' x y differences ≡ true
       → IsInLane (x_after x differences) × IsInLane (y_after y differences)
   last_reached w h' [] x y w_fits h_fits in_x in_y e = (in_x, in_y)
@@ -160,7 +160,7 @@ module _ (h : Header) (start : Trail) (state : Held) (from : Reading) (box : Raw
         close = λ e. last_reached box.x.extent box.y.extent ds l.across l.up w_fits h_fits close.0 close.1 (sym step.reached.inside_is ∙ e);
       }
 
-  -- no point was read: the place is as it was
+  -- if no point was read, the reading is unchanged
   pub quads_end : (at next : List ℕ) (inside : Bool) (inside_next : Bool) (r new : Reading) (i points : ℕ) → points ≡ 0 → (l : IsQuadRun at inside r i) → IsQuadStep box.x.extent box.y.extent l.across l.up r new points next inside_next → r ≡ new
   quads_end at next inside inside_next r new i points none l step = go step.differences (step.many ∙ none) step.read
     where

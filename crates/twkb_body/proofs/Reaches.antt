@@ -90,7 +90,7 @@ joined_covered (Some s) None b h k = k
 joined_covered (Some s) (Some a) None h k = h
 joined_covered (Some s) (Some a) (Some b) h k = (omega (arith, ints, clamps), omega (arith, ints, clamps))
 
--- the range of an axis that each has
+-- the range of a list of coordinates lies in a span that holds each of them
 covered_from : (span : Option Span) (cs : List ℤ) → All (λ c. IsWithinBoth span (Some c)) cs → IsCovered span (span_of cs)
 covered_from None cs h = tt
 covered_from (Some s) [] h = tt
@@ -155,7 +155,7 @@ module _ (span : Option Span) (get : Vertex → Option ℤ) where
       let parts = covered_step (get v) (filter_map get vs) h in
       All-cons (λ w. IsWithinBoth span (get w)) v vs parts.0 (covered_there vs parts.1)
 
--- The ranges are within the box exactly where each vertex is.
+-- if a box holds each vertex, it holds their reach
 pub within_from_all : (box : Bounds) (vs : List Vertex) → All (Holds box) vs → IsReachWithin (reach_of vs) box
 within_from_all box vs h = record {
   x = each_covered (Some box.x) (λ v. v.x) vs (λ k d lt. (h k d lt).x);

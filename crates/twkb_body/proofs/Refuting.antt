@@ -1,4 +1,4 @@
--- What is refused is refuted: if a geometry does stand there, some claim of it is false, or the frame doesn't hold it.
+-- A refusal refutes: if a geometry can be read there at all, a claim of it is false, or the frame doesn't hold a vertex.
 use Rattle.std.proofs.Common.{◌≡◌, ◌≢◌, ℕ, suc, ◌+◌, ◌-◌, ◌<◌, ◌≤◌, Bool, true, false, not, List, [], ◌∷◌, ◌++◌, length, map, fold, ℤ, Option, Some, None, is_some, option_map, IfSome, All, AllPairs, Result, Ok, Err, inl, inr, refl, sym, ap, subst, ◌∙◌, append_assoc, arith}
 use Rattle.std.specs.Result.{is_ok}
 use Rattle.std.specs.Prelude.{IsOk, IfOk, IfErr, OnErr, ◌⊎◌, ◌↔◌}
@@ -64,13 +64,13 @@ use Rattle.twkb_body.proofs.Repeats.{repeated}
 use Rattle.twkb_body.proofs.SureSteps.{AddsParts, IsSureLoop, body_unboxed, body_held, sure_behind, geometry_sure, own_box}
 use Rattle.twkb_body.proofs.TreeSums.{member_total, size_refused}
 
--- a view is of a value that was read
+-- a value with f applied comes from a value that was read
 pub viewed_back : {A B : Type 0} (f : A → B) (a : Answer A) (y : B) (new : Reading) → viewed f a ≡ (Ok y, new) → (x : A) × (a ≡ (Ok x, new)) × (f x ≡ y)
 viewed_back {A} {B} f (Ok x, r) y new e = (x, ap (λ (s : Reading). (Ok x, s)) (ap (λ (z : Answer B). z.1) e), ok_is {A = B} {E = Malformed} (f x) y (ap (λ (z : Answer B). z.0) e))
 viewed_back f (Err m, r) y new e = absurd (ok_not_err y m new r (sym e))
 
 -- ---- one of many
--- of many values the one at i is read where those before it end
+-- of many values that are read, one is read where the values before it end
 module _ {A : Type 0} (f : Reader A) (front gs : List A) (new : Reading) where
   record IsOne (r : Reading) : Type 0 where
     pub one : A
@@ -115,7 +115,7 @@ held_inside : (frame : Option Frame) (a b c : List Vertex) → IsHeldBy frame (a
 held_inside None a b c h = tt
 held_inside (Some frame) a b c h = left_of (Holds (frame_bounds frame)) b c (right_of (Holds (frame_bounds frame)) a (b ++ c) h)
 
--- so a member that is refuted refutes all of them
+-- a member that is refuted refutes the members
 pub member_refutes : (levels count : ℕ) (from r : Reading) (frame : Option Frame) (i vertices : ℕ) → i < count → IsSureLoop levels count from frame i vertices r → IsRefuted levels frame r
     → (gs : List Geometry) (new : Reading) → repeated count (geometry_at levels) from ≡ (Ok gs, new) → All IsTrueClaim (member_claims (members_of gs) from.place) → IsHeldBy frame (member_vertices (members_of gs)) → ⊥
 member_refutes levels count from r frame i vertices lt l wrong gs new e all held =
@@ -135,7 +135,7 @@ member_refutes levels count from r frame i vertices lt l wrong gs new e all held
 some_not_none : {A : Type 0} (x : A) → Some x ≡ None → ⊥
 some_not_none x e = cc (e)
 
--- what is refused of ids is false of them
+-- ids that are refused aren't distinct
 pub ids_wrong : (old mid : Reading) (head : ListHead) (list : ListFound) (f : FalseClaim) → IsListFound old mid head list → list.ids ≡ Some f → IfSome (head.1).0 (λ ids. AllPairs (λ a b. a ≢ b) ids) → ⊥
 ids_wrong old mid head list f found is true_ids = go (head.1).0 (sym (ap named is) ∙ found.refused) true_ids
   where
@@ -152,7 +152,7 @@ module _ (head : Head) (levels inner : ℕ) (old : Reading) (frame : Option Fram
   as_collection : body_at head.empty (is_collection head.kind) (of_head head) (members_under levels) old ≡ collection_at (geometry_at inner) head.ids old
   as_collection = collection_body levels inner (of_head head) old under full many
 
-  -- its list can't be read,
+  -- the body of a collection is refuted if its list can't be read
   pub list_refutes : (m : Malformed) (new : Reading) → Fails (list_at head.ids old) m new → IsRefutedBody levels head frame old
   list_refutes m new f body stop e inside held =
       ok_not_err body m stop f.left (sym e ∙ as_collection ∙ ap (λ (y : Answer ListHead). y >>= λ list b. viewed (members_body list) (viewed members_of (repeated (list.0).0 (geometry_at inner) b))) f.is)
@@ -170,13 +170,13 @@ module _ (head : Head) (levels inner : ℕ) (old : Reading) (frame : Option Fram
         let within = viewed_back members_of (repeated found.count (geometry_at inner) mid) outer.0 new outer.1 in
         record { gs = within.0; read = within.1; is = ap (members_body list) within.2 ∙ outer.2 }
 
-    -- or its ids aren't distinct,
+    -- the body of a collection is refuted if its ids aren't distinct
     pub ids_refute : (f : FalseClaim) → found.ids ≡ Some f → IsRefutedBody levels head frame old
     ids_refute f is body new e inside held =
         let m = members_read body new e in
         ids_wrong old mid list found f is_found is (subst (λ (b : Body). IfSome b.ids (λ ids. AllPairs (λ a b. a ≢ b) ids)) (sym m.is) inside.0)
 
-    -- or a member is refuted.
+    -- the body of a collection is refuted if a member is
     pub members_refute : (i vertices : ℕ) (r : Reading) → i < found.count → IsSureLoop inner found.count mid frame i vertices r → IsRefuted inner frame r → IsRefutedBody levels head frame old
     unfolding member_vertices
     members_refute i vertices r lt l wrong body new e inside held =
@@ -191,7 +191,7 @@ module _ (head : Head) (levels : ℕ) (old : Reading) (frame : Option Frame) (fu
   as_shape : body_at head.empty (is_collection head.kind) (of_head head) (members_under levels) old ≡ shape_at (is_multi head.kind) (of_head head) old
   as_shape = shape_body (of_head head) (members_under levels) old full single
 
-  -- its list can't be read,
+  -- the body of a shape is refuted if its list can't be read
   pub count_refutes : (m : Malformed) (new : Reading) → Fails (count_at (is_multi head.kind) head.ids old) m new → IsRefutedBody levels head frame old
   count_refutes m new f body stop e inside held =
       no_failure (shape_at (is_multi head.kind) (of_head head) old) body stop new m (sym as_shape ∙ e) (no_count (of_head head) old m new f)
@@ -206,19 +206,19 @@ module _ (head : Head) (levels : ℕ) (old : Reading) (frame : Option Frame) (fu
         viewed_back (parts_body list) (reads_parts axes) body new
         (sym (behind_count (of_head head) old axes mid list found.count (record { last = zeros; points = 0 }) axes_are refl listed is_found.count) ∙ sym as_shape ∙ e)
 
-    -- or its ids aren't distinct,
+    -- the body of a shape is refuted if its ids aren't distinct
     pub shape_ids_refute : (f : FalseClaim) → found.ids ≡ Some f → IsRefutedBody levels head frame old
     shape_ids_refute f is body new e inside held =
         let m = parts_read (axes_of (of_head head)) refl body new e in
         ids_wrong old mid list found f is_found is (subst (λ (b : Body). IfSome b.ids (λ ids. AllPairs (λ a b. a ≢ b) ids)) (sym m.2) inside.0)
 
-    -- or its parts can't be read,
+    -- the body of a shape is refuted if its parts can't be read
     pub parts_refute : (axes : ℕ) → axes ≡ axes_of (of_head head) → (new : Reading) → AreMalformed head.kind axes found.count mid new → IsRefutedBody levels head frame old
     parts_refute axes axes_are new (m, f) body stop e inside held =
         let parts = parts_read axes axes_are body stop e in
         no_failure (reads_parts axes) parts.0 stop new m parts.1 f
 
--- or the frame doesn't hold a point.
+-- a body is refuted if the frame doesn't hold a point
 module _ (head : Head) (levels : ℕ) (old : Reading) (frame : Frame) (full : head.empty ≡ false) (single : is_collection head.kind ≡ false) (precisions : frame ≡ framed head frame.bounds)
     (mid : Reading) (list : ListHead) (found : ListFound) (listed : count_at (is_multi head.kind) head.ids old ≡ (Ok list, mid)) (is_found : IsListFound old mid list found) where
   pub points_refute : (axes : ℕ) → axes ≡ axes_of (of_head head) → (new : Reading) (vertices : ℕ) → AreHeld false head.kind axes found.count frame.bounds mid new vertices → IsRefutedBody levels head (Some frame) old
@@ -243,7 +243,7 @@ module _ (head : Head) (levels : ℕ) (old : Reading) (frame : Frame) (full : he
       true_not_false b p q = cc (p, q)
 
 -- ---- the geometry
--- its header can't be read,
+-- a geometry is refuted if its header can't be read
 pub head_refutes : (levels : ℕ) (above : Option Frame) (r new : Reading) (m : Malformed) → Fails (head_at levels r) m new → IsRefuted levels above r
 head_refutes levels above r new m f whole stop e all held = go (read (head_plan levels) r) refl
   where
@@ -251,7 +251,7 @@ head_refutes levels above r new m f whole stop e all held = go (read (head_plan 
     go (Ok x, a) is = no_failure (head_at levels r) _ a new m (head_runs levels r ∙ ap (placed r) is) f
     go (Err w, a) is = no_failure (geometry_at levels r) whole stop a w e (header_fails levels r w a (record { left = a; is = is; bytes = refl }))
 
--- or what stands behind it is refuted,
+-- a geometry is refuted if the part after its header is
 module _ (head : Head) (depth : ℕ) (above : Option Frame) (r mid : Reading) (some : 1 ≤ depth) (deep : depth ≤ deepest) (sound : IsSound r) (at : IsHeadAt head depth r.place (passed r mid)) (moved : IsMoved r mid) where
   abbrev value : HeadValue
   value = record { header = at.header; before = 2 + length at.is.extended_bytes; size = length at.is.size_bytes }
@@ -266,7 +266,7 @@ module _ (head : Head) (depth : ℕ) (above : Option Frame) (r mid : Reading) (s
   unfolding vertices_of
   vertices_are body new = sym (ap (λ (x : Head). body_vertices (of_head x) body) at.fields)
 
-  -- all that it claims is claimed of its size, of its box, of its ids, or by its members
+  -- the claims of a geometry are the claims of its size, of its box, of its ids, and of its members
   abbrev lengths : Body → Reading → Lengths
   lengths body new = lengths_of (made body new)
 
@@ -345,7 +345,7 @@ module _ (head : Head) (depth : ℕ) (above : Option Frame) (r mid : Reading) (s
           (subst (IsHeldBy above) (vertices_are body new) (subst (λ (g : Geometry). IsHeldBy above (vertices_of g)) (sym one.0) held))
       go (Err m, new) is = no_failure (geometry_at (deepest - depth) r) whole stop new m e (body_fails (deepest - depth) r mid value headed m new (record { left = new; is = is; bytes = refl }))
 
--- where the body is refuted under the frame that the header gives,
+-- the part after a header is refuted if the body is, under the frame that the header gives
 pub body_refutes : (levels : ℕ) (raw : Fields) (above frame : Option Frame) (mid : Reading) → IsFrameUnder above (boxless raw) (option_map (framed (boxless raw)) raw.bounds) frame → IsRefutedBody levels (boxless raw) frame mid
     → IsRefutedBehind levels (head_said raw) above mid
 body_refutes levels raw above frame mid under wrong body new e inside size box held =
@@ -355,7 +355,7 @@ body_refutes levels raw above frame mid under wrong body new e inside size box h
     own None h = tt
     own (Some box) h = h
 
--- or where the size is false of what was read.
+-- the part after a header is refuted if the size is false of it
 pub size_refutes : (levels : ℕ) (head : Head) (above : Option Frame) (mid new : Reading) (vertices : ℕ) (f : ℕ × ℕ) → IsSureBehind levels head above mid new vertices → size_judged head.size new.place ≡ Some f
     → IsRefutedBehind levels head above mid
 size_refutes levels head above mid new vertices f sure is body stop e inside size box held =
@@ -375,7 +375,7 @@ doubts_through R Q W V mid old Memory new same refutes wants s = (s.0 ∙ same, 
 pub refused_for : (R V : Type 0) (old : Reading) (d : Doubt) (new : Reading) → d ≡ Refused → new.bytes ≡ old.bytes → R → HasDoubt R V old d new
 refused_for R V old d new is same r = subst (λ (e : Doubt). HasDoubt R V old e new) (sym is) (same, r)
 
--- no header is there that may stand at this depth,
+-- a geometry is refuted if no header that is allowed at this depth is there
 pub no_header_refutes : (depth : ℕ) (above : Option Frame) (r : Reading) → 1 ≤ depth → depth ≤ deepest → IsSound r → (StartsWithHeader depth (rest r) → ⊥) → IsRefuted (deepest - depth) above r
 no_header_refutes depth above r some deep sound none = go (head_at (deepest - depth) r) refl
   where
@@ -386,7 +386,7 @@ no_header_refutes depth above r some deep sound none = go (head_at (deepest - de
         let moved : IsMoved r b = head_moved depth some deep r b sound (Ok head) is in
         absurd (none (record { header = at.header; front = passed r b; behind = rest b; parts = rest-passed r b moved; is = at.is; allowed = at.allowed }))
 
--- or its rest can't be read.
+-- a geometry is refuted if the rest of its header can't be read
 pub rest_refutes : (m : Malformed) (depth : ℕ) (above : Option Frame) (r : Reading) → 1 ≤ depth → depth ≤ deepest → IsSound r → (IsOk {T = Fields} {E = Malformed} (Err m) ↔ StartsWithHeader depth (rest r))
     → IsRefuted (deepest - depth) above r
 rest_refutes m depth above r some deep sound exact =
@@ -397,7 +397,7 @@ module _ (raw : Fields) (depth : ℕ) (above : Option Frame) (r mid : Reading) (
   pub raw_allowed : IsAllowedAt raw.kind depth
   raw_allowed = subst (λ (h : Head). IsAllowedAt h.kind depth) (sym at.fields) at.allowed
 
-  -- what is refused behind the header is refused of the geometry,
+  -- a doubt about the part after the header is a doubt about the geometry
   pub behind_doubts : (d : Doubt) (new : Reading) → HasDoubt (IsRefutedBehind (deepest - depth) (head_said raw) above mid) (WantsIn (is_collection raw.kind) raw.empty depth raw.ids mid) mid d new
       → HasDoubt (IsRefuted (deepest - depth) above r) (HasLongList depth (rest r)) r d new
   behind_doubts d new s =
@@ -405,7 +405,7 @@ module _ (raw : Fields) (depth : ℕ) (above : Option Frame) (r mid : Reading) (
       (behind_refutes (head_said raw) depth above r mid some deep sound at moved)
       (long_list_in (head_said raw) depth r mid some sound at moved (is_collection raw.kind) refl) s
 
-  -- and what is sure is judged by its size.
+  -- if the part after the header is sure, the size decides about the geometry
   pub behind_certifies : (new : Reading) (vertices : ℕ) (result : Result ℕ Doubt) → IsSureBehind (deepest - depth) (head_said raw) above mid new vertices → IsJudged (boxless raw) new.place vertices result
       → Certifies depth above r result new
   behind_certifies new vertices (Ok counted) sure (same, true_size) =
@@ -415,13 +415,13 @@ module _ (raw : Fields) (depth : ℕ) (above : Option Frame) (r mid : Reading) (
       (read_keeps (body_at raw.empty (is_collection raw.kind) (of_head (head_said raw)) (members_under (deepest - depth))) mid new sure.body (keeps_body_under (deepest - depth) raw.empty (is_collection raw.kind) (of_head (head_said raw))) sure.read ∙ moved.bytes)
       (behind_refutes (head_said raw) depth above r mid some deep sound at moved (size_refutes (deepest - depth) (head_said raw) above mid new vertices f sure false_size))
 
-  -- The header without its box, as the code has it.
+  -- the header without its box, as the code has it
   module _ (plain : Head) (same : plain ≡ boxless raw) where
     pub apart_certifies : (new : Reading) (vertices : ℕ) (result : Result ℕ Doubt) → IsSureBehind (deepest - depth) (head_said raw) above mid new vertices → IsJudged plain new.place vertices result
         → Certifies depth above r result new
     apart_certifies new vertices result sure judged = behind_certifies new vertices result sure (subst (λ (h : Head). IsJudged h new.place vertices result) same judged)
 
-    -- Both hold under a frame.
+    -- doubt and certainty of a body under a frame are doubt and certainty of the geometry
     module _ (frame : Option Frame) (under : IsFrameUnder above plain (option_map (framed plain) raw.bounds) frame) (new : Reading) where
       raw_under : IsFrameUnder above (boxless raw) (option_map (framed (boxless raw)) raw.bounds) frame
       raw_under = subst (λ (h : Head). IsFrameUnder above h (option_map (framed h) raw.bounds) frame) same under
@@ -440,7 +440,7 @@ module _ (raw : Fields) (depth : ℕ) (above : Option Frame) (r mid : Reading) (
           (sure_behind (deepest - depth) (head_said raw) (boxless raw) above frame mid new vertices refl (own_box raw above frame raw_under) raw_under.above_holds
           (subst (λ (h : Head). IsSureBody (deepest - depth) h frame mid new vertices) same sure)) judged
 
--- a test of a bit that is told by its opposite
+-- a bit is unset if the test of its opposite is true
 pub bit_unset : (test bit : Bool) → test ≡ not bit → test ≡ true → bit ≡ false
 bit_unset test true is told = absurd (cc (is, told))
 bit_unset test false is told = refl
@@ -451,7 +451,7 @@ pub flat_ends : (plain : Head) (raw : Fields) (depth : ℕ) (r mid : Reading) �
 flat_ends plain raw depth r mid same at moved stop le = subst (λ (h : Head). IfSome h.size (λ size. size.after ≤ stop)) (sym same) (head_size r mid (head_said raw) depth at moved stop le)
 
 -- ---- a geometry that no frame can hold
--- what its header says, with or without a box in X and Y,
+-- the header of a geometry in X and Y, with or without a box
 pub apart_flat : (raw : Fields) (plain : Head) (xy : ℤ) → xy ≡ plain.xy → plain ≡ boxless raw → raw.axes.z ≡ None → raw.axes.m ≡ None → raw.empty ≡ false
     → IsApart (head_said raw) plain.kind xy None None plain.ids (option_map (λ b. flat_box b.x b.y) raw.bounds)
 apart_flat raw plain xy xy_is same z m full = record {
@@ -463,7 +463,7 @@ apart_flat raw plain xy xy_is same z m full = record {
     go None = refl
     go (Some b) = (λ j. Some (raw_bounds raw.axes.xy (z j) (m j) b)) ∙ ap (λ (h : Head). Some (raw_bounds h.xy None None b)) (sym same) ∙ ap (λ (p : ℤ). Some (raw_bounds p None None b)) (sym xy_is)
 
--- whose box in X and Y is handed over by its two ranges,
+-- a box in X and Y that is handed over by its two ranges
 pub apart_box : (o : Option RawBox) (x y : RawRange) → IfSome o (λ b. (x ≡ b.x) × (y ≡ b.y)) → IfSome (option_map (λ b. flat_box b.x b.y) o) (λ box. box ≡ flat_box x y)
 apart_box None x y ranges = tt
 apart_box (Some b) x y (x_is, y_is) = λ j. flat_box (sym x_is j) (sym y_is j)
@@ -472,7 +472,7 @@ pub apart_there : (o : Option RawBox) → is_some (option_map (λ b. flat_box b.
 apart_there None = refl
 apart_there (Some b) = refl
 
--- or in any axes.
+-- the header of a geometry in any axes, with or without a box
 pub apart_any : (raw : Fields) (plain : Head) (xy : ℤ) → xy ≡ plain.xy → plain ≡ boxless raw → raw.empty ≡ false → IsApart (head_said raw) plain.kind xy plain.z plain.m plain.ids raw.bounds
 apart_any raw plain xy xy_is same full = record {
   same = (λ j. record { kind = raw.kind; xy = raw.axes.xy; z = raw.axes.z; m = raw.axes.m; size = None; box = None; ids = raw.ids; empty = full j })
@@ -521,7 +521,7 @@ shape_count_doubts head levels frame old new d full single s =
     doubts_through (IsWrongCount (is_multi head.kind) head.ids old new) (IsRefutedBody levels head frame old) (HasManyIdsAfterCount head.ids (rest old)) (HasManyIdsAfterCount head.ids (rest old)) old old d new refl
     (wrong_count_refutes head levels old frame new full single) (λ wants. wants) s
 
--- parts behind their count
+-- a count that was read, and the parts after it
 pub adds_parts : {S : Type 0} (step : S → PointValue → S) (kind : Kind) (ids : Bool) (axes count : ℕ) (old mid new : Reading) (s t : S) (vertices : ℕ) → IsCounted (is_multi kind) ids old mid count
     → ReadParts step kind axes count mid new s t vertices → AddsParts step kind ids axes old new s t vertices
 adds_parts step kind ids axes count old mid new s t vertices (list, listed, found) parts = record {
@@ -536,7 +536,7 @@ adds_parts step kind ids axes count old mid new s t vertices (list, listed, foun
   vertices_are = parts.vertices_are;
 }
 
--- a body is certified by its parts: where no box asks for them,
+-- a body is certified by its parts
 module _ (head : Head) (levels axes count : ℕ) (old mid new : Reading) (full : head.empty ≡ false) (single : is_collection head.kind ≡ false) (axes_are : axes ≡ axes_of (of_head head)) (counted : IsCounted (is_multi head.kind) head.ids old mid count) where
   counted_keeps : mid.bytes ≡ old.bytes
   counted_keeps = read_keeps (count_at (is_multi head.kind) head.ids) old mid counted.0 (keeps_count (is_multi head.kind) head.ids) counted.1
@@ -556,7 +556,7 @@ module _ (head : Head) (levels axes count : ℕ) (old mid new : Reading) (full :
       body_unboxed levels head old new vertices axes (sym axes_are) full single (λ (s : Unit {0}) point. s) tt tt (adds_parts (λ (s : Unit {0}) point. s) head.kind head.ids axes count old mid new tt tt vertices counted parts)
   unboxed_certifies (Err d) parts bad refused = refused_for (IsRefutedBody levels head None old) (HasManyIdsAfterCount head.ids (rest old)) old d new refused (malformed_keeps bad) (malformed_refutes None bad)
 
-  -- and where one does.
+  -- a body that a frame has to hold is certified by its parts
   module _ (frame : Frame) (precisions : frame ≡ framed head frame.bounds) where
     pub held_sure : (vertices : ℕ) → AreHeld true head.kind axes count frame.bounds mid new vertices → IsSureBody levels head (Some frame) old new vertices
     held_sure vertices (held, parts, inside) =
@@ -579,7 +579,7 @@ module _ (head : Head) (levels axes count : ℕ) (old mid new : Reading) (full :
         kept (inl bad) = malformed_keeps bad
         kept (inr (vertices, are)) = held_keeps false frame.bounds vertices are
 
--- points with Z or M have three axes or four
+-- points with Z or M have three or four axes
 pub three_or_four : (z m : Option ℕ) (axes : ℕ) → axes ≡ axes_with z m → has_further z m ≡ true → (axes ≡ 3) ⊎ (axes ≡ 4)
 three_or_four None None axes is further = absurd (cc (further))
 three_or_four None (Some q) axes is further = inl is

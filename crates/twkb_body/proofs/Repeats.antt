@@ -1,4 +1,4 @@
--- Reading the same again and again.
+-- Reading many values by one reader.
 use Rattle.std.proofs.Common.{◌≡◌, ℕ, zero, suc, ◌+◌, List, [], ◌∷◌, ◌++◌, ℤ, pos, Ok, Err, refl, sym, ap, ◌∙◌, arith}
 use Rattle.twkb_num.specs.Cursor.{Reading}
 use Rattle.twkb_head.specs.declared.refusal.Malformed.{Malformed}
@@ -9,7 +9,7 @@ use Rattle.twkb_head.proofs.Readings.{ok_not_err}
 abbrev pub repeated : {A : Type 0} → ℕ → Reader A → Reader (List A)
 repeated {A} n f = many_at n (λ (s : ℤ) (y : A). s) (λ s. f) (pos 0)
 
--- one value more
+-- n values and one more are n + 1 values
 pub many_more : {A : Type 0} (f : Reader A) (n : ℕ) (r mid new : Reading) (ys : List A) (y : A) → repeated n f r ≡ (Ok ys, mid) → f mid ≡ (Ok y, new) → repeated (n + 1) f r ≡ (Ok (ys ++ y ∷ []), new)
 many_more {A} f zero r mid new ys y e h =
     let here : f r ≡ (Ok y, new) = ap (λ (a : Answer (List A)). f a.1) e ∙ h in

@@ -1,4 +1,4 @@
--- Runs of points: many points read at once, within a loop over more, and one point more behind a run.
+-- Runs of points: many points read at once, within a loop over more, and one more point after a run.
 use Rattle.std.proofs.Common.{◌≡◌, ℕ, zero, suc, ◌+◌, ◌≤◌, List, [], ◌∷◌, ◌++◌, flat_map, Ok, Err, refl, sym, ap, ap₂, subst, ◌∙◌, append_assoc, arith, length-append}
 use Rattle.std.proofs.lemmas.List.{append-nil}
 use Rattle.std.proofs.lemmas.Grind.{flat_map-append}
@@ -14,7 +14,7 @@ use Rattle.twkb_body.specs.Devices.Walk.{IsWalked, IsRun}
 use Rattle.twkb_body.proofs.PartPlans.{flat_single}
 use Rattle.twkb_body.proofs.Walks.{IsRingLoop, one_point, walked_none, walked_then}
 
--- the state behind many values
+-- the state after many values
 abbrev pub afters : {A S : Type 0} → (S → A → S) → S → List A → S
 afters after s [] = s
 afters after s (x ∷ xs) = afters after (after s x) xs
@@ -29,7 +29,7 @@ values_of (Ok xs, r) = xs
 values_of (Err m, r) = []
 
 module _ {A S : Type 0} (after : S → A → S) (read : S → Reader A) (count : ℕ) (total : Answer (List A)) where
-  -- a loop goes on by so many values
+  -- a loop goes on by k values
   abbrev Far : ℕ → Type 0
   Far k = (front : List A) (i : ℕ) (s : S) (r new : Reading) (xs : List A) → i + k ≤ count → many_at k after read s r ≡ (Ok xs, new) → IsLoop after read count total front i s r
       → IsLoop after read count total (front ++ xs) (i + k) (afters after s xs) new
@@ -70,7 +70,7 @@ module _ {A S : Type 0} (after : S → A → S) (read : S → Reader A) (count :
   goes_far (suc k) = far_more k (goes_far k)
 
 module _ {S : Type 0} (step : S → PointValue → S) (axes : ℕ) where
-  -- nothing is read
+  -- a run of no points
   pub run_none : (a : Trail) (s : S) (r : Reading) → IsRun step axes a a s s r r 0
   run_none a s r = record { numbers = []; many = refl; read = refl; walked = walked_none step axes a s r.place }
 
@@ -88,7 +88,7 @@ module _ {S : Type 0} (step : S → PointValue → S) (axes : ℕ) where
         (walked_then step axes start now next state t u from.place r.place new.place (flat_map one_point l.front) run.numbers l.walked run.walked);
   }
 
-  -- a run, and a point behind it
+  -- a run and one more point are a run
   pub run_goes_on : (start now next : Trail) (s t u : S) (from r new : Reading) (i : ℕ) (p : PointValue) → point_at axes now.last r ≡ (Ok p, new) → IsWalked step axes now next t u r.place new.place (p ∷ [])
       → IsRun step axes start now s t from r i → IsRun step axes start next s u from new (i + 1)
   run_goes_on start now next s t u from r new i p one walked run =
@@ -106,7 +106,7 @@ module _ {S : Type 0} (step : S → PointValue → S) (axes : ℕ) where
         walked = walked_then step axes start now next s t u from.place r.place new.place run.numbers (p ∷ []) run.walked walked;
       }
 
-  -- a run, and another after it
+  -- a run and another after it are a run
   pub run_append : (start now next : Trail) (s t u : S) (from r new : Reading) (i k : ℕ) → IsRun step axes start now s t from r i → IsRun step axes now next t u r new k → IsRun step axes start next s u from new (i + k)
   run_append start now next s t u from r new i k run more =
       let total = many_at (i + k) add (point_at axes) start.last from in

@@ -84,7 +84,7 @@ module _ (h : Header) where
           ∙ ap (λ (zs : List ℤ). units_of (coordinate point axis) (pos p) ∷ zs) (all ps)
           ∙ ap (λ (o : Option ℤ). map (λ c. units_of c (pos p)) (cons_option o (filter_map get (map (raw_of h) ps)))) (sym (raw point))
 
-  -- The reach of the vertices is that of the points, scaled once.
+  -- the reach of the points in raw numbers, scaled once, is the reach of the vertices
   pub scaled_once : (points : List PointValue) → reach_in_units h.xy h.z h.m (reach_of (map (raw_of h) points)) ≡ reach_of (map (vertex_of h) points)
   scaled_once points =
       let x : span_of (map (λ (v : Vertex). v.x) (map (vertex_of h) points)) ≡ scaled h.xy (span_of (map (λ (v : Vertex). v.x) (map (raw_of h) points))) =
@@ -97,7 +97,7 @@ module _ (h : Header) where
       some (λ v. v.m) h.m (m_axis h.z) (λ point. refl) (λ point. refl) points in
       (λ j. record { x = sym x j; y = sym y j; z = sym z j; m = sym m j })
 
-  -- Adding points one after another is adding them all.
+  -- adding points one after another is adding all of them at once
   pub widened_all : (reach : Reach) (points : List PointValue) → fold (widened h) reach points ≡ both reach (reach_of (map (raw_of h) points))
   widened_all reach [] = sym (both-none reach)
   widened_all reach (point ∷ points) =

@@ -42,7 +42,7 @@ coordinate_signed c z r mid e = go (signed_at r) refl
     go (Err m, q) is = absurd (signed_reads c z m r mid q e is)
     go (Ok n, q) is = (n, is ∙ ap (λ (y : Reading). (Ok n, y)) (signed_end c z n r mid q e is))
 
--- some numbers and then some more
+-- some numbers and then more are all of them
 NumbersLead-append : (n m : ℕ) (r mid stop : Reading) → NumbersLead n r mid → NumbersLead m mid stop → NumbersLead (n + m) r stop
 NumbersLead-append zero m r mid stop here more =
     let same : 0 + m ≡ m = omega arith in
@@ -51,7 +51,7 @@ NumbersLead-append (suc n) m r mid stop (z, q, one, others) more =
     let next : suc n + m ≡ suc (n + m) = omega arith in
     rw next (z, q, one, NumbersLead-append n m q mid stop others more)
 
--- behind the first numbers the others lead on
+-- after the first numbers the others lead on to the end of all
 numbers_rest : (n m : ℕ) (r mid stop : Reading) → n ≤ m → NumbersLead n r mid → NumbersLead m r stop → NumbersLead (m - n) mid stop
 numbers_rest zero m r mid stop le here all =
     let same : m - 0 ≡ m = omega arith in
@@ -69,14 +69,14 @@ spelled_lead (n ∷ ns) r new sound spelled moved =
     let (mid, there, on, first, others) = peel r new n ns spelled moved in
     (zigzag_value n, mid, read_signed r mid (zigzag_value n) (n, first, refl) there, spelled_lead ns mid new (IsSound-moved r mid sound there) others on)
 
--- they move ahead
+-- numbers that lead on move ahead
 numbers_moved : (n : ℕ) (r stop : Reading) → IsSound r → NumbersLead n r stop → IsMoved r stop
 numbers_moved zero r stop sound here = subst (IsMoved r) here (IsMoved-here r sound)
 numbers_moved (suc n) r stop sound (z, mid, one, others) =
     let there = signed_moved r mid z sound one in
     IsMoved-after r mid stop there (numbers_moved n mid stop (IsSound-moved r mid sound there) others)
 
--- the numbers of a point
+-- a point that is read is a number for each axis
 pub point_numbers : (axes : ℕ) (s : PointValue) (r mid : Reading) (p : PointValue) → point_at axes s r ≡ (Ok p, mid) → NumbersLead axes r mid
 point_numbers zero s r mid p e = ap (λ (a : Answer PointValue). a.1) e
 point_numbers (suc axes) s r mid p e = go (λ q t cs is. point_numbers axes (behind s) q t cs is) (coordinate_at (first_of s) r) refl e
@@ -94,7 +94,7 @@ point_numbers (suc axes) s r mid p e = go (λ q t cs is. point_numbers axes (beh
     go more (Err m, q) is e = absurd (ok_not_err p m mid q (sym e))
     go more (Ok z, q) is e = let one = coordinate_signed (first_of s) z r q is in others more z one.0 q one.1 (Others q) refl e
 
--- and of many points
+-- points that are read are a number for each axis of each
 points_numbers : (axes count : ℕ) (s : PointValue) (r stop : Reading) (ps : List PointValue) → many_at count add (point_at axes) s r ≡ (Ok ps, stop) → NumbersLead (count * axes) r stop
 points_numbers axes zero s r stop ps e = let none : 0 * axes ≡ 0 = omega arith in rw none (ap (λ (a : Answer (List PointValue)). a.1) e)
 points_numbers axes (suc count) s r stop ps e = go (λ x q t xs is. points_numbers axes count (add s x) q t xs is) (point_at axes s r) refl e
@@ -119,7 +119,7 @@ points_numbers axes (suc count) s r stop ps e = go (λ x q t xs is. points_numbe
 run_leads : (done : ℕ) (r mid : Reading) → IsSound r → SpellsMany (passed r mid) done → IsMoved r mid → NumbersLead done r mid
 run_leads done r mid sound spells moved = subst (λ (n : ℕ). NumbersLead n r mid) spells.count (spelled_lead spells.numbers r mid sound spells.spelled moved)
 
--- and behind them the others
+-- after numbers that are passed by their ends, the other numbers of the points lead on
 pub points_rest : (axes count done : ℕ) (s : PointValue) (r mid stop : Reading) (ps : List PointValue) → IsSound r → done ≤ count * axes → SpellsMany (passed r mid) done → IsMoved r mid → many_at count add (point_at axes) s r ≡ (Ok ps, stop) → NumbersLead (count * axes - done) mid stop
 points_rest axes count done s r mid stop ps sound few spells moved e = numbers_rest done (count * axes) r mid stop few (run_leads done r mid sound spells moved) (points_numbers axes count s r stop ps e)
 
@@ -127,7 +127,7 @@ points_rest axes count done s r mid stop ps sound few spells moved e = numbers_r
 abbrev pub IsPassing : ℕ → Reading → ℕ → Reading → Type 0
 IsPassing many from left r = (stop : Reading) → NumbersLead many from stop → NumbersLead left r stop
 
--- a number more is there
+-- if numbers are left, a number can be read
 passing_next : (left : ℕ) (r stop : Reading) → 0 < left → NumbersLead left r stop → (z : ℤ) × (mid : Reading) × (signed_at r ≡ (Ok z, mid)) × NumbersLead (left - 1) mid stop
 passing_next zero r stop some l = absurd (omega (arith, some))
 passing_next (suc n) r stop some (z, mid, one, others) = let less : suc n - 1 ≡ n = omega arith in (z, mid, one, rw less others)
@@ -146,9 +146,9 @@ passing_goes_on many left done from r mid new z some one sound few spells moved 
 pub passing_ends : (many left : ℕ) (from r : Reading) → left ≡ 0 → IsPassing many from left r → (stop : Reading) → NumbersLead many from stop → r ≡ stop
 passing_ends many left from r none l stop known = subst (λ (n : ℕ). NumbersLead n r stop) none (l stop known)
 
--- ---- a value that is read one part after another, and passed so
+-- ---- values that are read one after another
 module _ {A S : Type 0} (after : S → A → S) (each : S → Reader A) (count : ℕ) where
-  -- a part more is read, if all of them are
+  -- if all values are read, the next one is
   pub next_read : (total : Answer (List A)) (front : List A) (i : ℕ) (s : S) (r stop : Reading) (xs : List A) → total ≡ (Ok xs, stop) → i < count → IsLoop after each count total front i s r
       → (x : A) × (mid : Reading) × (each s r ≡ (Ok x, mid))
   next_read total front i s r stop xs e lt l = go (each s r) refl
@@ -157,7 +157,7 @@ module _ {A S : Type 0} (after : S → A → S) (each : S → Reader A) (count :
       go (Err m, q) is = absurd (no_failure total xs stop q m e (loop_fails after each count total front i s r q m lt (record { left = q; is = is; bytes = refl }) l))
       go (Ok x, q) is = (x, q, is)
 
-  -- what is left is read
+  -- if all values are read, the values that are left are
   pub rest_read : (total : Answer (List A)) (front : List A) (i : ℕ) (s : S) (r stop : Reading) (xs : List A) → total ≡ (Ok xs, stop) → IsLoop after each count total front i s r
       → (ys : List A) × (many_at (count - i) after each s r ≡ (Ok ys, stop)) × (front ++ ys ≡ xs)
   rest_read total front i s r stop xs e l = go (many_at (count - i) after each s r) refl (l.is ∙ e)
@@ -221,7 +221,7 @@ points_are axes (suc count) s r stop ps some e = go (λ x q xs is. points_are ax
     go more (Err m, q) is e = absurd (ok_not_err ps m stop q (sym e))
     go more (Ok x, q) is e = others more x q (point_is axes s r q x is) (Others x q) refl e
 
--- each number takes a byte at least
+-- each number of points takes at least a byte
 points_long : (axes count : ℕ) (s : PointValue) (r stop : Reading) (ps : List PointValue) → many_at count add (point_at axes) s r ≡ (Ok ps, stop) → count * axes + r.place ≤ stop.place
 points_long axes zero s r stop ps e = let here : r.place ≡ stop.place = ap (λ (a : Answer (List PointValue)). a.1.place) e in omega (arith, here)
 points_long axes (suc count) s r stop ps e = go (λ x q t xs is. points_long axes count (add s x) q t xs is) (point_at axes s r) refl e
@@ -237,7 +237,7 @@ points_long axes (suc count) s r stop ps e = go (λ x q t xs is. points_long axe
     go more (Err m, q) is e = absurd (ok_not_err ps m stop q (sym e))
     go more (Ok x, q) is e = others more x q (point_is axes s r q x is) (Others x q) refl e
 
--- so there are fewer than 2^64
+-- points have fewer than 2^64 numbers
 pub points_fit : (axes count : ℕ) (s : PointValue) (r stop : Reading) (ps : List PointValue) → IsSound r → many_at count add (point_at axes) s r ≡ (Ok ps, stop) → count * axes < 2 ^ 64
 points_fit axes count s r stop ps sound e =
     let moved = numbers_moved (count * axes) r stop sound (points_numbers axes count s r stop ps e) in
@@ -249,14 +249,14 @@ module _ {S : Type 0} (step : S → PointValue → S) (axes : ℕ) where
   stays s [] still = refl
   stays s (p ∷ ps) still = ap (λ (u : S). fold step u ps) (still p) ∙ stays s ps still
 
-  -- so the points that are passed were shown
+  -- if no point changes the state, points that are passed count as shown
   pub still_walked : (count : ℕ) (t : Trail) (s : S) (r stop : Reading) (ps : List PointValue) → 1 ≤ axes → many_at count add (point_at axes) t.last r ≡ (Ok ps, stop) → IsStill step s
       → IsWalked step axes t (record { last = sums t.last ps; points = t.points + length ps }) s s r.place stop.place ps
   still_walked count t s r stop ps some read still =
       let are = points_are axes count t.last r stop ps some read in
       record { last = refl; points = refl; added = sym (stays s (lasts_from t.last ps) still); have = are.have; ahead = are.ahead }
 
-  -- a run within more
+  -- a run is the first turns of a loop over more points
   pub run_loop : (count : ℕ) (start now : Trail) (s t : S) (from r : Reading) (i : ℕ) → i ≤ count → (run : IsRun step axes start now s t from r i)
       → IsLoop add (point_at axes) count (many_at count add (point_at axes) start.last from) run.numbers i now.last r
   run_loop count start now s t from r i le run =
@@ -266,14 +266,14 @@ module _ {S : Type 0} (step : S → PointValue → S) (axes : ℕ) where
       subst (λ (p : PointValue). IsLoop add (point_at axes) count total run.numbers i p r) (sums_are start.last run.numbers ∙ sym run.walked.last)
       (subst (λ (n : ℕ). IsLoop add (point_at axes) count total run.numbers n (afters add start.last run.numbers) r) zero far)
 
-  -- a point more is read, if all of them are
+  -- if all points are read, reading the point after a run doesn't fail
   pub run_next : (count : ℕ) (start now : Trail) (s t : S) (from r new stop : Reading) (i : ℕ) (ps : List PointValue) (m : Malformed) → many_at count add (point_at axes) start.last from ≡ (Ok ps, stop) → i < count
       → IsRun step axes start now s t from r i → Fails (point_at axes now.last r) m new → ⊥
   run_next count start now s t from r new stop i ps m e lt run fails =
       let n = next_read add (point_at axes) count (many_at count add (point_at axes) start.last from) run.numbers i now.last r stop ps e lt (run_loop count start now s t from r i (omega (arith, lt)) run) in
       no_failure (point_at axes now.last r) n.0 n.1 new m n.2 fails
 
-  -- a run and then a run
+  -- a run and another after it are a run
   pub run_then : (start now next : Trail) (s t u : S) (from r new : Reading) (i k : ℕ) → IsRun step axes now next t u r new k → IsRun step axes start now s t from r i → IsRun step axes start next s u from new (i + k)
   run_then start now next s t u from r new i k more run =
       let total = many_at (i + k) add (point_at axes) start.last from in
@@ -286,7 +286,7 @@ module _ {S : Type 0} (step : S → PointValue → S) (axes : ℕ) where
         walked = walked_then step axes start now next s t u from.place r.place new.place run.numbers more.numbers run.walked more.walked;
       }
 
-  -- a run that is all of the points
+  -- if a run is all of the points, they were shown
   pub run_whole : (count : ℕ) (start now : Trail) (s t : S) (from r stop : Reading) (i : ℕ) (ps : List PointValue) → many_at count add (point_at axes) start.last from ≡ (Ok ps, stop) → i ≡ count
       → IsRun step axes start now s t from r i → AreShown (λ (points : List PointValue). points) step axes false now s t from r start ps stop
   run_whole count start now s t from r stop i ps e end run =
@@ -298,13 +298,13 @@ module _ {S : Type 0} (step : S → PointValue → S) (axes : ℕ) where
         follows = record { kept = λ keeps. refl; still = λ lost. absurd (cc (lost)) };
       }
 
-  -- what is left behind a run
+  -- the points that are left after a run are read
   pub run_rest : (count : ℕ) (start now : Trail) (s t : S) (from r stop : Reading) (i : ℕ) (ps : List PointValue) → many_at count add (point_at axes) start.last from ≡ (Ok ps, stop) → i ≤ count
       → (run : IsRun step axes start now s t from r i) → (ys : List PointValue) × (many_at (count - i) add (point_at axes) now.last r ≡ (Ok ys, stop)) × (run.numbers ++ ys ≡ ps)
   run_rest count start now s t from r stop i ps e le run =
       rest_read add (point_at axes) count (many_at count add (point_at axes) start.last from) run.numbers i now.last r stop ps e (run_loop count start now s t from r i le run)
 
-  -- a run, and the others passed
+  -- if a run was shown and the points after it were passed, all count as shown
   pub run_passed : (count : ℕ) (start now trail : Trail) (s t : S) (from r new stop : Reading) (i : ℕ) (ps : List PointValue) → 1 ≤ axes → many_at count add (point_at axes) start.last from ≡ (Ok ps, stop) → i ≤ count → IsStill step t
       → ((p : PointValue) (points : List PointValue) (end : Reading) → many_at (count - i) add (point_at axes) p r ≡ (Ok points, end) → new ≡ end)
       → IsRun step axes start now s t from r i → AreShown (λ (points : List PointValue). points) step axes true trail s t from new start ps stop
@@ -320,7 +320,7 @@ module _ {S : Type 0} (step : S → PointValue → S) (axes : ℕ) where
         follows = record { kept = λ keeps. absurd (cc (keeps)); still = λ lost. still };
       }
 
-  -- all of them passed
+  -- if all points were passed, all count as shown
   pub all_there : (count : ℕ) (start trail : Trail) (s : S) (from new stop : Reading) (ps : List PointValue) → 1 ≤ axes → many_at count add (point_at axes) start.last from ≡ (Ok ps, stop) → IsStill step s → new ≡ stop
       → AreShown (λ (points : List PointValue). points) step axes true trail s s from new start ps stop
   all_there count start trail s from new stop ps some e still there =

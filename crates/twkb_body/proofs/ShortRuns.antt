@@ -9,7 +9,7 @@ use Rattle.twkb_body.specs.declared.trail.Trail.{Trail}
 use Rattle.twkb_body.specs.Geometry.{PointValue}
 use Rattle.twkb_body.proofs.FlatRuns.{has_64_bits, IsFlatRun, flat_begins, flat_goes_on}
 
--- so far from zero a sum is at most behind so many short differences
+-- a sum after i short differences, from a sum at most 2^62 from zero
 abbrev pub IsNearBy : ℤ → ℕ → Type 0
 IsNearBy x i = (neg_ℤ (pos (2 ^ 62 + 2 ^ 27 * i)) ≤ℤ x) × (x ≤ℤ pos (2 ^ 62 + 2 ^ 27 * i))
 
@@ -18,7 +18,7 @@ near_fits x x_more i near short few =
     has_64_bits (x +ℤ x_more) (omega (arith, ints, near.0, near.1, short.0, short.1, few)) (omega (arith, ints, near.0, near.1, short.0, short.1, few))
 
 module _ {S : Type 0} (step : S → PointValue → S) (start : Trail) (state : S) (from : Reading) where
-  -- so many points were read and added, and these are the sums
+  -- i points were read and added, and these are the sums
   pub record IsShortRun (x y : ℤ) (now : S) (r : Reading) (i : ℕ) : Type 0 where
     pub run : IsFlatRun step start state from x y now r i
     pub near_x : IsNearBy x i

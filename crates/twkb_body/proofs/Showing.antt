@@ -1,4 +1,4 @@
--- Known values that are shown one after another: points up to where a visitor is settled, and the ends of numbers from there on.
+-- Showing known values one after another: points until a visitor is settled, and from there on they are passed.
 use Rattle.std.proofs.Common.{◌≡◌, ℕ, Option, Some, None, ◌+◌, ◌<◌, ◌≤◌, Bool, true, List, [], ◌∷◌, flat_map, Ok, Err, ◌⊎◌, inl, inr, refl, ap, sym, subst, ◌∙◌, arith}
 use Rattle.twkb_num.specs.Cursor.{Reading}
 use Rattle.twkb_head.specs.Header.{axes_with}
@@ -17,7 +17,7 @@ use Rattle.twkb_body.proofs.Walks.{number_ahead, walked_from, IsWalkLoop, walk_b
 
 module _ {A S : Type 0} (step : S → PointValue → S) (axes : ℕ) (after : PointValue → A → PointValue) (each : PointValue → Reader A) (points_in : A → List PointValue)
     (after_is : (s : PointValue) (x : A) → after s x ≡ sums s (points_in x)) (count : ℕ) (lost : Bool) (trail : Trail) (state : S) (from : Reading) where
-  -- so many parts were shown
+  -- i parts were shown
   abbrev pub IsShowing : ℕ → Bool → Trail → S → Reading → Type 0
   IsShowing i lost' trail' s r = (t : Trail) (xs : List A) (stop : Reading) → IsKnown (λ (q : PointValue). many_at count after each q) step lost trail state from t xs stop
       → (u : Trail) × IsWalkLoop step axes after each points_in after_is count t state from i u s r × Follows step lost' trail' u s
@@ -59,7 +59,7 @@ module _ {A S : Type 0} (step : S → PointValue → S) (axes : ℕ) (after : Po
         follows = follows;
       }
 
--- ---- behind a count
+-- ---- values after a count
 module _ {A S : Type 0} (step : S → PointValue → S) (axes count : ℕ) (more : ℕ → PointValue → Reader A) (points_in : A → List PointValue) (r mid : Reading) (counted : number_at r ≡ (Ok count, mid)) where
   pub behind_count : (lost : Bool) (trail : Trail) (s : S) (t : Trail) (x : A) (stop : Reading) → IsKnown (λ (q : PointValue) (r : Reading). number_at r >>= λ n. more n q) step lost trail s r t x stop → IsKnown (more count) step lost trail s mid t x stop
   behind_count lost trail s t x stop known = record {
@@ -82,12 +82,12 @@ module _ {A S : Type 0} (step : S → PointValue → S) (axes count : ℕ) (more
         follows = a.follows;
       }
 
--- a count that is known is read
+-- reading a count that is known doesn't fail
 pub count_reads : {A S : Type 0} (step : S → PointValue → S) (more : ℕ → PointValue → Reader A) (lost : Bool) (trail : Trail) (s : S) (r new : Reading) (m : Malformed)
     → StandsThere (λ (q : PointValue) (r : Reading). number_at r >>= λ n. more n q) step lost trail s r → number_at r ≡ (Err m, new) → ⊥
 count_reads step more lost trail s r new m (t, x, stop, known) fault = ok_not_err x m stop new (sym known.read ∙ ap (λ (a : Answer ℕ). a >>= λ n. more n t.last) fault)
 
--- ---- a value in another's dress
+-- ---- a value with f applied
 module _ {A B S : Type 0} (step : S → PointValue → S) (axes : ℕ) (f : A → B) (each : PointValue → Reader A) (points_in : A → List PointValue) (points_of : B → List PointValue) (same : (x : A) → points_in x ≡ points_of (f x)) (r : Reading) where
   undressed : (t : Trail) (y : B) (stop : Reading) → viewed f (each t.last r) ≡ (Ok y, stop) → (x : A) × (each t.last r ≡ (Ok x, stop)) × (f x ≡ y)
   undressed t y stop e = go (each t.last r) refl e
@@ -123,7 +123,7 @@ axes_some None (Some q) = omega arith
 axes_some (Some p) None = omega arith
 axes_some (Some p) (Some q) = omega arith
 
--- a point is one of many
+-- a point is a list of one point
 one_known : (axes : ℕ) (s p : PointValue) (r stop : Reading) → point_at axes s r ≡ (Ok p, stop) → many_at 1 add (point_at axes) s r ≡ (Ok (p ∷ []), stop)
 one_known axes s p r stop e = ap (λ (a : Answer PointValue). a >>= λ x q. viewed (λ xs. x ∷ xs) (many_at 0 add (point_at axes) (add s x) q)) e
 

@@ -1,4 +1,4 @@
--- Reading that stopped inside stops outside.
+-- If reading stops in a part, reading the whole stops for the same reason.
 use Rattle.std.proofs.Common.{◌≡◌, ◌∙◌, Bool, List, ◌++◌, ℕ, Result, Ok, Err}
 use Rattle.twkb_num.specs.Cursor.{Reading, rest, IsMoved, IsSound}
 use Rattle.twkb_num.specs.Varint.{Spells}
@@ -23,14 +23,14 @@ pub stops_outside : {A B : Type 0} (inner : Answer A) (outer : Answer B) (W V : 
 stops_outside inner outer W V mid old (BadField m) new fails wants s = fails m s
 stops_outside inner outer W V mid old Memory new fails wants s = wants s.0 s.1
 
--- what is read by one reader for one cause is read by another that gives the same
+-- code that reads as one reader does also reads as another that gives the same answer
 pub reads_through : (tight : Bool) (head : Head) (inner outer : Answer Body) (W V : Type 0) (above after : Seen) (old new : Reading) (result : Result Inside Stopped) → outer ≡ inner → (W → V)
     → ReadsInside tight head inner W above after old result new → ReadsInside tight head outer V above after old result new
 reads_through tight head inner outer W V above after old new (Ok y) same wants s = (s.0, same ∙ s.1, s.2)
 reads_through tight head inner outer W V above after old new (Err (BadField m)) same wants s = record { left = s.left; is = same ∙ s.is; bytes = s.bytes }
 reads_through tight head inner outer W V above after old new (Err Memory) same wants s = (s.0, wants s.1)
 
--- what a plan read stands at the front
+-- the bytes of a value that a plan read are at the front of the rest
 pub plan_stands : {A : Type 0} (p : Plan A) (r new : Reading) (x : A) → IsSound r → read p r ≡ (Ok x, new)
     → (front : List ℕ) × (rest r ≡ front ++ rest new) × Spelled p x front × IsMoved r new
 plan_stands p r new x sound e =

@@ -10,7 +10,7 @@ use Rattle.twkb_body.specs.Begun.{SumsFit}
 use Rattle.twkb_body.specs.Encoding.{total, Accumulates, SameForm}
 use Rattle.twkb_body.specs.Devices.Body.{zeros, first_of, behind, add, sums, ring_sums, place, map_from, absolute}
 
--- the numbers of a point, of points, of rings and of polygons have sums in range
+-- the numbers of a point, of points, of rings and of polygons have sums that fit 64 bits
 abbrev pub FitNumber : PointValue → ℤ → Type 0
 FitNumber s z = fits (first_of s +ℤ z) ≡ true
 
@@ -61,7 +61,7 @@ fit_polygons s (p ∷ ps) f =
     let t = append-FitPoints s (flat_map (λ ring. ring) p) (points_of ps) f in
     (fit_rings s p t.0, fit_polygons (ring_sums s p) ps (subst (λ (z : PointValue). FitPoints z (points_of ps)) (sym (rings_sums_flat s p)) t.1))
 
--- after all
+-- the state after all points, rings or polygons is their sums
 pub after_points : (s : PointValue) (ps : List PointValue) → after_all add s ps ≡ sums s ps
 after_points s [] = refl
 after_points s (p ∷ ps) = after_points (add s p) ps
@@ -85,7 +85,7 @@ int_nil a = omega (arith, ints)
 nil_int : (a : ℤ) → pos 0 +ℤ a ≡ a
 nil_int a = omega (arith, ints)
 
--- from zeros
+-- the coordinates of `zeros`, to which all sums are added
 zeros_at : (axis : ℕ) → coordinate zeros axis ≡ pos 0
 zeros_at zero = refl
 zeros_at (suc zero) = refl
@@ -133,7 +133,7 @@ fit_point s (n ∷ p) f = (
   fit_point (behind s) p (λ axis z e. ap (λ (a : ℤ). fits (a +ℤ z)) (sym (behind_is s axis)) ∙ f (suc axis) z e),
 )
 
--- the sums from s on
+-- the sums from s on fit 64 bits
 SumsFitFrom : PointValue → List PointValue → Type 0
 SumsFitFrom s ps = (i axis : ℕ) (point : PointValue) (z : ℤ) → slice_get ps i ≡ Some point → slice_get point axis ≡ Some z
     → fits (coordinate s axis +ℤ total axis (take (suc i) ps)) ≡ true
@@ -174,7 +174,7 @@ unfolding SumsFitFrom
 fit_sums ps f = fit_points zeros ps (λ i axis point z e h.
     ap fits (from_zeros axis (total axis (take (suc i) ps))) ∙ signed_fits (total axis (take (suc i) ps)) (f i axis point z e h))
 
--- ---- polygons at their sums
+-- ---- polygons with the coordinates that their numbers sum up to
 pub length-place : (s p : PointValue) → length (place s p) ≡ length p
 length-place s [] = refl
 length-place s (n ∷ p) = ap suc (length-place (behind s) p)
@@ -225,7 +225,7 @@ form_absolute ps = record {
   points = ap (map length) (points_absolute ps) ∙ lengths-map_from add place length-place zeros (points_of ps);
 }
 
--- a point's place
+-- a coordinate of a point is the sum before it plus its number
 place_get : (s p : PointValue) (axis : ℕ) (c : ℤ) → slice_get (place s p) axis ≡ Some c → c ≡ coordinate s axis +ℤ coordinate p axis
 place_get s [] axis c e = absurd (cc (e))
 place_get s (n ∷ p) zero c e = sym (some_same _ c e) ∙ ap (λ (a : ℤ). a +ℤ n) (sym (first_is s))
@@ -290,7 +290,7 @@ abbrev pub AreSums : List PointValue → List PointValue → Type 0
 AreSums points numbers = (i axis : ℕ) (point : PointValue) (c : ℤ) → slice_get points i ≡ Some point
     → slice_get point axis ≡ Some c → c ≡ total axis (take (suc i) numbers)
 
--- the polygons at their sums are the ones of the definition
+-- polygons with summed coordinates are the polygons of the definition
 pub absolute_is : (ps : List PolygonValue) → SameForm (absolute ps) ps × AreSums (points_of (absolute ps)) (points_of ps)
 unfolding AccumulatesFrom
 absolute_is ps = (
@@ -312,9 +312,9 @@ is_absolute a ps same acc =
     (sym (points_flat a) ∙ flat ∙ points_flat (absolute ps)) in
     flat_same a (absolute ps) (same.polygons ∙ sym form.polygons) rings
 
--- ---- sums that lie in 64 bits
+-- ---- sums that fit 64 bits
 
--- of two points of one length both have a number on an axis, or none
+-- of two points of one length, the second has a number on each axis on which the first has one
 same_axis : (p q : PointValue) (axis : ℕ) (c : ℤ) → length p ≡ length q → slice_get p axis ≡ Some c
     → (d : ℤ) × (slice_get q axis ≡ Some d)
 same_axis [] q axis c l e = absurd (cc (e))
@@ -322,7 +322,7 @@ same_axis (a ∷ p) [] axis c l e = absurd (omega (arith, l))
 same_axis (a ∷ p) (b ∷ q) zero c l e = (b, refl)
 same_axis (a ∷ p) (b ∷ q) (suc axis) c l e = same_axis p q axis c (omega (arith, l)) e
 
--- the same of lists of points
+-- of two lists of points of equal lengths, the second has a number wherever the first has one
 same_place : (ps qs : List PointValue) (i axis : ℕ) (point : PointValue) (c : ℤ) → map length ps ≡ map length qs
     → slice_get ps i ≡ Some point → slice_get point axis ≡ Some c
     → (other : PointValue) × (d : ℤ) × (slice_get qs i ≡ Some other) × (slice_get other axis ≡ Some d)

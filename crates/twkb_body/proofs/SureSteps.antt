@@ -1,4 +1,4 @@
--- The steps of the first reading: what holds of all points holds of the box, and nothing of the geometry is false.
+-- The steps of the first reading: if the box holds all points and no claim inside is false, the geometry is sure.
 use Rattle.std.proofs.Common.{◌≡◌, ℕ, suc, ◌+◌, ◌-◌, ◌^◌, ◌<◌, ◌≤◌, ◌==◌, nat_lt, Bool, true, false, not, List, [], ◌∷◌, ◌++◌, map, fold, ℤ, pos, ◌+ℤ◌, ◌-ℤ◌, unsigned_abs, Option, Some, None, option_map, IfSome, All, Ok, refl, sym, ap, subst, ◌∙◌, arith}
 use Rattle.std.proofs.lemmas.Bool.{eqb-true}
 use Rattle.std.proofs.lemmas.Int.{ints}
@@ -49,8 +49,8 @@ use Rattle.twkb_body.proofs.Scales.{times_le}
 use Rattle.twkb_body.proofs.ShapeSteps.{shape_of_parts}
 use Rattle.twkb_body.proofs.Sums.{points_absolute}
 
--- Of this kind, with ids or none, the parts of a body were read, and their points added to a state. It has this many
--- points, and its ids, if any, are true.
+-- The parts of a body of this kind, with ids or none, were read, and their points, `vertices` in all, were added to a state.
+-- The ids, if there are any, are distinct.
 pub record AddsParts {S : Type 0} (step : S → PointValue → S) (kind : Kind) (has_ids : Bool) (axes : ℕ) (old new : Reading) (state state' : S) (vertices : ℕ) : Type 0 where
   pub list : ListHead
   pub middle : Reading
@@ -67,8 +67,8 @@ abbrev pub AddsHeld : Kind → Bool → ℕ → RawBox → Reading → Reading �
 AddsHeld kind has_ids axes box old new vertices =
     (held : Held) × AddsParts (held_then axes) kind has_ids axes old new (record { box = box; inside = true }) held vertices × (held.inside ≡ true)
 
--- what a box above holds, and what is held if there is none
--- ---- what a box of raw numbers holds, it holds in units
+-- which vertices a frame above holds, and which it holds if there is none
+-- ---- a box of raw numbers holds in units the points that it holds
 within_units : (p : ℤ) (range : RawRange) (c : ℤ) → is_in_range range c ≡ true → IsWithin (span_at p (ends_of range)) (units_of c p)
 within_units p range c e =
     let near = (reaches_decides range.extent (c -ℤ range.minimum)).0 e in (
@@ -80,7 +80,7 @@ within_units p range c e =
 abbrev bounds_under : Header → RawBox → Bounds
 bounds_under h box = raw_bounds h.xy h.z h.m box
 
--- in the axes behind that of Y
+-- the box holds Z and M in units, if it holds the coordinates after Y
 z_held : (z m : Option ℕ) (box : RawBox) (p : PointValue) → is_in_axis (nat_lt 2 (axes_with z m)) box.third (coordinate p 2) ≡ true
     → IsWithinBoth (option_map (λ q. span_at (pos q) (ends_of box.third)) z) (option_map (λ q. units_of (coordinate p 2) (pos q)) z)
 z_held None m box p e = tt
@@ -105,7 +105,7 @@ holds_vertex h box p e =
       m = m_held h.z h.m box p further.0 further.1;
     }
 
--- a box that holds the points behind the last holds them all
+-- if a box holds all points at the end, it held the points before
 held_before : (h : Header) (held : Held) (ps : List PointValue) → (fold (held_with h) held ps).inside ≡ true → held.inside ≡ true
 held_before h held [] e = e
 held_before h held (p ∷ ps) e = (both_true _ _ (held_before h (held_with h held p) ps e)).0
@@ -117,7 +117,7 @@ holds_all h held (p ∷ ps) e =
 
 -- ---- the body of a shape
 module _ (levels : ℕ) (head : Head) (old new : Reading) (vertices axes : ℕ) (axes_are : axes_of (of_head head) ≡ axes) (full : head.empty ≡ false) (single : is_collection head.kind ≡ false) where
-  -- what is added to other things might be added to ranges
+  -- points that were added to another state might be added to ranges
   module _ {S : Type 0} (step : S → PointValue → S) (s t : S) (added : AddsParts step head.kind head.ids axes old new s t vertices) where
     abbrev numbers : List PointValue
     numbers = points_of added.parts
@@ -128,7 +128,7 @@ module _ (levels : ℕ) (head : Head) (old new : Reading) (vertices axes : ℕ) 
     abbrev ranges : Reach
     ranges = fold (widened (of_head head)) (reach_of []) (lasts_from zeros numbers)
 
-    -- the vertices that the last points are
+    -- the sums that each point leaves are the vertices of the body
     vertices_are : map (vertex_of (of_head head)) (lasts_from zeros numbers) ≡ body_vertices (of_head head) (parts_body added.list added.parts)
     unfolding member_vertices
     vertices_are =
@@ -171,7 +171,7 @@ held_with_more None vs ws a b = tt
 held_with_more (Some frame) vs ws a b = All-append (Holds (frame_bounds frame)) vs ws a b
 
 module _ (levels count : ℕ) (from : Reading) (frame : Option Frame) where
-  -- i members were read, of which nothing is false, and whose vertices the frame holds
+  -- i members were read that have no false claim, and whose vertices the frame holds
   pub record IsSureLoop (i vertices : ℕ) (r : Reading) : Type 0 where
     pub loop : IsMemberLoop false levels count from false i (faultless vertices) unseen r
     pub held : IsHeldBy frame (member_vertices (members_of loop.front))
@@ -207,7 +207,7 @@ members_sure head depth inner old middle new frame list count vertices i under f
     }
 
 -- ---- the geometry
--- a box that is there is the frame's
+-- a box, if there is one, is the box of the frame
 abbrev pub IsBoxOf : Option Frame → Option BoxField → Type 0
 IsBoxOf frame box = IfSome box (λ field. (f : Frame) × (frame ≡ Some f) × (field.bounds ≡ frame_bounds f))
 
@@ -218,7 +218,7 @@ own_box raw above frame under = go raw.bounds under.own_is
     go None e = tt
     go (Some box) e = (framed (boxless raw) box, e, refl)
 
--- a box that holds the vertices of a body is true
+-- the claim of a box that holds the vertices of a body is true
 box_true : (h : Header) (box : Option BoxField) (body : Body) (below : Reach) → below ≡ reach_of (member_vertices body.members) → IfSome box (λ field. All (Holds field.bounds) (body_vertices h body))
     → None ≡ box_judged false h box (both (reach_of (map (vertex_of h) (points_of body.polygons))) below)
 box_true h None body below e held = refl
@@ -228,7 +228,7 @@ box_true h (Some field) body below e held =
     ap (λ (r : Reach). is_within (both (reach_of own) r) field.bounds) e ∙ ap (λ (r : Reach). is_within r field.bounds) (sym (reach_of-append own (member_vertices body.members))) ∙ (box_decides field.bounds (body_vertices h body)).1 held in
     sym (ap (λ (b : Bool). first (false_at b field.offset 7) None) within)
 
--- what the frame of a geometry holds, its box and the frame above hold
+-- a body that is sure under its frame is sure under its box and the frame above
 module _ (levels : ℕ) (head plain : Head) (above frame : Option Frame) (mid new : Reading) (vertices : ℕ) (same : head ≡ record plain { bounds = head.bounds }) (box : IsBoxOf frame head.bounds)
     (above_holds : (vs : List Vertex) → IsHeldBy frame vs → IsHeldBy above vs) (sure : IsSureBody levels plain frame mid new vertices) where
   frame_held : IsHeldBy frame (body_vertices (of_head head) sure.body)
@@ -248,7 +248,7 @@ module _ (levels : ℕ) (head plain : Head) (above frame : Option Frame) (mid ne
     held = above_holds (body_vertices (of_head head) sure.body) frame_held;
   }
 
--- nothing of an empty geometry is false but perhaps its size
+-- no claim of an empty geometry is false but perhaps its size
 pub empty_sure : (levels : ℕ) (head : Head) (above : Option Frame) (mid : Reading) → head.empty ≡ true → IsSureBehind levels head above mid mid 0
 unfolding member_vertices
 empty_sure levels head above mid empty = record {
@@ -267,7 +267,7 @@ empty_sure levels head above mid empty = record {
     in_frame None = tt
     in_frame (Some f) = All-nil (Holds (frame_bounds f))
 
--- so a geometry of which the body after its header and the size are right is sure
+-- a geometry is sure if its body is sure and its size is true
 pub geometry_sure : (head : Head) (depth : ℕ) (above : Option Frame) (r mid new : Reading) (vertices : ℕ) → 1 ≤ depth → depth ≤ deepest → IsSound r → IsHeadAt head depth r.place (passed r mid) → IsMoved r mid
     → IsSureBehind (deepest - depth) head above mid new vertices → None ≡ size_judged head.size new.place → IsSure (deepest - depth) above r new vertices
 unfolding vertices_of
@@ -313,7 +313,7 @@ m_wider : (z m : Option ℕ) (inner outer : RawBox) (c : Option ℤ) → LiesInA
 m_wider None m inner outer c lies h = both_wider m inner.third outer.third c lies.m_in h
 m_wider (Some p) m inner outer c lies h = both_wider m inner.fourth outer.fourth c lies.m_in h
 
--- what a box holds that lies in another, the other holds
+-- a box holds all vertices that a box inside it holds
 pub holds_wider : (xy : ℤ) (z m : Option ℕ) (inner outer : RawBox) → LiesInAll z m inner outer → (vs : List Vertex) → All (Holds (raw_bounds xy z m inner)) vs → All (Holds (raw_bounds xy z m outer)) vs
 holds_wider xy z m inner outer lies [] all = All-nil (Holds (raw_bounds xy z m outer))
 holds_wider xy z m inner outer lies (v ∷ vs) all =
@@ -325,7 +325,7 @@ holds_wider xy z m inner outer lies (v ∷ vs) all =
       m = m_wider z m inner outer v.m lies one.m;
     }) (holds_wider xy z m inner outer lies vs (All-tail (Holds (raw_bounds xy z m inner)) v vs all))
 
--- precisions that don't differ
+-- precisions that don't differ are equal
 option_same : (a b : Option ℕ) → false ≡ not (option_eq (λ (m n : ℕ). m == n) a b) → a ≡ b
 option_same None None e = refl
 option_same None (Some n) e = absurd (cc (e))
@@ -336,11 +336,11 @@ option_same (Some m) (Some n) e = ap Some (eqb-true m n (not_false (m == n) e))
     not_false true e = refl
     not_false false e = absurd (cc (e))
 
--- a frame at the precisions of a header
+-- a frame whose precisions don't differ from a header's is at the header's precisions
 pub framed_same : (frame : Frame) (head : Head) → frame.xy ≡ head.xy → false ≡ not (option_eq (λ (m n : ℕ). m == n) frame.z head.z) → false ≡ not (option_eq (λ (m n : ℕ). m == n) frame.m head.m) → frame ≡ framed head frame.bounds
 framed_same frame head xy z m = λ j. record { xy = xy j; z = option_same frame.z head.z z j; m = option_same frame.m head.m m j; bounds = frame.bounds }
 
--- a frame in that above, at the precisions of its header
+-- a frame of its own that lies in the frame above, at the precisions of its header, is the frame
 pub frame_inside : (outer inner : Frame) (head : Head) → outer ≡ framed head outer.bounds → IsFramed head inner → LiesInAll head.z head.m inner.bounds outer.bounds → IsFrameUnder (Some outer) head (Some inner) (Some inner)
 frame_inside outer inner head same own lies = record {
   framed = own;
@@ -353,7 +353,7 @@ frame_inside outer inner head same own lies = record {
 pub frame_above : (frame : Frame) (head : Head) → IsFramed head frame → IsFrameUnder (Some frame) head None (Some frame)
 frame_above frame head is = record { framed = is; own_is = tt; above_holds = λ vs held. held; holds = λ vs own above. above }
 
--- a frame under none
+-- if there is no frame above, a geometry's own frame is the frame
 pub frame_alone : (head : Head) (own : Option Frame) → IfSome own (IsFramed head) → IsFrameUnder None head own own
 frame_alone head own is = record { framed = is; own_is = itself own; above_holds = λ vs held. tt; holds = λ vs held above. held }
   where

@@ -1,4 +1,4 @@
--- What a pass sums up of a tree: the vertices, their reach, and the first claim that is false.
+-- The summary of a tree: the number of its vertices, their reach, and the first claim that is false.
 use Rattle.std.specs.Prelude.{ℕ, ◌+◌, ◌-◌, ◌≤◌, ⊤, ◌==◌, Bool, cond, List, [], length, map, ℤ, Option, Some, None}
 use Rattle.twkb_head.specs.Header.{Header}
 use Rattle.twkb_head.specs.Head.{bounds_of}
@@ -6,29 +6,29 @@ use Rattle.twkb_body.specs.Geometry.{Geometry, Members, geometry, none, more, Le
 use Rattle.twkb_body.specs.Extent.{Reach, reach_of, both}
 use Rattle.twkb_body.specs.Devices.Pass.{Refused, Summary, false_at, first, ids_refused, is_tight, is_within}
 
--- nothing was read
+-- the summary of no geometry
 abbrev pub nothing : Summary
 nothing = record { count = 0; reach = reach_of []; refused = None }
 
--- one summary after another
+-- the summary of two parts, one after the other
 abbrev pub after : Summary → Summary → Summary
 after a b = record { count = a.count + b.count; reach = both a.reach b.reach; refused = first a.refused b.refused }
 
--- ---- the pass: what is false of the geometry itself stands before what is false below it
+-- ---- false claims: a geometry's own come before the ones below it
 
--- the size, if it is false
+-- the claim of the size, if it is false
 abbrev pub size_refused : ℕ → Lengths → Option ℕ → Refused
 size_refused start l None = None
 size_refused start l (Some n) = false_at (n == l.whole - (l.before + l.size)) (start + l.before) 6
 
--- the box, if it is false, or in tight checking not tight
+-- the claim of the box, if it is false, or in tight checking if the box is loose
 abbrev pub box_refused : Bool → ℕ → Header → Reach → Option (List (ℤ × ℤ)) → Refused
 box_refused tight at h reach None = None
 box_refused tight at h reach (Some ranges) =
     first (false_at (is_within reach (bounds_of h.xy h.z h.m ranges)) at 7)
     (cond tight (false_at (is_tight h.xy h.z h.m (bounds_of h.xy h.z h.m ranges) reach) at 9) None)
 
--- the geometry whose own points have these ranges, over what its members sum to
+-- the summary of a geometry, from the number and the reach of its own points and the summary of its members
 abbrev pub over : Bool → Header → Lengths → Option (List ℤ) → ℕ → ℕ → Reach → Summary → Summary
 over tight h l ids start count own below =
     let reach = both own below.reach in
@@ -54,13 +54,13 @@ abbrev pub member_total : Members → ℕ
 member_total none = 0
 member_total (more g gs) = (lengths_of g).whole + member_total gs
 
--- one member more at the end
+-- members, with one more at the end
 abbrev pub pushed : Members → Geometry → Members
 pushed none g = more g none
 pushed (more f gs) g = more f (pushed gs g)
 
 unfoldable mutual
-  -- size and box stand in the header, ids behind the count, and the members behind the ids, within the whole
+  -- size and box are in the header, the ids after the count, and the members after the ids, within the whole
   pub HasOrder : Geometry → Type 0
   HasOrder (geometry h l ids polygons members) =
       (l.before + l.size ≤ l.header) × (l.count ≤ l.list) × (l.header + l.list + member_total members ≤ l.whole) × HaveOrder members

@@ -10,7 +10,7 @@ use Rattle.twkb_body.specs.Geometry.{Geometry, Members, geometry, none, more, Le
 use Rattle.twkb_body.specs.Encoding.{BlobUnder, BlobsUnder, IsBody, IsNumbers, IsPoint, IsRing, IsPolygon, IsPart}
 use Rattle.twkb_body.proofs.PartPlans.{flat_single}
 
--- ---- numbers: a point has a byte
+-- ---- numbers: a point has at least a byte
 
 sequence_few : {A : Type 0} (P : A → List ℕ → Type 0) (points_in : A → List PointValue) → ((x : A) (bytes : List ℕ) → P x bytes → length (points_in x) ≤ length bytes)
     → (xs : List A) (bytes : List ℕ) → Sequence P xs bytes → length (flat_map points_in xs) ≤ length bytes

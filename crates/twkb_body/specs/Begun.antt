@@ -20,7 +20,7 @@ abbrev pub IsBegunPoint : ℕ → List PointValue → List ℕ → Field → Typ
 IsBegunPoint axes points p due =
     (numbers : List ℤ) × (points ≡ numbers ∷ []) × IsFewer axes numbers p × (due ≡ coordinate_field)
 
--- A count is due; or ids are; or fewer members than the count are whole, and one is begun. The points are those whose
+-- A count is due; or ids are; or fewer members than the count are whole, and one is begun. The points are the ones whose
 -- numbers are in p, the last perhaps in part.
 pub data IsBegunList {A : Type 0} (ids : Bool) (Whole : A → List ℕ → Type 0) (points_in : A → List PointValue)
     (Begun : List PointValue → List ℕ → Field → Type 0) (points : List PointValue) (p : List ℕ) (due : Field)

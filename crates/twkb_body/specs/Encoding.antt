@@ -59,7 +59,7 @@ abbrev pub total : ℕ → List PointValue → ℤ
 total axis [] = pos 0
 total axis (point ∷ points) = coordinate point axis +ℤ total axis points
 
--- In each axis the coordinate of a point is the sum of the numbers up to its own, and lies in 64 bits.
+-- In each axis the coordinate of a point is the sum of the numbers up to its own, and fits 64 bits.
 abbrev pub Accumulates : List PointValue → List PointValue → Type 0
 Accumulates points numbers = (i axis : ℕ) (point : PointValue) (c : ℤ) → slice_get points i ≡ Some point
     → slice_get point axis ≡ Some c → (c ≡ total axis (take (suc i) numbers)) × FitsSigned w64 c

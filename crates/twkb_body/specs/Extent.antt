@@ -10,7 +10,7 @@ abbrev pub span_of : List ℤ → Option Span
 span_of [] = None
 span_of (c ∷ cs) = Some (record { lo = fold int_min c cs; hi = fold int_max c cs })
 
--- the range that both ranges span together; if one is missing, the other
+-- the least range that holds both ranges; if one is missing, the other
 abbrev pub joined : Option Span → Option Span → Option Span
 joined None b = b
 joined (Some a) None = Some a
@@ -36,7 +36,7 @@ reach_of vs = record {
 abbrev pub both : Reach → Reach → Reach
 both a b = record { x = joined a.x b.x; y = joined a.y b.y; z = joined a.z b.z; m = joined a.m b.m }
 
--- what was reached is within the span, if there are both
+-- the span holds the range, if there are both
 abbrev pub IsCovered : Option Span → Option Span → Type 0
 IsCovered None reached = ⊤
 IsCovered (Some span) None = ⊤

@@ -16,8 +16,8 @@ Ring = List PointValue
 abbrev pub PolygonValue : Type 0
 PolygonValue = List Ring
 
--- How many bytes the parts take: those before size and box, the size field, the whole header, the count of members,
--- that count with the ids, and the whole geometry.
+-- How many bytes these take: the fields before size and box, the size field, the whole header, the count of members, the
+-- count with the ids, and the whole geometry.
 pub record Lengths : Type 0 where
   pub before : ℕ
   pub size : ℕ

@@ -1,4 +1,4 @@
--- Where there is no blob, and why.
+-- Why bytes are no blob, and where.
 use Rattle.std.specs.Prelude.{◌≡◌, ℕ, ◌+◌, ◌%◌, ◌≤◌, List, [], ◌∷◌, ◌++◌, length, ◌⊎◌}
 use Rattle.twkb_num.specs.Varint.{Spells, IsCut, IsLong}
 use Rattle.twkb_head.specs.BegunHeader.{Field, type_field, byte_field, number_field, coordinate_field}
@@ -28,11 +28,11 @@ IsWrong Range coordinate_field p f =
     (front behind : List ℕ) × (n : ℕ) × (f ≡ front ++ behind) × Spells front n × (IsViable (p ++ front) → ⊥)
 IsWrong _ _ p f = ⊥
 
--- a kind of field is due after p, and the one that begins at f is wrong
+-- a kind of field is due after p, and the field that begins at f is wrong
 abbrev pub IsFaultAt : Why → List ℕ → List ℕ → Type 0
 IsFaultAt why p f = (due : Field) × IsBegun 1 p due × IsWrong why due p f
 
--- From start on the bytes are no blob: those before the offset are begun, and the field at the offset is wrong.
+-- The bytes from start on begin with no blob: up to the offset a blob is begun, and the field at the offset is wrong.
 pub record IsMalformed (m : Malformed) (start : ℕ) (bytes : List ℕ) : Type 0 where
   pub p : List ℕ
   pub f : List ℕ

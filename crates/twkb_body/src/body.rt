@@ -68,7 +68,7 @@ pub fn enter_flat<V: Visit>(
     }
 }
 
-// The functions that aren't inlined are copies of one, each for the kinds and axes that the compiler knows there.
+// The functions that aren't inlined are copies of `enter_body`, each for the kinds and axes that the compiler knows there.
 
 /// Enters a line of X and Y alone.
 #[inline(never)]
@@ -81,7 +81,7 @@ fn enter_line<V: Visit>(cursor: &mut Cursor, xy: i8, ids: bool, visitor: &mut V)
     enter_body(cursor, Kind::LineString, Axes::flat(xy), ids, visitor)
 }
 
-/// Enters a body of another kind, of X and Y alone.
+/// Enters a body of X and Y alone that is neither a point's nor a line's.
 #[inline(never)]
 fn enter_flat_body<V: Visit>(
     cursor: &mut Cursor,

@@ -1,4 +1,4 @@
-//! Points under one header that are asked for nothing but whether a box of raw numbers holds them all.
+//! Whether a box of raw numbers holds all points under one header, of which nothing else is asked.
 ghost use Rattle.std.specs.Prelude.{◌≡◌, ◌&&◌, ◌≤◌, ◌≤ℤ◌, ◌-ℤ◌, ◌^◌, pos, neg_ℤ, true, ◌↔◌, IsTrue};
 ghost use Rattle.twkb_head.specs.Header.{axes_with};
 ghost use Rattle.twkb_body.specs.Devices.Boxed.{reaches, reaches_if, reach_further, reach_all, is_in_range, is_in_axis, is_in_flat, is_in_further, is_in_box, held_with, IsNearZero, IsClose, IsMet, IsNearRange, IsNearBox, AreNear};
@@ -21,7 +21,7 @@ use twkb_num::Cursor;
 /// Numbers at most this far from zero have distances that fit 64 bits.
 const NEAR: i64 = 1 << 61;
 
-/// A box of raw numbers, and whether it holds the points so far. Its numbers are near.
+/// A box of raw numbers, each near zero, and whether it holds the points so far.
 #[derive(Drop)]
 pub struct Boxed {
     bounds: RawBox,
@@ -142,7 +142,7 @@ impl Boxed {
             };
             across += x_more;
             up += y_more;
-            // Told by where it goes on, and not kept as a value at each point.
+            // The branch tells whether the point is inside, so no value has to be kept at each point.
             if !reach_both(&self.bounds, across, up) {
                 inside = false;
             }
@@ -157,7 +157,7 @@ impl Boxed {
         done
     }
 
-    /// A run of points of three axes or four, in the same way.
+    /// A run of points of three axes or four, one after another.
     #[inline(always)]
     pub fn take_further_run<const AXES: usize>(
         &mut self,
@@ -195,7 +195,7 @@ impl Boxed {
         taken
     }
 
-    /// Whether it holds all points.
+    /// Whether the box holds all points that were added.
     #[inline(always)]
     pub fn is_inside(&self) -> bool
         ensures { result ≡ self.now.inside }
@@ -204,7 +204,7 @@ impl Boxed {
     }
 }
 
-/// Whether a number is near zero.
+/// Whether a number is at most 2^61 from zero.
 #[inline(always)]
 fn is_near(number: i64) -> bool
     ensures { IsTrue result ↔ ((neg_ℤ (pos (2 ^ 61)) ≤ℤ number) × (number ≤ℤ pos (2 ^ 61))) }
@@ -223,8 +223,8 @@ pub fn is_near_range(range: &RawRange) -> bool
     range.extent <= NEAR - range.minimum
 }
 
-/// Whether a distance from a minimum lies within an extent: one comparison, since a negative number is a great one
-/// without its sign.
+/// Whether a distance from a minimum lies within an extent. One comparison does, since a negative number is a great one if it is
+/// taken as unsigned.
 #[inline(always)]
 fn reaches(extent: i64, distance: i64) -> bool
     requires { pos 0 ≤ℤ extent }
@@ -233,7 +233,7 @@ fn reaches(extent: i64, distance: i64) -> bool
     distance.cast_unsigned() <= extent.cast_unsigned()
 }
 
-/// Whether a point is within reach in both axes.
+/// Whether a point at these distances from the minima of a box is in the ranges of X and Y.
 #[inline(always)]
 fn reach_both(bounds: &RawBox, across: i64, up: i64) -> bool
     requires { IsNearBox bounds.now }
@@ -242,7 +242,7 @@ fn reach_both(bounds: &RawBox, across: i64, up: i64) -> bool
     reaches(bounds.x.extent, across) && reaches(bounds.y.extent, up)
 }
 
-/// Whether the ranges behind that of Y are near, and so are the coordinates of a point.
+/// Whether the ranges after Y are near zero, and so are the coordinates of a point. `false` says nothing.
 #[inline(always)]
 fn are_near(bounds: &RawBox, point: &Numbers) -> bool
     ensures { IsTrue result → AreNear bounds.now point.now }
@@ -289,7 +289,7 @@ fn placed(bounds: &RawBox, distances: &Numbers) -> [i64; 4]
     ]
 }
 
-/// Whether the box reaches so far in the axis behind the third, if there is one.
+/// Whether a distance from the minimum of the fourth axis lies within its extent, if there is a fourth axis.
 #[inline(always)]
 fn reaches_fourth(has_fourth: bool, extent: i64, distance: i64) -> bool
     requires { pos 0 ≤ℤ extent }
@@ -298,7 +298,7 @@ fn reaches_fourth(has_fourth: bool, extent: i64, distance: i64) -> bool
     !has_fourth || reaches(extent, distance)
 }
 
-/// Whether the box reaches so far in the axes behind that of Y.
+/// Whether distances from the minima of a box lie within its extents in the axes after Y.
 #[inline(always)]
 fn reach_further(bounds: &RawBox, has_fourth: bool, distances: &Numbers) -> bool
     requires third { IsNearRange bounds.now.third }
@@ -309,7 +309,7 @@ fn reach_further(bounds: &RawBox, has_fourth: bool, distances: &Numbers) -> bool
         && reaches_fourth(has_fourth, bounds.fourth.extent, distances.fourth)
 }
 
-/// Whether the box reaches so far in each axis.
+/// Whether distances from the minima of a box lie within its extents in all axes.
 #[inline(always)]
 fn reach_all(bounds: &RawBox, has_fourth: bool, distances: &Numbers) -> bool
     requires bounds { IsNearBox bounds.now }

@@ -1,4 +1,4 @@
-//! Why the first reading of a blob ended.
+//! [`Doubt`], the reasons why the first reading doesn't certify a blob.
 ghost use Rattle.std.specs.Prelude.{◌≡◌};
 ghost use Rattle.twkb_body.specs.Devices.Sure.{doubt_of};
 ghost use Rattle.twkb_body.specs.declared.doubt.Doubt.TheVariants.{Refused as IsRefused};

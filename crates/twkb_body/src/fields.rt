@@ -1,4 +1,4 @@
-//! The numbers of a body, each read by itself, as those of a header are.
+//! The numbers of a body, each read by itself.
 ghost use Rattle.std.specs.Prelude.{◌≡◌};
 ghost use Rattle.twkb_head.specs.Shared.Reader.{number_at, signed_at};
 

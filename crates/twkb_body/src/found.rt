@@ -1,4 +1,4 @@
-//! What one pass carries of what it has read, and the judging of claims.
+//! [`Found`], what the exact audit keeps of the geometries it has read, and the judging of claims.
 ghost use Rattle.std.specs.Prelude.{◌≡◌, ◌+◌, ◌^◌, ◌<◌, ◌≤◌, IfSome, None};
 ghost use Rattle.twkb_body.specs.Devices.Inside.{of_head};
 ghost use Rattle.twkb_body.specs.Devices.Pass.{first, false_at, is_tight};
@@ -10,7 +10,7 @@ use crate::answers::Claim;
 use crate::extent::Extent;
 use twkb_head::{BoxField, Head, SizeField};
 
-/// A claim that is false, and where it stands.
+/// A claim that is false, and its offset.
 #[derive(Clone, Copy, Debug, PartialEq, Eq)]
 pub struct FalseClaim {
     pub offset: usize,
@@ -25,7 +25,7 @@ pub struct Found {
 }
 
 impl Found {
-    /// Nothing read.
+    /// The result of reading nothing.
     #[inline(always)]
     pub fn nothing() -> Found
         ensures vertices { result.vertices ≡ 0 }
@@ -37,7 +37,7 @@ impl Found {
         }
     }
 
-    /// What was found, and what was found behind it.
+    /// What was found in two parts, one after the other.
     #[inline(always)]
     pub fn then(self, next: Found) -> Found
         requires { self.vertices + next.vertices < 2 ^ 64 }
@@ -51,7 +51,7 @@ impl Found {
     }
 }
 
-/// The size, if it is false of a geometry that ends at `stop`.
+/// The claim of the size, if it is false of a geometry that ends at `stop`.
 #[inline(always)]
 pub fn judge_size(size: Option<SizeField>, stop: usize) -> Option<FalseClaim>
     requires { IfSome size (λ size. size.after ≤ stop) }
@@ -59,7 +59,7 @@ pub fn judge_size(size: Option<SizeField>, stop: usize) -> Option<FalseClaim>
 {
     match size {
         Some(size) => {
-            // Where the size says that the geometry ends, even beyond 64 bits. An end that is true is summed up once this way.
+            // The end by the size. A sum beyond 64 bits wraps to a place before `after`, so it isn't `stop`.
             let end = (size.after as u64).wrapping_add(size.value);
             claimed(end == stop as u64, size.offset, Claim::Size)
         }
@@ -67,7 +67,7 @@ pub fn judge_size(size: Option<SizeField>, stop: usize) -> Option<FalseClaim>
     }
 }
 
-/// The box, if some vertex of this extent is outside, or in tight checking if it is loose.
+/// The claim of the box, if some vertex of this extent is outside, or in tight checking if the box is loose.
 #[inline(always)]
 pub fn judge_box(head: &Head, extent: &Extent, tight: bool) -> Option<FalseClaim>
     requires precisions { HasPrecisions head.now }
@@ -86,7 +86,7 @@ pub fn judge_box(head: &Head, extent: &Extent, tight: bool) -> Option<FalseClaim
     }
 }
 
-/// The box, if it is loose at the precisions of its header.
+/// The claim that the box isn't loose, if it is loose at the precisions of its header.
 #[inline(always)]
 fn judge_tight(head: &Head, field: &BoxField, extent: &Extent) -> Option<FalseClaim>
     requires precisions { HasPrecisions head.now }

@@ -1,4 +1,4 @@
-//! The box that the vertices of a geometry have to lie in: its own, or that of a geometry above.
+//! The box that the vertices of a geometry have to lie in: its own, or the box of a geometry above.
 ghost use Rattle.std.specs.Prelude.{◌≡◌, ◌≤◌, IfSome, IsTrue, not, option_map};
 ghost use Rattle.twkb_num.specs.Units.{IsPrecision};
 ghost use Rattle.twkb_head.specs.Raw.{raw_bounds};
@@ -9,7 +9,7 @@ ghost use Rattle.twkb_body.specs.Devices.Walk.{HasPrecisions};
 use crate::boxed::is_near_range;
 use twkb_head::{Axes, Bounds, Head, RawBox, RawRange};
 
-/// A box of raw numbers, and the precisions that they have, for the axes that there are.
+/// A box of raw numbers, and the precision of each axis that there is.
 #[derive(Clone, Copy, Debug)]
 pub struct Frame {
     pub xy: i8,
@@ -20,8 +20,8 @@ pub struct Frame {
 
 impl Frame {
     /// The frame of a geometry: its own box or, if it has none, the frame above. `None` if this can't be told. Then its box has
-    /// numbers far from zero or a negative extent. Or there is a frame above, and this has other axes or precisions, or doesn't
-    /// contain the box.
+    /// numbers far from zero or a negative extent. Or there is a frame above, and that frame has other axes or precisions, or
+    /// doesn't contain the box.
     #[inline(always)]
     pub fn under(above: &Option<Frame>, head: &Head, own: &Option<RawBox>) -> Option<Option<Frame>>
         requires near { IfSome above.now IsNearFrame }

@@ -1,5 +1,4 @@
-//! Points of three axes or four that are asked whether a box holds them. What is compiled for one number of axes has no code for
-//! another.
+//! Whether a box holds points of three axes or four. What is compiled for one number of axes has no code for the other.
 ghost use Rattle.std.specs.Prelude.{◌≡◌};
 
 use crate::boxed::Boxed;
@@ -8,7 +7,7 @@ use crate::trail::Trail;
 use twkb_head::Head;
 use twkb_num::Cursor;
 
-/// A box, and points of so many axes, three or four.
+/// A box, and whether it holds points of `AXES` axes, three or four.
 #[derive(Drop)]
 pub struct Further<const AXES: usize> {
     pub boxed: Boxed,

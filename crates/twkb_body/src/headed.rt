@@ -61,7 +61,7 @@ pub fn read_and_pass(cursor: &mut Cursor) -> Fields
     raw
 }
 
-/// The header at the place of a certified blob.
+/// Reads the header at the place of a certified blob.
 #[inline(always)]
 fn take_header(cursor: &mut Cursor) -> Fields
     requires { (g : Geometry) × StandsAt g 1 cursor.old.bytes cursor.old.place }
@@ -83,7 +83,7 @@ fn take_header(cursor: &mut Cursor) -> Fields
     finish_header(cursor, begun)
 }
 
-/// The header whose first two bytes were read.
+/// Reads the rest of a certified header after its first two bytes.
 #[inline(always)]
 fn finish_header(cursor: &mut Cursor, begun: Begun) -> Fields
     requires xy { IsPrecision begun.xy }
@@ -98,7 +98,7 @@ fn finish_header(cursor: &mut Cursor, begun: Begun) -> Fields
     raw
 }
 
-/// The rest of a blob behind its header.
+/// Shows the vertices of a certified blob to a visitor, after its header.
 #[inline(always)]
 fn skim_behind<V: Visit>(cursor: &mut Cursor, raw: Fields, visitor: &mut V)
     requires axes { HavePrecisions raw.axes }

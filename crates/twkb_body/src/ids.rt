@@ -1,4 +1,4 @@
-//! Whether the ids of a list are distinct.
+//! Whether the ids of a list are distinct, judged by sorting them.
 ghost use Rattle.std.specs.Prelude.{◌≡◌, ◌≢◌, ◌↔◌, ◌+◌, ◌<◌, ℕ, length, slice_index_or, IsTrue, AllPairs};
 ghost use Rattle.std.specs.List.Sorted.{IsPermutation, IsSorted};
 ghost use Rattle.std.specs.Ordering.{int_cmp};

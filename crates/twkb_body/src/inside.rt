@@ -1,4 +1,4 @@
-//! What is inside a geometry, and the geometry over it.
+//! What was found inside a geometry, and the result for the whole geometry.
 ghost use Rattle.std.specs.Prelude.{◌≡◌, ◌≤◌, IfSome};
 ghost use Rattle.twkb_body.specs.Devices.Pass.{first};
 ghost use Rattle.twkb_body.specs.Devices.Found.{named, size_judged};
@@ -6,7 +6,7 @@ ghost use Rattle.twkb_body.specs.Devices.Found.{named, size_judged};
 use crate::found::{FalseClaim, Found, judge_size};
 use twkb_head::SizeField;
 
-/// What was found in a body; and the box and the ids of its geometry, if they are false of it.
+/// What was found in a body, and the claims of its geometry's box and ids, if they are false.
 #[derive(Clone, Copy, Debug)]
 pub struct Inside {
     pub found: Found,
@@ -15,7 +15,7 @@ pub struct Inside {
 }
 
 impl Inside {
-    /// The geometry, which ends at `stop`: what is false of itself stands before what is false inside.
+    /// What was found of the geometry, which ends at `stop`. Its own claims have lesser offsets than the claims inside.
     #[inline(always)]
     pub fn judged(self, size: Option<SizeField>, stop: usize) -> Found
         requires { IfSome size (λ size. size.after ≤ stop) }

@@ -1,4 +1,4 @@
-//! Ranges of a box that are known to stand at the place.
+//! Ranges of the box of a certified geometry, which are known to be at the place.
 ghost use Rattle.std.specs.Prelude.{◌≡◌, ◌≢◌, ◌+ℤ◌, Ok, Err, true};
 ghost use Rattle.twkb_num.specs.Cursor.{Reading};
 ghost use Rattle.twkb_head.specs.Raw.{ends_of, IsNear};
@@ -11,7 +11,7 @@ use twkb_head::RawRange;
 use twkb_num::Cursor;
 
 /// Reads minimum and extent of an axis, and says whether both are known to be near zero.
-// Numbers of at most four bytes are. So the compiler knows it where they are read from one word.
+// Numbers of at most four bytes are near zero, so the compiler knows the answer where they are read from one word.
 #[inline(always)]
 pub fn known_range(cursor: &mut Cursor) -> (RawRange, bool)
     requires { (m : Malformed) (new : Reading) → range_from cursor.old ≢ (Err m, new) }
@@ -27,7 +27,7 @@ pub fn known_range(cursor: &mut Cursor) -> (RawRange, bool)
     }
 }
 
-/// Moves past minimum and extent of an axis: by their ends, where both show in the next eight bytes.
+/// Moves past minimum and extent of an axis, by their ends if both end in the next eight bytes.
 #[inline(always)]
 pub fn pass_range(cursor: &mut Cursor)
     requires { (m : Malformed) (new : Reading) → range_from cursor.old ≢ (Err m, new) }

@@ -1,4 +1,4 @@
-//! The count of a list, and its ids: judged by an audit, passed by a skim.
+//! Reading the count and the ids of a list: an audit judges the ids, and a skim passes them.
 ghost use Rattle.std.specs.Prelude.{◌≡◌, ◌↔◌, ◌≢◌, ◌+◌, ◌≤◌, ◌<ℤ◌, ℕ, ℤ, List as ListOf, IsTrue, AllPairs, OnSome, Ok};
 ghost use Rattle.twkb_num.specs.Cursor.{rest};
 ghost use Rattle.twkb_head.specs.Shared.Reader.{signeds_at, Reads};
@@ -14,14 +14,14 @@ use crate::stopped::Stopped;
 use twkb_head::Malformed;
 use twkb_num::Cursor;
 
-/// A count, and, where ids are announced, the ids, if they are not distinct.
+/// A count, and the claim of the ids, if ids are announced and aren't distinct.
 #[derive(Clone, Copy, Debug)]
 pub struct List {
     pub count: u64,
     pub ids: Option<FalseClaim>,
 }
 
-/// The count of a list and its ids, where they are announced.
+/// Reads the count of a list, and its ids if they are announced.
 #[tactic(auto, unfolding(crate::specs::Devices::BodyReader::list_at))]
 #[inline(always)]
 pub fn take_list<R: IdRoom>(
@@ -45,8 +45,8 @@ pub fn take_list<R: IdRoom>(
     }
 }
 
-/// The count of a list, and past its ids, where they are announced.
-// It isn't inlined: what goes on after it would be too large to be inlined itself.
+/// Reads the count of a list, and moves past its ids if they are announced.
+// It isn't inlined, since the functions that call it would be too large to be inlined themselves.
 #[inline(never)]
 #[tactic(auto, unfolding(crate::specs::Devices::BodyReader::list_at))]
 pub fn pass_list(cursor: &mut Cursor, has_ids: bool) -> Result<u64, Malformed>
@@ -59,7 +59,7 @@ pub fn pass_list(cursor: &mut Cursor, has_ids: bool) -> Result<u64, Malformed>
     Ok(count)
 }
 
-/// Past so many ids.
+/// Moves past `count` ids.
 #[inline(always)]
 fn pass_ids(cursor: &mut Cursor, count: u64) -> Result<(), Malformed>
     ensures { Reads (signeds_at count cursor.old) (λ ids done. Unit {0}) result cursor.new }

@@ -10,9 +10,9 @@ use twkb_num::Cursor;
 pub struct Numbers {
     pub x: i64,
     pub y: i64,
-    /// That of Z where there is one, else that of M.
+    /// The number of Z if there is one, else the number of M.
     pub third: i64,
-    /// That of M where there is a Z too.
+    /// The number of M if there is a Z too.
     pub fourth: i64,
 }
 
@@ -45,8 +45,8 @@ impl Numbers {
     }
 }
 
-/// The differences of the point at the place, which has three axes or four, if words of eight bytes show them and they are
-/// short. Else `None`, and the cursor is as it was.
+/// Reads the differences of the point at the place, which has three axes or four, if a vector or words of eight bytes show them
+/// and they are short. Else `None`, and the cursor is as it was.
 #[inline(always)]
 pub fn take_differences<const AXES: usize>(cursor: &mut Cursor) -> Option<Numbers>
     ensures some { IfSome result (λ more. AreDifferences (is_four AXES) more cursor.old cursor.new) }
@@ -59,7 +59,7 @@ pub fn take_differences<const AXES: usize>(cursor: &mut Cursor) -> Option<Number
     }
 }
 
-/// The differences of a point of four axes: two pairs.
+/// Reads the differences of a point of four axes: two pairs.
 #[inline(always)]
 fn take_four(cursor: &mut Cursor) -> Option<Numbers>
     ensures some { IfSome result (λ more. AreDifferences true more cursor.old cursor.new) }
@@ -74,7 +74,7 @@ fn take_four(cursor: &mut Cursor) -> Option<Numbers>
     })
 }
 
-/// The differences of a point of three axes: a pair, and a number after it.
+/// Reads the differences of a point of three axes: a pair, and a number after it.
 #[inline(always)]
 fn take_three(cursor: &mut Cursor) -> Option<Numbers>
     ensures some { IfSome result (λ more. AreDifferences false more cursor.old cursor.new) }

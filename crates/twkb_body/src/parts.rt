@@ -1,5 +1,5 @@
-//! The parts of a body that is no collection's: points, lines and polygons. The first reading and the exact audit both read them
-//! here, and differ in what they add the points to.
+//! Reading the parts of a body that is no collection's: points, lines and polygons. The first reading and the exact audit both
+//! read them here, and differ in what they add the points to.
 ghost use Rattle.std.specs.Prelude.{◌≡◌, flat_map};
 ghost use Rattle.twkb_head.specs.Shared.Reader.{many_at};
 ghost use Rattle.twkb_body.specs.Devices.Body.{ring_sums};
@@ -35,7 +35,7 @@ pub fn take_parts<P: Points>(
     Ok(())
 }
 
-/// A point, a line or a polygon, as the kind has it.
+/// Reads one part: a point, a line or a polygon, by the kind.
 #[inline(always)]
 fn take_part<P: Points>(
     cursor: &mut Cursor,
@@ -57,7 +57,7 @@ fn take_part<P: Points>(
     }
 }
 
-/// The rings of a polygon.
+/// Reads the rings of a polygon.
 #[inline(always)]
 fn take_polygon<P: Points>(
     cursor: &mut Cursor,
@@ -78,7 +78,7 @@ fn take_polygon<P: Points>(
     Ok(())
 }
 
-/// The points of a ring, or of a line.
+/// Reads the points of a ring, or of a line.
 #[inline(always)]
 fn take_ring<P: Points>(
     cursor: &mut Cursor,

@@ -1,4 +1,4 @@
-//! The visitor that looks at nothing.
+//! [`Passer`], the visitor that looks at nothing.
 ghost use Rattle.std.specs.Prelude.{◌≡◌};
 ghost use Rattle.twkb_num.specs.Units.{IsPrecision};
 ghost use Rattle.twkb_body.specs.Geometry.{HavePrecisions};

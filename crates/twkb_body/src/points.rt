@@ -1,4 +1,4 @@
-//! What is done with the points under one header.
+//! [`Points`], the trait of what the points under one header are added to.
 ghost use Rattle.std.specs.Prelude.{◌≡◌, ◌≤◌};
 ghost use Rattle.twkb_head.specs.Header.{Header};
 ghost use Rattle.twkb_body.specs.Geometry.{PointValue};
@@ -11,7 +11,7 @@ use twkb_num::Cursor;
 
 /// What the points under one header are added to, in reading order.
 pub trait Points {
-    /// What the points change.
+    /// The type of the state that points change.
     ghost State: { Type 0 };
 
     ghost state: { Self → State };
@@ -19,13 +19,13 @@ pub trait Points {
     /// The state after a point, by the axes and the precisions of a header.
     ghost step: { Header → State → PointValue → State };
 
-    /// One point more: its coordinates in the order of the axes.
+    /// Adds one point, by its coordinates in the order of the axes.
     fn add(&mut self, head: &Head, point: &[i64; 4])
         requires precisions { HasPrecisions head.now }
         ensures { state self.new ≡ step (of_head head.now) (state self.old) point.now };
 
-    /// Reads some of the points at the place, `most` of them or fewer, from words of eight bytes. Returns how many it read, which
-    /// may be none.
+    /// Reads some of the points at the place, `most` of them or fewer, by words of eight bytes or by vectors. Returns how many it
+    /// read, which may be none.
     fn take_run(
         &mut self,
         cursor: &mut Cursor,

@@ -10,7 +10,7 @@ ghost use Rattle.twkb_body.specs.Devices.Quads.{lanes_at, IsInLane, IsMetInLane,
 use std::simd::prelude::*;
 
 /// Distances from -2^30 on and below 2^30 stay within a lane for four short differences.
-const NEAR: i64 = 1 << 30;
+const IN_LANE: i64 = 1 << 30;
 
 /// The last of some points, and whether a box holds them all.
 #[derive(Clone, Copy)]
@@ -25,7 +25,7 @@ pub struct Reached {
 pub fn is_in_lane(distance: i64) -> bool
     ensures { IsTrue result → IsInLane distance }
 {
-    -NEAR <= distance && distance < NEAR
+    -IN_LANE <= distance && distance < IN_LANE
 }
 
 /// Whether distances within an extent are told in lanes.
@@ -33,7 +33,7 @@ pub fn is_in_lane(distance: i64) -> bool
 pub fn is_lane_extent(extent: i64) -> bool
     ensures { IsTrue result → IsLaneExtent extent }
 {
-    0 <= extent && extent < NEAR
+    0 <= extent && extent < IN_LANE
 }
 
 /// Two distances in lanes, twice.

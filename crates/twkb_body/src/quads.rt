@@ -6,7 +6,7 @@ use crate::positions::{Reached, four_more, two_more};
 use std::simd::prelude::*;
 use twkb_num::Cursor;
 
-/// How many points were read, and what they reached.
+/// How many points were read, where the last one is, and whether the box holds them all.
 #[derive(Clone, Copy)]
 pub struct Step {
     pub points: u64,

@@ -1,4 +1,4 @@
-//! The least and the greatest raw coordinate of each axis of one header.
+//! [`Ranges`], the least and the greatest raw coordinate of each axis of one header.
 //!
 //! Raw coordinates have 64 bits and one precision per axis, so within a header two comparisons serve a coordinate, with
 //! no 128-bit arithmetic; the ends are scaled to units once.
@@ -48,7 +48,7 @@ impl Range {
         }
     }
 
-    /// One coordinate more.
+    /// Adds one coordinate.
     #[inline(always)]
     pub fn add(&mut self, coordinate: i64)
         ensures { self.new ≡ joined self.old (span_of (coordinate ∷ [])) }
@@ -57,7 +57,7 @@ impl Range {
         self.greatest = self.greatest.max(coordinate);
     }
 
-    /// The coordinate of an axis of a point more, where the axis has a precision.
+    /// Adds the coordinate of a point on an axis, if the axis has a precision.
     #[inline(always)]
     pub fn add_if(&mut self, precision: Option<u8>, point: &[i64; 4], axis: usize)
         requires { axis ≤ 3 }
@@ -129,7 +129,7 @@ impl Ranges {
         }
     }
 
-    /// All of them in units, by the precisions of the header.
+    /// The ranges of all axes in units, by the precisions of the header.
     #[inline(always)]
     pub fn in_units(&self, xy: i8, z: Option<u8>, m: Option<u8>) -> Extent
         requires xy { IsPrecision xy }
@@ -164,7 +164,7 @@ impl Points for Ranges {
         self.m.add_if(head.m, point, head.m_axis());
     }
 
-    // Only the exact audit comes here, which needn't be fast: its points are taken one by one.
+    // Only the exact audit keeps ranges, and it needn't be fast, so its points are read one by one.
     #[inline(always)]
     fn take_run(
         &mut self,

@@ -9,7 +9,7 @@ use smallvec::SmallVec;
 use std::alloc::Allocator;
 use twkb_num::Cursor;
 
-/// What the ids of one list are held in while they are judged.
+/// The room in which the ids of one list are held while they are judged.
 pub trait IdRoom {
     /// Reads `count` ids, and returns whether they are distinct.
     fn take_ids(&mut self, cursor: &mut Cursor, count: u64) -> Result<bool, Stopped>
@@ -32,7 +32,7 @@ impl IdRoom for &mut [i64] {
     }
 }
 
-/// The ids of a list in memory that grows as they are read. They are freed when they are judged.
+/// Reads and judges the ids of a list in memory that grows as they are read, and frees it.
 fn take_grown<A: Allocator>(alloc: &A, cursor: &mut Cursor, count: u64) -> Result<bool, Stopped>
     ensures { ReadsIds count cursor.old result cursor.new }
 {
@@ -52,7 +52,7 @@ fn take_grown<A: Allocator>(alloc: &A, cursor: &mut Cursor, count: u64) -> Resul
     Ok(are_distinct(&mut ids))
 }
 
-/// The ids of a list in at least sixteen places that are lent.
+/// Reads and judges the ids of a list in places that are lent, at least sixteen of them.
 fn take_lent(ids: &mut [i64], cursor: &mut Cursor, count: u64) -> Result<bool, Stopped>
     requires { 16 ≤ length ids.old }
     ensures { ReadsIds count cursor.old result cursor.new }

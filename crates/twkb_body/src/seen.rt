@@ -1,11 +1,11 @@
-//! The vertices that boxes have to hold, handed up to the geometries that have one.
+//! [`Seen`], the extent of vertices, handed up to the geometries with a box that has to hold them.
 ghost use Rattle.std.specs.Prelude.{◌≡◌, ◌||◌, [], false};
 ghost use Rattle.twkb_body.specs.Extent.{reach_of};
 ghost use Rattle.twkb_body.specs.Devices.Seen.{HasSeen};
 
 use crate::extent::Extent;
 
-/// The extent of what was read below a geometry, if a box there or above asks for it; else it says nothing.
+/// The extent of the vertices that were read below a geometry, if a box there or above asks for it; else it says nothing.
 #[derive(Clone, Copy, Debug)]
 pub struct Seen {
     pub asked: bool,
@@ -13,7 +13,7 @@ pub struct Seen {
 }
 
 impl Seen {
-    /// For a geometry with no other above it.
+    /// Nothing seen yet, for a blob, which has no box above it.
     #[inline(always)]
     pub fn unasked() -> Seen
         ensures { result.asked ≡ false }
@@ -24,7 +24,7 @@ impl Seen {
         }
     }
 
-    /// For the members of a geometry, which may have a box of its own.
+    /// Nothing seen yet of the members of a geometry; `boxed` says that it has a box of its own.
     #[inline(always)]
     pub fn for_members(&self, boxed: bool) -> Seen
         ensures asked { result.asked ≡ (self.now.asked || boxed) }
@@ -36,7 +36,7 @@ impl Seen {
         }
     }
 
-    /// The vertices of one geometry more.
+    /// Adds the extent of a geometry, if a box asks for it.
     #[inline(always)]
     pub fn show(&mut self, extent: &Extent)
         ensures { HasSeen self.old self.new extent.now }

@@ -1,4 +1,4 @@
-//! Points that are known to stand at the place, passed by the ends of their numbers. No coordinate is computed.
+//! Passing points of a certified body by the ends of their numbers. No coordinate is computed.
 ghost use Rattle.std.specs.Prelude.{◌≡◌, List, Ok};
 ghost use Rattle.twkb_num.specs.Cursor.{Reading};
 ghost use Rattle.twkb_head.specs.Shared.Reader.{many_at};
@@ -9,7 +9,7 @@ ghost use Rattle.twkb_body.specs.Geometry.{PointValue};
 use crate::fields::take_signed;
 use twkb_num::Cursor;
 
-/// Moves past `count` points: by words of eight bytes, and past a number by itself where they don't tell.
+/// Moves past `count` points, by words of eight bytes. A number whose end they don't show is passed by itself.
 #[inline(always)]
 pub fn pass_known(cursor: &mut Cursor, axes: usize, count: u64)
     requires known { (s : PointValue) × (points : List PointValue) × (stop : Reading)
@@ -18,7 +18,7 @@ pub fn pass_known(cursor: &mut Cursor, axes: usize, count: u64)
         → many_at count add (point_at axes) s cursor.old ≡ (Ok points, stop) → cursor.new ≡ stop }
 {
     cursor.place_is_within();
-    // It fits, since each number has a byte.
+    // The product fits, since each number takes at least a byte.
     let many = count * axes as u64;
     let done = cursor.pass_varints(many);
     if done < many {
@@ -27,7 +27,7 @@ pub fn pass_known(cursor: &mut Cursor, axes: usize, count: u64)
 }
 
 /// Moves past one point.
-// It counts no ends in words, so that what shows a point stays small enough to be inlined.
+// It counts no ends in words, so that the functions which show a point stay small enough to be inlined.
 #[inline(always)]
 pub fn pass_point(cursor: &mut Cursor, axes: usize)
     requires known { (s : PointValue) × (point : PointValue) × (stop : Reading)
@@ -38,7 +38,7 @@ pub fn pass_point(cursor: &mut Cursor, axes: usize)
     pass_rest(cursor, axes as u64);
 }
 
-/// Moves past numbers of which words don't tell the first: past this one by itself, and past more by words.
+/// Moves past `many` numbers: past one by itself, whose end a word doesn't show, then past more by words, and so on.
 #[inline(never)]
 fn pass_rest(cursor: &mut Cursor, many: u64)
     requires known { (stop : Reading) × NumbersLead many cursor.old stop }

@@ -1,8 +1,8 @@
-//! The parts of a body that is known to stand at the place, shown to a visitor: point by point up to where it is settled, and
-//! from there on passed by the ends of their numbers.
+//! Showing the parts of a certified body to a visitor: point by point until it is settled, and from there on the points are
+//! passed by the ends of their numbers.
 //!
-//! `lost` says that the trail isn't kept up any more. That is so after points were passed, which only happens where no point
-//! can change the visitor's state.
+//! `lost` says that the trail isn't kept up any more, because points were passed. This only happens when no point can change the
+//! visitor's state.
 ghost use Rattle.std.specs.Prelude.{◌≡◌, ◌<◌, ◌≤◌, [], ◌∷◌, List, Ok, flat_map};
 ghost use Rattle.twkb_num.specs.Cursor.{Reading};
 ghost use Rattle.twkb_head.specs.Shared.Reader.{many_at};
@@ -21,7 +21,7 @@ use crate::visit::Visit;
 use twkb_head::{Head, Kind};
 use twkb_num::Cursor;
 
-/// Shows `count` points, or fewer where the visitor is settled before. It returns how many it showed.
+/// Shows `count` points, or fewer if the visitor is settled before. It returns how many it showed.
 #[inline(always)]
 fn show_some<V: Visit>(
     cursor: &mut Cursor,

@@ -24,7 +24,7 @@ pub fn enter<V: Visit>(cursor: &mut Cursor, visitor: &mut V) -> u64
         (record { reading = cursor.new; state = V.state visitor.new }) result }
 {
     cursor.place_is_within();
-    // A certified geometry stands at a depth where it may, so a header that may stand at depth 1 is all that is asked.
+    // A certified geometry has an allowed depth, so its header may be read as one at depth 1, where each kind is allowed.
     let Some(begun) = begin_head(cursor, 1) else {
         unreachable!()
     };
@@ -136,7 +136,7 @@ fn hop<V: Visit>(raw: &Fields, visitor: &V) -> Option<usize>
     }
 }
 
-/// Whether the visitor skips a box: asked in raw numbers where they are near zero, and in units elsewhere.
+/// Whether the visitor skips a box. It is asked in raw numbers if they are near zero, and otherwise in units.
 #[inline(always)]
 fn skips<V: Visit>(visitor: &V, axes: Axes, b: &RawBox) -> bool
     requires { HavePrecisions axes }
@@ -149,8 +149,8 @@ fn skips<V: Visit>(visitor: &V, axes: Axes, b: &RawBox) -> bool
     }
 }
 
-/// Enters a geometry that has a size and a box in X and Y, and no other field. Where the range in X tells that it is skipped,
-/// the range in Y is passed by the ends of its numbers.
+/// Enters a geometry that has a size and a box in X and Y, and no other field. If the range in X tells that it is skipped, the
+/// range in Y is passed by the ends of its numbers.
 #[inline(always)]
 fn enter_boxed<V: Visit>(cursor: &mut Cursor, begun: Begun, visitor: &mut V) -> u64
     requires xy { IsPrecision begun.xy }

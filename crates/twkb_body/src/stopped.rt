@@ -1,4 +1,4 @@
-//! Why reading stopped.
+//! [`Stopped`], the reasons why reading stops before the end of a blob.
 ghost use Rattle.std.specs.Prelude.{◌≡◌};
 ghost use Rattle.twkb_body.specs.declared.stopped.Stopped.TheVariants.{Malformed as BadField, Memory as NoMemory};
 

@@ -1,4 +1,4 @@
-//! Points that no box asks for. Their coordinates are summed, since none may leave 64 bits.
+//! Points that no box asks for: their coordinates are only summed, to find one that leaves 64 bits.
 ghost use Rattle.std.specs.Prelude.{◌≤◌};
 ghost use Rattle.twkb_body.specs.Devices.Bare.{unchanged};
 ghost use Rattle.twkb_body.specs.Devices.Walk.{IsRun};
@@ -9,7 +9,7 @@ use crate::vertices::{LONGEST, is_close};
 use twkb_head::Head;
 use twkb_num::Cursor;
 
-/// What points are added to if only their sums are kept. A trail keeps these.
+/// A [`Points`] that keeps nothing: only the sums are needed, and the trail keeps them.
 #[derive(Drop)]
 pub struct Summed;
 
@@ -42,7 +42,7 @@ impl Points for Summed {
 
 /// Sums up points at the place, `most` of them or fewer. It stops before a point with a difference of more than four bytes, or
 /// near the end of the bytes.
-// Both sums are in locals. While differences are short none leaves 64 bits, so none is tested.
+// Both sums are in locals. While differences are short, no sum leaves 64 bits, so none is tested.
 #[inline(always)]
 fn sum_flat_run(cursor: &mut Cursor, most: u64, trail: &mut Trail) -> u64
     requires { trail.old.points ≤ cursor.old.place }

@@ -31,7 +31,7 @@ use twkb_num::Cursor;
 
 /// Reads the blob at the place, and returns how many vertices it has and where it ends. A doubt says that it isn't certified,
 /// or that a list of ids lacks memory.
-// Where a point ends is known by its size, so that the next blob needn't wait for the ends of its numbers.
+// The end of a point is known by its size, so that the next blob needn't wait for the ends of its numbers.
 #[inline(always)]
 pub fn take_blob<R: IdRoom>(room: &mut R, cursor: &mut Cursor) -> Result<(usize, usize), Doubt>
     ensures certified { Certifies 1 None cursor.old (counted_in result) cursor.new }
@@ -58,7 +58,7 @@ pub fn take_blob<R: IdRoom>(room: &mut R, cursor: &mut Cursor) -> Result<(usize,
 /// specification, "Metadata Header").
 const SIZE_ALONE: u8 = 2;
 
-/// The lowest five bits of one that announces no field.
+/// The lowest five bits of a metadata byte that announces no field, of a geometry that isn't empty.
 const NO_FIELD: u8 = 0;
 
 /// Reads a geometry at `depth` after its first two bytes. The frame above has to hold its points.
@@ -161,7 +161,7 @@ fn take_further<R: IdRoom>(
     judged(&head, cursor.place(), vertices)
 }
 
-/// An empty geometry at `depth`, after its first two bytes.
+/// Reads an empty geometry at `depth`, after its first two bytes.
 #[inline(never)]
 fn take_empty(cursor: &mut Cursor, depth: u8, first: u8, metadata: u8) -> Result<usize, Doubt>
     requires shallowest { 1 ≤ depth }
@@ -211,7 +211,7 @@ fn judged(head: &Head, stop: usize, vertices: usize) -> Result<usize, Doubt>
     Ok(vertices)
 }
 
-/// The body of a geometry of X and Y alone.
+/// Reads the body of a geometry of X and Y alone.
 #[cycle(take_flat)]
 #[inline(always)]
 fn take_flat_body<R: IdRoom>(
@@ -237,7 +237,7 @@ fn take_flat_body<R: IdRoom>(
     }
 }
 
-/// The body of a geometry.
+/// Reads the body of a geometry.
 #[cycle(take_flat)]
 #[inline(always)]
 fn take_further_body<R: IdRoom>(
@@ -262,7 +262,7 @@ fn take_further_body<R: IdRoom>(
     }
 }
 
-/// The members of a collection at `depth`.
+/// Reads the members of a collection at `depth`.
 #[cycle(take_flat)]
 #[inline(always)]
 fn take_members<R: IdRoom>(
@@ -298,7 +298,7 @@ fn take_members<R: IdRoom>(
     Ok(vertices)
 }
 
-/// The body of a geometry of X and Y alone that is no collection.
+/// Reads the body of a geometry of X and Y alone that is no collection.
 #[inline(always)]
 fn take_flat_shape<R: IdRoom>(
     room: &mut R,
@@ -328,7 +328,7 @@ fn take_flat_shape<R: IdRoom>(
     }
 }
 
-/// The body of a geometry that is no collection.
+/// Reads the body of a geometry that is no collection.
 #[inline(always)]
 fn take_further_shape<R: IdRoom>(
     room: &mut R,

@@ -12,8 +12,8 @@ use crate::visit::Visit;
 use twkb_head::{Axes, Head, Vertex};
 use twkb_num::{Cursor, units};
 
-/// A sum this far from zero at most stays within 64 bits for so many short differences, of at most 2^27.
-const FAR: i64 = 1 << 62;
+/// From a sum at most this far from zero, `LONGEST` short differences, each at most 2^27, stay within 64 bits.
+const CLOSE: i64 = 1 << 62;
 
 /// No run that is summed up without tests has more points than this.
 pub const LONGEST: u64 = 1 << 34;
@@ -49,17 +49,17 @@ impl<V: Visit> Points for V {
     }
 }
 
-/// Whether a sum is at most so far from zero.
+/// Whether a sum is at most 2^62 from zero.
 #[inline(always)]
 pub fn is_close(sum: i64) -> bool
     ensures { IsTrue result ↔ ((neg_ℤ (pos (2 ^ 62)) ≤ℤ sum) × (sum ≤ℤ pos (2 ^ 62))) }
 {
-    -FAR <= sum && sum <= FAR
+    -CLOSE <= sum && sum <= CLOSE
 }
 
-/// Shows some of the points at the place, and at most so many: those up to the first whose differences take more than four
-/// bytes each, or up to where the visitor is settled.
-// Both sums are in locals. While differences are short none leaves 64 bits, so none is tested.
+/// Shows points at the place, `most` of them or fewer: it stops before a point with a difference of more than four bytes, near
+/// the end of the bytes, and where the visitor is settled. Returns how many it showed.
+// Both sums are in locals. While differences are short, no sum leaves 64 bits, so none is tested.
 #[inline(always)]
 fn show_flat_run<V: Visit>(
     visitor: &mut V,
@@ -100,7 +100,7 @@ fn show_flat_run<V: Visit>(
     done
 }
 
-/// A point of X and Y alone.
+/// Shows a point of X and Y alone.
 #[inline(always)]
 fn show_flat<V: Visit>(visitor: &mut V, head: &Head, x: i64, y: i64)
     requires xy { IsPrecision head.now.xy }
@@ -134,7 +134,7 @@ fn scaled(coordinate: i64, precision: i8) -> i128
     units(i128::from(coordinate), precision)
 }
 
-/// A coordinate of an axis in units, where it has a precision.
+/// A coordinate of an axis in units, if the axis has a precision.
 #[inline(always)]
 fn coordinate_at(coordinate: i64, precision: Option<u8>) -> Option<i128>
     requires { IfSome precision (λ p. p ≤ 7) }

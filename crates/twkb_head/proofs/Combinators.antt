@@ -1,5 +1,5 @@
--- The laws of a plan: which bytes spell a value by it, and where bytes stop in it. Combinators make the laws of a plan of
--- those of its parts, so a format has only to say in its own words what comes of them.
+-- The laws of a plan: which bytes spell a value by it, and where bytes stop in it. Combinators make the laws of a plan from
+-- the laws of its parts, so a format has only to restate the result in its own words.
 use Rattle.std.proofs.Common.{◌≡◌, ℕ, zero, suc, ◌+◌, ◌<◌, Bool, true, false, List, [], ◌∷◌, ◌++◌, length, ℤ, pos, Some, ◌⊎◌, inl, inr, refl, sym, ap, ap₂, subst, subst₂, ◌∙◌, append_assoc, arith, length-append, add_assoc, add-zero}
 use Rattle.std.proofs.lemmas.List.{append-nil}
 use Rattle.twkb_head.specs.Parts.{Then, Sequence, Times, Announced}
@@ -7,14 +7,14 @@ use Rattle.twkb_head.specs.BegunHeader.{Field}
 use Rattle.twkb_head.specs.Shared.Plan.{Plan, done, ask, bind, many, measure, optional}
 use Rattle.twkb_head.proofs.Spelling.{Spelled, Stops}
 
--- What is spelled by a plan, and where bytes stop in it, each in words of the format and back.
+-- Which bytes spell a value by a plan, and where bytes stop in it, each in words of the format and back.
 pub record PlanLaws {A : Type 0} (plan : Plan A) (Is : A → List ℕ → Type 0) (Begun : List ℕ → Field → Type 0) : Type 0 where
   pub spelled : (x : A) (bytes : List ℕ) → Spelled plan x bytes → Is x bytes
   pub spelled_back : (x : A) (bytes : List ℕ) → Is x bytes → Spelled plan x bytes
   pub stops : (p : List ℕ) (due : Field) → Stops plan p due → Begun p due
   pub stops_back : (p : List ℕ) (due : Field) → Begun p due → Stops plan p due
 
--- the same in other words
+-- the laws of a plan, restated in other words
 pub restated : {A : Type 0} {plan : Plan A} {Is Other : A → List ℕ → Type 0} {Begun Behind : List ℕ → Field → Type 0} → PlanLaws plan Is Begun
     → ((x : A) (bytes : List ℕ) → Is x bytes → Other x bytes) → ((x : A) (bytes : List ℕ) → Other x bytes → Is x bytes)
     → ((p : List ℕ) (due : Field) → Begun p due → Behind p due) → ((p : List ℕ) (due : Field) → Behind p due → Begun p due)
@@ -26,7 +26,7 @@ restated laws is is_back begun begun_back = record {
   stops_back = λ p due b. laws.stops_back p due (begun_back p due b);
 }
 
--- a value and, behind its bytes, what depends on it
+-- a value and, after its bytes, a second value that depends on it
 abbrev pub Chain : {A B : Type 0} → (A → List ℕ → Type 0) → (A → B → List ℕ → Type 0) → B → List ℕ → Type 0
 Chain {A} Is Next y bytes = (x : A) × Then (Is x) (Next x y) bytes
 
@@ -34,11 +34,11 @@ pub chained : {A : Type 0} {Is Next : A → List ℕ → Type 0} {bytes : List �
     → (x : A) × Then (Is x) (Next x) bytes
 chained x front rest split is next = (x, (front, rest, split, is, next))
 
--- the value is begun; or it is whole, and what depends on it is begun
+-- the value is begun; or it is whole, and the value that depends on it is begun
 abbrev pub BegunChain : {A : Type 0} → (List ℕ → Field → Type 0) → (A → List ℕ → Type 0) → (A → List ℕ → Field → Type 0) → List ℕ → Field → Type 0
 BegunChain {A} Begun Is Next p due = Begun p due ⊎ ((x : A) × Then (Is x) (λ rest. Next x rest due) p)
 
--- what depends on it in other words
+-- a begun chain, with the value that depends on the first in other words
 pub behind_again : {A Begun : Type 0} {Is Next Other : A → List ℕ → Type 0} {p : List ℕ} → ((x : A) (rest : List ℕ) → Next x rest → Other x rest)
     → Begun ⊎ ((x : A) × Then (Is x) (Next x) p) → Begun ⊎ ((x : A) × Then (Is x) (Other x) p)
 behind_again other (inl b) = inl b
@@ -52,7 +52,7 @@ Made {A} f Is y bytes = (x : A) × (y ≡ f x) × Is x bytes
 abbrev pub Measured : {A : Type 0} → (A → List ℕ → Type 0) → A × ℕ → List ℕ → Type 0
 Measured Is x bytes = Is x.0 bytes × (x.1 ≡ length bytes)
 
--- one plan and then another
+-- bytes that spell a value by one plan and then another spell a value by each, one after the other
 bind_spelled : {A B : Type 0} (p : Plan A) (k : A → Plan B) (y : B) (bytes : List ℕ) → Spelled (bind p k) y bytes
     → (x : A) × Then (Spelled p x) (Spelled (k x) y) bytes
 bind_spelled (done x) k y bytes s = (x, ([], bytes, refl, (refl, refl), s))
@@ -92,7 +92,7 @@ stops_then (ask r next) k x bytes due (front, rest, parts, (a, b, parts', ok, s)
     inr (a, b ++ rest, parts ∙ ap (λ (z : List ℕ). z ++ rest) parts' ∙ append_assoc a b rest, ok, stops_then (next a) k x (b ++ rest) due (b, rest, refl, s, more))
 
 module _ {A B : Type 0} {p : Plan A} {Is : A → List ℕ → Type 0} {Begun : List ℕ → Field → Type 0} where
-  -- the next plan has its laws behind a value that is whole
+  -- the laws of one plan and then another, whose laws hold after a value that is whole
   pub bind_laws_behind : {k : A → Plan B} {Next : A → B → List ℕ → Type 0} {Behind : A → List ℕ → Field → Type 0} → PlanLaws p Is Begun
       → ((x : A) (front : List ℕ) → Is x front → PlanLaws (k x) (Next x) (Behind x)) → PlanLaws (bind p k) (Chain Is Next) (BegunChain Begun Is Behind)
   bind_laws_behind {k} {Next} {Behind} first next = record {
@@ -183,7 +183,7 @@ optional_laws false laws = record {
 }
 optional_laws true laws = restated (done_laws Some laws) (λ x bytes h. h) (λ x bytes h. h) (λ bytes due b. (refl, b)) (λ bytes due b. b.1)
 
--- what holds of each value in the state that those before it leave
+-- Fit holds of each value in the state that the values before it leave
 abbrev pub FitAll : {A S : Type 0} → (S → A → S) → (S → A → Type 0) → S → List A → Type 0
 FitAll after Fit s [] = Unit {0}
 FitAll after Fit s (x ∷ xs) = Fit s x × FitAll after Fit (after s x) xs
@@ -204,7 +204,7 @@ pub record BegunMany {A S : Type 0} (n : ℕ) (after : S → A → S) (Q : A →
   pub begun : B (after_all after s xs) rest due
   pub parts : p ≡ wholes ++ rest
 
--- so many values, each in the state that those before it leave
+-- n values, each in the state that the values before it leave
 abbrev pub AreAll : {A S : Type 0} → (S → A → S) → (A → List ℕ → Type 0) → (S → A → Type 0) → ℕ → S → List A → List ℕ → Type 0
 AreAll after Q Fit n s xs bytes = (length xs ≡ n) × Sequence Q xs bytes × FitAll after Fit s xs
 

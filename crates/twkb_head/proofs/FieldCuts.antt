@@ -17,11 +17,11 @@ ok_is x y e = cc
 pub err_is : {A E : Type 0} (x y : E) → let z : Result A E = Err x in z ≡ Err y → x ≡ y
 err_is x y e = cc
 
--- a field and what is behind it
+-- a field and the bytes after it, or why none can be cut off
 abbrev pub Pieces : Type 0
 Pieces = Result (List ℕ × List ℕ) Why
 
--- what the low bytes of a varint with so much room may spell
+-- the bound of the numbers that a varint of at most room + 1 bytes may spell
 limit : ℕ → ℕ
 limit zero = 2
 limit (suc room) = 128 * limit room
@@ -30,7 +30,7 @@ limit-9 : limit 9 ≡ 2 ^ 64
 unfolding limit
 limit-9 = refl
 
--- one varint with so much room
+-- one varint of at most room + 1 bytes
 record IsShort (room : ℕ) (bytes : List ℕ) : Type 0 where
   form : IsVarintForm bytes
   short : length bytes ≤ suc room
@@ -53,7 +53,7 @@ varint_again (suc room) (b ∷ c ∷ bs) rest s =
     (record { form = s.form.1; short = omega (arith, s.short); fits = omega (arith, s.fits) }) in
     rw e (rw again refl)
 
--- the same fields and what is behind them
+-- the bytes are a front of which P holds, and the rest
 record IsCut (P : List ℕ → Type 0) (bytes front rest : List ℕ) : Type 0 where
   parts : bytes ≡ front ++ rest
   is : P front
@@ -170,7 +170,7 @@ field_cut coordinate_field bytes x e = number_takes bytes x e
 pub field_takes : (f : Field) (bytes : List ℕ) (x : List ℕ × List ℕ) → cut_field f bytes ≡ Ok x → (bytes ≡ x.0 ++ x.1) × IsField f x.0
 field_takes f bytes x e = let c = field_cut f bytes x e in (c.parts, c.is)
 
--- where one field is cut off, another is not
+-- bytes begin with at most one field of a kind
 pub field_once : (f : Field) (a b x y : List ℕ) → IsField f a → IsField f b → a ++ x ≡ b ++ y → (a ≡ b) × (x ≡ y)
 field_once f a b x y h k e =
     let both : (a, x) ≡ (b, y) = ok_is {A = List ℕ × List ℕ} {E = Why} (a, x) (b, y) (sym (field_again f a x h) ∙ ap (cut_field f) e ∙ field_again f b y k) in
@@ -201,7 +201,7 @@ all_each [] h k lt = absurd (omega (arith, lt))
 all_each (b ∷ bs) h zero lt = All-head (λ b. 128 ≤ b) b bs h
 all_each (b ∷ bs) h (suc k) lt = all_each bs (All-tail (λ b. 128 ≤ b) b bs h) k (omega (arith, lt))
 
--- what cannot be cut off, the other way round
+-- bytes that all go on, at most `room` of them, are cut
 varint_cuts : (room : ℕ) (f : List ℕ) → length f ≤ room → All (λ b. 128 ≤ b) f → cut_varint room f ≡ Err Cut
 varint_cuts zero [] short all = refl
 varint_cuts (suc room) [] short all = refl

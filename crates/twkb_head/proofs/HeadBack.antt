@@ -33,25 +33,25 @@ why_in (fault w d g) = w
 abbrev rest_in : Fault → List ℕ
 rest_in (fault w d g) = g
 
--- what is read of a header
+-- the value that the plan of headers reads from the bytes of a header
 abbrev pub value_of : (h : Header) (a : List ℕ) → IsHeader h a → HeadValue
 value_of h a ih = record { header = h; before = 2 + length ih.extended_bytes; size = length ih.size_bytes }
 
--- with a level below it each kind may stand
+-- each kind is allowed with one level below it
 shallow : (kind : KindOf) → IsAllowedWith 1 kind
 shallow kind = refl
 
 header_runs : (h : Header) (a x : List ℕ) (ih : IsHeader h a) → run (head_plan 1) (a ++ x) ≡ Ok (value_of h a ih, x)
 header_runs h a x ih = run_again (head_plan 1) (value_of h a ih) a x ((head_laws 2 1 1 refl (omega arith)).spelled_back (value_of h a ih) a (record { header = ih; allowed = shallow h.kind; before = refl; size = refl }))
 
--- Two headers at the front of the same bytes are one, with the same parts,
+-- two headers at the front of the same bytes have the same value and leave the same rest
 pub parts_once : (h k : Header) (a x b y : List ℕ) → a ++ x ≡ b ++ y → (ih : IsHeader h a) (ik : IsHeader k b) → (value_of h a ih ≡ value_of k b ik) × (x ≡ y)
 parts_once h k a x b y e ih ik =
     let both : (value_of h a ih, x) ≡ (value_of k b ik, y) =
     ok_is {A = HeadValue × List ℕ} {E = Fault} (value_of h a ih, x) (value_of k b ik, y) (sym (header_runs h a x ih) ∙ ap (run (head_plan 1)) e ∙ header_runs k b y ik) in
     (ap (λ (z : HeadValue × List ℕ). z.0) both, ap (λ (z : HeadValue × List ℕ). z.1) both)
 
--- and end at one place.
+-- two headers at the front of the same bytes are equal, and have the same bytes
 pub header_once : (h k : Header) (a x b y : List ℕ) → a ++ x ≡ b ++ y → IsHeader h a → IsHeader k b → (h ≡ k) × (a ≡ b)
 header_once h k a x b y e ih ik =
     let t = parts_once h k a x b y e ih ik in
@@ -93,7 +93,7 @@ module _ (depth : ℕ) (some : 1 ≤ depth) (deep : depth ≤ deepest) where
   fails_first levels p f b behind w e is bad =
       ap (λ (z : List ℕ). run (head_plan levels) (z ++ f)) e ∙ ap (run (head_plan levels)) is ∙ type_fails levels b behind w bad ∙ ap (λ (z : List ℕ). Err (fault w type_field z)) (sym is)
 
-  -- a field is due, and it is wrong: there reading fails
+  -- if a field is due and it is wrong, reading fails there
   wrong_fails : (levels : ℕ) → depth + levels ≡ deepest → (p f : List ℕ) (why : Why) (due : Field) → IsBegunHeader deepest depth p due → IsWrongField deepest depth why due f → run (head_plan levels) (p ++ f) ≡ Err (fault why due f)
   wrong_fails levels sum p f Cut type_field b w = run_uncut (head_plan levels) p type_field Cut f ((head_laws deepest levels depth sum some).stops_back p type_field b) (ap cut_byte w)
   wrong_fails levels sum p f Cut byte_field b w = run_uncut (head_plan levels) p byte_field Cut f ((head_laws deepest levels depth sum some).stops_back p byte_field b) (ap cut_byte w)
@@ -119,7 +119,7 @@ module _ (depth : ℕ) (some : 1 ≤ depth) (deep : depth ≤ deepest) where
   wrong_fails levels sum p f Range number_field b w = absurd w
   wrong_fails levels sum p f Range coordinate_field b w = absurd w
 
-  -- what the plan reads where read_head answered a header
+  -- if read_head answered a header, the plan reads it
   pub head_value : (r new : Reading) (head : Head) → IsSound r → (at : IsHeadAt head depth r.place (passed r new)) → IsMoved r new
       → read (head_plan (deepest - depth)) r ≡ (Ok (record { header = at.header; before = 2 + length at.is.extended_bytes; size = length at.is.size_bytes }), new)
   head_value r new head sound at moved = go (read (head_plan (deepest - depth)) r) refl
@@ -139,7 +139,7 @@ module _ (depth : ℕ) (some : 1 ≤ depth) (deep : depth ≤ deepest) where
           is ∙ ap₂ (λ (y : HeadValue) (c : Reading). (Ok y, c)) (sym (ap (λ (z : HeadValue × List ℕ). z.0) both)) same
       go (Err m, b) is = absurd (not_both (value, rest new) _ (run (head_plan (deepest - depth)) (rest r)) runs (read_err (head_plan (deepest - depth)) r b m sound is).is)
 
-  -- and where it refused
+  -- if read_head refused, the plan fails
   pub head_fails : (r new : Reading) (m : Malformed) → IsSound r → new.bytes ≡ r.bytes → IsRefusedHead m depth r.place (rest r) → Fails (read (head_plan (deepest - depth)) r) m new
   head_fails r new m sound bytes bad = go (read (head_plan (deepest - depth)) r) refl
     where

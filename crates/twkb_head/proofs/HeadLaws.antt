@@ -1,4 +1,4 @@
--- What is read of a header, in the words of the definitions.
+-- What a reader of headers answers, in the words of the definitions.
 use Rattle.std.proofs.Common.{◌≡◌, ◌≢◌, ◌↔◌, ℕ, zero, suc, ◌+◌, ◌-◌, ◌%◌, ◌≤◌, List, [], ◌∷◌, ◌++◌, length, drop, Option, Some, None, Result, Ok, Err, ◌⊎◌, inl, inr, ⊎_elim, IfOk, OnOk, IfErr, IsOk, refl, sym, ap, ap₂, subst, ◌∙◌, arith, length-append}
 use Rattle.std.proofs.lemmas.List.{append_cancel_right}
 use Rattle.std.proofs.lemmas.Grind.{common_steps}
@@ -57,7 +57,7 @@ failed_of levels r new m e = go (read (head_plan levels) r) refl (sym (head_runs
         let why : w ≡ m = err_is {A = Head} _ _ (ap (λ (z : Answer Head). z.0) e) in
         is ∙ ap₂ (λ (x : Malformed) (b : Reading). (Err x, b)) why left
 
--- the same places, said otherwise
+-- a header whose places are given by other, equal terms
 head_placed : (head : Head) (h : Header) (start a b c a' b' c' : ℕ) → head ≡ head_of h start a b c → a ≡ a' → b ≡ b' → c ≡ c' → head ≡ head_of h start a' b' c'
 head_placed head h start a b c a' b' c' e x y z = e ∙ (λ j. head_of h start (x j) (y j) (z j))
 
@@ -153,7 +153,7 @@ module _ (depth : ℕ) (some : 1 ≤ depth) (deep : depth ≤ deepest) (r new : 
   laws : PlanLaws (head_plan (deepest - depth)) (IsHead (deepest - depth)) (IsBegunHeader deepest depth)
   laws = head_laws deepest (deepest - depth) depth sum some
 
-  -- a header that was read stands there
+  -- a header that was read begins at the place
   pub head_stands : (head : Head) → head_at (deepest - depth) r ≡ (Ok head, new) → IsHeadAt head depth r.place (passed r new) × IsMoved r new
   head_stands head e =
       let read = read_of (deepest - depth) r new head e in
@@ -176,7 +176,7 @@ module _ (depth : ℕ) (some : 1 ≤ depth) (deep : depth ≤ deepest) (r new : 
         ok.1,
       )
 
-  -- where a header stands, reading does not fail
+  -- if a header begins at the place, reading does not fail
   pub head_read : (h : Header) (front behind : List ℕ) (m : Malformed) → rest r ≡ front ++ behind → IsHeader h front → IsAllowedAt h.kind depth
       → head_at (deepest - depth) r ≡ (Err m, new) → ⊥
   head_read h front behind m parts is allowed e =
@@ -189,7 +189,7 @@ module _ (depth : ℕ) (some : 1 ≤ depth) (deep : depth ≤ deepest) (r new : 
       apart : (x : HeadValue × List ℕ) (f : Fault) (q : Result (HeadValue × List ℕ) Fault) → q ≡ Ok x → q ≡ Err f → ⊥
       apart x f q a b = cc (a, b)
 
-  -- where reading fails, a field is due, and it is wrong
+  -- if reading fails, a field is due, and it is wrong
   pub head_refused : (m : Malformed) → head_at (deepest - depth) r ≡ (Err m, new) → IsRefusedHead m depth r.place (rest r)
   head_refused m e =
       let bad = read_err (head_plan (deepest - depth)) r new m sound (failed_of (deepest - depth) r new m e) in
@@ -209,7 +209,7 @@ module _ (depth : ℕ) (some : 1 ≤ depth) (deep : depth ≤ deepest) (r new : 
         offset = omega (arith, whole, behind, parts, bad.ahead, bad.within, sound.within);
       }
 
-  -- how the cursor is left then
+  -- if reading fails, the cursor is at the wrong field, and the bytes looked at are counted
   pub head_left : (m : Malformed) → head_at (deepest - depth) r ≡ (Err m, new)
       → new ≡ record { bytes = r.bytes; place = m.offset; count = added r.count (m.offset - r.place + looked_at_field m.why (drop m.offset r.bytes)) }
   head_left m e =
@@ -220,7 +220,7 @@ module _ (depth : ℕ) (some : 1 ≤ depth) (deep : depth ≤ deepest) (r new : 
       let looked : bad.looked ≡ looked_at_field m.why (drop m.offset r.bytes) = looked_same m.why (drop m.offset r.bytes) bad.looked (no_range deepest depth m.why bad.due (drop m.offset r.bytes) wrong) bad.looked_is in
       bad.left ∙ ap (λ (n : ℕ). record { bytes = r.bytes; place = m.offset; count = added r.count (m.offset - r.place + n) }) looked
 
-  -- the clauses of a reader of headers, where it answers so
+  -- the clauses of a function that answers as the reader of headers does
   pub head_ok : (result : Result Head Malformed) → head_at (deepest - depth) r ≡ (result, new) → IfOk result (λ head. IsHeadAt head depth r.place (passed r new))
   head_ok (Ok head) e = (head_stands head e).0
   head_ok (Err m) e = tt
@@ -254,6 +254,6 @@ module _ (depth : ℕ) (some : 1 ≤ depth) (deep : depth ≤ deepest) (r new : 
   head_bytes (Ok head) e = (head_stands head e).1.bytes
   head_bytes (Err m) e = ap (λ (b : Reading). b.bytes) (head_left m e)
 
--- a header has two bytes at least
+-- a header has at least two bytes
 pub header_two : (depth : ℕ) (bytes : List ℕ) → StartsWithHeader depth bytes → 2 ≤ length bytes
 header_two depth bytes s = omega (arith, ap length s.parts, length-append s.front s.behind, ap length s.is.fields)

@@ -30,7 +30,7 @@ pub read-optional : {A : Type 0} (there : Bool) (p : Plan A) (r : Reading) → r
 read-optional false p r = refl
 read-optional true p r = read-done p Some r
 
--- many values
+-- reading a plan of many values is reading each value by its plan
 pub read-many : {A S : Type 0} (n : ℕ) (after : S → A → S) (plan : S → Plan A) (s : S) (r : Reading) → read (many n after plan s) r ≡ many_at n after (λ s. read (plan s)) s r
 read-many zero after plan s r = refl
 read-many {A} (suc n) after plan s r =
@@ -41,12 +41,12 @@ read-many {A} (suc n) after plan s r =
     under (Ok x, r) ih = read-done (many n after plan (after s x)) (λ xs. x ∷ xs) r ∙ ap (viewed (λ xs. x ∷ xs)) (ih x r)
     under (Err m, r) ih = refl
 
--- a box
+-- reading the plan of a box is reading its ranges
 pub read-box : (axes : ℕ) (r : Reading) → read (box_plan axes) r ≡ box_at axes r
 unfolding signed_at
 read-box axes r = read-done (signeds_plan (2 * axes)) ranges_of r ∙ ap (viewed ranges_of) (read-many (2 * axes) (λ (s z : ℤ). s) (λ (s : ℤ). signed_plan) (pos 0) r)
 
--- two numbers more are a range more
+-- two more numbers are one more range
 more_ranges : (n : ℕ) (r : Reading) → viewed ranges_of (signeds_at (suc (suc n)) r) ≡ (range_from r >>= λ range a. viewed (λ ranges. range ∷ ranges) (viewed ranges_of (signeds_at n a)))
 unfolding range_from
 more_ranges n r = first (signed_at r)
@@ -67,7 +67,7 @@ more_ranges n r = first (signed_at r)
     first (Ok low, r) = second low (signed_at r)
     first (Err m, r) = refl
 
--- the range of one axis, where so many numbers are left behind it
+-- the range of one axis, with n numbers after it
 module _ {B C : Type 0} (n : ℕ) (G : List (ℤ × ℤ) → B) (f : ℤ × ℤ → C) (r : Reading) where
   range_then : (k : C → Reader B) → ((x : ℤ × ℤ) (a : Reading) → viewed (λ ranges. G (x ∷ ranges)) (viewed ranges_of (signeds_at n a)) ≡ k (f x) a)
       → viewed G (viewed ranges_of (signeds_at (suc (suc n)) r)) ≡ (viewed f (range_from r) >>= k)
@@ -115,7 +115,7 @@ abbrev pub Ahead : {A : Type 0} → Reading → Answer A → Type 0
 Ahead r (Ok x, a) = r.place ≤ a.place
 Ahead r (Err m, a) = Unit {0}
 
--- one byte further
+-- an answer that is a value leaves the place one byte further
 abbrev pub One : {A : Type 0} → Reading → Answer A → Type 0
 One r (Ok x, a) = a.place ≡ r.place + 1
 One r (Err m, a) = Unit {0}
@@ -215,7 +215,7 @@ module _ (r : Reading) (t metadata : ℕ) where
         ∙ ap (viewed (head_from t metadata (extended, x) (size, y))) (read-optional (has_bit metadata 1) (box_plan (axes_with (z_in extended) (m_in extended))) d))
         ∙ boxed (has_bit metadata 1)
 
-  -- behind the extended dimensions
+  -- the fields after the extended dimensions
   sized : (extended : Option ℕ) (x : ℕ) (c : Reading) → r.place + (2 + x) ≡ c.place → (q : Answer (Option ℕ)) → Ahead c q
       → placed r (lengthened 0 c q >>= λ size. read (after_size t metadata (extended, x) size))
       ≡ (q >>= λ size d. (optional_at (has_bit metadata 1) (bounds_from (zigzag_value (t / 16)) (z_in extended) (m_in extended)) d >>= End extended size c d))
@@ -230,7 +230,7 @@ module _ (r : Reading) (t metadata : ℕ) where
       (read-measure 0 (optional (has_bit metadata 2) number_plan) c ∙ ap (lengthened 0 c) (read-optional (has_bit metadata 2) number_plan c)))
       ∙ sized extended x c at (optional_at (has_bit metadata 2) (read number_plan) c) (optional_ahead (has_bit metadata 2) number_plan c)
 
-  -- behind the metadata
+  -- the fields after the metadata byte
   extended_with : (b : Reading) → r.place + 2 ≡ b.place → (q : Answer (Option ℕ)) → Ahead b q
       → placed r (lengthened 0 b q >>= λ extended. read (after_extended t metadata extended))
       ≡ (q >>= λ extended c. (optional_at (has_bit metadata 2) (read number_plan) c >>= λ size d. (optional_at (has_bit metadata 1) (bounds_from (zigzag_value (t / 16)) (z_in extended) (m_in extended)) d >>= End extended size c d)))
@@ -261,7 +261,7 @@ type_with : (levels : ℕ) (r : Reading) (q : Answer ℕ) → One r q
 type_with levels r (Ok t, a) h = ap (placed r) (read-bind byte_plan (after_metadata t) a) ∙ metadata_with r a t h (read byte_plan a) (one_byte a)
 type_with levels r (Err m, a) h = refl
 
--- what code reads is what the plan reads
+-- the header as code reads it is the header that the plan reads
 pub head_runs : (levels : ℕ) (r : Reading) → head_at levels r ≡ placed r (read (head_plan levels) r)
 unfolding head_at type_at byte_at number_at
 head_runs levels r = sym (ap (placed r) (read-bind (type_plan levels) after_type r) ∙ type_with levels r (read (type_plan levels) r) (one_type levels r))

@@ -1,4 +1,4 @@
--- The steps of a header.
+-- The steps by which code reads a header, as the reader of headers takes them.
 use Rattle.std.proofs.Common.{◌≡◌, ℕ, ◌+◌, ◌-◌, ◌*◌, ◌/◌, ◌%◌, ◌<◌, ◌==◌, List, [], ◌∷◌, ◌++◌, length, Option, Some, None, option_map, is_some, Bool, true, false, ◌&&◌, ◌||◌, ℤ, ◌+ℤ◌, Result, Ok, Err, refl, sym, ap, ap₂, subst, ◌∙◌, arith}
 use Rattle.std.specs.Int.Bits.{bit_and}
 use Rattle.std.proofs.lemmas.Nat.{and_block, and_mask}
@@ -9,7 +9,7 @@ use Rattle.twkb_num.specs.Varint.{Spells, SpellsAll, SpellsMany, IsSigned, Spell
 use Rattle.twkb_num.proofs.PairLaws.{IsMoved-two}
 use Rattle.twkb_head.specs.Header.{code_of, has_bit, has_ids, z_in, m_in}
 use Rattle.twkb_head.specs.Shared.Reader.{Answer, Reader, ◌>>=◌, viewed, number_at, optional_at, range_from}
-use Rattle.twkb_head.specs.Devices.HeadReader.{byte_at, head_with, kind_from_type, bounds_from, box_behind, head_at, rest_at}
+use Rattle.twkb_head.specs.Devices.HeadReader.{byte_at, head_with, kind_from_type, bounds_from, head_at, rest_at}
 use Rattle.twkb_head.specs.BegunHeader.{deepest, IsAllowedAt}
 use Rattle.twkb_head.specs.declared.kinds.Kind.{Kind}
 use Rattle.twkb_head.specs.declared.kinds.Kind.TheVariants.{Point, LineString, Polygon, MultiPoint, MultiLineString, MultiPolygon, GeometryCollection}
@@ -38,7 +38,7 @@ pub head_is : (levels : ℕ) (r a b c d e : Reading) (kind : Kind) (xy : ℤ) (m
 unfolding head_at
 head_is levels r a b c d e kind xy metadata extended size bounds h1 h2 h3 h4 h5 = rw (h1, h2, h3, h4, h5) refl
 
--- the same behind the first two bytes
+-- the rest of a header after its first two bytes, read field by field
 pub rest_is : (b c d e : Reading) (kind : Kind) (xy : ℤ) (metadata : ℕ) (extended size : Option ℕ) (bounds : Option Bounds) (start : ℕ)
     → optional_at (has_bit metadata 8) byte_at b ≡ (Ok extended, c)
     → optional_at (has_bit metadata 2) number_at c ≡ (Ok size, d) → optional_at (has_bit metadata 1) (bounds_from xy (z_in extended) (m_in extended)) d ≡ (Ok bounds, e)
@@ -83,24 +83,23 @@ kind_and_fields first metadata low =
     let both = and_block 8 metadata 0x1f first 0x0f low (omega arith) in
     ap (λ x. bit_and x 0x1f0f) split ∙ omega (arith, both, and_mask first 4, and_mask metadata 5)
 
--- a kind of any code may stand at the first depth
+-- each kind is allowed at the first depth
 pub first_allowed : (kind : Kind) → IsAllowedAt kind 1
 first_allowed GeometryCollection = (omega arith, omega arith)
 first_allowed _ = (omega arith, omega arith)
 
--- of a metadata byte the five lowest bits count
+-- metadata bytes with the same announced fields lead to the same rest
 pub rest_same : (kind : Kind) (xy : ℤ) (m n start : ℕ) (b : Reading) → has_bit m 8 ≡ has_bit n 8 → has_bit m 2 ≡ has_bit n 2 → has_bit m 1 ≡ has_bit n 1 → has_bit m 16 ≡ has_bit n 16 → has_bit m 4 ≡ has_bit n 4
     → rest_at kind xy m start b ≡ rest_at kind xy n start b
 unfolding rest_at
 rest_same kind xy m n start b e8 e2 e1 e16 e4 = rw (e8, e2, e1, e16, e4) refl
 
--- A header that may stand at the depth was begun: whatever is read behind its first two bytes is what is read of it from its
--- start.
+-- a header that is allowed at the depth was begun: what is read after its first two bytes is what is read from its start
 abbrev pub GoesOn : ℕ → Begun → Reading → Reading → Type 0
 GoesOn depth begun before now = (answer : Result Head Malformed) (new : Reading) → rest_at begun.kind begun.xy begun.metadata begun.start now ≡ (answer, new)
     → head_at (deepest - depth) before ≡ (answer, new)
 
--- a header that was begun goes on
+-- the code of a kind names it
 named : (n : ℕ) (k : Kind) → n ≡ code_of k → kind_of_code n ≡ Some k
 named n Point e = ap kind_of_code e
 named n LineString e = ap kind_of_code e
@@ -129,11 +128,11 @@ begins_goes_on begun depth before now sound begins answer new e =
     head_of_rest levels (record begun { metadata = m }) before now new answer has
     (rest_same begun.kind begun.xy m n begun.start now (bits_same m n 8 eight) (bits_same m n 2 two) (bits_same m n 1 one) (bits_same m n 16 sixteen) (bits_same m n 4 four) ∙ e)
 
--- what isn't announced isn't read
+-- a field that isn't announced isn't read
 pub not_read : {A : Type 0} (announced : Bool) (f : Reader A) (r : Reading) → announced ≡ false → optional_at announced f r ≡ (Ok None, r)
 not_read announced f r e = ap (λ (b : Bool). optional_at b f r) e
 
--- what is announced is read
+-- a field that is announced is read
 pub is_read : {A : Type 0} (announced : Bool) (f : Reader A) (x : A) (r new : Reading) → announced ≡ true → f r ≡ (Ok x, new) → optional_at announced f r ≡ (Ok (Some x), new)
 is_read announced f x r new e read = ap (λ (b : Bool). optional_at b f r) e ∙ ap (viewed Some) read
 
@@ -147,11 +146,11 @@ pair_range minimum extent old new spells moved =
     let second : IsSigned extent (passed way.0 new) = (spells.1, rw way.4 two.second, spells.4) in
     rw (read_signed old way.0 minimum first way.1, read_signed way.0 new extent second way.2) refl
 
--- and as the code holds them
+-- two signed numbers that one move passes are a range, also as the code holds them
 pub pair_range_held : (minimum extent low more : ℤ) (old new : Reading) → low ≡ minimum → more ≡ extent → SpellsTwoSigned (passed old new) minimum extent → IsMoved old new → range_from old ≡ (Ok (low, low +ℤ more), new)
 pair_range_held minimum extent low more old new low_is more_is spells moved = pair_range minimum extent old new spells moved ∙ ap₂ (λ (a b : ℤ). (Ok (a, a +ℤ b), new)) (sym low_is) (sym more_is)
 
--- two numbers, one behind another, as a range
+-- two numbers, one after another, are a minimum and an extent
 pub two_spelled : (bytes : List ℕ) → SpellsMany bytes 2 → (range : RawRange) × SpellsTwoSigned bytes range.minimum range.extent
 two_spelled bytes s = go s.numbers s.count s.spelled
   where
@@ -176,15 +175,7 @@ two_spelled bytes s = go s.numbers s.count s.spelled
     )
     go (n ∷ m ∷ k ∷ ns) count all = absurd (omega (arith, count))
 
--- a range of an axis for each that is there is a box
-pub box_read : (xy : ℤ) (z m : Option ℕ) (box : RawBox) (r b c d : Reading) → bounds_from xy z m r ≡ box_behind xy z m (Ok (box.x, box.y)) b → IsRangeIf (is_some z || is_some m) box.third b c
-    → IsRangeIf (is_some z && is_some m) box.fourth c d → bounds_from xy z m r ≡ (Ok (raw_bounds xy z m box), d)
-box_read xy None None box r b c d e (_, third) (_, fourth) = e ∙ rw (fourth, third) refl
-box_read xy None (Some q) box r b c d e third (_, fourth) = e ∙ rw (third, fourth) refl
-box_read xy (Some p) None box r b c d e third (_, fourth) = e ∙ rw (third, fourth) refl
-box_read xy (Some p) (Some q) box r b c d e third fourth = e ∙ rw (third, fourth) refl
-
--- a box of raw numbers in units, and where it stands
+-- a box of raw numbers in units, with its place
 pub box_seen : (p q : ℤ) (z y m n : Option ℕ) (offset place : ℕ) → p ≡ q → z ≡ y → m ≡ n → offset ≡ place → (o : Option RawBox)
     → option_map (λ bounds. (let field : BoxField = record { bounds = bounds; offset = offset } in field)) (option_map (raw_bounds p z m) o) ≡ option_map (λ box. record { bounds = raw_bounds q y n box; offset = place }) o
 box_seen p q z y m n offset place xy_is z_is m_is at None = refl
@@ -204,7 +195,7 @@ flat_fields begun size x y stop = record {
   stop = stop;
 }
 
--- a header with a size and a box in X and Y, and nothing else: it stops at a field that is wrong
+-- a header with a size and a box in X and Y alone stops at a size that is wrong
 pub number_stops : (begun : Begun) (b d : Reading) (m : Malformed) → begun.metadata ≡ 3 → number_at b ≡ (Err m, d) → rest_at begun.kind begun.xy begun.metadata begun.start b ≡ (Err m, d)
 unfolding rest_at
 number_stops begun b d m three e = rw (three, e) refl
@@ -217,13 +208,13 @@ pub y_stops : (begun : Begun) (n : ℕ) (x : ℤ × ℤ) (b d e f : Reading) (m 
 unfolding rest_at bounds_from
 y_stops begun n x b d e f m three number first second = rw (three, number, first, second) refl
 
--- its fields
+-- the fields of a header with a size and a box in X and Y alone
 pub flat_read : (begun : Begun) (size : SizeField) (x y : RawRange) (b d e f : Reading) → begun.metadata ≡ 3 → number_at b ≡ (Ok size.value, d) → size.offset ≡ b.place → size.after ≡ d.place
     → range_from d ≡ (Ok (ends_of x), e) → range_from e ≡ (Ok (ends_of y), f) → rest_at begun.kind begun.xy begun.metadata begun.start b ≡ (Ok (head_said (flat_fields begun size x y f.place)), f)
 unfolding rest_at bounds_from
 flat_read begun size x y b d e f three number offset after first second = rw (three, number, first, second, offset, after) refl
 
--- its size
+-- the size of a header with a size and a box in X and Y alone
 pub size_said : (begun : Begun) (n : ℕ) (b d new : Reading) (head : Head) → begun.metadata ≡ 3 → number_at b ≡ (Ok n, d) → rest_at begun.kind begun.xy begun.metadata begun.start b ≡ (Ok head, new)
     → head.size ≡ Some (record { value = n; offset = b.place; after = d.place })
 unfolding rest_at

@@ -43,7 +43,7 @@ code_kind n k e = subst (λ (o : Option Kind). IfSome o (λ k. n ≡ code_of k))
 pub no_kind : (n : ℕ) → kind_of_code n ≡ None → (n ≡ 0) ⊎ (8 ≤ n)
 no_kind n e = subst (λ (o : Option Kind). IfNone o ((n ≡ 0) ⊎ (8 ≤ n))) e (kind_at n).1
 
--- the kind may stand with so many levels below it
+-- the kind is allowed with this many levels below it
 abbrev pub IsAllowedWith : ℕ → Kind → Type 0
 IsAllowedWith levels k = judge_kind levels (Some k) ≡ None
 
@@ -150,7 +150,7 @@ fields_laws levels =
     (λ extended. bind_laws (measure_laws (optional_laws (has_bit m 2) number_laws))
     (λ size. done_laws (head_from t m extended size) (optional_laws (has_bit m 1) (box_laws (axes_in extended)))))))
 
--- a type byte, a metadata byte, and what is behind them
+-- a type byte, a metadata byte, and the rest
 two_bytes : (t m : ℕ) (bytes first behind second rest : List ℕ) → bytes ≡ first ++ behind → first ≡ t ∷ [] → behind ≡ second ++ rest → second ≡ m ∷ []
     → bytes ≡ t ∷ m ∷ rest
 two_bytes t m bytes first behind second rest split one split_again two =

@@ -10,7 +10,7 @@ use Rattle.twkb_head.specs.Shared.Plan.{Request, byte, number, coordinate, field
 use Rattle.twkb_head.proofs.Spelling.{IsGood, Spelled, Stops}
 use Rattle.twkb_head.proofs.Combinators.{PlanLaws, restated, BegunMany, times_laws, free, FitAll}
 
--- nothing is there yet of the field that is due
+-- no byte is there yet of the field that is due
 abbrev pub IsDue : Field → List ℕ → Field → Type 0
 IsDue field p due = (p ≡ []) × (due ≡ field)
 
@@ -75,7 +75,7 @@ coordinate_laws c =
         let is = signed_is z bytes s in
         (((s.0, s.1), ap (λ (y : ℤ). cond (fits (c +ℤ y)) None (Some Range)) (sym is) ∙ ap (λ (b : Bool). cond b None (Some Range)) fit), is)
 
--- of values of one field each, fewer than n are whole, and nothing is there of the next
+-- fewer than n values of one field each are whole, and no byte of the next is there
 abbrev pub AreFewer : {A S : Type 0} → ℕ → (S → A → S) → (A → List ℕ → Type 0) → (S → A → Type 0) → S → Field → List ℕ → Field → Type 0
 AreFewer {A} n after Q Fit s field p due = (xs : List A) × (length xs < n) × Sequence Q xs p × FitAll after Fit s xs × (due ≡ field)
 

@@ -1,10 +1,11 @@
--- What is proved of headers: fields and their cuts, plans, readers, and what the definitions say.
+-- The proofs about headers: fields and their cuts, plans, readers, and the laws of the definitions.
 pub mod Spelling
 pub mod FieldCuts
 pub mod Plans
 pub mod Combinators
 pub mod Leaves
 pub mod BoxFields
+mod BoxReads
 pub mod Heads
 pub mod Readings
 pub mod Steps

@@ -1,4 +1,4 @@
--- What is allowed under a limit stays allowed under a greater one.
+-- A kind that is allowed under a limit of depth is allowed under a greater one.
 use Rattle.std.proofs.Common.{ℕ, ◌≤◌, List, arith}
 use Rattle.twkb_head.specs.declared.kinds.Kind.{Kind}
 use Rattle.twkb_head.specs.BegunHeader.{Field, IsAllowedUnder, IsStart, IsBegunHeader, type_due, metadata_due, extended_due, size_due, box_due}

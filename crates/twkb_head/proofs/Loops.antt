@@ -5,7 +5,7 @@ use Rattle.twkb_num.specs.Cursor.{Reading}
 use Rattle.twkb_head.specs.Shared.Reader.{Answer, Reader, ◌>>=◌, viewed, many_at, Fails, Reads}
 use Rattle.twkb_head.specs.declared.refusal.Malformed.{Malformed}
 
--- values in front of those that are read
+-- an answer with values put in front of the values that were read
 abbrev pub behind_front : {A : Type 0} → List A → Answer (List A) → Answer (List A)
 behind_front front answer = viewed (λ xs. front ++ xs) answer
 
@@ -50,15 +50,15 @@ module _ {A S : Type 0} (after : S → A → S) (read : S → Reader A) (count :
       let k : count - i ≡ 0 = omega arith in
       sym l.is ∙ ap (λ (m : ℕ). behind_front front (many_at m after read s r)) k ∙ ap (λ (xs : List A). (Ok xs, r)) (append-nil front)
 
--- a read that fails, and then nothing more
+-- if the first read fails, both reads in turn fail
 pub first_fails : {A B : Type 0} (a : Answer A) (k : A → Reader B) (m : Malformed) (new : Reading) → Fails a m new → Fails (a >>= k) m new
 first_fails {A} {B} a k m new e = record { left = e.left; is = ap (λ (q : Answer A). q >>= k) e.is; bytes = e.bytes }
 
--- the second one fails
+-- if the first read gives a value and the second fails, both reads in turn fail
 pub then_fails : {A B : Type 0} (a : Answer A) (k : A → Reader B) (x : A) (mid : Reading) (m : Malformed) (new : Reading) → a ≡ (Ok x, mid) → Fails (k x mid) m new → Fails (a >>= k) m new
 then_fails {A} {B} a k x mid m new ok e = record { left = e.left; is = ap (λ (q : Answer A). q >>= k) ok ∙ e.is; bytes = e.bytes }
 
--- one read and then another
+-- if the first read gives a value, code that reads as the second does reads as both in turn
 pub reads_then : {A B C : Type 0} (a : Answer A) (k : A → Reader B) (x : A) (mid : Reading) (Gives : B → C → Type 0) (result : Result C Malformed) (new : Reading)
     → a ≡ (Ok x, mid) → Reads (k x mid) Gives result new → Reads (a >>= k) Gives result new
 reads_then {A} a k x mid Gives (Ok y) new ok (b, is, gives) = (b, ap (λ (q : Answer A). q >>= k) ok ∙ is, gives)

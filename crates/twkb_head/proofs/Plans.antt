@@ -8,15 +8,15 @@ use Rattle.twkb_head.specs.Shared.Plan.{Request, field_of, cut_field, judge, Pla
 use Rattle.twkb_head.proofs.Spelling.{Fault, fault, run, IsGood, Spelled, Stops}
 use Rattle.twkb_head.proofs.FieldCuts.{field_again, field_takes, field_once, field_cuts, field_some, ok_is}
 
--- spelled by the plan, or stopped in it
+-- the bytes spell a value by the plan, or stop in it
 abbrev pub IsViableIn : {A : Type 0} → Plan A → List ℕ → Type 0
 IsViableIn {A} plan p = ((x : A) × Spelled plan x p) ⊎ ((due : Field) × Stops plan p due)
 
--- what reading gives where a good field stands
+-- reading goes on after a good field at the front
 pub run-good : {A : Type 0} (r : Request) (next : List ℕ → Plan A) (front rest : List ℕ) → IsGood r front → run (ask r next) (front ++ rest) ≡ run (next front) rest
 run-good r next front rest good = rw (field_again (field_of r) front rest good.0) (rw (good.1) refl)
 
--- what is spelled by a plan is read
+-- bytes that spell a value by a plan are read as this value
 pub run_again : {A : Type 0} (plan : Plan A) (x : A) (front rest : List ℕ) → Spelled plan x front → run plan (front ++ rest) ≡ Ok (x, rest)
 run_again (done y) x front rest s = rw (s.0, s.1) refl
 run_again (ask r next) x bytes rest (front, behind, parts, good, more) =
@@ -25,7 +25,7 @@ run_again (ask r next) x bytes rest (front, behind, parts, good, more) =
     ∙ run-good r next front (behind ++ rest) good
     ∙ run_again (next front) x behind rest more
 
--- what stops in a plan is cut where it ends
+-- bytes that stop in a plan are cut where they end
 pub run_stops : {A : Type 0} (plan : Plan A) (p : List ℕ) (due : Field) → Stops plan p due → run plan p ≡ Err (fault Cut due [])
 run_stops (done y) p due s = absurd s
 run_stops (ask r next) p due (inl (e, is)) = rw (e, is) (rw (field_cuts (field_of r)) refl)
@@ -54,7 +54,7 @@ step_of {A} r next bytes = go (cut_field (field_of r) bytes) refl
     go (Ok y) cut = judged_is y cut (judge r y.0) refl
     go (Err w) cut = uncut w cut (rw (cut) refl)
 
--- what is read is spelled by the plan
+-- a value that is read is spelled by the plan
 pub run_takes : {A : Type 0} (plan : Plan A) (bytes : List ℕ) (x : A × List ℕ) → run plan bytes ≡ Ok x
     → (front : List ℕ) × (bytes ≡ front ++ x.1) × Spelled plan x.0 front
 run_takes {A} (done y) bytes x e = ([], ap (λ (z : A × List ℕ). z.1) same, (sym (ap (λ (z : A × List ℕ). z.0) same), refl))
@@ -77,7 +77,7 @@ pub data IsRefused {A : Type 0} (plan : Plan A) (p : List ℕ) (why : Why) (due 
   no_value : (r : Request) (front behind : List ℕ) → due ≡ field_of r → f ≡ front ++ behind → IsField due front → judge r front ≡ Some why
       → (IsViableIn plan (p ++ front) → ⊥) → IsRefused plan p why due f
 
--- where reading fails, the bytes before the fault stop there, and a field with a fault follows
+-- reading failed: the bytes before the fault stop there, and a field with a fault follows
 pub record IsFailed {A : Type 0} (plan : Plan A) (bytes : List ℕ) (why : Why) (due : Field) (f : List ℕ) : Type 0 where
   pub p : List ℕ
   pub parts : bytes ≡ p ++ f
@@ -123,7 +123,7 @@ viable_start : {A : Type 0} (plan : Plan A) → IsViableIn plan []
 viable_start (done x) = inl (x, (refl, refl))
 viable_start (ask r next) = inr (field_of r, inl (refl, refl))
 
--- a fault: what stands before it stops there, and the field there is refused
+-- if reading fails, the bytes before the fault stop there, and the field there is refused
 pub run_fails : {A : Type 0} (plan : Plan A) (bytes : List ℕ) (why : Why) (due : Field) (f : List ℕ) → run plan bytes ≡ Err (fault why due f)
     → IsFailed plan bytes why due f
 run_fails (done y) bytes why due f e = absurd (cc)
@@ -205,7 +205,7 @@ run_goes_on (ask r next) p rest due (inr (front, q, parts, ok, more)) v some =
           (viable_before r next front (q ++ t.0) ok t.4),
     )
 
--- Where bytes stop in a plan, what follows is read by a request for the field that is due.
+-- Where bytes stop in a plan, the bytes after them are read by a request for the field that is due.
 pub record IsStop {A : Type 0} (plan : Plan A) (p : List ℕ) (due : Field) : Type 0 where
   pub request : Request
   pub next : List ℕ → Plan A

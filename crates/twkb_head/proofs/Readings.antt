@@ -16,14 +16,14 @@ use Rattle.twkb_head.specs.declared.refusal.Why.TheVariants.{Cut, Varint, Kind, 
 use Rattle.twkb_head.specs.declared.refusal.Malformed.{Malformed}
 use Rattle.twkb_head.proofs.FieldCuts.{ok_is, field_takes, number_fails, byte_fails}
 
--- no answer is both
+-- no answer is both a value and a fault
 pub ok_not_err : {A : Type 0} (x : A) (m : Malformed) (a b : Reading) → (let z : Answer A = (Ok x, a) in z ≡ (Err m, b)) → ⊥
 ok_not_err {A} x m a b e = apart (ap (λ (z : Answer A). z.0) e)
   where
     apart : (let z : Result A Malformed = Ok x in z ≡ Err m) → ⊥
     apart e = cc (e)
 
--- an answer is one value, and one reading behind it; and no failure
+-- an answer has one value and one reading after it
 pub one_answer : {A : Type 0} (a : Answer A) (x y : A) (r s : Reading) → a ≡ (Ok x, r) → a ≡ (Ok y, s) → (x ≡ y) × (r ≡ s)
 one_answer {A} a x y r s e f =
     let both : (let z : Answer A = (Ok x, r) in z ≡ (Ok y, s)) = sym e ∙ f in
@@ -32,7 +32,7 @@ one_answer {A} a x y r s e f =
 pub no_failure : {A : Type 0} (a : Answer A) (x : A) (r new : Reading) (m : Malformed) → a ≡ (Ok x, r) → Fails a m new → ⊥
 no_failure {A} a x r new m e f = ok_not_err x m r f.left (sym e ∙ f.is)
 
--- one plan and then another
+-- reading by one plan and then another is reading by the first and then by the second
 pub read-bind : {A B : Type 0} (p : Plan A) (k : A → Plan B) (r : Reading) → read (bind p k) r ≡ (read p r >>= λ x. read (k x))
 read-bind (done x) k r = refl
 read-bind {A} {B} (ask q next) k r = go (cut_field (field_of q) (rest r)) (λ front r. read-bind (next front) k r)
@@ -47,7 +47,7 @@ read-bind {A} {B} (ask q next) k r = go (cut_field (field_of q) (rest r)) (λ fr
     go (Ok x) ih = whole (judge q x.0) x ih
     go (Err w) ih = refl
 
--- what is behind n bytes
+-- the rest after the bytes of a front
 rest-past : (r : Reading) (front left : List ℕ) → rest r ≡ front ++ left → rest (past (length front) r) ≡ left
 rest-past r front left e =
     let there : drop (length front) (drop r.place r.bytes) ≡ drop (r.place + length front) r.bytes = drop-drop (length front) r.place r.bytes ∙ ap (λ n. drop n r.bytes) (omega arith) in
@@ -61,7 +61,7 @@ IsLooked Kind f n = n ≡ 1
 IsLooked Depth f n = n ≡ 1
 IsLooked Range f n = Unit {0}
 
--- a reading that failed at a field, and where it left the cursor: there
+-- reading failed at a field, and left the cursor at that field
 pub record IsFailedAt {A : Type 0} (r : Reading) (m : Malformed) (new : Reading) (q : Result (A × List ℕ) Fault) : Type 0 where
   pub due : Field
   pub looked : ℕ
@@ -174,10 +174,10 @@ read_ends {A} (ask q next) r sound = go (cut_field (field_of q) (rest r)) refl (
     go (Ok x) cut ih = let t = field_takes (field_of q) (rest r) x cut in whole x t.0 t.1 (judge q x.0) refl ih
     go (Err w) cut ih = failed_here r w (field_of q) (looked_in w (rest r)) (Err (fault w (field_of q) (rest r))) sound refl (looked_part (field_of q) w (rest r) cut)
 
--- what is read from a cursor
+-- a value that is read from a cursor is what the plan reads from the bytes
 pub read_ok : {A : Type 0} (p : Plan A) (r new : Reading) (x : A) → IsSound r → read p r ≡ (Ok x, new) → (run p (rest r) ≡ Ok (x, rest new)) × IsMoved r new
 read_ok p r new x sound e = subst (λ (a : Answer _). Ends r a (run p (rest r))) e (read_ends p r sound)
 
--- and where reading fails
+-- if reading from a cursor fails, reading the bytes fails at the same field
 pub read_err : {A : Type 0} (p : Plan A) (r new : Reading) (m : Malformed) → IsSound r → read p r ≡ (Err m, new) → IsFailedAt r m new (run p (rest r))
 read_err p r new m sound e = subst (λ (a : Answer _). Ends r a (run p (rest r))) e (read_ends p r sound)

@@ -1,4 +1,4 @@
--- What it is to follow a plan: what it reads, the bytes that spell a value by it, and where bytes stop within it.
+-- What a plan means: what it reads, which bytes spell a value by it, and where bytes stop in it.
 use Rattle.std.specs.Prelude.{◌≡◌, ℕ, List, [], ◌++◌, Option, Some, None, Result, Ok, Err, ◌⊎◌}
 use Rattle.twkb_head.specs.declared.refusal.Why.{Why}
 use Rattle.twkb_head.specs.BegunHeader.{Field, IsField}
@@ -8,7 +8,7 @@ use Rattle.twkb_head.specs.Shared.Plan.{Plan, Request, ask, cut_field, done, fie
 pub data Fault : Type 0 where
   fault : Why → Field → List ℕ → Fault
 
--- goes on behind a field that was judged
+-- goes on after a field that was judged
 abbrev pub judged : {B : Type 0} → Option Why → Field → List ℕ → (Unit {0} → Result B Fault) → Result B Fault
 judged None f bytes k = k tt
 judged (Some w) f bytes k = Err (fault w f bytes)
@@ -18,7 +18,7 @@ abbrev pub step : {B : Type 0} → Request → Result (List ℕ × List ℕ) Why
 step r (Err w) bytes k = Err (fault w (field_of r) bytes)
 step r (Ok x) bytes k = judged (judge r x.0) (field_of r) bytes (λ u. k x.0 x.1)
 
--- reads by a plan: the value and the bytes behind it, or the first fault
+-- reads by a plan: the value and the bytes after it, or the first fault
 abbrev pub run : {A : Type 0} → Plan A → List ℕ → Result (A × List ℕ) Fault
 run (done x) bytes = Ok (x, bytes)
 run (ask r next) bytes = step r (cut_field (field_of r) bytes) bytes (λ front rest. run (next front) rest)

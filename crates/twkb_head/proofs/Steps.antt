@@ -24,13 +24,13 @@ use Rattle.twkb_head.proofs.Plans.{run_takes}
 use Rattle.twkb_head.proofs.Leaves.{byte_laws}
 use Rattle.twkb_head.proofs.Readings.{reading_path, read_ok, ok_not_err}
 
--- where a move came to
+-- a move leads to the reading that is further by the bytes passed
 pub moved_is : (a b : Reading) → IsMoved a b → b ≡ past (length (passed a b)) a
 moved_is a b m =
     let long : length (passed a b) ≡ b.place - a.place = grind (arith, common_steps, m.within) in
     reading_path b (past (length (passed a b)) a) m.bytes (omega (arith, long, m.ahead)) (m.count ∙ ap (added a.count) (sym long))
 
--- a good field that was passed
+-- if a good field was passed, reading goes on after it
 pub read_good : {A : Type 0} (q : Request) (next : List ℕ → Plan A) (a b : Reading) → IsMoved a b → IsGood q (passed a b) → read (ask q next) a ≡ read (next (passed a b)) b
 read_good q next a b m good =
     let front = passed a b in
@@ -49,7 +49,7 @@ pub read_signed : (a b : Reading) (z : ℤ) → IsSigned z (passed a b) → IsMo
 unfolding signed_at
 read_signed a b z s m = read_good number (λ (field : List ℕ). done (zigzag_value (sum_of_groups 0 field))) a b m ((s.0, s.1), refl) ∙ ap (λ (z : ℤ). (Ok z, b)) (ap zigzag_value (sym s.1.value) ∙ s.2)
 
--- no byte
+-- if no byte is left, reading a byte fails as cut
 pub read_no_byte : (a b : Reading) → rest a ≡ [] → b ≡ a → IsSound b → byte_at a ≡ (Err (record { offset = b.place; why = Cut }), b)
 unfolding byte_at
 read_no_byte a b e same sound =
@@ -66,7 +66,7 @@ looked_same : (fault : NumFault) (bs : List ℕ) → looked_in (why_of fault) bs
 looked_same TooShort bs = refl
 looked_same Long bs = refl
 
--- no number
+-- if no number can be read, reading one fails with its fault
 read_fault : {A : Type 0} (q : Request) (next : List ℕ → Plan A) (a b : Reading) (fault : NumFault) (m : Malformed) → cut_field (field_of q) (rest a) ≡ Err (why_of fault)
     → b ≡ counted a (looked_at fault (rest a)) → m.offset ≡ b.place → m.why ≡ why_of fault → read (ask q next) a ≡ (Err m, b)
 read_fault q next a b fault m cut at offset why =
@@ -100,7 +100,7 @@ type_no_byte levels a b m e = go (rest a) refl e
     go (y ∷ bs) at e = absurd (ok_not_err y m (past 1 a) b e)
 
 module _ (levels : ℕ) (a b : Reading) (t : ℕ) (sound : IsSound a) (e : byte_at a ≡ (Ok t, b)) where
-  -- what was cut off
+  -- the front that was cut off is the type byte
   front_is : (front : List ℕ) × (front ≡ t ∷ []) × (cut_byte (rest a) ≡ Ok (front, rest b)) × (b ≡ past 1 a)
   unfolding byte_at
   front_is =
@@ -178,7 +178,7 @@ module _ (before : ℤ) (a b : Reading) where
   unfolding signed_at coordinate_at
   coordinate_refused z m c fit offset why at e = refused_with z m c fit offset why at (cut_varint 9 (rest a)) e
 
--- what fits 64 bits
+-- ---- which coordinates fit 64 bits
 not_lt : (b : Bool) (n : ℕ) → nat_lt n (2 ^ 63) ≡ b → (n < (2 ^ 63) → ⊥) → b ≡ false
 not_lt true n e h = absurd (h (ltb-true n (2 ^ 63) e))
 not_lt false n e h = refl

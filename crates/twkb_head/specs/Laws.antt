@@ -1,4 +1,4 @@
--- What holds of headers by their definitions alone.
+-- The laws of headers, which follow from their definitions alone.
 use Rattle.std.specs.Prelude.{◌≡◌, ℕ, ◌≤◌, List, ◌++◌}
 use Rattle.twkb_head.specs.declared.kinds.Kind.{Kind}
 use Rattle.twkb_head.specs.Header.{Header, IsHeader}

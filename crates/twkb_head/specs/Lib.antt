@@ -1,4 +1,4 @@
--- In reading order.
+-- What the contracts of this crate name, in reading order.
 pub use Rattle.twkb_num.specs.Cursor
 pub use Rattle.twkb_num.specs.Varint
 pub use Rattle.twkb_num.specs.Units

@@ -55,7 +55,7 @@ pub fn z_of(extended: Option<u8>) -> Option<u8>
     }
 }
 
-/// The precision of M, if the extended dimensions byte has an M, as [`z_of`] has that of Z.
+/// The precision of M, if the extended dimensions byte has an M, as [`z_of`] gives the precision of Z.
 #[inline(always)]
 pub fn m_of(extended: Option<u8>) -> Option<u8>
     ensures value { result ≡ m_in extended }

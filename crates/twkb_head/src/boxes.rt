@@ -1,4 +1,4 @@
-//! Vertices and boxes, in units.
+//! [`Vertex`] and [`Bounds`], vertices and boxes in units.
 //!
 //! A unit is 10^-7 of a coordinate unit: coordinates of every precision are whole numbers of units, and compare as such.
 ghost use Rattle.std.specs.Prelude.{◌≡◌, ◌↔◌, ◌+ℤ◌, IsTrue};
@@ -31,7 +31,7 @@ impl Span {
     }
 }
 
-/// The sum as a whole number, which may pass 64 bits.
+/// The maximum: minimum plus width as a whole number, which may exceed 64 bits.
 #[inline(always)]
 fn maximum(minimum: i64, width: i64) -> i128
     ensures { result ≡ minimum +ℤ width }

@@ -1,7 +1,7 @@
 //! The fields of a header, each read by itself.
 //!
-//! Each reader returns what the reader of this name in `specs/` does (`byte_at`, `number_at`, ..): with the value, past
-//! the field, or with the field's place and what is wrong there.
+//! Each function answers as a reader in `specs/` does (`byte_at`, `number_at`, ..): a value, with the cursor after the
+//! field, or the field's place and the reason why it is malformed.
 ghost use Rattle.std.specs.Prelude.{◌≡◌, ◌≤◌, ◌-◌, IfOk};
 ghost use Rattle.twkb_num.specs.Units.{IsPrecision};
 ghost use Rattle.twkb_head.specs.BegunHeader.{deepest};
@@ -33,7 +33,7 @@ pub fn take_type(cursor: &mut Cursor, depth: u8) -> Result<(Kind, i8), Malformed
     }
 }
 
-/// The byte at the place.
+/// Reads the byte at the place. Without one the field is `Cut`.
 #[inline(always)]
 pub fn take_byte(cursor: &mut Cursor) -> Result<u8, Malformed>
     ensures { byte_at cursor.old ≡ (result, cursor.new) }

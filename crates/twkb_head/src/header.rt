@@ -1,4 +1,4 @@
-//! What a header says, and where its parts are.
+//! [`Head`], what a header says and where its parts are.
 ghost use Rattle.std.specs.Prelude.{◌≡◌, ◌≤◌};
 ghost use Rattle.twkb_head.specs.Head.{m_axis};
 ghost use Rattle.twkb_head.specs.Header.{axes_with};
@@ -77,7 +77,7 @@ impl Head {
         }
     }
 
-    /// The place of M among them: after X and Y, and after Z if there is one.
+    /// The place of M among the coordinates of a point: after X and Y, and after Z if there is one.
     #[inline(always)]
     pub fn m_axis(&self) -> usize
         ensures value { result ≡ m_axis self.now.z }

@@ -1,4 +1,4 @@
-//! The seven types of a geometry, and how deep each may be.
+//! [`Kind`], the seven types of a geometry, and how deep each may be.
 ghost use Rattle.std.specs.Prelude.{◌≡◌, ◌%◌, ◌≤◌, ◌-◌, IfOk, IfErr};
 ghost use Rattle.twkb_head.specs.BegunHeader.{is_collection, deepest};
 ghost use Rattle.twkb_head.specs.Header.{is_multi, code_of};

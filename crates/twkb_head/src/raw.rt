@@ -9,8 +9,8 @@ use crate::boxes::{Bounds, Span};
 use crate::header::{BoxField, Head, SizeField};
 use crate::kinds::Kind;
 
-/// How far from zero a number of a box may be.
-const FAR: i64 = 1 << 61;
+/// A box is near if its numbers are at most this far from zero. Then a sum of two of them fits 64 bits.
+const NEAR: i64 = 1 << 61;
 
 /// The two numbers of an axis of a box: a minimum, and the extent from there to the maximum.
 #[derive(Clone, Copy, Debug, PartialEq, Eq)]
@@ -59,7 +59,7 @@ impl RawRange {
     pub fn is_near(&self) -> bool
         ensures { result ≡ true → IsNear self.now }
     {
-        reaches(self.minimum) && reaches(self.extent)
+        is_near(self.minimum) && is_near(self.extent)
     }
 
     /// The least number of the range, and the greatest.
@@ -93,12 +93,12 @@ impl RawRange {
     }
 }
 
-/// Whether a number is at most so far from zero that sums of two have 64 bits.
+/// If `true`, the number is at most 2^61 from zero, so a sum of two such numbers fits 64 bits.
 #[inline(always)]
-fn reaches(number: i64) -> bool
+fn is_near(number: i64) -> bool
     ensures { result ≡ true → (neg_ℤ (pos (2 ^ 61)) ≤ℤ number) × (number ≤ℤ pos (2 ^ 61)) }
 {
-    -FAR <= number && number <= FAR
+    -NEAR <= number && number <= NEAR
 }
 
 impl RawBox {
@@ -127,7 +127,7 @@ impl RawBox {
         self.x.is_near() && self.y.is_near() && self.third.is_near() && self.fourth.is_near()
     }
 
-    /// The range of M, where there is one.
+    /// The range of M, if the header has one, by whether it also has a Z.
     #[inline(always)]
     pub fn last(&self, z: Option<u8>) -> RawRange
         ensures { ends_of result ≡ range_of (ranges_in self.now) (m_axis z) }

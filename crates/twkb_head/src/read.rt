@@ -1,4 +1,4 @@
-//! Reading a header.
+//! [`read_head`] and the other functions that read a header, whole or in two steps.
 ghost use Rattle.std.specs.Prelude.{◌≡◌, ◌≢◌, ◌↔◌, ℕ, ◌-◌, ◌≤◌, ◌<◌, ◌%◌, [], ◌∷◌, true, false, not, None, Err, option_map, IfOk, OnOk, IfErr, IfSome, IfNone, IsOk, IsSome};
 ghost use Rattle.twkb_num.specs.Cursor.{Reading, rest, passed, counted, IsMoved, IsSound};
 ghost use Rattle.twkb_num.specs.Units.{IsPrecision};
@@ -22,17 +22,17 @@ use crate::raw::{Axes, Fields};
 use crate::refusal::Malformed;
 use twkb_num::Cursor;
 
-/// The header at the place, of a geometry that stands at `depth`, where a blob has depth 1.
+/// Reads the header at the place, of a geometry at `depth`, where a blob has depth 1.
 ///
 /// It moves past the header, in one pass, and takes no memory. A refusal leaves the place as it was; the bytes looked at
 /// are counted.
-// It is inlined, since the parts of a `Head` are many: so they stay in registers, and those that aren't used aren't made.
+// It is inlined, so that the many parts of a `Head` stay in registers, and parts that aren't used aren't made.
 #[inline(always)]
 pub fn read_head(cursor: &mut Cursor, depth: u8) -> Result<Head, Malformed>
     requires shallowest { 1 ≤ depth }
     requires deepest { depth ≤ deepest }
 
-    // It answers a header exactly where one stands that may stand at this depth, and this one.
+    // It answers a header exactly if one that is allowed at this depth begins here, and then this one.
     ensures exact { IsOk result ↔ StartsWithHeader depth (rest cursor.old) }
     ensures ok { IfOk result (λ head. IsHeadAt head depth cursor.old.place (passed cursor.old cursor.new)) }
     ensures moved { OnOk result (IsMoved cursor.old cursor.new) }
@@ -42,7 +42,7 @@ pub fn read_head(cursor: &mut Cursor, depth: u8) -> Result<Head, Malformed>
     ensures z_high { IfOk result (λ head. IfSome head.z (λ p. p ≤ 7)) }
     ensures m_high { IfOk result (λ head. IfSome head.m (λ p. p ≤ 7)) }
 
-    // It names the first field that can't follow, for one of the first four reasons, and counts what it looked at.
+    // It names the first field that can't follow, for one of the first four reasons, and counts the bytes that it looked at.
     ensures refused { IfErr result (λ m. IsRefusedHead m depth cursor.old.place (rest cursor.old)) }
     ensures no_range { IfErr result (λ m. m.why ≢ Range) }
     ensures still { IfErr result (λ m. cursor.new ≡ counted cursor.old (looked_at_until m cursor.old)) }
@@ -213,7 +213,7 @@ pub fn begun_by(cursor: &Cursor, depth: u8, first: u8, metadata: u8) -> Option<B
 }
 
 /// The header of a blob that begins with these two bytes, which were just read, if it is of this kind and announces these fields.
-/// Its metadata byte is the fields.
+/// The result's metadata byte is `fields`.
 // Where kind and fields are constants, both bytes are compared at once, and the compiler knows which fields there are.
 #[inline(always)]
 pub fn begun_as(cursor: &Cursor, kind: Kind, fields: u8, first: u8, metadata: u8) -> Option<Begun>
@@ -297,7 +297,7 @@ fn take_fields(cursor: &mut Cursor, begun: Begun) -> Result<Fields, Malformed>
     })
 }
 
-/// The extended dimensions byte, where it is announced (TWKB specification, "Extended Dimensions").
+/// Reads the extended dimensions byte, if it is announced (TWKB specification, "Extended Dimensions").
 #[inline(always)]
 pub fn take_extended(cursor: &mut Cursor, announced: bool) -> Result<Option<u8>, Malformed>
     ensures { optional_at announced byte_at cursor.old ≡ (result, cursor.new) }
@@ -309,7 +309,7 @@ pub fn take_extended(cursor: &mut Cursor, announced: bool) -> Result<Option<u8>,
     }
 }
 
-/// The size, where it is announced (TWKB specification, "Size").
+/// Reads the size, if it is announced (TWKB specification, "Size").
 #[inline(always)]
 pub fn take_size(cursor: &mut Cursor, announced: bool) -> Result<Option<u64>, Malformed>
     ensures { optional_at announced number_at cursor.old ≡ (result, cursor.new) }
@@ -321,7 +321,7 @@ pub fn take_size(cursor: &mut Cursor, announced: bool) -> Result<Option<u64>, Ma
     }
 }
 
-/// A size, and where it stands.
+/// The size field of this value, with its place and the place after it, if there is a size.
 #[inline(always)]
 pub fn size_field(value: Option<u64>, offset: usize, after: usize) -> Option<SizeField>
     ensures { result ≡ option_map (λ value. record { value = value; offset = offset; after = after }) value }

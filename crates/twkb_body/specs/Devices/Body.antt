@@ -1,5 +1,5 @@
 -- Devices of proofs: nothing public names them.
--- The body of a geometry as it is read: the sums of its numbers, and what it comes to.
+-- The body of a geometry as it is read: the sums of its numbers, and the geometry that they make.
 use Rattle.std.specs.Prelude.{ℕ, ◌+◌, List, [], ◌∷◌, ℤ, pos, ◌+ℤ◌, Option, None}
 use Rattle.twkb_head.specs.Shared.HeadPlan.{HeadValue}
 use Rattle.twkb_body.specs.Geometry.{Geometry, Members, geometry, none, more, PointValue, PolygonValue}
@@ -14,18 +14,18 @@ abbrev pub behind : PointValue → PointValue
 behind [] = []
 behind (c ∷ cs) = cs
 
--- a point more, axis by axis
+-- the sums after one more point, axis by axis
 abbrev pub add : PointValue → PointValue → PointValue
 add s [] = s
 add [] (n ∷ ns) = n ∷ ns
 add (c ∷ s) (n ∷ ns) = (c +ℤ n) ∷ add s ns
 
--- points more
+-- the sums after more points
 abbrev pub sums : PointValue → List PointValue → PointValue
 sums s [] = s
 sums s (p ∷ ps) = sums (add s p) ps
 
--- rings more
+-- the sums after more rings
 abbrev pub ring_sums : PointValue → PolygonValue → PointValue
 ring_sums s [] = s
 ring_sums s (ring ∷ rings) = ring_sums (sums s ring) rings
@@ -34,17 +34,17 @@ ring_sums s (ring ∷ rings) = ring_sums (sums s ring) rings
 abbrev pub zeros : PointValue
 zeros = pos 0 ∷ pos 0 ∷ pos 0 ∷ pos 0 ∷ []
 
--- a point at the sums before it
+-- the coordinates of a point, by the sums before it and its differences
 abbrev pub place : PointValue → PointValue → PointValue
 place s [] = []
 place s (n ∷ ns) = (first_of s +ℤ n) ∷ place (behind s) ns
 
--- each value as f has it in the state that those before it leave
+-- f of each value, in the state that the values before it leave
 abbrev pub map_from : {A B S : Type 0} → (S → A → S) → (S → A → B) → S → List A → List B
 map_from after f s [] = []
 map_from after f s (x ∷ xs) = f s x ∷ map_from after f (after s x) xs
 
--- polygons of numbers, at their sums
+-- polygons of differences, with the coordinates that they sum up to
 abbrev pub absolute : List PolygonValue → List PolygonValue
 absolute polygons = map_from ring_sums (map_from sums (map_from add place)) zeros polygons
 
@@ -56,7 +56,7 @@ pub record Body : Type 0 where
   pub count : ℕ
   pub list : ℕ
 
--- a count with its length, and ids with theirs
+-- a count with its length in bytes, and the ids with their length
 abbrev pub ListHead : Type 0
 ListHead = (ℕ × ℕ) × (Option (List ℤ) × ℕ)
 
@@ -76,7 +76,7 @@ part_body part = record { ids = None; polygons = absolute (part ∷ []); members
 abbrev pub no_body : Body
 no_body = record { ids = None; polygons = []; members = none; count = 0; list = 0 }
 
--- a geometry of its header, its body and its length
+-- a geometry, from its header, its body and its length
 abbrev pub geometry_from : (HeadValue × ℕ) × Body → ℕ → Geometry
 geometry_from parts whole =
     let head = (parts.0).0 in

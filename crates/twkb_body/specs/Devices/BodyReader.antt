@@ -11,7 +11,7 @@ use Rattle.twkb_head.specs.Shared.Reader.{Answer, Reader, ◌>>=◌, viewed, rea
 use Rattle.twkb_body.specs.Geometry.{Geometry, Members, none, PointValue, Ring, PolygonValue}
 use Rattle.twkb_body.specs.Devices.Body.{first_of, behind, add, sums, ring_sums, zeros, ListHead, Body, parts_body, members_body, part_body, no_body, geometry_from, members_of}
 
--- a point
+-- a point, from the sums before it
 abbrev pub point_at : ℕ → PointValue → Reader PointValue
 point_at axes s = many_at axes (λ s z. behind s) (λ s. coordinate_at (first_of s)) s
 
@@ -38,7 +38,7 @@ part_at Polygon axes s r = polygon_at axes s r
 part_at MultiPolygon axes s r = polygon_at axes s r
 part_at GeometryCollection axes s r = (Ok [], r)
 
--- the value, and how many bytes were read
+-- the value of an answer, and how many bytes were read for it
 abbrev pub spanned : {A : Type 0} → Reading → Answer A → Answer (A × ℕ)
 spanned r (Ok x, a) = (Ok (x, a.place - r.place), a)
 spanned r (Err m, a) = (Err m, a)
@@ -47,7 +47,7 @@ spanned r (Err m, a) = (Err m, a)
 unfoldable pub list_at : Bool → Reader ListHead
 list_at ids r = spanned r (number_at r) >>= λ n a. viewed (λ list. (n, list)) (spanned a (optional_at ids (signeds_at n.0) a))
 
--- a count, and its ids, of a kind that has a list of parts; else one, with no ids
+-- a count and ids, for a kind that has a list of parts; otherwise one part, with no ids
 abbrev pub count_at : Bool → Bool → Reader ListHead
 count_at false ids r = (Ok ((1, 0), (None, 0)), r)
 count_at true ids r = list_at ids r

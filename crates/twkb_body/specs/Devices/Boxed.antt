@@ -1,5 +1,5 @@
 -- Devices of proofs: nothing public names them.
--- Points that are asked for nothing but whether a box of raw numbers holds them.
+-- Whether a box of raw numbers holds points, of which nothing else is asked.
 use Rattle.std.specs.Prelude.{ℕ, ◌+◌, ◌^◌, Bool, true, ◌&&◌, if◌then◌else◌, nat_lt, ℤ, pos, neg_ℤ, ◌+ℤ◌, ◌-ℤ◌, ◌≤ℤ◌, int_le}
 use Rattle.twkb_head.specs.Header.{Header, axes_of}
 use Rattle.twkb_head.specs.declared.raw.RawBox.{RawBox}
@@ -24,11 +24,11 @@ is_in_axis is_there range c = if is_there then is_in_range range c else true
 abbrev pub is_in_flat : RawBox → PointValue → Bool
 is_in_flat box point = is_in_range box.x (coordinate point 0) && is_in_range box.y (coordinate point 1)
 
--- it holds the other coordinates of a point that has this many axes
+-- a box holds the coordinates after Y of a point that has this many axes
 abbrev pub is_in_further : ℕ → RawBox → PointValue → Bool
 is_in_further axes box point = is_in_axis (nat_lt 2 axes) box.third (coordinate point 2) && is_in_axis (nat_lt 3 axes) box.fourth (coordinate point 3)
 
--- it holds all of them
+-- a box holds all coordinates of a point that has this many axes
 abbrev pub is_in_box : ℕ → RawBox → PointValue → Bool
 is_in_box axes box point = is_in_further axes box point && is_in_flat box point
 
@@ -53,7 +53,7 @@ pub record Held : Type 0 where
 abbrev pub held_then : ℕ → Held → PointValue → Held
 held_then axes held point = record { box = held.box; inside = held.inside && is_in_box axes held.box point }
 
--- one of the axes of a header
+-- `Held` after one more point, which has the axes of a header
 abbrev pub held_with : Header → Held → PointValue → Held
 held_with h = held_then (axes_of h)
 
@@ -61,11 +61,11 @@ held_with h = held_then (axes_of h)
 abbrev pub IsNearZero : ℤ → Type 0
 IsNearZero z = (neg_ℤ (pos (2 ^ 61)) ≤ℤ z) × (z ≤ℤ pos (2 ^ 61))
 
--- a distance between two of them, as is that of a point in the box
+-- a distance between two numbers near zero
 abbrev pub IsClose : ℤ → Type 0
 IsClose z = (neg_ℤ (pos (2 ^ 62)) ≤ℤ z) × (z ≤ℤ pos (2 ^ 62))
 
--- a distance that a run meets
+-- a distance near zero (`IsClose`), plus a short difference
 abbrev pub IsMet : ℤ → Type 0
 IsMet z = (neg_ℤ (pos (2 ^ 62 + 2 ^ 27)) ≤ℤ z) × (z ≤ℤ pos (2 ^ 62 + 2 ^ 27))
 

@@ -1,5 +1,5 @@
 -- Devices of proofs: nothing public names them.
--- What the code carries of what it has read, in the words of the pass.
+-- What the code keeps of the geometries it has read, in the words of `Pass`.
 use Rattle.std.specs.Prelude.{◌≡◌, ◌==◌, ℕ, ◌+◌, ◌-◌, ◌≤◌, Bool, cond, Option, Some, None, option_map}
 use Rattle.twkb_head.specs.Header.{Header}
 use Rattle.twkb_head.specs.declared.header.SizeField.{SizeField}
@@ -15,22 +15,22 @@ use Rattle.twkb_body.specs.Audited.{number_of}
 abbrev pub named : Option FalseClaim → Refused
 named refused = option_map (λ f. (f.offset, number_of f.claim)) refused
 
--- what was found of geometries of this reach, as the pass has it
+-- the summary of what was found, of geometries of this reach
 abbrev pub summary : Found → Reach → Summary
 summary f reach = record { count = f.vertices; reach = reach; refused = named f.refused }
 
--- the size, if it is false of a geometry that ends at stop
+-- the claim of the size, if it is false of a geometry that ends at stop
 abbrev pub size_judged : Option SizeField → ℕ → Refused
 size_judged None stop = None
 size_judged (Some size) stop = false_at (size.value == stop - size.after) size.offset 6
 
--- the box, if some vertex of this reach is outside, or in tight checking if it is loose at the precisions of the header
+-- the claim of the box, if some vertex of this reach is outside, or in tight checking if it is loose at the header's precisions
 abbrev pub box_judged : Bool → Header → Option BoxField → Reach → Refused
 box_judged tight h None reach = None
 box_judged tight h (Some field) reach =
     first (false_at (is_within reach field.bounds) field.offset 7) (cond tight (false_at (is_tight h.xy h.z h.m field.bounds reach) field.offset 9) None)
 
--- what was found is the geometry's, between two places, and it has no more vertices than bytes
+-- this was found of the geometry between two places, and it has no more vertices than bytes
 pub record IsFound (tight : Bool) (g : Geometry) (start stop : ℕ) (f : Found) : Type 0 where
   pub sums : Sums tight g start (summary f (reach_of (vertices g)))
   pub stop_is : stop ≡ start + (lengths_of g).whole

@@ -18,7 +18,7 @@ abbrev pub HasManyIdsAfterCount : Bool → List ℕ → Type 0
 HasManyIdsAfterCount has_ids bytes =
     (has_ids ≡ true) × ((n : ℕ) × (count : List ℕ) × (behind : List ℕ) × (bytes ≡ count ++ behind) × Spells count n × HasManyIds n behind)
 
--- what was found of the count and the ids between two readings
+-- the code found this of the count and the ids between two readings
 pub record IsListFound (old new : Reading) (head : ListHead) (list : ListFound) : Type 0 where
   pub count : list.count ≡ (head.0).0
   pub lengths : new.place ≡ old.place + ((head.0).1 + (head.1).1)

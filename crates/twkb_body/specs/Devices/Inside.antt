@@ -16,7 +16,7 @@ use Rattle.twkb_body.specs.Devices.Pass.{Summary, MemberSums, ids_refused}
 use Rattle.twkb_body.specs.Devices.Found.{named, box_judged}
 use Rattle.twkb_body.specs.Devices.Seen.{HasSeen}
 
--- the header of a head, but for its size and its box, on which no body hangs
+-- the header of a head, without its size and its box, on which the body doesn't depend
 abbrev pub of_head : Head → Header
 of_head head = record { kind = head.kind; xy = head.xy; z = head.z; m = head.m; size = None; box = None; ids = head.ids; empty = head.empty }
 
@@ -28,8 +28,8 @@ shape_behind head = shape_at (is_multi head.kind) (of_head head)
 abbrev pub shown_all : {S : Type 0} → (S → Vertex → S) → Head → Body → S → S
 shown_all step head body state = fold step state (map (vertex_of (of_head head)) (points_of body.polygons))
 
--- What was found is that of the body's own points and of its members, between two places, and what is said of a box and
--- shown to the boxes above is of all of these; the body has no more vertices than bytes.
+-- This was found of the body between two places: the vertices of its own points and of its members, and the claims of the
+-- members. The box is judged by all these vertices, the boxes above see them, and there are no more of them than bytes.
 pub record IsInside (tight : Bool) (h : Header) (bounds : Option BoxField) (body : Body) (start stop : ℕ) (above after : Seen) (inside : Inside) : Type 0 where
   pub below : Summary
   pub members : MemberSums tight body.members (start + body.list) below

@@ -12,7 +12,7 @@ use Rattle.twkb_body.specs.Devices.BodyReader.{point_at}
 abbrev pub listed : Numbers → List ℤ
 listed n = n.x ∷ n.y ∷ n.third ∷ n.fourth ∷ []
 
--- such a number in each axis
+-- P holds of the number of each axis
 pub record Each (P : ℤ → Type 0) (n : Numbers) : Type 0 where
   pub x : P n.x
   pub y : P n.y
@@ -35,7 +35,7 @@ IsIn64 z = (neg_ℤ (pos (2 ^ 63)) ≤ℤ z) × (z <ℤ pos (2 ^ 63))
 abbrev pub is_four : ℕ → Bool
 is_four axes = axes == 4
 
--- how many axes there are, of three and four
+-- how many axes there are: four, or three without a fourth
 abbrev pub axes_by : Bool → ℕ
 axes_by has_fourth = if has_fourth then 4 else 3
 

@@ -1,5 +1,5 @@
 -- Devices of proofs: nothing public names them.
--- What one pass carries of a geometry, in place of its tree.
+-- What one pass keeps of a geometry, in place of its tree, and the tests of its claims.
 use Rattle.std.specs.Prelude.{◌≡◌, ℕ, Bool, true, false, ◌&&◌, not, List, [], ◌∷◌, length, ℤ, pos, ◌-ℤ◌, int_le, int_lt, Option, Some, None, All}
 use Rattle.std.specs.Ordering.{int_eq}
 use Rattle.std.specs.Option.{option_or}
@@ -12,17 +12,17 @@ use Rattle.twkb_body.specs.Claims.{Claim, IsFirstFalse, offset_of, claims, membe
 use Rattle.twkb_body.specs.Audited.{IsRefusedAs}
 use Rattle.twkb_body.specs.Devices.Tight.{IsTrueBy}
 
--- offset and kind of a false claim
+-- offset and kind of a false claim, if there is one
 abbrev pub Refused : Type 0
 Refused = Option (ℕ × ℕ)
 
--- how many vertices, their ranges, and the first false claim
+-- how many vertices there are, their ranges, and the first false claim
 pub record Summary : Type 0 where
   pub count : ℕ
   pub reach : Reach
   pub refused : Refused
 
--- the first of two
+-- the first of two false claims, if there is any
 abbrev pub first : Refused → Refused → Refused
 first = option_or
 
@@ -32,7 +32,7 @@ NamesFirstFalse IsTrue list None = All IsTrue list
 NamesFirstFalse IsTrue list (Some at) =
     (claim : Claim) × IsFirstFalse IsTrue list claim × (at.0 ≡ offset_of claim) × IsRefusedAs at.1 claim
 
--- `NamesFirstFalse` for the claims of a geometry, and for those of members
+-- `NamesFirstFalse` for the claims of a geometry, and for the claims of members
 abbrev pub NamesFirstOf : Bool → Geometry → ℕ → Refused → Type 0
 NamesFirstOf tight g start refused = NamesFirstFalse (IsTrueBy tight) (claims g start) refused
 
@@ -61,7 +61,7 @@ covers (Some span) (Some range) = int_le span.lo range.lo && int_le range.hi spa
 abbrev pub is_within : Reach → Bounds → Bool
 is_within reach box = covers (Some box.x) reach.x && (covers (Some box.y) reach.y && (covers box.z reach.z && covers box.m reach.m))
 
--- whether neither end is a step away
+-- whether neither end of a span is a step or more beyond the range, if there is one
 abbrev pub hugs : Span → ℤ → Option Span → Bool
 hugs span step None = true
 hugs span step (Some range) = int_lt (range.lo -ℤ span.lo) step && int_lt (span.hi -ℤ range.hi) step
@@ -78,7 +78,7 @@ is_tight xy z m box reach =
     hugs box.x (units_of (pos 1) xy) reach.x
     && (hugs box.y (units_of (pos 1) xy) reach.y && (hugs_if_both box.z z reach.z && hugs_if_both box.m m reach.m))
 
--- whether an id differs from those of a list
+-- whether an id differs from the ids of a list
 abbrev pub differs : ℤ → List ℤ → Bool
 differs a [] = true
 differs a (b ∷ bs) = not (int_eq a b) && differs a bs
@@ -88,12 +88,12 @@ abbrev pub are_distinct : List ℤ → Bool
 are_distinct [] = true
 are_distinct (a ∷ bs) = differs a bs && are_distinct bs
 
--- what is false where a test says no
+-- the claim at an offset, of a kind, if its test says no
 abbrev pub false_at : Bool → ℕ → ℕ → Refused
 false_at true at kind = None
 false_at false at kind = Some (at, kind)
 
--- the ids, if two are equal
+-- the claim of the ids, if two are equal
 abbrev pub ids_refused : ℕ → Option (List ℤ) → Refused
 ids_refused at None = None
 ids_refused at (Some ids) = false_at (are_distinct ids) at 8

@@ -27,7 +27,7 @@ abbrev pub x_after : ℤ → List (ℤ × ℤ) → ℤ
 x_after x [] = x
 x_after x (d ∷ ds) = x_after (x +ℤ d.0) ds
 
--- the distance in Y
+-- the distance in Y after these differences, each of a point in X and Y
 abbrev pub y_after : ℤ → List (ℤ × ℤ) → ℤ
 y_after y [] = y
 y_after y (d ∷ ds) = y_after (y +ℤ d.1) ds

@@ -10,11 +10,11 @@ use Rattle.twkb_body.specs.declared.range.Range.TheInside.{Inside}
 use Rattle.twkb_body.specs.Geometry.{PointValue, coordinate}
 use Rattle.twkb_body.specs.Extent.{Reach, reach_of, both}
 
--- a range in code, as two numbers: the least is above the greatest where there is none
+-- the range that two numbers mean in code: none if the least is above the greatest
 abbrev pub range_view : Inside → Option Span
 range_view r = cond (int_lt r.greatest r.least) None (Some (record { lo = r.least; hi = r.greatest }))
 
--- where there is no number, any is less than the least, and greater than the greatest
+-- a range of no number has the greatest number of 64 bits as its least, and the least as its greatest
 abbrev pub IsRange : Inside → Type 0
 IsRange r = r.greatest <ℤ r.least → (r.least ≡ pos (2 ^ 63 - 1)) × (r.greatest ≡ neg_ℤ (pos (2 ^ 63)))
 
@@ -28,7 +28,7 @@ abbrev pub scaled_if : Option ℕ → Option Span → Option Span
 scaled_if None range = None
 scaled_if (Some p) range = scaled (pos p) range
 
--- a point of raw coordinates, of which it has those of the axes of its header
+-- a point as a vertex of raw coordinates, in the axes of its header
 abbrev pub raw_of : Header → PointValue → Vertex
 raw_of h point = record {
   x = coordinate point 0;
@@ -37,7 +37,7 @@ raw_of h point = record {
   m = option_map (λ p. coordinate point (m_axis h.z)) h.m;
 }
 
--- a reach of raw coordinates, with a point more
+-- a reach of raw coordinates after one more point
 abbrev pub widened : Header → Reach → PointValue → Reach
 widened h reach point = both reach (reach_of (raw_of h point ∷ []))
 

@@ -1,5 +1,5 @@
 -- Devices of proofs: nothing public names them.
--- What boxes have seen of the vertices below them.
+-- The vertices that boxes have seen below them.
 use Rattle.std.specs.Prelude.{◌≡◌, IsTrue}
 use Rattle.twkb_body.specs.declared.seen.Seen.{Seen}
 use Rattle.twkb_body.specs.Extent.{Reach, both}

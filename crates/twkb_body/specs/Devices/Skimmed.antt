@@ -1,5 +1,5 @@
 -- Devices of proofs: nothing public names them.
--- What is true once geometries were skimmed.
+-- The state after geometries were skimmed, and after one step of a skim.
 use Rattle.std.specs.Prelude.{◌≡◌, ℕ, ℤ, suc, ◌+◌, ◌<◌, ◌≤◌, cond, Bool, false, length, fold, Option, Some, None}
 use Rattle.twkb_num.specs.Cursor.{Reading, added, passed, IsMoved, IsSound}
 use Rattle.twkb_head.specs.BegunHeader.{deepest}
@@ -24,7 +24,7 @@ pub record Config (S : Type 0) : Type 0 where
   pub reading : Reading
   pub state : S
 
--- after a geometry: the place is its end, the bytes of the walk were counted, and each vertex was visited
+-- the state after a geometry: the place is its end, the bytes of the walk were counted, and each vertex was visited
 abbrev pub skimmed : {S : Type 0} → (S → Vertex → S) → (S → Bounds → Bool) → Geometry → Config S → Config S
 skimmed {S} step skips g c = record {
   reading = record {
@@ -35,7 +35,7 @@ skimmed {S} step skips g c = record {
   state = fold step c.state (vertices g);
 }
 
--- after members, one after another
+-- the state after members, one after another
 abbrev pub members_skimmed : {S : Type 0} → (S → Vertex → S) → (S → Bounds → Bool) → Members → Config S → Config S
 members_skimmed step skips none c = c
 members_skimmed step skips (more g gs) c = members_skimmed step skips gs (skimmed step skips g c)
@@ -46,7 +46,7 @@ hop_of skips None box = None
 hop_of skips (Some size) None = None
 hop_of skips (Some size) (Some box) = cond (skips box.bounds) (Some (size.after + size.value)) None
 
--- One step was made into a geometry: what is left of it are the members below.
+-- One step was made into a geometry: only the members `below` are left of it.
 pub record Entered {S : Type 0} (step : S → Vertex → S) (skips : S → Bounds → Bool) (g : Geometry) (depth : ℕ) (old new : Config S) (members : ℕ) : Type 0 where
   pub below : Members
   pub count : members ≡ member_count below
@@ -63,14 +63,14 @@ pub record HasCome (begun : Begun) (now : Reading) (g : Geometry) (depth : ℕ) 
   pub sound : IsSound before
   pub begins : BeginsHead begun 1 before now
 
--- Its header was read.
+-- The header of a certified geometry, which begins at the place of `before`, was read.
 pub record HasRead (raw : Fields) (now : Reading) (g : Geometry) (depth : ℕ) (before : Reading) : Type 0 where
   pub stands : StandsAt g depth before.bytes before.place
   pub sound : IsSound before
   pub at : IsHeadAt (head_said raw) 1 before.place (passed before now)
   pub moved : IsMoved before now
 
--- X and Y alone
+-- the axes X and Y alone, at a precision
 abbrev pub flat_axes : ℤ → Axes
 flat_axes xy = record { xy = xy; z = None; m = None }
 
@@ -79,7 +79,7 @@ abbrev pub full_head : Kind → Axes → Bool → Option SizeField → Option Bo
 full_head kind axes ids size bounds start stop =
     record { kind = kind; xy = axes.xy; z = axes.z; m = axes.m; size = size; bounds = bounds; ids = ids; empty = false; start = start; stop = stop }
 
--- Its header was read, and it is neither skipped nor empty.
+-- The header of a certified geometry at the place of `before` was read, and the geometry is neither skipped nor empty.
 pub record IsBehind (skips : Bounds → Bool) (kind : Kind) (axes : Axes) (ids : Bool) (now : Reading) (g : Geometry) (depth : ℕ) (before : Reading) : Type 0 where
   pub size : Option SizeField
   pub bounds : Option BoxField
@@ -91,11 +91,11 @@ pub record IsBehind (skips : Bounds → Bool) (kind : Kind) (axes : Axes) (ids :
   pub moved : IsMoved before now
   pub stays : hop_of skips size bounds ≡ None
 
--- a certified geometry is known to stand before the cursor, where this holds of it
+-- there is a certified geometry of which Stands holds
 abbrev pub IsThere : (Geometry → ℕ → Reading → Type 0) → Type 0
 IsThere Stands = (g : Geometry) × (depth : ℕ) × (before : Reading) × Stands g depth before
 
--- whatever certified geometry that is, one step was made into it
+-- one step was made into each certified geometry of which Stands holds
 abbrev pub Enters : {S : Type 0} → (S → Vertex → S) → (S → Bounds → Bool) → (Geometry → ℕ → Reading → Type 0) → S → S → Reading → ℕ → Type 0
 Enters step skips Stands state state' new members = (g : Geometry) (depth : ℕ) (before : Reading) → Stands g depth before
     → Entered step skips g depth (record { reading = before; state = state }) (record { reading = new; state = state' }) members

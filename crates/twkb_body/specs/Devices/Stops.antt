@@ -1,5 +1,5 @@
 -- Devices of proofs: nothing public names them.
--- How a read in code that may want memory is the reader's.
+-- The answers of code that reads and may want memory, by the answers of the readers.
 use Rattle.std.specs.Prelude.{◌≡◌, ◌≢◌, ◌↔◌, ℕ, ◌+◌, ◌-◌, ◌<◌, Bool, true, false, IsTrue, ℤ, pos, List, AllPairs, Result, Ok, Err}
 use Rattle.twkb_num.specs.Cursor.{Reading, rest}
 use Rattle.twkb_head.specs.declared.header.Head.{Head}
@@ -21,12 +21,12 @@ use Rattle.twkb_body.specs.declared.seen.Seen.{Seen}
 use Rattle.twkb_body.specs.declared.stopped.Stopped.{Stopped}
 use Rattle.twkb_body.specs.declared.stopped.Stopped.TheVariants.{Malformed as BadField, Memory}
 
--- why the code stopped: the reader fails so, or memory was wanted for some cause
+-- why the code stopped: the reader fails with this fault, or memory was wanted for the cause Wants
 abbrev pub HasStopped : {A : Type 0} → Answer A → Type 0 → Reading → Stopped → Reading → Type 0
 HasStopped answer Wants old (BadField m) new = Fails answer m new
 HasStopped answer Wants old Memory new = (new.bytes ≡ old.bytes) × Wants
 
--- on Ok the reader gives some value, and the code's is made of it
+-- on Ok the reader gives a value, and Gives relates it to the value of the code; on Err the code stopped
 abbrev pub ReadsOrStops : {A B : Type 0} → Answer A → (A → B → Type 0) → Type 0 → Reading → Result B Stopped → Reading → Type 0
 ReadsOrStops {A} answer Gives Wants old (Ok y) new = (x : A) × (answer ≡ (Ok x, new)) × Gives x y
 ReadsOrStops answer Gives Wants old (Err e) new = HasStopped answer Wants old e new
@@ -41,7 +41,7 @@ abbrev pub ReadsList : Answer ListHead → Bool → Reading → Result ListFound
 ReadsList answer has_ids old result new =
     ReadsOrStops answer (λ head list. IsListFound old new head list) (HasManyIdsAfterCount has_ids (rest old)) old result new
 
--- `ReadsOrStops` for a body, of which the code gives what was found inside
+-- `ReadsOrStops` for a body, of which the code says what was found inside
 abbrev pub ReadsInside : Bool → Head → Answer Body → Type 0 → Seen → Seen → Reading → Result Inside Stopped → Reading → Type 0
 ReadsInside tight head answer Wants above after old result new =
     ReadsOrStops answer
@@ -54,14 +54,14 @@ ReadsGeometry tight depth above after old result new =
     (λ g found. IsFound tight g old.place new.place found × HasSeen above after (reach_of (vertices g)))
     (HasLongList depth (rest old)) old result new
 
--- Memory was wanted in the body of a collection, which has this many levels below it: for the ids of its own list, or
--- for those of a member after the ones that were read.
+-- Memory was wanted in the body of a collection, whose members have this many levels below them: for the ids of its own list,
+-- or for the ids of a list in a member, after the members that were read.
 pub data WantsInside (depth levels : ℕ) (ids : Bool) (r : Reading) : Type 0 where
   own_ids : HasManyIdsAfterCount ids (rest r) → WantsInside depth levels ids r
   member_ids : (list : ListHead) (mid new : Reading) (i : ℕ) (gs : List Geometry) → list_at ids r ≡ (Ok list, mid) → i < (list.0).0
       → many_at i (λ (s : ℤ) (g : Geometry). s) (λ s. geometry_at levels) (pos 0) mid ≡ (Ok gs, new) → HasLongList (depth + 1) (rest new) → WantsInside depth levels ids r
 
--- why memory was wanted in a body behind this header, that of a collection or of another kind
+-- why memory was wanted in a body: of another kind, for its ids; of a collection, for its ids or in a member
 abbrev pub WantsIn : Bool → Bool → ℕ → Bool → Reading → Type 0
 WantsIn false empty depth ids old = HasManyIdsAfterCount ids (rest old)
 WantsIn true empty depth ids old = (empty ≡ false) × WantsInside depth (deepest - (depth + 1)) ids old

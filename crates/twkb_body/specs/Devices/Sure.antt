@@ -38,7 +38,7 @@ use Rattle.twkb_body.specs.Devices.Inside.{of_head, IsInside}
 use Rattle.twkb_body.specs.Devices.Stops.{WantsIn}
 use Rattle.twkb_body.specs.Devices.Walk.{IsWalked}
 
--- nothing of it is false
+-- this many vertices were found, and no false claim
 abbrev pub faultless : ℕ → Found
 faultless vertices = record { vertices = vertices; refused = None }
 
@@ -46,7 +46,7 @@ faultless vertices = record { vertices = vertices; refused = None }
 abbrev pub unseen : Seen
 unseen = record { asked = false; extent = reach_of [] }
 
--- So many parts of this kind were read, and their points added to a state; there are so many of these.
+-- `count` parts of this kind were read, and their points, `vertices` in all, were added to a state.
 pub record ReadParts {S : Type 0} (step : S → PointValue → S) (kind : Kind) (axes count : ℕ) (old new : Reading) (state state' : S) (vertices : ℕ) : Type 0 where
   pub parts : List PolygonValue
   pub after : Trail
@@ -58,7 +58,7 @@ pub record ReadParts {S : Type 0} (step : S → PointValue → S) (kind : Kind) 
 abbrev pub AreMalformed : Kind → ℕ → ℕ → Reading → Reading → Type 0
 AreMalformed kind axes count old new = (m : Malformed) × Fails (many_at count ring_sums (part_at kind axes) zeros old) m new
 
--- They were read, and the box holds all their points, or not all of them.
+-- The parts were read. The box holds all their points if `all` is true, and not all if it is false.
 abbrev pub AreHeld : Bool → Kind → ℕ → ℕ → RawBox → Reading → Reading → ℕ → Type 0
 AreHeld all kind axes count box old new vertices =
     (held : Held) × ReadParts (held_then axes) kind axes count old new (record { box = box; inside = true }) held vertices × (held.inside ≡ all)
@@ -91,7 +91,7 @@ pub record LiesInAll (z m : Option ℕ) (inner outer : RawBox) : Type 0 where
 abbrev pub framed : Head → RawBox → Frame
 framed head box = record { xy = head.xy; z = head.z; m = head.m; bounds = box }
 
--- there are Z or M
+-- there is a Z or an M
 abbrev pub has_further : Option ℕ → Option ℕ → Bool
 has_further z m = is_some z || is_some m
 
@@ -103,12 +103,12 @@ pub record IsNear (z m : Option ℕ) (box : RawBox) : Type 0 where
 abbrev pub IsNearFrame : Frame → Type 0
 IsNearFrame frame = IsNear frame.z frame.m frame.bounds × (IsPrecision frame.xy × IfSome frame.z (λ p. p ≤ 7) × IfSome frame.m (λ p. p ≤ 7))
 
--- `IsNearFrame`, and at the precisions of a header
+-- the frame is near (`IsNearFrame`) and has the precisions of a header
 abbrev pub IsFramed : Head → Frame → Type 0
 IsFramed head frame = (frame ≡ framed head frame.bounds) × IsNearFrame frame
 
--- The frame that a geometry with this header and this own frame, if any, gives to its vertices under the one above: its own,
--- which lies in that above, or else that above.
+-- The frame of the vertices of a geometry with this header, its own frame if any, and a frame above if any: it is its own if
+-- there is one. It holds vertices exactly if its own and the frame above do.
 pub record IsFrameUnder (above : Option Frame) (head : Head) (own frame : Option Frame) : Type 0 where
   pub framed : IfSome frame (IsFramed head)
   pub own_is : IfSome own (λ f. frame ≡ Some f)
@@ -119,14 +119,14 @@ pub record IsFrameUnder (above : Option Frame) (head : Head) (own frame : Option
 abbrev pub body_vertices : Header → Body → List Vertex
 body_vertices h body = map (vertex_of h) (points_of body.polygons) ++ member_vertices body.members
 
--- After a header with this many levels below it a body was read, of which nothing is false, and whose vertices the frame holds.
+-- After a header with this many levels below it a body was read that has no false claim, and whose vertices the frame holds.
 pub record IsSureBody (levels : ℕ) (head : Head) (frame : Option Frame) (old new : Reading) (vertices : ℕ) : Type 0 where
   pub body : Body
   pub read : body_at head.empty (is_collection head.kind) (of_head head) (members_under levels) old ≡ (Ok body, new)
   pub inside : IsInside false (of_head head) None body old.place new.place unseen unseen (record { found = faultless vertices; boxed = None; ids = None })
   pub held : IsHeldBy frame (body_vertices (of_head head) body)
 
--- A geometry with this many levels below it was read, of which nothing is false, and whose vertices the frame above holds.
+-- A geometry with this many levels below it was read that has no false claim, and whose vertices the frame above holds.
 pub record IsSure (levels : ℕ) (above : Option Frame) (old new : Reading) (vertices : ℕ) : Type 0 where
   pub whole : Geometry
   pub read : geometry_at levels old ≡ (Ok whole, new)
@@ -134,17 +134,17 @@ pub record IsSure (levels : ℕ) (above : Option Frame) (old new : Reading) (ver
   pub held : IsHeldBy above (vertices_of whole)
 
 -- ---- where it isn't sure
--- the claims inside a body that begins there are true: of its ids, and of its members
+-- the claims inside a body that begins at start are true: the claim of its ids, and the claims of its members
 abbrev pub IsTrueInside : Body → ℕ → Type 0
 IsTrueInside body start = IfSome body.ids (λ ids. AllPairs (λ a b. a ≢ b) ids) × All IsTrueClaim (member_claims body.members (start + body.list))
 
--- Where a body stands there after all, a claim inside is false, or the frame doesn't hold a vertex.
+-- If a body can be read there at all, a claim inside is false, or the frame doesn't hold a vertex.
 abbrev pub IsRefutedBody : ℕ → Head → Option Frame → Reading → Type 0
 IsRefutedBody levels head frame old = (body : Body) (new : Reading)
     → body_at head.empty (is_collection head.kind) (of_head head) (members_under levels) old ≡ (Ok body, new)
     → IsTrueInside body old.place → IsHeldBy frame (body_vertices (of_head head) body) → ⊥
 
--- The same behind a header, whose size or box may be what is false.
+-- If a body can be read after a header, a claim inside, the size or the box is false, or the frame above doesn't hold a vertex.
 abbrev pub IsRefutedBehind : ℕ → Head → Option Frame → Reading → Type 0
 IsRefutedBehind levels head above old = (body : Body) (new : Reading)
     → body_at head.empty (is_collection head.kind) (of_head head) (members_under levels) old ≡ (Ok body, new)
@@ -152,42 +152,42 @@ IsRefutedBehind levels head above old = (body : Body) (new : Reading)
     → IfSome head.bounds (λ field. All (Holds field.bounds) (body_vertices (of_head head) body))
     → IsHeldBy above (body_vertices (of_head head) body) → ⊥
 
--- Where a geometry stands there after all, a claim of it is false, or the frame above doesn't hold a vertex.
+-- If a geometry can be read there at all, a claim of it is false, or the frame above doesn't hold a vertex.
 abbrev pub IsRefuted : ℕ → Option Frame → Reading → Type 0
 IsRefuted levels above old = (whole : Geometry) (new : Reading) → geometry_at levels old ≡ (Ok whole, new)
     → All IsTrueClaim (claims whole old.place) → IsHeldBy above (vertices_of whole) → ⊥
 
--- what stopped the reading of a list or of a body, as a doubt
+-- the reason why the reading of a list or of a body stopped, as a doubt
 abbrev pub doubt_of : Stopped → Doubt
 doubt_of (BadField m) = Refused
 doubt_of NoMemory = Memory
 
--- why reading isn't sure, with the bytes as they were: it is refuted, or memory was wanted for some cause
+-- why reading isn't sure: Refuted holds, or memory was wanted for the cause Wants; the bytes are unchanged
 abbrev pub HasDoubt : Type 0 → Type 0 → Reading → Doubt → Reading → Type 0
 HasDoubt Refuted Wants old Refused new = (new.bytes ≡ old.bytes) × Refuted
 HasDoubt Refuted Wants old Memory new = (new.bytes ≡ old.bytes) × Wants
 
--- so many vertices, of which reading is sure, or why it isn't
+-- on Ok Sure holds of the number of vertices; on Err there is the doubt (`HasDoubt`)
 abbrev pub IsSureOr : (ℕ → Type 0) → Type 0 → Type 0 → Reading → Result ℕ Doubt → Reading → Type 0
 IsSureOr Sure Refuted Wants old (Ok vertices) new = Sure vertices
 IsSureOr Sure Refuted Wants old (Err doubt) new = HasDoubt Refuted Wants old doubt new
 
--- a body is sure, or why it isn't, after a header that is at a depth
+-- on Ok a body after a header at a depth is sure; on Err there is the doubt
 abbrev pub CertifiesBody : ℕ → Head → Option Frame → Reading → Result ℕ Doubt → Reading → Type 0
 CertifiesBody depth head frame old result new =
     IsSureOr (IsSureBody (deepest - depth) head frame old new) (IsRefutedBody (deepest - depth) head frame old) (WantsIn (is_collection head.kind) head.empty depth head.ids old) old result new
 
--- the same of a whole geometry
+-- on Ok a whole geometry at a depth is sure; on Err there is the doubt
 abbrev pub Certifies : ℕ → Option Frame → Reading → Result ℕ Doubt → Reading → Type 0
 Certifies depth above old result new =
     IsSureOr (IsSure (deepest - depth) above old new) (IsRefuted (deepest - depth) above old) (HasLongList depth (rest old)) old result new
 
--- its size is true, or it is false, and that is why
+-- on Ok the size is true of a geometry that ends at stop; on Err the size is false
 abbrev pub IsJudged : Head → ℕ → ℕ → Result ℕ Doubt → Type 0
 IsJudged head stop vertices (Ok counted) = (counted ≡ vertices) × (size_judged head.size stop ≡ None)
 IsJudged head stop vertices (Err doubt) = (doubt ≡ Refused) × ((f : ℕ × ℕ) × (size_judged head.size stop ≡ Some f))
 
--- Behind a header a body was read, of which nothing is false, and whose vertices its box and the frame above hold.
+-- After a header a body was read that has no false claim, and whose vertices the header's box and the frame above hold.
 pub record IsSureBehind (levels : ℕ) (head : Head) (above : Option Frame) (old new : Reading) (vertices : ℕ) : Type 0 where
   pub body : Body
   pub read : body_at head.empty (is_collection head.kind) (of_head head) (members_under levels) old ≡ (Ok body, new)
@@ -195,7 +195,7 @@ pub record IsSureBehind (levels : ℕ) (head : Head) (above : Option Frame) (old
   pub boxed : IfSome head.bounds (λ field. All (Holds field.bounds) (body_vertices (of_head head) body))
   pub held : IsHeldBy above (body_vertices (of_head head) body)
 
--- the same of a body behind a header, with its box
+-- on Ok a body after a header at a depth is sure, with the header's box; on Err there is the doubt
 abbrev pub CertifiesBehind : ℕ → Head → Option Frame → Reading → Result ℕ Doubt → Reading → Type 0
 CertifiesBehind depth head above old result new =
     IsSureOr (IsSureBehind (deepest - depth) head above old new) (IsRefutedBehind (deepest - depth) head above old) (WantsIn (is_collection head.kind) head.empty depth head.ids old) old result new
@@ -205,24 +205,24 @@ abbrev pub IsWrongCount : Bool → Bool → Reading → Reading → Type 0
 IsWrongCount multi ids old new = ((m : Malformed) × Fails (count_at multi ids old) m new)
     ⊎ ((list : ListHead) × (found : ListFound) × (f : FalseClaim) × (count_at multi ids old ≡ (Ok list, new)) × IsListFound old new list found × (found.ids ≡ Some f))
 
--- so many parts were counted, and their ids are distinct
+-- the count of parts was read, and the ids are distinct
 abbrev pub IsCounted : Bool → Bool → Reading → Reading → ℕ → Type 0
 IsCounted multi ids old new count = (list : ListHead) × (count_at multi ids old ≡ (Ok list, new)) × IsListFound old new list (record { count = count; ids = None })
 
 abbrev pub CountsParts : Bool → Bool → Reading → Result ℕ Doubt → Reading → Type 0
 CountsParts multi ids old result new = IsSureOr (IsCounted multi ids old new) (IsWrongCount multi ids old new) (HasManyIdsAfterCount ids (rest old)) old result new
 
--- the same of a body that is no collection's
+-- on Ok a body that is no collection's is sure; on Err there is the doubt
 abbrev pub CertifiesShape : ℕ → Head → Option Frame → Reading → Result ℕ Doubt → Reading → Type 0
 CertifiesShape levels head frame old result new =
     IsSureOr (IsSureBody levels head frame old new) (IsRefutedBody levels head frame old) (HasManyIdsAfterCount head.ids (rest old)) old result new
 
--- a header says this, and its box is one of raw numbers
+-- a header that isn't empty says this, apart from its size, and its box is these raw numbers in units
 pub record IsApart (head : Head) (kind : Kind) (xy : ℤ) (z m : Option ℕ) (ids : Bool) (box : Option RawBox) : Type 0 where
   pub same : of_head head ≡ record { kind = kind; xy = xy; z = z; m = m; size = None; box = None; ids = ids; empty = false }
   pub bounds : option_map (λ field. field.bounds) head.bounds ≡ option_map (raw_bounds xy z m) box
 
--- the number of vertices that was found with the place where the blob ends
+-- of a number of vertices and an end, the number of vertices
 abbrev pub counted_in : Result (ℕ × ℕ) Doubt → Result ℕ Doubt
 counted_in (Ok both) = Ok both.0
 counted_in (Err doubt) = Err doubt

@@ -1,5 +1,5 @@
 -- Devices of proofs: nothing public names them.
--- What reading numbers does to the differences under one header, and to what their points are added to.
+-- How reading points changes the sums under one header, and the state that the points are added to.
 use Rattle.std.specs.Prelude.{◌≡◌, ℕ, ◌+◌, ◌≤◌, Bool, true, false, List, [], ◌∷◌, length, fold, IfSome, Result, Ok}
 use Rattle.twkb_num.specs.Cursor.{Reading}
 use Rattle.twkb_num.specs.Units.{IsPrecision}
@@ -26,7 +26,7 @@ abbrev pub HaveAxes : ℕ → List PointValue → Type 0
 HaveAxes axes [] = Unit {0}
 HaveAxes axes (point ∷ points) = (length point ≡ axes) × HaveAxes axes points
 
--- the same with all four axes: the sums that each point leaves
+-- the sums that each point leaves, in all four axes
 abbrev pub lasts_from : PointValue → List PointValue → List PointValue
 lasts_from s numbers = map_from add add s numbers
 
@@ -34,8 +34,8 @@ lasts_from s numbers = map_from add add s numbers
 abbrev pub shown : {S : Type 0} → (S → Vertex → S) → Header → S → PointValue → S
 shown step h s point = step s (vertex_of h point)
 
--- From one trail to another these numbers were read, between two places, of which each point takes a byte at least; and
--- the points were added, one after another.
+-- From one trail to another these numbers were read, between two places, with at least a byte for each point; and the points
+-- were added, one after another.
 pub record IsWalked {S : Type 0} (step : S → PointValue → S) (axes : ℕ) (old new : Trail) (state state' : S) (start stop : ℕ) (numbers : List PointValue) : Type 0 where
   pub last : new.last ≡ sums old.last numbers
   pub points : new.points ≡ old.points + length numbers
@@ -61,18 +61,18 @@ pub record IsRun {S : Type 0} (step : S → PointValue → S) (axes : ℕ) (old 
 abbrev pub IsStill : {S : Type 0} → (S → PointValue → S) → S → Type 0
 IsStill step s = (point : PointValue) → step s point ≡ s
 
--- The trail is the one that the points lead to, or it is lost, after a state that no point changes.
+-- The trail is t, to which the points lead; or it is lost, and no point changes the state.
 pub record Follows {S : Type 0} (step : S → PointValue → S) (lost : Bool) (trail t : Trail) (s : S) : Type 0 where
   pub kept : lost ≡ false → trail ≡ t
   pub still : lost ≡ true → IsStill step s
 
--- A value is known to stand there.
+-- The reader gives this value at the reading, from the trail t; it is known without reading.
 pub record IsKnown {A S : Type 0} (each : PointValue → Reader A) (step : S → PointValue → S) (lost : Bool) (trail : Trail) (s : S) (r : Reading) (t : Trail) (x : A) (stop : Reading) : Type 0 where
   pub read : each t.last r ≡ (Ok x, stop)
   pub follows : Follows step lost trail t s
   pub counted : t.points ≤ r.place
 
--- The points of such a value were shown, and the place is behind it.
+-- The points of a value that is known (`IsKnown`) were shown, and the place is after it.
 pub record AreShown {A S : Type 0} (points_in : A → List PointValue) (step : S → PointValue → S) (axes : ℕ) (lost : Bool) (trail : Trail) (s s' : S) (r new : Reading) (t : Trail) (x : A) (stop : Reading) : Type 0 where
   pub there : new ≡ stop
   pub after : Trail

@@ -13,7 +13,7 @@ fn is_in_range(range: &RawRange, coordinate: i64) -> bool
     0 <= distance && distance <= i128::from(range.extent)
 }
 
-/// Whether a coordinate is within reach in an axis that a point may lack.
+/// Whether a range holds a coordinate, if the point has the axis.
 #[inline(always)]
 fn is_in_axis(is_there: bool, range: &RawRange, coordinate: i64) -> bool
     ensures { result ≡ is_in_axis is_there range.now coordinate }
@@ -29,8 +29,8 @@ fn is_in_flat(bounds: &RawBox, point: &[i64; 4]) -> bool
     is_in_range(&bounds.x, point[0]) && is_in_range(&bounds.y, point[1])
 }
 
-/// Whether a box holds the other coordinates of a point that has so many axes.
-// It isn't inlined: few points have these axes, and most of those that have are read in runs.
+/// Whether a box holds the Z and the M of a point that has `axes` axes.
+// It isn't inlined: few points have these axes, and most points that have them are read in runs.
 #[inline(never)]
 fn is_in_further(axes: usize, bounds: &RawBox, point: &[i64; 4]) -> bool
     ensures { result ≡ is_in_further axes bounds.now point.now }
@@ -38,7 +38,7 @@ fn is_in_further(axes: usize, bounds: &RawBox, point: &[i64; 4]) -> bool
     is_in_axis(2 < axes, &bounds.third, point[2]) && is_in_axis(3 < axes, &bounds.fourth, point[3])
 }
 
-/// Whether the coordinates in Z and M are within reach, of the axes that there are.
+/// Whether the third range and the fourth hold the coordinates of a point, for the axes that it has.
 #[inline(always)]
 fn is_in_others(axes: usize, bounds: &RawBox, point: &[i64; 4]) -> bool
     ensures { result ≡ is_in_further axes bounds.now point.now }
@@ -50,7 +50,7 @@ fn is_in_others(axes: usize, bounds: &RawBox, point: &[i64; 4]) -> bool
     }
 }
 
-/// Whether a box holds all coordinates of a point that has so many axes.
+/// Whether a box holds all coordinates of a point that has `axes` axes.
 #[inline(always)]
 pub fn is_in_box(axes: usize, bounds: &RawBox, point: &[i64; 4]) -> bool
     ensures { result ≡ is_in_box axes bounds.now point.now }

@@ -1,5 +1,5 @@
 //! Points and lines of X and Y without a box, in the first reading, after their first two bytes.
-ghost use Rattle.std.specs.Prelude.{◌≡◌, ◌≤◌, ◌+◌, ◌%◌, ℕ, false, None, Some, IfSome, IfOk, IfErr};
+ghost use Rattle.std.specs.Prelude.{◌≡◌, ◌≤◌, ◌+◌, ◌%◌, ◌^◌, ℕ, false, None, Some, IfSome, IfOk, IfErr};
 ghost use Rattle.twkb_num.specs.Cursor.{Reading, IsSound};
 ghost use Rattle.twkb_num.specs.Units.{IsPrecision};
 ghost use Rattle.twkb_head.specs.Header.{has_bit};
@@ -12,11 +12,10 @@ ghost use Rattle.twkb_body.specs.Devices.Sure.{counted_in, Certifies};
 use super::judged;
 use super::unboxed::{take_bare_point, take_flat_line};
 use crate::doubt::Doubt;
-use crate::found::judge_size;
 use twkb_head::{Begun, SizeField, take_rest};
 use twkb_num::Cursor;
 
-/// A point of X and Y without a box, after its first two bytes.
+/// Reads a point of X and Y without a box, after its first two bytes.
 #[inline(always)]
 pub fn take_plain_point(cursor: &mut Cursor, begun: Begun) -> Result<(usize, usize), Doubt>
     requires xy { IsPrecision begun.xy }
@@ -32,13 +31,15 @@ pub fn take_plain_point(cursor: &mut Cursor, begun: Begun) -> Result<(usize, usi
     let Ok(raw) = take_rest(cursor, begun) else {
         return Err(Doubt::Refused);
     };
+    // This comes before the numbers, so that the next blob needn't wait for their ends.
+    let end = end_by(raw.size);
     let vertices = take_bare_point(cursor)?;
-    let stop = judged_stop(raw.size, cursor.place())?;
+    let stop = judged_stop(raw.size, end, cursor.place())?;
     cursor.go_on_from(stop);
     Ok((vertices, stop))
 }
 
-/// A line of X and Y without a box, after its first two bytes.
+/// Reads a line of X and Y without a box, after its first two bytes.
 #[inline(always)]
 pub fn take_plain_line(cursor: &mut Cursor, begun: Begun) -> Result<usize, Doubt>
     requires xy { IsPrecision begun.xy }
@@ -58,18 +59,30 @@ pub fn take_plain_line(cursor: &mut Cursor, begun: Begun) -> Result<usize, Doubt
     judged(&head, cursor.place(), vertices)
 }
 
-/// Where a geometry ends, by its size if it has one and this is true.
+/// The end of a geometry by its size, if it has one. The sum may wrap, so it means nothing until it is compared with the end.
 #[inline(always)]
-fn judged_stop(size: Option<SizeField>, stop: usize) -> Result<usize, Doubt>
-    requires { IfSome size (λ size. size.after ≤ stop) }
+fn end_by(size: Option<SizeField>) -> usize
+    ensures { IfSome size (λ size. result ≡ (size.after + size.value) % 2 ^ 64) }
+{
+    match size {
+        Some(size) => size.after.wrapping_add(size.value as usize),
+        None => 0,
+    }
+}
+
+/// The end of a geometry: `end`, which is the end by its size, if the size is true; or `stop` if it has no size.
+#[inline(always)]
+fn judged_stop(size: Option<SizeField>, end: usize, stop: usize) -> Result<usize, Doubt>
+    requires after { IfSome size (λ size. size.after ≤ stop) }
+    requires end { IfSome size (λ size. end ≡ (size.after + size.value) % 2 ^ 64) }
     ensures ok { IfOk result (λ end. (end ≡ stop) × (size_judged size stop ≡ None)) }
     ensures err { IfErr result (λ doubt. (doubt ≡ Refused) × ((f : ℕ × ℕ) × (size_judged size stop ≡ Some f))) }
 {
-    if judge_size(size, stop).is_some() {
+    if size.is_none() {
+        return Ok(stop);
+    }
+    if end != stop {
         return Err(Doubt::Refused);
     }
-    match size {
-        Some(size) => Ok(size.after + size.value as usize),
-        None => Ok(stop),
-    }
+    Ok(end)
 }

@@ -12,7 +12,7 @@ use crate::summed::Summed;
 use twkb_head::Kind;
 use twkb_num::Cursor;
 
-/// Up to this many points numbers of seven bytes, each at most 2^48 from zero, have sums within 64 bits.
+/// Sums over up to this many points fit 64 bits, if each number takes at most seven bytes, and so is at most 2^48 from zero.
 const MOST: u64 = 1 << 14;
 
 /// Up to this many lines are passed at once.
@@ -53,7 +53,7 @@ pub fn take_flat_line(cursor: &mut Cursor) -> Result<usize, Doubt>
     }
 }
 
-/// A point of X and Y.
+/// Reads a point of X and Y.
 #[inline(always)]
 pub fn take_bare_point(cursor: &mut Cursor) -> Result<usize, Doubt>
     ensures ok { IfOk result (ReadParts unchanged Point 2 1 cursor.old cursor.new tt tt) }

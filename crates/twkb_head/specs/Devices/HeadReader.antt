@@ -40,12 +40,9 @@ bounds_from xy z m r =
     (axis_from z b >>= λ z c.
     viewed (λ m. record { x = x; y = y; z = z; m = m }) (axis_from m c)))
 
--- what is left of a box after its ranges of X and Y, or the fault of one of these
-abbrev pub box_behind : ℤ → Option ℕ → Option ℕ → Result (RawRange × RawRange) Malformed → Reader Bounds
-box_behind xy z m (Err w) b = (Err w, b)
-box_behind xy z m (Ok both) b =
-    axis_from z b >>= λ z c.
-    viewed (λ m. record { x = span_at xy (ends_of both.0); y = span_at xy (ends_of both.1); z = z; m = m }) (axis_from m c)
+-- two ranges, one after the other
+unfoldable pub two_ranges_from : Reader ((ℤ × ℤ) × (ℤ × ℤ))
+two_ranges_from r = range_from r >>= λ first a. viewed (λ second. (first, second)) (range_from a)
 
 -- the code's form of a header, from the fields that were read
 abbrev pub head_with : Kind → ℤ → ℕ → Option ℕ → Option ℕ → Option Bounds → ℕ → ℕ → ℕ → ℕ → Head
@@ -72,7 +69,7 @@ head_at levels r =
     (optional_at (has_bit metadata 1) (bounds_from type.1 (z_in extended) (m_in extended)) d >>= λ bounds e.
     (Ok (head_with type.0 type.1 metadata extended size bounds r.place c.place d.place e.place), e)))))
 
--- what follows the first two bytes of a header that begins at a place
+-- the rest of a header that begins at `start`, after its first two bytes
 unfoldable pub rest_at : Kind → ℤ → ℕ → ℕ → Reader Head
 rest_at kind xy metadata start b =
     optional_at (has_bit metadata 8) byte_at b >>= λ extended c.

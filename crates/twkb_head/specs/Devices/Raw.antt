@@ -18,10 +18,18 @@ abbrev pub IsRangeIf : Bool → RawRange → Reading → Reading → Type 0
 IsRangeIf true range old new = range_from old ≡ (Ok (ends_of range), new)
 IsRangeIf false range old new = (range ≡ record { minimum = pos 0; extent = pos 0 }) × (new ≡ old)
 
--- what was read, as readers in units have it
+-- a range that was read, as its least and its greatest number, or the fault
 abbrev pub ended : Result RawRange Malformed → Result (ℤ × ℤ) Malformed
 ended (Ok range) = Ok (ends_of range)
 ended (Err m) = Err m
+
+abbrev pub both_ended : Result (RawRange × RawRange) Malformed → Result ((ℤ × ℤ) × (ℤ × ℤ)) Malformed
+both_ended (Ok both) = Ok (ends_of both.0, ends_of both.1)
+both_ended (Err m) = Err m
+
+abbrev pub in_units : ℤ → Option ℕ → Option ℕ → Result RawBox Malformed → Result Bounds Malformed
+in_units xy z m (Ok box) = Ok (raw_bounds xy z m box)
+in_units xy z m (Err w) = Err w
 
 abbrev pub bounded : ℤ → Option ℕ → Option ℕ → Result (Option RawBox) Malformed → Result (Option Bounds) Malformed
 bounded xy z m (Ok box) = Ok (option_map (raw_bounds xy z m) box)

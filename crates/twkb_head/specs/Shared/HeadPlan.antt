@@ -17,7 +17,7 @@ ranges_of (low ∷ width ∷ zs) = (low, low +ℤ width) ∷ ranges_of zs
 abbrev pub box_plan : ℕ → Plan (List (ℤ × ℤ))
 box_plan axes = bind (signeds_plan (2 * axes)) (λ zs. done (ranges_of zs))
 
--- a header, with the length of what is before size and box, and the length of the size
+-- a header, with the length of the fields before size and box, and the length of the size
 pub record HeadValue : Type 0 where
   pub header : Header
   pub before : ℕ

@@ -1,5 +1,5 @@
 -- Shared between crates: private contracts alone name them, here and in crates above.
--- Plans: a plan of fields says what is asked for next, and how reading goes on from the bytes of that field.
+-- Plans: a plan of fields says which field is asked for next, and how reading goes on after the bytes of that field.
 use Rattle.std.specs.Prelude.{ℕ, zero, suc, ◌+◌, ◌%◌, ◌^◌, nat_lt, cond, Bool, true, false, List, [], ◌∷◌, length, slice_index, ℤ, pos, negsuc, ◌+ℤ◌, Option, Some, None, Result, Ok, Err}
 use Rattle.twkb_num.specs.Varint.{sum_of_groups, zigzag_value}
 use Rattle.twkb_head.specs.declared.kinds.Kind.{Kind}
@@ -23,23 +23,23 @@ field_of byte = byte_field
 field_of number = number_field
 field_of (coordinate c) = coordinate_field
 
--- a result with one byte more in front of what was cut off
+-- a result with one more byte in front of the bytes that were cut off
 abbrev pub push_byte : ℕ → Result (List ℕ × List ℕ) Why → Result (List ℕ × List ℕ) Why
 push_byte b (Ok x) = Ok (b ∷ x.0, x.1)
 push_byte b (Err w) = Err w
 
--- a varint at the front, of at most one byte more than room, and what is after it
+-- a varint at the front, of at most room + 1 bytes, and the bytes after it
 abbrev pub cut_varint : ℕ → List ℕ → Result (List ℕ × List ℕ) Why
 cut_varint room [] = Err Cut
 cut_varint zero (b ∷ bs) = cond (nat_lt b 2) (Ok (b ∷ [], bs)) (Err Varint)
 cut_varint (suc room) (b ∷ bs) = cond (nat_lt b 128) (Ok (b ∷ [], bs)) (push_byte b (cut_varint room bs))
 
--- a byte at the front, and what is after it
+-- a byte at the front, and the bytes after it
 abbrev pub cut_byte : List ℕ → Result (List ℕ × List ℕ) Why
 cut_byte [] = Err Cut
 cut_byte (b ∷ bs) = Ok (b ∷ [], bs)
 
--- a field of the kind at the front, and what is after it
+-- a field of the kind at the front, and the bytes after it
 abbrev pub cut_field : Field → List ℕ → Result (List ℕ × List ℕ) Why
 cut_field type_field bytes = cut_byte bytes
 cut_field byte_field bytes = cut_byte bytes
@@ -86,12 +86,12 @@ abbrev pub bind : {A B : Type 0} → Plan A → (A → Plan B) → Plan B
 bind (done x) k = k x
 bind (ask r next) k = ask r (λ front. bind (next front) k)
 
--- n values, one after another, each in the state that those before it leave
+-- n values, one after another, each in the state that the values before it leave
 abbrev pub many : {A S : Type 0} → ℕ → (S → A → S) → (S → Plan A) → S → Plan (List A)
 many zero after plan s = done []
 many (suc n) after plan s = bind (plan s) (λ x. bind (many n after plan (after s x)) (λ xs. done (x ∷ xs)))
 
--- the value, and n more than the number of bytes
+-- the value of a plan, and n plus the number of bytes that it is read from
 abbrev pub measure : {A : Type 0} → ℕ → Plan A → Plan (A × ℕ)
 measure n (done x) = done (x, n)
 measure n (ask r next) = ask r (λ front. measure (n + length front) (next front))
@@ -121,6 +121,6 @@ signed_plan = ask number (λ field. done (zigzag_value (sum_of_groups 0 field)))
 abbrev pub signeds_plan : ℕ → Plan (List ℤ)
 signeds_plan n = many n (λ s z. s) (λ s. signed_plan) (pos 0)
 
--- a coordinate, by the one before it: its difference to that
+-- a coordinate, spelled as the difference to the one before it
 abbrev pub coordinate_plan : ℤ → Plan ℤ
 coordinate_plan before = ask (coordinate before) (λ field. done (zigzag_value (sum_of_groups 0 field)))

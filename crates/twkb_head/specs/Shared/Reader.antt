@@ -50,7 +50,7 @@ abbrev pub read_field : {A : Type 0} → Request → Result (List ℕ × List �
 read_field q (Ok x) k r = read_judged (judge q x.0) (length x.0) (k x.0) r
 read_field q (Err w) k r = refused_at w (looked_in w (rest r)) r
 
--- reads by a plan
+-- reads the fields that a plan asks for, up to the first that is wrong
 abbrev pub read : {A : Type 0} → Plan A → Reader A
 read (done x) r = (Ok x, r)
 read (ask q next) r = read_field q (cut_field (field_of q) (rest r)) (λ front. read (next front)) r
@@ -63,7 +63,7 @@ number_at = read number_plan
 unfoldable pub signed_at : Reader ℤ
 signed_at = read signed_plan
 
--- a coordinate, by the one before it
+-- a coordinate, read as the difference to the one before it
 unfoldable pub coordinate_at : ℤ → Reader ℤ
 coordinate_at before = read (coordinate_plan before)
 
@@ -72,12 +72,12 @@ abbrev pub optional_at : {A : Type 0} → Bool → Reader A → Reader (Option A
 optional_at false f r = (Ok None, r)
 optional_at true f r = viewed Some (f r)
 
--- n values, one after another, each in the state that those before it leave
+-- n values, one after another, each in the state that the values before it leave
 abbrev pub many_at : {A S : Type 0} → ℕ → (S → A → S) → (S → Reader A) → S → Reader (List A)
 many_at zero after f s r = (Ok [], r)
 many_at (suc n) after f s r = f s r >>= λ x r. viewed (λ xs. x ∷ xs) (many_at n after f (after s x) r)
 
--- the range of one axis: its minimum, and the sum of that and its width
+-- the range of one axis: its minimum, and its maximum, which is the minimum plus the width
 unfoldable pub range_from : Reader (ℤ × ℤ)
 range_from r = signed_at r >>= λ low a. viewed (λ width. (low, low +ℤ width)) (signed_at a)
 

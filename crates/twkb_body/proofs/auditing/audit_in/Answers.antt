@@ -1,4 +1,4 @@
--- What the audit says is passed on.
+-- The result of the audit is passed on.
 use Rattle.std.proofs.Common.{rules}
 use Rattle.twkb_body.proofs.auditing.audit_in.Goals as goal
 

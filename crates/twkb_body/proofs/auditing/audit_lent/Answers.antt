@@ -1,4 +1,4 @@
--- Why a blob is refused with lent room is passed on.
+-- The refusal of an audit with a lent buffer is passed on.
 use Rattle.std.proofs.Common.{rules}
 use Rattle.twkb_body.proofs.auditing.audit_lent.Goals as goal
 

@@ -1,4 +1,4 @@
--- What is found in tight checking with lent room is passed on.
+-- The result of tight checking with a lent buffer is passed on.
 use Rattle.std.proofs.Common.{rules}
 use Rattle.twkb_body.proofs.auditing.audit_tight_lent.Goals as goal
 

@@ -1,4 +1,4 @@
--- Two short numbers are the point.
+-- Two short numbers that one word shows are the point.
 use Rattle.std.proofs.Common.{◌≡◌, ℤ, pos, ◌+ℤ◌, None, ℕ, [], ◌∷◌, fold, map, option_map, refl, ap, sym, subst, ◌∙◌, arith}
 use Rattle.std.proofs.lemmas.Int.{ints}
 use mir.Val.{to_z, of_z}

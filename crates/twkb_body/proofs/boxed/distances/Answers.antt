@@ -1,4 +1,4 @@
--- Of numbers near zero the differences of 64 bits are those of whole numbers.
+-- The differences of numbers near zero are exact in 64 bits.
 use Rattle.twkb_body.proofs.NumberSteps.{distance_is}
 use Rattle.twkb_body.proofs.boxed.distances.Goals as goal
 

@@ -1,4 +1,4 @@
--- A difference that stops at an end of 128 bits is on the same side of a step as the exact one.
+-- A difference that saturates at an end of 128 bits is less than a step exactly if the exact one is.
 use Rattle.std.proofs.Common.{◌≡◌, ◌↔◌, ◌^◌, ◌<ℤ◌, ◌≤ℤ◌, ◌-ℤ◌, ℤ, pos, negsuc, IsTrue, to_z, of_z, arith}
 use Rattle.std.specs.Prelude.{int_lt}
 use Rattle.std.proofs.lemmas.Int.{ints}

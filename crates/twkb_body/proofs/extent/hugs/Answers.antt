@@ -1,4 +1,4 @@
--- The step that is compared with is that of the precision.
+-- The step that is compared with is the step of the precision.
 use Rattle.std.proofs.Common.{◌≡◌, sym, to_z, of_z, arith}
 use Rattle.std.proofs.lemmas.Int.{ints}
 use Rattle.std.specs.Int.{w8, w128}

@@ -1,4 +1,4 @@
--- It goes from the lesser least to the greater greatest.
+-- The joined range goes from the lesser of the two least numbers to the greater of the two greatest.
 use Rattle.std.proofs.Common.{rules}
 use Rattle.twkb_body.proofs.extent.joined.Goals as goal
 

@@ -1,4 +1,4 @@
--- What the judge names first is what the definition names first: an end outside, then a loose one.
+-- The code names the claim that the definition names first: a box that doesn't hold a vertex, then a loose box.
 use Rattle.std.proofs.Common.{◌≡◌, ◌∙◌, ap, ap₂, Bool, Option, Some, None, refl}
 use Rattle.std.specs.Option.{option_or}
 use Rattle.twkb_body.specs.Devices.Pass.{Refused, false_at, first}

@@ -1,4 +1,4 @@
--- A size is false unless it is the length from behind its field to the stop.
+-- A size is false unless it is the number of bytes after its field up to the stop.
 use Rattle.std.proofs.Common.{rules}
 use Rattle.twkb_body.proofs.found.judge_size.Goals as goal
 

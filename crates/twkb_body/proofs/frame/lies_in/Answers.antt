@@ -1,4 +1,4 @@
--- Distances without sign: one below zero is greater than any extent of a range that is near.
+-- Distances are compared without sign: one below zero is then greater than the extent of any near range.
 use Rattle.std.proofs.Common.{◌≡◌, ℕ, ◌%◌, ◌-◌, ◌^◌, ◌<◌, ◌≤◌, ℤ, pos, negsuc, ◌-ℤ◌, w64, to_z, of_z, refl, ap, ◌∙◌, arith, rules}
 use Rattle.std.proofs.lemmas.Bool.{leb-true}
 use Rattle.std.proofs.lemmas.Int.{ints, of_z-to_z, to_z-of_z, wrapping_sub_is}
@@ -9,21 +9,21 @@ use Rattle.twkb_body.specs.Devices.Boxed.{IsNearRange}
 use Rattle.twkb_body.specs.Devices.Sure.{LiesIn}
 use Rattle.twkb_body.proofs.frame.lies_in.Goals as goal
 
--- a number that isn't below zero, without its sign
+-- a number of at least zero, taken as unsigned, is itself
 up_bits : (n : ℕ) → n < 2 ^ 64 → of_z w64 (int_wrap w64 (pos n)) ≡ n
 unfolding int_wrap
 up_bits n few =
     let small : n % 2 ^ 64 ≡ n = omega arith in
     ap (λ (k : ℕ). of_z w64 (to_z w64 k)) small ∙ of_z-to_z w64 n few
 
--- and one that is
+-- a number below zero, taken as unsigned
 down_bits : (n : ℕ) → n < 2 ^ 64 → of_z w64 (int_wrap w64 (negsuc n)) ≡ 2 ^ 64 - 1 - n
 unfolding int_wrap
 down_bits n few =
     let small : n % 2 ^ 64 ≡ n = omega arith in
     ap (λ (k : ℕ). of_z w64 (to_z w64 (2 ^ 64 - 1 - k))) small ∙ of_z-to_z w64 (2 ^ 64 - 1 - n) (omega arith)
 
--- a range lies in another if it begins so far behind the other's begin, and reaches no further
+-- a range lies in another if it begins within the other's extent, and ends no later
 lies : (inner outer : RawRange) → FitsSigned w64 inner.minimum → FitsSigned w64 inner.extent → FitsSigned w64 outer.minimum → FitsSigned w64 outer.extent → IsNearRange outer → (d : ℤ) → d ≡ inner.minimum -ℤ outer.minimum
     → of_z w64 (int_wrap w64 d) ≤ of_z w64 outer.extent → of_z w64 inner.extent ≤ of_z w64 outer.extent - of_z w64 (int_wrap w64 d) → LiesIn inner outer × IsNearRange inner
 lies inner outer low long outer_low outer_long near (pos n) d apart reach =

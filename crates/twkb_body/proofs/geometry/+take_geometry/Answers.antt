@@ -1,4 +1,4 @@
--- The pass over a geometry and that over members, each by the other: header, body, then the judging of claims.
+-- The passes over a geometry and over members, each by the other: header, body, then the judging of claims.
 use Rattle.std.proofs.Common.{rules, ◌≡◌, ◌+◌, ◌-◌, suc, Bool, true, false, not, ◌==◌, ◌||◌, refl, sym, ap, subst, ◌∙◌, arith}
 use Rattle.std.proofs.lemmas.Result.{err_from_is_err_and}
 use Rattle.twkb_num.specs.Cursor.{Reading, rest}

@@ -1,4 +1,4 @@
--- The header was read, and its size leads to the blob's end; else the blob is skimmed by a visitor that has nothing to see.
+-- The header was read, and its size leads to the blob's end; without a size the blob is skimmed, and every box is skipped.
 use Rattle.std.proofs.Common.{ap, sym, ◌∙◌, arith}
 use Rattle.twkb_num.specs.Cursor.{added}
 use Rattle.twkb_body.specs.Devices.Skimmed.{Config}

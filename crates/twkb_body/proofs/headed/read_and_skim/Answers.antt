@@ -1,4 +1,4 @@
--- The header was read, and the blob skimmed behind it.
+-- The header was read, and the blob was skimmed from there on.
 use Rattle.std.proofs.Common.{ap}
 use Rattle.twkb_body.specs.Devices.Skimmed.{Config}
 use Rattle.twkb_body.proofs.Headers.{head_stands}

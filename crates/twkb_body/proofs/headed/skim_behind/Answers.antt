@@ -1,4 +1,4 @@
--- Behind the first step the members lead to where the whole skim leads.
+-- After the first step, skimming the members leads to where the whole skim leads.
 use Rattle.std.proofs.Common.{◌≡◌, ◌∙◌, arith}
 use Rattle.twkb_body.specs.Geometry.{member_count}
 use Rattle.twkb_body.proofs.Remaining.{none_left}

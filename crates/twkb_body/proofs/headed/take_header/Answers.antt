@@ -1,4 +1,4 @@
--- A certified blob begins with a header, whose rest is read behind its first two bytes.
+-- A certified blob begins with a header, whose rest is read after its first two bytes.
 use Rattle.twkb_body.proofs.Beginning.{announced_same}
 use Rattle.twkb_body.proofs.HeadStands.{header_starts}
 use Rattle.twkb_body.proofs.headed.take_header.Goals as goal

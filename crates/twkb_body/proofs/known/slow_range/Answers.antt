@@ -1,4 +1,4 @@
--- Two numbers are a range, and a fault of one would be the range's.
+-- Two numbers are a range, and the fault of one would be the fault of the range.
 use Rattle.std.proofs.Common.{◌≡◌, ℤ, ◌+ℤ◌, Ok, Err, refl, ap₂, sym, ◌∙◌, arith}
 use Rattle.std.proofs.lemmas.Int.{ints}
 use mir.Val.{to_z, of_z}

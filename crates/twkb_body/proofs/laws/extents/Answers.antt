@@ -1,4 +1,4 @@
--- The reach of two lists is that of both, and lies in a box where each of their vertices does.
+-- The reach of a joined list is the reach of both lists, and a box holds it exactly if it holds each vertex.
 use Rattle.twkb_body.proofs.Reaches.{reach_of-append, within_from_all, all_from_within}
 use Rattle.twkb_body.proofs.laws.extents.Goals as goal
 

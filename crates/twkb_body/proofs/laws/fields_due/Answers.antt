@@ -1,4 +1,4 @@
--- At most one field is due, none behind a blob, and what is viable goes on.
+-- At most one kind of field is due, none after a whole blob, and viable bytes go on by a field that is due.
 use Rattle.std.proofs.Common.{◌-◌, refl, arith}
 use Rattle.twkb_head.specs.BegunHeader.{deepest}
 use Rattle.twkb_body.proofs.BlobLaws.{one_due, none_due, goes_on}

@@ -1,4 +1,4 @@
--- One ring more is walked; a malformed one ends the walk.
+-- Each turn walks one more ring; a malformed one ends the walk.
 use Rattle.std.proofs.Common.{arith}
 use Rattle.std.proofs.lemmas.Result.{err_from_is_err_and}
 use Rattle.twkb_body.specs.Devices.Body.{sums}

@@ -1,4 +1,4 @@
--- A run of points and one point more join; a malformed point ends the walk.
+-- Each turn adds a run of points or one more point; a malformed point ends the walk.
 use Rattle.std.proofs.Common.{arith, subst}
 use Rattle.std.proofs.lemmas.Result.{err_from_is_err_and}
 use Rattle.twkb_body.specs.Devices.Body.{add}

@@ -1,4 +1,4 @@
--- Lane by lane.
+-- The first four lanes are added to the last four, lane by lane.
 use Rattle.std.proofs.Common.{refl}
 use Rattle.twkb_body.proofs.positions.with_half_before.Goals as goal
 

@@ -1,4 +1,4 @@
--- Lane by lane.
+-- Each pair of lanes gets the pair before it added, lane by lane.
 use Rattle.std.proofs.Common.{refl}
 use Rattle.twkb_body.proofs.positions.with_pair_before.Goals as goal
 

@@ -1,4 +1,4 @@
--- One id more is kept; a malformed one or a refusal of memory ends the reading.
+-- Each turn keeps one more id; a malformed one or a refusal of memory ends the reading.
 use Rattle.std.proofs.Common.{refl, rules, ◌≡◌, ◌≤◌, length, arith}
 use Rattle.std.proofs.lemmas.Result.{err_from_is_err_and}
 use Rattle.std.proofs.lemmas.Int.{ints}

@@ -1,4 +1,4 @@
--- The ids kept are those read, in order, from the start to the cursor's place.
+-- The ids kept are the ids read, in order, from the start to the cursor's place.
 use Rattle.std.proofs.Common.{IsTrue, ◌≤◌}
 use Rattle.twkb_body.proofs.IdLoops.{IsIdLoop, IsRisingLoop}
 use Rattle.twkb_body.proofs.rooms.take_grown.Given as goal

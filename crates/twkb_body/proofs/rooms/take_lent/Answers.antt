@@ -1,4 +1,4 @@
--- One id more goes to its place; a malformed one or a full room ends the reading.
+-- Each turn puts one more id in its place; a malformed one or a full room ends the reading.
 use Rattle.std.proofs.Common.{refl, ◌≡◌, ◌≤◌, ◌<◌, length, arith, take, rules}
 use Rattle.std.proofs.lemmas.Result.{err_from_is_err_and}
 use Rattle.std.proofs.lemmas.Int.{ints}

@@ -1,4 +1,4 @@
--- The ids at the front are those read, in order, from the start to the cursor's place.
+-- The ids at the front are the ids read, in order, from the start to the cursor's place.
 use Rattle.std.proofs.Common.{IsTrue, ◌≤◌, take, length}
 use Rattle.twkb_body.proofs.IdLoops.{IsIdLoop, IsRisingLoop}
 use Rattle.twkb_body.proofs.rooms.take_lent.Given as goal

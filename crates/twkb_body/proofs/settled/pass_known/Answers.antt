@@ -1,4 +1,4 @@
--- The ends of the numbers lead towards where the points end, and the other numbers lead there.
+-- Numbers passed by their ends lead on towards the end of the points, and the other numbers lead there.
 use Rattle.std.proofs.Common.{◌≡◌, ℕ, ◌-◌, ◌*◌, subst, arith}
 use Rattle.twkb_body.specs.Devices.BodyReader.{NumbersLead}
 use Rattle.twkb_body.proofs.Settling.{points_fit, points_rest}

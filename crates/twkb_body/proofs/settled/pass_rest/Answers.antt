@@ -1,4 +1,4 @@
--- A number is passed as it is read, and more by their ends.
+-- A number is passed by reading it, and more numbers by their ends.
 use Rattle.twkb_body.proofs.Settling.{passing_reads, passing_goes_on}
 use Rattle.twkb_body.proofs.settled.pass_rest.Goals as goal
 

@@ -1,4 +1,4 @@
--- Ranges in units are the reach of the points, and are judged as it is.
+-- Ranges in units are the reach of the points, by which the box is judged.
 use Rattle.std.proofs.Common.{◌∙◌, ap, FitsSigned, rules}
 use Rattle.std.proofs.lemmas.Int.{to_z-of_z}
 use Rattle.std.specs.Int.{w8}

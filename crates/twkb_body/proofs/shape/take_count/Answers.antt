@@ -1,4 +1,4 @@
--- A kind with no list of parts has one, and no id.
+-- A kind without a list of parts has one part, and no ids.
 use Rattle.std.proofs.Common.{sym}
 use Rattle.twkb_body.proofs.ShapeSteps.{one_alone}
 use Rattle.twkb_body.proofs.shape.take_count.Goals as goal

@@ -1,4 +1,4 @@
--- A count, then so many parts, which the visitor sees.
+-- A count is read, and as many parts are shown to the visitor.
 use Rattle.std.proofs.Common.{Ok, refl, ap, sym, ◌∙◌, arith}
 use Rattle.twkb_num.specs.Cursor.{Reading}
 use Rattle.twkb_body.specs.Devices.Body.{Body}

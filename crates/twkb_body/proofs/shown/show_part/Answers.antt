@@ -1,4 +1,4 @@
--- A part is what its kind has.
+-- A part is a point, a line or a polygon, by its kind.
 use Rattle.std.proofs.Common.{[], ◌∷◌, refl, sym, subst}
 use Rattle.std.proofs.lemmas.List.{append-nil}
 use Rattle.twkb_head.specs.Shared.Reader.{Reader}

@@ -1,4 +1,4 @@
--- One part more is shown.
+-- Each turn of the loop shows one more part.
 use Rattle.std.proofs.Common.{arith}
 use Rattle.twkb_body.specs.Devices.Body.{ring_sums}
 use Rattle.twkb_body.specs.Devices.BodyReader.{part_at}

@@ -1,4 +1,4 @@
--- So many parts were shown.
+-- The parts before the index were shown.
 use Rattle.twkb_body.specs.Devices.Body.{ring_sums}
 use Rattle.twkb_body.specs.Devices.BodyReader.{part_at}
 use Rattle.twkb_body.specs.Devices.Inside.{of_head}

@@ -1,4 +1,4 @@
--- A point is shown, or passed behind a settled visitor.
+-- A point is shown, or passed if the visitor is settled.
 use Rattle.std.proofs.Common.{◌≡◌, Bool, Ok, [], ◌∷◌, refl, ap, sym, subst, arith}
 use Rattle.twkb_head.proofs.Readings.{one_answer, no_failure}
 use Rattle.twkb_body.specs.declared.trail.Trail.{Trail}

@@ -1,4 +1,4 @@
--- One ring more is shown.
+-- Each turn of the loop shows one more ring.
 use Rattle.std.proofs.Common.{ℕ, arith}
 use Rattle.twkb_head.specs.Shared.Reader.{many_at}
 use Rattle.twkb_body.specs.Geometry.{PointValue}

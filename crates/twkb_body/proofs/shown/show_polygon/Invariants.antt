@@ -1,4 +1,4 @@
--- So many rings were shown.
+-- The rings before the index were shown.
 use Rattle.twkb_body.specs.Devices.Body.{sums}
 use Rattle.twkb_body.specs.Devices.BodyReader.{ring_at}
 use Rattle.twkb_body.specs.Devices.Inside.{of_head}

@@ -1,4 +1,4 @@
--- A run of points and one point more join.
+-- Each turn of the loop shows a run of points or one more point.
 use Rattle.std.proofs.Common.{arith}
 use Rattle.twkb_body.specs.Devices.Inside.{of_head}
 use Rattle.twkb_body.specs.Devices.Walk.{shown}

@@ -1,4 +1,4 @@
--- So many points were shown, and are no more than there are.
+-- The points so far were shown, and are no more than `count`.
 use Rattle.std.proofs.Common.{◌-◌, ◌≤◌}
 use Rattle.twkb_body.specs.Devices.Inside.{of_head}
 use Rattle.twkb_body.specs.Devices.Walk.{IsRun, shown}

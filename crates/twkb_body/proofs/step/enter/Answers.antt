@@ -1,4 +1,4 @@
--- A certified geometry begins with a header, whose rest is read behind its first two bytes.
+-- A certified geometry begins with a header, whose rest is read after its first two bytes.
 use Rattle.std.proofs.Common.{◌≡◌, arith}
 use Rattle.std.proofs.lemmas.Int.{ints}
 use mir.Val.{to_z, of_z}

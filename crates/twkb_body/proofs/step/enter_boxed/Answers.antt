@@ -1,4 +1,4 @@
--- A range in X that tells leads past the geometry, whatever range in Y stands behind it. Else both ranges tell.
+-- If the range in X shows that the box is skipped, the geometry is hopped over, whatever its range in Y. Else both ranges decide.
 use Rattle.std.proofs.Common.{refl, sym, ◌∙◌, arith}
 use Rattle.std.proofs.lemmas.Int.{ints}
 use mir.Val.{to_z, of_z}

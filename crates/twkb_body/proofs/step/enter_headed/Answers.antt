@@ -32,7 +32,7 @@ pub returns-then-raw : goal.returns-then-raw
 returns-then-raw g c = λ t depth before come.
     enter_empty g.V.Visit.step g.V.Visit.passes _ t depth before _ (head_said c.args.raw) come.stands come.at come.moved (sym c.in_default.ensures) c.if-raw.true
 
--- the header says no more than its body asks for
+-- the header of a geometry that isn't hopped over, as far as its body depends on it
 module _ (passes : Bounds → Bool) (raw : Fields) (now : Reading) (g : Geometry) (depth : ℕ) (before : Reading) (come : HasRead raw now g depth before) (stays : None ≡ hop_of passes (head_said raw).size (head_said raw).bounds) (full : raw.empty ≡ false) where
   behind : (kind : Kind) → raw.kind ≡ kind → IsBehind passes kind raw.axes raw.ids now g depth before
   behind kind is =

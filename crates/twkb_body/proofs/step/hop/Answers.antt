@@ -1,4 +1,4 @@
--- The stop is as far behind the size's field as the size says.
+-- The stop is as far after the size field as the size says.
 use Rattle.std.proofs.Common.{rules}
 use Rattle.twkb_body.proofs.step.hop.Goals as goal
 

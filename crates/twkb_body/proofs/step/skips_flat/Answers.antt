@@ -1,4 +1,4 @@
--- Both ranges are near, and zeros are.
+-- Both ranges are near, and so are the zeros of the missing axes.
 use Rattle.std.proofs.Common.{pos, subst, sym, arith}
 use Rattle.std.proofs.lemmas.Int.{ints}
 use Rattle.twkb_head.specs.Raw.{IsNear, HasNearRanges}

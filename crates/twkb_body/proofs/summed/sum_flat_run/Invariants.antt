@@ -1,4 +1,4 @@
--- So many points were read; their differences are short, so the sums in locals have 64 bits.
+-- The points so far were read; their differences are short, so the sums in locals fit 64 bits.
 use Rattle.std.proofs.Common.{◌≡◌}
 use Rattle.twkb_body.specs.Devices.Bare.{unchanged}
 use Rattle.twkb_body.proofs.ShortRuns.{IsShortRun}

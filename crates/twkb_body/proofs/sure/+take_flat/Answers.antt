@@ -1,4 +1,4 @@
--- The first reading of a geometry and that of members, each by the other: both ways.
+-- The first reading of a geometry and of members, each by the other: what it certifies, and what it refutes.
 use Rattle.std.proofs.Common.{rules, ◌≡◌, ◌≤◌, ◌+◌, ◌-◌, ℕ, suc, Bool, false, [], ◌∷◌, Option, None, option_map, is_some, Ok, refl, sym, ap, subst, ◌∙◌, arith}
 use Rattle.std.proofs.lemmas.Int.{ints}
 use Rattle.std.proofs.lemmas.Result.{err_from_is_err_and}

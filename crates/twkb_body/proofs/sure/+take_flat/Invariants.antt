@@ -4,7 +4,7 @@ use Rattle.twkb_head.specs.BegunHeader.{deepest}
 use Rattle.twkb_body.proofs.SureSteps.{IsSureLoop}
 use Rattle.twkb_body.proofs.sure.+take_flat.Given as goal
 
--- a collection reads its members a level below, and a geometry is read as one of more axes at its level
+-- a collection reads its members a level below, and a geometry is handed on to the reading of more axes at its own level
 abbrev pub decreases-take_flat : goal.decreases-take_flat
 decreases-take_flat g l = 4 * (deepest - l.depth) + 3
 

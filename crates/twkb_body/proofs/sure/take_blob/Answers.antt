@@ -1,4 +1,4 @@
--- Where fewer than two bytes are left, no blob is there.
+-- If fewer than two bytes are left, no blob is there.
 use Rattle.std.proofs.Common.{None, refl, ap, arith}
 use Rattle.twkb_num.specs.Cursor.{Reading, rest}
 use Rattle.twkb_head.proofs.HeadLaws.{header_two}

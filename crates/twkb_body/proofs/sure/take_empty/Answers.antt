@@ -1,4 +1,4 @@
--- An empty geometry claims its size alone: its box holds all of no vertices.
+-- Only the size of an empty geometry can be false: its box has no vertices to hold.
 use Rattle.std.proofs.Common.{◌≡◌, ◌-◌, ℕ, true, ap, subst, ◌∙◌, arith}
 use Rattle.twkb_num.specs.Cursor.{Reading}
 use Rattle.twkb_head.specs.BegunHeader.{deepest}

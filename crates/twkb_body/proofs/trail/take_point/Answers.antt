@@ -1,4 +1,4 @@
--- One coordinate more is read; a malformed one ends the point.
+-- Each turn of the loop reads one more coordinate; a malformed one ends the point.
 use Rattle.std.proofs.Common.{◌≡◌, pos, slice_index_or, refl, arith}
 use Rattle.std.proofs.lemmas.Result.{err_from_is_err_and}
 use Rattle.std.proofs.lemmas.Int.{ints}

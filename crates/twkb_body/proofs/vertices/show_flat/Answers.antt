@@ -1,4 +1,4 @@
--- Of a point of X and Y alone the vertex is that of the definition, whatever stands behind.
+-- The vertex of a point of X and Y alone is the vertex of the definition, whatever the other two numbers are.
 use Rattle.std.proofs.Common.{◌≡◌, ℕ, pos, ◌∷◌, Option, None, Some, refl, ap, ap₂, ◌∙◌, arith, option_map}
 use Rattle.std.proofs.lemmas.Int.{ints}
 use mir.Val.{to_z, of_z}
@@ -10,7 +10,7 @@ use Rattle.twkb_head.specs.Header.{axes_with}
 use Rattle.twkb_body.specs.Geometry.{coordinate}
 use Rattle.twkb_body.proofs.vertices.show_flat.Goals as goal
 
--- where there are two axes, neither Z nor M is there
+-- if there are two axes, there is neither Z nor M
 no_further : (z m : Option ℕ) → axes_with z m ≡ 2 → (None ≡ z) × (None ≡ m)
 no_further None None e = (refl, refl)
 no_further None (Some q) e = absurd (omega (arith, e))

@@ -1,4 +1,4 @@
--- The sum is that of the two numbers, beyond 64 bits too.
+-- The sum of the two numbers is exact, beyond 64 bits too.
 use Rattle.std.proofs.Common.{rules}
 use Rattle.twkb_head.proofs.boxes.maximum.Goals as goal
 

@@ -1,4 +1,4 @@
--- A number that is cut is named so.
+-- The refusal names the fault of the number.
 use Rattle.std.proofs.Common.{rules}
 use Rattle.twkb_head.proofs.fields.malformed.Goals as goal
 

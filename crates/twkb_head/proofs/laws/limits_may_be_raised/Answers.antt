@@ -1,4 +1,4 @@
--- What is allowed under a limit is so under a greater one.
+-- A kind that is allowed, or a header that is begun, under a limit is so under a greater one.
 use Rattle.twkb_head.proofs.Limits.{allowed_under_greater, begun_under_greater}
 use Rattle.twkb_head.proofs.laws.limits_may_be_raised.Goals as goal
 

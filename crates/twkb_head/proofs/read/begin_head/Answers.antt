@@ -1,4 +1,4 @@
--- The first two bytes begin a header, or none stands there.
+-- The first two bytes begin a header, or no header is there.
 use Rattle.std.proofs.Common.{refl, arith}
 use Rattle.twkb_num.specs.Cursor.{rest}
 use Rattle.twkb_head.proofs.HeadLaws.{header_two}

@@ -7,7 +7,7 @@ use Rattle.twkb_num.specs.Varint.{zigzag_value}
 use Rattle.twkb_head.proofs.HeadSteps.{first_allowed, kind_and_fields, two_back}
 use Rattle.twkb_head.proofs.read.begun_as.Goals as goal
 
--- two bytes in one number
+-- the bits of two bytes in one number that tell kind and fields
 told : (first metadata low high : ℕ) → first < 256 → low ≡ first → high ≡ metadata → bit_and (low + 256 * high) 0x1f0f ≡ first % 16 + 256 * (metadata % 32)
 told first metadata low high fits is more = ap₂ (λ x y. bit_and (x + 256 * y) 0x1f0f) is more ∙ kind_and_fields first metadata fits
 

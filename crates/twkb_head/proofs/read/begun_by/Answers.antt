@@ -1,4 +1,4 @@
--- Two bytes that were read begin a header, or none stands there.
+-- Two bytes that were read begin a header, or no header is there.
 use Rattle.std.proofs.Common.{◌≡◌, ◌+◌, ◌-◌, ◌/◌, ◌%◌, Err, refl, arith}
 use Rattle.std.proofs.lemmas.Int.{ints}
 use mir.Val.{to_z, of_z}

@@ -1,4 +1,4 @@
--- What is read after the first two bytes is what is read of the header.
+-- The header, read in two steps, is the header that the reader reads.
 use Rattle.std.proofs.Common.{◌-◌}
 use Rattle.twkb_head.specs.BegunHeader.{deepest}
 use Rattle.twkb_head.proofs.HeadSteps.{head_of_rest}

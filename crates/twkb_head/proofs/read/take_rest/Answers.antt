@@ -1,4 +1,4 @@
--- What is read after the first two bytes is what is read of the header.
+-- The rest of a begun header makes the whole header, or a refusal.
 use Rattle.std.proofs.Common.{◌≡◌, ◌↔◌, ℕ, ◌-◌, ◌≤◌, Result, Ok, Err, IsOk, arith}
 use Rattle.twkb_num.specs.Cursor.{Reading, rest, IsSound}
 use Rattle.twkb_head.specs.declared.raw.Fields.{Fields}

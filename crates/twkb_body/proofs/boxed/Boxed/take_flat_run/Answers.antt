@@ -1,4 +1,4 @@
--- A run, and another after it.
+-- A run of quads and a run of single points after it are a run.
 use Rattle.twkb_body.specs.Devices.Boxed.{held_with}
 use Rattle.twkb_body.specs.Devices.Inside.{of_head}
 use Rattle.twkb_body.proofs.Runs.{run_append}

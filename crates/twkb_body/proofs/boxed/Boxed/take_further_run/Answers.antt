@@ -1,4 +1,4 @@
--- The same of three axes or four, with the distances in one value.
+-- Distances of three axes or four are the distances of the points: numbers near zero lose nothing in 64 bits.
 use Rattle.std.proofs.Common.{◌≡◌, ◌+◌, refl, sym, ap, ◌∙◌, subst, arith}
 use Rattle.twkb_num.specs.Cursor.{Reading}
 use Rattle.twkb_body.specs.declared.trail.Trail.{Trail}

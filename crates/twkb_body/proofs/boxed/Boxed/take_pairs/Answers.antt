@@ -1,4 +1,4 @@
--- Distances in locals are those of the points: numbers near zero lose nothing in 64 bits.
+-- Distances in locals are the distances of the points: numbers near zero lose nothing in 64 bits.
 use Rattle.std.proofs.Common.{◌≡◌, ◌+◌, pos, ◌+ℤ◌, ◌-ℤ◌, length, set, slice_index_or, refl, sym, ap, ◌∙◌, subst, arith}
 use Rattle.std.proofs.lemmas.Int.{ints}
 use mir.Val.{to_z, of_z}

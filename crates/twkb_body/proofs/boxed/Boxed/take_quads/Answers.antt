@@ -1,4 +1,4 @@
--- Distances in lanes are those of the points: numbers near zero lose nothing in 64 bits, and distances in lanes nothing in 32.
+-- Distances in lanes are exact: numbers near zero lose nothing in 64 bits, and distances in lanes lose nothing in 32.
 use Rattle.std.proofs.Common.{◌≡◌, ◌+◌, pos, ◌+ℤ◌, ◌-ℤ◌, length, set, slice_index_or, refl, sym, ap, ap₂, ◌∙◌, subst, arith}
 use Rattle.std.proofs.lemmas.Int.{ints}
 use mir.Val.{to_z, of_z}

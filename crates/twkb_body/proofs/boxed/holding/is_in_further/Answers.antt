@@ -1,4 +1,4 @@
--- The two tests are those of the definition, at the coordinates of the list.
+-- The two tests are the tests of the definition, at the last two coordinates of the list.
 use Rattle.std.proofs.Common.{◌≡◌, ◌&&◌, pos, Bool, nat_lt, slice_index_or, ap, sym, ◌∙◌, arith}
 use Rattle.std.proofs.lemmas.Int.{ints}
 use Rattle.std.proofs.lemmas.Option.{unwrap_or-slice_get}

@@ -1,4 +1,4 @@
--- In 128 bits the distance is exact, so the two comparisons are those of the definition.
+-- In 128 bits the distance is exact, so the two comparisons are the comparisons of the definition.
 use Rattle.std.proofs.Common.{◌≡◌, ◌&&◌, pos, ◌-ℤ◌, ◌≤ℤ◌, Bool, ap, ap₂, sym, ◌∙◌, arith}
 use Rattle.std.specs.Prelude.{int_le}
 use Rattle.std.proofs.lemmas.Int.{ints}

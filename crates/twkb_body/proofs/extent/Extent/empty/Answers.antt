@@ -1,4 +1,4 @@
--- It is the extent of no vertices.
+-- The empty extent is the extent of no vertices.
 use Rattle.std.proofs.Common.{rules}
 use Rattle.twkb_body.proofs.extent.Extent.empty.Goals as goal
 

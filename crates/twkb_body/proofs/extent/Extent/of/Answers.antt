@@ -1,4 +1,4 @@
--- One vertex reaches from itself to itself, on each axis that it has.
+-- The extent of one vertex is from the vertex to itself, on each axis that it has.
 use Rattle.std.proofs.Common.{rules}
 use Rattle.twkb_body.proofs.extent.Extent.of.Goals as goal
 

@@ -1,4 +1,4 @@
--- A frame of its own that lies in that above, or that above, holds no more points than that above.
+-- The frame is the geometry's own, which lies in the frame above, or the frame above. So the frame above holds all that it holds.
 use Rattle.std.proofs.Common.{refl, arith}
 use Rattle.std.proofs.lemmas.Int.{ints}
 use Rattle.twkb_body.specs.Devices.Sure.{framed}

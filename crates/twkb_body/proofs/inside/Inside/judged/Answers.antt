@@ -1,4 +1,4 @@
--- What is refused is the first of these: the size, the box, the ids, what is inside.
+-- The claim that is refused is the first false one of these: the size, the box, the ids, the claims inside.
 use Rattle.std.proofs.Common.{rules}
 use Rattle.twkb_body.proofs.inside.Inside.judged.Goals as goal
 

@@ -1,4 +1,4 @@
--- None has been shown.
+-- No vertex has been shown.
 use Rattle.std.proofs.Common.{rules}
 use Rattle.twkb_body.proofs.summary.Summary.new.Goals as goal
 

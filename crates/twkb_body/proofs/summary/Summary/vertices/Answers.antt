@@ -1,4 +1,4 @@
--- The number is the one that is kept.
+-- The answer is the number that the summary keeps.
 use Rattle.std.proofs.Common.{rules}
 use Rattle.twkb_body.proofs.summary.Summary.vertices.Goals as goal
 

@@ -1,4 +1,4 @@
--- What the exact way finds says whether a body is sure.
+-- The result of the exact audit decides whether a body is sure.
 use Rattle.std.proofs.Common.{◌≡◌, ◌-◌, Option, option_map, w8, to_z, of_z, refl, sym, subst, ◌∙◌}
 use Rattle.std.proofs.lemmas.Int.{to_z-of_z}
 use Rattle.std.proofs.lemmas.Result.{err_from_is_err_and}

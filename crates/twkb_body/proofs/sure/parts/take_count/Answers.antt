@@ -1,4 +1,4 @@
--- A list is counted, or its ids are wrong; a kind without one has one part.
+-- A list is counted, or its ids are wrong; a kind without a list has one part.
 use Rattle.std.proofs.Common.{◌≡◌, Bool, true, Ok, inr, sym, ap, ◌∙◌}
 use Rattle.std.proofs.lemmas.Result.{err_from_is_err_and}
 use Rattle.twkb_head.specs.Header.{is_multi}

@@ -1,4 +1,4 @@
--- Its header announces no box, so its one part decides, and its size if it has one.
+-- The header of the line announces no box, so only its part and its size, if it has one, decide.
 use Rattle.std.proofs.Common.{ℕ, None, refl, ap, subst, ◌∙◌, arith}
 use Rattle.std.proofs.lemmas.Result.{err_from_is_err_and}
 use Rattle.twkb_num.specs.Cursor.{Reading}

@@ -1,4 +1,4 @@
--- Its header announces no box, so its one part decides, and its size if it has one.
+-- The header of the point announces no box, so only its part and its size, if it has one, decide.
 use Rattle.std.proofs.Common.{◌≡◌, ℕ, None, Ok, Err, refl, sym, ap, subst, ◌∙◌, arith}
 use Rattle.std.proofs.lemmas.Result.{err_from_is_err_and}
 use Rattle.twkb_num.specs.Cursor.{Reading}
@@ -27,8 +27,8 @@ returns-in_err-vertices-clause-certified c = λ before sound begins.
     let p = err_from_is_err_and c.from_residual.result c.from_residual.ensures.1 in
     rw (p.1, p.2) (bare_doubts c.in-Ok.raw (boxless c.in-Ok.raw) refl Point before c.take_rest.new.cursor c.take_bare_point.new.cursor sound s.0 s.1 kind refl refl flat.0 flat.1 full no_box _ c.in_err-vertices.ensures.refused c.in_err-vertices.ensures.malformed)
 
-pub judged_stop-requires : goal.judged_stop-requires
-judged_stop-requires c =
+pub judged_stop-requires-clause-after : goal.judged_stop-requires-clause-after
+judged_stop-requires-clause-after c =
     let b = c.requires.before in
     let s = c.in-Ok.ensures.read 1 b.0 b.1 b.2 in
     head_size b.0 c.take_rest.new.cursor (head_said c.in-Ok.raw) 1 s.0 s.1 _ (omega (arith, c.in_ok-vertices.ensures.ok.walked.ahead, c.place.ensures.value))

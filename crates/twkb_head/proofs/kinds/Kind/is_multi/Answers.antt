@@ -1,4 +1,4 @@
--- The kinds behind the polygon have a list of members, collections among them.
+-- The kinds after the polygon have a list of members, collections among them.
 use Rattle.std.proofs.Common.{rules}
 use Rattle.twkb_head.proofs.kinds.Kind.is_multi.Goals as goal
 

@@ -1,4 +1,4 @@
--- M comes behind Z where there is Z.
+-- M comes after Z if there is a Z.
 use Rattle.std.proofs.Common.{rules}
 use Rattle.twkb_head.proofs.raw.Axes.m_axis.Goals as goal
 
