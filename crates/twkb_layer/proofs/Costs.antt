@@ -16,13 +16,13 @@ use Rattle.twkb_layer.specs.Layer.{IsLayer, size_of}
 use Rattle.twkb_layer.proofs.Layers.{size_of-blob}
 use Rattle.twkb_layer.proofs.Seeks.{cost_walk}
 
--- no more of a blob than it has
+-- a scan reads no more bytes of a blob than it has
 cost_few : (w : Bounds) (g : Geometry) (bytes : List ℕ) → Blob g bytes 1 → cost w g ≤ size_of g
 cost_few w g bytes b =
     let seeking : Seeking = record { window = w; met = false } in
     rw (cost_walk seeking g) (walk_most Seeking seeks seeks_past g seeking (blob_order deepest g bytes 1 b).1)
 
--- and with a directory no more than without
+-- a scan with a directory reads no more of a blob than one without
 fewer : (missed : Bool) (n : ℕ) → cond missed 0 n ≤ n
 fewer true n = omega arith
 fewer false n = omega arith
@@ -30,7 +30,7 @@ fewer false n = omega arith
 directory_cost_few : (w : Bounds) (g : Geometry) → directory_cost w g ≤ cost w g
 directory_cost_few w g = fewer (is_missed w (box_of g)) (cost w g)
 
--- no more of a layer than it has
+-- a scan reads no more bytes of a layer than it has
 pub costs_few : (w : Bounds) (trees : List Geometry) (bytes : List ℕ) → IsLayer trees bytes → sum_by (cost w) trees ≤ length bytes
 costs_few w [] bytes l = omega arith
 costs_few w (g ∷ gs) bytes l =

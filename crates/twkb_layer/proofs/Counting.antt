@@ -1,4 +1,4 @@
--- The loop of audits: what it has counted, and where it stops.
+-- The loop of audits over a layer: what it has counted, and its refusal or its end.
 use Rattle.std.proofs.Common.{◌≡◌, ℕ, ◌+◌, ◌-◌, ◌^◌, ◌<◌, ◌≤◌, Bool, true, false, List, [], ◌∷◌, ◌++◌, length, take, drop, All, refl, sym, ap, subst, ◌∙◌, arith, length-append, inl, inr}
 use Rattle.std.proofs.lemmas.List.{length-take, take_all}
 use Rattle.std.proofs.lemmas.List.Elements.{All-nil, All-cons, All-head, All-tail, All-push}
@@ -21,7 +21,7 @@ use Rattle.twkb_layer.specs.Devices.Tight.{IsTrueBy, IsTightlyCounted, IsLayerBy
 use Rattle.twkb_layer.proofs.Layers.{blob_some, layer_grows, layer_once, layer_short}
 use Rattle.twkb_layer.proofs.VertexCounts.{layer_few}
 
--- the bytes before a later place are those before this one, and those between
+-- the bytes before a later place are the bytes before this one and the bytes between them
 front_passed : (bytes : List ℕ) (a b : Reading) → a.bytes ≡ bytes → IsMoved a b → take b.place bytes ≡ take a.place bytes ++ passed a b
 front_passed bytes a b same m =
     ap (λ n. take n bytes) (omega (arith, m.ahead)) ∙ take-add a.place (b.place - a.place) bytes
@@ -46,7 +46,7 @@ counted_none true bytes place e = rw e (record {
 pub tight_is_counted : (bytes : List ℕ) (blobs count : ℕ) → IsTightlyCounted bytes blobs count → IsCounted bytes blobs count
 tight_is_counted bytes blobs count c = record { trees = c.trees; layer = c.layer.layer; blobs_are = c.blobs_are; vertices_are = c.vertices_are }
 
--- a blob more was counted
+-- one more blob was counted
 pub counted_more : (tight : Bool) (bytes : List ℕ) (a b : Reading) (blobs count : ℕ) (audit : Audit) → a.bytes ≡ bytes → IsCountedBy tight (take a.place bytes) blobs count
     → IsMoved a b → IsAudited (IsTrueBy tight) audit a.place (passed a b) → IsCountedBy tight (take b.place bytes) (blobs + 1) (count + audit.vertices)
 counted_more false bytes a b blobs count audit same c m h = rw (front_passed bytes a b same m) (record {
@@ -89,7 +89,7 @@ counted_fits true bytes place blobs count c fits = plain_fits bytes place blobs 
 pub audit_ahead : (tight : Bool) (a b : Reading) (audit : Audit) → IsMoved a b → IsAudited (IsTrueBy tight) audit a.place (passed a b) → a.place < b.place
 audit_ahead tight a b audit m h = omega (arith, blob_some h.blob (passed a b) h.is, length-take (b.place - a.place) (drop a.place a.bytes))
 
--- at the end all is counted
+-- at the end all bytes were counted
 pub counted_all : (tight : Bool) (bytes : List ℕ) (place blobs count : ℕ) → IsCountedBy tight (take place bytes) blobs count → length bytes ≤ place → IsCountedBy tight bytes blobs count
 counted_all tight bytes place blobs count c h = subst (λ (l : List ℕ). IsCountedBy tight l blobs count) (take_all place bytes h) c
 
@@ -129,7 +129,7 @@ audit_refused tight bytes a blobs count NoMemory same c more h =
     let before = counted_begins tight bytes a.place blobs count c more in
     record { before = before.0; start = a.place; begins = before.1; list = rw same at h }
 
--- the numbers of a layer's trees
+-- the numbers that were counted are the numbers of the layer's trees
 pub counted_is : (bytes : List ℕ) (blobs count : ℕ) → IsCounted bytes blobs count → (trees : List Geometry) → IsCertifiedLayer trees bytes
     → (blobs ≡ length trees) × (count ≡ vertex_count trees)
 counted_is bytes blobs count c trees layer =

@@ -104,7 +104,7 @@ in_whole w f e k small le =
     ap (λ (p : ℕ). (w * 10 ^ e + f) / p) (ap (λ (i : ℕ). 10 ^ i) one ∙ pow-add 10 e (k - e))
     ∙ (sym (div-div-eq-div-mul (w * 10 ^ e + f) (10 ^ e) (10 ^ (k - e))) ∙ ap (λ (q : ℕ). q / 10 ^ (k - e)) (div-mul-add w (10 ^ e) f small))
 
--- the digit of a decimal, where its digits are these
+-- a digit of the fraction, and one of the whole part, is a digit of the decimal
 pub digit_here : (whole fraction : List ℕ) (zeros behind digit : ℕ) → AllDigits 10 fraction → zeros ≤ behind → behind - zeros < length fraction
     → digit ≡ digits_value 10 fraction / 10 ^ (behind - zeros) % 10 → digit ≡ digits_value 10 (whole ++ fraction) * 10 ^ zeros / 10 ^ behind % 10
 digit_here whole fraction zeros behind digit h le lt is =
@@ -124,7 +124,7 @@ next_digit x k =
     let tens : x / 10 ^ k / 10 ≡ x / 10 ^ (k + 1) = div-div-eq-div-mul x (10 ^ k) 10 ∙ ap (λ (p : ℕ). x / p) (sym (ten_more k)) in
     sym (div-add-mod' (x / 10 ^ k) 10) ∙ ap (λ (q : ℕ). q * 10 + x / 10 ^ k % 10) tens
 
--- nothing is before all digits
+-- before the first digit the quotient is 0
 pub none_before : (whole fraction : List ℕ) (zeros top : ℕ) → AllDigits 10 whole → AllDigits 10 fraction → length whole + length fraction + zeros ≤ top
     → digits_value 10 (whole ++ fraction) * 10 ^ zeros / 10 ^ top ≡ 0
 none_before whole fraction zeros top w f le =
@@ -133,7 +133,7 @@ none_before whole fraction zeros top w f le =
     let small : digits_value 10 (whole ++ fraction) < 10 ^ (top - zeros) = omega (arith, lt, more) in
     shifted (digits_value 10 (whole ++ fraction)) zeros top (omega (arith, le)) ∙ div-eq_of_lt small
 
--- no digit that isn't 0 up to here, and then one, or none
+-- if the last k digits are 0, and the one before them is too, k + 1 digits are 0
 pub no_rest_yet : (x k : ℕ) → x % 10 ^ k ≡ 0 → x / 10 ^ k % 10 ≡ 0 → x % 10 ^ (k + 1) ≡ 0
 no_rest_yet x k none digit =
     let tens : x / 10 ^ k ≡ x / 10 ^ (k + 1) * 10 = next_digit x k ∙ omega (arith, digit) in
@@ -152,7 +152,7 @@ pub is_some : (r : ℕ) → r ≢ 0 → true ≡ not (r == 0)
 is_some zero h = absurd (h refl)
 is_some (suc r) h = grind (arith, nat_tests)
 
--- the minimum of a quotient and a bound, with one digit more
+-- the minimum of a quotient and a bound, after one more digit
 pub least_goes_on : (q amount digit new r most : ℕ) → amount ≡ min q most → new ≡ min (amount * 10 + digit) most → r ≡ q * 10 + digit → new ≡ min r most
 least_goes_on q amount digit new r most a b e = omega (arith, a, b, e)
 
@@ -178,7 +178,7 @@ whole_starts : (whole behind : List ℕ) → AllDigits 10 whole → 0 < length w
 whole_starts [] behind h some = absurd (omega (arith, some))
 whole_starts (c ∷ cs) behind h some = is_digit c h.0
 
--- the parsed decimal is the text's
+-- the parsed decimal is the decimal of the text
 pub record IsRead (text : List ℕ) (d : Decimal) (minus : Bool) (whole fraction new : List ℕ) : Type 0 where
   pub text_is : IsDecimalText text d
   pub minus_is : minus ≡ d.minus

@@ -1,4 +1,4 @@
--- Slots of a directory, one blob more at a time.
+-- The slots of a directory, as blobs are added one at a time.
 use Rattle.std.proofs.Common.{◌≡◌, ℕ, ◌+◌, ◌*◌, ◌/◌, ◌%◌, ◌^◌, ◌<◌, ◌≤◌, ◌||◌, nat_le, arith, Bool, true, false, cond, List, [], ◌∷◌, ◌++◌, length, map, take, slice_set, Option, Some, None, is_some, refl, ap, sym, ◌∙◌, append_assoc}
 use Rattle.std.proofs.lemmas.Bool.Decides.{nat_tests}
 use Rattle.std.proofs.lemmas.List.{map-append, take_more_set, length-set}
@@ -16,12 +16,12 @@ use Rattle.twkb_layer.proofs.Keeping.{Collecting, collect_begins, collect_goes_o
 use Rattle.twkb_layer.proofs.Layers.{layer_once, layer_short}
 use Rattle.twkb_layer.proofs.Scanning.{Next}
 
--- what stands at the end of both branches
+-- what is appended to both branches may be appended to the choice
 cond-append : {A : Type 0} (b : Bool) (xs ys zs : List A) (x : A) → cond b (xs ++ zs) (x ∷ (ys ++ zs)) ≡ (cond b xs (x ∷ ys) ++ zs)
 cond-append true xs ys zs x = refl
 cond-append false xs ys zs x = refl
 
--- more slots whose entries don't depend on what was said of Z and M before
+-- more slots whose entries don't depend on the slots of Z and M before them
 module _ (more : List Said) (entries : List Entry) (are : (beyond : Said) → entries_from beyond more ≡ entries) where
   entries_from-append : (beyond : Said) (slots : List Said) → entries_from beyond (slots ++ more) ≡ (entries_from beyond slots ++ entries)
   entries_from-append beyond [] = are beyond
@@ -44,7 +44,7 @@ entries_deep : (slots : List Said) (said slot : Said) (place : Entry) → said.b
 entries_deep slots said slot place before own is =
     entries_from-append (said ∷ slot ∷ []) (place ∷ []) (λ beyond. deep_entry said slot beyond before own ∙ ap (λ (p : Entry). p ∷ []) is) (unboxed 0) slots
 
--- the same of slots as they stand in memory
+-- the entries of slots in memory, appended
 kept-append : (slots more : List Written) → entries_kept (slots ++ more) ≡ entries_of (map slot_says slots ++ map slot_says more)
 kept-append slots more = ap entries_of (map-append slot_says slots more)
 
@@ -58,7 +58,7 @@ kept_deep slots before slot beyond said place was is first own e =
 
 -- ---- the entry of a blob, by its slots
 
--- nothing passes a slot
+-- a blob that doesn't pass a slot has neither Z nor M, and an offset below 2^57
 nothing_beyond : (z m : Option Span) (offset : ℕ) → (is_some z || (is_some m || nat_le (2 ^ 57) offset)) ≡ false → (z ≡ None) × (m ≡ None) × (offset < 2 ^ 57)
 nothing_beyond None None offset is = (refl, refl, grind (arith, nat_tests))
 nothing_beyond (Some z) m offset is = absurd (cc (is))
@@ -74,7 +74,7 @@ entry_deep : (offset : ℕ) (deep : Bool) (box : Option Bounds) → deep ≡ tru
 entry_deep offset deep None is = let all : offset % 2 ^ 57 + offset / 2 ^ 57 * 2 ^ 57 ≡ offset = omega arith in rw is (λ j. record { offset = all j; bounds = None })
 entry_deep offset deep (Some box) is = let all : offset % 2 ^ 57 + offset / 2 ^ 57 * 2 ^ 57 ≡ offset = omega arith in rw is (λ j. record { offset = all j; bounds = Some box })
 
--- one slot more is the blob's, where nothing passes it; else two are
+-- one more slot is the blob's if the blob doesn't pass a slot; otherwise two are
 module _ (slots : List Written) (offset : ℕ) (deep : Bool) (box : Option Bounds) (passes : deep ≡ passes_a_slot offset box) (slot : Written) (says : slot_says slot ≡ own_said offset deep box) where
   pub kept_one : deep ≡ false → entries_kept (slots ++ slot ∷ []) ≡ entries_kept slots ++ record { offset = offset; bounds = box } ∷ []
   kept_one is = kept_flat slots slot (own_said offset deep box) _ says refl is (entry_flat offset deep box is (nothing_beyond (box_z box) (box_m box) offset (sym passes ∙ is)))
@@ -88,17 +88,17 @@ entry_read offset r g raw at says = (λ j. record { offset = at j; bounds = says
 
 -- ---- the slots of a blob, put into room
 
--- one slot behind those that are there
+-- one slot after the slots that are there
 pub room_one : (room : List Written) (at : ℕ) (slot : Written) → at < length room → take (at + 1) (slice_set room at slot) ≡ take at room ++ slot ∷ []
 room_one room at slot fits = take_more_set room at slot fits
 
--- two
+-- two slots after the slots that are there
 pub room_two : (room : List Written) (at : ℕ) (before slot : Written) → at + 1 < length room → take (at + 1 + 1) (slice_set (slice_set room at before) (at + 1) slot) ≡ take at room ++ before ∷ slot ∷ []
 room_two room at before slot fits =
     take_more_set (slice_set room at before) (at + 1) slot (rw (length-set room at before) fits)
     ∙ (ap (λ xs. xs ++ slot ∷ []) (take_more_set room at before (omega (arith, fits))) ∙ append_assoc (take at room) (before ∷ []) (slot ∷ []))
 
--- the room holds the slots of the blobs before the place, and has two places for each of the others
+-- the room has the slots of the blobs before the place, and two places for each other blob
 pub record PuttingSlots (bytes : List ℕ) (count0 place count used : ℕ) (room : List Written) : Type 0 where
   pub blob : ℕ
   pub on : Collecting entry_of bytes count0 place count blob (entries_kept (take used room)) (length bytes)
@@ -113,7 +113,7 @@ slots_begin bytes count0 room trees whole roomy small = record {
   roomy = λ others h. omega (arith, roomy, ap length (layer_once others trees bytes h.layer whole.layer));
 }
 
--- there are places for one blob more
+-- there are places for one more blob
 pub slots_fit : (bytes : List ℕ) (count0 place count used : ℕ) (room : List Written) (s : PuttingSlots bytes count0 place count used room) → Next s.on.rest bytes place → used + 1 < length room
 slots_fit bytes count0 place count used room s n = omega (arith, s.few, s.roomy s.on.trees s.on.whole, s.on.blob_is, ap length n.is)
 

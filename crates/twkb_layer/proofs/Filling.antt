@@ -1,20 +1,20 @@
--- Room that a caller lends, as it is filled.
+-- How a room that a caller lends is filled.
 use Rattle.std.proofs.Common.{◌≡◌, ◌≤◌, List, [], ◌∷◌, ◌++◌, length, arith, refl, ap, sym, slice_set}
 use Rattle.std.proofs.Math.Seq.{take-nil, drop-nil}
 use Rattle.twkb_layer.specs.Hits.{filled}
 
 module _ {A : Type 0} where
-  -- nothing found leaves it as it was
+  -- a room filled with nothing is unchanged
   pub filled-nil : (room : List A) → room ≡ filled [] room
   filled-nil room = sym (ap (λ xs. xs ++ room) (take-nil (length room)))
 
-  -- one more goes to its place, if there is one
+  -- one more value goes to its place, if there is one
   pub filled-push : (seen room : List A) (x : A) → slice_set (filled seen room) (length seen) x ≡ filled (seen ++ x ∷ []) room
   filled-push seen [] x = rw (drop-nil (length seen), drop-nil (length (seen ++ x ∷ []))) refl
   filled-push [] (r ∷ room) x = ap (λ xs. x ∷ (xs ++ room)) (sym (take-nil (length room)))
   filled-push (s ∷ seen) (r ∷ room) x = ap (λ xs. s ∷ xs) (filled-push seen room x)
 
-  -- what is full stays as it is
+  -- a room that is full is unchanged
   pub filled-full : (seen more room : List A) → length room ≤ length seen → filled (seen ++ more) room ≡ filled seen room
   filled-full seen more [] full = rw (drop-nil (length seen), drop-nil (length (seen ++ more))) refl
   filled-full [] more (r ∷ room) full = absurd (omega (arith, full))

@@ -1,4 +1,4 @@
--- What is kept of each blob, on its way from blob to blob; and what is read of one.
+-- The loop that keeps something of each blob of a layer, and what is read of a blob.
 use Rattle.std.proofs.Common.{◌≡◌, ℕ, ℤ, ◌+◌, ◌-◌, ◌^◌, ◌<◌, ◌≤◌, Bool, List, [], ◌∷◌, ◌++◌, length, drop, fold, map, slice_set, ◌⊎◌, inl, inr, Option, Some, None, option_map, is_some, refl, ap, subst, sym, ◌∙◌, arith, length-append, length-drop, append_assoc}
 use Rattle.std.proofs.lemmas.List.{append-nil}
 use Rattle.twkb_num.specs.Cursor.{Reading, added}
@@ -26,7 +26,7 @@ use Rattle.twkb_layer.proofs.Scanning.{Next, none_left}
 
 -- ---- the header of a blob
 
--- what a header that was read says of the geometry
+-- a header that was read has the fields of the geometry's header
 pub record SaysOf (raw : Fields) (g : Geometry) : Type 0 where
   pub kind : raw.kind ≡ (header_of g).kind
   pub precision : raw.axes.xy ≡ (header_of g).xy
@@ -38,7 +38,7 @@ some_still : {A B : Type 0} (f : A → B) (o : Option A) → is_some (option_map
 some_still f None = refl
 some_still f (Some x) = refl
 
--- the boxes of fields
+-- the boxes of optional fields, taken before or after the fields are made
 boxes_of : {A : Type 0} (field : A → BoxField) (o : Option A) → option_map (λ (f : BoxField). f.bounds) (option_map field o) ≡ option_map (λ (a : A). (field a).bounds) o
 boxes_of field None = refl
 boxes_of field (Some a) = refl
@@ -53,20 +53,20 @@ says_of (geometry h l ids polygons members) place raw is = record {
       ∙ boxes_of (λ (ranges : List (ℤ × ℤ)). record { bounds = bounds_of h.xy h.z h.m ranges; offset = place + l.before + l.size }) h.box);
 }
 
--- ---- what is read of one blob
+-- ---- reading one blob
 
--- counting skips nothing
+-- a visitor that counts reads all bytes of a blob
 pub counted_whole : (g : Geometry) (bytes : List ℕ) (place s : ℕ) → StandsAt g 1 bytes place → walk g ℕ counts_on never s ≡ size_of g
 counted_whole g bytes place s at = walk_all ℕ counts_on never deepest (λ n box. refl) g at.front 1 s at.blob
 
--- and counts all vertices
+-- a visitor that counts counts all vertices of a blob
 pub vertices_counted : (g : Geometry) (bytes : List ℕ) (place : ℕ) → StandsAt g 1 bytes place → length bytes < 2 ^ 64 → fold counts_on 0 (vertices g) ≡ length (vertices g)
 vertices_counted g bytes place at small =
     let few = blob_few g at.front 1 at.blob in
     let room : length (drop place bytes) ≡ length at.front + length at.behind = ap length at.there ∙ length-append at.front at.behind in
     counts_all 0 (vertices g) (omega (arith, few, room, small, length-drop place bytes)) ∙ omega arith
 
--- no more was read than the geometry
+-- the cursor is past the geometry, and has read no more bytes than it has
 pub passed_by : (g : Geometry) (old new : Reading) → new.bytes ≡ old.bytes → new.place ≡ old.place + size_of g → (read : ℕ) × (read ≤ size_of g) × (new.count ≡ added old.count read) → HasPassed g old new
 passed_by g old new bytes place (read, few, is) = record { bytes = bytes; place = place; count = record { read = read; few = few; is = is } }
 
@@ -74,7 +74,7 @@ pub skimmed_by : (g : Geometry) (old new : Reading) (read : ℕ) → read ≤ si
 skimmed_by g old new read few is =
     passed_by g old new (ap (λ (r : Reading). r.bytes) is) (ap (λ (r : Reading). r.place) is) (read, few, ap (λ (r : Reading). r.count) is)
 
--- a visitor that counts reads no more
+-- a visitor that counts reads no more bytes than the blob has
 pub counting_few : (g : Geometry) (bytes : List ℕ) (place s : ℕ) → StandsAt g 1 bytes place → walk g ℕ counts_on never s ≤ size_of g
 counting_few g bytes place s at = omega (arith, counted_whole g bytes place s at)
 
@@ -84,7 +84,7 @@ rows_equal : (blob : ℕ) (a b c d e f : ℕ) → a ≡ b → c ≡ d → e ≡ 
 rows_equal blob a b c d e f ab cd ef raw g says sized boxed s x p q =
     (λ j. record { blob = blob; offset = ab j; bytes = cd j; vertices = ef j; kind = says.kind j; precision = (q ∙ says.precision) j; has_size = (s ∙ says.sized) j; has_box = (x ∙ says.boxed) j })
 
--- what the row says
+-- the row that was read is the row of the definition
 pub row_says : (g : Geometry) (r : Reading) (raw : Fields) (blob offset stop s many : ℕ) (sized boxed : Bool) (p : ℤ) → length r.bytes < 2 ^ 64 → StandsAt g 1 r.bytes r.place → SaysOf raw g → offset ≡ r.place
     → stop ≡ r.place + size_of g
     → s ≡ 0 → many ≡ fold counts_on s (vertices g) → sized ≡ is_some raw.size → boxed ≡ is_some raw.bounds → p ≡ raw.axes.xy
@@ -95,7 +95,7 @@ row_says g r raw blob offset stop s many sized boxed p small at says o ends zero
     rows_equal blob offset r.place (stop - offset) (size_of g) many (length (vertices g)) o size all raw g says sized boxed si bo p pe
 
 -- ---- the loop
--- what is kept, and what is left
+-- the loop has kept what the definition says of the blobs before the place, and the rest is a certified layer
 module _ {S : Type 0} (told : ℕ → ℕ → Geometry → S) where
   pub record Collecting (bytes : List ℕ) (count0 place count blob : ℕ) (says : List S) (spare : ℕ) : Type 0 where
     pub trees : List Geometry
@@ -125,7 +125,7 @@ module _ {S : Type 0} (told : ℕ → ℕ → Geometry → S) where
     within = omega arith;
   }
 
-  -- one blob more
+  -- the loop goes on by one blob
   pub collect_goes_on : (bytes : List ℕ) (count0 : ℕ) (now : Reading) (blob : ℕ) (says : List S) (spare : ℕ) (s : Collecting bytes count0 now.place now.count blob says spare) (n : Next s.rest bytes now.place)
       (new : Reading) → HasPassed n.tree now new → (more : List S) (left : ℕ) → more ≡ says ++ told blob now.place n.tree ∷ [] → spare ≤ left + 1 → Collecting bytes count0 new.place new.count (blob + 1) more left
   collect_goes_on bytes count0 now blob says spare s n new past more left m r =
@@ -146,7 +146,7 @@ module _ {S : Type 0} (told : ℕ → ℕ → Geometry → S) where
         within = omega (arith, n.within, past.place);
       }
 
-  -- there is room for one more
+  -- there is room for one more blob
   pub collect_fits : (bytes : List ℕ) (count0 place count blob : ℕ) (says : List S) (spare : ℕ) (s : Collecting bytes count0 place count blob says spare) → Next s.rest bytes place → (0 < spare) × (blob < length bytes)
   collect_fits bytes count0 place count blob says spare s n =
       let few = layer_short s.trees bytes s.whole.layer in
@@ -164,23 +164,23 @@ module _ {S : Type 0} (told : ℕ → ℕ → Geometry → S) where
 pub adds_nothing : (most count : ℕ) → count < 2 ^ 64 → AddsAtMost most count count
 adds_nothing most count small = record { read = 0; few = omega arith; is = omega (arith, small) }
 
--- where there are no bytes there are no blobs
+-- a layer of no bytes has no blobs
 pub no_blobs : (bytes : List ℕ) (blobs vertices : ℕ) → IsCounted bytes blobs vertices → bytes ≡ [] → blobs ≡ 0
 no_blobs bytes blobs vertices c none = omega (arith, c.blobs_are, layer_short c.trees bytes c.layer.layer, ap length none)
 
 -- ---- room that a caller lends
 
--- what is made of what is said
+-- what f makes of all that is said is what it makes of each
 told-map : {S T : Type 0} (f : S → T) (told : ℕ → ℕ → Geometry → S) (blob offset : ℕ) (trees : List Geometry) → map f (told_from told blob offset trees) ≡ told_from (λ b o g. f (told b o g)) blob offset trees
 told-map f told blob offset [] = refl
 told-map f told blob offset (tree ∷ trees) = ap (λ xs. f (told blob offset tree) ∷ xs) (told-map f told (blob + 1) (offset + size_of tree) trees)
 
 module _ {S : Type 0} (of : Row → S) where
-  -- what is made of a row
+  -- the form of a row that the room holds
   abbrev pub made : ℕ → ℕ → Geometry → S
   made blob offset tree = of (row_of blob offset tree)
 
-  -- the room holds what was said so far, as much as fits
+  -- the room holds what was made of the rows so far, as much as fits
   pub record Putting (bytes : List ℕ) (count0 : ℕ) (room0 : List S) (place count blob : ℕ) (room : List S) : Type 0 where
     pub said : List S
     pub on : Collecting made bytes count0 place count blob said (length bytes)
@@ -195,7 +195,7 @@ module _ {S : Type 0} (of : Row → S) where
     room_is = filled-nil room0;
   }
 
-  -- one blob more
+  -- the loop goes on by one blob
   pub put_goes_on : (bytes : List ℕ) (count0 : ℕ) (room0 : List S) (now : Reading) (blob : ℕ) (room : List S) (s : Putting bytes count0 room0 now.place now.count blob room) (n : Next s.on.rest bytes now.place)
       (new : Reading) → HasPassed n.tree now new → (x : S) → x ≡ made blob now.place n.tree → Putting bytes count0 room0 new.place new.count (blob + 1) (slice_set room blob x)
   put_goes_on bytes count0 room0 now blob room s n new past x is =
@@ -206,7 +206,7 @@ module _ {S : Type 0} (of : Row → S) where
         room_is = (λ j. slice_set (s.room_is j) (sym s.many j) (is j)) ∙ filled-push s.said room0 more;
       }
 
-  -- at the end of the bytes, or of the room
+  -- at the end of the bytes or of the room, the room is filled with the rows of the layer
   pub put_ends : (bytes : List ℕ) (count0 : ℕ) (room0 : List S) (place count blob : ℕ) (room : List S) → Putting bytes count0 room0 place count blob room → (length bytes ≤ place) ⊎ (length room0 ≤ blob)
       → (trees : List Geometry) → IsCertifiedLayer trees bytes → room ≡ filled (map of (rows trees)) room0
   put_ends bytes count0 room0 place count blob room s (inl le) trees h =

@@ -17,11 +17,11 @@ use Rattle.twkb_layer.specs.Laws.{AreBlobs}
 pub one_blob : (g h : Geometry) (a b x y : List ℕ) → Blob g a 1 → Blob h b 1 → a ++ x ≡ b ++ y → (g ≡ h) × (a ≡ b) × (x ≡ y)
 one_blob = blob_once (deepest - 1) 1 refl (omega arith)
 
--- a blob takes as many bytes as it has
+-- the bytes of a blob are as many as its tree says
 pub size_of-blob : (g : Geometry) (bytes : List ℕ) → Blob g bytes 1 → size_of g ≡ length bytes
 size_of-blob g bytes b = (blob_order deepest g bytes 1 b).0
 
--- a blob has two bytes at least
+-- a blob has at least two bytes
 pub blob_some : (g : Geometry) (bytes : List ℕ) → Blob g bytes 1 → 2 ≤ length bytes
 unfolding BlobUnder
 blob_some (geometry h l ids polygons members) bytes (body, starts, allowed, is_body) =
@@ -40,14 +40,14 @@ no_prefix g h front behind b c = (one_blob g h front (front ++ behind) behind []
 
 -- ---- layers
 
--- a blob at the front of a layer, and the layer behind it
+-- a blob and a layer after it are a layer
 pub layer_first : (g : Geometry) (gs : List Geometry) (front behind : List ℕ) → Blob g front 1 → IsLayer gs behind → IsLayer (g ∷ gs) (front ++ behind)
 layer_first g gs front behind b l = (
   subst (λ (z : List ℕ). Blob g z 1) (sym (blob_take g front behind b)) b,
   subst (IsLayer gs) (sym (blob_drop g front behind b)) l,
 )
 
--- a layer and then a blob is a layer of one blob more
+-- a layer and then a blob are a layer of one more blob
 pub layer_grows : (gs : List Geometry) (bytes : List ℕ) (g : Geometry) (more : List ℕ) → IsLayer gs bytes → Blob g more 1 → IsLayer (gs ++ g ∷ []) (bytes ++ more)
 layer_grows [] bytes g more l b = rw l (subst (IsLayer (g ∷ [])) (append-nil more) (layer_first g [] more [] b refl))
 layer_grows (h ∷ gs) bytes g more l b =
@@ -99,7 +99,7 @@ layer_once trees others bytes l m =
     let b = layer_blobs others bytes m in
     (parts_once trees others a.0 b.0 a.1 b.1 (sym a.2 ∙ b.2)).0
 
--- and a layer two bytes for a blob
+-- a layer has at least two bytes for each blob
 pub layer_short : (trees : List Geometry) (bytes : List ℕ) → IsLayer trees bytes → 2 * length trees ≤ length bytes
 layer_short [] bytes l = omega arith
 layer_short (g ∷ gs) bytes l =

@@ -1,4 +1,4 @@
--- A scan with the slots of a directory, on its way from slot to slot.
+-- The loop of a scan with the slots of a directory, from slot to slot.
 use Rattle.std.proofs.Common.{◌≡◌, ℕ, ℤ, ◌+◌, ◌-◌, ◌^◌, ◌<◌, ◌≤◌, Bool, true, false, cond, List, [], ◌∷◌, ◌++◌, length, map, take, drop, get_or, Option, Some, None, option_map, refl, ap, subst, sym, ◌∙◌, arith, sum_by, slice_set, length-drop, append_assoc}
 use Rattle.std.specs.List.{list_any, AllByRecursion}
 use Rattle.std.proofs.lemmas.List.{append-nil, drop_more, drop_all, length-take}
@@ -30,7 +30,7 @@ none_of : (w box : Bounds) (vs : List Vertex) → box_misses w box ≡ true → 
 none_of w box [] miss h = refl
 none_of w box (v ∷ vs) miss h = rw (outside w box v miss h.0) (none_of w box vs miss h.1)
 
--- a box that misses is there
+-- a geometry whose box misses the window has a box
 record HasMissed (w : Bounds) (h : Header) : Type 0 where
   ranges : List (ℤ × ℤ)
   box : h.box ≡ Some ranges
@@ -65,7 +65,7 @@ first_of_entries rest bytes place beyond slots blob e is n =
     let first : e ≡ record { offset = place; bounds = box_of n.tree } = cc (both) in
     record { next = n; offset = ap (λ (p : Entry). p.offset) first; bounds = ap (λ (p : Entry). p.bounds) first; others = cc (both) }
 
--- it stands there
+-- the blob of a slot is a certified geometry at its offset
 pub here_stands : (rest : List Geometry) (bytes now : List ℕ) (place : ℕ) (beyond : Said) (slots : List Said) (blob : ℕ) (e : Entry) (h : Here rest bytes place beyond slots blob e) → now ≡ bytes → StandsAt h.next.tree 1 now e.offset
 here_stands rest bytes now place beyond slots blob e h same = rw (same, h.offset) h.next.stands
 
@@ -73,7 +73,7 @@ no_entries : (blob place : ℕ) (rest : List Geometry) → [] ≡ told_from entr
 no_entries blob place [] e = refl
 no_entries blob place (t ∷ ts) e = absurd (cc (e))
 
--- It converts what it finds to any type.
+-- A scan with slots, for any type that it converts hits to.
 module _ {S : Type 0} (of : Found → S) where
   pub record Looking (w : Bounds) (bytes : List ℕ) (count0 : ℕ) (room0 : List S) (beyond : Said) (slots : List Said) (count blob found : ℕ) (room : List S) : Type 0 where
     pub trees : List Geometry
@@ -111,7 +111,7 @@ module _ {S : Type 0} (of : Found → S) where
     blob_is = omega arith;
   }
 
-  -- a slot of Z and M: what it says goes on
+  -- a slot of Z and M is remembered for the next slot
   pub look_beyond : (w : Bounds) (bytes : List ℕ) (count0 : ℕ) (room0 : List S) (beyond slot : Said) (slots : List Said) (count blob found : ℕ) (room : List S) → Looking w bytes count0 room0 beyond (slot ∷ slots) count blob found room → true ≡ slot.beyond
       → Looking w bytes count0 room0 slot slots count blob found room
   look_beyond w bytes count0 room0 beyond slot slots count blob found room s is = record {
@@ -138,7 +138,7 @@ module _ {S : Type 0} (of : Found → S) where
       let left : e ∷ entries_from beyond slots ≡ told_from entry_of blob s.place s.rest = ap (λ (p : Entry). p ∷ entries_from beyond slots) is ∙ (ap (λ (b : Bool). cond b (entries_from slot slots) (entry_with beyond slot ∷ entries_from beyond slots)) own ∙ s.entries_are) in
       first_of_entries s.rest bytes s.place beyond slots blob e left (next_of s.rest bytes s.place s.left (some_left s.rest bytes blob s.place _ _ left s.left))
 
-  -- and its number fits
+  -- the number of the blob of a slot fits its type
   pub here_fits : (w : Bounds) (bytes : List ℕ) (count0 : ℕ) (room0 : List S) (beyond slot : Said) (slots : List Said) (count blob found : ℕ) (room : List S) (s : Looking w bytes count0 room0 beyond (slot ∷ slots) count blob found room) (e : Entry) → Here s.rest bytes s.place beyond slots blob e
       → blob < length bytes
   here_fits w bytes count0 room0 beyond slot slots count blob found room s e h = omega (arith, s.blob_is, ap length h.next.is, layer_short s.trees bytes s.whole.layer)
@@ -169,13 +169,13 @@ module _ {S : Type 0} (of : Found → S) where
         blob_is = omega (arith, s.blob_is, ap length n.is);
       }
 
-  -- the slot of this number, and those after it
+  -- the slot of this number, and the slots after it
   pub slot_next : (w : Bounds) (bytes : List ℕ) (count0 : ℕ) (room0 : List S) (beyond : Said) (slots : List Written) (at : ℕ) (count blob found : ℕ) (room : List S) → Looking w bytes count0 room0 beyond (map slot_says (drop at slots)) count blob found room
       → (slot : Written) → slot ≡ get_or slots at slot → at < length slots → Looking w bytes count0 room0 beyond (slot_says slot ∷ map slot_says (drop (at + 1) slots)) count blob found room
   slot_next w bytes count0 room0 beyond slots at count blob found room s slot is lt =
       subst (λ ls. Looking w bytes count0 room0 beyond (map slot_says ls) count blob found room) (drop_more slots at slot lt ∙ ap (λ (l : Written). l ∷ drop (at + 1) slots) (sym is)) s
 
-  -- what a scan with slots found
+  -- the result of a scan with slots
   pub record LookedUp (w : Bounds) (count0 : ℕ) (room0 : List S) (count found : ℕ) (room : List S) (trees : List Geometry) : Type 0 where
     pub answer : found ≡ length (hits trees w)
     pub room_is : room ≡ filled (map of (found_blobs trees w)) room0
@@ -195,14 +195,14 @@ module _ {S : Type 0} (of : Found → S) where
 pub missed_costs : (w : Bounds) (g : Geometry) (count : ℕ) → count < 2 ^ 64 → is_missed w (box_of g) ≡ true → count ≡ added count (directory_cost w g)
 missed_costs w g count small miss = counted_none count (omega arith) ∙ ap (added count) (sym (ap (λ (b : Bool). cond b 0 (cost w g)) miss))
 
--- and one that is, as much as in any scan
+-- a blob that is looked at costs as much as in a scan without a directory
 pub looked_costs : (w : Bounds) (g : Geometry) → is_missed w (box_of g) ≡ false → cost w g ≡ directory_cost w g
 looked_costs w g meets = sym (ap (λ (b : Bool). cond b 0 (cost w g)) meets)
 
--- a blob that stands somewhere begins within the bytes
+-- a certified blob begins within the bytes
 pub stands_within : (g : Geometry) (bytes : List ℕ) (place : ℕ) → StandsAt g 1 bytes place → place ≤ length bytes
 stands_within (geometry h l ids polygons members) bytes place at = let r = reaches h l ids polygons members 1 bytes place at in omega (arith, r.1)
 
--- what an entry's test says of the blob
+-- the test of an entry says whether the blob's box misses the window
 pub tests_box : (w : Bounds) (bounds box : Option Bounds) (a b : Bool) → a ≡ b → a ≡ is_missed w bounds → bounds ≡ box → is_missed w box ≡ b
 tests_box w bounds box a b e is same = ap (is_missed w) (sym same) ∙ (sym is ∙ e)

@@ -16,14 +16,14 @@ use Rattle.twkb_layer.specs.Devices.Slots.{IsInner, AreInner}
 use Rattle.twkb_layer.specs.Window.{in_span, in_bound, is_inside, lie_apart}
 use Rattle.twkb_layer.proofs.Raws.{misses_raw}
 
--- the ends of a range of numbers that aren't far from zero
+-- the ends of a near range are neither the least nor the greatest number of 64 bits
 pub inner : (range : RawRange) → IsNear range → AreInner (ends_of range)
 inner range near = record {
   first = record { low = omega (arith, ints, near.low); high = omega (arith, ints, near.high) };
   second = record { low = omega (arith, ints, near.low, near.least); high = omega (arith, ints, near.high, near.greatest) };
 }
 
--- a box of such ranges lies apart in X or in Y where its raw ends do
+-- a box of near ranges lies apart in X or in Y exactly if its raw ends do
 pub box_judged : (xy : ℤ) (w : Bounds) (raw : RawWindow) (box : RawBox) (p : ℤ) (misses : Bool) → IsRawWindow p w raw → HasNearRanges box → p ≡ xy
     → misses ≡ ((int_lt (ends_of box.x).1 raw.x.least || int_lt raw.x.greatest (ends_of box.x).0) || (int_lt (ends_of box.y).1 raw.y.least || int_lt raw.y.greatest (ends_of box.y).0))
     → misses ≡ (lie_apart (span_at xy (ends_of box.x)) w.x || lie_apart (span_at xy (ends_of box.y)) w.y)
@@ -40,7 +40,7 @@ or_false a true c d same h = absurd (cc (same, h))
 or_false a false true d same h = absurd (cc (same, h))
 or_false a false false d same h = refl
 
--- a value is in a range where the range of it alone doesn't lie apart
+-- a value is in a range exactly if the range of the value alone doesn't lie apart
 in_or_apart : (range : Span) (v : ℤ) → in_span range v ≡ not (lie_apart (record { lo = v; hi = v }) range)
 in_or_apart range v = grind (arith, ints)
 
@@ -48,7 +48,7 @@ join : (a b c : Bool) → (not (a || b) && c) ≡ (not a && (not b && c))
 join true b c = refl
 join false b c = refl
 
--- a point is in range in X and in Y where the range of it alone doesn't miss the window
+-- a point is inside in X and in Y exactly if the box of the point alone doesn't miss the window
 point_judged : (p : ℤ) (w : Bounds) (raw : RawWindow) (x y x_bits y_bits : ℤ) (misses rest : Bool) → x_bits ≡ x → y_bits ≡ y → IsRawWindow p w raw → IsInner x → IsInner y
     → misses ≡ ((int_lt x_bits raw.x.least || int_lt raw.x.greatest x_bits) || (int_lt y_bits raw.y.least || int_lt raw.y.greatest y_bits))
     → (not misses && rest) ≡ (in_span w.x (units_of x p) && (in_span w.y (units_of y p) && rest))
@@ -58,13 +58,13 @@ point_judged p w raw x y x_bits y_bits misses rest x_is y_is is x_inner y_inner 
     (λ j. not (same j) && rest) ∙ join (lie_apart (span_at p (x, x)) w.x) (lie_apart (span_at p (y, y)) w.y) rest
     ∙ (λ j. sym (in_or_apart w.x (units_of x p)) j && (sym (in_or_apart w.y (units_of y p)) j && rest))
 
--- a window that bounds neither Z nor M holds whatever stands there
+-- a window that bounds neither Z nor M holds any values in Z and M
 pub flat_holds : (z m : Option Span) (v u : Option ℤ) → (in_bound z None && in_bound m None) ≡ true → (in_bound z v && in_bound m u) ≡ true
 flat_holds None None v u e = refl
 flat_holds None (Some s) v u e = absurd (cc (e))
 flat_holds (Some s) m v u e = absurd (cc (e))
 
--- a point is known by its four coordinates
+-- a point's vertex depends only on its first four coordinates
 four_coordinates : (axes : Axes) (point : PointValue) (x y third fourth : ℤ) → coordinate point 0 ≡ x → coordinate point 1 ≡ y → coordinate point 2 ≡ third → coordinate point 3 ≡ fourth
     → vertex_at axes point ≡ vertex_at axes (x ∷ y ∷ third ∷ fourth ∷ [])
 four_coordinates axes point x y third fourth a b c d = λ j. record {
@@ -78,7 +78,7 @@ four_coordinates axes point x y third fourth a b c d = λ j. record {
     last None = c
     last (Some p) = d
 
--- a vertex is inside where its numbers in X and in Y, of which none is an end of 64 bits, don't miss the window, and it is inside in Z and in M
+-- a vertex is inside exactly if its raw numbers in X and Y, none an end of 64 bits, don't miss the window, and Z and M are inside
 pub point_inside : (axes : Axes) (w : Bounds) (raw : RawWindow) (point : PointValue) (p x_bits y_bits : ℤ) (misses : Bool) → IsRawWindow p w raw → IsInner (coordinate point 0) → IsInner (coordinate point 1)
     → misses ≡ ((int_lt x_bits raw.x.least || int_lt raw.x.greatest x_bits) || (int_lt y_bits raw.y.least || int_lt raw.y.greatest y_bits))
     → p ≡ axes.xy → x_bits ≡ coordinate point 0 → y_bits ≡ coordinate point 1
@@ -87,7 +87,7 @@ point_inside axes w raw point p x_bits y_bits misses is x_inner y_inner missed p
     point_judged axes.xy w raw (coordinate point 0) (coordinate point 1) x_bits y_bits misses _ x_is y_is (subst (λ (q : ℤ). IsRawWindow q w raw) p_is is)
     x_inner y_inner missed
 
--- what is answered of a vertex of four numbers, these being the coordinates of the point
+-- an answer about the four coordinates of a point is an answer about the point
 pub inside_by_four : (axes : Axes) (w : Bounds) (point : PointValue) (x y third fourth : ℤ) (answer : Bool) → answer ≡ is_inside w (vertex_at axes (x ∷ y ∷ third ∷ fourth ∷ []))
     → coordinate point 0 ≡ x → coordinate point 1 ≡ y → coordinate point 2 ≡ third → coordinate point 3 ≡ fourth → answer ≡ is_inside w (vertex_at axes point)
 inside_by_four axes w point x y third fourth answer is a b c d = is ∙ ap (is_inside w) (sym (four_coordinates axes point x y third fourth a b c d))

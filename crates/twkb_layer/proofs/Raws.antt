@@ -24,20 +24,20 @@ is_less a b h = grind (arith, ints, h)
 is_not_less : (a b : ℤ) → b ≤ℤ a → int_lt a b ≡ false
 is_not_less a b h = grind (arith, ints, h)
 
--- the quotient that a division answers is that of its numbers
+-- the quotient that a division answers is the exact quotient
 pub quotient_is : (a d q : ℤ) → FitsSigned w128 a → FitsSigned w128 d → pos 0 <ℤ d
     → q ≡ int_div (to_z w128 (of_z w128 a)) (to_z w128 (of_z w128 d)) → to_z w128 (of_z w128 q) ≡ int_div a d
 quotient_is a d q f g some h =
     ap (λ (z : ℤ). to_z w128 (of_z w128 z)) (h ∙ (λ i. int_div (to_z-of_z w128 a f i) (to_z-of_z w128 d g i)))
     ∙ to_z-of_z w128 (int_div a d) (quot_fits w128 a d f some)
 
--- and so is what is left
+-- the remainder that a division answers is the exact remainder
 pub rest_is : (a d r : ℤ) → FitsSigned w128 a → FitsSigned w128 d → FitsSigned w128 r
     → r ≡ int_rem (to_z w128 (of_z w128 a)) (to_z w128 (of_z w128 d)) → int_rem a d ≡ to_z w128 (of_z w128 r)
 rest_is a d r f g fits h =
     sym (h ∙ (λ i. int_rem (to_z-of_z w128 a f i) (to_z-of_z w128 d g i))) ∙ sym (to_z-of_z w128 r fits)
 
--- two comparisons with one answer
+-- two comparisons that imply each other have one answer
 pub same_answer : (a b c d : ℤ) → (a <ℤ b → c <ℤ d) → (b ≤ℤ a → d ≤ℤ c) → int_lt a b ≡ int_lt c d
 same_answer a b c d less not =
     by_lt_z {P = int_lt a b ≡ int_lt c d} a b
@@ -86,7 +86,7 @@ times_less : (a : ℤ) (k : ℕ) → a ≤ℤ pos 0 → 0 < k → (a *ℤ pos k)
 times_less a zero h some = absurd (omega (arith, some))
 times_less a (suc k) h some = rw (times_suc a k) (let less = times_le k a (pos 0) h in omega (arith, ints))
 
--- the same of the quotient and the rest of a division by a unit
+-- the quotient of a division by a unit, rounded up or down by the rest
 module _ (number : ℤ) (k : ℕ) (some : 0 < k) where
   whole : int_div number (pos k) *ℤ pos k +ℤ int_rem number (pos k) ≡ number
   whole = quot-rem number (pos k)
@@ -123,7 +123,7 @@ pub greatest_as_it_is : (hi unit c : ℤ) → pos 0 <ℤ unit → int_lt (int_re
 greatest_as_it_is hi (pos k) c some rest = let positive : 0 < k = omega (arith, ints, some) in down_as_it_is _ _ hi k (whole hi k positive) c (omega (arith, ints, rest)) (rest_below hi k positive)
 greatest_as_it_is hi (negsuc k) c some rest = absurd (omega (arith, ints, some))
 
--- The quotient that a rest rounds has a place where the number has one.
+-- a quotient that is rounded by a rest fits 128 bits if the number does
 pub more_fits : (lo unit : ℤ) → FitsSigned w128 lo → pos 0 <ℤ unit → int_lt (pos 0) (int_rem lo unit) ≡ true → FitsSigned w128 (int_div lo unit +ℤ pos 1)
 more_fits lo (pos k) fits some rest =
     let positive : 0 < k = omega (arith, ints, some) in
@@ -142,16 +142,16 @@ less_fits hi (negsuc k) fits some rest = absurd (omega (arith, ints, some))
 
 -- ---- a box against a window
 
--- A range lies apart in units exactly where its ends do in raw integers.
+-- a range lies apart in units exactly if its ends do in raw integers
 pub apart : (p : ℤ) (range : Span) (raw : RawEnds) → IsRawEnds p range raw → (ends : ℤ × ℤ) → AreInner ends → (int_lt ends.1 raw.least || int_lt raw.greatest ends.0) ≡ lie_apart (span_at p ends) range
 apart p range raw is ends inner = sym (λ j. is.below ends.1 inner.second j || is.above ends.0 inner.first j)
 
--- the same of a box in X and Y
+-- a box misses the window in X or Y in units exactly if its ends do in raw integers
 pub misses_raw : (p : ℤ) (window : Bounds) (raw : RawWindow) → IsRawWindow p window raw → (x y : ℤ × ℤ) → AreInner x → AreInner y
     → ((int_lt x.1 raw.x.least || int_lt raw.x.greatest x.0) || (int_lt y.1 raw.y.least || int_lt raw.y.greatest y.0)) ≡ (lie_apart (span_at p x) window.x || lie_apart (span_at p y) window.y)
 misses_raw p window raw is x y x_inner y_inner = (λ j. apart p window.x raw.x is.x x x_inner j || apart p window.y raw.y is.y y y_inner j)
 
--- a slot that keeps ends, judged by them
+-- a slot that keeps ends is judged by comparing them
 pub judged : (window : Bounds) (l : Written) (slot : Said) → slot ≡ slot_says l → HasInnerEnds l → (unpacked l.word).form ≡ 0 → (raw : RawWindow) → IsRawWindow (precision_of (unpacked l.word).code) window raw
     → IsJudged window slot ((int_lt l.first.1 raw.x.least || int_lt raw.x.greatest l.first.0) || (int_lt l.second.1 raw.y.least || int_lt raw.y.greatest l.second.0))
 judged window l slot is inner near raw at = record {
@@ -174,7 +174,7 @@ raw_ends p range unit raw is below above =
       above = λ c inner. ap (λ (u : ℤ). int_lt range.hi (c *ℤ u)) one ∙ above c inner;
     }
 
--- those of the codes below i
+-- the raw windows of the codes below i
 abbrev pub AreRawBelow : ℕ → Bounds → List RawWindow → Type 0
 AreRawBelow i window raws = (code : ℕ) → code < i → (nowhere : RawWindow) → IsRawWindow (precision_of code) window (get_or raws code nowhere)
 
@@ -232,7 +232,7 @@ finest_ends range raw lo hi = record {
   above = λ c. (λ j. int_lt (sym hi j) (times_one c j));
 }
 
--- those of the codes from i on
+-- the raw windows of the codes from i on
 abbrev pub AreRawFrom : ℕ → Bounds → List RawWindow → Type 0
 AreRawFrom i window raws = (code : ℕ) → i ≤ code → code < 16 → (nowhere : RawWindow) → IsRawWindow (precision_of code) window (get_or raws code nowhere)
 

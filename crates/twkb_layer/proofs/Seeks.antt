@@ -1,4 +1,4 @@
--- What a scan reads of a geometry is the walk of the visitor that seeks, whatever it has met so far.
+-- A scan reads as many bytes of a geometry as the visitor that seeks, whatever it has met so far.
 use Rattle.std.proofs.Common.{◌≡◌, ℕ, ◌+◌, Bool, true, false, cond, not, ◌&&◌, ℤ, List, [], ◌∷◌, fold, Option, Some, None, is_some, option_map, refl, sym, ap, ap₂, ◌∙◌}
 use Rattle.twkb_head.specs.declared.boxes.Vertex.{Vertex}
 use Rattle.twkb_head.specs.declared.boxes.Bounds.{Bounds}
@@ -14,7 +14,7 @@ window_kept : (s : Seeking) (vs : List Vertex) → (fold seeks s vs).window ≡ 
 window_kept s [] = refl
 window_kept s (v ∷ vs) = window_kept (seeks s v) vs
 
--- where a geometry is skipped
+-- a geometry is skipped exactly if it has a size and a box that misses the window
 skipped : (w : Bounds) (xy : ℤ) (z m size : Option ℕ) (box : Option (List (ℤ × ℤ)))
     → (is_some size && is_missed w (option_map (λ ranges. bounds_of xy z m ranges) box))
     ≡ skips_both (λ ranges. box_misses w (bounds_of xy z m ranges)) size box
@@ -22,7 +22,7 @@ skipped w xy z m None box = refl
 skipped w xy z m (Some size) None = refl
 skipped w xy z m (Some size) (Some ranges) = refl
 
--- what is read of one that isn't
+-- the bytes that are read of a geometry that isn't skipped
 read_of : (collection empty : Bool) (all some : ℕ) → cond (collection && not empty) some all ≡ cond empty all (cond collection some all)
 read_of true true all some = refl
 read_of true false all some = refl

@@ -1,4 +1,4 @@
--- A visit of a layer on its way from blob to blob.
+-- The loop of a visit of a layer, from blob to blob.
 use Rattle.std.proofs.Common.{◌≡◌, ℕ, ◌+◌, ◌-◌, ◌^◌, ◌<◌, ◌≤◌, Bool, List, [], ◌∷◌, length, take, drop, fold, refl, ap, sym, ◌∙◌, arith, length-append}
 use Rattle.std.proofs.lemmas.List.{take-append-drop}
 use Rattle.std.proofs.lemmas.List.Sums.{fold-append}
@@ -16,7 +16,7 @@ use Rattle.twkb_layer.proofs.Layers.{size_of-blob, layer_once}
 use Rattle.twkb_layer.proofs.Scanning.{Next, none_left, added_twice, counted_none}
 
 module _ (S : Type 0) (step : S → Vertex → S) (skips : S → Bounds → Bool) where
-  -- no more of a layer is read than it has
+  -- a visitor reads no more bytes of a layer than it has
   pub walks_few : (trees : List Geometry) (bytes : List ℕ) (s : S) → IsLayer trees bytes → layer_walk trees S step skips s ≤ length bytes
   walks_few [] bytes s l = omega arith
   walks_few (g ∷ gs) bytes s l =
@@ -24,7 +24,7 @@ module _ (S : Type 0) (step : S → Vertex → S) (skips : S → Bounds → Bool
       let behind = drop (size_of g) bytes in
       omega (arith, walk_most S step skips g s (blob_order deepest g front 1 l.0).1, size_of-blob g front l.0, walks_few gs behind (fold step s (vertices g)) l.1, ap length (take-append-drop (size_of g) bytes), length-append front behind)
 
-  -- what the visitor has seen, and what is left
+  -- the visitor has seen the blobs before the place, and the rest is a certified layer
   pub record Showing (bytes : List ℕ) (count0 : ℕ) (state0 : S) (place count : ℕ) (state : S) : Type 0 where
     pub trees : List Geometry
     pub whole : IsCertifiedLayer trees bytes
@@ -64,7 +64,7 @@ module _ (S : Type 0) (step : S → Vertex → S) (skips : S → Bounds → Bool
         within = n.within;
       }
 
-  -- what the visitor has seen at the end
+  -- the state of the visitor at the end, and the bytes that were read
   pub record Shown (count0 : ℕ) (state0 : S) (count : ℕ) (state : S) (trees : List Geometry) : Type 0 where
     pub state_is : state ≡ fold step state0 (all_vertices trees)
     pub count_is : count ≡ added count0 (layer_walk trees S step skips state0)
@@ -79,7 +79,7 @@ module _ (S : Type 0) (step : S → Vertex → S) (skips : S → Bounds → Bool
         count_is = counted_none count s.count_fits ∙ (ap (λ ts. added count (layer_walk ts S step skips state)) (sym none) ∙ (s.count_is ∙ ap (λ ts. added count0 (layer_walk ts S step skips state0)) same));
       }
 
-  -- in all
+  -- no more bytes were read than the layer has
   pub show_adds : (bytes : List ℕ) (count0 : ℕ) (state0 : S) (count : ℕ) (state : S) (trees : List Geometry) → IsCertifiedLayer trees bytes → Shown count0 state0 count state trees → AddsAtMost (length bytes) count0 count
   show_adds bytes count0 state0 count state trees h s = record {
     read = layer_walk trees S step skips state0;

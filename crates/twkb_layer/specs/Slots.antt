@@ -31,7 +31,7 @@ pub record Said : Type 0 where
   pub first : Option Span
   pub second : Option Span
 
--- a code of four bits, a form of two, whether a slot before it says more, and the rest
+-- a code of four bits, a form of two, whether the slot before says more, and the rest
 pub record Packed : Type 0 where
   pub code : ℕ
   pub form : ℕ
@@ -48,7 +48,7 @@ pub record Written : Type 0 where
   pub first : ℤ × ℤ
   pub second : ℤ × ℤ
 
--- what a slot says, by its form; in form 3, seven bits of the word are those of an offset above its lowest 57
+-- what a slot says, by its form; in form 3, seven bits of the word are the bits of an offset above its lowest 57
 abbrev pub says_by : Packed → ℤ × ℤ → ℤ × ℤ → Said
 says_by word first second = record {
   beyond = word.form == 3;

@@ -1,4 +1,4 @@
--- What certifying says in tight checking.
+-- The layers that tight checking certifies.
 use Rattle.std.specs.Prelude.{ℕ, List, All}
 use Rattle.twkb_body.specs.Geometry.{Geometry}
 use Rattle.twkb_body.specs.Tight.{HasTightBoxes}

@@ -1,4 +1,4 @@
-//! What is kept of each blob of a certified layer: the rows of a list, and the slots of a directory.
+//! Keeping something of each blob of a certified layer: the row of a list, or the slots of a directory.
 ghost use Rattle.std.specs.Prelude.{◌≡◌, ◌+◌, ◌<◌, ◌≤◌, ◌++◌, ◌∷◌, [], ℕ, List, length};
 ghost use Rattle.twkb_body.specs.Geometry.{Geometry};
 ghost use Rattle.twkb_body.specs.Standing.{StandsAt};
@@ -8,18 +8,18 @@ ghost use Rattle.twkb_layer.specs.Devices.Collecting.{HasPassed};
 
 use twkb_num::Cursor;
 
-/// What keeps something of each blob of a layer, one after another.
+/// Keeps something of each blob of a layer, one after another, in memory that it has.
 pub trait Keeper: Drop {
-    /// What it says of a blob.
+    /// The type of what is said of a blob.
     ghost Says: { Type 0 };
 
-    /// What it says of those that it has kept.
+    /// What is said of the blobs that were kept.
     ghost says: { Self → List Says };
 
-    /// What is to be said of the blob of a number, an offset and a tree.
+    /// What is to be said of a blob, by its number, its offset and its tree.
     ghost of: { ℕ → ℕ → Geometry → Says };
 
-    /// For how many more it has memory.
+    /// For how many more blobs there is memory.
     ghost spare: { Self → ℕ };
 
     /// Reads the blob at the place, keeps what is to be said of it, and moves past it.
@@ -32,7 +32,7 @@ pub trait Keeper: Drop {
         ensures passed { OfBlob cursor.old.bytes cursor.old.place (λ g. HasPassed g cursor.old cursor.new) };
 }
 
-/// What is kept of a certified layer, blob after blob. It has memory for all of them.
+/// Has each blob of a certified layer kept by `keeper`, which has memory for all of them, and returns the keeper.
 pub fn collect<K: Keeper>(mut keeper: K, cursor: &mut Cursor) -> K
     requires empty { K.says keeper ≡ [] }
     requires spare { (trees : List Geometry) × IsCertifiedLayer trees cursor.old.bytes

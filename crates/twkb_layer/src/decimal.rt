@@ -117,7 +117,7 @@ impl<'t> Decimal<'t> {
         self.rounded(self.minus)
     }
 
-    /// Whether it is greater than the other decimal.
+    /// Whether the value is greater than the other decimal's.
     pub fn is_above(&self, other: &Decimal) -> bool
         ensures { result ≡ is_less (rational_of other.now) (rational_of self.now) }
     {
@@ -159,7 +159,7 @@ impl<'t> Decimal<'t> {
         amount
     }
 
-    /// Whether it isn't a whole number of units.
+    /// Whether the value isn't a whole number of units.
     fn is_between_units(&self) -> bool
         ensures { result ≡ not (self.now.number * 10 ^ 7 % 10 ^ self.now.places == 0) }
     {

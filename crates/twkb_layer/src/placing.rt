@@ -10,7 +10,7 @@ ghost use Rattle.twkb_layer.specs.Devices.Slots.{own_said, said_before, passes_a
 ghost use Rattle.twkb_layer.specs.Slots.{entries_kept, slot_says};
 
 use crate::collecting::Keeper;
-use crate::slots::{Kept, REACH, Slot};
+use crate::slots::{Kept, OFFSET_LIMIT, Slot};
 use std::alloc::Allocator;
 use twkb_body::read_and_pass;
 use twkb_head::Fields;
@@ -37,7 +37,7 @@ impl<A: Allocator> Keeper for Vec<Slot, A> {
     }
 }
 
-/// Puts the slots of a certified layer into the room, which has two places for each blob, and says how many there are.
+/// Puts the slots of a certified layer into the room, which has two places for each blob, and returns how many there are.
 pub fn put_slots(room: &mut [Slot], cursor: &mut Cursor) -> usize
     requires { (trees : List Geometry) × IsCertifiedLayer trees cursor.old.bytes
         × (2 * length trees ≤ length room.old) }
@@ -57,7 +57,7 @@ pub fn put_slots(room: &mut [Slot], cursor: &mut Cursor) -> usize
     used
 }
 
-/// Puts the slots of the blob at the place behind those that the room has, and moves past it: how many it has then.
+/// Puts the slots of the blob at the place after the `used` ones of the room, and moves past it. Returns how many are used then.
 #[inline(always)]
 fn put(room: &mut [Slot], used: usize, cursor: &mut Cursor) -> usize
     requires spare { used + 1 < length room.old }
@@ -82,7 +82,7 @@ fn put(room: &mut [Slot], used: usize, cursor: &mut Cursor) -> usize
     place + 1
 }
 
-/// The slots of a blob that begins at the offset with a header that says so, put behind others.
+/// Pushes the slots of a blob that begins at the offset with this header.
 #[inline(always)]
 fn push<A: Allocator>(slots: &mut Vec<Slot, A>, offset: usize, raw: &Fields)
     requires axes { HavePrecisions raw.now.axes }
@@ -103,22 +103,22 @@ fn push<A: Allocator>(slots: &mut Vec<Slot, A>, offset: usize, raw: &Fields)
 fn passes_a_slot(offset: usize, raw: &Fields) -> bool
     ensures { result ≡ passes_a_slot offset (box_said raw.now) }
 {
-    raw.bounds.is_some() && (raw.axes.z.is_some() || raw.axes.m.is_some()) || offset >= REACH
+    raw.bounds.is_some() && (raw.axes.z.is_some() || raw.axes.m.is_some()) || offset >= OFFSET_LIMIT
 }
 
-/// The slot of a blob that begins at the offset with a header that says so. It is deep where another one stands before it.
+/// The own slot of a blob that begins at the offset with this header. It is deep if the slot before it belongs to the blob too.
 #[inline(always)]
 fn own_slot(offset: usize, deep: bool, raw: &Fields) -> Slot
     requires { HavePrecisions raw.now.axes }
     ensures { slot_says result ≡ own_said offset deep (box_said raw.now) }
 {
     match &raw.bounds {
-        None => Slot::unboxed(offset % REACH, deep),
-        Some(bounds) => Slot::boxed(offset % REACH, deep, bounds.x, bounds.y, raw.axes.xy),
+        None => Slot::unboxed(offset % OFFSET_LIMIT, deep),
+        Some(bounds) => Slot::boxed(offset % OFFSET_LIMIT, deep, bounds.x, bounds.y, raw.axes.xy),
     }
 }
 
-/// The slot before it, of what that has no place for.
+/// The slot before a blob's own slot, with what its own slot has no place for.
 #[inline(always)]
 fn slot_before(offset: usize, raw: &Fields) -> Slot
     requires { HavePrecisions raw.now.axes }

@@ -1,4 +1,4 @@
-//! Windows in raw integers: the numbers as headers and bodies have them, which mean units by a precision.
+//! [`RawWindows`], a window in raw integers at each precision: in the numbers that headers and bodies have.
 ghost use Rattle.std.specs.Prelude.{◌≡◌, ◌<◌, ◌<ℤ◌, ◌≤ℤ◌, ◌*ℤ◌, ◌-ℤ◌, ◌||◌, ◌∷◌, [], ℤ, pos, int_lt, true, IfSome};
 ghost use Rattle.std.specs.Int.RustNames.{int_div, int_rem};
 ghost use Rattle.twkb_num.specs.Units.{IsPrecision};
@@ -59,7 +59,7 @@ impl RawEnds {
         }
     }
 
-    /// Whether the range between two numbers lies apart.
+    /// Whether the range between two numbers has no number in common with the range between these ends.
     #[inline(always)]
     pub fn misses(&self, ends: (i64, i64)) -> bool
         ensures { result ≡ (int_lt ends.1 self.now.least || int_lt self.now.greatest ends.0) }
@@ -87,8 +87,7 @@ impl RawWindow {
         }
     }
 
-    /// Whether the box between these numbers in X and in Y lies apart. An axis is only compared where the one before it
-    /// doesn't tell.
+    /// Whether the box between these numbers in X and in Y misses the window. Y is only compared if X doesn't decide.
     #[inline(always)]
     pub fn misses(&self, x: (i64, i64), y: (i64, i64)) -> bool
         ensures { result ≡ ((int_lt x.1 self.now.x.least || int_lt self.now.x.greatest x.0)
@@ -102,7 +101,7 @@ impl RawWindow {
 #[derive(Drop)]
 pub struct RawWindows<'w> {
     window: &'w Window,
-    /// By the codes of precisions.
+    /// The window in raw integers at each precision, by the code of the precision.
     raws: [RawWindow; 16],
 }
 
@@ -137,7 +136,7 @@ impl<'w> RawWindows<'w> {
         self.window
     }
 
-    /// Whether the box misses the window: by raw integers in X and in Y, and elsewhere in units.
+    /// Whether the box misses the window. X and Y are compared in raw integers, and Z and M in units.
     #[inline(always)]
     pub fn misses(&self, axes: Axes, b: &RawBox) -> bool
         requires axes { HavePrecisions axes }
@@ -180,7 +179,7 @@ impl<'w> RawWindows<'w> {
         self.window.misses_in_z_or_m(bounds.z, bounds.m)
     }
 
-    /// Whether a vertex in raw numbers is inside: by these in X and in Y, as long as neither is an end of 64 bits.
+    /// Whether a vertex in raw numbers is inside. X and Y are compared in raw numbers, unless one is an end of 64 bits.
     #[inline(always)]
     pub fn holds(&self, axes: Axes, point: &[i64; 4]) -> bool
         requires { HavePrecisions axes }
@@ -198,8 +197,8 @@ impl<'w> RawWindows<'w> {
         self.window().is_flat() || self.holds_in_units(axes, x, y, point[2], point[3])
     }
 
-    /// Whether a vertex is inside, in units.
-    // It takes no array, so that a point which raw integers judge stays in registers.
+    /// Whether a vertex in raw numbers is inside, compared in units.
+    // It takes no array, so that a point that is compared in raw numbers stays in registers.
     #[inline(never)]
     fn holds_in_units(&self, axes: Axes, x: i64, y: i64, third: i64, fourth: i64) -> bool
         requires { HavePrecisions axes }
@@ -255,7 +254,7 @@ fn by_divisions(window: &Window) -> [RawWindow; 16]
     raws
 }
 
-/// A tenth, rounded up.
+/// A tenth of a number, rounded up.
 #[inline(always)]
 fn tenth_up(number: i64) -> i64
     ensures { (c : ℤ) → int_lt (c *ℤ pos 10) number ≡ int_lt c result }
@@ -264,7 +263,7 @@ fn tenth_up(number: i64) -> i64
     if rest > 0 { tenth + 1 } else { tenth }
 }
 
-/// A tenth, rounded down.
+/// A tenth of a number, rounded down.
 #[inline(always)]
 fn tenth_down(number: i64) -> i64
     ensures { (c : ℤ) → int_lt number (c *ℤ pos 10) ≡ int_lt result c }
@@ -307,7 +306,7 @@ fn greatest_to(hi: i128, unit: i128) -> i64
     }
 }
 
-/// A quotient, rounded towards zero, and what is left. A division of 64 bits takes a fraction of the time of one of 128.
+/// A quotient, rounded towards zero, and the remainder. A division of 64 bits takes a fraction of the time of one of 128.
 #[inline(always)]
 fn divided(number: i128, unit: i128) -> (i128, i128)
     requires { pos 0 <ℤ unit }

@@ -1,4 +1,4 @@
-//! Why a layer is refused.
+//! [`Refusal`], why bytes aren't a certified layer.
 use thiserror::Error;
 
 /// Why bytes aren't a certified layer.

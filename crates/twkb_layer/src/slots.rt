@@ -1,4 +1,4 @@
-//! The slots of a directory.
+//! [`Slot`], 40 bytes in which a directory keeps the offset and the box of a blob.
 ghost use Rattle.std.specs.Prelude.{◌≡◌, ◌+◌, ◌*◌, ◌/◌, ◌%◌, ◌^◌, ◌<◌, ◌≤◌, pos, ◌==◌, nat_le, ◌||◌, ◌&&◌, ◌++◌, ◌∷◌, [], true, false, Some, None, IfSome, is_some, option_map, option_and_then, vec_len, vec_capacity};
 ghost use Rattle.twkb_num.specs.Units.{IsPrecision};
 ghost use Rattle.twkb_head.specs.Head.{span_at};
@@ -9,28 +9,28 @@ ghost use Rattle.twkb_layer.specs.Window.{lie_apart_if_both};
 
 use crate::raw::RawWindows;
 use crate::window::Window;
-use crate::word::{BEYOND, NEAR, UNBOXED, WIDE, Word};
+use crate::word::{BEYOND, ENDS, UNBOXED, WIDTHS, Word};
 use std::marker::Model;
 use twkb_body::Span;
 use twkb_head::RawRange;
 use twkb_num::units;
 
 /// The first offset that a slot can't hold. The rest of such an offset goes into a slot before it, as Z and M do.
-pub const REACH: usize = 1 << 57;
+pub const OFFSET_LIMIT: usize = 1 << 57;
 
 /// A slot of a directory.
 ///
 /// A box is kept in raw integers with its precision, so that a scan compares numbers of 64 bits. Its ends are kept if all its
 /// numbers are at most 2^61 from zero, and otherwise its minima and widths, as the header spells them. So a slot takes 40 bytes,
-/// and an `Option<Bounds>` alone would take 176. Z and M, which few layers have, go into a slot of their own before that of their
-/// blob, because reading memory is what takes a scan its time.
+/// and an `Option<Bounds>` alone would take 176. Z and M, which few layers have, go into a slot of their own before their blob's
+/// slot, because a scan spends its time on reading memory.
 #[repr(C)]
 #[derive(Clone, Copy)]
 pub struct Slot {
     word: Word,
-    /// In X, or in Z.
+    /// The range in X, or in Z.
     first: Pair,
-    /// In Y, or in M.
+    /// The range in Y, or in M.
     second: Pair,
 }
 
@@ -79,7 +79,7 @@ impl Pair {
 }
 
 impl Slot {
-    /// Of a blob without a box.
+    /// The slot of a blob without a box.
     pub(crate) fn unboxed(offset: usize, deep: bool) -> Slot
         requires { offset < 2 ^ 57 }
         ensures { slot_says result ≡ record {
@@ -97,7 +97,7 @@ impl Slot {
         }
     }
 
-    /// Of a blob with a box, by its ranges in X and in Y.
+    /// The slot of a blob with a box, by its ranges in X and in Y.
     #[inline(always)]
     pub(crate) fn boxed(offset: usize, deep: bool, x: RawRange, y: RawRange, precision: i8) -> Slot
         requires offset { offset < 2 ^ 57 }
@@ -113,19 +113,19 @@ impl Slot {
         let code = (precision + 8) as u64;
         match (near_ends(x), near_ends(y)) {
             (Some(first), Some(second)) => Slot {
-                word: Word::new(code, NEAR, deep, offset as u64),
+                word: Word::new(code, ENDS, deep, offset as u64),
                 first: Pair::of(first),
                 second: Pair::of(second),
             },
             _ => Slot {
-                word: Word::new(code, WIDE, deep, offset as u64),
+                word: Word::new(code, WIDTHS, deep, offset as u64),
                 first: Pair::of((x.minimum, x.extent)),
                 second: Pair::of((y.minimum, y.extent)),
             },
         }
     }
 
-    /// What a box has in Z and M, and how far the offset passes a slot's reach.
+    /// The slot before a blob's own slot: the box's ranges in Z and M, and the part of the offset that is beyond a slot's reach.
     pub(crate) fn beyond(offset: usize, z: Kept, m: Kept) -> Slot
         ensures { slot_says result ≡ record {
           beyond = true;
@@ -135,7 +135,7 @@ impl Slot {
           second = m;
         } }
     {
-        let passed = (offset / REACH) as u64;
+        let passed = (offset / OFFSET_LIMIT) as u64;
         Slot {
             word: Word::new(z.code, BEYOND, false, m.code + 16 * passed),
             first: Pair::of(z.numbers),
@@ -143,7 +143,7 @@ impl Slot {
         }
     }
 
-    /// Whether it says what the next slot has no place for.
+    /// Whether the slot says what the next slot has no place for.
     #[inline(always)]
     pub(crate) fn is_beyond(&self) -> bool
         ensures { result ≡ (slot_says self.now).beyond }
@@ -151,7 +151,7 @@ impl Slot {
         self.word.form() == BEYOND
     }
 
-    /// Whether the slot before it says more of its blob.
+    /// Whether the slot before this one says more of its blob.
     #[inline(always)]
     pub(crate) fn is_deep(&self) -> bool
         ensures { result ≡ (slot_says self.now).deep }
@@ -159,7 +159,7 @@ impl Slot {
         self.word.is_deep()
     }
 
-    /// The offset that it says.
+    /// The offset that the slot says.
     #[inline(always)]
     pub(crate) fn offset(&self) -> usize
         ensures value { result ≡ (slot_says self.now).offset }
@@ -168,18 +168,18 @@ impl Slot {
     {
         let rest = self.word.rest() as usize;
         if self.is_beyond() {
-            rest / 16 % 128 * REACH
+            rest / 16 % 128 * OFFSET_LIMIT
         } else {
             rest
         }
     }
 
-    /// Whether its box misses the window in X or in Y, where it keeps the ends of one.
+    /// Whether the box misses the window in X or in Y, if the slot keeps the ends of a box. Otherwise `None`.
     #[inline(always)]
     pub(crate) fn misses_by_ends(&self, windows: &RawWindows) -> Option<bool>
         ensures { IfSome result (IsJudged windows.now (slot_says self.now)) }
     {
-        if self.word.form() == NEAR {
+        if self.word.form() == ENDS {
             Some(
                 windows
                     .at(self.word.code())
@@ -209,7 +209,7 @@ impl Slot {
         range_of(self.word.form(), code, self.second.numbers())
     }
 
-    /// Whether what it says of Z and M misses the window.
+    /// Whether the ranges in Z and M that the slot says miss the window.
     pub(crate) fn misses_in_z_or_m(&self, window: &Window) -> bool
         ensures { result ≡ (lie_apart_if_both (slot_says self.now).first window.now.z
             || lie_apart_if_both (slot_says self.now).second window.now.m) }
@@ -218,8 +218,8 @@ impl Slot {
     }
 }
 
-/// The range of an axis that a box may lack: a minimum and a width, and the code of their precision, which is below 8 where
-/// there is none.
+/// The range of an axis that a box may lack: a minimum and a width, and the code of their precision, which is below 8 if there is
+/// no range.
 #[derive(Drop)]
 pub struct Kept {
     code: u64,
@@ -250,7 +250,7 @@ impl Kept {
         }
     }
 
-    /// The range of an axis, at its precision, where it has one.
+    /// The range of an axis at its precision, or no range if it has no precision.
     #[inline(always)]
     pub fn of(range: RawRange, precision: Option<u8>) -> Kept
         requires { IfSome precision (λ p. p ≤ 7) }
@@ -274,25 +274,25 @@ impl Kept {
     }
 }
 
-/// The range of an axis, where a slot of this form has one.
+/// The range in a slot of this form, if it has one.
 fn range_of(form: u64, code: usize, numbers: (i64, i64)) -> Option<Span>
     requires { code < 16 }
     ensures { result ≡ range_in form code numbers }
 {
     let precision = code as i8 - 8;
-    if form == NEAR {
+    if form == ENDS {
         Some(Span {
             lo: units(i128::from(numbers.0), precision),
             hi: units(i128::from(numbers.1), precision),
         })
-    } else if form == WIDE || (form == BEYOND && code > 7) {
+    } else if form == WIDTHS || (form == BEYOND && code > 7) {
         Some(Span::spelled(numbers.0, numbers.1, precision))
     } else {
         None
     }
 }
 
-/// The ends of a range, where its numbers are at most 2^61 from zero.
+/// The ends of a range, if its numbers are at most 2^61 from zero.
 #[inline(always)]
 fn near_ends(range: RawRange) -> Option<(i64, i64)>
     ensures { IfSome result (λ ends. AreInner ends × (ends ≡ ends_of range)) }
@@ -304,5 +304,5 @@ fn near_ends(range: RawRange) -> Option<(i64, i64)>
     }
 }
 
-// What a slot of a directory takes.
+// A slot of a directory takes 40 bytes, as the documentation says.
 const _: () = prove!(size_of::<Slot>() <= 40);

@@ -1,18 +1,17 @@
-//! What a slot of a directory keeps besides ranges, in one word of 64 bits.
+//! [`Word`], the 64 bits of a directory's slot besides its ranges.
 ghost use Rattle.std.specs.Prelude.{◌≡◌, ◌<◌, ◌^◌};
 ghost use Rattle.twkb_layer.specs.Slots.{unpacked};
 
 /// A slot of a blob whose box is kept by its ends.
-pub const NEAR: u64 = 0;
+pub const ENDS: u64 = 0;
 /// A slot of a blob whose box is kept by least numbers and widths.
-pub const WIDE: u64 = 1;
+pub const WIDTHS: u64 = 1;
 /// A slot of a blob without a box.
 pub const UNBOXED: u64 = 2;
-/// A slot of what the next one has no place for.
+/// A slot of what the next slot has no place for.
 pub const BEYOND: u64 = 3;
 
-/// From the lowest bit on: four bits of a code, two of a form, one that says whether a slot before it says more, and the
-/// rest.
+/// From the lowest bit on: four bits of a code, two of a form, one that says whether the slot before says more, and the rest.
 #[repr(C)]
 #[derive(Clone, Copy)]
 pub struct Word {
@@ -47,7 +46,7 @@ impl Word {
         self.bits / 16 % 4
     }
 
-    /// Whether a slot before it says more.
+    /// Whether the slot before says more of the blob.
     #[inline(always)]
     pub fn is_deep(&self) -> bool
         ensures { result ≡ (unpacked self.now.bits).deep }

@@ -1,5 +1,5 @@
 -- Devices of proofs: nothing public names them.
--- What is read of a blob at its start.
+-- What a blob's header says of it, and the cursor after the blob.
 use Rattle.std.specs.Prelude.{◌≡◌, ℕ, ◌+◌, Option, option_map}
 use Rattle.twkb_num.specs.Cursor.{Reading}
 use Rattle.twkb_head.specs.declared.boxes.Bounds.{Bounds}

@@ -1,5 +1,5 @@
 -- Devices of proofs: nothing public names them.
--- Blobs of a certified layer: what holds of one at a place, and where a scan goes on behind it.
+-- Certified blobs at a place, and where a scan goes on after one.
 use Rattle.std.specs.Prelude.{ℕ, ◌+◌, List}
 use Rattle.twkb_num.specs.Cursor.{Reading, added}
 use Rattle.twkb_head.specs.declared.boxes.Bounds.{Bounds}
@@ -8,7 +8,7 @@ use Rattle.twkb_body.specs.Standing.{StandsAt}
 use Rattle.twkb_layer.specs.Hits.{cost}
 use Rattle.twkb_layer.specs.Layer.{size_of}
 
--- what holds of a certified blob at a place
+-- P holds of each certified blob that begins at the place
 abbrev pub OfBlob : List ℕ → ℕ → (Geometry → Type 0) → Type 0
 OfBlob bytes place P = (g : Geometry) → StandsAt g 1 bytes place → P g
 

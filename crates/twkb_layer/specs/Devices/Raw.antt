@@ -1,5 +1,5 @@
 -- Devices of proofs: nothing public names them.
--- Windows in raw integers: the numbers as headers and bodies have them, which mean units by a precision.
+-- Windows in raw integers, the numbers that headers and bodies have, at a precision.
 use Rattle.std.specs.Prelude.{◌≡◌, ℕ, ◌<◌, ℤ, int_lt, ◌||◌, Bool, List, get_or, length}
 use Rattle.twkb_num.specs.Units.{units_of}
 use Rattle.twkb_head.specs.declared.boxes.Span.{Span}
@@ -10,8 +10,8 @@ use Rattle.twkb_layer.specs.Slots.{precision_of}
 use Rattle.twkb_layer.specs.declared.raw.RawEnds.{RawEnds}
 use Rattle.twkb_layer.specs.declared.raw.RawWindow.{RawWindow}
 
--- The ends of a range at a precision: a number's units lie below the range where the number is less than the one, and above
--- it where the number is greater than the other.
+-- The ends of a range at a precision: a number's units lie below the range exactly if the number is below the lower end, and
+-- above the range exactly if the number is above the upper end.
 pub record IsRawEnds (p : ℤ) (range : Span) (raw : RawEnds) : Type 0 where
   pub below : (c : ℤ) → IsInner c → int_lt (units_of c p) range.lo ≡ int_lt c raw.least
   pub above : (c : ℤ) → IsInner c → int_lt range.hi (units_of c p) ≡ int_lt raw.greatest c

@@ -15,17 +15,17 @@ pub record Seeking : Type 0 where
   pub window : Bounds
   pub met : Bool
 
--- a vertex is met where it is inside
+-- the state after a vertex, which is met if it is inside
 abbrev pub seeks : Seeking → Vertex → Seeking
 seeks s v = record { window = s.window; met = s.met || is_inside s.window v }
 
--- a box is skipped where it misses the window
+-- a box is skipped if it misses the window
 abbrev pub seeks_past : Seeking → Bounds → Bool
 seeks_past s box = box_misses s.window box
 
 -- ---- the law
 
--- one of two holds
+-- if a disjunction is true, one of its parts is
 either : (a b : Bool) → (a || b) ≡ true → (a ≡ true) ⊎ (b ≡ true)
 either true b e = inl refl
 either false b e = inr e
@@ -37,7 +37,7 @@ no_right : (a b : Bool) → b ≡ false → (a && b) ≡ false
 no_right true b e = e
 no_right false b e = refl
 
--- what lies in a range is not in one apart from it
+-- a value in a range isn't in a range that lies apart from it
 span_outside : (box range : Span) (v : ℤ) → lie_apart box range ≡ true → IsWithin box v → in_span range v ≡ false
 span_outside box range v e h = grind (arith, ints, e, h.0, h.1)
 

@@ -21,12 +21,12 @@ pub record AreInner (ends : ℤ × ℤ) : Type 0 where
   pub first : IsInner ends.0
   pub second : IsInner ends.1
 
--- A slot that keeps ends keeps such ends.
+-- A slot that keeps ends (form 0) keeps inner ends (`AreInner`).
 pub record HasInnerEnds (l : Written) : Type 0 where
   pub first : (unpacked l.word).form ≡ 0 → AreInner l.first
   pub second : (unpacked l.word).form ≡ 0 → AreInner l.second
 
--- the slot has a box, and this misses the window in X or in Y
+-- the slot has a box, and `misses` says whether it misses the window in X or in Y
 pub record IsJudged (window : Bounds) (slot : Said) (misses : Bool) : Type 0 where
   pub x : Span
   pub y : Span
@@ -34,7 +34,7 @@ pub record IsJudged (window : Bounds) (slot : Said) (misses : Bool) : Type 0 whe
   pub second : slot.second ≡ Some y
   pub answer : misses ≡ (lie_apart x window.x || lie_apart y window.y)
 
--- what a box has in Z, and in M
+-- the range of a box in Z, and in M, if it has one
 abbrev pub box_z : Option Bounds → Option Span
 box_z box = option_and_then (λ (b : Bounds). b.z) box
 
@@ -45,7 +45,7 @@ box_m box = option_and_then (λ (b : Bounds). b.m) box
 abbrev pub passes_a_slot : ℕ → Option Bounds → Bool
 passes_a_slot offset box = is_some (box_z box) || (is_some (box_m box) || nat_le (2 ^ 57) offset)
 
--- what that slot says
+-- what the own slot of a blob with this offset and box says
 abbrev pub own_said : ℕ → Bool → Option Bounds → Said
 own_said offset deep box = record {
   beyond = false;
@@ -55,6 +55,6 @@ own_said offset deep box = record {
   second = option_map (λ (b : Bounds). b.y) box;
 }
 
--- what the slot before it says
+-- what the slot before the own slot of a blob with this offset and box says
 abbrev pub said_before : ℕ → Option Bounds → Said
 said_before offset box = record { beyond = true; deep = false; offset = offset / 2 ^ 57 * 2 ^ 57; first = box_z box; second = box_m box }

@@ -1,5 +1,5 @@
 -- Devices of proofs: nothing public names them.
--- What the reader of a window's text looks at, and what its answers mean.
+-- What the reader of a window's text tests, and what its answers mean.
 use Rattle.std.specs.Prelude.{◌≡◌, ℕ, ◌==◌, ◌&&◌, Bool, true, false, not, List, [], ◌∷◌, ◌++◌, Option, Some, IfSome}
 use Rattle.std.specs.Char.{is_ascii_digit}
 use Rattle.twkb_head.specs.declared.boxes.Span.{Span}
@@ -23,12 +23,12 @@ ends text = not (starts_digit text) && not (starts_fraction text)
 abbrev pub Passes : {A : Type 0} → (List ℕ → A → Type 0) → List ℕ → List ℕ → A → Type 0
 Passes IsText old new x = (front : List ℕ) × (old ≡ front ++ new) × IsText front x
 
--- whatever text stands there is read, where no number goes on behind it
+-- each text of a value at the front is read, if no number goes on after it
 abbrev pub ReadsEach : {A : Type 0} → (List ℕ → A → Type 0) → List ℕ → List ℕ → Option A → Type 0
 ReadsEach {A} IsText old new result = (front behind : List ℕ) (x : A) → old ≡ front ++ behind → IsText front x
     → ends behind ≡ true → (result ≡ Some x) × (new ≡ behind)
 
--- a name and a range are read exactly where they stand, and no number goes on behind them
+-- a name and a range are read exactly if the text begins with them and no number goes on after them
 pub record ReadsSpan (name old new : List ℕ) (result : Option Span) : Type 0 where
   pub some : IfSome result (Passes (IsNamedText name) old new)
   pub exact : ReadsEach (IsNamedText name) old new result

@@ -1,5 +1,5 @@
 -- Devices of proofs: nothing public names them.
--- One body of code certifies in both ways: what it says, by the flag.
+-- What the code that certifies layers says, by a flag for tight checking.
 use Rattle.std.specs.Prelude.{◌≡◌, ℕ, Bool, true, false, List, length}
 use Rattle.twkb_body.specs.Claims.{Claim, IsTrueClaim}
 use Rattle.twkb_body.specs.Geometry.{Geometry}
@@ -9,7 +9,7 @@ use Rattle.twkb_layer.specs.Refusal.{NamesKind}
 use Rattle.twkb_layer.specs.declared.refusal.Refusal.{Refusal}
 use Rattle.twkb_layer.specs.Tight.{IsTightLayer}
 
--- what a layer has that was certified so
+-- the bytes are a certified layer without a loose box, with these numbers of blobs and vertices
 pub record IsTightlyCounted (bytes : List ℕ) (blobs vertices : ℕ) : Type 0 where
   pub trees : List Geometry
   pub layer : IsTightLayer trees bytes
@@ -17,7 +17,7 @@ pub record IsTightlyCounted (bytes : List ℕ) (blobs vertices : ℕ) : Type 0 w
   pub vertices_are : vertices ≡ vertex_count trees
 
 -- ---- by the flag
--- what an audit takes for true, or one in tight checking
+-- whether a plain check or a tight one takes a claim for true
 abbrev pub IsTrueBy : Bool → Claim → Type 0
 IsTrueBy false = IsTrueClaim
 IsTrueBy true = IsTightlyTrue

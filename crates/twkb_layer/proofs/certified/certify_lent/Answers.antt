@@ -1,4 +1,4 @@
--- What the audit of all blobs says holds of the layer; a refusal is passed on.
+-- The result of the audit of all blobs is the result for the layer; a refusal is passed on.
 use Rattle.std.proofs.Common.{rules}
 use Rattle.twkb_layer.proofs.certified.certify_lent.Goals as goal
 

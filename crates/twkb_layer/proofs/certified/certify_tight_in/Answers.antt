@@ -1,4 +1,4 @@
--- What the audit of all blobs says holds of the layer; a refusal is passed on.
+-- The result of the audit of all blobs is the result for the layer; a refusal is passed on.
 use Rattle.std.proofs.lemmas.Result.{err_from_is_err_and}
 use Rattle.twkb_layer.proofs.Counting.{tight_is_counted}
 use Rattle.twkb_layer.proofs.certified.certify_tight_in.Goals as goal

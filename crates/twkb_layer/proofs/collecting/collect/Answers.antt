@@ -1,4 +1,4 @@
--- One blob more is kept, and no more bytes are read than it has.
+-- Each turn keeps one more blob, and reads no more bytes than it has.
 use Rattle.std.proofs.Common.{◌<◌, ◌≤◌, ap, arith, length, ◌∙◌}
 use Rattle.twkb_layer.proofs.Scanning.{next_of, stands_along}
 use Rattle.twkb_layer.proofs.Keeping.{collect_goes_on, collect_ends, collect_fits}

@@ -1,4 +1,4 @@
--- What is kept is what the definition says of the blobs before the place; the rest is a certified layer.
+-- The keeper says what the definition says of the blobs before the place; the rest is a certified layer.
 use Rattle.std.proofs.Common.{◌≡◌, ◌<◌, ◌-◌, ◌^◌, length}
 use Rattle.twkb_layer.proofs.Keeping.{Collecting}
 use Rattle.twkb_layer.proofs.collecting.collect.Given as goal

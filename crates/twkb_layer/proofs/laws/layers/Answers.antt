@@ -1,4 +1,4 @@
--- A layer is its blobs one after another, in one way at most.
+-- A layer is its blobs one after another, in at most one way.
 use Rattle.twkb_layer.proofs.Layers.{layer_blobs, blobs_layer, parts_once, no_prefix}
 use Rattle.twkb_layer.proofs.laws.layers.Goals as goal
 

@@ -1,4 +1,4 @@
--- What is certified under a limit is so under a greater one.
+-- A layer that is certified under a limit of depth is certified under a greater one.
 use Rattle.twkb_layer.proofs.Layers.{layer_stays, certified_stays}
 use Rattle.twkb_layer.proofs.laws.limits_may_be_raised.Goals as goal
 

@@ -1,4 +1,4 @@
--- One slot or two stand behind those that were there, and say the blob's entry.
+-- One slot or two follow the slots that were there, and say the blob's entry.
 use Rattle.std.proofs.Common.{ap, arith, take, ◌+◌, ◌++◌, ◌∷◌, [], ◌∙◌}
 use Rattle.std.proofs.Math.ListN.{set}
 use Rattle.std.proofs.lemmas.List.{drop-set-lt}

@@ -1,4 +1,4 @@
--- The slots of one blob more go behind the others.
+-- Each turn puts the slots of one more blob after the others.
 use Rattle.std.proofs.Common.{◌≡◌, ℕ, ◌+◌, ◌-◌, ◌<◌, ◌≤◌, List, drop, refl, ap, sym, arith, length, ◌∙◌}
 use Rattle.std.proofs.lemmas.List.{drop-drop}
 use Rattle.twkb_layer.proofs.Scanning.{next_of, stands_along}
@@ -6,7 +6,7 @@ use Rattle.twkb_layer.proofs.Keeping.{collect_adds}
 use Rattle.twkb_layer.proofs.Entries.{slots_begin, slots_fit, slots_go_on, slots_end, slots_few}
 use Rattle.twkb_layer.proofs.placing.put_slots.Goals as goal
 
--- what is as it was behind a place is so behind a later one
+-- if two lists agree after a place, they agree after a later one
 rest_shorter : {X : Type 0} (n m : ℕ) (xs ys : List X) → n ≤ m → drop n xs ≡ drop n ys → drop m xs ≡ drop m ys
 rest_shorter n m xs ys le same =
     let far : n + (m - n) ≡ m = omega (arith, le) in

@@ -1,4 +1,4 @@
--- One precision more has its window.
+-- Each turn makes the window of one more precision.
 use Rattle.std.proofs.Common.{◌≡◌, pos, ◌-ℤ◌, to_z, of_z, refl, ◌∙◌, subst, arith}
 use Rattle.std.specs.Int.{w8}
 use Rattle.std.proofs.lemmas.Int.{ints}

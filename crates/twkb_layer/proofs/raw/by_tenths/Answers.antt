@@ -1,4 +1,4 @@
--- One precision more has its window.
+-- Each turn makes the window of one more precision.
 use Rattle.std.proofs.Common.{◌≡◌, ◌+◌, ◌-◌, ℤ, pos, ◌-ℤ◌, refl, subst, arith, ◌∙◌}
 use Rattle.std.proofs.lemmas.Int.{ints}
 use Rattle.std.proofs.Math.ListN.{length-set}

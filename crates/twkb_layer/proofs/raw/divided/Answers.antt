@@ -1,4 +1,4 @@
--- A division of 64 bits answers what one of 128 does, where both numbers fit.
+-- A division of 64 bits gives the answer of one of 128, if both numbers fit.
 use Rattle.std.proofs.Common.{◌≡◌, ℤ, pos, ◌<ℤ◌, FitsSigned, to_z, of_z, sym, subst, ◌∙◌, arith}
 use Rattle.std.proofs.lemmas.Int.{ints, to_z-of_z, quot_fits, rem_below}
 use Rattle.std.specs.Int.{w64, w128}

@@ -1,4 +1,4 @@
--- The quotient, and one less if something is left.
+-- A tenth rounded down is the quotient, or one less if the remainder is negative.
 use Rattle.twkb_layer.proofs.Raws.{tenth_is, left_is, tenth_down_is, tenth_whole_down}
 use Rattle.twkb_layer.proofs.raw.tenth_down.Goals as goal
 

@@ -1,4 +1,4 @@
--- The quotient, and one more if something is left.
+-- A tenth rounded up is the quotient, or one more if the remainder is positive.
 use Rattle.twkb_layer.proofs.Raws.{tenth_is, left_is, tenth_up_is, tenth_whole_up}
 use Rattle.twkb_layer.proofs.raw.tenth_up.Goals as goal
 

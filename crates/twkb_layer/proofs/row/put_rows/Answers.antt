@@ -1,4 +1,4 @@
--- One row more goes to its place, until the bytes or the room end.
+-- Each turn writes one more row to its place, until the bytes or the room end.
 use Rattle.std.proofs.Common.{◌<◌, ap, arith, inl, inr, length, ◌∙◌}
 use Rattle.twkb_layer.proofs.Scanning.{next_of, stands_along}
 use Rattle.twkb_layer.proofs.Keeping.{put_begins, put_goes_on, put_ends, collect_adds}

@@ -1,4 +1,4 @@
--- The room holds what is made of the rows of the blobs before the place, as many as fit; the rest is a certified layer.
+-- The room has the rows of the blobs before the place, in its form, as many as fit; the rest is a certified layer.
 use Rattle.std.proofs.Common.{◌≡◌, ◌<◌, ◌-◌, ◌^◌, length}
 use Rattle.twkb_layer.proofs.Keeping.{Putting}
 use Rattle.twkb_layer.proofs.row.put_rows.Given as goal

@@ -1,4 +1,4 @@
--- It ends at the place.
+-- The blob that was passed ends at the place.
 use Rattle.std.proofs.Common.{rules}
 use Rattle.twkb_layer.proofs.scans.passed.Goals as goal
 

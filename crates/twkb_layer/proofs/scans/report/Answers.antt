@@ -1,4 +1,4 @@
--- The hit is put in its place, where there is one, and one more is found.
+-- The hit is put in its place, if there is one, and counted.
 use Rattle.std.proofs.Common.{arith, rules}
 use Rattle.std.proofs.lemmas.Grind.{common_steps}
 use Rattle.twkb_layer.proofs.scans.report.Goals as goal

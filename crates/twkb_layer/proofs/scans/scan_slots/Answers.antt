@@ -1,4 +1,4 @@
--- One slot more is remembered, or its blob looked at.
+-- Each turn remembers one more slot, or looks at its blob.
 use Rattle.std.proofs.Common.{refl, sym, ap, ◌∙◌, arith, sum_by, true, false}
 use Rattle.std.specs.List.{list_any}
 use Rattle.twkb_num.specs.Cursor.{added}

@@ -1,4 +1,4 @@
--- The hits and the cost so far are those of the blobs of the slots before; the others are of the blobs still to come.
+-- Hits and cost so far are the ones of the blobs of the slots before; the other slots are of the blobs still to come.
 use Rattle.std.proofs.Common.{◌≡◌, ◌<◌, ◌^◌, length, drop, map}
 use Rattle.twkb_layer.specs.Slots.{slot_says}
 use Rattle.twkb_layer.proofs.Looking.{Looking}

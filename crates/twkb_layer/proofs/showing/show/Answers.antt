@@ -1,4 +1,4 @@
--- The blob at the place is skimmed, and the next one begins behind it.
+-- The blob at the place is skimmed, and the next one begins after it.
 use Rattle.std.proofs.Common.{◌<◌, ◌≤◌, ap, arith, length, ◌∙◌}
 use Rattle.twkb_num.specs.Cursor.{Reading}
 use Rattle.twkb_layer.proofs.Scanning.{next_of, stands_along}

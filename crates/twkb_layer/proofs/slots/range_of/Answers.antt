@@ -1,4 +1,4 @@
--- In each form the range is that of the definition.
+-- In each form the range is the range of the definition.
 use Rattle.std.proofs.Common.{◌≡◌, inl, inr, ℕ, pos, ◌-ℤ◌, FitsSigned, to_z, of_z, Some, None, Bool, true, false, nat_lt, ◌==◌, ◌||◌, ◌&&◌, if◌then◌else◌, ap, sym, ◌∙◌, arith, rules}
 use Rattle.std.specs.Int.{w8, w64, w128}
 use Rattle.std.proofs.lemmas.Int.{ints, to_z-of_z}
@@ -14,22 +14,22 @@ units-requires-clause-least c = let fits : FitsSigned w64 c.args.numbers.0 = sea
 pub units-requires-clause-greatest : goal.units-requires-clause-greatest
 units-requires-clause-greatest c = let fits : FitsSigned w64 c.args.numbers.0 = search rules in omega (arith, ints, fits, c.from.ensures)
 
-pub units-requires-then-form-eq-NEAR-clause-least : goal.units-requires-then-form-eq-NEAR-clause-least
-units-requires-then-form-eq-NEAR-clause-least c = let fits : FitsSigned w64 c.args.numbers.1 = search rules in omega (arith, ints, fits, c.from-then-form-eq-NEAR.ensures)
+pub units-requires-then-form-eq-ENDS-clause-least : goal.units-requires-then-form-eq-ENDS-clause-least
+units-requires-then-form-eq-ENDS-clause-least c = let fits : FitsSigned w64 c.args.numbers.1 = search rules in omega (arith, ints, fits, c.from-then-form-eq-ENDS.ensures)
 
-pub units-requires-then-form-eq-NEAR-clause-greatest : goal.units-requires-then-form-eq-NEAR-clause-greatest
-units-requires-then-form-eq-NEAR-clause-greatest c = let fits : FitsSigned w64 c.args.numbers.1 = search rules in omega (arith, ints, fits, c.from-then-form-eq-NEAR.ensures)
+pub units-requires-then-form-eq-ENDS-clause-greatest : goal.units-requires-then-form-eq-ENDS-clause-greatest
+units-requires-then-form-eq-ENDS-clause-greatest c = let fits : FitsSigned w64 c.args.numbers.1 = search rules in omega (arith, ints, fits, c.from-then-form-eq-ENDS.ensures)
 
-pub returns-then-form-eq-NEAR : goal.returns-then-form-eq-NEAR
-returns-then-form-eq-NEAR c =
+pub returns-then-form-eq-ENDS : goal.returns-then-form-eq-ENDS
+returns-then-form-eq-ENDS c =
     let first_fits : FitsSigned w64 c.args.numbers.0 = search rules in
     let second_fits : FitsSigned w64 c.args.numbers.1 = search rules in
     let precision : to_z w8 (of_z w8 (to_z w8 c.args.code -ℤ pos 8)) ≡ precision_of c.args.code = omega (arith, ints) in
     let first : to_z w128 (of_z w128 c.from.result) ≡ c.args.numbers.0 = omega (arith, ints, c.from.ensures) in
-    let second : to_z w128 (of_z w128 c.from-then-form-eq-NEAR.result) ≡ c.args.numbers.1 = omega (arith, ints, c.from-then-form-eq-NEAR.ensures) in
+    let second : to_z w128 (of_z w128 c.from-then-form-eq-ENDS.result) ≡ c.args.numbers.1 = omega (arith, ints, c.from-then-form-eq-ENDS.ensures) in
     let lo = to_z-of_z w128 c.units.result (search rules) ∙ c.units.ensures ∙ (λ j. units_of (first j) (precision j)) in
-    let hi = to_z-of_z w128 c.units-then-form-eq-NEAR.result (search rules) ∙ c.units-then-form-eq-NEAR.ensures ∙ (λ j. units_of (second j) (precision j)) in
-    (λ j. Some (record { lo = lo j; hi = hi j })) ∙ sym (ap (λ (form : ℕ). range_in form c.args.code c.args.numbers) c.if-form-eq-NEAR.true)
+    let hi = to_z-of_z w128 c.units-then-form-eq-ENDS.result (search rules) ∙ c.units-then-form-eq-ENDS.ensures ∙ (λ j. units_of (second j) (precision j)) in
+    (λ j. Some (record { lo = lo j; hi = hi j })) ∙ sym (ap (λ (form : ℕ). range_in form c.args.code c.args.numbers) c.if-form-eq-ENDS.true)
 
 pub returns-then-code-gt7 : goal.returns-then-code-gt7
 returns-then-code-gt7 c =

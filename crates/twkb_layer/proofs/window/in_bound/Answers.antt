@@ -1,4 +1,4 @@
--- Where an axis is bounded, a vertex without it is outside.
+-- If an axis is bounded, a vertex without it is outside.
 use Rattle.std.proofs.Common.{rules}
 use Rattle.twkb_layer.proofs.window.in_bound.Goals as goal
 

@@ -1,4 +1,4 @@
--- Slots are put where the room has the places that they want. Else room and count stay as they were.
+-- Slots are put if the room has places for all of them. Otherwise room and count are unchanged.
 use Rattle.std.proofs.Common.{rules}
 use Rattle.twkb_layer.proofs.certified.Certified.directory_into.Goals as goal
 

@@ -1,4 +1,4 @@
--- The length is that of the bytes.
+-- The length is the number of the bytes.
 use Rattle.std.proofs.Common.{rules}
 use Rattle.twkb_layer.proofs.certified.Certified.len.Goals as goal
 

@@ -1,4 +1,4 @@
--- The rows are those of the layer, as far as there is room.
+-- The rows are the rows of the layer, as far as there is room.
 use Rattle.std.proofs.Common.{rules}
 use Rattle.twkb_layer.proofs.certified.Certified.list_into.Goals as goal
 

@@ -1,4 +1,4 @@
--- Two slots a blob don't leave the type, and are none for an empty layer.
+-- The number of two slots for each blob fits its type, and is 0 for an empty layer.
 use Rattle.std.proofs.Common.{arith}
 use Rattle.twkb_layer.proofs.Counting.{counted_is}
 use Rattle.twkb_layer.proofs.Keeping.{no_blobs}

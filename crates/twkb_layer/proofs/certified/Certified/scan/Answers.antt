@@ -1,4 +1,4 @@
--- What is written to the room without lengths is the hits.
+-- The found blobs that are written to the room, without their lengths, are the hits.
 use Rattle.std.proofs.Common.{ap, sym, ◌∙◌}
 use Rattle.twkb_layer.specs.Hits.{filled}
 use Rattle.twkb_layer.proofs.Scanning.{hits_found}

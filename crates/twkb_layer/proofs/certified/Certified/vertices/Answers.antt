@@ -1,4 +1,4 @@
--- The vertices of all trees are as many as were counted.
+-- The number of vertices of all trees is the number that was counted.
 use Rattle.twkb_layer.proofs.Counting.{counted_is}
 use Rattle.twkb_layer.proofs.certified.Certified.vertices.Goals as goal
 

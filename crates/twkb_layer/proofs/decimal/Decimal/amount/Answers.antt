@@ -1,4 +1,4 @@
--- One digit more is ten times as much and the digit.
+-- One more digit makes the amount ten times the amount plus the digit.
 use Rattle.std.proofs.Common.{◌≡◌, ◌*◌, ◌+◌, ◌-◌, ◌/◌, ◌%◌, ◌^◌, ℕ, min, length, sym, ap, ◌∙◌, arith}
 use Rattle.twkb_layer.specs.Decimals.{Decimal, farthest}
 use Rattle.twkb_layer.proofs.Decimals.{next_digit, top_none, least_goes_on}

@@ -1,4 +1,4 @@
--- One digit more doesn't change the sign of a difference.
+-- One more digit doesn't change the sign of a difference of 2 or more.
 use Rattle.std.proofs.Common.{◌≡◌, ℕ, ℤ, pos, ◌+◌, ◌-◌, ◌*◌, ◌/◌, ◌%◌, ◌^◌, ◌-ℤ◌, FitsSigned, to_z, of_z, length, ap, sym, subst, ◌∙◌, arith, rules}
 use Rattle.std.specs.Int.{w64}
 use Rattle.std.proofs.lemmas.Int.{ints, to_z-of_z}

@@ -1,4 +1,4 @@
--- The sign of the difference so far.
+-- The local is the difference of the digits so far, limited to the range from -2 to 2.
 use Rattle.std.proofs.Common.{◌≡◌, ◌*◌, ◌/◌, ◌^◌, ◌-ℤ◌}
 use Rattle.twkb_layer.specs.Decimals.{signed}
 use Rattle.twkb_layer.specs.Devices.Decimals.{leaning}

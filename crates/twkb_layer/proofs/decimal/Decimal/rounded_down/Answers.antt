@@ -1,4 +1,4 @@
--- Rounded away from 0 if it has a minus.
+-- Rounding down is rounding away from 0 if the decimal has a minus.
 use Rattle.std.proofs.Common.{◌*◌, ◌^◌, Bool, min, ap, ◌∙◌, rules}
 use Rattle.std.proofs.lemmas.Int.{to_z-of_z}
 use Rattle.std.specs.Int.{w128}

@@ -1,4 +1,4 @@
--- Where memory is refused nothing was read.
+-- If memory is refused, nothing was read.
 use Rattle.twkb_layer.proofs.Keeping.{adds_nothing}
 use Rattle.twkb_layer.proofs.directory.Directory.build_in.Goals as goal
 

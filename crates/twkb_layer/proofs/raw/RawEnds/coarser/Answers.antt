@@ -1,4 +1,4 @@
--- Ten steps of the finer precision are one.
+-- Ten steps of the finer precision are one step of the coarser one.
 use Rattle.std.proofs.Common.{◌≡◌, ℤ, pos, ◌*ℤ◌, int_lt, FitsSigned, ap, sym, ◌∙◌, arith, rules}
 use Rattle.std.specs.Int.{w64}
 use Rattle.std.proofs.lemmas.Int.{to_z-of_z}

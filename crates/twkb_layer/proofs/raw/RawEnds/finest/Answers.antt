@@ -1,4 +1,4 @@
--- A number is a unit.
+-- At the finest precision a step is a unit.
 use Rattle.std.proofs.Common.{◌≡◌, ℤ, FitsSigned, to_z, of_z, sym, subst, ◌∙◌, rules}
 use Rattle.std.proofs.lemmas.Int.{to_z-of_z}
 use Rattle.std.specs.Int.{w64, w128}

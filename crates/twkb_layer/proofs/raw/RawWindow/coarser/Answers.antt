@@ -1,4 +1,4 @@
--- Each axis by itself.
+-- The ranges of a window are made coarser each by itself.
 use Rattle.twkb_layer.proofs.raw.RawWindow.coarser.Goals as goal
 
 pub returns : goal.returns

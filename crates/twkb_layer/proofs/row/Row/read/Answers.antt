@@ -1,4 +1,4 @@
--- The header says the fields of the row, and the skim the vertices.
+-- The header says the fields of the row, and the skim counts the vertices.
 use Rattle.std.proofs.Common.{ap, ◌∙◌, arith}
 use Rattle.std.proofs.lemmas.Int.{to_z-of_z}
 use Rattle.twkb_layer.proofs.Keeping.{says_of, skimmed_by, counting_few, row_says}

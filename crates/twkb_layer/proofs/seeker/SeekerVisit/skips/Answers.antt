@@ -1,4 +1,4 @@
--- It skips what the window misses.
+-- The visitor skips exactly the boxes that miss the window.
 use Rattle.std.proofs.Common.{rules}
 use Rattle.twkb_layer.proofs.seeker.SeekerVisit.skips.Goals as goal
 

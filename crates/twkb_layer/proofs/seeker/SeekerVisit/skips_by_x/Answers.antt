@@ -1,4 +1,4 @@
--- It skips what the window misses in X.
+-- The visitor skips a box by its range in X only if the box misses the window in X.
 use Rattle.std.proofs.Common.{◌≡◌, ℤ, sym, ap, ◌∙◌, arith}
 use Rattle.std.proofs.lemmas.Int.{ints}
 use mir.Val.{to_z, of_z}

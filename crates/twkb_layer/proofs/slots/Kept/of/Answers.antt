@@ -1,4 +1,4 @@
--- The range is that of the definition, at its precision.
+-- The range is the range of the definition, at its precision.
 use Rattle.std.proofs.Common.{◌≡◌, ℕ, ◌+◌, ◌<◌, ◌≤◌, FitsSigned, to_z, of_z, nat_lt, true, if◌then◌else◌, Option, Some, None, IfSome, option_map, pos, subst, ap, sym, ◌∙◌, arith, rules}
 use Rattle.std.specs.Int.{w64}
 use Rattle.std.proofs.lemmas.Bool.Decides.{nat_tests}

@@ -6,8 +6,8 @@ use Rattle.twkb_layer.specs.Slots.{precision_of, slot_says}
 use Rattle.twkb_layer.proofs.Raws.{judged}
 use Rattle.twkb_layer.proofs.slots.Slot.misses_by_ends.Goals as goal
 
-pub returns-then-form-eq-NEAR : goal.returns-then-form-eq-NEAR
-returns-then-form-eq-NEAR c =
+pub returns-then-form-eq-ENDS : goal.returns-then-form-eq-ENDS
+returns-then-form-eq-ENDS c =
     let at = subst (λ (code : ℕ). IsRawWindow (precision_of code) c.args.windows.now c.at.result) c.code.ensures.value c.at.ensures in
     subst (IsJudged c.args.windows.now (slot_says c.args.self.now)) (sym c.misses.ensures)
-    (rw (c.numbers.ensures, c.numbers-then-form-eq-NEAR.ensures) (judged c.args.windows.now (written c.self.inside) (slot_says c.args.self.now) (ap slot_says (sym c.self.view_is)) c.self.invariant (sym c.form.ensures ∙ c.if-form-eq-NEAR.true) c.at.result at))
+    (rw (c.numbers.ensures, c.numbers-then-form-eq-ENDS.ensures) (judged c.args.windows.now (written c.self.inside) (slot_says c.args.self.now) (ap slot_says (sym c.self.view_is)) c.self.invariant (sym c.form.ensures ∙ c.if-form-eq-ENDS.true) c.at.result at))

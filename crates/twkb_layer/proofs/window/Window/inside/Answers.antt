@@ -1,4 +1,4 @@
--- A vertex is inside where it is in range on each axis that the window bounds.
+-- A vertex is inside exactly if it is in range on each axis that the window bounds.
 use Rattle.std.proofs.Common.{rules}
 use Rattle.twkb_layer.proofs.window.Window.inside.Goals as goal
 

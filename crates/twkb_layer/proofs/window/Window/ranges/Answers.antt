@@ -1,4 +1,4 @@
--- The ranges are those of the window.
+-- The ranges are the ranges of the window.
 use Rattle.std.proofs.Common.{rules}
 use Rattle.twkb_layer.proofs.window.Window.ranges.Goals as goal
 

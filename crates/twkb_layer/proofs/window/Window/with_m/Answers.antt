@@ -1,4 +1,4 @@
--- The range of M alone is another.
+-- Only the range of M changes.
 use Rattle.std.proofs.Common.{rules}
 use Rattle.twkb_layer.proofs.window.Window.with_m.Goals as goal
 
