@@ -1,4 +1,4 @@
-//! Geometries with all that is below them, and layers.
+//! Reading whole geometries, with all geometries below them, and whole layers.
 ghost use Rattle.std.specs.Prelude.{◌≤◌};
 ghost use Rattle.twkb_head.specs.declared.kinds.TheConstants.{DEEPEST};
 
@@ -11,21 +11,21 @@ use crate::window::is_held;
 use std::alloc::Global;
 use twkb_head::{DEEPEST, Kind};
 
-/// The blob at the front of the bytes. What follows it isn't looked at.
+/// Reads the blob at the front of the bytes. The bytes after it aren't looked at.
 pub fn read_blob(alloc: Global, bytes: &[u8]) -> Result<Layer, Fault> {
     let mut reader = Reader::new(alloc, bytes, false);
     reader.blob(alloc)?;
     Ok(reader.layer)
 }
 
-/// The blob at the front of the bytes, in tight checking.
+/// Reads the blob at the front of the bytes, in tight checking.
 pub fn read_blob_tight(alloc: Global, bytes: &[u8]) -> Result<Layer, Fault> {
     let mut reader = Reader::new(alloc, bytes, true);
     reader.blob(alloc)?;
     Ok(reader.layer)
 }
 
-/// The bytes as one blob after another.
+/// Reads the bytes as one blob after another.
 pub fn read_layer(alloc: Global, bytes: &[u8]) -> Result<Layer, Fault> {
     let mut reader = Reader::new(alloc, bytes, false);
     // No blob is shorter than two bytes.
@@ -74,7 +74,7 @@ impl<'a> Reader<'a> {
         Ok(())
     }
 
-    /// Reads a body, and says how many bytes the count and the ids of a collection take.
+    /// Reads a body, and returns how many bytes the count and the ids of a collection take.
     #[cycle(reading)]
     fn body(&mut self, alloc: Global, depth: u8, header: &Header) -> Result<usize, Fault>
         requires { depth ≤ DEEPEST }
@@ -139,7 +139,7 @@ impl<'a> Reader<'a> {
     }
 }
 
-// What the header says of a geometry that stands here; its lengths are still to come.
+// The geometry that begins here, by its header. Its lengths are set later.
 fn begun(header: &Header, depth: u8, offset: usize) -> Geometry {
     Geometry {
         depth,

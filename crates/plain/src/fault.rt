@@ -2,17 +2,17 @@
 use std::alloc::AllocFailed;
 use twkb_head::{Malformed, Why};
 
-/// What a geometry says of itself, and may be false.
+/// A claim that a geometry makes of itself, which may be false.
 #[derive(Clone, Copy, Debug, PartialEq, Eq)]
 pub enum Claim {
     Size,
     Box,
     Ids,
-    /// Of a box, in tight checking alone.
+    /// That a box isn't loose, which only tight checking requires.
     Loose,
 }
 
-/// The first malformation of a blob, else the false claim of least offset.
+/// The first malformation of a blob, or if there is none, its false claim of least offset.
 #[derive(Clone, Copy, Debug, PartialEq, Eq)]
 pub enum Fault {
     Malformed(Malformed),

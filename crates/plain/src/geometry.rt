@@ -1,4 +1,4 @@
-//! What is kept of a geometry.
+//! [`Geometry`], what the reader keeps of each geometry.
 use twkb_head::{Bounds, Kind};
 
 /// A blob, or a member of a collection at any depth: what its header says, and how long its parts are.
@@ -11,20 +11,20 @@ pub struct Geometry {
     pub precision: i8,
     /// Where it begins.
     pub offset: usize,
-    /// The bytes of its header.
+    /// The number of bytes of its header.
     pub header: usize,
-    /// The bytes of its count and ids, where it is a collection that isn't empty; else none.
+    /// The number of bytes of its count and ids, if it is a collection that isn't empty. Otherwise 0.
     pub list: usize,
-    /// All its bytes.
+    /// The number of all its bytes.
     pub whole: usize,
     pub has_size: bool,
     /// Its box, in units.
     pub bounds: Option<Bounds>,
     /// Whether it is a collection that isn't empty.
     pub has_members: bool,
-    /// The vertices of the layer before its own.
+    /// The number of vertices of the layer before its own.
     pub vertices_before: usize,
-    /// Its vertices and those of its members.
+    /// The number of its vertices, with the vertices of its members.
     pub vertices: usize,
     /// The number of the first geometry of the layer that is neither this one nor within it.
     pub next: usize,

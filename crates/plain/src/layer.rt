@@ -1,4 +1,4 @@
-//! A layer as it was read, and what a scan of it answers.
+//! [`Layer`], a layer as it was read, and the answer that a scan of it has to give.
 use crate::geometry::Geometry;
 use crate::window::{is_inside, is_missed, touches};
 use crate::work::Work;
@@ -9,7 +9,7 @@ use twkb_head::{Bounds, Vertex};
 #[derive(Debug, Drop)]
 pub struct Layer {
     pub geometries: Vec<Geometry>,
-    /// In units.
+    /// The vertices, in units.
     pub vertices: Vec<Vertex>,
 }
 
@@ -42,20 +42,20 @@ impl Layer {
         is_found
     }
 
-    /// What a scan for the window reads: of a geometry with a size and a box that misses the window the header alone;
-    /// of any other collection its header, count and ids, and then its members; of any other geometry all.
+    /// What a scan for the window reads: of a geometry with a size and a box that misses the window only the header;
+    /// of any other collection its header, count and ids, and then its members; of any other geometry all bytes.
     pub fn work(&self, window: &Bounds) -> Work {
         self.work_of(window, false)
     }
 
-    /// What a scan with a directory reads: as [`Layer::work`], but nothing of a blob whose box misses the window.
+    /// What a scan with a directory reads: nothing of a blob whose box misses the window, otherwise as [`Layer::work`] says.
     pub fn work_by_directory(&self, window: &Bounds) -> Work {
         self.work_of(window, true)
     }
 
     fn work_of(&self, window: &Bounds, has_directory: bool) -> Work {
         let mut work = Work::new();
-        // The geometries before this number are passed, or lie within one that was.
+        // The geometries before this number are passed, or lie within one that was passed.
         let mut next = 0;
         for (number, geometry) in self.geometries.iter().enumerate() {
             if number < next {

@@ -1,4 +1,4 @@
-//! The fields of a geometry, one after another.
+//! [`Reader`], which reads the fields of a geometry one after another.
 ghost use Rattle.std.specs.Prelude.{◌<◌};
 
 use crate::fault::{Claim, Fault, malformed};
@@ -6,7 +6,7 @@ use crate::layer::Layer;
 use std::alloc::Global;
 use twkb_head::{Bounds, DEEPEST, Kind, Span, Vertex, Why};
 
-/// What was read so far, and what is left.
+/// How many bytes there are, the bytes that are left, and what was read so far.
 #[derive(Drop)]
 pub struct Reader<'a> {
     total: usize,
@@ -18,7 +18,7 @@ pub struct Reader<'a> {
     pub is_tight: bool,
 }
 
-/// How the numbers under one header are read.
+/// The axes and the precisions of the numbers under one header.
 #[derive(Clone, Copy)]
 pub struct Axes {
     pub xy: i8,
@@ -32,9 +32,9 @@ pub struct Axes {
 pub struct Header {
     pub kind: Kind,
     pub axes: Axes,
-    /// The size, where it stands, and the place behind it.
+    /// The size, its offset, and the place after its field.
     pub size: Option<(u64, usize, usize)>,
-    /// The box, and where it stands.
+    /// The box, and its offset.
     pub bounds: Option<(Bounds, usize)>,
     pub has_ids: bool,
     pub is_empty: bool,
@@ -98,7 +98,7 @@ impl<'a> Reader<'a> {
         Err(malformed(start, Why::Varint))
     }
 
-    /// An even number n means n / 2, an odd one -(n + 1) / 2.
+    /// Reads a signed number, by zigzag: an even number n means n / 2, an odd one -(n + 1) / 2.
     pub fn signed(&mut self) -> Result<i128, Fault> {
         let number = i128::from(self.unsigned()?);
         Ok(if number % 2 == 0 {
@@ -173,7 +173,7 @@ impl<'a> Reader<'a> {
         Ok(())
     }
 
-    /// Reads a list of ids, and says whether they differ.
+    /// Reads a list of ids, and returns whether they differ.
     pub fn ids(&mut self, alloc: Global, count: u64) -> Result<bool, Fault> {
         let mut ids = Vec::new(alloc);
         let mut distinct = true;

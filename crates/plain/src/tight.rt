@@ -2,7 +2,7 @@
 use crate::reader::Axes;
 use twkb_head::{Bounds, Span, Vertex};
 
-/// One axis of a box, and what was seen of it.
+/// One axis of a box, and whether some vertex is near its ends.
 #[derive(Clone, Copy)]
 struct Side {
     range: Span,
@@ -40,8 +40,8 @@ impl Side {
     }
 }
 
-/// Whether in some axis, which the box has and one of the vertices from this number on, an end of the box is a step or
-/// more away from all of them.
+/// Whether a box is loose: whether, in an axis that the box and one of the vertices from this number on have, an end of
+/// the box is a step or more away from all these vertices.
 pub fn is_loose(bounds: &Bounds, axes: &Axes, vertices: &[Vertex], first: usize) -> bool {
     let mut x = Side::new(bounds.x, axes.xy);
     let mut y = Side::new(bounds.y, axes.xy);

@@ -1,7 +1,7 @@
-//! Windows, as the ranges of the axes that they bound.
+//! Which vertices are inside a window, and which boxes miss it.
 use twkb_head::{Bounds, Span, Vertex};
 
-/// Whether the vertex is there and in range in each axis that the window bounds.
+/// Whether the vertex has each axis that the window bounds, and is in its range.
 pub fn is_inside(vertex: &Vertex, window: &Bounds) -> bool {
     is_in(vertex.x, &window.x)
         && is_in(vertex.y, &window.y)
@@ -46,7 +46,7 @@ pub fn is_missed(bounds: &Bounds, window: &Bounds) -> bool {
         || is_apart_if_both(bounds.m, window.m)
 }
 
-/// Whether an end of the box is an end of the window, in X or in Y, and the one goes on where the other stops.
+/// Whether the box and the window meet only at their ends, in X or in Y: one ends where the other begins.
 pub fn touches(bounds: &Bounds, window: &Bounds) -> bool {
     bounds.x.hi == window.x.lo
         || window.x.hi == bounds.x.lo

@@ -1,14 +1,14 @@
-//! What a scan does.
+//! [`Work`], how many bytes a scan reads, and over which geometries it hops.
 
-/// How many bytes a scan reads, and how it came to that.
+/// How many bytes a scan reads, how often it hops, and how many boxes it meets.
 #[derive(Clone, Copy, Debug, PartialEq, Eq)]
 pub struct Work {
     pub read: u64,
-    /// The blobs that it hops over, the members of blobs, and those that stand deeper.
+    /// The number of blobs that it hops over, of members of blobs, and of deeper geometries.
     pub hops: [u64; 3],
-    /// The geometries with a size and a box that meets the window.
+    /// The number of geometries with a size and a box that meets the window.
     pub met: u64,
-    /// Those of them whose box only touches it.
+    /// The number of geometries with a size and a box that only touches the window.
     pub touched: u64,
 }
 
@@ -22,12 +22,12 @@ impl Work {
         }
     }
 
-    /// Reads some bytes.
+    /// Counts bytes that are read.
     pub fn read(&mut self, bytes: usize) {
         self.read = self.read.wrapping_add(bytes as u64);
     }
 
-    /// Hops over a geometry at this depth.
+    /// Counts a hop over a geometry at this depth.
     pub fn hop(&mut self, depth: u8) {
         let level = match depth {
             0 | 1 => 0,
@@ -37,13 +37,13 @@ impl Work {
         self.hops[level] = self.hops[level].wrapping_add(1);
     }
 
-    /// Meets a box, which only touches the window or doesn't.
+    /// Counts a box that meets the window, and whether it only touches it.
     pub fn meet(&mut self, only_touches: bool) {
         self.met = self.met.wrapping_add(1);
         self.touched = self.touched.wrapping_add(u64::from(only_touches));
     }
 
-    /// The two together.
+    /// Adds the counts of another scan.
     pub fn and(&mut self, other: &Work) {
         self.read = self.read.wrapping_add(other.read);
         self.met = self.met.wrapping_add(other.met);

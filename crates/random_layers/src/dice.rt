@@ -22,19 +22,19 @@ impl Dice {
         state >> 16
     }
 
-    /// A number below another; 0 where there is none.
+    /// A number below the bound, or 0 if the bound is 0.
     pub fn below(&mut self, bound: u64) -> u64 {
         self.next() % bound.max(1)
     }
 
-    /// A number at most so far from another.
+    /// A number at most `far` from `middle`.
     pub fn around(&mut self, middle: i64, far: i64) -> i64 {
         let width = far.unsigned_abs().wrapping_mul(2).wrapping_add(1);
         let up = i64::try_from(self.below(width)).unwrap_or(0);
         middle.wrapping_sub(far).wrapping_add(up)
     }
 
-    /// True once in so many times.
+    /// True once in `times` times.
     pub fn once_in(&mut self, times: u64) -> bool {
         self.below(times) == 0
     }

@@ -1,10 +1,10 @@
-//! Headers, written once what they speak of is known.
+//! Headers, written after the bodies that they describe.
 use crate::dice::Dice;
 use crate::numbers::{put_signed, put_unsigned, rounded_down, rounded_up, scale};
 use crate::reach::Reach;
 use std::alloc::{AllocError, Global};
 
-/// The precisions of the axes of a header, X and Y and, where they are there, Z and M.
+/// The precisions of the axes of a header: X and Y, and Z and M if it has them.
 #[derive(Clone, Copy, Debug)]
 pub struct Axes {
     pub precisions: [Option<i8>; 4],
@@ -34,7 +34,7 @@ pub struct Marks {
     pub is_empty: bool,
 }
 
-/// A geometry with this body, whose vertices reach so far.
+/// A geometry with this body, whose vertices have this reach.
 pub fn with_header(
     alloc: Global,
     dice: &mut Dice,
@@ -76,7 +76,7 @@ pub fn with_header(
     Ok(out)
 }
 
-// The high four bits of a type byte: 0, -1, 1, .., 7, -8 are 0 to 15.
+// The high four bits of a type byte for a precision: the precisions 0, -1, 1, .., 7, -8 are 0 to 15.
 fn raw_precision(precision: i8) -> u8 {
     let twice = precision.unsigned_abs().wrapping_mul(2);
     let raw = if precision < 0 {
@@ -98,8 +98,8 @@ fn extended_byte(z: Option<i8>, m: Option<i8>) -> u8 {
     byte
 }
 
-// The least box at the precisions of the header, or one that is somewhat larger. Where there is nothing to hold it lies
-// anywhere.
+// The least box at the precisions of the header, or one that is somewhat larger. If there is nothing to hold, the box
+// lies anywhere.
 fn put_box(
     out: &mut Vec<u8>,
     dice: &mut Dice,

@@ -1,4 +1,4 @@
-//! Layers.
+//! [`layer`], a layer made at random.
 use crate::dice::Dice;
 use crate::header::{Axes, Marks, with_header};
 use crate::leaf::{Body, put_ids};
@@ -13,7 +13,7 @@ struct Piece {
     reach: Reach,
 }
 
-/// The layer of this seed. It is made from the inside out: a geometry is put behind the others, or the last few of them
+/// The layer of this seed. It is made from the inside out: a geometry is put after the others, or the last few of them
 /// become the members of a collection.
 pub fn layer(alloc: Global, seed: u64) -> Result<Vec<u8>, AllocError> {
     let mut dice = Dice::new(seed);
@@ -49,7 +49,7 @@ fn leaf(alloc: Global, dice: &mut Dice) -> Result<Piece, AllocError> {
     Ok(Piece { bytes, reach })
 }
 
-// Some of the last pieces, which go from the list, as a collection.
+// A collection of some of the last pieces, which are taken from the list.
 fn collection(
     alloc: Global,
     dice: &mut Dice,

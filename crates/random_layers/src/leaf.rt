@@ -43,7 +43,7 @@ impl Body {
             3 => return self.put_rings(dice),
             _ => {}
         }
-        // Now and then more ids than are held without memory.
+        // Now and then there are more ids than an audit holds without memory.
         let count = if kind == 4 && dice.once_in(12) {
             18
         } else {

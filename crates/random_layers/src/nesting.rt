@@ -1,7 +1,7 @@
 //! Collections in one another.
 use std::alloc::{AllocError, Global};
 
-/// So many collections, each in the one before, which has nothing else, and then these bytes.
+/// `collections` collections, each the only member of the one before, and then the bytes `inmost`.
 pub fn nested(alloc: Global, collections: usize, inmost: &[u8]) -> Result<Vec<u8>, AllocError> {
     let mut bytes = Vec::new(alloc);
     for _ in 0..collections {

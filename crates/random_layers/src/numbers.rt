@@ -1,4 +1,4 @@
-//! Varints.
+//! Varints that are written, and coordinates that are rounded.
 use crate::dice::Dice;
 use std::alloc::AllocError;
 
@@ -40,7 +40,7 @@ pub fn scale(precision: i8) -> i64 {
     scale
 }
 
-/// The greatest number that is no more than so many units at this scale.
+/// The greatest number that is at most `units` at this scale.
 pub fn rounded_down(units: i64, scale: i64) -> i64 {
     let near = units.checked_div(scale).unwrap_or(0);
     if near.wrapping_mul(scale) > units {
@@ -50,7 +50,7 @@ pub fn rounded_down(units: i64, scale: i64) -> i64 {
     }
 }
 
-/// The least number that is no less than so many units at this scale.
+/// The least number that is at least `units` at this scale.
 pub fn rounded_up(units: i64, scale: i64) -> i64 {
     let near = units.checked_div(scale).unwrap_or(0);
     if near.wrapping_mul(scale) < units {

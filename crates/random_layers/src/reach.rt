@@ -21,7 +21,7 @@ impl Reach {
         }
     }
 
-    /// Takes in what another reaches.
+    /// Takes in the reach of other vertices.
     pub fn merge(&mut self, other: &Reach) {
         for axis in 0..4 {
             if let Some((least, most)) = other.ranges[axis] {

@@ -1,4 +1,4 @@
-//! Windows.
+//! [`window`], a window made at random near a place.
 use crate::dice::Dice;
 use twkb_head::{Bounds, Span, Vertex};
 

@@ -1,11 +1,11 @@
 //! Times the audit of a layer and its scans, for comparison with other programs.
 //!
 //! `twkb_bench FILE REPEATS [WINDOW..] [build [WINDOW..]]` reads FILE whole and certifies it. It scans the layer for each
-//! window, hopping over what misses it; at the word `build` it builds a directory, with which it scans for the windows
-//! behind that. A line for the audit says how many blobs and vertices there are, one for each scan how many blobs were
-//! found and how many bytes one scan read, and each the best time of REPEATS. With 0 for REPEATS each is done once and
-//! isn't timed, so that two runs print the same. Words that ask for nothing end it with status 2, and what fails with
-//! status 1.
+//! window, hopping over geometries whose box misses it; at the word `build` it builds a directory, with which it scans
+//! for the windows after that word. A line for the audit says how many blobs and vertices there are, and a line for each
+//! scan how many blobs were found and how many bytes one scan read; each line has the best time of REPEATS. With 0 for
+//! REPEATS each step is done once and isn't timed, so that two runs print equal lines. The status is 2 for words that
+//! ask for nothing, and 1 for a step that fails.
 #![tactic(auto)]
 
 mod request;
@@ -46,7 +46,7 @@ fn main(rt: HostRuntime) -> ExitCode {
     }
 }
 
-/// Does what the words ask for, and says whether they ask for anything.
+/// Does what the words ask for, and returns whether they ask for anything.
 fn run(rt: &HostRuntime) -> Result<bool, Failure> {
     let words: Vec<String> = env::args(rt)?.collect(rt.alloc())?;
     match request_of(rt.alloc(), words.as_slice())? {
@@ -58,7 +58,7 @@ fn run(rt: &HostRuntime) -> Result<bool, Failure> {
     }
 }
 
-/// Certifies the file, and times that and what is asked for.
+/// Certifies the file and does what is asked for, and times each step.
 fn measure(rt: &HostRuntime, request: &Request) -> Result<(), Failure> {
     let bytes = fs::read(rt, request.path)?;
     let mut layer = time_audit(rt, bytes.as_slice(), request.repeats)?;

@@ -1,4 +1,4 @@
-//! What the words ask for.
+//! [`Request`], what the words ask for.
 
 use std::alloc::{AllocError, Global};
 use twkb_layer::Window;
@@ -10,8 +10,8 @@ pub struct Sought<'a> {
     pub window: Window,
 }
 
-/// A file, how often each step is timed, the windows to scan for by hops, and those to scan for with a directory, if one is
-/// to be built.
+/// A file, how often each step is timed, the windows to scan for by hops, and the windows to scan for with a directory, if one
+/// is to be built.
 #[derive(Drop)]
 pub struct Request<'a> {
     pub path: &'a str,

@@ -36,7 +36,7 @@ impl fmt::Display for Best {
     }
 }
 
-/// Certifies a layer, and gives it.
+/// Certifies a layer, and returns it.
 pub fn time_audit<'a>(
     rt: &HostRuntime,
     bytes: &'a [u8],

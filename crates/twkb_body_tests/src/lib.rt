@@ -1,6 +1,6 @@
-//! Tests of audits and skims, by what everyone may call.
+//! Tests of audits and skims, through their public functions.
 //!
-//! They stand apart from `twkb_body`, which so is proved once and needs nothing that is for tests alone.
+//! They are a crate of their own, so that `twkb_body` is proved once and needs nothing that only tests use.
 #![tactic(auto)]
 
 #[cfg(test)]

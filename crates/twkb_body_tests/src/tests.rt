@@ -1,5 +1,5 @@
-//! What audits and skims answer: of blobs whose answers are known from the format's own words, of others by a plain reader; and
-//! memory that runs out.
+//! The answers of audits and skims: for blobs whose answers are known from the format's own words, and for others by a plain
+//! reader; and memory that runs out.
 use self::blobs::{CERTIFIED, FALLING_IDS, SEVENTEEN_IDS};
 use self::faults::{FALSE, MALFORMED};
 use refusing::Refusing;
@@ -29,12 +29,12 @@ mod tight;
 mod variants;
 mod visits;
 
-// That a call answers what is wanted. A test that calls this is proved sooner than one that compares where it stands.
+// Asserts that a call answers as wanted. A test that calls this is proved sooner than one that compares in its own body.
 fn equal<T: PartialEq + Debug + Drop>(rt: &impl Abort, got: T, wanted: T) {
     assert_eq!(rt; got, wanted);
 }
 
-// An audit, tight or not, answers so. Of a certified blob it has read each byte once; otherwise the place is where it was.
+// An audit, tight or not, gives this answer. It has read each byte of a certified blob once; otherwise the place is unchanged.
 fn answers(
     rt: &impl Abort,
     alloc: Global,
@@ -92,7 +92,7 @@ const LONG_LISTS: [(&[u8], u8); 3] = [
     (&[0x07, 0x01, 0x00, 0x00, 0x00, 0x00, 0x01], 0x24),
 ];
 
-// Such a list behind what stands before it.
+// One of `LONG_LISTS`: the bytes before the list, and the list with these ids.
 fn long_list(alloc: Global, (before, first): (&[u8], u8), ids: &[u8; 54]) -> Result<Vec<u8>, Fail> {
     let mut bytes = Vec::new(alloc);
     bytes.extend_from_slice(before)?;

@@ -1,8 +1,8 @@
-//! Tests of what everyone may call: of headers, of certified layers, and of what crosses to other languages. Those of single blobs
+//! Tests of public functions: of headers, of certified layers, and of the calls from other languages. The tests of single blobs
 //! are in `twkb_body_tests`.
 //!
-//! They stand apart from the libraries, which so need nothing that is for tests alone. What looks at private parts is tested
-//! in the crate of these parts.
+//! They are a crate of their own, so that the libraries need nothing that only tests use. Private parts are tested in their own
+//! crates.
 #![tactic(auto)]
 
 #[cfg(test)]

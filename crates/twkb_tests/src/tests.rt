@@ -1,4 +1,4 @@
-//! What no clause says: that the answers are those of worked files, and each refused allocation.
+//! Tests of what no contract says: the answers for worked files, and each refused allocation.
 use std::fmt::Debug;
 use std::process::Abort;
 
@@ -6,7 +6,7 @@ mod call;
 mod head;
 mod layer;
 
-// That a call answers what is wanted. A test that calls this is proved sooner than one that compares where it stands.
+// Asserts that a call answers as wanted. A test that calls this is proved sooner than one that compares in its own body.
 fn equal<T: PartialEq + Debug + Drop>(rt: &impl Abort, got: T, wanted: T) {
     assert_eq!(rt; got, wanted);
 }

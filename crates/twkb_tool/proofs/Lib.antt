@@ -1,4 +1,4 @@
--- What is proved of words, streams and texts.
+-- The proofs about words, streams and texts.
 pub mod LineLemmas
 pub mod OutputLemmas
 pub mod PlainWords

@@ -1,4 +1,4 @@
--- The lines of words of which none begins with a minus.
+-- The lines that words without a minus at their start request.
 use Rattle.std.proofs.Common.{◌≡◌, ◌∙◌, ℕ, ◌+◌, ◌<◌, ◌≤◌, List, [], ◌∷◌, true, ap, sym, refl, subst, arith, get_or, inl, inr, codes, length, Ok, Err, Option, Some, None, Result}
 use Rattle.std.specs.Prelude.{◌⊎◌, unwrap_or}
 use Rattle.std.specs.List.{list_all}
@@ -86,7 +86,7 @@ line_reads : (name own : Text) (flag : Option Text) (request : Request) (rows : 
 line_reads name own flag request rows file (Ok line) asks one n f h = (h.0, asks own rows line.request n f h.1)
 line_reads name own flag request rows file (Err usage) asks one n f h = only_memory own rows usage one h
 
--- what the words come to that name such a subcommand, of which this is what its matches come to
+-- words that name a subcommand with this file and flag have the line of its request
 line_answers : (name : Text) (flag : Option Text) (request : Request) (file : Text) → Asks name flag request → ((own : Text) → own ≡ name → (own ≡ codes "check") ⊎ (own ≡ codes "list"))
     → (o : Option (Text × List Row)) (r : Result Line Usage) → found o ≡ Some (name, Some file, flag, None) → Answers o r → IsLineOf file request r
 line_answers name flag request file asks one None r e h = cc
@@ -135,7 +135,7 @@ scan_answers (Some p) file t ts (Err (Words error)) e (inr h) = cc
 
 -- ---- the words
 
--- words that parse, and are found as they stand
+-- words that parse, and are found as they are written, have the line of the subcommand's request
 line_of_words : (said words : List Text) (name : Text) (flag : Option Text) (request : Request) (file : Text) (r : Result Line Usage) → Asks name flag request → ((own : Text) → own ≡ name → (own ≡ codes "check") ⊎ (own ≡ codes "list"))
     → (fault_of tool_app words ≡ [] → Answers (subcommand_of tool_app words) r) → words ≡ said → fault_of tool_app said ≡ [] → found (subcommand_of tool_app said) ≡ Some (name, Some file, flag, None) → IsLineOf file request r
 line_of_words said words name flag request file r asks one parsed is fine finds =

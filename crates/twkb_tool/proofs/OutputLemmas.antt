@@ -1,4 +1,4 @@
--- There is one output.
+-- Given bytes and a request have one text and one verdict.
 use Rattle.std.proofs.Common.{◌≡◌, ◌∙◌, ℕ, true, false, List, Some, refl, sym, ap}
 use Rattle.twkb_layer.proofs.Layers.{layer_once}
 use Rattle.twkb_body.specs.Geometry.{Geometry}
@@ -11,7 +11,7 @@ use Rattle.twkb_tool.specs.declared.judge.Verdict.TheVariants.{Yes, No}
 use Rattle.twkb_tool.specs.declared.request.Request.{Request}
 use Rattle.twkb_tool.specs.declared.request.Request.TheVariants.{Check, CheckTight, List as ListBlobs, Scan}
 
--- what is accepted is a certified layer
+-- a layer that is accepted for a request is certified
 accepted_layer : (request : Request) (trees : List Geometry) (bytes : List ℕ) → IsAccepted request trees bytes → IsCertifiedLayer trees bytes
 accepted_layer Check trees bytes h = h
 accepted_layer CheckTight trees bytes h = h.layer
@@ -36,7 +36,7 @@ refused_once CheckTight = refusal_once true
 refused_once ListBlobs = refusal_once false
 refused_once (Scan windows) = refusal_once false
 
--- what is refused has one line
+-- bytes that are refused have one line
 one_no_line : (request : Request) (bytes text other : List ℕ) → IsNoLine request bytes text → IsNoLine request bytes other → text ≡ other
 one_no_line request bytes text other a b =
     let same = refused_once request bytes a.blob a.offset a.kind b.blob b.offset b.kind a.refused b.refused in

@@ -1,4 +1,4 @@
--- Words of which none but the subcommand's name has a meaning to clap: they parse, and are found as they stand.
+-- Words of which only the subcommand's name means something to clap: they parse, and are found as they are written.
 use Rattle.std.proofs.Common.{◌≡◌, ◌∙◌, List, [], ◌∷◌, ◌++◌, Bool, true, false, refl, codes, Option, Some, None, ap, sym, append_assoc, append-nil, arith, length, ◌≤◌}
 use Rattle.std.proofs.Math.Dec.{eqb-suc-zero}
 use Rattle.std.proofs.lemmas.Bool.{le-ltb}
@@ -66,12 +66,12 @@ unfolding clap_on_literals tool_app
 list_finds program [] h = refl
 list_finds program (c ∷ cs) h = let other : (c == 45) ≡ false = not_true _ h in simp other
 
--- ---- windows behind it
+-- ---- a file, and windows after it
 
 abbrev scan_shape : Shape
 scan_shape = built_leaf scan_app.top
 
--- the walk over the words of a scan, when it has these windows
+-- the walk over the words of a scan, after these windows were read
 abbrev scanning : List Row → List Text → Walk
 scanning rows windows = record {
   held = record { rows = rows; pending = Some (codes "WINDOW", windows); skip = 0 };
@@ -119,7 +119,7 @@ any_text : (texts : List Text) → values_kinds false vp.String texts ≡ []
 any_text [] = refl
 any_text (t ∷ ts) = any_text ts
 
--- the row of the file, when the windows are read
+-- the row of the file, from which the windows are read
 abbrev file_rows : Text → List Row
 file_rows file = used_by_id (arg_by_index scan_shape.rules 1) (file ∷ []) []
 
@@ -170,7 +170,7 @@ scan_walk_fault file w ws h k =
     ∙ ap (λ (x : Walk). walk_fault scan_shape [] x ws) (first_walked file w (head_is _ _ k))
     ∙ windows_fault (file_rows file) (w ∷ []) ws (tail_is (is_value w) _ k)
 
--- what is judged after a walk
+-- the faults that are found after a walk
 abbrev end_fault : Shape → Walk → Bool → Kinds
 end_fault s x below = or_else (settle_fault s.rules s.args_override_self x.held)
     (or_else (defaults_fault (settled s.rules x.held).rows s.rules) (check_fault s (finished s.rules x.held) below))
@@ -191,9 +191,9 @@ scan_level_fault file w ws h k few =
     ∙ ap (λ (x : Walk). end_fault scan_shape x false) (scan_walk file w ws h k)
     ∙ scan_end_fault file w ws few
 
--- ---- the subcommand before them
+-- ---- the subcommand before the file and the windows
 
--- where the walk stops at the subcommand
+-- the walk over the program's words, which stops at the subcommand
 abbrev at_scan : List Text → Walk
 at_scan words = record (walk_from nothing_held) { stopped = Some (codes "scan", words) }
 

@@ -1,4 +1,4 @@
--- What a buffer holds once more bytes came behind those that it held.
+-- What a buffer holds after more bytes came.
 use Rattle.std.proofs.Common.{◌≡◌, ◌∙◌, ℕ, ◌+◌, ◌≤◌, List, ◌++◌, length, take, refl, ap, arith, length-append}
 use Rattle.std.proofs.lemmas.List.{take-take, take-append-le, take_at, drop_at, length-take}
 use Rattle.std.proofs.Math.Seq.{take-add}
@@ -6,7 +6,7 @@ use Rattle.std.proofs.Math.Seq.{take-add}
 front_of_two : (front behind : List ℕ) (held n : ℕ) → length front ≡ held → take (held + n) (front ++ behind) ≡ front ++ take n behind
 front_of_two front behind held n long = take-add held n (front ++ behind) ∙ rw (take_at front behind held long, drop_at front behind held long) refl
 
--- the room behind the held bytes was lent and filled up to n, and the buffer ends where it did
+-- the room after the held bytes was lent and filled with n bytes, and the buffer keeps its length
 pub behind_held : (now room post rest : List ℕ) (held n len : ℕ) → held ≤ length now → n ≤ length room → held + n ≤ len
     → take (held + n) (take len ((take held now ++ (room ++ post)) ++ rest)) ≡ take held now ++ take n room
 behind_held now room post rest held n len h r l =

@@ -1,4 +1,4 @@
--- What a stream does in two steps.
+-- Two steps of a stream, one after the other, are one.
 use Rattle.std.proofs.Common.{◌≡◌, ◌∙◌, ℕ, ◌+◌, ◌-◌, ◌≤◌, List, ◌++◌, length, take, drop, IsTrue, sym, arith, append_assoc, length-append, length-drop}
 use Rattle.std.proofs.lemmas.List.{take_all}
 use Rattle.std.proofs.Math.Seq.{take-add}
@@ -24,7 +24,7 @@ Takes-more s t u xs ys a b = record {
   count = rw (b.count, a.count) (added-append s.moved xs ys);
 }
 
--- a put of some of what is left of a text
+-- a put of some of the rest of a text
 pub Takes-on : (s t u : SinkState) (text : List ℕ) (i n : ℕ) → i ≤ length text
     → n ≤ length (take (length text - i) (drop i text)) → Takes s t (take i text)
     → Takes t u (take n (take (length text - i) (drop i text)))

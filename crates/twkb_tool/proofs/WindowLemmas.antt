@@ -1,4 +1,4 @@
--- Texts of windows, one by one.
+-- Reading the texts of windows, one by one.
 use Rattle.std.proofs.Common.{◌≡◌, ◌∙◌, ℕ, ◌+◌, ◌<◌, List, [], ◌∷◌, ◌++◌, Bool, true, false, Ok, Err, Result, refl, arith, length, map, take, drop, get_or, suc}
 use Rattle.std.specs.Prelude.{IfErr, if◌then◌else◌}
 use Rattle.std.specs.Borrow.{Bor}
@@ -21,7 +21,7 @@ not_formless : (rises : Bool) (window : Bounds) → ◌≡◌ {A = Result Bounds
 not_formless true window e = cc
 not_formless false window e = cc
 
--- what reading a text as a window refuses is no window
+-- a text that is refused as a window is no window
 pub bad_text : (text : Text) (r : Result Bounds BadWindow)
     → (r ≡ Err Order → (window : Bounds) × IsWindowText text window × (in_order window ≡ false))
     → ((window : Bounds) → IsWindowText text window → r ≡ (if in_order window then Ok window else Err Order))
@@ -32,7 +32,7 @@ bad_text text (Err Order) order exact = order refl
 
 -- ---- many texts
 
--- one more text and its window
+-- texts and their windows, and one more text and its window, are texts and their windows
 pub windows_snoc : (texts : List Text) (windows : List Bounds) (text : Text) (window : Bounds)
     → AreWindows texts windows → IsWindow text window → AreWindows (texts ++ text ∷ []) (windows ++ window ∷ [])
 windows_snoc [] [] text window h here = (here, tt)
@@ -52,7 +52,7 @@ windows_more refs i d before window lt h here =
     let at : get_or (values refs) i d.now ≡ (get_or refs i d).now = get_or-map (λ (t : Bor Text). t.now) refs i d in
     rw (take_more (values refs) i d.now low, at) (windows_snoc (take i (values refs)) before (get_or refs i d).now window h here)
 
--- the next text is the first that is none
+-- the next text is the first that is no window
 first_bad : (refs : List (Bor Text)) (i number : ℕ) (d : Bor Text) (before : List Bounds) (why : BadWindow) → i < length refs
     → number ≡ i + 1 → AreWindows (take i (values refs)) before → IsBadText (get_or refs i d).now why
     → IsFirstBad (values refs) number why
@@ -71,7 +71,7 @@ first_bad refs i number d before why lt next h bad =
       bad_is = rw at bad;
     }
 
--- where the next text makes no window more, the texts are none
+-- if no window is added for the next text, the texts are no windows, or memory ran out
 pub no_windows : (refs : List (Bor Text)) (i number : ℕ) (d : Bor Text) (before : List Bounds) (usage : Usage) → i < length refs
     → number ≡ i + 1 → AreWindows (take i (values refs)) before → IsNoWindowMore number (get_or refs i d).now usage → AreNoWindows (values refs) usage
 no_windows refs i number d before (NoWindow n why) lt next h bad = first_bad refs i n d before why lt (bad.0 ∙ next) h bad.1

@@ -1,4 +1,4 @@
--- In reading order.
+-- What the contracts of this crate name, in reading order.
 pub mod Streams
 pub mod Output
 pub mod Ran

@@ -1,8 +1,8 @@
--- Sources and sinks over memory.
+-- Sources and sinks over memory: what they still hold, and which call fails.
 use Rattle.std.specs.Prelude.{ℕ, ◌+◌, ◌^◌, ◌-◌, ◌==◌, ◌||◌, ◌&&◌, Bool, false, Option, Some, None, nat_lt, if◌then◌else◌}
 use Rattle.twkb_tool.specs.Streams.{SourceState, SinkState}
 
--- the call with this number, if it has one, is the one that fails
+-- the call with this number, if it has one, is the call that fails
 abbrev pub is_failing : Option ℕ → Option ℕ → Bool
 is_failing (Some number) (Some fail_at) = number == fail_at
 is_failing (Some number) None = false

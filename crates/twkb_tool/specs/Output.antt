@@ -1,4 +1,4 @@
--- What is printed for the bytes of a file.
+-- The text that is printed for the bytes of a file.
 use Rattle.std.specs.Prelude.{◌≡◌, ◌==◌, ℕ, Bool, List, [], ◌∷◌, ◌++◌, length, flat_map, sum_by, codes, decimal, Option, Some, None, if◌then◌else◌}
 use Rattle.std.specs.Fmt.{signed_decimal}
 use Rattle.twkb_head.specs.declared.boxes.Bounds.{Bounds}
@@ -46,7 +46,7 @@ name_of MultiLineString = codes "multilinestring"
 name_of MultiPolygon = codes "multipolygon"
 name_of GeometryCollection = codes "geometrycollection"
 
--- whether something is there
+-- the word for whether a blob has a size, or a box
 unfoldable pub yes_no : Bool → List ℕ
 yes_no is = if is then codes "yes" else codes "no"
 
@@ -107,7 +107,7 @@ abbrev pub IsAccepted : Request → List Geometry → List ℕ → Type 0
 IsAccepted CheckTight trees bytes = IsTightLayer trees bytes
 IsAccepted _ trees bytes = IsCertifiedLayer trees bytes
 
--- what the check for a request takes for true of a layer's claims
+-- the claims that the check for a request takes for true
 abbrev pub IsTrueFor : Request → Claim → Type 0
 IsTrueFor CheckTight = IsTightlyTrue
 IsTrueFor _ = IsTrueClaim

@@ -2,14 +2,14 @@
 use Rattle.std.specs.Prelude.{◌≡◌, ℕ, Bool, List, ◌++◌, length, IsTrue}
 use Rattle.twkb_num.specs.Cursor.{added}
 
--- a source: whether it states its bytes, those still to come, how many it gave, and whether its last call failed
+-- a source: whether it states its bytes, the bytes still to come, how many it gave, and whether its last call failed
 pub record SourceState : Type 0 where
   pub tells : Bool
   pub rest : List ℕ
   pub moved : ℕ
   pub failed : Bool
 
--- a sink: whether it states its bytes, those that were put, how many it took, whether its last call failed, and whether
+-- a sink: whether it states its bytes, the bytes that were put, how many it took, whether its last call failed, and whether
 -- its last call was a flush
 pub record SinkState : Type 0 where
   pub tells : Bool

@@ -62,7 +62,7 @@ is_value (c ∷ cs) = not (c == 45)
 
 -- ---- windows
 
--- the text is this window, and no lower bound is above its upper one
+-- the text is this window, and no lower bound is above its upper bound
 pub record IsWindow (text : Text) (window : Bounds) : Type 0 where
   pub text_is : IsWindowText text window
   pub rises : in_order window ≡ true
@@ -98,7 +98,7 @@ abbrev pub HoldsWindows : Request → Type 0
 HoldsWindows (Scan windows) = (1 ≤ length windows.items) × (length windows.items ≤ most_windows)
 HoldsWindows _ = Unit {0}
 
--- ---- what the matches of a subcommand come to
+-- ---- the request of a subcommand's matches
 
 -- the texts of the windows
 abbrev pub windows_in : List Row → Option (List Text)
@@ -141,7 +141,7 @@ ReadsWith (Some file) name rows (Err usage) = IsRefused name rows usage
 abbrev pub Reads : Text → List Row → Result Line Usage → Type 0
 Reads name rows r = ReadsWith (first_of (codes "FILE") rows) name rows r
 
--- ---- what the words come to
+-- ---- the result for the words
 
 -- clap refused the words for one of these kinds of error, or memory ran out
 abbrev pub IsRefusalOrMemory : Kinds → Usage → Type 0
@@ -156,7 +156,7 @@ abbrev pub Answers : Option (Text × List Row) → Result Line Usage → Type 0
 Answers None r = IsErrAnd r (λ usage. (usage ≡ Words None) ⊎ (usage ≡ Memory))
 Answers (Some p) r = Reads p.0 p.1 r ⊎ (r ≡ Err Memory)
 
--- ---- what words come to of which none begins with a minus
+-- ---- the result for words without a minus at their start
 
 -- the line has this file and request, or memory ran out
 abbrev pub IsLineOf : Text → Request → Result Line Usage → Type 0

@@ -1,4 +1,4 @@
-//! The judgement of a file.
+//! Whether a file is a certified layer, and the text that says so.
 ghost use Rattle.std.specs.Prelude.{◌≡◌, ◌≤◌, List, length, IfOk, IfErr, IsOkUnless};
 ghost use Rattle.twkb_body.specs.Geometry.{Geometry};
 ghost use Rattle.twkb_layer.specs.Refusal.{IsRefusedFor, NamesKind};
@@ -42,7 +42,7 @@ pub fn answer<'a, A: Allocator>(
     }
 }
 
-/// The bytes as a certified layer, or why they are refused for the request.
+/// Certifies the bytes for a request, or returns why they are refused.
 fn certified<'b, A: Allocator>(
     alloc: &A,
     request: &Request,

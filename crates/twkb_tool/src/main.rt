@@ -65,7 +65,7 @@ fn run_line(rt: &HostRuntime, line: &Line) -> u8
     status_of(&outcome)
 }
 
-// A message that can't be written is lost.
+// A message that can't be written to standard error is lost.
 
 /// Says what the host refused, and gives the program's status.
 fn stopped(rt: &impl Eprint, fault: HostFault) -> u8

@@ -6,7 +6,7 @@ use twkb_layer::Window;
 pub enum Request {
     /// Certify it, or name its first false claim.
     Check,
-    /// Certify it as a layer without a loose box, or name what is wrong first.
+    /// Certify it as a layer without a loose box, or name its first false claim, where a loose box is false too.
     CheckTight,
     /// List every blob: offset, length, type, precision, vertex count.
     List,

@@ -1,4 +1,4 @@
-//! A whole run, from the bytes that come in to the text that goes out.
+//! [`run`], a whole run from the bytes that come in to the text that goes out.
 ghost use Rattle.std.specs.Prelude.{◌≡◌, ℕ, ◌+◌, ◌<◌, ◌≤◌, List, [], ◌++◌, length, take, false, IfOk, IfErr, OnOk, IsTrue, vec_len};
 ghost use Rattle.twkb_tool.specs.Ran.{GivesAll, StopsReading, PutsAll, Ran};
 ghost use Rattle.twkb_tool.specs.Devices.Ran.{StopsPiece, StopsWriting};
@@ -102,7 +102,7 @@ fn read_all<A: Allocator, S: Source>(
     Err(RunFault::TooLarge)
 }
 
-/// Takes the next bytes, behind the `held` ones: how many there were. The buffer grows before the source is asked.
+/// Takes the next bytes after the `held` ones, and returns how many there were. The buffer grows before the source is asked.
 fn take_piece<A: Allocator, S: Source>(
     source: &mut S,
     bytes: &mut Vec<u8, A>,
@@ -128,7 +128,7 @@ fn take_piece<A: Allocator, S: Source>(
     }
 }
 
-/// Grows the buffer, where all its bytes are held, by room for more, up to the most that it may have.
+/// If all bytes of the buffer are held, makes it larger, up to `most` bytes.
 fn grow<A: Allocator>(bytes: &mut Vec<u8, A>, held: usize, most: usize) -> Result<(), RunFault>
     requires held { held ≤ vec_len bytes.old }
     requires more { held < most }
@@ -149,7 +149,7 @@ fn grow<A: Allocator>(bytes: &mut Vec<u8, A>, held: usize, most: usize) -> Resul
     }
 }
 
-/// Puts the whole text, and flushes.
+/// Puts the whole text into the sink, and flushes it.
 fn put_all<K: Sink>(sink: &mut K, text: &[u8]) -> Result<(), RunFault>
     ensures ok { OnOk result (PutsAll text.now (K.state sink.old) (K.state sink.new)) }
     ensures err { IfErr result (λ fault. StopsWriting text.now fault (K.state sink.old) (K.state sink.new)) }

@@ -1,4 +1,4 @@
-//! Exit statuses.
+//! The exit status of the program, by what it did.
 ghost use Rattle.std.specs.Prelude.{◌≡◌};
 ghost use Rattle.twkb_tool.specs.Status.{status_of_host, status_of_run, status_of_usage};
 

@@ -1,4 +1,4 @@
-//! Where bytes come from and go to.
+//! [`Source`] and [`Sink`], the streams that bytes come from and go to.
 ghost use Rattle.std.specs.Prelude.{◌≡◌, ◌<◌, ◌≤◌, length, [], take, IfOk, OnOk, OnErr, IsTrue, true, false, is_err};
 ghost use Rattle.twkb_tool.specs.Streams.{SourceState, SinkState, Gives, Takes};
 
@@ -17,13 +17,13 @@ pub struct SourceFailed;
 #[error("the sink failed")]
 pub struct SinkFailed;
 
-/// An input: gives bytes, a piece at a time. An implementation says whether its contract states its bytes; if so, it states those
-/// that are still to come.
+/// An input: gives bytes, a piece at a time. An implementation says whether its contract states its bytes; if so, it states the
+/// bytes that are still to come.
 pub trait Source {
     ghost state: { Self → SourceState };
 
-    /// Puts the next bytes at the front of `room`, and says how many. None for a room with places is the
-    /// end. An error gives no byte.
+    /// Puts the next bytes at the front of `room`, and returns how many. If it puts none into a room with places, the source is
+    /// at its end. An error gives no byte.
     fn take(&mut self, room: &mut [u8]) -> Result<usize, SourceFailed>
         ensures within { IfOk result (λ n. n ≤ length room.old) }
         ensures gives { IfOk result (λ n. Gives (state self.old) (state self.new) (take n room.new)) }
@@ -40,13 +40,12 @@ pub trait Source {
         ensures { result ≡ (state self.now).moved };
 }
 
-/// An output: takes bytes, a piece at a time. An implementation says whether its contract states its bytes; if so, it states those
-/// that were put.
+/// An output: takes bytes, a piece at a time. An implementation says whether its contract states its bytes; if so, it states the
+/// bytes that were put.
 pub trait Sink {
     ghost state: { Self → SinkState };
 
-    /// Takes the first bytes of `piece`, at least one where there is one, and says how many. An error
-    /// takes no byte.
+    /// Takes the first bytes of `piece`, at least one if there is one, and returns how many. An error takes no byte.
     fn put(&mut self, piece: &[u8]) -> Result<usize, SinkFailed>
         ensures within { IfOk result (λ n. n ≤ length piece.now) }
         ensures some { IfOk result (λ n. 0 < length piece.now → 0 < n) }
@@ -54,7 +53,7 @@ pub trait Sink {
         ensures ok { OnOk result (((state self.new).failed ≡ false) × ((state self.new).flushing ≡ false)) }
         ensures err { OnErr result (state self.new ≡ record (state self.old) { failed = true; flushing = false }) };
 
-    /// Passes on what it still holds.
+    /// Passes on the bytes that it still holds.
     fn flush(&mut self) -> Result<(), SinkFailed>
         ensures { state self.new ≡ record (state self.old) { failed = is_err result; flushing = true } };
 

@@ -1,4 +1,4 @@
-//! What no clause says: that runs succeed on worked files, each refused allocation, and reads and writes that fail.
+//! Tests of what no contract says: that runs succeed on worked files, each refused allocation, and reads and writes that fail.
 ghost use Rattle.std.specs.Prelude.{◌<◌, IfOk};
 ghost use Rattle.twkb_tool.specs.Words.{HoldsWindows};
 
@@ -19,7 +19,7 @@ mod streams;
 mod words;
 mod worked;
 
-// That a call answers what is wanted. A test that calls this is proved sooner than one that compares where it stands.
+// Asserts that a call answers as wanted. A test that calls this is proved sooner than one that compares in its own body.
 fn equal<T: PartialEq + Debug + Drop>(rt: &impl Abort, got: T, wanted: T) {
     assert_eq!(rt; got, wanted);
 }
@@ -30,12 +30,12 @@ const TWO_BLOBS: [u8; 20] = [
     0x14, 0x00, 0x14, 0x14,
 ];
 
-/// Windows for its two blobs, of which one has no hit, and what a scan for them prints.
+/// Windows for `TWO_BLOBS`, of which the first has no hit, and the text that a scan for them prints.
 const TWO_WINDOWS: [&str; 2] = ["x=6..9,y=0..9", "x=10..10,y=10..10"];
 
 const TWO_WINDOWS_TEXT: &str = "hits=0 read=0 of=20\nhit blob=1 offset=12\nhits=1 read=8 of=20\n";
 
-/// The request to scan for the windows of these texts, of which there are 1 to 64.
+/// The request to scan for the windows of these 1 to 64 texts.
 fn scan_for(rt: &impl Abort, alloc: Global, texts: &[&str]) -> Result<Request, Fail>
     ensures { IfOk result HoldsWindows }
 {

@@ -41,7 +41,7 @@ pub fn push_layer_text<'a, A: Allocator>(
 
 // ---- a list
 
-/// A row for each blob.
+/// Pushes the line of each blob.
 fn push_list<'a, A: Allocator>(
     alloc: &'a A,
     out: &mut Vec<u8, &'a A>,
@@ -65,7 +65,7 @@ fn push_rows<A: Allocator>(out: &mut Vec<u8, A>, rows: &[Row]) -> Result<(), All
 
 // ---- scans
 
-/// The hits of each window. One window is looked for blob after blob, more of them with a directory.
+/// Pushes the hits of each window. One window is scanned for blob after blob, several with a directory.
 fn push_scan<'a, A: Allocator>(
     alloc: &'a A,
     out: &mut Vec<u8, &'a A>,
@@ -86,7 +86,7 @@ fn push_scan<'a, A: Allocator>(
     push_windows(out, layer, &directory, windows, room.as_mut_slice())
 }
 
-/// Room for the hits of so many blobs.
+/// Room for the hits of `blobs` blobs.
 fn room_for<A: Allocator>(alloc: A, blobs: usize) -> Result<Vec<Hit, A>, AllocError>
     ensures { IfOk result (λ room. vec_len room ≡ blobs) }
 {
@@ -95,7 +95,7 @@ fn room_for<A: Allocator>(alloc: A, blobs: usize) -> Result<Vec<Hit, A>, AllocEr
     Ok(room)
 }
 
-/// What a scan for one window found and read.
+/// Pushes what a scan for one window found and read.
 fn push_window<A: Allocator>(
     out: &mut Vec<u8, A>,
     layer: &mut Certified,
@@ -114,7 +114,7 @@ fn push_window<A: Allocator>(
     push_found(out, room, found, read, layer.len())
 }
 
-/// What scans for each window found and read, with a directory.
+/// Pushes what scans for each window with a directory found and read.
 fn push_windows<A: Allocator, D: Allocator>(
     out: &mut Vec<u8, A>,
     layer: &mut Certified,
@@ -138,7 +138,7 @@ fn push_windows<A: Allocator, D: Allocator>(
     Ok(())
 }
 
-/// What a scan for one window found and read, with a directory.
+/// Pushes what a scan for one window with a directory found and read.
 fn push_window_at<A: Allocator, D: Allocator>(
     out: &mut Vec<u8, A>,
     layer: &mut Certified,
@@ -162,8 +162,8 @@ fn push_window_at<A: Allocator, D: Allocator>(
     push_found(out, room, found, read, layer.len())
 }
 
-/// The lines of what was found in the front of the room: the hits, how many there are, how many bytes were read for them
-/// and how many there are in all.
+/// Pushes the lines of the hits in the front of the room, and then the line of how many hits there are, how many bytes were read
+/// for them, and how many bytes the layer has.
 fn push_found<A: Allocator>(
     out: &mut Vec<u8, A>,
     room: &[Hit],

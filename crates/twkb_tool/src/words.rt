@@ -40,7 +40,7 @@ pub enum Usage {
     Memory,
 }
 
-/// What the words of a command line request. The first word is the program's name.
+/// The line that the words of a command line request. The first word is the program's name.
 pub fn request_of<S: AsStr>(alloc: Global, words: &[S]) -> Result<Line, Usage>
     ensures refused { fault_of tool_app (map S.text words.now) ≢ []
         → IsErrAnd result (IsRefusalOrMemory (fault_of tool_app (map S.text words.now))) }
@@ -81,7 +81,7 @@ fn line_by_clap<S: AsStr>(alloc: Global, words: &[S]) -> Result<Line, Usage>
     }
 }
 
-/// What `clap` makes of the words.
+/// The matches that `clap` finds among the words.
 fn matches_of<'a, S: AsStr>(alloc: Global, words: &'a [S]) -> Result<ArgMatches<'a>, Usage>
     ensures ok { IfOk result (λ m. subcommand_rows_of m ≡ subcommand_of tool_app (map S.text words.entry.now)) }
     ensures parsed { OnOk result (fault_of tool_app (map S.text words.entry.now) ≡ []) }

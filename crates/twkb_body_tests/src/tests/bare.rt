@@ -6,7 +6,7 @@ use std::alloc::{AllocError, Global};
 use std::process::Abort;
 use std::test::Fail;
 
-// So many points of two bytes, behind their number.
+// A count of points, and the points, each of two bytes.
 fn put_steps(out: &mut Vec<u8>, points: u64) -> Result<(), AllocError> {
     put_unsigned(out, points)?;
     for _ in 0..points {
@@ -15,7 +15,7 @@ fn put_steps(out: &mut Vec<u8>, points: u64) -> Result<(), AllocError> {
     Ok(())
 }
 
-// A kind with so many runs of such points, each of which has so many.
+// A geometry of this kind with a run of points of two bytes for each count.
 fn runs(alloc: Global, kind: u8, counts: &[u64]) -> Result<Vec<u8>, AllocError> {
     let mut out = Vec::new(alloc);
     out.extend_from_slice(&[kind, 0x00])?;
@@ -47,7 +47,7 @@ fn bodies_of_few_points_and_of_many(rt: HostRuntime) -> Result<(), Fail> {
     Ok(())
 }
 
-// A line from the greatest number but so many, by so many steps of one.
+// A line that begins `less` below the greatest number, and makes `steps` steps of one.
 fn line_to_the_end(alloc: Global, less: i64, steps: u64) -> Result<Vec<u8>, AllocError> {
     let mut out = Vec::new(alloc);
     out.extend_from_slice(&[0x02, 0x00])?;
@@ -72,7 +72,7 @@ fn sums_that_leave_64_bits(rt: HostRuntime) -> Result<(), Fail> {
     Ok(())
 }
 
-// A line of a point, of two such numbers and of a point, and so many bytes behind it.
+// A line of a point, of differences `x` and `y`, and of a point, and `behind` bytes after it.
 fn line_of(alloc: Global, x: i64, y: i64, behind: usize) -> Result<Vec<u8>, AllocError> {
     let mut out = Vec::new(alloc);
     out.extend_from_slice(&[0x02, 0x00, 0x03, 0x02, 0x01])?;
@@ -96,7 +96,7 @@ fn bare_numbers_of_every_two_lengths(rt: HostRuntime) -> Result<(), Fail> {
     Ok(())
 }
 
-// A line of so many points with a size that is so much too great, and some bytes behind it.
+// A line of `points` points with a size that is too great by `too_great`, and `behind` bytes after it.
 fn sized_line(
     alloc: Global,
     points: u64,

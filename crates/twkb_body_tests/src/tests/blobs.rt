@@ -69,7 +69,7 @@ pub const CERTIFIED: [(&[u8], usize); 65] = [
         ],
         2,
     ),
-    // A point with all axes in a box, behind a size.
+    // A point with all axes in a box, after a size.
     (
         &[
             0x01, 0x0B, 0x01, 0x09, 0x02, 0x00, 0x04, 0x00, 0x06, 0x00, 0x02, 0x04, 0x06,
@@ -139,7 +139,7 @@ pub const CERTIFIED: [(&[u8], usize); 65] = [
         ],
         1,
     ),
-    // An extended byte that says nothing: alone, with a box, and over a member.
+    // An extended byte with neither Z nor M: alone, with a box, and over a member.
     (&[0x01, 0x08, 0x00, 0x02, 0x04], 1),
     (&[0x01, 0x09, 0x00, 0x02, 0x00, 0x04, 0x00, 0x02, 0x04], 1),
     (
@@ -148,7 +148,7 @@ pub const CERTIFIED: [(&[u8], usize); 65] = [
         ],
         1,
     ),
-    // A box over a member without one, over one whose box is the same, and over one whose box pokes out.
+    // A box over a member without a box, over one with an equal box, and over one whose box pokes out.
     (
         &[
             0x07, 0x01, 0x02, 0x02, 0x02, 0x02, 0x02, 0x01, 0x00, 0x02, 0x02, 0x01, 0x01, 0x02,
@@ -163,7 +163,7 @@ pub const CERTIFIED: [(&[u8], usize); 65] = [
         ],
         1,
     ),
-    // Boxes on a collection and on one in it, and the point (3 4) in that.
+    // Boxes on a collection and on a collection in it, with the point (3 4) in the inner one.
     (
         &[
             0x07, 0x01, 0x00, 0x0A, 0x00, 0x0A, 0x01, 0x07, 0x00, 0x01, 0x01, 0x00, 0x06, 0x08,
@@ -316,7 +316,7 @@ pub const CERTIFIED: [(&[u8], usize); 65] = [
     ),
 ];
 
-/// A list with more ids than are held without memory.
+/// A list with more ids than an audit holds without memory.
 pub const SEVENTEEN_IDS: [u8; 54] = [
     0x04, 0x04, 0x11, 0x00, 0x02, 0x04, 0x06, 0x08, 0x0A, 0x0C, 0x0E, 0x10, 0x12, 0x14, 0x16, 0x18,
     0x1A, 0x1C, 0x1E, 0x20, 0, 0, 0, 0, 0, 0, 0, 0, 0, 0, 0, 0, 0, 0, 0, 0, 0, 0, 0, 0, 0, 0, 0, 0,

@@ -17,7 +17,7 @@ pub const GREATEST: [i64; 10] = [
     9223372036854775807,
 ];
 
-/// A number of so many bytes at most, of either sign.
+/// A random number of at most `lengths` bytes, of either sign.
 pub fn number_of(dice: &mut Dice, lengths: u64) -> i64 {
     let length = dice.below(lengths) as usize;
     let greatest = GREATEST.get(length).copied().unwrap_or(0);
@@ -29,17 +29,17 @@ pub fn number_of(dice: &mut Dice, lengths: u64) -> i64 {
     }
 }
 
-/// A signed number.
+/// Puts a signed number.
 pub fn put(out: &mut Vec<u8>, number: i64) -> Result<(), AllocError> {
     put_unsigned(out, zigzag(number))
 }
 
-/// A number without sign.
+/// Puts a number without sign.
 pub fn put_unsigned(out: &mut Vec<u8>, number: u64) -> Result<(), AllocError> {
     put_padded(out, number, 1)
 }
 
-/// A number in so many bytes at least, of which those at the end stand for zeros.
+/// Puts a number in at least `least` bytes, of which the last ones may have groups of zeros.
 pub fn put_padded(out: &mut Vec<u8>, number: u64, least: u64) -> Result<(), AllocError> {
     let mut left = number;
     for k in 1..10 {
@@ -53,7 +53,7 @@ pub fn put_padded(out: &mut Vec<u8>, number: u64, least: u64) -> Result<(), Allo
     Ok(())
 }
 
-/// So many of one byte.
+/// Puts one byte `count` times.
 pub fn put_bytes(out: &mut Vec<u8>, byte: u8, count: usize) -> Result<(), AllocError> {
     for _ in 0..count {
         out.push(byte)?;
@@ -61,7 +61,7 @@ pub fn put_bytes(out: &mut Vec<u8>, byte: u8, count: usize) -> Result<(), AllocE
     Ok(())
 }
 
-/// Minimum and extent of each axis.
+/// Puts minimum and extent of each axis.
 pub fn put_bounds(out: &mut Vec<u8>, bounds: &[(i64, i64)]) -> Result<(), AllocError> {
     for &(minimum, extent) in bounds {
         put(out, minimum)?;
@@ -70,7 +70,7 @@ pub fn put_bounds(out: &mut Vec<u8>, bounds: &[(i64, i64)]) -> Result<(), AllocE
     Ok(())
 }
 
-/// The differences from point to point.
+/// Puts the differences from point to point.
 pub fn put_points(out: &mut Vec<u8>, axes: usize, points: &[[i64; 4]]) -> Result<(), AllocError> {
     let mut last = [0i64; 4];
     for point in points {

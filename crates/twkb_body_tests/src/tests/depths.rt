@@ -1,4 +1,4 @@
-//! Collections in one another, as deep as they may be and deeper, and what stands in the deepest.
+//! Collections in one another, as deep as they may be and deeper, with different geometries in the deepest.
 use super::skims::{Nothing, skimmed};
 use super::variants::{both_agree, set};
 use super::*;
@@ -6,8 +6,8 @@ use random_layers::{TWO_COLLECTIONS, nested};
 use std::alloc::{AllocError, Global};
 use std::process::Abort;
 
-// How many collections, what stands in the inmost, how many vertices it has, and how many bytes of the whole are read
-// where every box is skipped.
+// How many collections there are, the bytes in the inmost one, how many vertices it has, and how many bytes of the whole
+// are read if every box is skipped.
 const CERTIFIED_BELOW: [(usize, &[u8], usize, u64); 7] = [
     (31, &[0x01, 0x10], 0, 95),
     (32, &[0x01, 0x10], 0, 98),
@@ -15,11 +15,11 @@ const CERTIFIED_BELOW: [(usize, &[u8], usize, u64); 7] = [
     (63, &[0x01, 0x00, 0x02, 0x04], 1, 193),
     (63, &[0x01, 0x10], 0, 191),
     (62, &[0x07, 0x00, 0x00], 0, 189),
-    // Of 219 bytes the ten behind the header of a member at depth 63, and the two behind that of one at depth 64, are not.
+    // Of 219 bytes twelve aren't read: ten after the header of a member at depth 63, and two after the header of one at depth 64.
     (61, &TWO_COLLECTIONS, 3, 207),
 ];
 
-// Skims reach the end: one that skips every box reads so many bytes, and one that skips none sees so many vertices.
+// Skims reach the end: one that skips every box reads `read` bytes, and one that skips none sees `vertices` vertices.
 fn are_skimmed(rt: &impl Abort, alloc: Global, bytes: &[u8], vertices: usize, read: u64) {
     let stop = bytes.len();
     let hops = skimmed(alloc, bytes, &mut Nothing {});
@@ -40,7 +40,7 @@ fn certified_below(rt: HostRuntime) -> Result<(), Fail> {
     Ok(())
 }
 
-// The same with where the blob is malformed, and why.
+// How many collections there are, the bytes in the inmost one, and where and why the blob is malformed.
 const MALFORMED_BELOW: [(usize, &[u8], usize, Why); 6] = [
     (32, &[], 96, Why::Cut),
     (63, &[], 189, Why::Cut),
@@ -79,10 +79,10 @@ fn sized(alloc: Global) -> Result<Vec<u8>, AllocError> {
     Ok(bytes)
 }
 
-// Where the sizes at depth 1, 32, 33 and 63 stand, and the first byte of each.
+// The offsets of the sizes at depth 1, 32, 33 and 63, and the first byte of each.
 const SIZES: [(usize, u8); 4] = [(2, 0x9C), (157, 0x81), (162, 0x7D), (282, 0x05)];
 
-// The size that stands there is false with this byte.
+// The size at the offset is false with this byte.
 fn is_false_size(rt: &impl Abort, alloc: Global, bytes: &mut [u8], offset: usize, byte: u8) {
     set(rt, bytes, offset, byte);
     answers(rt, alloc, bytes, false, false_claim(offset, Claim::Size));
@@ -102,7 +102,7 @@ fn sizes_off_by_one(rt: HostRuntime) -> Result<(), Fail> {
     Ok(())
 }
 
-// With the byte there one less, one more, and the mark of an empty geometry.
+// Both audits agree with the plain reader on the bytes with this byte one less, one more, and the mark of an empty geometry.
 fn near_values_agree(rt: &impl Abort, alloc: Global, bytes: &mut [u8], place: usize, byte: u8) {
     for value in [byte.wrapping_sub(1), byte.wrapping_add(1), 0x10] {
         set(rt, bytes, place, value);
@@ -110,7 +110,7 @@ fn near_values_agree(rt: &impl Abort, alloc: Global, bytes: &mut [u8], place: us
     }
 }
 
-// The plain reader agrees on each byte of the two changed a little, and cut there.
+// The audits agree with the plain reader on the bytes of both blobs, each byte changed a little, and cut there.
 #[test]
 fn variants_below(rt: HostRuntime) -> Result<(), Fail> {
     for bytes in [

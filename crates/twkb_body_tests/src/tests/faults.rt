@@ -1,7 +1,7 @@
 //! Blobs that are refused, and why, by the format's own words.
 use twkb_body::{Claim, Why};
 
-/// Bytes that no blob stands at, with the place of the first field that can't follow.
+/// Bytes that begin with no blob, with the place of the first field that can't follow.
 pub const MALFORMED: [(&[u8], usize, Why); 8] = [
     (
         &[
@@ -19,7 +19,7 @@ pub const MALFORMED: [(&[u8], usize, Why); 8] = [
         14,
         Why::Range,
     ),
-    // Counts of points and of ids that are never compared with what is left.
+    // Counts of points and of ids, which are never compared with the number of bytes left.
     (
         &[
             0x04, 0x00, 0xFF, 0xFF, 0xFF, 0xFF, 0xFF, 0xFF, 0xFF, 0xFF, 0xFF, 0x01,
@@ -34,7 +34,7 @@ pub const MALFORMED: [(&[u8], usize, Why); 8] = [
         12,
         Why::Cut,
     ),
-    // A size that passes the end is not judged.
+    // A size that leads past the end isn't judged.
     (&[0x02, 0x02, 0x05, 0x02, 0x02, 0x02], 6, Why::Cut),
     (&[0x07, 0x00, 0x01, 0x0F, 0x00], 3, Why::Kind),
     (
@@ -171,7 +171,7 @@ pub const FALSE: [(&[u8], usize, Claim); 40] = [
         10,
         Claim::Ids,
     ),
-    // A box that pokes out of that above: a vertex beyond the latter, beyond the former, and beyond both.
+    // A box that pokes out of the box above it, and a vertex beyond the box above, beyond the box itself, and beyond both.
     (
         &[
             0x07, 0x01, 0x02, 0x02, 0x02, 0x02, 0x01, 0x01, 0x01, 0x02, 0x04, 0x02, 0x02, 0x06,
@@ -272,7 +272,7 @@ pub const FALSE: [(&[u8], usize, Claim); 40] = [
         9,
         Claim::Size,
     ),
-    // Sizes of an empty blob and of an empty member; a point behind an empty member.
+    // Sizes of an empty blob and of an empty member; a point after an empty member.
     (&[0x01, 0x12, 0x01], 2, Claim::Size),
     (
         &[0x07, 0x01, 0x02, 0x02, 0x02, 0x02, 0x01, 0x01, 0x12, 0x01],
@@ -315,7 +315,7 @@ pub const FALSE: [(&[u8], usize, Claim); 40] = [
         3,
         Claim::Box,
     ),
-    // An extended byte that says nothing, with a false box and with a false size.
+    // An extended byte with neither Z nor M, with a false box and with a false size.
     (
         &[0x01, 0x09, 0x00, 0x02, 0x00, 0x04, 0x00, 0x02, 0x06],
         3,

@@ -1,5 +1,5 @@
-//! Collections in boxes over members of all sorts: with boxes of their own, with none, at other precisions, and such as no box
-//! of raw numbers holds. All against the plain reader.
+//! Collections in boxes over members of all sorts, against the plain reader: with boxes of their own, with none, at other
+//! precisions, and members that no box of raw numbers holds.
 use super::bytes::{put, put_bounds, put_unsigned};
 use super::variants::both_agree;
 use std::alloc::{AllocError, Global};
@@ -12,7 +12,7 @@ type Bounds = [(i64, i64); 2];
 // From 0 to 10.
 const TO_TEN: Option<Bounds> = Some([(0, 10), (0, 10)]);
 
-// None, from 0 to 10, wider by one on each side, and narrower by one on one side of one axis.
+// No box, a box from 0 to 10, one wider by one on each side, and boxes narrower by one on one side of one axis.
 const BOXES: [Option<Bounds>; 7] = [
     None,
     TO_TEN,
@@ -47,16 +47,16 @@ const MEMBERS: [&[u8]; 31] = [
     &[0x01, 0x01, 0x00, 0x14, 0x01, 0x16, 0x0A, 0x0A],
     &[0x01, 0x01, 0x00, 0x14, 0x00, 0x16, 0x0A, 0x0A],
     &[0x01, 0x01, 0x00, 0x08, 0x00, 0x14, 0x0A, 0x0A],
-    // The same where the point pokes out with its box.
+    // A point that pokes out with its box.
     &[0x01, 0x01, 0x01, 0x16, 0x00, 0x14, 0x01, 0x0A],
     &[0x01, 0x03, 0x06, 0x00, 0x14, 0x00, 0x16, 0x0A, 0x16],
-    // Empty ones, without a box and in one that lies elsewhere.
+    // Empty members, without a box and in a box that lies elsewhere.
     &[0x01, 0x10],
     &[0x02, 0x13, 0x04, 0x28, 0x02, 0x28, 0x02],
     // Ids that differ, and equal ones.
     &[0x04, 0x04, 0x02, 0x02, 0x04, 0x0A, 0x0A, 0x02, 0x02],
     &[0x04, 0x04, 0x02, 0x02, 0x02, 0x0A, 0x0A, 0x02, 0x02],
-    // Z, in a box too, and an extended byte that says nothing.
+    // Points with Z, one of them in a box, and an extended byte with neither Z nor M.
     &[0x01, 0x08, 0x01, 0x0A, 0x0A, 0x01],
     &[
         0x01, 0x09, 0x01, 0x00, 0x14, 0x00, 0x14, 0x00, 0x14, 0x0A, 0x0A, 0x01,
@@ -73,7 +73,7 @@ const MEMBERS: [&[u8]; 31] = [
     ],
 ];
 
-// A box, if any, and members.
+// The body of a collection: a box, if there is one, and members.
 fn body(alloc: Global, bounds: &Option<Bounds>, members: &[&[u8]]) -> Result<Vec<u8>, AllocError> {
     let mut out = Vec::new(alloc);
     if let Some(bounds) = bounds {
@@ -86,7 +86,7 @@ fn body(alloc: Global, bounds: &Option<Bounds>, members: &[&[u8]]) -> Result<Vec
     Ok(out)
 }
 
-// A collection at a precision, with a box, if any, and a size that is greater by so much, if any.
+// A collection at a precision, with a box if there is one, and for `Some` with a size that is too great by this number.
 fn collection(
     alloc: Global,
     first: u8,
@@ -108,7 +108,7 @@ fn collection(
     Ok(out)
 }
 
-// Such a collection in each box.
+// Both audits agree with the plain reader on a collection of these members in each box.
 fn in_boxes_agree(
     rt: &impl Abort,
     alloc: Global,
@@ -132,7 +132,7 @@ fn every_two_members(rt: HostRuntime) -> Result<(), Fail> {
     Ok(())
 }
 
-// A member in a collection in another, each in each box, with a point behind the inner one; and in one more between them.
+// A member in a collection in another, each in each box, with a point after the inner one; and with one more between them.
 #[test]
 fn boxes_of_two_levels(rt: HostRuntime) -> Result<(), Fail> {
     for &member in &MEMBERS {
@@ -149,7 +149,7 @@ fn boxes_of_two_levels(rt: HostRuntime) -> Result<(), Fail> {
 // Type bytes of a precision without a kind: 0, one digit less and one more.
 const PRECISIONS: [u8; 3] = [0x00, 0x10, 0x20];
 
-// A point, in a box that holds it alone where the metadata byte says that there is one.
+// A point, in a box that holds only it, if the metadata byte says that there is a box.
 fn point_of(
     alloc: Global,
     [first, metadata]: [u8; 2],
@@ -165,7 +165,7 @@ fn point_of(
     Ok(out)
 }
 
-// A point at a precision, in a box that holds it alone or in none, in a box of another precision.
+// A point at a precision, in a box that holds only it or without a box, in collections with boxes of another precision.
 fn point_agrees(
     rt: &impl Abort,
     alloc: Global,
@@ -200,8 +200,8 @@ fn members_at_other_precisions(rt: HostRuntime) -> Result<(), Fail> {
     Ok(())
 }
 
-// So many collections with true sizes round a member. One of them, counted from the inmost, has another box, and a size
-// that is greater by so much.
+// `many` collections with true sizes round a member. One of them, number `other` from the inmost, has another box, and a
+// size that is greater by `more`.
 fn nested_agrees(
     rt: &impl Abort,
     alloc: Global,
@@ -233,7 +233,7 @@ const INMOST: [&[u8]; 4] = [
     ],
 ];
 
-// Each of them in so many collections, one of which has each box.
+// Each of `INMOST` in `many` collections, of which number `other` has each box.
 fn inmost_agree(
     rt: &impl Abort,
     alloc: Global,

@@ -1,11 +1,11 @@
-//! Audits with room for the ids of a list that is lent.
+//! Audits with a lent buffer for the ids of a list.
 use super::blobs::{CERTIFIED, FALLING_IDS, SEVENTEEN_IDS};
 use super::faults::{FALSE, MALFORMED};
 use super::{equal, false_claim, malformed, whole};
 use std::process::Abort;
 use twkb_body::{Audit, AuditFault, Claim, Cursor, audit_lent, audit_tight_lent};
 
-// Seventeen ids want as many places, whether they rise or not. In fewer memory is wanted, and the place is where it was.
+// Seventeen ids need seventeen places, whether they rise or not. With fewer places memory is wanted, and the place is unchanged.
 #[test]
 fn room_for_seventeen_ids(rt: HostRuntime) {
     let mut room = [0; 20];
@@ -25,7 +25,7 @@ fn room_for_seventeen_ids(rt: HostRuntime) {
     }
 }
 
-// Both audits answer so.
+// Both audits with this room give this answer.
 fn are_refused(rt: &impl Abort, room: &mut [i64], bytes: &[u8], wanted: Result<Audit, AuditFault>) {
     let answer = audit_lent(room, &mut Cursor::new(bytes));
     let tight = audit_tight_lent(room, &mut Cursor::new(bytes));
@@ -41,7 +41,7 @@ fn equal_ids_in_room(rt: HostRuntime) {
     are_refused(&rt, &mut room[..16], &equal_ids, Err(AuditFault::Memory));
 }
 
-// No list of these has more than sixteen ids.
+// Audits without places for ids certify blobs without a list of more than sixteen ids.
 #[test]
 fn no_room(rt: HostRuntime) {
     for &(bytes, vertices) in &CERTIFIED {

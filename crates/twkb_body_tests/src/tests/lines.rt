@@ -35,7 +35,7 @@ const EXTENTS: [i64; 10] = [
     i64::MIN,
 ];
 
-// What stands before the box, and how many axes there are: X and Y, and Z, M or both behind them.
+// The bytes before the box, and how many axes there are: X and Y, and Z, M or both after them.
 type Axes = (&'static [u8], usize);
 
 const FLAT: Axes = (&[0x02, 0x01], 2);
@@ -49,7 +49,7 @@ const BOTH: Axes = (&[0x02, 0x09, 0x03], 4);
 // Each axis.
 const EACH: [(Axes, usize); 6] = [(FLAT, 0), (FLAT, 1), (Z, 2), (M, 2), (BOTH, 2), (BOTH, 3)];
 
-// A line with a box round it, which has minimum and extent of each axis, and so many bytes behind it.
+// A line with a box, by minimum and extent of each axis, and `behind` bytes after it.
 fn line_in_box(
     alloc: Global,
     (before, axes): Axes,
@@ -66,7 +66,7 @@ fn line_in_box(
     Ok(out)
 }
 
-// With bytes behind it and with none.
+// Both audits agree with the plain reader on a line with bytes after it and with none.
 fn line_agrees(
     rt: &impl Abort,
     alloc: Global,
@@ -81,7 +81,7 @@ fn line_agrees(
     Ok(())
 }
 
-// This in one axis, and that in the others.
+// The value `this` in one axis, and `that` in the others.
 fn in_axis<T: Copy>(axis: usize, this: T, that: T) -> [T; 4] {
     let mut all = [that; 4];
     if axis < 4 {
@@ -136,7 +136,7 @@ const FAR_BOXES: [(i64, i64); 10] = [
 
 const STEPS: [i64; 7] = [0, 1, -1, 134217727, -134217728, 134217728, NEAR];
 
-// In one axis lines that begin there and make a step.
+// Lines that begin at `first` in one axis, and make a step in it.
 fn steps_agree(
     rt: &impl Abort,
     alloc: Global,
@@ -171,7 +171,7 @@ fn reaching(number: i64) -> (i64, i64) {
     (minimum, number.max(0).wrapping_sub(minimum))
 }
 
-// A point behind another, in a box that just holds it or misses it by one at one end of one axis, and bytes behind it.
+// A point after another, in a box that just holds it or misses it by one at one end of one axis, and bytes after it.
 fn point_agrees(
     rt: &impl Abort,
     alloc: Global,
@@ -209,7 +209,7 @@ fn numbers_of_every_two_lengths(rt: HostRuntime) -> Result<(), Fail> {
     Ok(())
 }
 
-// Of a line of short numbers, each number of bytes behind the last.
+// A line of short numbers, with each number of bytes after the last one.
 #[test]
 fn bytes_behind_the_last_point(rt: HostRuntime) -> Result<(), Fail> {
     const POINTS: [[i64; 4]; 5] = [

@@ -7,7 +7,7 @@ use std::alloc::{AllocError, Global};
 use std::test::Fail;
 use twkb_num::zigzag;
 
-// The numbers of points, and the sum of each axis so far, with its least and its greatest value.
+// The bytes of points, and the sum of each axis so far, with its least and its greatest value.
 #[derive(Drop)]
 struct Points {
     bytes: Vec<u8>,
@@ -16,7 +16,7 @@ struct Points {
     ranges: [(i64, i64); 3],
 }
 
-// Mostly of one byte to three, else of one to ten. Now and then there are bytes for zeros behind it.
+// Puts a number, mostly of one to three bytes, otherwise of one to ten. Now and then its last bytes have groups of zeros.
 fn put_number(points: &mut Points, dice: &mut Dice, axis: usize) -> Result<(), AllocError> {
     let lengths = if dice.once_in(8) { 10 } else { 3 };
     let number = number_of(dice, lengths);
@@ -31,7 +31,7 @@ fn put_number(points: &mut Points, dice: &mut Dice, axis: usize) -> Result<(), A
     Ok(())
 }
 
-// So many points.
+// Puts `count` points.
 fn put_points(points: &mut Points, dice: &mut Dice, count: u64) -> Result<(), AllocError> {
     for _ in 0..count {
         for axis in 0..points.axes {
@@ -41,7 +41,7 @@ fn put_points(points: &mut Points, dice: &mut Dice, count: u64) -> Result<(), Al
     Ok(())
 }
 
-// So many runs of points, each behind its count.
+// Puts `runs` runs of points, each after its count.
 fn put_runs(points: &mut Points, dice: &mut Dice, runs: u64) -> Result<(), AllocError> {
     for _ in 0..runs {
         let count = dice.below(9);
@@ -51,7 +51,7 @@ fn put_runs(points: &mut Points, dice: &mut Dice, runs: u64) -> Result<(), Alloc
     Ok(())
 }
 
-// What stands behind the header of a kind.
+// Puts a body of this kind.
 fn put_body(points: &mut Points, dice: &mut Dice, kind: u64) -> Result<(), AllocError> {
     if kind == 1 {
         return put_points(points, dice, 1);
@@ -72,7 +72,7 @@ fn put_body(points: &mut Points, dice: &mut Dice, kind: u64) -> Result<(), Alloc
     Ok(())
 }
 
-// A box round the points, which now and then misses one by one.
+// Puts a box round the points, which now and then misses a point by one.
 fn put_box(out: &mut Vec<u8>, dice: &mut Dice, points: &Points) -> Result<(), AllocError> {
     for &(lowest, highest) in &points.ranges[..points.axes.min(3)] {
         let missed = if dice.once_in(9) {
@@ -113,7 +113,7 @@ fn whole_geometry(alloc: Global, dice: &mut Dice) -> Result<Vec<u8>, AllocError>
     Ok(out)
 }
 
-/// A geometry of each kind but a collection, with some bytes behind it, or cut.
+/// A geometry of any kind but a collection, with some bytes after it, or cut.
 pub fn geometry(alloc: Global, dice: &mut Dice) -> Result<Vec<u8>, AllocError> {
     let mut out = whole_geometry(alloc, dice)?;
     if dice.once_in(6) {

@@ -24,7 +24,7 @@ fn merged(a: &[(i64, i64); 2], b: &[(i64, i64); 2]) -> [(i64, i64); 2] {
     ranges
 }
 
-// Mostly nothing, else one more or one less.
+// Mostly 0, otherwise -1, 0 or 1.
 fn off_by_one(dice: &mut Dice) -> i64 {
     if dice.once_in(12) {
         dice.around(0, 1)
@@ -33,7 +33,7 @@ fn off_by_one(dice: &mut Dice) -> i64 {
     }
 }
 
-// A box that holds these, mostly.
+// Puts a box that mostly holds these ranges.
 fn put_box(out: &mut Vec<u8>, dice: &mut Dice, ranges: &[(i64, i64); 2]) -> Result<(), AllocError> {
     for &(least, greatest) in ranges {
         let minimum = least.wrapping_add(off_by_one(dice));
@@ -44,7 +44,7 @@ fn put_box(out: &mut Vec<u8>, dice: &mut Dice, ranges: &[(i64, i64); 2]) -> Resu
     Ok(())
 }
 
-// A header and the body behind it. Now and then the header is that of another precision.
+// A header and the body after it. Now and then the header has another precision than the others.
 fn with_header(
     alloc: Global,
     dice: &mut Dice,
@@ -71,7 +71,7 @@ fn with_header(
     Ok(Piece { bytes, ranges })
 }
 
-// What stands before the points of a kind: their count, where it has one, and a count of one for each level above.
+// Puts the bytes before the points of a kind: their count, if it has one, and a count of one for each level above.
 fn put_counts(out: &mut Vec<u8>, kind: u8, count: u64) -> Result<(), AllocError> {
     match kind {
         1 => Ok(()),
@@ -83,7 +83,7 @@ fn put_counts(out: &mut Vec<u8>, kind: u8, count: u64) -> Result<(), AllocError>
     }
 }
 
-// Some points about a middle, and their count where the kind has one.
+// Puts some points about a middle, and before them their count, if the kind has one.
 fn points(
     out: &mut Vec<u8>,
     dice: &mut Dice,
@@ -127,7 +127,7 @@ fn leaf(alloc: Global, dice: &mut Dice) -> Result<Piece, AllocError> {
     with_header(alloc, dice, (kind, 0), ranges, &body)
 }
 
-// A collection of the last few pieces, which go from the list.
+// A collection of the last few pieces, which are taken from the list.
 fn collection(
     alloc: Global,
     dice: &mut Dice,
@@ -146,7 +146,7 @@ fn collection(
     with_header(alloc, dice, (7, 0), ranges, &body)
 }
 
-// What some pieces come to, with bytes behind it or cut now and then.
+// A blob made of some pieces, now and then with bytes after it, or cut.
 fn blob(alloc: Global, dice: &mut Dice) -> Result<Vec<u8>, AllocError> {
     let mut pieces = Vec::new(alloc);
     for _ in 0..dice.below(9) {

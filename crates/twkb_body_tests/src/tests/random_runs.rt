@@ -8,7 +8,7 @@ use std::alloc::{AllocError, Global};
 use std::process::Abort;
 use std::test::Fail;
 
-// Mostly nothing, else one more or one less.
+// Mostly 0, otherwise -1, 0 or 1.
 fn off_by_one(dice: &mut Dice) -> i64 {
     if dice.once_in(12) {
         dice.around(0, 1)
@@ -65,7 +65,7 @@ fn layer(alloc: Global, dice: &mut Dice) -> Result<(Vec<u8>, Vec<usize>), AllocE
     Ok((bytes, starts))
 }
 
-// From each start on they agree. How many blobs are certified.
+// From each start on the audits agree with the plain reader. Returns how many blobs are certified.
 fn layer_agrees(rt: &impl Abort, alloc: Global, bytes: &[u8], starts: &[usize]) -> u64 {
     let mut certified = 0u64;
     for &start in starts {

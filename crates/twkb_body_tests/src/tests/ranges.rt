@@ -1,11 +1,11 @@
-//! Points of X and Y in a box, at the ends of its ranges and beyond them, for ranges on each side of what fits a lane, against the
-//! plain reader.
+//! Points of X and Y in a box, at the ends of its ranges and beyond them, against the plain reader. There are ranges that fit a
+//! lane and ranges that don't.
 use super::runs::{Difference, alike, kinds_agree};
 use std::alloc::{AllocError, Global};
 use std::process::Abort;
 use std::test::Fail;
 
-// The differences of points, in one axis, where the other stays where it begins.
+// The differences of points with these places in one axis, and always `other` in the other axis.
 fn in_axis(
     alloc: Global,
     axis: usize,
@@ -30,7 +30,7 @@ fn in_axis(
     Ok(differences)
 }
 
-// Points in one axis, in a range, and in the other at the only number of its range.
+// The audits agree on points with these places in one axis, with its range, and at the only number of the range in the other.
 fn places_agree(
     rt: &impl Abort,
     alloc: Global,
@@ -89,7 +89,7 @@ const EXTENTS: [i64; 15] = [
     -4 * LANE,
 ];
 
-// Points about both ends of a range, each near one before it, and such as are far from it.
+// Points about both ends of a range, some near the point before them, and some far from it.
 fn range_agrees(
     rt: &impl Abort,
     alloc: Global,

@@ -90,7 +90,7 @@ const ENDS: [Difference; 22] = [
     (-134217728, 1),
     (134217728, 1),
     (-134217729, 1),
-    // Small ones that take more bytes than they need.
+    // Small differences that take more bytes than they need.
     (1, 2),
     (-1, 3),
     (0, 4),
@@ -129,7 +129,7 @@ fn differences_of_each_length_at_each_place(rt: HostRuntime) -> Result<(), Fail>
     Ok(())
 }
 
-// A geometry with each number of bytes behind it, from none to more than are read at once.
+// A geometry with each number of bytes after it, from none to more than are read at once.
 fn lengths_agree(
     rt: &impl Abort,
     alloc: Global,

@@ -1,5 +1,5 @@
-//! Points with a size and nothing else, which go by a path of their own, against the plain reader: coordinates of each
-//! length, up to one that passes 64 bits, sizes that are false, cuts, all type bytes and metadata bytes, and all depths.
+//! Points with a size and nothing else, which have a path of their own, against the plain reader: coordinates of each
+//! length, up to one that exceeds 64 bits, sizes that are false, cuts, all type bytes and metadata bytes, and all depths.
 use super::bytes::put_bytes;
 use super::variants::{both_agree, variants_agree};
 use std::alloc::{AllocError, Global};
@@ -7,17 +7,17 @@ use std::process::Abort;
 use std::test::Fail;
 use twkb_head::DEEPEST;
 
-// How many bytes stand behind the point: numbers are passed by words of eight.
+// How many bytes follow the point: numbers are passed by words of eight.
 const BEHIND: [usize; 3] = [0, 7, 8];
 
-// A number of so many bytes: ten of them are the greatest of 64 bits, and eleven pass 64 bits.
+// Puts a number of `bytes` bytes: with ten it is the greatest of 64 bits, and with eleven it exceeds 64 bits.
 fn put(out: &mut Vec<u8>, bytes: usize) -> Result<(), AllocError> {
     put_bytes(out, 0xFF, bytes.saturating_sub(1))?;
     out.push(0x01)?;
     Ok(())
 }
 
-// A point with a size, X and Y of so many bytes, and some bytes behind it.
+// Puts a point with a size, X of `x` bytes and Y of `y` bytes, and `behind` bytes after it.
 fn sized_point(
     out: &mut Vec<u8>,
     [x, y, behind]: [usize; 3],

@@ -1,4 +1,4 @@
-//! Boxes whose ends are as far from the vertices as a step, nearly so far, and farther, on each side of each axis.
+//! Boxes whose ends are a step away from the vertices, a little less, and more, on each side of each axis.
 use super::bytes::{put, put_points};
 use super::{answers, false_claim, whole};
 use std::alloc::{AllocError, Global};
@@ -17,7 +17,7 @@ const PRECISIONS: [([i8; 3], [u8; 2]); 5] = [
 // The least end of each axis in steps, of which each box has three.
 const LEAST: [i64; 4] = [-2, 5, -9, 0];
 
-// One in the last digit, in units.
+// A step of this axis, which is one in the last digit, in units.
 fn step(precisions: &[i8; 3], axis: usize) -> i64 {
     let precision = match axis {
         2 => precisions[1],
@@ -31,7 +31,7 @@ fn step(precisions: &[i8; 3], axis: usize) -> i64 {
     step
 }
 
-// The corner of a box of three steps that is least, or greatest, but so far into the box in one axis; in units.
+// The least or the greatest corner of a box of three steps, moved into the box by `away` in one axis, in units.
 fn corner(precisions: &[i8; 3], is_greatest: bool, axis: usize, away: i64) -> [i64; 4] {
     let mut corner = [0i64; 4];
     for k in 0..4 {
@@ -66,7 +66,7 @@ fn boxed(
     Ok(out)
 }
 
-// Both audits of a box that is so far away from the vertices at one end, in units.
+// Both audits judge a box that is `away` units away from the vertices at one end.
 fn judged(
     rt: &impl Abort,
     alloc: Global,
@@ -90,7 +90,7 @@ fn judged(
     Ok(())
 }
 
-// Ends that are away by nothing, about a step, and two.
+// Both ends of an axis are judged if they are 0 units away, about a step, and two steps.
 fn both_judged(
     rt: &impl Abort,
     alloc: Global,

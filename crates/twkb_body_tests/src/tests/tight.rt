@@ -19,7 +19,7 @@ pub const TIGHT: [(&[u8], usize); 9] = [
         ],
         1,
     ),
-    // One that lacks the axis of a member.
+    // A box that lacks the axis of a member.
     (
         &[
             0x07, 0x01, 0x02, 0x00, 0x02, 0x00, 0x01, 0x01, 0x08, 0x01, 0x02, 0x02, 0x14,
@@ -55,7 +55,7 @@ pub const TIGHT: [(&[u8], usize); 9] = [
 
 /// Blobs with a first false claim in tight checking.
 pub const LOOSE: [(&[u8], usize, Claim); 10] = [
-    // One step away at the least X, and at the greatest.
+    // Boxes that are one step away at the least X, and at the greatest.
     (
         &[
             0x02, 0x01, 0x00, 0x0A, 0x02, 0x08, 0x02, 0x02, 0x02, 0x08, 0x08,
@@ -70,7 +70,7 @@ pub const LOOSE: [(&[u8], usize, Claim); 10] = [
         2,
         Claim::Loose,
     ),
-    // What follows is another blob.
+    // A loose box, and another blob after it.
     (
         &[
             0x02, 0x01, 0x00, 0x0A, 0x02, 0x08, 0x02, 0x02, 0x02, 0x08, 0x08, 0x01, 0x02, 0x03,
@@ -104,7 +104,7 @@ pub const LOOSE: [(&[u8], usize, Claim); 10] = [
         2,
         Claim::Loose,
     ),
-    // In Z alone.
+    // A box that is loose only in Z.
     (
         &[
             0x01, 0x09, 0x01, 0x02, 0x00, 0x02, 0x00, 0x02, 0x02, 0x02, 0x02, 0x02,
@@ -112,7 +112,7 @@ pub const LOOSE: [(&[u8], usize, Claim); 10] = [
         3,
         Claim::Loose,
     ),
-    // The same round the one of two members that has a Z, below it and above it.
+    // A box that is loose in Z round two members, of which one has a Z: below its Z, and above it.
     (
         &[
             0x07, 0x09, 0x01, 0x00, 0x00, 0x00, 0x00, 0x08, 0x02, 0x02, 0x01, 0x08, 0x01, 0x00,
@@ -129,7 +129,7 @@ pub const LOOSE: [(&[u8], usize, Claim); 10] = [
         3,
         Claim::Loose,
     ),
-    // Extents below zero hold nothing, and that comes first.
+    // A box with an extent below zero holds nothing, so it is named as false, not as loose.
     (
         &[0x01, 0x01, 0x02, 0x03, 0x02, 0x00, 0x02, 0x02],
         2,
@@ -137,7 +137,7 @@ pub const LOOSE: [(&[u8], usize, Claim); 10] = [
     ),
 ];
 
-// What any check refuses is refused alike in tight checking: no box of `FALSE` is loose before the claim that is false.
+// Tight checking refuses the blobs of `FALSE` as a plain check does, since none has a loose box before its false claim.
 #[test]
 fn tight_boxes_and_loose_ones(rt: HostRuntime) {
     for &(bytes, vertices) in &TIGHT {

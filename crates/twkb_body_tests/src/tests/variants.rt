@@ -1,4 +1,4 @@
-//! All that comes of worked blobs by a cut or by one changed byte, against a plain reader.
+//! Worked blobs with each cut and with each byte changed, against a plain reader.
 use super::blobs::CERTIFIED;
 use super::faults::{FALSE, MALFORMED};
 use super::tight::{LOOSE, TIGHT};
@@ -9,7 +9,7 @@ use std::process::Abort;
 use std::test::Fail;
 use twkb_body::{Audit, AuditFault, Claim};
 
-// The answer of the plain reader, as one of an audit.
+// The answer of the plain reader, as the answer of an audit.
 fn audited(answer: Result<plain::Layer, Fault>) -> Result<Audit, AuditFault> {
     match answer {
         Ok(layer) => Ok(Audit {
@@ -30,7 +30,7 @@ fn audited(answer: Result<plain::Layer, Fault>) -> Result<Audit, AuditFault> {
     }
 }
 
-/// One audit or the other answers as the plain reader does. `true` says that it certifies a blob.
+/// The plain audit or the tight one answers as the plain reader does. `true` says that it certifies a blob.
 pub fn agrees(rt: &impl Abort, alloc: Global, bytes: &[u8], is_tight: bool) -> bool {
     let plainly = if is_tight {
         audited(plain::read_blob_tight(alloc, bytes))
@@ -55,7 +55,7 @@ pub fn set(rt: &impl Abort, bytes: &mut [u8], place: usize, value: u8) {
     }
 }
 
-// They agree on the bytes with one of them set to every value.
+// Both audits agree with the plain reader on the bytes with the byte at the place set to every value.
 fn values_agree(rt: &impl Abort, alloc: Global, bytes: &mut [u8], place: usize) {
     for value in 0..=255u8 {
         set(rt, bytes, place, value);
@@ -63,7 +63,7 @@ fn values_agree(rt: &impl Abort, alloc: Global, bytes: &mut [u8], place: usize) 
     }
 }
 
-/// They agree on the bytes, on these cut after each of them, and on these with each of them set to every value.
+/// Both audits agree with the plain reader on the bytes, on each cut of them, and on the bytes with each byte set to every value.
 pub fn variants_agree(rt: &impl Abort, alloc: Global, bytes: &[u8]) -> Result<(), Fail> {
     let mut changed = Vec::new(alloc);
     changed.extend_from_slice(bytes)?;

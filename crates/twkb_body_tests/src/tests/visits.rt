@@ -1,5 +1,5 @@
-//! Visits of points at random, each vertex against that of the plain reader: numbers of each length, with a size or a box and
-//! with none, at the end of the bytes and before others.
+//! Visits of points at random, each vertex against the plain reader's: numbers of each length, with a size or a box and with
+//! none, at the end of the bytes and before others.
 use super::bytes::put_bytes;
 use super::random_bodies::geometry;
 use super::*;
@@ -7,7 +7,7 @@ use random_layers::Dice;
 use std::alloc::{AllocError, Global};
 use std::process::Abort;
 
-// Whether it is shown these vertices, one after another. Its contract says nothing of them: they are compared below.
+// A visitor that expects these vertices, one after another. Its contract says nothing of them; the tests compare them.
 #[derive(Drop)]
 struct Expecting<'a> {
     vertices: &'a [Vertex],
@@ -70,7 +70,7 @@ fn random_points_are_shown(rt: HostRuntime) -> Result<(), Fail> {
     Ok(())
 }
 
-// Points whose differences are all one number, of one byte or two, with a size or none, and so many other bytes behind.
+// A line of points whose differences are all equal, of one byte or two, with a size or none, and `behind` other bytes after it.
 fn even_line(
     alloc: Global,
     difference: &[u8],

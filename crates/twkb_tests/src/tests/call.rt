@@ -1,4 +1,4 @@
-//! What no clause says: that the answers are those of worked files.
+//! Tests of what no contract says of the calls from other languages: the answers for worked files.
 ghost use Rattle.std.specs.Prelude.{◌≡◌};
 ghost use Rattle.twkb_layer.specs.Layer.{IsCounted};
 
@@ -15,7 +15,7 @@ use twkb_call::{
 
 mod windows;
 
-// A line with a size that is one too many.
+// A line with a size that is too great by one.
 const SIZE_OFF_BY_ONE: [u8; 12] = [
     0x02, 0x03, 0x0A, 0x02, 0x08, 0x02, 0x08, 0x02, 0x02, 0x02, 0x08, 0x08,
 ];
@@ -223,7 +223,7 @@ fn hits_that_fit(rt: HostRuntime) {
     }
 }
 
-// The names are those that the program prints, with zeros after them.
+// The names are the words that the program prints, with zeros after them.
 #[test]
 fn names(rt: HostRuntime) {
     let name = |text: &[u8; 24]| text.iter().take_while(|byte| **byte != 0).count();

@@ -76,7 +76,7 @@ fn member_with_size_and_box(rt: HostRuntime) {
     equal(&rt, cursor.read_count(), 7);
 }
 
-// From 2^63-1 to twice that: the maximum passes 64 bits.
+// A box from 2^63-1 to twice that number: the maximum exceeds 64 bits.
 const GREATEST: [u8; 24] = [
     0x01, 0x01, 0xFE, 0xFF, 0xFF, 0xFF, 0xFF, 0xFF, 0xFF, 0xFF, 0xFF, 0x01, 0xFE, 0xFF, 0xFF, 0xFF,
     0xFF, 0xFF, 0xFF, 0xFF, 0xFF, 0x01, 0x00, 0x00,
@@ -144,7 +144,7 @@ fn every_type_byte(rt: HostRuntime) {
     }
 }
 
-// Behind the metadata byte come bytes 0x07: as extended dimensions Z at precision 1 and M at precision 0, as a size 7,
+// After the metadata byte come bytes 0x07: as extended dimensions Z at precision 1 and M at precision 0, as a size 7,
 // and in a box -4 with the width -4.
 fn expected_of(kind: Kind, metadata: u8) -> Head {
     let extended = metadata & 8 != 0;
@@ -274,7 +274,7 @@ fn boxes_hold_vertices(rt: HostRuntime) {
         let vertex = Vertex { x, y, z, m };
         equal(&rt, (bounds.holds(&vertex), vertex), (held, vertex));
     }
-    // A range whose ends are turned round holds nothing.
+    // A range whose lower end is above its upper end holds nothing.
     let vertex = Vertex {
         x: 0,
         y: 0,

@@ -1,4 +1,4 @@
-//! What no clause says: that the answers are those of worked files, and each refused allocation.
+//! Tests of what no contract says of layers: the answers for worked files, and each refused allocation.
 ghost use Rattle.std.specs.Prelude.{◌≡◌};
 
 use super::equal;
@@ -36,7 +36,7 @@ fn certified<'a>(rt: &impl Abort, alloc: Global, bytes: &'a [u8]) -> Certified<'
     }
 }
 
-/// The answer is a layer with so many blobs and vertices, of which each byte was counted once.
+/// The answer is a layer with these numbers of blobs and vertices, of which each byte was counted once.
 fn is_certified(
     rt: &impl Abort,
     answer: Result<Certified, Refusal>,
@@ -67,7 +67,7 @@ fn window(ranges: &Bounds) -> Window {
     window
 }
 
-/// What a place of a room holds before a scan.
+/// The hit in each place of a room before a scan.
 const NOWHERE: Hit = Hit { blob: 9, offset: 9 };
 
 // A scan found the hit of the case, or none, and put no other into the room.

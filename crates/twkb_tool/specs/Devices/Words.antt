@@ -7,7 +7,7 @@ use Rattle.twkb_tool.specs.declared.words.Usage.{Usage}
 use Rattle.twkb_tool.specs.declared.words.Usage.TheVariants.{Words, TooMany, Window as NoWindow, Memory}
 use Rattle.twkb_tool.specs.Words.{IsBadText, IsFirstBad, IsWindow}
 
--- why the text of this number makes no window more: it is none, or it is one and memory ran out
+-- why no window is added for the text of this number: it is no window, or memory ran out
 abbrev pub IsNoWindowMore : ℕ → Text → Usage → Type 0
 IsNoWindowMore number text (NoWindow n why) = (n ≡ number) × IsBadText text why
 IsNoWindowMore number text Memory = (window : Bounds) × IsWindow text window

@@ -8,7 +8,7 @@ mod source;
 pub use sink::MemSink;
 pub use source::MemSource;
 
-/// The numbers of calls, from 1, of which one may have to fail.
+/// The number of the next call, from 1, and the number of the call that has to fail, if one has to.
 #[derive(Clone, Copy)]
 struct Calls {
     next: Option<usize>,
@@ -25,7 +25,7 @@ impl Calls {
         }
     }
 
-    /// Counts a call, and says whether it is the one that fails.
+    /// Counts a call, and returns whether it is the call that fails.
     fn is_next_failing(&mut self) -> bool
         ensures fails { result ≡ is_failing self.old.next self.old.fail_at }
         ensures next { self.new ≡ record self.old { next = number_after self.old.next } }

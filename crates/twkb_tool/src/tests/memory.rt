@@ -1,5 +1,5 @@
-//! Allocations of a run that are refused, each in turn. Those of reading words go through `clap`, which takes `Global` alone:
-//! `tests/refuse_allocations.py` refuses them to the built program.
+//! Allocations of a run that are refused, each in turn. The allocations of reading words go through `clap`, which takes only
+//! `Global`: `tests/refuse_allocations.py` refuses them to the built program.
 ghost use Rattle.twkb_tool.specs.Words.{HoldsWindows};
 
 use super::{TWO_BLOBS, TWO_WINDOWS, TWO_WINDOWS_TEXT, equal, scan_for};
@@ -28,7 +28,7 @@ const FALLING_IDS: &[u8] =
 /// A point whose X and Y have the precision -1.
 const COARSE_POINT: &[u8] = b"\x11\x00\xB6\x40\x00";
 
-/// One run with all its memory from an allocator: whether it answered that memory ran out.
+/// Runs once with all memory from an allocator, and returns whether the answer was that memory ran out.
 fn runs_out<A: Allocator>(
     rt: &impl Abort,
     alloc: Global,
@@ -56,7 +56,7 @@ fn runs_out<A: Allocator>(
     }
 }
 
-/// Refuses each allocation of a run in turn, and then makes the same call again: how many there were.
+/// Refuses each allocation of a run in turn, repeats the run after each refusal, and returns how many allocations there were.
 fn refusals(
     rt: &impl Abort,
     alloc: Global,
@@ -98,7 +98,7 @@ fn refuses_each(
 #[test]
 fn each_allocation_of_a_check_is_refused(rt: HostRuntime) -> Result<(), Fail> {
     let text = "ok blobs=1 vertices=17\n";
-    // At least those for the bytes and the text, and for ids that fall.
+    // There are allocations for the bytes and the text, and for ids that fall.
     refuses_each(&rt, rt.alloc(), SEVENTEEN_IDS, &Request::Check, text, 2)?;
     refuses_each(&rt, rt.alloc(), FALLING_IDS, &Request::Check, text, 3)
 }
@@ -106,7 +106,7 @@ fn each_allocation_of_a_check_is_refused(rt: HostRuntime) -> Result<(), Fail> {
 #[test]
 fn each_allocation_of_a_tight_check_is_refused(rt: HostRuntime) -> Result<(), Fail> {
     let text = "ok blobs=1 vertices=17\n";
-    // At least those for the bytes, the ids and the text.
+    // There are allocations for the bytes, the ids and the text.
     refuses_each(
         &rt,
         rt.alloc(),
@@ -120,14 +120,14 @@ fn each_allocation_of_a_tight_check_is_refused(rt: HostRuntime) -> Result<(), Fa
 #[test]
 fn each_allocation_of_a_list_is_refused(rt: HostRuntime) -> Result<(), Fail> {
     let text = "blob=0 offset=0 bytes=5 type=point precision=-1 vertices=1 size=no box=no\n";
-    // At least those for the bytes, the rows and the text.
+    // There are allocations for the bytes, the rows and the text.
     refuses_each(&rt, rt.alloc(), COARSE_POINT, &Request::List, text, 3)
 }
 
 #[test]
 fn each_allocation_of_a_scan_is_refused(rt: HostRuntime) -> Result<(), Fail> {
     let request = scan_for(&rt, rt.alloc(), &TWO_WINDOWS)?;
-    // At least those for the bytes, the room, the directory and the text.
+    // There are allocations for the bytes, the room, the directory and the text.
     refuses_each(&rt, rt.alloc(), &TWO_BLOBS, &request, TWO_WINDOWS_TEXT, 4)
 }
 

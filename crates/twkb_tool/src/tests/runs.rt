@@ -18,7 +18,7 @@ fn check_each(rt: &impl Abort, alloc: Global, files: &[(&[u8], &str)]) -> Result
     Ok(())
 }
 
-/// Points, and what is no blob.
+/// Points, and bytes that are no blob.
 #[rattlefmt::skip]
 const LAYERS_OF_POINTS: [(&[u8], &str); 15] = [
     // empty layer
@@ -178,7 +178,7 @@ fn collections(rt: HostRuntime) -> Result<(), Fail> {
     check_each(&rt, rt.alloc(), &COLLECTIONS)
 }
 
-/// Ids.
+/// Lists of ids, with and without equal ids.
 #[rattlefmt::skip]
 const ID_LISTS: [(&[u8], &str); 9] = [
     // equal ids

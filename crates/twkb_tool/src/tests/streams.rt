@@ -1,4 +1,4 @@
-//! Sources and sinks that fail, that have no end, and those over real files.
+//! Sources and sinks that fail, that have no end, and that are over real files.
 ghost use Rattle.std.specs.Prelude.{◌≡◌, ◌≤◌, false};
 
 use super::{TWO_BLOBS, TWO_WINDOWS, TWO_WINDOWS_TEXT, equal, scan_for};
@@ -145,7 +145,7 @@ fn a_source_without_end_is_too_large(rt: HostRuntime) -> Result<(), Fail> {
 
 #[test]
 fn a_byte_past_the_limit_ends_the_reading(rt: HostRuntime) -> Result<(), Fail> {
-    // Six bytes in one step or in six, where the seventh call would fail.
+    // Six bytes in one step or in six. The seventh call would fail.
     for step in [6usize, 1] {
         let mut source = MemSource::new(&[1; 6], step, Some(7));
         let mut sink = MemSink::new(rt.alloc(), 100, 1, None)?;
@@ -214,7 +214,7 @@ fn readers_and_writers_fail(rt: HostRuntime) -> Result<(), Fail> {
     Ok(())
 }
 
-/// It takes every byte, and then can't pass them on.
+/// A writer that takes every byte, and fails when it is flushed.
 #[derive(Drop)]
 struct Unflushed;
 

@@ -1,4 +1,4 @@
-//! What words ask for.
+//! The requests that words ask for, and the words that are refused.
 use super::equal;
 use crate::request::Request;
 use crate::status::{HostFault, host_status, usage_status};
@@ -150,7 +150,7 @@ fn sixty_four_windows_are_taken(rt: HostRuntime) -> Result<(), Fail> {
     )
 }
 
-/// Why words ask for nothing.
+/// The reason why words ask for nothing, or `None` if they ask for something.
 fn usage_of(alloc: Global, words: &[&str]) -> Option<Usage> {
     request_of(alloc, words).err()
 }

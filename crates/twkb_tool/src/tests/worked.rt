@@ -1,4 +1,4 @@
-//! Lists and scans of worked files, and what a refused file gives for them.
+//! Lists and scans of worked files, and of files that are refused.
 use super::{answers, scan_for};
 use crate::request::Request;
 use std::test::Fail;

@@ -1,4 +1,4 @@
-//! The lines of the text.
+//! The lines of the text, each pushed piece by piece.
 ghost use Rattle.std.specs.Prelude.{◌≡◌, ℕ, ◌≤◌, ◌++◌, List, OnOk};
 ghost use Rattle.twkb_tool.specs.Output.{ok_line, row_line, hit_line, end_line, no_line, word_of, name_of, yes_no};
 
@@ -6,7 +6,7 @@ use itoa::{Buffer, Integer};
 use std::alloc::{AllocError, Allocator};
 use twkb_layer::{Hit, Kind, Row};
 
-/// The line for a refused file.
+/// Pushes the line for a refused file.
 #[tactic(auto, unfolding(crate::specs::Output::no_line))]
 pub fn push_no_line<A: Allocator>(
     out: &mut Vec<u8, A>,
@@ -24,7 +24,7 @@ pub fn push_no_line<A: Allocator>(
     push_text(out, "\n")
 }
 
-/// The line for a certified layer that is only checked.
+/// Pushes the line for a certified layer that is only checked.
 #[tactic(auto, unfolding(crate::specs::Output::ok_line))]
 pub fn push_ok_line<A: Allocator>(
     out: &mut Vec<u8, A>,
@@ -38,7 +38,7 @@ pub fn push_ok_line<A: Allocator>(
     push_text(out, "\n")
 }
 
-/// The line of a blob in a list.
+/// Pushes the line of a blob in a list.
 #[tactic(auto, unfolding(crate::specs::Output::row_line))]
 pub fn push_row_line<A: Allocator>(out: &mut Vec<u8, A>, row: Row) -> Result<(), AllocError>
     ensures { OnOk result (out.new.items ≡ out.old.items ++ row_line row) }
@@ -54,7 +54,7 @@ pub fn push_row_line<A: Allocator>(out: &mut Vec<u8, A>, row: Row) -> Result<(),
     push_text(out, "\n")
 }
 
-/// The line of a blob that has a vertex inside the window.
+/// Pushes the line of a blob that has a vertex inside the window.
 #[tactic(auto, unfolding(crate::specs::Output::hit_line))]
 pub fn push_hit_line<A: Allocator>(out: &mut Vec<u8, A>, hit: &Hit) -> Result<(), AllocError>
     ensures { OnOk result (out.new.items ≡ out.old.items ++ hit_line hit.now) }
@@ -64,7 +64,7 @@ pub fn push_hit_line<A: Allocator>(out: &mut Vec<u8, A>, hit: &Hit) -> Result<()
     push_text(out, "\n")
 }
 
-/// The line after the hits of a window: how many there are, and how many bytes of how many were read.
+/// Pushes the line after the hits of a window: how many hits there are, and how many bytes of how many were read.
 #[tactic(auto, unfolding(crate::specs::Output::end_line))]
 pub fn push_end_line<A: Allocator>(
     out: &mut Vec<u8, A>,
@@ -127,7 +127,7 @@ fn yes_no(is: bool) -> &'static str
 
 // ---- pieces
 
-/// A name, and a number behind it.
+/// Pushes a name, and a number after it.
 fn push_number<I: Integer, A: Allocator>(
     out: &mut Vec<u8, A>,
     name: &str,
@@ -139,7 +139,7 @@ fn push_number<I: Integer, A: Allocator>(
     push_word(out, name, buffer.format(n))
 }
 
-/// A name, and a word behind it.
+/// Pushes a name, and a word after it.
 fn push_word<A: Allocator>(out: &mut Vec<u8, A>, name: &str, word: &str) -> Result<(), AllocError>
     ensures { OnOk result (out.new.items ≡ out.old.items ++ (name.now ++ word.now)) }
 {

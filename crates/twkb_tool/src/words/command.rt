@@ -74,7 +74,7 @@ fn tight_arg<'a>(alloc: Global) -> Arg<'a>
         .help("Also refuse boxes that are larger than they have to be")
 }
 
-/// It takes any number of values: `scan_of` itself refuses too many windows.
+/// The argument for windows. It takes any number of values, since `scan_of` refuses too many windows.
 fn window_arg<'a>(alloc: Global) -> Arg<'a>
     ensures rule { rule_of result ≡ window_rule }
     ensures local { result.global ≡ false }

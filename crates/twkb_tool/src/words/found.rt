@@ -1,4 +1,4 @@
-//! What `clap` found among the words.
+//! The subcommand, the values and the flags that `clap` found among the words.
 ghost use Rattle.std.specs.Prelude.{◌≡◌, map, option_map, true, false};
 ghost use Rattle.clap.specs.Words.{all_of, first_of, found_of, rows_of, subcommand_rows_of};
 ghost use Rattle.twkb_tool.specs.Words.{IsGiven};

@@ -1,4 +1,4 @@
--- However often it is scanned, the layer keeps its bytes.
+-- The layer keeps its bytes, however often it is scanned.
 use Rattle.std.proofs.Common.{◌≡◌}
 use Rattle.twkb_bench.proofs.timed.best_lookup.Given as goal
 

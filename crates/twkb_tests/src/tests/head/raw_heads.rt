@@ -5,7 +5,7 @@ fn range(minimum: i64, extent: i64) -> RawRange {
     RawRange { minimum, extent }
 }
 
-// The fields of a line in X and Y at precision 0 that says nothing.
+// The fields of a line in X and Y at precision 0, without size, box and ids.
 const BARE: Fields = Fields {
     kind: Kind::LineString,
     axes: Axes {
@@ -37,7 +37,7 @@ fn is_read(rt: &impl Abort, bytes: &[u8], expected: Fields) {
     equal(rt, (cursor.place(), cursor.read_count()), passed);
 }
 
-// A line with a size and a box in X and Y, and bits that mean nothing: with these it is read as without.
+// A line with a size and a box in X and Y, and bits that mean nothing: it is read as without these bits.
 #[test]
 fn bits_that_mean_nothing(rt: HostRuntime) {
     for metadata in [0x03, 0x23, 0xE3] {
@@ -134,8 +134,8 @@ fn headers_have_two_bytes(rt: HostRuntime) {
     }
 }
 
-// What the first two bytes say that audits and skims ask of them: which fields follow, and whether a body does. A refusal to say
-// so would be proved.
+// The questions that audits and skims ask about the first two bytes: which fields follow, and whether a body does. Some of the
+// contracts would also hold if the answer were always no.
 #[test]
 fn every_first_two_bytes(rt: HostRuntime) {
     for first in 0..=255u8 {

@@ -1,4 +1,4 @@
-//! Where a file is malformed at an offset, what stands before that is begun, and no more: cut there, it is cut short.
+//! If a file is malformed at an offset, the bytes before it are a blob that is begun: cut there, the file is cut short.
 //!
 //! This is a part of what `tests/cuts.py` does with all worked files, over the library for other languages.
 use super::depths::deepest;
@@ -36,11 +36,11 @@ const BLOBS: [&[u8]; 17] = [
     &EQUAL_IDS_BEFORE_A_SIZE,
 ];
 
-// Files that are malformed: in what comes of these alone a varint or a sum passes 64 bits.
+// Files that are malformed. Only in variants of these a varint or a sum exceeds 64 bits.
 const MALFORMED: [&[u8]; 3] = [&MANY_IDS_ANNOUNCED, &LONG_COORDINATE, &SUM_PAST_64_BITS];
 
-// How many files were tried, how many of them the plain reader calls malformed, how many were cut, by the kind that was
-// named, and how many of these ended with a blob.
+// How many files were tried, how many of them the plain reader calls malformed, how many were cut at the offset, for each
+// kind that was named, and how many of the cut ones ended with a blob.
 #[derive(Clone, Copy)]
 struct Met {
     tried: usize,
@@ -57,7 +57,7 @@ fn malformation(refusal: Option<Refusal>) -> Option<(usize, usize, u8)> {
     }
 }
 
-// Whether the file ends with a blob where it is cut at the offset. Else it is cut short there.
+// Whether the file, cut at the offset, ends with a blob. If not, it is cut short there.
 fn ends_there(rt: &impl Abort, alloc: Global, bytes: &[u8], blob: usize, offset: usize) -> bool {
     let front = bytes.get(..offset).expect(rt, "the offset is in the file");
     match certify(alloc, Cursor::new(front)) {
@@ -150,7 +150,7 @@ fn what_stands_before_a_malformation_is_cut_short(rt: HostRuntime) -> Result<(),
             judge_variants(&rt, rt.alloc(), file, 255, &mut met)?;
         }
     }
-    // In the deepest blob a collection may stand too deep. Its bytes are set to the kinds, since there are so many.
+    // In the deepest blob a collection may be too deep. Its bytes are only set to the kinds, since it has many bytes.
     let deepest = deepest(rt.alloc())?;
     variants = variants.saturating_add(deepest.len().saturating_mul(8));
     judge_variants(&rt, rt.alloc(), &deepest, 7, &mut met)?;

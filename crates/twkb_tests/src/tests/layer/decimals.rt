@@ -1,4 +1,4 @@
-//! Ranges of decimals: what their ends are in units.
+//! Ranges of decimals, and their ends in units.
 use super::equal;
 use twkb_layer::{BadRange, Span, span_of_decimals};
 

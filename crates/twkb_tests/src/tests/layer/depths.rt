@@ -14,12 +14,12 @@ use twkb_layer::{
     Bounds, Certified, Cursor, Directory, Hit, Kind, Refusal, Row, certify, certify_tight,
 };
 
-/// The whole blob: its points stand at depth 64, and their collections at 63.
+/// The deepest blob: its points are at depth 64, and their collections at depth 63.
 pub fn deepest(alloc: Global) -> Result<Vec<u8>, AllocError> {
     nested(alloc, 61, &TWO_COLLECTIONS)
 }
 
-// The deepest blob with a box round all of it, and a point at (1 2) behind it.
+// The deepest blob with a box round all of it, and a point at (1 2) after it.
 fn boxed_and_a_point(alloc: Global) -> Result<Vec<u8>, AllocError> {
     let mut bytes = Vec::new(alloc);
     bytes.extend_from_slice(&[0x07, 0x01, 0x02, 0x12, 0x04, 0x10, 0x01])?;
@@ -61,7 +61,7 @@ fn no(offset: usize, kind: u8) -> Option<Refusal> {
     })
 }
 
-// Where a byte of the deepest blob is another, and what it is then refused for.
+// The place and the value of a byte that is changed in the deepest blob, and the offset and the kind of the refusal.
 const CHANGES: [(usize, u8, usize, u8); 9] = [
     // The size of a collection at depth 63, one less and one more.
     (188, 0x0D, 188, 6),
@@ -74,7 +74,7 @@ const CHANGES: [(usize, u8, usize, u8); 9] = [
     // A box from 11 to 11 at depth 63, and at depth 64.
     (189, 0x16, 189, 7),
     (197, 0x16, 197, 7),
-    // A collection where a point stood.
+    // A collection in place of a point.
     (215, 0x07, 215, 4),
 ];
 
@@ -108,8 +108,8 @@ fn rows(rt: HostRuntime) -> Result<(), Fail> {
     Ok(())
 }
 
-// A window over the deepest blob with a box and the point behind it: how many hits, the first of them, and the bytes that
-// are read without a directory and with one.
+// A window over the deepest blob with a box and the point after it: how many hits there are, the first of them, and the
+// bytes that are read without a directory and with one.
 #[derive(Clone, Copy)]
 struct Expected {
     ranges: Bounds,
@@ -136,12 +136,12 @@ fn case_of(ranges: Bounds, hits: usize, read: u64, read_by_directory: u64) -> Ex
 
 fn cases() -> [Expected; 4] {
     [
-        // The boxes at depths 63 and 64 miss it: ten bytes behind the one and two behind the other aren't read.
+        // The boxes at depths 63 and 64 miss it: ten bytes after the one and two after the other aren't read.
         case_of(flat((0, 5), (0, 5)), 2, 215, 215),
-        // The box of the blob meets it, and those below miss it.
+        // The box of the blob meets it, and the boxes below miss it.
         case_of(flat((3, 4), (3, 4)), 0, 215, 215),
         case_of(flat((10, 10), (10, 10)), 1, 227, 227),
-        // The box of the blob misses it; without a size that is hopped over with a directory alone.
+        // The box of the blob misses it. Without a size the blob is hopped over only with a directory.
         case_of(flat((20, 30), (0, 5)), 0, 215, 4),
     ]
 }

@@ -78,7 +78,7 @@ fn equal_bytes(rt: HostRuntime) {
     equal(&rt, found, 1);
 }
 
-// The directory stays the layer's from scan to scan.
+// One directory is used for many windows.
 #[test]
 fn many_windows(rt: HostRuntime) {
     let mut layer = certified(&rt, rt.alloc(), &TWO_BLOBS);

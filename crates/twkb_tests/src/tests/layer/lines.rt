@@ -1,4 +1,4 @@
-//! Lines behind a blob with a vertex inside, which a scan looks at without a hop, against the plain reader.
+//! Lines after a blob with a vertex inside, which a scan looks at without a hop, against the plain reader.
 use super::plain_scans::{directory_scan_agrees, plain_layer, scan_agrees};
 use super::worked::{flat, with_z};
 use super::{certified, equal};
@@ -40,7 +40,7 @@ const SEVEN_BYTES: [u8; 37] = [
     0xFF, 0xFF, 0xFF, 0x0F, 0x00,
 ];
 
-/// A line of which a point takes two times five bytes.
+/// A line with a point whose two numbers take five bytes each.
 const FIVE_AND_FIVE: [u8; 43] = [
     0x01, 0x02, 0x02, 0x02, 0x02, 0x02, 0x03, 0x23, 0x02, 0xFE, 0xFF, 0xFF, 0xFF, 0x07, 0x02, 0xFE,
     0xFF, 0xFF, 0xFF, 0x07, 0x03, 0x02, 0x02, 0xFE, 0xFF, 0xFF, 0xFF, 0x07, 0xFE, 0xFF, 0xFF, 0xFF,
@@ -72,12 +72,12 @@ const NO_POINTS: [u8; 13] = [
     0x01, 0x02, 0x02, 0x02, 0x02, 0x02, 0x03, 0x05, 0x02, 0x08, 0x02, 0x08, 0x00,
 ];
 
-/// A line with a size alone.
+/// A line with a size and no box.
 const NO_BOX: [u8; 13] = [
     0x01, 0x02, 0x02, 0x02, 0x02, 0x02, 0x02, 0x05, 0x02, 0x02, 0x02, 0x08, 0x08,
 ];
 
-/// A line with a box alone.
+/// A line with a box and no size.
 const NO_SIZE: [u8; 16] = [
     0x01, 0x02, 0x02, 0x02, 0x02, 0x02, 0x01, 0x02, 0x08, 0x02, 0x08, 0x02, 0x02, 0x02, 0x08, 0x08,
 ];
@@ -127,7 +127,7 @@ fn layers() -> [(&'static [u8], usize); 16] {
     ]
 }
 
-/// A window with all that 64 bits have at any precision.
+/// A window with all coordinates of 64 bits at any precision.
 fn everything() -> Bounds {
     flat((-(1 << 80), 1 << 80), (-(1 << 80), 1 << 80))
 }
@@ -169,7 +169,7 @@ fn first_or_later(rt: HostRuntime) {
     equal(&rt, by_the_point_alone, 1);
 }
 
-/// How many blobs a scan finds, without a directory and with one: those that the plain reader does, for as many bytes.
+/// Scans without a directory and with one find the plain reader's blobs and read as many bytes. Returns how many they find.
 fn agrees(rt: &impl Abort, alloc: Global, bytes: &[u8], ranges: &Bounds) -> usize {
     let mut layer = certified(rt, alloc, bytes);
     let plain = plain_layer(rt, alloc, bytes);

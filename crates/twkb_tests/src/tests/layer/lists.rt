@@ -81,14 +81,14 @@ fn rows_of_one_blob(rt: HostRuntime) {
     }
 }
 
-/// The list of the layer is this row alone.
+/// The list of the layer is only this row.
 pub fn has_one_row(rt: &impl Abort, alloc: Global, bytes: &[u8], row: Row) {
     let mut layer = certified(rt, alloc, bytes);
     let rows = layer.list(alloc).expect(rt, "there is memory");
     equal(rt, rows.as_slice(), [row].as_slice());
 }
 
-// The row of the first blob, where it has neither a size nor a box.
+// The row of the first blob, if it has neither a size nor a box.
 fn plain_row(kind: Kind, precision: i8, bytes: usize, vertices: usize) -> Row {
     Row {
         blob: 0,
@@ -102,7 +102,7 @@ fn plain_row(kind: Kind, precision: i8, bytes: usize, vertices: usize) -> Row {
     }
 }
 
-// What a place of a room holds before a list.
+// The row in each place of a room before a list.
 const NOTHING: Row = Row { blob: 9, ..POINT };
 
 #[test]

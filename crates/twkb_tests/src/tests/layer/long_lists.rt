@@ -1,4 +1,4 @@
-//! Lists of a thousand ids: in rising order, in orders that aren't, and with two that are equal.
+//! Lists of a thousand ids: in rising order, in other orders, and with two equal ids.
 use super::worked::{FALLING_IDS, SEVENTEEN_IDS};
 use super::{equal, is_certified};
 use refusing::Refusing;
@@ -12,7 +12,7 @@ use twkb_layer::{
 
 const MANY: u64 = 1000;
 
-// A list of a thousand members, each with one vertex: what begins it, and a member.
+// A list of a thousand members, each with one vertex: the bytes that begin it, and the bytes of a member.
 #[derive(Clone, Copy, Debug)]
 struct List {
     head: [u8; 4],
@@ -37,17 +37,17 @@ const LISTS: [List; 3] = [
     },
 ];
 
-// Where the list's first id is: behind a point of four bytes, and the four bytes before the ids.
+// The place of the list's first id: after a point of four bytes, and the four bytes before the ids.
 const FIRST_ID: usize = 8;
 
-// The ids from 0 to 999: the one at a place is so many times the place, without the thousands.
+// Steps that give the ids from 0 to 999: the id at a place is the step times the place, modulo 1000.
 const RISING: u64 = 1;
 
 const MIXED: u64 = 37;
 
 const FALLING: u64 = 999;
 
-// Which ids, and which place has the id of which other one; none has, where they are the same.
+// The step of the ids, and a place with the id of another place. If the two are one place, all ids differ.
 #[derive(Clone, Copy, Debug)]
 struct Ids {
     step: u64,
@@ -96,7 +96,7 @@ fn different_ids_are_certified(rt: HostRuntime) -> Result<(), Fail> {
     Ok(())
 }
 
-// Two places with one id: neighbors, the first and the last, and two between.
+// Two places with equal ids: neighbors, the first and the last, and two between.
 const EQUAL: [(u64, u64); 6] = [
     (1, 0),
     (999, 0),
@@ -139,7 +139,7 @@ fn refusal_in<A: Allocator>(memory: &A, bytes: &[u8], is_tight: bool) -> Option<
     }
 }
 
-/// How many growths there are, each refused in turn, until a run that meets no refusal gives the answer.
+/// How many times memory grows. Each growth is refused in turn, until a run without a refusal gives the answer.
 pub fn growths(
     rt: &impl Abort,
     alloc: Global,

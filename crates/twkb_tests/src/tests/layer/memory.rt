@@ -7,7 +7,7 @@ use std::alloc::Allocator;
 use std::process::Abort;
 use twkb_layer::{Certified, Cursor, Directory, Refusal, certify_in, certify_tight_in};
 
-/// One certification with all its memory from an allocator: whether it answered that memory ran out.
+/// Certifies once with all memory from an allocator, and returns whether the answer was that memory ran out.
 fn runs_out<A: Allocator>(rt: &impl Abort, memory: &A, bytes: &[u8]) -> bool {
     match certify_in(memory, Cursor::new(bytes)) {
         Ok(layer) => {
@@ -40,13 +40,13 @@ fn each_allocation_is_refused(rt: HostRuntime) {
     assert!(rt; 0 < refusals && refusals < 100, "{refusals}");
 }
 
-// A multipoint that announces a thousand and one ids, and has sixteen, as many as need no memory.
+// A multipoint that announces 1001 ids and has sixteen, the most that need no memory.
 const SIXTEEN_OF_MANY: [u8; 20] = [
     0x04, 0x04, 0xE9, 0x07, 0x00, 0x02, 0x04, 0x06, 0x08, 0x0A, 0x0C, 0x0E, 0x10, 0x12, 0x14, 0x16,
     0x18, 0x1A, 0x1C, 0x1E,
 ];
 
-// As many points as a count can announce, without ids: none of them there, and two.
+// As many points as a count can announce, without ids: with no point there, and with two.
 const MANY_POINTS: [u8; 12] = [
     0x04, 0x00, 0xFF, 0xFF, 0xFF, 0xFF, 0xFF, 0xFF, 0xFF, 0xFF, 0xFF, 0x01,
 ];
@@ -55,8 +55,8 @@ const TWO_OF_MANY_POINTS: [u8; 16] = [
     0x04, 0x00, 0xFF, 0xFF, 0xFF, 0xFF, 0xFF, 0xFF, 0xFF, 0xFF, 0xFF, 0x01, 0x02, 0x02, 0x02, 0x02,
 ];
 
-// As many points announced of a linestring and of the second ring of a polygon, and as many members of a collection, of which
-// one is there.
+// As many points as a count can announce, in a line and in the second ring of a polygon, and as many members of a collection,
+// of which one is there.
 const MANY_POINTS_OF_A_LINE: [u8; 12] = [
     0x02, 0x00, 0xFF, 0xFF, 0xFF, 0xFF, 0xFF, 0xFF, 0xFF, 0xFF, 0xFF, 0x01,
 ];
@@ -95,7 +95,7 @@ fn counts_take_no_memory(rt: HostRuntime) {
     }
 }
 
-// One list of two blobs with all its memory from an allocator: whether that was refused. A refusal comes before any
+// Lists two blobs with all memory from an allocator, and returns whether memory was refused. A refusal comes before any
 // byte is read.
 fn list_runs_out<A: Allocator>(rt: &impl Abort, memory: &A, layer: &mut Certified) -> bool {
     let before = layer.read_count();
@@ -135,12 +135,12 @@ fn refused_lists_may_be_repeated(rt: HostRuntime) {
     assert!(rt; 0 < refusals && refusals < 100, "{refusals}");
 }
 
-// One directory of two blobs with all its memory from an allocator: whether that was refused.
+// Builds a directory of two blobs with all memory from an allocator, and returns whether memory was refused.
 fn directory_runs_out<A: Allocator>(rt: &impl Abort, memory: &A, layer: &mut Certified) -> bool {
     let before = layer.read_count();
     match Directory::build_in(memory, layer) {
         Ok(directory) => {
-            // Of the line, which has a size, the seven bytes of the header are read, and of the point all eight.
+            // The line has a size, so only the seven bytes of its header are read. All eight bytes of the point are read.
             equal(rt, layer.read_count().saturating_sub(before), 15);
             let found = directory.scan(layer, &window(&flat((0, 10), (0, 10))), &mut []);
             equal(rt, found, 2);

@@ -36,7 +36,7 @@ impl Visit for Northernmost {
     }
 }
 
-/// The greatest Y of a layer's vertices, and how many bytes were read to find it, where it isn't below `least`.
+/// Finds the greatest Y of a layer's vertices, or `least` if all are below it, and checks how many bytes were read.
 fn found(rt: &impl Abort, alloc: Global, bytes: &[u8], least: i128, greatest: i128, read: u64) {
     let mut layer = certified(rt, alloc, bytes);
     let before = layer.read_count();
@@ -46,7 +46,7 @@ fn found(rt: &impl Abort, alloc: Global, bytes: &[u8], least: i128, greatest: i1
     equal(rt, layer.read_count() - before, read);
 }
 
-// A line from (1, 1) to (5, 5) with a size and a box, and a point (10, 10) with a box alone.
+// A line from (1, 1) to (5, 5) with a size and a box, and a point (10, 10) with a box and no size.
 #[test]
 fn all_is_read_where_no_box_is_low(rt: HostRuntime) {
     found(&rt, rt.alloc(), &TWO_BLOBS, i128::MIN, 100_000_000, 20);

@@ -1,4 +1,4 @@
-//! The plain reader itself, on the worked scans: other tests stand on it.
+//! The plain reader itself, on the worked scans: other tests rely on it.
 ghost use Rattle.std.specs.Prelude.{◌≡◌};
 ghost use Rattle.twkb_layer.specs.Directory.{IsDirectoryOf};
 
@@ -35,7 +35,7 @@ pub fn plain_hits(plain: &Layer, ranges: &Bounds) -> (Room, usize) {
     (room, found)
 }
 
-/// What the plain reader makes of a certified layer.
+/// The layer that the plain reader reads from the bytes of a certified layer.
 pub fn plain_layer(rt: &impl Abort, alloc: Global, bytes: &[u8]) -> Layer {
     match read_layer(alloc, bytes) {
         Ok(layer) => layer,
@@ -43,7 +43,7 @@ pub fn plain_layer(rt: &impl Abort, alloc: Global, bytes: &[u8]) -> Layer {
     }
 }
 
-/// How many blobs a scan without a directory finds: those that the plain reader does, for as many bytes.
+/// A scan without a directory finds the plain reader's blobs and reads as many bytes as it says. Returns how many blobs it finds.
 pub fn scan_agrees(rt: &impl Abort, plain: &Layer, layer: &mut Certified, ranges: &Bounds) -> usize
     ensures { layer.new.bytes ≡ layer.old.bytes }
 {
@@ -54,7 +54,7 @@ pub fn scan_agrees(rt: &impl Abort, plain: &Layer, layer: &mut Certified, ranges
     found
 }
 
-/// A scan with a directory finds what the plain reader does, for as many bytes.
+/// A scan with a directory finds the plain reader's blobs and reads as many bytes as the plain reader says.
 pub fn directory_scan_agrees(
     rt: &impl Abort,
     plain: &Layer,
@@ -73,7 +73,7 @@ pub fn directory_scan_agrees(
     is_as_plain(rt, plain, ranges, (room, found), (layer.read_count(), read));
 }
 
-// The hits are those that the plain reader finds, and the two counts of bytes are equal.
+// The hits are the hits that the plain reader finds, and the two counts of bytes are equal.
 fn is_as_plain(
     rt: &impl Abort,
     plain: &Layer,

@@ -14,7 +14,7 @@ const LAYERS: u64 = 1000;
 
 const WINDOWS: u64 = 8;
 
-// What was met, so that no run tests nothing.
+// What the layers and the scans had, so that a run that tests too little fails.
 #[derive(Clone, Copy, Debug)]
 struct Met {
     kinds: [usize; 7],
@@ -107,7 +107,7 @@ fn agrees(rt: &impl Abort, alloc: Global, seed: u64, bytes: &[u8], met: &mut Met
     }
 }
 
-// A vertex of the layer, or a corner of a box; the origin where there is none.
+// A vertex of the layer, or a corner of a box, or the origin if there is neither.
 fn place(dice: &mut Dice, plain: &Layer) -> Vertex {
     let origin = Vertex {
         x: 0,

@@ -1,4 +1,4 @@
-//! Windows in raw integers, and boxes on each side of where a directory compares these.
+//! Windows in raw integers, with boxes whose ends a directory keeps in raw integers and boxes whose ends it doesn't.
 use super::{certified, equal, window};
 use std::alloc::Global;
 use std::process::Abort;
@@ -23,7 +23,7 @@ fn in_units(x: (i128, i128), y: (i128, i128)) -> Bounds {
     }
 }
 
-// A point with a size and a box, at this number in X and at 0 in Y. Of both spellings of the number each takes ten bytes.
+// A point with a size and a box, at this number in X and at 0 in Y. Each of the two spellings of the number takes ten bytes.
 fn point_at(first: u8, x: i64) -> [u8; 27] {
     let mut point = [0; 27];
     point[0] = first;
@@ -40,8 +40,8 @@ fn point_at(first: u8, x: i64) -> [u8; 27] {
     point
 }
 
-// The first byte of a point, the ends of a window in X, and the least and the greatest number of such points inside. Where the
-// least is above the greatest there is none.
+// The first byte of a point, the ends of a window in X, and the least and the greatest number of such points inside. If the
+// least is above the greatest, there is none.
 const ROUNDED: [(u8, i128, i128, i64, i64); 19] = [
     (0xE1, -3, 5, -3, 5),
     (0xC1, -20, 20, -2, 2),
@@ -51,7 +51,7 @@ const ROUNDED: [(u8, i128, i128, i64, i64); 19] = [
     (0xC1, -19, -11, -1, -2),
     (0xF1, 1, 1_000_000_000_000_000, 1, 1),
     (0xF1, -1, -1, 0, -1),
-    // On each side of where a division has 64 bits.
+    // Ends at which a division has 64 bits, and ends just beyond them.
     (0xE1, LEAST, GREATEST, i64::MIN, i64::MAX),
     (0xC1, LEAST, GREATEST, -TENTH, TENTH),
     (0xC1, LEAST - 1, GREATEST + 1, -TENTH, TENTH),

@@ -34,7 +34,7 @@ const BOX_AT_ANOTHER_PRECISION: [u8; 11] = [
 
 const NOTHING_IN_LESS_THAN_NOTHING: [u8; 7] = [0x02, 0x01, 0x02, 0x01, 0x00, 0x00, 0x00];
 
-// What each of the two calls answers.
+// The answers of the plain call and of the tight one.
 #[test]
 fn layers_are_refused(rt: HostRuntime) {
     let table: [(&[u8], Option<Refusal>, Option<Refusal>); 8] = [
@@ -78,7 +78,7 @@ const LOOSE_IN_THE_SECOND: [u8; 13] = [
     0x01, 0x00, 0x02, 0x04, 0x01, 0x03, 0x06, 0x02, 0x00, 0x02, 0x02, 0x02, 0x04,
 ];
 
-// The first of the lines, and a point with a false size.
+// A line with a loose box from 0 to 5 in X, and a point with a false size.
 const LOOSE_BEFORE_A_FALSE_SIZE: [u8; 16] = [
     0x02, 0x01, 0x00, 0x0A, 0x02, 0x08, 0x02, 0x02, 0x02, 0x08, 0x08, 0x01, 0x02, 0x03, 0x02, 0x04,
 ];
@@ -88,7 +88,7 @@ const BOX_THAT_IS_FALSE: [u8; 12] = [
     0x02, 0x03, 0x09, 0x02, 0x06, 0x02, 0x08, 0x02, 0x02, 0x02, 0x08, 0x08,
 ];
 
-// Seventeen ids, and the last of them is the first.
+// Seventeen ids, of which the last is equal to the first.
 const EQUAL_IDS: [u8; 54] = [
     0x04, 0x04, 0x11, 0x00, 0x02, 0x04, 0x06, 0x08, 0x0A, 0x0C, 0x0E, 0x10, 0x12, 0x14, 0x16, 0x18,
     0x1A, 0x1C, 0x1E, 0x00, 0, 0, 0, 0, 0, 0, 0, 0, 0, 0, 0, 0, 0, 0, 0, 0, 0, 0, 0, 0, 0, 0, 0, 0,
@@ -103,7 +103,7 @@ fn each_allocation_is_refused(rt: HostRuntime) {
     }
 }
 
-/// What the plain reader refuses of a layer, blob by blob.
+/// The refusal that the plain reader gives for a layer, read blob by blob.
 pub fn plain_refusal(alloc: Global, bytes: &[u8], is_tight: bool) -> Option<Refusal> {
     let mut left = bytes;
     let mut start = 0usize;
@@ -147,7 +147,7 @@ fn refusal(blob: usize, start: usize, fault: Fault) -> Refusal {
     }
 }
 
-// Layers of these seeds, each as it is and with one byte changed so many times.
+// How many seeds there are layers of. Each layer is tried as it is, and `CHANGES` times with one byte changed.
 const LAYERS: u64 = 1000;
 
 const CHANGES: u64 = 20;

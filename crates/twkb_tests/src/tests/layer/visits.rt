@@ -4,7 +4,7 @@ use super::{certified, equal};
 use twkb_body::Summary;
 use twkb_layer::{Bounds, Vertex, Visit};
 
-// Counts what it is shown, and skips every box. Its contract says nothing of the count.
+// Counts the vertices that it is shown, and skips every box. Its contract says nothing of the count.
 #[derive(Drop)]
 struct Counter {
     shown: usize,
@@ -32,7 +32,7 @@ impl Visit for Counter {
     }
 }
 
-// How many vertices a visitor is shown, and how many bytes are read: all, since it skips no box.
+// A visitor that skips no box is shown all vertices, and all bytes are read.
 #[test]
 fn all_vertices_of_all_blobs(rt: HostRuntime) {
     let table: [(&[u8], usize); 4] = [
@@ -53,7 +53,7 @@ fn all_vertices_of_all_blobs(rt: HostRuntime) {
     }
 }
 
-// Of a line with a size and a box its header of 7 bytes is read, of a point without a size all of its 8.
+// Only the 7 bytes of the header are read of a line with a size and a box, and all 8 bytes of a point without a size.
 #[test]
 fn a_visitor_that_skips_is_led_past(rt: HostRuntime) {
     let mut layer = certified(&rt, rt.alloc(), &TWO_BLOBS);

@@ -68,7 +68,7 @@ pub const Z_IN_THE_BOX_ALONE: [u8; 14] = [
     0x07, 0x09, 0x01, 0x00, 0x02, 0x00, 0x02, 0x14, 0x00, 0x01, 0x01, 0x00, 0x02, 0x02,
 ];
 
-/// A multipoint with seventeen ids, one more than are held without memory.
+/// A multipoint with seventeen ids, one more than an audit holds without memory.
 pub const SEVENTEEN_IDS: [u8; 54] = [
     0x04, 0x04, 0x11, 0x00, 0x02, 0x04, 0x06, 0x08, 0x0A, 0x0C, 0x0E, 0x10, 0x12, 0x14, 0x16, 0x18,
     0x1A, 0x1C, 0x1E, 0x20, 0, 0, 0, 0, 0, 0, 0, 0, 0, 0, 0, 0, 0, 0, 0, 0, 0, 0, 0, 0, 0, 0, 0, 0,
@@ -131,11 +131,11 @@ pub fn flat_cases() -> [Case; 23] {
         scan_of(&EMPTY_BOXED_POINT, flat((0, 1), (0, 1)), None, (6, 0)),
         scan_of(&EMPTY_POINT, flat((0, 1), (0, 1)), None, (2, 2)),
         scan_of(&TWO_LINES, flat((3, 3), (3, 3)), first, (11, 11)),
-        // A range upside down has nothing inside. A box misses it where it is below the one end or above the other.
+        // A range upside down has nothing inside. A box misses it if it is below the lower bound or above the upper bound.
         scan_of(&PUBLISHED_LINE, flat((5, 1), (1, 5)), None, (7, 7)),
         scan_of(&BOXED_LINE, flat((1, 5), (9, 0)), None, (7, 0)),
         scan_of(&BOXED_LINE, flat((4, 2), (1, 5)), None, (12, 12)),
-        // Before the first point there is no word that ends with it. The last one's X takes five bytes.
+        // No word of eight bytes ends with the first point. The last point's X takes five bytes.
         scan_of(&SIZED_POINTS, flat((1, 1), (2, 2)), first, (10, 10)),
         scan_of(&SIZED_POINTS, flat((3, 3), (-4, -4)), hit(1, 5), (10, 10)),
         scan_of(&SIZED_POINTS, flat((2, 2), (-9, 9)), None, (10, 10)),

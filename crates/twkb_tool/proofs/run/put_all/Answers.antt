@@ -1,4 +1,4 @@
--- What the sink took is put, and the rest is still to be.
+-- The part of the text that the sink took is put, and the rest follows.
 use Rattle.twkb_tool.proofs.StreamLemmas.{Takes-on}
 use Rattle.twkb_tool.proofs.run.put_all.Goals as goal
 

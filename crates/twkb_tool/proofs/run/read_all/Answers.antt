@@ -1,4 +1,4 @@
--- A piece more is held, and nothing else was given.
+-- Each turn holds one more piece, and nothing else was given.
 use Rattle.std.proofs.Common.{take, arith, length-take}
 use Rattle.twkb_tool.proofs.StreamLemmas.{Gives-more}
 use Rattle.twkb_tool.proofs.run.read_all.Goals as goal

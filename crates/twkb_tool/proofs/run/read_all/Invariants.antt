@@ -1,4 +1,4 @@
--- The buffer holds what the source gave, at most one byte past the limit, and no call has failed.
+-- The buffer holds the bytes that the source gave, at most one byte past the limit, and no call has failed.
 use Rattle.std.proofs.Common.{◌≡◌, false, take, ◌-◌, ◌+◌, ◌≤◌, vec_len}
 use Rattle.twkb_tool.specs.Streams.{Gives}
 use Rattle.twkb_tool.proofs.run.read_all.Given as goal

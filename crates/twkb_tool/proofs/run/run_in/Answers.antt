@@ -1,4 +1,4 @@
--- What a run leaves, by its answer: all is read and put, or it says where it stopped and what was put until then.
+-- By its answer, a run has read and put everything, or it stopped while reading or writing.
 use Rattle.std.proofs.Common.{rules}
 use Rattle.twkb_tool.proofs.run.run_in.Goals as goal
 

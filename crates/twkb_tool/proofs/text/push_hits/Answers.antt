@@ -1,4 +1,4 @@
--- One hit more is one line more.
+-- Each turn pushes the line of one more hit.
 use Rattle.twkb_tool.proofs.TextLemmas.{lines_more}
 use Rattle.twkb_tool.specs.Output.{hit_line}
 use Rattle.twkb_tool.proofs.text.push_hits.Goals as goal

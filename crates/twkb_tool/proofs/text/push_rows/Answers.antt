@@ -1,4 +1,4 @@
--- One row more is one line more.
+-- Each turn pushes the line of one more row.
 use Rattle.twkb_tool.proofs.TextLemmas.{lines_more}
 use Rattle.twkb_tool.specs.Output.{row_line}
 use Rattle.twkb_tool.proofs.text.push_rows.Goals as goal

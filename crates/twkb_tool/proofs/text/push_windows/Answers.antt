@@ -1,4 +1,4 @@
--- One window more is its lines more, and no more bytes read than there are.
+-- Each turn pushes the lines of one more window, and its scan reads no more bytes than the layer has.
 use Rattle.std.proofs.Common.{◌≡◌, ◌∙◌, ◌++◌, ap, sym, subst, arith, length}
 use Rattle.twkb_head.specs.declared.boxes.Bounds.{Bounds}
 use Rattle.twkb_layer.specs.Directory.{directory_cost}

@@ -1,4 +1,4 @@
--- The forms that are known parse, and come to the request that they name.
+-- Words of a known form parse, and have the request that they name.
 use Rattle.std.proofs.Common.{arith}
 use Rattle.std.proofs.lemmas.List.{length-map}
 use Rattle.twkb_tool.proofs.LineLemmas.{check_line, list_line, scan_line, tight_behind_line, tight_line}

@@ -1,4 +1,4 @@
-//! A source over std's `Read`, which doesn't state its bytes.
+//! [`FromReader`], a source over std's `Read`, which doesn't state its bytes.
 ghost use Rattle.std.specs.Prelude.{◌≡◌, false};
 
 use crate::streams::{Source, SourceFailed};

@@ -1,4 +1,4 @@
-//! A sink over std's `Write`, which doesn't state its bytes.
+//! [`ToWriter`], a sink over std's `Write`, which doesn't state its bytes.
 ghost use Rattle.std.specs.Prelude.{◌≡◌, false};
 
 use crate::streams::{Sink, SinkFailed};

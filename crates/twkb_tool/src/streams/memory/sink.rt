@@ -1,4 +1,4 @@
-//! A sink over memory.
+//! [`MemSink`], a sink over memory.
 ghost use Rattle.std.specs.Prelude.{◌≡◌, ◌<◌, ◌≤◌, ◌-◌, min, length, [], take, IfOk, OnOk, OnErr, true, false, is_err};
 ghost use Rattle.std.specs.Result.{result_unwrap_or};
 ghost use Rattle.twkb_tool.specs.Memory.{is_failing, number_after, puts_fail};

@@ -1,4 +1,4 @@
-//! A source over memory.
+//! [`MemSource`], a source over memory.
 ghost use Rattle.std.specs.Prelude.{◌≡◌, ◌<◌, ◌≤◌, min, length, [], take, IfOk, OnOk, OnErr, IsTrue, true, false, is_err};
 ghost use Rattle.twkb_tool.specs.Memory.{is_failing, number_after};
 ghost use Rattle.twkb_tool.specs.Streams.{Gives};

@@ -1,4 +1,4 @@
--- What was audited is certified, so it may be skimmed.
+-- A blob that was audited is certified, so it may be skimmed.
 use Rattle.std.proofs.Common.{◌≡◌, sym, subst, ◌∙◌}
 use Rattle.twkb_num.specs.Cursor.{Reading}
 use Rattle.twkb_body.specs.Standing.{StandsAt}

@@ -1,4 +1,4 @@
--- A text that is no window has no form, or an order that is wrong.
+-- A text that is no window doesn't have the form of one, or has a range out of order.
 use Rattle.twkb_tool.proofs.WindowLemmas.{bad_text}
 use Rattle.twkb_tool.proofs.words.windows.window_of.Goals as goal
 

@@ -1,4 +1,4 @@
--- One text more is a window; the first that is none is named.
+-- Each turn reads one more text as a window; the first that is none is named.
 use Rattle.std.proofs.Common.{ap, arith, length, length-append, [], ◌∷◌}
 use Rattle.std.proofs.lemmas.Result.{err_from_is_err_and}
 use Rattle.twkb_tool.proofs.WindowLemmas.{no_windows, windows_more}

@@ -1,4 +1,4 @@
--- It is the default's.
+-- The proof is the default method's.
 use Rattle.std.proofs.Common.{◌≡◌, ℤ, sym, ap, ◌∙◌, arith}
 use Rattle.std.proofs.lemmas.Int.{ints}
 use mir.Val.{to_z, of_z}

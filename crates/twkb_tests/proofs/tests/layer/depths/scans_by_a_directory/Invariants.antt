@@ -1,4 +1,4 @@
--- The directory stays the layer's from scan to scan.
+-- The directory is one of the layer, from scan to scan.
 use Rattle.twkb_layer.specs.Directory.{IsDirectoryOf}
 use Rattle.twkb_tests.proofs.tests.layer.depths.scans_by_a_directory.Given as goal
 
