@@ -12,7 +12,7 @@ EXAMPLES = {
 }
 BARE_POINTS = "bare points"
 BARE_LINES = "bare lines"
-BARE_PARTS = "bare polygons and multilines"
+BARE_PARTS = "bare polygons and multilinestrings"
 IDS = "lists with ids"
 LONG = "long lines"
 KINDS = [*EXAMPLES, BARE_POINTS, BARE_LINES, BARE_PARTS, IDS, LONG]

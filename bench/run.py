@@ -26,14 +26,14 @@ from rounds import Rounds
 TIMED, COUNTED = 40_000_000, 4_000_000
 ONE_EUROPE, ONE_INDIES = "x=10..30,y=35..45", "x=100..140,y=-10..10"
 WHOLE, NOTHING = "x=-360..360,y=-360..360", "x=10..30,y=85..89"
-MISSED = "hop scan that hits nothing"
+MISSED = "hop scan without a hit"
 STEPS = {
     "hop scan, 20 by 10 degrees": ONE_EUROPE,
     "hop scan, 40 by 20 degrees": ONE_INDIES,
     MISSED: NOTHING,
     "scan of everything": WHOLE,
 }
-BUILD, LOOKUP = "building a directory", "directory scan that hits nothing"
+BUILD, LOOKUP = "building a directory", "directory scan without a hit"
 # How many blobs of coast_lines_sized PostGIS finds in a window.
 POSTGIS = {ONE_EUROPE: 44, ONE_INDIES: 158, NOTHING: 0}
 
@@ -246,7 +246,7 @@ def table_of_scans(found, folder, runs):
         over_fast |= {f"{step}, {kind}": rounds[step].over_fast() for step in STEPS}
         rate = min(rounds[MISSED].ours) / min(rounds[LOOKUP].ours)
         notes.append(f"{kind}: {bytes_a_blob(found, folder, kind):.0f} bytes a blob in a directory, "
-                     f"whose scan that hits nothing has {rate:.1f} times the rate of the hop scan")
+                     f"whose scan without a hit has {rate:.1f} times the rate of the hop scan")
     return notes, over_fast
 
 

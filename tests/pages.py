@@ -112,7 +112,7 @@ STEPS = (
     ("certify", "the mix", "", True),
     ("scan for `x=10..30,y=35..45`", "hop scan, 20 by 10 degrees", "the mix", True),
     ("make a directory, once", "building a directory", "the mix", False),
-    ("scan with it for `x=10..30,y=85..89`, no hit", "directory scan that hits nothing", "the mix", False),
+    ("scan with it for `x=10..30,y=85..89`, no hit", "directory scan without a hit", "the mix", False),
 )
 
 
