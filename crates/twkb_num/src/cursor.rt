@@ -13,37 +13,38 @@ use std::marker::Model;
 
 /// A position in bytes, and a count of the bytes read, which saturates at `u64::MAX`.
 ///
-/// Every byte that a caller learns of is counted: a call counts each byte that it returns or passes. No call lowers the count,
-/// lends the bytes, or returns a second cursor. Only [`Cursor::go_to`] moves without counting, and it reads nothing.
+/// A call counts each byte that it returns or passes, and each byte that it looked at to find a fault. No public call lowers the
+/// count, lends the bytes, or returns a second cursor. Only [`Cursor::go_to`] moves without counting, and it reads nothing.
 ///
 /// Some calls read or pass numbers by words of eight bytes, such as [`Cursor::svarint_pair`], [`Cursor::pass_varint`] and
-/// [`Cursor::pass_varints`], or by vectors from the next 32 bytes, as [`Cursor::svarint_four`] and [`Cursor::svarint_eight`] do. They
-/// touch bytes after the numbers too, as reading a cache line does, but count only the bytes of the numbers. If such a call returns
-/// `None`, or vectors that weren't read, or passes fewer numbers than requested, it tells something about bytes that aren't counted:
-/// the numbers at the place are too long for the call, or too near the end. A clause of its contract says what holds then. It
-/// doesn't say that the call reads nothing wherever this holds: that the call tells no other bit there, only its code shows. In this
-/// list a byte goes on if it is at least 128, and four bytes do if each of four, one after another, is.
+/// [`Cursor::pass_varints`], or by vectors from the next 32 bytes, as [`Cursor::svarint_four`] and [`Cursor::svarint_eight`] do.
+/// They touch bytes after the numbers too, as reading a cache line does, but count only the bytes of the numbers. If such a call
+/// fails (returns `None`, or a result whose `is_read` is false) or passes fewer numbers than requested, its caller learns
+/// something about bytes that aren't counted: a number is too long for the call, or the end is near. This list says when a call
+/// may fail, and which clause says so. No clause says that it fails whenever it may; only the code shows that this choice tells
+/// nothing else. A byte *goes on* if it is at least 128.
 ///
 /// - [`Cursor::pass_varint`]: fewer than eight bytes are left, or the next eight all go on (`told`).
 /// - [`Cursor::pass_pair`]: fewer than eight bytes are left, or at most one of the next eight ends a varint (`told`).
-/// - [`Cursor::svarint_pair`] and [`Cursor::svarint_mixed_pair`]: fewer than eight bytes are left, or four of the next eight go on
-///   (`told`).
-/// - [`Cursor::svarint_pair_and_one`] and [`Cursor::svarint_two_pairs`]: the same of twelve bytes and of sixteen (`told`).
-/// - [`Cursor::svarint_four`]: fewer than 32 bytes are left, or four of the next sixteen go on (`told`).
-/// - [`Cursor::svarint_eight`]: fewer than 32 bytes are left, or two of the next sixteen, one after the other, go on (`told`).
-/// - [`Cursor::pass_varints`]: fewer than eleven bytes are left after the place where it stops, or four of the next eleven go on
-///   (`stops`).
-/// - [`Cursor::pass_short_varints`]: fewer bytes are left than numbers were requested, or fewer numbers stand before a place where
-///   [`Cursor::pass_varints`] may stop (`told`). At most 65,536 numbers are requested.
-/// - [`Cursor::pass_short_runs`] and [`Cursor::pass_counted_runs`]: after fewer runs than were requested a count is a fault, or
-///   greater than the groups that are left, or of its run the same holds as of [`Cursor::pass_short_varints`] (`told`). For the
-///   second the count of runs may be a fault or greater than 65,536, too. At most 65,536 numbers are passed, in at most 65,536 runs,
-///   with a count before each.
+/// - [`Cursor::svarint_pair`] and [`Cursor::svarint_mixed_pair`]: fewer than eight bytes are left, or four in a row of the next
+///   eight go on (`told`).
+/// - [`Cursor::svarint_pair_and_one`]: fewer than twelve bytes are left, or four in a row of the next twelve go on (`told`).
+/// - [`Cursor::svarint_two_pairs`]: fewer than sixteen bytes are left, or four in a row of the next sixteen go on (`told`).
+/// - [`Cursor::svarint_four`]: fewer than 32 bytes are left, or four in a row of the next sixteen go on (`told`).
+/// - [`Cursor::svarint_eight`]: fewer than 32 bytes are left, or two in a row of the next sixteen go on (`told`).
+/// - [`Cursor::pass_varints`]: after the numbers that it passed fewer than eleven bytes are left, or four in a row of the next
+///   eleven go on (`stops`).
+/// - [`Cursor::pass_short_varints`]: fewer bytes are left than numbers were requested, or [`Cursor::pass_varints`] may stop after
+///   fewer numbers (`told`). At most 65,536 numbers may be requested.
+/// - [`Cursor::pass_short_runs`]: after fewer runs than were requested, a count can't be read, or is greater than what is left of
+///   `most`, or [`Cursor::pass_short_varints`] may fail at the run (`told`). It passes at most 65,536 numbers after their counts.
+/// - [`Cursor::pass_counted_runs`]: the number of runs can't be read or is greater than 65,536, or [`Cursor::pass_short_runs`]
+///   may fail at the runs (`told`).
 ///
-/// The last two compare counts in the bytes with numbers that the caller hands them. So their `None` tells one bit about a count, and
-/// code that calls them several times at one place, with other numbers, can learn more than one bit. For the bytes `[b, 0]`,
-/// `pass_short_runs(1, 0, 126)` returns `None` exactly if b is 127 or 255, and `pass_short_runs(2, 0, 127)` exactly if b is at least
-/// 128: both do exactly if b is 255. No contract here excludes such code.
+/// The last two compare counts in the bytes with their arguments. So code that calls them several times at one place, with
+/// different arguments, can learn more than one bit about a count whose bytes aren't counted. For the bytes `[b, 0]`,
+/// `pass_short_runs(1, 0, 126)` returns `None` exactly if b is 127 or 255, and `pass_short_runs(2, 0, 127)` exactly if b is at
+/// least 128: both do exactly if b is 255. No contract here excludes such code.
 ///
 /// Contracts see a cursor as a `Reading`. Each call takes constant space. Calls that pass many varints take time in proportion to
 /// the bytes that they look at. All others take constant time, since a varint has at most ten bytes.
@@ -136,8 +137,8 @@ impl<'a> Cursor<'a> {
         self.place = place;
     }
 
-    /// Sets the place to `same`, which is the place already. The processor can then begin the next read before the last one has
-    /// told where it ends.
+    /// Sets the place to `same`, which has to be the place already. If `same` was known earlier, the processor can begin the next
+    /// read before it has computed where the last one ended.
     #[inline(always)]
     pub fn go_on_from(&mut self, same: usize)
         requires { same ≡ self.old.place }
@@ -281,12 +282,12 @@ impl<'a> Cursor<'a> {
     }
 
     /// Moves past at most `many` varints without decoding them, and returns how many it passed. It finds their ends in words of
-    /// eight bytes. If fewer bytes are left, or no varint ends in half a word, it stops after the last varint that ends before. So
-    /// each varint that it passes takes at most seven bytes.
+    /// eight bytes, and stops before a word that the bytes don't fill, or in one half of which no varint ends (in the first word:
+    /// in its first seven bytes, or in its second half). So each varint that it passes takes at most seven bytes.
     ///
-    /// All bytes that it passes are counted. A result less than `many` tells this of the bytes after them, which aren't counted:
-    /// the up to three bytes from where it stops to the next multiple of eight, counted from the place before the call, are all at
-    /// least 128, and of the next eleven bytes either fewer are left, or four in a row are at least 128.
+    /// All bytes that it passes are counted. A result less than `many` tells something about the bytes after them, which aren't
+    /// counted: fewer than eleven are left, or four in a row of the next eleven are at least 128 (`stops`). The code stops at
+    /// most three bytes before a multiple of eight from the old place, and so tells that these are at least 128 too.
     #[inline(always)]
     pub fn pass_varints(&mut self, many: u64) -> u64
         ensures few { result ≤ many }

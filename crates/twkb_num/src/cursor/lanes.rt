@@ -8,14 +8,14 @@ use super::Cursor;
 use crate::lanes::{narrow_eight, wide_four};
 use std::simd::prelude::*;
 
-/// Four signed numbers in lanes of 32 bits, in two's complement, if they were read.
+/// Four signed numbers in lanes of 32 bits, in two's complement. If `is_read` is false, none were read and the lanes are zero.
 #[derive(Clone, Copy)]
 pub struct Four {
     pub lanes: u32x4,
     pub is_read: bool,
 }
 
-/// Eight signed numbers in lanes of 16 bits, in two's complement, if they were read.
+/// Eight signed numbers in lanes of 16 bits, in two's complement. If `is_read` is false, none were read and the lanes are zero.
 #[derive(Clone, Copy)]
 pub struct Eight {
     pub lanes: u16x8,

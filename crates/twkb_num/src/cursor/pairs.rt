@@ -39,8 +39,8 @@ impl<'a> Cursor<'a> {
         Some((both.first, both.second))
     }
 
-    /// Reads four signed varints, if [`Cursor::svarint_four`] can read them, or [`Cursor::svarint_pair`] both pairs. Otherwise it
-    /// returns `None`, and the cursor is as it was.
+    /// Reads the four signed varints at the place by [`Cursor::svarint_four`], or, if this fails, by two calls of
+    /// [`Cursor::svarint_pair`]. If one of these fails too, it returns `None`, and the cursor is as it was.
     #[inline(always)]
     pub fn svarint_two_pairs(&mut self) -> Option<((i64, i64), (i64, i64))>
         ensures some { IfSome result (λ two. (middle : Reading)

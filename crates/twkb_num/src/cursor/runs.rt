@@ -5,7 +5,7 @@ ghost use Rattle.twkb_num.specs.Runs.{PassesRuns, PassesCountedRuns, StopsBefore
 
 use super::Cursor;
 
-/// More runs than this aren't passed at once.
+/// The most runs that one call passes.
 const MOST_RUNS: u64 = 1 << 16;
 
 impl<'a> Cursor<'a> {
@@ -13,9 +13,9 @@ impl<'a> Cursor<'a> {
     /// Returns how many groups there were in all.
     ///
     /// It passes nothing and returns `None` if there are more than `most` groups, if a count can't be read, or if
-    /// [`Cursor::pass_short_varints`] doesn't pass the varints of a run. All bytes that it passes are counted. `None` tells this
-    /// one bit of bytes that aren't counted: the bytes of at most `runs` counts and `most` groups. Since it compares their sum with
-    /// `most`, calls with other arguments can tell more of a count.
+    /// [`Cursor::pass_short_varints`] doesn't pass the varints of a run. All bytes that it passes are counted. `None` tells one
+    /// bit about bytes that aren't counted. Since the sum of the counts is compared with `most`, several calls with different
+    /// arguments can tell more than one bit of a count.
     #[inline(always)]
     pub fn pass_short_runs(&mut self, runs: u64, each: u64, most: u64) -> Option<u64>
         requires runs { runs ≤ 2 ^ 16 }
@@ -47,8 +47,8 @@ impl<'a> Cursor<'a> {
     /// Moves past a count of runs and that many runs, as [`Cursor::pass_short_runs`] does, or past nothing. Returns how many
     /// groups there were in all.
     ///
-    /// It returns `None` for more than 65,536 runs, too. `None` tells one bit of bytes that aren't counted: the bytes of the
-    /// count of runs, and the bytes of which [`Cursor::pass_short_runs`] tells one bit.
+    /// It returns `None` for more than 65,536 runs, too. `None` tells one bit about bytes that aren't
+    /// counted: those of the number of runs, or those about which [`Cursor::pass_short_runs`] tells one.
     #[inline(always)]
     pub fn pass_counted_runs(&mut self, each: u64, most: u64) -> Option<u64>
         requires each { each ≤ 4 }
