@@ -274,7 +274,7 @@ def main():
         symbols.tell(found.tool, "twkb_tool")
         symbols.tell(found.scanner, "twkb_bench")
     over_fast = {kind: rounds.over_fast() for kind, rounds in audits.items()}
-    sections = [("audits: time over that of fast", over_fast), ("scans: time over that of fast", scans)]
+    sections = [("audits: our time / the yardstick's", over_fast), ("scans: our time / the yardstick's", scans)]
     plots.ratios(os.path.join(layers.TOP, "docs", "bench.svg"), sections)
 
 
