@@ -20,9 +20,9 @@ use std::marker::Model;
 /// [`Cursor::pass_varints`], or by vectors from the next 32 bytes, as [`Cursor::svarint_four`] and [`Cursor::svarint_eight`] do.
 /// They touch bytes after the numbers too, as reading a cache line does, but count only the bytes of the numbers. If such a call
 /// fails (returns `None`, or a result whose `is_read` is false) or passes fewer numbers than requested, its caller learns
-/// something about bytes that aren't counted: a number is too long for the call, or the end is near. This list says when a call
-/// may fail, and which clause says so. No clause says that it fails whenever it may; only the code shows that this choice tells
-/// nothing else. A byte *goes on* if it is at least 128.
+/// something about bytes that aren't counted: a number is too long for the call, the end is near, or (the last two calls below) a
+/// count can't be read or is too large. This list says when a call may fail, and which clause says so. Where a call may fail, no
+/// clause says whether it does; only the code shows that this choice tells nothing else. A byte *goes on* if it is at least 128.
 ///
 /// - [`Cursor::pass_varint`]: fewer than eight bytes are left, or the next eight all go on (`told`).
 /// - [`Cursor::pass_pair`]: fewer than eight bytes are left, or at most one of the next eight ends a varint (`told`).
