@@ -209,7 +209,7 @@ def table_of_whole_runs(found, folder, runs, audits):
     print("|---" * 6 + "|")
     for title, rounds in {"all, ms": wholes, "reading alone, ms": reads}.items():
         print(f"| {title} | " + " | ".join(cells_of_times(rounds)) + " |")
-    print("| greatest memory, MB | " + " | ".join(cells_of_numbers(memories)) + " |")
+    print("| greatest memory, MiB | " + " | ".join(cells_of_numbers(memories)) + " |")
     together = min(audits.ours) + min(reads.fast)
     over = ratio(min(wholes.ours), together)
     print(f"our audit and the reading of fast take {together:.1f} ms together: our whole run is {over} of it")
