@@ -25,6 +25,8 @@ layer = dozhemik.certify(open(sys.argv[1], "rb").read())
 scan = layer.scan(sys.argv[2])
 print(dozhemik.__version__, f"hits={len(scan)} read={scan.bytes_read} of={layer.size}")
 """
+# The folder of the machine that `machine` makes in which its user works: as it is named there, below that machine's own root.
+HOME = "/root"
 NEEDS = {"gcc": "apt-get install gcc libc6-dev", "pkg-config": "apt-get install pkg-config"}
 
 
@@ -143,18 +145,18 @@ def machine(archive, version, by_debootstrap, folder):
     if not machines.is_possible(root):
         print("no program may have another root here: the release isn't tried on a machine of its own")
         return
-    shutil.copy(archive, os.path.join(root, "tmp"))
-    shutil.copy(LAYER, os.path.join(root, "tmp", "layer.twkb"))
+    shutil.copy(archive, root + HOME)
+    shutil.copy(LAYER, f"{root}{HOME}/layer.twkb")
     if os.path.exists(root + machines.DEBIANS):
-        done = machines.run(root, "python3", "-m", "tarfile", "-e", f"/tmp/{os.path.basename(archive)}", "/tmp")
+        done = machines.run(root, "python3", "-m", "tarfile", "-e", f"{HOME}/{os.path.basename(archive)}", HOME)
         count("unpacked there", done[0::2], (0, ""))
     else:
-        shutil.unpack_archive(archive, os.path.join(root, "tmp"))
-    release = f"/tmp/{os.path.basename(archive).removesuffix('.tar.gz')}"
+        shutil.unpack_archive(archive, root + HOME)
+    release = f"{HOME}/{os.path.basename(archive).removesuffix('.tar.gz')}"
     count("no kit and no compiler there", [machines.run(root, "sh", "-c", f"command -v {one}")[1] for one in ("rt", "gcc")], ["", ""])
     count("installed there", machines.run(root, "sh", f"{release}/install.sh", "/usr/local")[0::2], (0, ""))
-    count("certified there", machines.run(root, "twkb_tool", "check", "/tmp/layer.twkb"), (0, "ok blobs=1715 vertices=14590\n", ""))
-    status, out, error = machines.run(root, "twkb_tool", "scan", "/tmp/layer.twkb", WINDOW)
+    count("certified there", machines.run(root, "twkb_tool", "check", f"{HOME}/layer.twkb"), (0, "ok blobs=1715 vertices=14590\n", ""))
+    status, out, error = machines.run(root, "twkb_tool", "scan", f"{HOME}/layer.twkb", WINDOW)
     count("scanned there", (status, out.splitlines()[-1:], error), (0, [HITS], ""))
     in_c(root)
     if os.path.exists(root + machines.DEBIANS):
@@ -166,13 +168,13 @@ def in_c(root):
     if not has_linker():
         return
     for flags, found in (((), {"LD_LIBRARY_PATH": "/usr/local/lib"}), (("-static",), {})):
-        if linked(root + "/usr/local", root + "/tmp/app", *flags):
-            status, out, error = machines.run(root, "/tmp/app", "scan", "/tmp/layer.twkb", WINDOW, **found)
+        if linked(root + "/usr/local", f"{root}{HOME}/app", *flags):
+            status, out, error = machines.run(root, f"{HOME}/app", "scan", f"{HOME}/layer.twkb", WINDOW, **found)
             count(f"a C program there {' '.join(flags)}", (status, out.splitlines()[-1:], error), (0, [HITS], ""))
 
 
 def in_python(root, release, version):
     wheel = f"{release}/{os.path.basename(wheel_of(root + release))}"
-    count("the wheel unpacked there", machines.run(root, "python3", "-m", "zipfile", "-e", wheel, "/tmp/site")[0::2], (0, ""))
-    got = machines.run(root, "python3", "-c", ASKS, "/tmp/layer.twkb", WINDOW, PYTHONPATH="/tmp/site")
+    count("the wheel unpacked there", machines.run(root, "python3", "-m", "zipfile", "-e", wheel, f"{HOME}/site")[0::2], (0, ""))
+    got = machines.run(root, "python3", "-c", ASKS, f"{HOME}/layer.twkb", WINDOW, PYTHONPATH=f"{HOME}/site")
     count("imported in Python there", got, (0, f"{version} {HITS}\n", ""))

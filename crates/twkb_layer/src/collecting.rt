@@ -13,10 +13,10 @@ pub trait Keeper: Drop {
     /// The type of what is said of a blob.
     ghost Says: { Type 0 };
 
-    /// What is said of the blobs that were kept.
+    /// The list of what `keep` has said, one element for each blob kept so far.
     ghost says: { Self → List Says };
 
-    /// What is to be said of a blob, by its number, its offset and its tree.
+    /// The element that `keep` adds for a blob: `of number offset tree`.
     ghost of: { ℕ → ℕ → Geometry → Says };
 
     /// For how many more blobs there is memory.
