@@ -1,11 +1,12 @@
 -- The first end among eight bytes, by the lowest bit of a word.
-use Rattle.std.proofs.Common.{◌≡◌, ℕ, zero, suc, ◌+◌, ◌-◌, ◌*◌, ◌/◌, ◌^◌, ◌<◌, ◌≤◌, List, length, take, slice_index, Option, Some, None, IfSome, IfNone, subst, ap, ap₂, ◌∙◌, sym, refl, ◌⊎◌, inl, inr, arith}
+use Rattle.std.proofs.Common.{◌≡◌, ℕ, zero, suc, ◌+◌, ◌-◌, ◌*◌, ◌/◌, ◌^◌, ◌<◌, ◌≤◌, List, length, take, drop, slice_index, slice_range, Option, Some, None, IfSome, IfNone, subst, ap, ap₂, ◌∙◌, sym, refl, ◌⊎◌, inl, inr, arith}
 use Rattle.std.specs.Int.{Width, w64, from_le_bytes, bit_at, trailing_zeros}
 use mir.Val.{bits}
 use Rattle.std.specs.Int.Bits.{bit_and}
 use Rattle.std.proofs.lemmas.Nat.{and_block, pow_pos}
 use Rattle.std.proofs.lemmas.Nat.Bits.{and_pow, bit_at_cat_low, bit_at-pow_same, bit_at-pow_other, bit_at-trailing_zeros}
 use Rattle.std.proofs.lemmas.Bool.{cases_lt}
+use Rattle.std.proofs.lemmas.Grind.{common_steps}
 use Rattle.std.proofs.lemmas.List.{get_or-take}
 use Rattle.twkb_num.specs.Varint.{sum_of_groups, Spells, IsUnended}
 use Rattle.twkb_num.proofs.VarintLemmas.{sum_of_groups-fits, Spells-take}
@@ -204,3 +205,17 @@ end_spells bytes many h =
     let sum : sum_of_groups 0 (take (many - 1 + 1) bytes) < 2 ^ 63 = sum_of_groups-fits bytes (many - 1) (omega (arith, h.some, h.within)) (omega (arith, h.some, h.few)) in
     subst (λ m. Spells (take m bytes) (sum_of_groups 0 (take m bytes))) (sym last)
     (Spells-take bytes (many - 1) _ (omega (arith, h.some, h.within)) (omega (arith, h.some, h.few)) (λ k before. h.goes_on k (omega (arith, before, h.some))) h.ends refl (omega (arith, sum)))
+
+-- the bytes from a place on, as a slice
+from_place : (bytes : List ℕ) (place : ℕ) → slice_range bytes place (length bytes) ≡ drop place bytes
+from_place bytes place = grind (arith, common_steps)
+
+-- the first n bytes from a place on, and whether there are as many
+pub chunk_at : (n : ℕ) (bytes chunk : List ℕ) (place : ℕ) → chunk ≡ take n (slice_range bytes place (length bytes)) → chunk ≡ take n (drop place bytes)
+chunk_at n bytes chunk place same = same ∙ ap (take n) (from_place bytes place)
+
+pub few_at : (n : ℕ) (bytes : List ℕ) (place : ℕ) → length (slice_range bytes place (length bytes)) < n → length (drop place bytes) < n
+few_at n bytes place few = rw (from_place bytes place) at few
+
+pub enough_at : (n : ℕ) (bytes : List ℕ) (place : ℕ) → n ≤ length (slice_range bytes place (length bytes)) → n ≤ length (drop place bytes)
+enough_at n bytes place enough = rw (from_place bytes place) at enough

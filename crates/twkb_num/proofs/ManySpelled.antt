@@ -196,9 +196,16 @@ ends_begin bytes many = record {
   few = omega arith;
 }
 
--- the bytes up to the last end spell the numbers
-last_spells : (bytes : List ℕ) (many begun size : ℕ) → IsPassed bytes many begun → IsLastEnd bytes size → SpellsMany (take size bytes) many
-last_spells bytes many begun size p l = subst (λ (bs : List ℕ). SpellsMany bs many) (sym (ap (take size) p.whole ∙ ap (λ (n : ℕ). take n (p.front ++ p.last)) size_is ∙ take-append_seam p.front p.last)) p.spells
+-- the last end is where the numbers passed so far end
+last_front : (bytes : List ℕ) (many begun size : ℕ) (p : IsPassed bytes many begun) → IsLastEnd bytes size → size ≡ length p.front
+last_front bytes many begun size p l = elim (cases_lt size (length p.front)) [
+  | inl less ↦ let k : ℕ = length p.front - 1 in absurd (omega (arith, less, long, p.ends (omega (arith, less)), before k (omega (arith, less)), l.goes_on k (omega (arith, less)) (omega (arith, less, long))))
+  | inr more ↦
+      elim (cases_lt (length p.front) size) [
+        | inl over ↦ let k : ℕ = size - 1 in absurd (omega (arith, over, long, l.within, l.ends (omega (arith, over)), behind k (omega (arith, over)), p.goes_on (k - length p.front) (omega (arith, over, long, l.within))))
+        | inr same ↦ omega (arith, more, same)
+      ]
+]
   where
     long : length bytes ≡ length p.front + length p.last
     long = ap length p.whole ∙ length-append p.front p.last
@@ -209,15 +216,9 @@ last_spells bytes many begun size p l = subst (λ (bs : List ℕ). SpellsMany bs
     behind : (k : ℕ) → length p.front ≤ k → slice_index bytes k ≡ slice_index p.last (k - length p.front)
     behind k h = ap (λ (bs : List ℕ). slice_index bs k) p.whole ∙ get_or-append_right p.front p.last k 0 h
 
-    size_is : size ≡ length p.front
-    size_is = elim (cases_lt size (length p.front)) [
-      | inl less ↦ let k : ℕ = length p.front - 1 in absurd (omega (arith, less, long, p.ends (omega (arith, less)), before k (omega (arith, less)), l.goes_on k (omega (arith, less)) (omega (arith, less, long))))
-      | inr more ↦
-          elim (cases_lt (length p.front) size) [
-            | inl over ↦ let k : ℕ = size - 1 in absurd (omega (arith, over, long, l.within, l.ends (omega (arith, over)), behind k (omega (arith, over)), p.goes_on (k - length p.front) (omega (arith, over, long, l.within))))
-            | inr same ↦ omega (arith, more, same)
-          ]
-    ]
+-- the bytes up to the last end spell the numbers
+last_spells : (bytes : List ℕ) (many begun size : ℕ) → IsPassed bytes many begun → IsLastEnd bytes size → SpellsMany (take size bytes) many
+last_spells bytes many begun size p l = subst (λ (bs : List ℕ). SpellsMany bs many) (sym (ap (take size) p.whole ∙ ap (λ (n : ℕ). take n (p.front ++ p.last)) (last_front bytes many begun size p l) ∙ take-append_seam p.front p.last)) p.spells
 
 -- if a word doesn't show enough ends, the bytes up to the last end before it spell the numbers so far
 ends_stop : (bytes : List ℕ) (many begun done size : ℕ) → IsPassed (take done bytes) many begun → done ≤ length bytes → IsLastEnd (take done bytes) size → IsFrontOf bytes many size
@@ -298,28 +299,9 @@ no_ends bytes i n k from to none =
     let is : ended bytes k ≡ 0 = omega (arith, below, above, none) in
     omega (arith, is)
 
--- the last end, and what goes on behind it
+-- the bytes after the last end are the number that was begun
 last_size : (bytes : List ℕ) (many begun size : ℕ) → IsPassed bytes many begun → IsLastEnd bytes size → size + begun ≡ length bytes
-last_size bytes many begun size p l = omega (arith, size_is, long, p.long)
-  where
-    long : length bytes ≡ length p.front + length p.last
-    long = ap length p.whole ∙ length-append p.front p.last
-
-    before : (k : ℕ) → k < length p.front → slice_index bytes k ≡ slice_index p.front k
-    before k h = ap (λ (bs : List ℕ). slice_index bs k) p.whole ∙ get_or-append p.front p.last 0 k h
-
-    behind : (k : ℕ) → length p.front ≤ k → slice_index bytes k ≡ slice_index p.last (k - length p.front)
-    behind k h = ap (λ (bs : List ℕ). slice_index bs k) p.whole ∙ get_or-append_right p.front p.last k 0 h
-
-    size_is : size ≡ length p.front
-    size_is = elim (cases_lt size (length p.front)) [
-      | inl less ↦ let k : ℕ = length p.front - 1 in absurd (omega (arith, less, long, p.ends (omega (arith, less)), before k (omega (arith, less)), l.goes_on k (omega (arith, less)) (omega (arith, less, long))))
-      | inr more ↦
-          elim (cases_lt (length p.front) size) [
-            | inl over ↦ let k : ℕ = size - 1 in absurd (omega (arith, over, long, l.within, l.ends (omega (arith, over)), behind k (omega (arith, over)), p.goes_on (k - length p.front) (omega (arith, over, long, l.within))))
-            | inr same ↦ omega (arith, more, same)
-          ]
-    ]
+last_size bytes many begun size p l = omega (arith, last_front bytes many begun size p l, ap length p.whole ∙ length-append p.front p.last, p.long)
 
 module _ (bytes : List ℕ) (many left done low size : ℕ) (l : IsEndsLoop bytes many left done low) (last : IsLastEnd (take done bytes) size) where
   sum : size + l.begun ≡ done

@@ -44,8 +44,4 @@ pub returns-clause-brief : goal.returns-clause-brief
 returns-clause-brief c = subst (All IsBrief) (sym (c.unzigzag_narrow.ensures ∙ ap (map zigzag_value) c.packed_narrow.ensures)) (all_brief (digits_l 65536 8 (number_l 256 c.low_halves-all.result)))
 
 pub returns-clause-long : goal.returns-clause-long
-returns-clause-long c long =
-    let bytes = c.args.bytes.now in
-    let first = c.narrow_four-first in
-    let second = c.narrow_four-second in
-    long_of 2 bytes _ _ first.result.len second.result.len (first_piece bytes) (second_piece (first.result.len % 16) bytes) first.ensures.flag second.ensures.flag first.ensures.long second.ensures.long long
+returns-clause-long c = long_of 2 c.args.bytes.now _ _ _ _ (first_piece c.args.bytes.now) (second_piece _ c.args.bytes.now) c.narrow_four-first.ensures.flag c.narrow_four-second.ensures.flag c.narrow_four-first.ensures.long c.narrow_four-second.ensures.long

@@ -44,8 +44,4 @@ pub returns-clause-short : goal.returns-clause-short
 returns-clause-short c = subst (All IsShort) (sym (c.unzigzag_wide.ensures ∙ ap (map zigzag_value) c.packed_wide.ensures)) (all_short (digits_l 4294967296 4 (number_l 256 c.low_halves-lanes.result)))
 
 pub returns-clause-long : goal.returns-clause-long
-returns-clause-long c long =
-    let bytes = c.args.bytes.now in
-    let first = c.wide_two-first in
-    let second = c.wide_two-second in
-    long_of 4 bytes _ _ first.result.len second.result.len (first_piece bytes) (second_piece (first.result.len % 16) bytes) first.ensures.flag second.ensures.flag first.ensures.long second.ensures.long long
+returns-clause-long c = long_of 4 c.args.bytes.now _ _ _ _ (first_piece c.args.bytes.now) (second_piece _ c.args.bytes.now) c.wide_two-first.ensures.flag c.wide_two-second.ensures.flag c.wide_two-first.ensures.long c.wide_two-second.ensures.long

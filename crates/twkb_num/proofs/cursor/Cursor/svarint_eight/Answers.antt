@@ -1,6 +1,6 @@
 -- The numbers in the lanes are what the move passes.
-use Rattle.std.proofs.Common.{List, ℕ, ◌<◌, ◌≤◌, map, subst, w16, rules, arith, ◌≡◌, ◌∙◌, ap, take, drop, length, slice_range, inl, inr}
-use Rattle.std.proofs.lemmas.Grind.{common_steps}
+use Rattle.std.proofs.Common.{List, ℕ, ◌<◌, ◌≤◌, map, subst, w16, rules, arith, drop, inl, inr}
+use Rattle.twkb_num.proofs.EndLemmas.{chunk_at, few_at}
 use Rattle.twkb_num.proofs.LongLemmas.{long_in_chunk}
 use Rattle.std.specs.Prelude.{ℤ}
 use Rattle.std.specs.Int.{cast_signed}
@@ -24,8 +24,7 @@ pub returns-clause-told : goal.returns-clause-told
 returns-clause-told c none =
     let bytes = c.self.inside.bytes.now in
     let place = c.self.inside.place in
-    let whole : slice_range bytes place (length bytes) ≡ drop place bytes = grind (arith, common_steps) in
     rw (← c.self.view_is) (elim c.match-first_chunk.branch [
-      | in-Some+else-eight-lt128 w ↦ inr (long_in_chunk 2 (drop place bytes) w.in-Some.bytes.now (w.in-Some.ensures.cases.same ∙ ap (take 32) whole) (w.narrow_eight-eight.ensures.long (omega (arith, w.if-eight-lt128.false))))
-      | in_default w ↦ inl (rw whole at w.in_default.ensures.cases)
+      | in-Some+else-eight-lt128 w ↦ inr (long_in_chunk 2 (drop place bytes) w.in-Some.bytes.now (chunk_at 32 bytes _ place w.in-Some.ensures.cases.same) (w.narrow_eight-eight.ensures.long (omega (arith, w.if-eight-lt128.false))))
+      | in_default w ↦ inl (few_at 32 bytes place w.in_default.ensures.cases)
     ])
