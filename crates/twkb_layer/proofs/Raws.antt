@@ -223,6 +223,13 @@ coarser_ends p range raw coarse le e up down = record {
   above = λ c. ap (int_lt range.hi) (ten_steps c p le) ∙ (e.above (c *ℤ pos 10) ∙ down c);
 }
 
+-- ends next to 0 are also those of the coarser precision
+pub next_to_zero : (p : ℤ) (range : Span) (raw : RawEnds) → p ≤ℤ pos 7 → pos 0 ≤ℤ raw.least → raw.least ≤ℤ pos 1 → neg_ℤ (pos 1) ≤ℤ raw.greatest → raw.greatest ≤ℤ pos 0
+    → IsExactEnds p range raw → IsExactEnds (p -ℤ pos 1) range raw
+next_to_zero p range raw le least_some least_few greatest_few greatest_some e = coarser_ends p range raw raw le e
+    (λ c. same_answer (c *ℤ pos 10) raw.least c raw.least (λ h. omega (arith, ints, least_some, least_few, h)) (λ h. omega (arith, ints, least_some, least_few, h)))
+    (λ c. same_answer raw.greatest (c *ℤ pos 10) raw.greatest c (λ h. omega (arith, ints, greatest_some, greatest_few, h)) (λ h. omega (arith, ints, greatest_some, greatest_few, h)))
+
 times_one : (c : ℤ) → c *ℤ pos 1 ≡ c
 times_one c = omega (arith, ints)
 

@@ -1,14 +1,14 @@
 -- Each turn makes the window of one more precision.
-use Rattle.std.proofs.Common.{◌≡◌, pos, ◌-ℤ◌, to_z, of_z, refl, ◌∙◌, subst, arith}
+use Rattle.std.proofs.Common.{◌≡◌, pos, ◌-ℤ◌, to_z, of_z, ◌∙◌, subst, arith}
 use Rattle.std.specs.Int.{w8}
 use Rattle.std.proofs.lemmas.Int.{ints}
 use Rattle.std.proofs.Math.ListN.{length-set}
 use Rattle.twkb_layer.specs.Devices.Raw.{IsRawWindow}
 use Rattle.twkb_layer.proofs.Raws.{raw_more}
-use Rattle.twkb_layer.proofs.raw.by_divisions.Goals as goal
+use Rattle.twkb_layer.proofs.raw.fill_by_divisions.Goals as goal
 
 pub loop-code-init : goal.loop-code-init
-loop-code-init c = (refl, λ code less. absurd (omega arith))
+loop-code-init c = (c.told-raws, λ code less. absurd (omega arith))
 
 pub loop-code-preserved : goal.loop-code-preserved
 loop-code-preserved c =
