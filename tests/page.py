@@ -18,6 +18,7 @@ import subprocess
 import sys
 import tempfile
 import time
+from concurrent.futures import ProcessPoolExecutor
 
 from browsers import BROWSERS, Failed
 from driven import PICTURES, Driven
@@ -311,6 +312,17 @@ def built():
     return PAGE
 
 
+def all_of(Browser, page, program, asked):
+    """Drives the page in a browser, and gives how many comparisons passed and failed."""
+    counts.update(passed=0, failed=0)
+    with tempfile.TemporaryDirectory() as folder:
+        paths = os.path.abspath(page), os.path.abspath(program), folder
+        if not asked.screens:
+            drive(Browser, *paths, asked.picture)
+        screens(Browser, *paths)
+    return counts
+
+
 def main():
     words = argparse.ArgumentParser()
     words.add_argument("program", nargs="?", default=os.path.join(TOP, "build", "twkb_tool"))
@@ -327,15 +339,15 @@ def main():
         os.makedirs(PICTURES, exist_ok=True)
         count("the page's length", os.path.getsize(page) <= LARGEST_PAGE, True)
         module = os.path.join(TOP, "build", "web", "twkb_web.wasm")
-        with tempfile.TemporaryDirectory() as folder:
-            if os.path.exists(module):
+        if os.path.exists(module):
+            with tempfile.TemporaryDirectory() as folder:
                 same_bytes(module, folder)
-            for Browser in there:
-                if not asked.browsers or Browser.name in asked.browsers:
-                    paths = os.path.abspath(page), os.path.abspath(asked.program), folder
-                    if not asked.screens:
-                        drive(Browser, *paths, asked.picture)
-                    screens(Browser, *paths)
+        chosen = [Browser for Browser in there if not asked.browsers or Browser.name in asked.browsers]
+        # The browsers are driven at once, each by a process of its own: a browser keeps one processor busy.
+        with ProcessPoolExecutor(max(1, len(chosen))) as pool:
+            for done in [pool.submit(all_of, Browser, page, asked.program, asked) for Browser in chosen]:
+                for result, number in done.result().items():
+                    counts[result] += number
     print(f"{counts['passed']} passed, {counts['failed']} failed")
     return int(counts["failed"] > 0)
 
