@@ -3,14 +3,15 @@
 //! It hops, at any depth, over what has a size and a box that misses the window, reads a varint byte by byte, compares
 //! in units (i128), and has everything inlined but the recursion.
 //!
-//! Usage: hops FILE X0 X1 Y0 Y1 [REPEATS], the window in units. The hits are printed, and behind them the best time of
-//! one repeat in nanoseconds.
+//! Usage: hops FILE X0 X1 Y0 Y1 [REPEATS], the window in units. The hits and the bytes that had to be read are printed,
+//! and behind them the best time of one repeat in nanoseconds.
 use std::hint::black_box;
 use std::time::Instant;
 
 struct Reader<'a> {
     bytes: &'a [u8],
     place: usize,
+    hopped: usize,
 }
 
 impl Reader<'_> {
@@ -138,16 +139,21 @@ fn is_met(reader: &mut Reader, window: &Window) -> Option<bool> {
     let start = reader.place;
     if metadata & 1 != 0 && misses(reader, window, scale, further)? {
         if let Some(size) = size {
-            reader.place = start + size as usize;
+            let behind = start + size as usize;
+            reader.hopped += behind - reader.place;
+            reader.place = behind;
             return Some(false);
         }
     }
     if metadata & 16 != 0 {
         return Some(false);
     }
-    let count = if kind & 15 >= 4 { reader.unsigned()? } else { 1 };
-    if metadata & 4 != 0 {
-        reader.pass(count)?;
+    let mut count = 1;
+    if kind & 15 >= 4 {
+        count = reader.unsigned()?;
+        if metadata & 4 != 0 {
+            reader.pass(count)?;
+        }
     }
     if kind & 15 == 7 {
         return members(reader, window, count);
@@ -168,13 +174,14 @@ fn members(reader: &mut Reader, window: &Window, count: u64) -> Option<bool> {
     Some(met)
 }
 
-fn scan(bytes: &[u8], window: &Window) -> Option<usize> {
-    let mut reader = Reader { bytes, place: 0 };
+/// The number of hits, and of bytes that had to be read.
+fn scan(bytes: &[u8], window: &Window) -> Option<(usize, usize)> {
+    let mut reader = Reader { bytes, place: 0, hopped: 0 };
     let mut hits = 0;
     while reader.place < bytes.len() {
         hits += usize::from(is_met(&mut reader, window)?);
     }
-    Some(hits)
+    Some((hits, bytes.len() - reader.hopped))
 }
 
 fn main() {
@@ -184,11 +191,11 @@ fn main() {
     let mut next = || rest.next().expect("the four ends of a window");
     let window = [(next(), next()), (next(), next())];
     let repeats = rest.next().unwrap_or(1).max(1);
-    let (mut hits, mut best) = (0, u128::MAX);
+    let ((mut hits, mut read), mut best) = ((0, 0), u128::MAX);
     for _ in 0..repeats {
         let start = Instant::now();
-        hits = scan(black_box(&bytes), black_box(&window)).expect("a certified layer");
+        (hits, read) = scan(black_box(&bytes), black_box(&window)).expect("a certified layer");
         best = best.min(start.elapsed().as_nanos());
     }
-    println!("hits={hits} nanoseconds={best}");
+    println!("hits={hits} read={read} nanoseconds={best}");
 }

@@ -15,32 +15,35 @@ def write(path, width, height, parts):
         )
 
 
-# Where bars begin, and how long a bar of one is.
-START, ONE = 270, 130
+# Where bars begin, how long a bar of one is, how high each is, and their colours.
+START, ONE, HIGH = 270, 130, 13
+BARS = ["#4477aa", "#cc6633"]
 
 
-def bar(y, label, value):
-    width = ONE * value
-    return (
-        f'<text x="8" y="{y + 13}">{label}</text>'
-        f'<rect x="{START}" y="{y}" width="{width:.0f}" height="18" fill="#4477aa"/>'
-        f'<text x="{START + 8 + width:.0f}" y="{y + 13}">{value:.2f}</text>'
-    )
+def bars(y, label, values):
+    """A row: its label, and a bar for each value."""
+    yield f'<text x="8" y="{y + 4 + HIGH}">{label}</text>'
+    for number, (value, color) in enumerate(zip(values, BARS)):
+        top, width = y + number * HIGH, ONE * value
+        yield f'<rect x="{START}" y="{top}" width="{width:.0f}" height="{HIGH - 1}" fill="{color}"/>'
+        yield f'<text x="{START + 8 + width:.0f}" y="{top + HIGH - 2}">{value:.2f}</text>'
 
 
-def ratios(path, sections):
-    """Bars of each section, which is a title and names with their ratios, and a line where a ratio is one."""
+def ratios(path, names, sections):
+    """Bars of each section, which is a title and labels with a ratio for each name, and a line where a ratio is one."""
     rows, y = [], 8
+    for place, (name, color) in enumerate(zip(names, BARS)):
+        rows.append(f'<text x="{START + 100 * place}" y="20" style="fill:{color}">{name}</text>')
     for title, values in sections:
         rows.append(f'<text x="8" y="{y + 12}" font-weight="bold">{title}</text>')
         y += 22
         top = y - 2
-        for label, value in values.items():
-            rows.append(bar(y, label, value))
-            y += 24
+        for label, several in values.items():
+            rows += bars(y, label, several)
+            y += 8 + HIGH * len(names)
         rows.append(f'<line class="line" x1="{START + ONE}" x2="{START + ONE}" y1="{top}" y2="{y - 2}"/>')
         y += 14
-    longest = max(value for _, values in sections for value in values.values())
+    longest = max(max(several) for _, values in sections for several in values.values())
     write(path, round(START + ONE * longest + 60), y, rows)
 
 

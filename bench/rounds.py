@@ -10,25 +10,29 @@ class Rounds:
     """Times in milliseconds, and the answers of all runs, which must be one."""
 
     def __init__(self):
-        self.ours, self.fast, self.plain, self.ratios = [], [], [], []
+        self.ours, self.fast, self.vectors, self.plain, self.ratios = [], [], [], [], []
         self.answers = set()
 
-    def note(self, ours, before, behind, plain):
+    def note(self, ours, before, behind, vectors, plain):
         """One round; each run is a time and an answer."""
-        self.answers.update(answer for _, answer in (ours, before, behind, plain))
+        self.answers.update(answer for _, answer in (ours, before, behind, vectors, plain))
         self.ours.append(ours[0])
         self.fast += [before[0], behind[0]]
+        self.vectors.append(vectors[0])
         self.plain.append(plain[0])
         if max(self.fast[-2:]) <= ALIKE * min(self.fast[-2:]):
             self.ratios.append(2 * ours[0] / sum(self.fast[-2:]))
 
     def bests(self):
-        return min(self.ours), min(self.fast), min(self.plain)
+        return min(self.ours), min(self.fast), min(self.vectors), min(self.plain)
 
     def over_fast(self):
         """The median of the ratios of quiet rounds, or that of the best times, where fewer than half of the rounds were quiet."""
         quiet = 2 * len(self.ratios) >= len(self.ours)
         return statistics.median(self.ratios) if quiet else min(self.ours) / min(self.fast)
+
+    def over_vectors(self):
+        return min(self.ours) / min(self.vectors)
 
     def over_plain(self):
         return min(self.ours) / min(self.plain)

@@ -5,12 +5,12 @@ usage: bench/run.py TOOL SCANNER [RUNS]
 
 SCANNER is twkb_bench, which times audits and scans within its process. TOOL is twkb_tool, of which whole runs are
 timed, and runs on the same bytes with a first one that no blob begins with: these read the file and refuse it. They are
-compared with programs in plain Rust, std only: fast/ is the fastest that we know how to write, without SIMD; of the two
-called plain, plain.rs checks as one would write it at first, and hops.rs scans with all inlined. In each of RUNS
-rounds ours is run between two runs of the fastest one. Of each the best time is shown. Ratios of times over the fastest
-program's are medians of the rounds in which both of its runs took as long, or of the best times, where fewer than half of
-the rounds were such. Times are of 40 MB, and instructions, which valgrind counts, of 4 MB, of one audit or scan alone.
-Where two answers differ, the run fails. A plot of the ratios goes to docs/bench.svg.
+compared with programs in Rust, std only: fast/ is the fastest that we know how to write, without SIMD, and vectors/ with
+that of x86-64-v2; of the two called plain, plain.rs checks as one would write it at first, and hops.rs scans with all
+inlined. In each of RUNS rounds ours is run between two runs of fast/. Of each the best time is shown. Ratios of times over
+fast/ are medians of the rounds in which both of its runs took as long, or of the best times, where fewer than half of the
+rounds were such; other ratios are of the best times. Times are of 40 MB, and instructions, which valgrind counts, of 4 MB,
+of one audit or scan alone. Where two answers differ, the run fails. A plot of the ratios goes to docs/bench.svg.
 """
 import os
 import sys
@@ -48,8 +48,10 @@ class Programs:
 
     def __init__(self, folder, tool, scanner):
         self.tool, self.scanner = os.path.abspath(tool), os.path.abspath(scanner)
-        # All modules at once, and twice over: so its loops come out best.
-        self.fast = programs.built(folder, "fast", "fast/main.rs", "-C", "codegen-units=1", "-C", "lto=thin")
+        # All modules at once, and twice over: so loops come out best.
+        whole = ["-C", "codegen-units=1", "-C", "lto=thin"]
+        self.fast = programs.built(folder, "fast", "fast/main.rs", *whole)
+        self.vectors = programs.built(folder, "vectors", "vectors/main.rs", *whole, "-C", "target-cpu=x86-64-v2")
         self.plain = programs.built(folder, "plain", "plain.rs")
         self.hops = programs.built(folder, "hops", "hops.rs")
 
@@ -58,6 +60,7 @@ class Programs:
         return {
             "ours": [self.tool, "check", layer],
             "fast": [self.fast, "check", layer],
+            "vectors": [self.vectors, "check", layer],
             "plain": [self.plain, layer],
         }
 
@@ -66,6 +69,7 @@ class Programs:
         return {
             "ours": [self.scanner, layer, repeats],
             "fast": [self.fast, "check", layer, repeats],
+            "vectors": [self.vectors, "check", layer, repeats],
             "plain": [self.plain, layer, repeats],
         }
 
@@ -73,8 +77,13 @@ class Programs:
         mode = "scanall" if window == WHOLE else "scan"
         return {
             "fast": [self.fast, mode, layer, *units(window), repeats],
+            "vectors": [self.vectors, mode, layer, *units(window), repeats],
             "plain": [self.hops, layer, *units(window), repeats],
         }
+
+
+# A round: ours between two runs of fast/.
+ORDER = ("fast", "ours", "fast", "vectors", "plain")
 
 
 def told(line, *names):
@@ -90,8 +99,8 @@ def note_audits(found, layer, rounds):
         (line,), _, _ = programs.run(commands[name])
         return told(line, "blobs", "vertices")
 
-    before, ours, behind, plain = (audited(name) for name in ("fast", "ours", "fast", "plain"))
-    rounds.note(ours, before, behind, plain)
+    before, ours, behind, vectors, plain = (audited(name) for name in ORDER)
+    rounds.note(ours, before, behind, vectors, plain)
 
 
 def note_runs(commands, rounds, memories):
@@ -102,8 +111,8 @@ def note_runs(commands, rounds, memories):
         memories[name] = max(memories.get(name, 0), kilobytes / 1024)
         return 1000 * seconds, line.split(" nanoseconds=")[0]
 
-    before, ours, behind, plain = (ran(name) for name in ("fast", "ours", "fast", "plain"))
-    rounds.note(ours, before, behind, plain)
+    before, ours, behind, vectors, plain = (ran(name) for name in ORDER)
+    rounds.note(ours, before, behind, vectors, plain)
 
 
 def note_scans(found, layer, rounds):
@@ -111,15 +120,18 @@ def note_scans(found, layer, rounds):
 
     def scanned(name):
         lines = {step: programs.run(found.scans(layer, window, "2")[name])[0][0] for step, window in STEPS.items()}
-        return {step: told(line, "hits") for step, line in lines.items()}
+        return {step: told(line, "hits", "read") for step, line in lines.items()}
 
     before = scanned("fast")
     (_, *lines), _, _ = programs.run([found.scanner, layer, "2", *STEPS.values(), "build", NOTHING])
-    behind, plain = scanned("fast"), scanned("plain")
-    for step, line in zip([*STEPS, BUILD, LOOKUP], lines, strict=True):
-        other = step if step in STEPS else MISSED
-        ours = told(line) if step == BUILD else told(line, "found")
-        rounds[step].note(ours, before[other], behind[other], plain[other])
+    others = before, scanned("fast"), scanned("vectors"), scanned("plain")
+    for step, line in zip(STEPS, lines):
+        rounds[step].note(told(line, "found", "read"), *(other[step] for other in others))
+    # A directory scan has as many hits, and reads less.
+    built, looked_up = lines[len(STEPS) :]
+    hop_scans = [(time, hits) for time, (hits, _) in (other[MISSED] for other in others)]
+    rounds[BUILD].note(told(built), *hop_scans)
+    rounds[LOOKUP].note((told(looked_up)[0], field(looked_up, "found")), *hop_scans)
 
 
 def count_audits(found, layer):
@@ -155,14 +167,15 @@ def ratio(value, over):
 
 
 def cells_of_times(rounds):
-    """The best times of the three programs, and the ratios of ours over the other two."""
-    return [*map(shown, rounds.bests()), shown(rounds.over_fast(), 2), shown(rounds.over_plain(), 2)]
+    """The best times of the four programs, and the ratios of ours over the other three."""
+    ratios = rounds.over_fast(), rounds.over_vectors(), rounds.over_plain()
+    return [*map(shown, rounds.bests()), *(shown(over, 2) for over in ratios)]
 
 
 def cells_of_numbers(numbers):
     """The same of numbers that come out alike each time."""
-    ours, fast, plain = (numbers.get(name) for name in ("ours", "fast", "plain"))
-    return [shown(ours), shown(fast), shown(plain), ratio(ours, fast), ratio(ours, plain)]
+    ours, *others = (numbers.get(name) for name in NAMES)
+    return [shown(ours), *map(shown, others), *(ratio(ours, other) for other in others)]
 
 
 def row(title, kind, rounds, counts):
@@ -170,10 +183,15 @@ def row(title, kind, rounds, counts):
     print("| " + " | ".join([title, kind, *cells_of_times(rounds), *cells_of_numbers(counts)]) + " |", flush=True)
 
 
+# The programs in the order of the columns, and these.
+NAMES = ("ours", "fast", "vectors", "plain")
+COLUMNS = [*NAMES, *(f"ours to {name}" for name in NAMES[1:])]
+
+
 def heading():
-    columns = "ours | fast | plain | ours to fast | ours to plain"
+    columns = " | ".join(COLUMNS)
     print(f"| Step | Layer | ms: {columns} | million instructions: {columns} |")
-    print("|---" * 12 + "|")
+    print("|---" * (2 + 2 * len(COLUMNS)) + "|")
 
 
 def table_of_audits(found, folder, runs):
@@ -205,8 +223,8 @@ def table_of_whole_runs(found, folder, runs, audits):
         note_runs(found.checks(refused), reads, {})
     the_same(wholes)
     the_same(reads)
-    print("\n| Whole run of check, the mix | ours | fast | plain | ours to fast | ours to plain |")
-    print("|---" * 6 + "|")
+    print("\n| Whole run of check, the mix | " + " | ".join(COLUMNS) + " |")
+    print("|---" * (1 + len(COLUMNS)) + "|")
     for title, rounds in {"all, ms": wholes, "reading alone, ms": reads}.items():
         print(f"| {title} | " + " | ".join(cells_of_times(rounds)) + " |")
     print("| greatest memory, MiB | " + " | ".join(cells_of_numbers(memories)) + " |")
@@ -226,14 +244,14 @@ def tell_of_memory(found, folder, audits):
 
 def table_of_scans(found, folder, runs):
     """Prints the rows of scans and directories, and gives notes on directories, and ratios of times."""
-    notes, over_fast = [], {}
+    notes, over = [], {}
     for kind in ("the mix", "lines"):
         layer, copies = layers.write_layer(folder, kind, TIMED)
         rounds = {step: Rounds() for step in [*STEPS, BUILD, LOOKUP]}
         for _ in range(runs):
             note_scans(found, layer, rounds)
         for step, window in STEPS.items():
-            (hits,) = the_same(rounds[step])
+            hits, _ = the_same(rounds[step])
             if kind == "lines" and window in POSTGIS and int(hits) != POSTGIS[window] * copies:
                 sys.exit(f"{hits} blobs were found in {window}, {POSTGIS[window] * copies} by PostGIS")
         the_same(rounds[LOOKUP])
@@ -241,13 +259,12 @@ def table_of_scans(found, folder, runs):
         counts = count_scans(found, small)
         for step, times in rounds.items():
             other = step if step in STEPS else MISSED
-            names = {"ours": (step, "ours"), "fast": (other, "fast"), "plain": (other, "plain")}
-            row(step, kind, times, {name: counts[key] for name, key in names.items()})
-        over_fast |= {f"{step}, {kind}": rounds[step].over_fast() for step in STEPS}
+            row(step, kind, times, {name: counts[step if name == "ours" else other, name] for name in NAMES})
+        over |= {f"{step}, {kind}": (rounds[step].over_fast(), rounds[step].over_vectors()) for step in STEPS}
         rate = min(rounds[MISSED].ours) / min(rounds[LOOKUP].ours)
         notes.append(f"{kind}: {bytes_a_blob(found, folder, kind):.0f} bytes a blob in a directory, "
                      f"whose scan without a hit has {rate:.1f} times the rate of the hop scan")
-    return notes, over_fast
+    return notes, over
 
 
 def bytes_a_blob(found, folder, kind):
@@ -273,9 +290,9 @@ def main():
         print("\n" + "\n".join(notes))
         symbols.tell(found.tool, "twkb_tool")
         symbols.tell(found.scanner, "twkb_bench")
-    over_fast = {kind: rounds.over_fast() for kind, rounds in audits.items()}
-    sections = [("audits: our time / the yardstick's", over_fast), ("scans: our time / the yardstick's", scans)]
-    plots.ratios(os.path.join(layers.TOP, "docs", "bench.svg"), sections)
+    over = {kind: (rounds.over_fast(), rounds.over_vectors()) for kind, rounds in audits.items()}
+    sections = [("audits", over), ("scans", scans)]
+    plots.ratios(os.path.join(layers.TOP, "docs", "bench.svg"), ("ours to fast", "ours to vectors"), sections)
 
 
 main()

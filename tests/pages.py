@@ -122,8 +122,11 @@ def speed(reach):
     rows = ["| Step, one thread, 40 MB | Dozhemik, ms | Fastest Rust, ms | Plain Rust, ms |", "|---|---|---|---|"]
     for name, step, layer, has_rivals in STEPS:
         start = f"| {step} | {layer} |" if layer else f"| {step} |"
-        row = next(line for line in text.splitlines() if line.startswith(start))
-        ours, fast, plain = row[len(start) :].split(" | ")[:3]
+        lines = text.splitlines()
+        at = next(at for at, line in enumerate(lines) if line.startswith(start))
+        # The heading of the row's table is behind the last empty line.
+        names = lines[max(before for before in range(at) if not lines[before]) + 1].split(" | ")
+        ours, fast, plain = (lines[at].split(" | ")[names.index(f"{column}, ms")] for column in ("ours", "fast", "plain"))
         rows.append(f"| {name} | {ours.strip()} | {fast if has_rivals else ''} | {plain if has_rivals else ''} |")
     return "\n".join(rows)
 

@@ -1,6 +1,6 @@
 //! The quick audit, and the check of a whole layer.
 use crate::bodies::{list, parts, Boxed, Skipped, Summed, Sure};
-use crate::plain::{plain, Reader};
+use crate::plain::{plain, Reader, Refusal};
 use crate::words::{mixed_pair, unsigned, word, TOPS};
 
 /// The answer of a layer. Where nothing is judged, each blob is read by the plain pass.
@@ -8,19 +8,24 @@ use crate::words::{mixed_pair, unsigned, word, TOPS};
 pub fn check(bytes: &[u8], judge: bool) -> String {
     let (mut rest, mut blobs, mut vertices) = (bytes, 0, 0);
     while !rest.is_empty() {
-        if let (true, Some((behind, more))) = (judge, quick(rest, 1, None)) {
-            (rest, vertices) = (behind, vertices + more);
-        } else {
-            let mut reader = Reader { bytes, place: bytes.len() - rest.len() };
-            let found = plain(&mut reader, 1, judge, &mut |_, _| ());
-            match found.and_then(|found| found.refused.map_or(Ok(found), Err)) {
-                Ok(found) => (rest, vertices) = (&bytes[reader.place..], vertices + found.vertices),
-                Err((offset, kind)) => return format!("no blob={blobs} offset={offset} kind={kind}"),
-            }
+        match blob(bytes, rest, judge) {
+            Ok((behind, more)) => (rest, vertices) = (behind, vertices + more),
+            Err((offset, kind)) => return format!("no blob={blobs} offset={offset} kind={kind}"),
         }
         blobs += 1;
     }
     format!("ok blobs={blobs} vertices={vertices}")
+}
+
+/// What is behind the blob that the rest of the bytes begins with, and the number of its vertices.
+#[inline(always)]
+pub fn blob<'a>(bytes: &'a [u8], rest: &'a [u8], judge: bool) -> Result<(&'a [u8], u64), Refusal> {
+    if let (true, Some(found)) = (judge, quick(rest, 1, None)) {
+        return Ok(found);
+    }
+    let mut reader = Reader { bytes, place: bytes.len() - rest.len() };
+    let found = plain(&mut reader, 1, judge, &mut |_, _| ())?;
+    found.refused.map_or(Ok((&bytes[reader.place..], found.vertices)), Err)
 }
 
 /// A collection's box in raw integers, and the precisions and axes that they are meant at.

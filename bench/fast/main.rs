@@ -3,20 +3,18 @@
 //!
 //! Usage: fast touch|check|decode FILE [REPEATS], fast scan|scanall FILE X0 X1 Y0 Y1 [REPEATS], the window in units.
 //! `touch` sums the bytes, `check` audits claims, `decode` reads every coordinate and judges no size and no box, `scan`
-//! hops over blobs of X and Y whose box misses, `scanall` looks at every vertex. The answer is printed, for a scan the
-//! hits and the bytes that had to be read, and behind it the best time of one repeat in nanoseconds.
+//! hops over what has a size and a box that misses, `scanall` looks at every vertex. The answer is printed, for a scan
+//! the hits and the bytes that had to be read, and behind it the best time of one repeat in nanoseconds.
 //!
 //! Quick passes (`audits`, `scans`, over `words` and `bodies`) only answer what they are sure of. Where they aren't (a
 //! false claim, a malformation, a varint of more than eight bytes, a member's box not inside the one over it) a plain
 //! pass (`plain`) reads the blob again, and names what is wrong.
 mod audits;
 mod bodies;
+mod command;
 mod plain;
 mod scans;
 mod words;
-
-use std::hint::black_box;
-use std::time::Instant;
 
 /// The answer of a mode.
 fn answer(mode: &str, bytes: &[u8], window: [i128; 4]) -> String {
@@ -32,20 +30,5 @@ fn answer(mode: &str, bytes: &[u8], window: [i128; 4]) -> String {
 }
 
 fn main() {
-    let words: Vec<String> = std::env::args().collect();
-    let (mode, bytes) = (words[1].as_str(), std::fs::read(&words[2]).expect("a file to read"));
-    let mut rest = words[3..].iter().map(|word| word.parse::<i128>().expect("a number"));
-    let window = if mode.starts_with("scan") {
-        [(); 4].map(|()| rest.next().expect("the four ends of a window"))
-    } else {
-        [0; 4]
-    };
-    let repeats = rest.next().unwrap_or(1).max(1);
-    let (mut text, mut best) = (String::new(), u128::MAX);
-    for _ in 0..repeats {
-        let start = Instant::now();
-        text = black_box(answer(mode, black_box(&bytes), window));
-        best = best.min(start.elapsed().as_nanos());
-    }
-    println!("{text} nanoseconds={best}");
+    command::run(answer);
 }

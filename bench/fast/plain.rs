@@ -52,19 +52,33 @@ pub fn scale(raw: u32) -> i128 {
     10i128.pow(if raw % 2 == 0 { 7 - raw / 2 } else { 8 + raw / 2 })
 }
 
-/// The length of the header, the box, the range of X, Y, Z and M in units, the vertices, and the first false claim.
+/// The range of X, Y, Z and M in units, the vertices, and the first false claim.
 pub struct Found {
-    pub head: usize,
-    pub claim: [Range; 4],
     range: [Range; 4],
     pub vertices: u64,
     pub refused: Option<Refusal>,
 }
 
 impl Found {
+    pub fn nothing() -> Found {
+        Found { range: [NOTHING; 4], vertices: 0, refused: None }
+    }
+
     fn refuse(&mut self, claim: Refusal) {
         self.refused = Some(self.refused.map_or(claim, |first| first.min(claim)));
     }
+}
+
+/// What a geometry begins with, and where its size and its box are.
+pub struct Head {
+    pub kind: u8,
+    pub metadata: u8,
+    axes: Axes,
+    size_at: usize,
+    pub size: u64,
+    pub box_at: usize,
+    /// The box, in units.
+    pub claim: [Range; 4],
 }
 
 /// Axes that are there, X to M as 0 to 3, each with its scale.
@@ -73,9 +87,14 @@ struct Axes {
     count: usize,
 }
 
-/// A geometry; `see` is given X and Y of each vertex.
-#[inline(never)]
-pub fn plain<F: FnMut(i128, i128)>(reader: &mut Reader, depth: u8, judge: bool, see: &mut F) -> Result<Found, Refusal> {
+impl Axes {
+    fn each(&self) -> &[(usize, i128)] {
+        &self.all[..self.count]
+    }
+}
+
+/// The header of a geometry.
+pub fn head(reader: &mut Reader, depth: u8) -> Result<Head, Refusal> {
     let start = reader.place;
     let first = reader.byte()?;
     let kind = first & 15;
@@ -84,31 +103,37 @@ pub fn plain<F: FnMut(i128, i128)>(reader: &mut Reader, depth: u8, judge: bool, 
     }
     let metadata = reader.byte()?;
     let axes = axes(reader, first, metadata)?;
-    let axes = &axes.all[..axes.count];
     let size_at = reader.place;
     let size = if metadata & 2 != 0 { reader.unsigned()? } else { 0 };
     let box_at = reader.place;
-    let mut found = Found { head: 0, claim: [NOTHING; 4], range: [NOTHING; 4], vertices: 0, refused: None };
-    for &(axis, scale) in if metadata & 1 != 0 { axes } else { &[] } {
+    let mut claim = [NOTHING; 4];
+    for &(axis, scale) in if metadata & 1 != 0 { axes.each() } else { &[] } {
         let low = reader.signed()? as i128;
-        found.claim[axis] = (low * scale, (low + reader.signed()? as i128) * scale);
+        claim[axis] = (low * scale, (low + reader.signed()? as i128) * scale);
     }
-    found.head = reader.place - start;
-    if metadata & 16 == 0 {
-        let count = if kind >= 4 { ids(reader, metadata, &mut found)? } else { 1 };
-        if kind == 7 {
+    Ok(Head { kind, metadata, axes, size_at, size, box_at, claim })
+}
+
+/// A geometry; `see` is given X and Y of each vertex.
+#[inline(never)]
+pub fn plain<F: FnMut(i128, i128)>(reader: &mut Reader, depth: u8, judge: bool, see: &mut F) -> Result<Found, Refusal> {
+    let head = head(reader, depth)?;
+    let mut found = Found::nothing();
+    if head.metadata & 16 == 0 {
+        let count = list(reader, &head, &mut found)?;
+        if head.kind == 7 {
             members(reader, depth, count, judge, see, &mut found)?;
         } else {
-            body(reader, kind, count, axes, see, &mut found)?;
+            body(reader, &head, count, see, &mut found)?;
         }
     }
-    if judge && metadata & 2 != 0 && size != (reader.place - box_at) as u64 {
-        found.refuse((size_at, "size"));
+    if judge && head.metadata & 2 != 0 && head.size != (reader.place - head.box_at) as u64 {
+        found.refuse((head.size_at, "size"));
     }
     let outside =
-        |axis: usize| found.range[axis] != NOTHING && both(found.claim[axis], found.range[axis]) != found.claim[axis];
-    if judge && metadata & 1 != 0 && axes.iter().any(|&(axis, _)| outside(axis)) {
-        found.refuse((box_at, "box"));
+        |axis: usize| found.range[axis] != NOTHING && both(head.claim[axis], found.range[axis]) != head.claim[axis];
+    if judge && head.metadata & 1 != 0 && head.axes.each().iter().any(|&(axis, _)| outside(axis)) {
+        found.refuse((head.box_at, "box"));
     }
     Ok(found)
 }
@@ -128,11 +153,14 @@ fn axes(reader: &mut Reader, first: u8, metadata: u8) -> Result<Axes, Refusal> {
     Ok(axes)
 }
 
-/// The count of a list, behind its ids.
-fn ids(reader: &mut Reader, metadata: u8, found: &mut Found) -> Result<u64, Refusal> {
+/// The count of a list, behind its ids; of kinds 1 to 3, one.
+pub fn list(reader: &mut Reader, head: &Head, found: &mut Found) -> Result<u64, Refusal> {
+    if head.kind < 4 {
+        return Ok(1);
+    }
     let count = reader.unsigned()?;
     let (start, mut ids, mut place) = (reader.place, Vec::new(), 0);
-    while metadata & 4 != 0 && place < count {
+    while head.metadata & 4 != 0 && place < count {
         ids.push(reader.signed()?);
         place += 1;
     }
@@ -160,15 +188,15 @@ fn members<F: FnMut(i128, i128)>(
     Ok(())
 }
 
-fn body<F: FnMut(i128, i128)>(
+/// A body of kinds 1 to 6; `see` is given X and Y of each vertex.
+pub fn body<F: FnMut(i128, i128)>(
     reader: &mut Reader,
-    kind: u8,
+    head: &Head,
     count: u64,
-    axes: &[(usize, i128)],
     see: &mut F,
     found: &mut Found,
 ) -> Result<(), Refusal> {
-    let mut last = [0i64; 4];
+    let (kind, axes, mut last) = (head.kind, head.axes.each(), [0i64; 4]);
     for _ in 0..count {
         for _ in 0..if kind % 3 == 0 { reader.unsigned()? } else { 1 } {
             for _ in 0..if kind % 3 == 1 { 1 } else { reader.unsigned()? } {

@@ -1,24 +1,24 @@
 //! The quick scan, of certified layers.
 use crate::bodies::{parts, Points};
-use crate::plain::{plain, scale, Reader};
-use crate::words::{long_pair, mixed_pair, skip, unsigned, word};
+use crate::plain::{self, body, head, list, scale, Reader, Refusal};
+use crate::words::{mixed_pair, skip, unsigned, word};
 
 /// A window in units, and in the raw integers of each precision.
-struct Window {
+pub struct Window {
     units: [i128; 4],
-    raw: [Raw; 16],
+    pub raw: [Raw; 16],
 }
 
 /// The window in raw integers. It is `empty` where no coordinate is inside.
 #[derive(Clone, Copy, Default)]
-struct Raw {
-    low: [i64; 2],
-    high: [i64; 2],
+pub struct Raw {
+    pub low: [i64; 2],
+    pub high: [i64; 2],
     extent: [u64; 2],
     empty: bool,
 }
 
-fn window(units: [i128; 4]) -> Window {
+pub fn window(units: [i128; 4]) -> Window {
     let mut raw = [Raw::default(); 16];
     for (precision, raw) in raw.iter_mut().enumerate() {
         let scale = scale(precision as u32);
@@ -55,62 +55,107 @@ impl<const N: usize> Points<N> for Sought {
     }
 }
 
-/// The number of hits, and of bytes that had to be read.
-#[inline(never)]
+/// Whether a vertex of a geometry is inside, how many bytes were hopped over, and what is behind it.
+pub type Found<'a> = (bool, usize, &'a [u8]);
+
+/// The number of hits, and of bytes that had to be read. If `hop` is true, geometries with a size and a box that misses
+/// the window are hopped over, at any depth.
 pub fn scan(bytes: &[u8], units: [i128; 4], hop: bool) -> (usize, usize) {
-    let window = window(units);
-    let (mut hits, mut read, mut rest) = (0, 0, bytes);
-    while !rest.is_empty() {
-        if let (true, Some((header, behind))) = (hop, missed(rest, &window)) {
-            (read, rest) = (read + header, behind);
-            continue;
-        }
-        let (found, length, behind) = match sought(rest, &window) {
-            Some((found, behind)) => (found, rest.len() - behind.len(), behind),
-            None => plain_scan(rest, &window, hop),
-        };
-        (hits, read, rest) = (hits + found as usize, read + length, behind);
+    if hop {
+        scan_all::<true>(bytes, &window(units))
+    } else {
+        scan_all::<false>(bytes, &window(units))
     }
-    (hits, read)
 }
 
-/// The length of the header, and what is behind the blob, if it has a size and a box of X and Y that misses the window.
-/// The box's ends are below 2^56, so the window's ends may be moved into 64 bits.
-#[inline(always)]
-fn missed<'a>(rest: &'a [u8], window: &Window) -> Option<(usize, &'a [u8])> {
-    let first = word(rest)?;
-    if first & 0x0b00 != 0x0300 {
-        return None;
+#[inline(never)]
+fn scan_all<const HOP: bool>(bytes: &[u8], window: &Window) -> (usize, usize) {
+    let (mut hits, mut hopped, mut rest) = (0, 0, bytes);
+    while !rest.is_empty() {
+        if let (true, Some((more, behind))) = (HOP, missed(rest, window)) {
+            (hopped, rest) = (hopped + more, behind);
+            continue;
+        }
+        let (found, more, behind) = looked_at::<HOP>(rest, window);
+        (hits, hopped, rest) = (hits + found as usize, hopped + more, behind);
     }
-    let raw = &window.raw[(first >> 4 & 15) as usize];
-    let (size, ends) = unsigned(&rest[2..])?;
+    (hits, bytes.len() - hopped)
+}
+
+/// A blob that doesn't miss the window by a box.
+#[inline(always)]
+pub fn looked_at<'a, const HOP: bool>(rest: &'a [u8], window: &Window) -> Found<'a> {
+    match sought::<HOP>(rest, window) {
+        Some(found) => found,
+        None => plain_blob(rest, window, HOP),
+    }
+}
+
+/// How many bytes are hopped over, and what is behind the geometry, if it has a size and a box that misses the window.
+#[inline(always)]
+pub fn missed<'a>(rest: &'a [u8], window: &Window) -> Option<(usize, &'a [u8])> {
+    let first = word(rest)?;
+    if first & 0x0300 != 0x0300 {
+        None
+    } else if first & 0x0800 != 0 {
+        missed_further(rest, window)
+    } else {
+        missed_by_box(rest, 2, 0, window)
+    }
+}
+
+/// The same of a geometry with an extended byte.
+#[inline(never)]
+fn missed_further<'a>(rest: &'a [u8], window: &Window) -> Option<(usize, &'a [u8])> {
+    let first = word(rest)?;
+    missed_by_box(rest, 3, (first >> 16 & 1) + (first >> 17 & 1), window)
+}
+
+/// The same, whose size is at a place, and whose box has so many further axes. The box's ends are below 2^56, so the
+/// window's ends may be moved into 64 bits.
+#[inline(always)]
+fn missed_by_box<'a>(rest: &'a [u8], place: usize, further: u64, window: &Window) -> Option<(usize, &'a [u8])> {
+    let raw = &window.raw[(word(rest)? >> 4 & 15) as usize];
+    let (size, ends) = unsigned(&rest[place..])?;
     let behind = ends.get(size as usize..)?;
     let (x, width, ends) = mixed_pair(ends)?;
     if (x + width < raw.low[0]) | (raw.high[0] < x) {
-        let body = match skip(ends, 2, true) {
-            Some(body) => body,
-            None => long_pair(ends)?.2,
-        };
-        return Some((rest.len() - body.len(), behind));
+        return Some((skip_any(ends, 2 + 2 * further)?.len() - behind.len(), behind));
     }
-    let (y, height, body) = mixed_pair(ends)?;
+    let (y, height, ends) = mixed_pair(ends)?;
     if (y + height < raw.low[1]) | (raw.high[1] < y) {
-        Some((rest.len() - body.len(), behind))
+        Some((skip_any(ends, 2 * further)?.len() - behind.len(), behind))
     } else {
         None
     }
 }
 
-/// Whether a vertex of the geometry is inside, and what is behind it.
+/// What is behind so many varints.
 #[inline(always)]
-fn sought<'a>(rest: &'a [u8], window: &Window) -> Option<(bool, &'a [u8])> {
+fn skip_any(rest: &[u8], varints: u64) -> Option<&[u8]> {
+    match skip(rest, varints, true) {
+        Some(behind) => Some(behind),
+        None => skip_long(rest, varints),
+    }
+}
+
+#[inline(never)]
+fn skip_long(mut rest: &[u8], varints: u64) -> Option<&[u8]> {
+    for _ in 0..varints {
+        (_, rest) = unsigned(rest)?;
+    }
+    Some(rest)
+}
+
+#[inline(always)]
+fn sought<'a, const HOP: bool>(rest: &'a [u8], window: &Window) -> Option<Found<'a>> {
     let first = word(rest)?;
     let raw = &window.raw[(first >> 4 & 15) as usize];
     if first & 0x80_1f0f == 0x0201 {
         // A point with a size alone.
         let (x, y, _) = mixed_pair(&rest[3..])?;
         let inside = (raw.low[0] <= x) & (x <= raw.high[0]) & (raw.low[1] <= y) & (y <= raw.high[1]);
-        return Some((inside & !raw.empty, rest.get(3 + (first >> 16) as u8 as usize..)?));
+        return Some((inside & !raw.empty, 0, rest.get(3 + (first >> 16) as u8 as usize..)?));
     }
     let (kind, metadata) = (first as u8 & 15, (first >> 8) as u8);
     let (mut axes, mut rest, mut behind) = (2, &rest[2..], None);
@@ -127,7 +172,7 @@ fn sought<'a>(rest: &'a [u8], window: &Window) -> Option<(bool, &'a [u8])> {
         rest = skip(rest, 2 * axes, true)?;
     }
     if metadata & 16 != 0 {
-        return Some((false, rest));
+        return Some((false, 0, rest));
     }
     let mut count = 1;
     if kind >= 4 {
@@ -137,14 +182,14 @@ fn sought<'a>(rest: &'a [u8], window: &Window) -> Option<(bool, &'a [u8])> {
         }
     }
     if kind == 7 {
-        return sought_in_members(rest, count, window);
+        return sought_in_members::<HOP>(rest, count, window);
     }
     let (found, stop) = match axes {
         2 => sought_in_body::<2>(rest, kind, count, raw),
         3 => sought_in_body::<3>(rest, kind, count, raw),
         _ => sought_in_body::<4>(rest, kind, count, raw),
     }?;
-    Some((found, behind.unwrap_or(stop)))
+    Some((found, 0, behind.unwrap_or(stop)))
 }
 
 #[inline(always)]
@@ -156,23 +201,49 @@ fn sought_in_body<'a, const N: usize>(rest: &'a [u8], kind: u8, count: u64, raw:
 }
 
 #[inline(never)]
-fn sought_in_members<'a>(mut rest: &'a [u8], count: u64, window: &Window) -> Option<(bool, &'a [u8])> {
-    let (mut found, mut member) = (false, 0);
+fn sought_in_members<'a, const HOP: bool>(mut rest: &'a [u8], count: u64, window: &Window) -> Option<Found<'a>> {
+    let (mut found, mut hopped, mut member) = (false, 0, 0);
     while member < count {
-        let (inside, behind) = sought(rest, window)?;
-        (found, rest) = (found | inside, behind);
+        let (inside, more, behind) = match if HOP { missed(rest, window) } else { None } {
+            Some((more, behind)) => (false, more, behind),
+            None => sought::<HOP>(rest, window)?,
+        };
+        (found, hopped, rest) = (found | inside, hopped + more, behind);
         member += 1;
     }
-    Some((found, rest))
+    Some((found, hopped, rest))
 }
 
 #[cold]
 #[inline(never)]
-fn plain_scan<'a>(bytes: &'a [u8], window: &Window, hop: bool) -> (bool, usize, &'a [u8]) {
-    let (units, mut reader, mut found) = (window.units, Reader { bytes, place: 0 }, false);
-    let inside = |x, y| units[0] <= x && x <= units[1] && units[2] <= y && y <= units[3];
-    let geometry = plain(&mut reader, 1, false, &mut |x, y| found |= inside(x, y)).unwrap();
-    let apart = |axis: usize| geometry.claim[axis].1 < units[2 * axis] || units[2 * axis + 1] < geometry.claim[axis].0;
-    let misses = hop && bytes[1] & 11 == 3 && (0..2).any(apart);
-    (found && !misses, if misses { geometry.head } else { reader.place }, &bytes[reader.place..])
+fn plain_blob<'a>(rest: &'a [u8], window: &Window, hop: bool) -> Found<'a> {
+    let (mut reader, mut hopped) = (Reader { bytes: rest, place: 0 }, 0);
+    let found = plain_scan(&mut reader, window, hop, &mut hopped).expect("a certified layer");
+    (found, hopped, &rest[reader.place..])
+}
+
+#[inline(never)]
+fn plain_scan(reader: &mut Reader, window: &Window, hop: bool, hopped: &mut usize) -> Result<bool, Refusal> {
+    let (head, units) = (head(reader, 1)?, window.units);
+    let apart = |axis: usize| head.claim[axis].1 < units[2 * axis] || units[2 * axis + 1] < head.claim[axis].0;
+    if hop && head.metadata & 3 == 3 && (apart(0) || apart(1)) {
+        let start = reader.place;
+        reader.place = head.box_at + head.size as usize;
+        *hopped += reader.place - start;
+        return Ok(false);
+    }
+    let mut is_found = false;
+    if head.metadata & 16 == 0 {
+        let mut found = plain::Found::nothing();
+        let count = list(reader, &head, &mut found)?;
+        if head.kind == 7 {
+            for _ in 0..count {
+                is_found |= plain_scan(reader, window, hop, hopped)?;
+            }
+        } else {
+            let inside = |x, y| units[0] <= x && x <= units[1] && units[2] <= y && y <= units[3];
+            body(reader, &head, count, &mut |x, y| is_found |= inside(x, y), &mut found)?;
+        }
+    }
+    Ok(is_found)
 }

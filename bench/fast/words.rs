@@ -2,7 +2,7 @@
 
 /// The top bit of each byte: set where a varint goes on.
 pub const TOPS: u64 = 0x8080_8080_8080_8080;
-const ONES: u64 = 0x0101_0101_0101_0101;
+pub const ONES: u64 = 0x0101_0101_0101_0101;
 
 /// The next eight bytes, the first one lowest.
 #[inline(always)]
@@ -90,7 +90,7 @@ pub fn mixed_pair(rest: &[u8]) -> Option<(i64, i64, &[u8])> {
 }
 
 #[inline(never)]
-pub fn long_pair(rest: &[u8]) -> Option<(i64, i64, &[u8])> {
+fn long_pair(rest: &[u8]) -> Option<(i64, i64, &[u8])> {
     let (x, rest) = unsigned(rest)?;
     let (y, rest) = unsigned(rest)?;
     Some((unzigzag(x), unzigzag(y), rest))

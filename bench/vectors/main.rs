@@ -1,0 +1,53 @@
+//! The yardstick with SIMD: the fastest checker and scanner of TWKB layers that we know how to write in Rust for one
+//! thread of an x86-64-v2 processor. It isn't verified.
+//!
+//! Usage: vectors check FILE [REPEATS], vectors scan|scanall FILE X0 X1 Y0 Y1 [REPEATS], the window in units. The
+//! answers are those of `../fast`. Compile it with `-C target-cpu=x86-64-v2`.
+//!
+//! `kernels` reads several varints into the lanes of a vector (`lanes`), by the top bits of their bytes (`tables`).
+//! From these come boxes (`frames`) and runs of points (`runs`), which an audit compares with the box (`audits`) and a
+//! scan with the window (`windows`, `scans`). Without a box the ends of varints are counted (`unboxed`), and blobs of
+//! one form that follow one another are read in loops of their own (`series`). All of these only answer what they are
+//! sure of. What they aren't sure of, as numbers that are too long for a lane, the last few hundred bytes, or what is
+//! false or malformed, the passes of `../fast` read again.
+mod audits;
+#[path = "../fast/bodies.rs"]
+mod bodies;
+#[path = "../fast/command.rs"]
+mod command;
+#[allow(dead_code, reason = "a whole layer is checked by `audits`")]
+#[path = "../fast/audits.rs"]
+mod fast_audits;
+#[allow(dead_code, reason = "a whole layer is scanned by `scans`")]
+#[path = "../fast/scans.rs"]
+mod fast_scans;
+mod frames;
+mod headers;
+mod kernels;
+mod lanes;
+#[path = "../fast/plain.rs"]
+mod plain;
+mod runs;
+mod scans;
+mod series;
+mod tables;
+mod unboxed;
+mod windows;
+#[path = "../fast/words.rs"]
+mod words;
+
+/// The answer of a mode.
+fn answer(mode: &str, bytes: &[u8], window: [i128; 4]) -> String {
+    match mode {
+        "check" => audits::check(bytes),
+        "scan" | "scanall" => {
+            let (hits, read) = scans::scan(bytes, window, mode == "scan");
+            format!("hits={hits} read={read}")
+        }
+        _ => panic!("no such mode: {mode}"),
+    }
+}
+
+fn main() {
+    command::run(answer);
+}
