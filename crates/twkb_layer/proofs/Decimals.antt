@@ -1,6 +1,6 @@
 -- The digits of a decimal, one by one.
 use Rattle.std.proofs.Common.{◌≡◌, ◌≢◌, ℕ, zero, suc, ◌+◌, ◌-◌, ◌*◌, ◌/◌, ◌%◌, ◌^◌, ◌<◌, ◌≤◌, min, Bool, true, false, cond, List, [], ◌∷◌, ◌++◌, length, take, drop, get_or, ◌==◌, not, refl, ap, sym, ◌∙◌, arith, length-append, length-drop, mul_assoc, mul_comm}
-use Rattle.std.proofs.Math.Nat.{div-eq_of_lt, div-div-eq-div-mul, mul-div-mul_right, mul-mod_left, div-lt_iff_lt-mul, add-mul-div_right, one-le-pow, pow-le-pow_right}
+use Rattle.std.proofs.Math.Nat.{div-eq_of_lt, div-div-eq-div-mul, mul-div-mul_right, mul-mod_left, add-mul-div_right, one-le-pow, pow-le-pow_right}
 use Rattle.std.specs.Char.{digit_value}
 use Rattle.std.specs.Str.Parse.{digits_value, AllDigits}
 use Rattle.std.proofs.lemmas.Int.Digits.{digits_value-lt, digits_value_more}

@@ -1,5 +1,5 @@
 -- Each turn makes the window of one more precision.
-use Rattle.std.proofs.Common.{◌≡◌, ◌+◌, ◌-◌, ℤ, pos, ◌-ℤ◌, refl, subst, arith, ◌∙◌}
+use Rattle.std.proofs.Common.{◌≡◌, ◌-◌, ℤ, pos, ◌-ℤ◌, refl, subst, arith, ◌∙◌}
 use Rattle.std.proofs.lemmas.Int.{ints}
 use Rattle.std.proofs.Math.ListN.{length-set}
 use Rattle.twkb_layer.specs.Devices.Raw.{IsExactWindow}

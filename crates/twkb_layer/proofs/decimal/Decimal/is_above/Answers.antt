@@ -1,7 +1,7 @@
 -- One more digit doesn't change the sign of a difference of 2 or more.
-use Rattle.std.proofs.Common.{◌≡◌, ℕ, ℤ, pos, ◌+◌, ◌-◌, ◌*◌, ◌/◌, ◌%◌, ◌^◌, ◌-ℤ◌, FitsSigned, to_z, of_z, length, ap, sym, subst, ◌∙◌, arith, rules}
+use Rattle.std.proofs.Common.{◌≡◌, ℕ, ◌+◌, ◌-◌, ◌*◌, ◌/◌, ◌%◌, ◌^◌, ◌-ℤ◌, FitsSigned, to_z, length, ap, subst, ◌∙◌, arith, rules}
 use Rattle.std.specs.Int.{w64}
-use Rattle.std.proofs.lemmas.Int.{ints, to_z-of_z}
+use Rattle.std.proofs.lemmas.Int.{to_z-of_z}
 use Rattle.twkb_layer.specs.Decimals.{Decimal, signed}
 use Rattle.twkb_layer.specs.Devices.Decimals.{leaning}
 use Rattle.twkb_layer.proofs.Decimals.{top_none}

@@ -1,5 +1,5 @@
 -- Ten steps of the finer precision are one step of the coarser one.
-use Rattle.std.proofs.Common.{◌≡◌, ℤ, pos, ◌*ℤ◌, int_lt, FitsSigned, ap, sym, ◌∙◌, arith, rules}
+use Rattle.std.proofs.Common.{ℤ, pos, ◌*ℤ◌, int_lt, FitsSigned, ap, sym, ◌∙◌, rules}
 use Rattle.std.specs.Int.{w64}
 use Rattle.std.proofs.lemmas.Int.{to_z-of_z}
 use Rattle.twkb_layer.proofs.Raws.{coarser_ends}
