@@ -1,20 +1,18 @@
 -- The slots of a directory, as blobs are added one at a time.
-use Rattle.std.proofs.Common.{◌≡◌, ℕ, ◌+◌, ◌*◌, ◌/◌, ◌%◌, ◌^◌, ◌<◌, ◌≤◌, ◌||◌, nat_le, arith, Bool, true, false, cond, List, [], ◌∷◌, ◌++◌, length, map, take, slice_set, Option, Some, None, is_some, refl, ap, sym, ◌∙◌, append_assoc}
+use Rattle.std.proofs.Common.{◌≡◌, ℕ, ◌+◌, ◌*◌, ◌/◌, ◌%◌, ◌^◌, ◌<◌, ◌≤◌, ◌||◌, nat_le, arith, Bool, true, false, cond, List, [], ◌∷◌, ◌++◌, length, map, take, drop, slice_set, Option, Some, None, is_some, refl, ap, sym, ◌∙◌, append_assoc}
 use Rattle.std.proofs.lemmas.Bool.Decides.{nat_tests}
-use Rattle.std.proofs.lemmas.List.{map-append, take_more_set, length-set}
+use Rattle.std.proofs.lemmas.List.{map-append, take_more_set, length-set, append-nil, drop-drop}
 use Rattle.twkb_head.specs.declared.boxes.Span.{Span}
 use Rattle.twkb_head.specs.declared.boxes.Bounds.{Bounds}
 use Rattle.twkb_num.specs.Cursor.{Reading}
 use Rattle.twkb_body.specs.Geometry.{Geometry}
-use Rattle.twkb_layer.specs.Directory.{Entry, IsDirectoryOf, entry_of}
-use Rattle.twkb_layer.specs.Layer.{IsCertifiedLayer}
+use Rattle.twkb_layer.specs.Directory.{Entry, box_of, entry_of, entries}
+use Rattle.twkb_layer.specs.Layer.{size_of, told_from}
+use Rattle.twkb_layer.specs.Devices.EachBlob.{after_from}
 use Rattle.twkb_head.specs.declared.raw.Fields.{Fields}
-use Rattle.twkb_layer.specs.Devices.Collecting.{HasPassed, entry_said}
-use Rattle.twkb_layer.specs.Devices.Slots.{box_z, box_m, passes_a_slot, own_said, said_before}
+use Rattle.twkb_layer.specs.Devices.Slots.{box_said, entry_said, box_z, box_m, passes_a_slot, own_said, said_before, slots_for, Placed, places}
 use Rattle.twkb_layer.specs.Slots.{Said, Written, slot_says, entry_with, entries_from, entries_of, entries_kept, unboxed}
-use Rattle.twkb_layer.proofs.Keeping.{Collecting, collect_begins, collect_goes_on, collect_ends, SaysOf}
-use Rattle.twkb_layer.proofs.Layers.{layer_once, layer_short}
-use Rattle.twkb_layer.proofs.Scanning.{Next}
+use Rattle.twkb_layer.proofs.Keeping.{SaysOf}
 
 -- what is appended to both branches may be appended to the choice
 cond-append : {A : Type 0} (b : Bool) (xs ys zs : List A) (x : A) → cond b (xs ++ zs) (x ∷ (ys ++ zs)) ≡ (cond b xs (x ∷ ys) ++ zs)
@@ -98,36 +96,37 @@ room_two room at before slot fits =
     take_more_set (slice_set room at before) (at + 1) slot (rw (length-set room at before) fits)
     ∙ (ap (λ xs. xs ++ slot ∷ []) (take_more_set room at before (omega (arith, fits))) ∙ append_assoc (take at room) (before ∷ []) (slot ∷ []))
 
--- the room has the slots of the blobs before the place, and two places for each other blob
-pub record PuttingSlots (bytes : List ℕ) (count0 place count used : ℕ) (room : List Written) : Type 0 where
-  pub blob : ℕ
-  pub on : Collecting entry_of bytes count0 place count blob (entries_kept (take used room)) (length bytes)
-  pub few : used ≤ 2 * blob
-  pub roomy : (trees : List Geometry) → IsCertifiedLayer trees bytes → 2 * length trees ≤ length room
+-- the slots of a blob whose header was read
+pub places_read : (used0 : ℕ) (room0 room : List Written) (used offset blob : ℕ) (r : Reading) (g : Geometry) (raw : Fields) → offset ≡ r.place → SaysOf raw g
+    → entries_kept (take used room) ≡ entries_kept (take used0 room0) ++ entry_said offset raw ∷ [] → used ≡ used0 + slots_for offset (box_said raw) → drop used room ≡ drop used room0
+    → ◌≡◌ {A = Placed} (record { kept = entries_kept (take used room); used = used; left = drop used room })
+    (places (record { kept = entries_kept (take used0 room0); used = used0; left = drop used0 room0 }) blob r.place g)
+places_read used0 room0 room used offset blob r g raw at says kept is left =
+    let many : slots_for offset (box_said raw) ≡ slots_for r.place (box_of g) = λ j. slots_for (at j) (says.box j) in
+    let all = is ∙ ap (λ (n : ℕ). used0 + n) many in
+    let entries = kept ∙ ap (λ (e : Entry). entries_kept (take used0 room0) ++ e ∷ []) (entry_read offset r g raw at says) in
+    let behind = left ∙ (ap (λ (n : ℕ). drop n room0) all ∙ sym (drop-drop (slots_for r.place (box_of g)) used0 room0)) in
+    λ j. record { kept = entries j; used = all j; left = behind j }
 
-pub slots_begin : (bytes : List ℕ) (count0 : ℕ) (room : List Written) (trees : List Geometry) → IsCertifiedLayer trees bytes → 2 * length trees ≤ length room → count0 < 2 ^ 64 → PuttingSlots bytes count0 0 count0 0 room
-slots_begin bytes count0 room trees whole roomy small = record {
-  blob = 0;
-  on = collect_begins entry_of bytes count0 trees [] (length bytes) whole small refl (omega (arith, layer_short trees bytes whole.layer));
-  few = omega arith;
-  roomy = λ others h. omega (arith, roomy, ap length (layer_once others trees bytes h.layer whole.layer));
-}
+slots_few : (offset : ℕ) (box : Option Bounds) → slots_for offset box ≤ 2
+slots_few offset box = go (passes_a_slot offset box)
+  where
+    go : (b : Bool) → cond b 2 1 ≤ 2
+    go true = omega arith
+    go false = omega arith
 
--- there are places for one more blob
-pub slots_fit : (bytes : List ℕ) (count0 place count used : ℕ) (room : List Written) (s : PuttingSlots bytes count0 place count used room) → Next s.on.rest bytes place → used + 1 < length room
-slots_fit bytes count0 place count used room s n = omega (arith, s.few, s.roomy s.on.trees s.on.whole, s.on.blob_is, ap length n.is)
+-- the slots of blobs are put after the others, at most two for each, and what stands after them is unchanged
+slots_put : (room0 : List Written) (blob offset : ℕ) (trees : List Geometry) (s end : Placed) → end ≡ after_from places blob offset trees s → s.left ≡ drop s.used room0
+    → (end.kept ≡ s.kept ++ told_from entry_of blob offset trees) × (end.used ≤ s.used + 2 * length trees) × (end.left ≡ drop end.used room0)
+slots_put room0 blob offset [] s end is left = rw is (sym (append-nil s.kept), omega arith, left)
+slots_put room0 blob offset (t ∷ ts) s end is left =
+    let many = slots_for offset (box_of t) in
+    let rest = slots_put room0 (blob + 1) (offset + size_of t) ts (places s blob offset t) end is (ap (drop many) left ∙ drop-drop many s.used room0) in (
+      rest.0 ∙ append_assoc s.kept (entry_of blob offset t ∷ []) (told_from entry_of (blob + 1) (offset + size_of t) ts),
+      omega (arith, rest.1, slots_few offset (box_of t)),
+      rest.2,
+    )
 
-pub slots_go_on : (bytes : List ℕ) (count0 : ℕ) (now : Reading) (used : ℕ) (room : List Written) (s : PuttingSlots bytes count0 now.place now.count used room) (n : Next s.on.rest bytes now.place) (new : Reading) → HasPassed n.tree now new
-    → (more : ℕ) (filled : List Written) → entries_kept (take more filled) ≡ entries_kept (take used room) ++ entry_of 0 now.place n.tree ∷ [] → more ≤ used + 2 → length filled ≡ length room → PuttingSlots bytes count0 new.place new.count more filled
-slots_go_on bytes count0 now used room s n new past more filled says few same = record {
-  blob = s.blob + 1;
-  on = collect_goes_on entry_of bytes count0 now s.blob (entries_kept (take used room)) (length bytes) s.on n new past (entries_kept (take more filled)) (length bytes) says (omega arith);
-  few = omega (arith, s.few, few);
-  roomy = λ trees h. omega (arith, s.roomy trees h, same);
-}
-
-pub slots_end : (bytes : List ℕ) (count0 place count used : ℕ) (room : List Written) → PuttingSlots bytes count0 place count used room → length bytes ≤ place → IsDirectoryOf (entries_kept (take used room)) bytes
-slots_end bytes count0 place count used room s le = λ trees h. collect_ends entry_of bytes count0 place count s.blob (entries_kept (take used room)) (length bytes) s.on le trees h
-
-pub slots_few : (bytes : List ℕ) (count0 place count used : ℕ) (room : List Written) → PuttingSlots bytes count0 place count used room → (trees : List Geometry) → IsCertifiedLayer trees bytes → used ≤ 2 * length trees
-slots_few bytes count0 place count used room s trees h = omega (arith, s.few, s.on.blob_is, ap length (layer_once s.on.trees trees bytes s.on.whole.layer h.layer))
+pub all_put : (room0 : List Written) (trees : List Geometry) (end : Placed) → end ≡ after_from places 0 0 trees (record { kept = []; used = 0; left = room0 })
+    → (end.kept ≡ entries trees) × (end.used ≤ 2 * length trees) × (end.left ≡ drop end.used room0)
+all_put room0 trees end is = let all = slots_put room0 0 0 trees _ end is refl in (all.0, omega (arith, all.1), all.2)

@@ -1,39 +1,65 @@
 //! The slots of a blob, put into memory: into a vector, or into room that a caller lends.
-ghost use Rattle.std.specs.Prelude.{◌≡◌, ◌+◌, ◌*◌, ◌<◌, ◌≤◌, ◌++◌, ◌∷◌, [], List, length, take, drop, vec_len, vec_capacity};
+ghost use Rattle.std.specs.Prelude.{◌≡◌, ◌+◌, ◌-◌, ◌*◌, ◌<◌, ◌≤◌, ◌++◌, ◌∷◌, [], List, length, take, drop, vec_len, vec_capacity};
 ghost use Rattle.twkb_body.specs.Geometry.{Geometry, HavePrecisions};
-ghost use Rattle.twkb_body.specs.Standing.{StandsAt};
-ghost use Rattle.twkb_layer.specs.Directory.{IsDirectoryOf, entry_of};
+ghost use Rattle.twkb_body.specs.Visit.{bytes_to_pass};
+ghost use Rattle.twkb_layer.specs.Directory.{Entry, IsDirectoryOf, entry_of};
 ghost use Rattle.twkb_layer.specs.Layer.{IsCertifiedLayer, AddsAtMost, OfLayer};
-ghost use Rattle.twkb_layer.specs.Devices.Collecting.{HasPassed, box_said, entry_said};
-ghost use Rattle.twkb_layer.specs.Devices.Layer.{OfBlob};
-ghost use Rattle.twkb_layer.specs.Devices.Slots.{own_said, said_before, passes_a_slot};
+ghost use Rattle.twkb_layer.specs.Devices.EachBlob.{Lent, adds, lent};
+ghost use Rattle.twkb_layer.specs.Devices.Slots.{box_said, entry_said, Placed, own_said, passes_a_slot, places, said_before, slots_for};
 ghost use Rattle.twkb_layer.specs.Slots.{entries_kept, slot_says};
 
-use crate::collecting::Keeper;
+use crate::each_blob::{EachBlob, for_each_blob};
 use crate::slots::{Kept, OFFSET_LIMIT, Slot};
 use std::alloc::Allocator;
 use twkb_body::read_and_pass;
 use twkb_head::Fields;
 use twkb_num::Cursor;
 
-impl<A: Allocator> Keeper for Vec<Slot, A> {
-    ghost use Rattle.std.specs.Prelude.{◌-◌, ◌/◌, vec_len, vec_capacity};
-    ghost use Rattle.twkb_layer.specs.Directory.{Entry, entry_of};
-    ghost use Rattle.twkb_layer.specs.Slots.{entries_kept};
+impl<A: Allocator> EachBlob for Vec<Slot, A> {
+    ghost State = { List Entry };
 
-    ghost Says = { Entry };
+    ghost state = { λ slots. entries_kept slots.items };
 
-    ghost says = { λ slots. entries_kept slots.items };
+    ghost step = { adds entry_of };
 
-    ghost of = { entry_of };
+    ghost reads = { λ s g. bytes_to_pass g };
 
-    ghost spare = { λ slots. (vec_capacity slots - vec_len slots) / 2 };
+    ghost fits = { λ slots blob more. 2 * more ≤ vec_capacity slots - vec_len slots };
 
     #[inline(always)]
-    fn keep(&mut self, cursor: &mut Cursor, _blob: usize) {
+    fn take_blob(&mut self, cursor: &mut Cursor, _blob: usize) {
         let offset = cursor.place();
         let raw = read_and_pass(cursor);
         push(self, offset, &raw);
+    }
+}
+
+/// Room for slots that a caller lends, and how many of its places are used.
+#[derive(Drop)]
+struct LentSlots<'r> {
+    room: &'r mut [Slot],
+    used: usize,
+}
+
+impl<'r> EachBlob for LentSlots<'r> {
+    ghost State = { Lent Placed };
+
+    ghost state = { λ s. record {
+      name = s.room.ghost_name;
+      state = record { kept = entries_kept (take s.used s.room.now); used = s.used; left = drop s.used s.room.now };
+    } };
+
+    ghost step = { lent places };
+
+    ghost reads = { λ s g. bytes_to_pass g };
+
+    ghost fits = { λ s blob more. s.used + 2 * more ≤ length s.room.now };
+
+    #[inline(always)]
+    fn take_blob(&mut self, cursor: &mut Cursor, _blob: usize) {
+        let offset = cursor.place();
+        let raw = read_and_pass(cursor);
+        self.used = put(self.room, self.used, offset, &raw);
     }
 }
 
@@ -48,37 +74,30 @@ pub fn put_slots(room: &mut [Slot], cursor: &mut Cursor) -> usize
     ensures once { AddsAtMost (length cursor.old.bytes) cursor.old.count cursor.new.count }
     ensures grows { cursor.old.count ≤ cursor.new.count }
 {
-    cursor.place_is_within();
-    cursor.go_to(0);
-    let mut used = 0;
-    while cursor.place() < cursor.len() {
-        used = put(room, used, cursor);
-    }
-    used
+    let mut slots = LentSlots { room, used: 0 };
+    for_each_blob(&mut slots, cursor, None);
+    slots.used
 }
 
-/// Puts the slots of the blob at the place after the `used` ones of the room, and moves past it. Returns how many are used then.
+/// Puts the slots of a blob that begins at the offset with this header after the `used` ones of the room. Returns how many are used
+/// then.
 #[inline(always)]
-fn put(room: &mut [Slot], used: usize, cursor: &mut Cursor) -> usize
+fn put(room: &mut [Slot], used: usize, offset: usize, raw: &Fields) -> usize
+    requires axes { HavePrecisions raw.now.axes }
     requires spare { used + 1 < length room.old }
-    requires stands { (g : Geometry) × StandsAt g 1 cursor.old.bytes cursor.old.place }
-    ensures says { OfBlob cursor.old.bytes cursor.old.place (λ g.
-        entries_kept (take result room.new) ≡ entries_kept (take used room.old) ++ entry_of 0 cursor.old.place g ∷ []) }
-    ensures few { result ≤ used + 2 }
-    ensures more { used ≤ result }
+    ensures says { entries_kept (take result room.new)
+        ≡ entries_kept (take used room.old) ++ entry_said offset raw.now ∷ [] }
+    ensures used { result ≡ used + slots_for offset (box_said raw.now) }
     ensures room { length room.new ≡ length room.old }
-    ensures rest { drop result room.new ≡ drop result room.old }
-    ensures passed { OfBlob cursor.old.bytes cursor.old.place (λ g. HasPassed g cursor.old cursor.new) }
+    ensures left { drop result room.new ≡ drop result room.old }
 {
-    let offset = cursor.place();
-    let raw = read_and_pass(cursor);
-    let deep = passes_a_slot(offset, &raw);
+    let deep = passes_a_slot(offset, raw);
     let mut place = used;
     if deep {
-        room[place] = slot_before(offset, &raw);
+        room[place] = slot_before(offset, raw);
         place += 1;
     }
-    room[place] = own_slot(offset, deep, &raw);
+    room[place] = own_slot(offset, deep, raw);
     place + 1
 }
 

@@ -1,6 +1,6 @@
 -- One slot or two were pushed, and say the blob's entry.
 use Rattle.std.proofs.Common.{ap, append_assoc, ◌∙◌}
-use Rattle.twkb_layer.specs.Devices.Collecting.{box_said}
+use Rattle.twkb_layer.specs.Devices.Slots.{box_said}
 use Rattle.twkb_layer.specs.Slots.{entries_kept}
 use Rattle.twkb_layer.proofs.Entries.{kept_one, kept_two}
 use Rattle.twkb_layer.proofs.placing.push.Goals as goal

@@ -1,5 +1,5 @@
 -- Each turn remembers one more slot, or looks at its blob.
-use Rattle.std.proofs.Common.{refl, sym, ap, ◌∙◌, arith, sum_by, true, false}
+use Rattle.std.proofs.Common.{refl, sym, ap, ◌∙◌, arith, true, false}
 use Rattle.std.specs.List.{list_any}
 use Rattle.twkb_num.specs.Cursor.{added}
 use Rattle.twkb_head.specs.declared.boxes.Bounds.{Bounds}
@@ -7,7 +7,7 @@ use Rattle.twkb_body.specs.Geometry.{vertices}
 use Rattle.twkb_layer.specs.Directory.{directory_cost}
 use Rattle.twkb_layer.specs.Layer.{size_of}
 use Rattle.twkb_layer.specs.Window.{is_inside}
-use Rattle.twkb_layer.proofs.Costs.{directory_costs_few}
+use Rattle.twkb_layer.proofs.EachBlob.{walk_adds}
 use Rattle.twkb_layer.proofs.Scanning.{passed_is}
 use Rattle.twkb_layer.proofs.Looking.{look_begins, look_beyond, slot_next, here_of, here_stands, here_fits, look_goes_on, look_ends}
 use Rattle.twkb_layer.proofs.scans.scan_slots.Goals as goal
@@ -17,7 +17,7 @@ pub loop-slot-init : goal.loop-slot-init
 loop-slot-init g c = record {
   bytes = refl;
   small = c.place_is_within.ensures.length_fits;
-  going = rw c.unboxed-nothing.ensures (look_begins g.R.FromFound.of _ _ _ _ _ c.requires.0 c.requires.1 c.requires.2 (let s = c.place_is_within.ensures in omega arith));
+  going = rw c.unboxed-nothing.ensures (look_begins g.R.FromFound.of _ _ _ _ _ c.requires.0 c.requires.1 c.requires.2 c.place_is_within.ensures.length_fits (let s = c.place_is_within.ensures in omega arith));
 }
 
 pub look_at-requires : goal.look_at-requires
@@ -40,14 +40,14 @@ report-requires g c =
     let inv = c.loop-slot.invariant in
     let s = slot_next g.R.FromFound.of _ _ _ _ _ _ _ _ _ _ _ inv.going c.slot-item.result c.slot-item.is c.loop-slot-test.true in
     let h = here_of g.R.FromFound.of _ _ _ _ _ _ _ _ _ _ _ s c.new-entry.result c.new-entry.ensures c.if-is_beyond.ensures in
-    omega (arith, here_fits g.R.FromFound.of _ _ _ _ _ _ _ _ _ _ _ s _ h, inv.going.found_small, inv.small)
+    omega (arith, (here_fits g.R.FromFound.of _ _ _ _ _ _ _ _ _ _ _ s _ h).1)
 
 pub overflow_add-blob : goal.overflow_add-blob
 overflow_add-blob g c =
     let inv = c.loop-slot.invariant in
     let s = slot_next g.R.FromFound.of _ _ _ _ _ _ _ _ _ _ _ inv.going c.slot-item.result c.slot-item.is c.loop-slot-test.true in
     let h = here_of g.R.FromFound.of _ _ _ _ _ _ _ _ _ _ _ s c.new-entry.result c.new-entry.ensures c.if-is_beyond.ensures in
-    omega (arith, here_fits g.R.FromFound.of _ _ _ _ _ _ _ _ _ _ _ s _ h, inv.small)
+    omega (arith, (here_fits g.R.FromFound.of _ _ _ _ _ _ _ _ _ _ _ s _ h).0, inv.small)
 
 pub loop-slot-preserved : goal.loop-slot-preserved
 loop-slot-preserved g c =
@@ -75,23 +75,16 @@ loop-slot-preserved g c =
     ]
 
 pub returns-clause-answer : goal.returns-clause-answer
-returns-clause-answer g c = λ trees h. (look_ends g.R.FromFound.of _ _ _ _ _ _ _ _ _ _ _ c.loop-slot.invariant.going c.loop-slot-test.false trees h).answer
+returns-clause-answer g c = λ trees h. (look_ends g.R.FromFound.of _ _ _ _ _ _ _ _ _ _ _ c.loop-slot.invariant.going c.loop-slot-test.false trees h).0
 
 pub returns-clause-room : goal.returns-clause-room
-returns-clause-room g c = λ trees h. (look_ends g.R.FromFound.of _ _ _ _ _ _ _ _ _ _ _ c.loop-slot.invariant.going c.loop-slot-test.false trees h).room_is
+returns-clause-room g c = λ trees h. (look_ends g.R.FromFound.of _ _ _ _ _ _ _ _ _ _ _ c.loop-slot.invariant.going c.loop-slot-test.false trees h).1
 
 pub returns-clause-count : goal.returns-clause-count
-returns-clause-count g c = λ trees h. (look_ends g.R.FromFound.of _ _ _ _ _ _ _ _ _ _ _ c.loop-slot.invariant.going c.loop-slot-test.false trees h).count_is
+returns-clause-count g c = λ trees h. (look_ends g.R.FromFound.of _ _ _ _ _ _ _ _ _ _ _ c.loop-slot.invariant.going c.loop-slot-test.false trees h).2
 
 pub returns-clause-grows : goal.returns-clause-grows
-returns-clause-grows g c =
-    let all = look_ends g.R.FromFound.of _ _ _ _ _ _ _ _ _ _ _ c.loop-slot.invariant.going c.loop-slot-test.false c.requires.0 c.requires.1 in
-    let first = c.place_is_within.ensures in
-    omega (arith, all.count_is, first.count_fits)
+returns-clause-grows g c = omega (arith, c.loop-slot.invariant.going.on.count_is, c.place_is_within.ensures.count_fits)
 
 pub returns-clause-few : goal.returns-clause-few
-returns-clause-few g c = record {
-  read = sum_by (directory_cost c.args.window.now) c.requires.0;
-  few = directory_costs_few c.args.window.now c.requires.0 _ c.requires.1.layer;
-  is = (look_ends g.R.FromFound.of _ _ _ _ _ _ _ _ _ _ _ c.loop-slot.invariant.going c.loop-slot-test.false c.requires.0 c.requires.1).count_is;
-}
+returns-clause-few g c = walk_adds _ _ _ _ _ _ _ _ _ _ _ _ c.loop-slot.invariant.going.on

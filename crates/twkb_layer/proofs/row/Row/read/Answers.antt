@@ -1,7 +1,8 @@
 -- The header says the fields of the row, and the skim counts the vertices.
-use Rattle.std.proofs.Common.{ap, ◌∙◌, arith}
+use Rattle.std.proofs.Common.{ℕ, ap, ◌∙◌, arith}
 use Rattle.std.proofs.lemmas.Int.{to_z-of_z}
-use Rattle.twkb_layer.proofs.Keeping.{says_of, skimmed_by, counting_few, row_says}
+use Rattle.twkb_layer.specs.Devices.Layer.{past}
+use Rattle.twkb_layer.proofs.Keeping.{says_of, counted_whole, row_says}
 use Rattle.twkb_layer.proofs.row.Row.read.Goals as goal
 
 pub overflow_sub-result : goal.overflow_sub-result
@@ -16,5 +17,5 @@ returns-clause-says c = λ g at.
     row_says g c.args.cursor.now c.read_and_skim-raw.result c.args.blob _ _ _ _ _ _ _ c.place-offset.ensures.sound.length_fits at says c.place-offset.ensures.value
     (c.place.ensures.value ∙ ap (λ r. r.place) past) c.new-summary.ensures (c.vertices.ensures ∙ c.read_and_skim-raw.ensures.visitor g at) c.is_some.ensures c.is_some-2.ensures (search to_z-of_z)
 
-pub returns-clause-passed : goal.returns-clause-passed
-returns-clause-passed c = λ g at. skimmed_by g c.args.cursor.now _ _ (counting_few g _ _ _ at) (c.read_and_skim-raw.ensures.cursor g at)
+pub returns-clause-cursor : goal.returns-clause-cursor
+returns-clause-cursor c = λ g at. c.read_and_skim-raw.ensures.cursor g at ∙ ap (λ (n : ℕ). past n g c.args.cursor.now) (counted_whole g _ _ _ at)

@@ -1,0 +1,16 @@
+-- The blob is passed, and no more bytes are read of it than it has.
+use Rattle.std.proofs.Common.{ap, arith}
+use Rattle.twkb_num.specs.Cursor.{Reading}
+use Rattle.twkb_layer.proofs.Costs.{cost_few}
+use Rattle.twkb_layer.proofs.scans.ScannerEachBlob.take_blob.Goals as goal
+
+pub passed-requires : goal.passed-requires
+passed-requires g c =
+    let moved = c.look.ensures.cursor c.requires.stands.0 c.requires.stands.1 in
+    omega (arith, c.place-offset.ensures.value, ap (λ (r : Reading). r.place) moved)
+
+pub returns-then-look-clause-few : goal.returns-then-look-clause-few
+returns-then-look-clause-few g c = λ tree at. cost_few _ tree _ _ at
+
+pub returns-else-look-clause-few : goal.returns-else-look-clause-few
+returns-else-look-clause-few g c = λ tree at. cost_few _ tree _ _ at
