@@ -106,7 +106,7 @@ demo: build
 test: SHELL = bash
 test: kit
 	python3 tests/trusted.py --strict
-	python3 tests/trusted_cases.py
+	python3 tests/sources_cases.py
 	python3 tests/borders.py
 	python3 tests/edits_apply.py
 	@mkdir -p build
