@@ -7,8 +7,10 @@ import contextlib
 import os
 import sys
 import tempfile
+from types import SimpleNamespace
 
 import borders
+from bodies import Check
 from harness import count, counts
 from pages import astray
 from sources import code, definitions, edits, files, markdown, names, public, sizes
@@ -200,6 +202,18 @@ BORDERS = (
     ("mod a;\npub use a::A;\npub use low::Low;\n", "use low::Low;\n\npub struct A {\n    pub low: Low,\n}\n", []),
     ("mod a;\npub use a::A;\npub use low::Shown;\n", "use low::Shown;\n\npub fn A(a: Shown) {\n}\n", ["Low"]),
 )
+# A line of the output of `rt check`, its exit status and its verdict; and whether the crate then counts as proved, and a wrong body
+# of `size` in src/code/inner.rt as rejected.
+CHECKS = (
+    ("logic=proved low", 0, "proved", (True, False)),
+    ("fn made::code::Bag::size: not proved: goal 1", 1, "not-proved", (False, True)),
+    ("fn made::code::inner::size: no proof", 1, "not-proved", (False, True)),
+    ("fn made::code::Bag::size: not proved: it calls step", 1, "not-proved", (False, False)),
+    ("fn made::other::Bag::size: not proved: goal 1", 1, "not-proved", (False, False)),
+    ("fn made::code::Bag::step: not proved: goal 1", 1, "not-proved", (False, False)),
+    ("fn made::code::Bag::size: not proved: goal 1", 2, "not-proved", (False, False)),
+    ("logic=proved low", 1, "not-known", (False, False)),
+)
 
 
 @contextlib.contextmanager
@@ -354,6 +368,10 @@ def script_cases():
         with made({f"crates/{path}": text for path, text in texts}) as top:
             lines = [line.split(",")[0] for line in borders.checked(top, ("low", "high")) if line]
             count(f"{root}{code}", lines, [f"high names {name}" for name in wanted])
+    change = SimpleNamespace(crate="made", functions={("src/code/inner.rt", "size")}, is_in_one_function=lambda: True)
+    for line, status, verdict, wanted in CHECKS:
+        check = Check(status, f"{line}\nlogic={verdict} made\n")
+        count(f"{line}, {status}", (check.is_proved, check.refuses(change)), wanted)
 
 
 def main():
