@@ -106,9 +106,9 @@ demo: build
 test: SHELL = bash
 test: kit
 	python3 tests/trusted.py --strict
-	python3 tests/trusted_cases.py
+	python3 tests/sources_cases.py
 	python3 tests/borders.py
-	python3 tests/edits_apply.py
+	python3 tests/bodies.py apply
 	@mkdir -p build
 # rt ci would put back the libraries of earlier commands, which may be of older sources: so they go before.
 	rm -rf crates/*/out/rlib
@@ -178,10 +178,10 @@ fuzz: build library
 
 # Both take some checks of each crate, so the gate leaves them out.
 apart: kit
-	python3 tests/apart.py
+	python3 tests/bodies.py apart
 
 twins: kit
-	python3 tests/twins.py
+	python3 tests/bodies.py twins
 
 # What it prints is of this machine, so the gate leaves it out.
 stack: build

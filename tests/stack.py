@@ -1,13 +1,13 @@
 #!/usr/bin/env python3
-"""Measures how much stack the audit of deeply nested collections takes, and a scan of them.
+"""Measures how much stack audits and scans of nested collections take.
 
-usage: tests/stack.py [PROGRAM]   (build/twkb_tool where it is left out)
+usage: tests/stack.py [PROGRAM]   (by default build/twkb_tool)
 
-The layers are a point inside 0, 31 and 63 collections, which is certified at the first reading, and two points there whose ids are
-equal, which are refused: so the exact audit reads them too. For `check`, `check --tight` and `scan` the least limit of the stack is
-printed, in steps of a page, with which the program gives its answer TRIES times in a row, with no environment: what the limit counts
-begins a little lower each time. If there is gdb, it then tells where the stack is whenever the first reading and the exact audits
-of the deepest layers enter a geometry, and how often a scan goes over members: once, since that is a loop.
+The layers are a point in 0, 31 and 63 collections, which the first reading certifies, and two points there with equal ids, which
+the exact audit reads too and refuses. For each layer it prints the least stack limit, in steps of a page, with which `check`,
+`check --tight` and `scan` give their answers TRIES times in a row, without environment variables. It tries often because the place
+where the stack begins varies. With gdb it then reads the stack pointer at each call of the recursive functions for the deepest
+layers, and counts how often a scan enters its loop over members.
 """
 import os
 import re
@@ -21,29 +21,12 @@ from harness import TOP, written
 
 PAGE, TRIES = 4096, 20
 WINDOW = "x=1..1,y=2..2"
-# What is inside the collections: its name, its bytes, and the status of a run.
+# The geometry in the collections: a name, its bytes, and the exit status of the program.
 POINTS = (("a point", "01000204", 0), ("points with equal ids", "040402020202040000", 1))
-WHERE = """set pagination off
-rbreak sure::take_flat
-commands
-silent
-printf "first %ld\\n", (long)$rsp
-cont
-end
-rbreak geometry::take_geometry
-commands
-silent
-printf "audit %ld\\n", (long)$rsp
-cont
-end
-rbreak skimming::skim_members
-commands
-silent
-printf "scan %ld\\n", (long)$rsp
-cont
-end
-run
-"""
+# The functions at which gdb reads the stack pointer, each with a name for its output.
+ENTRIES = {"first": "sure::take_flat", "audit": "geometry::take_geometry", "scan": "skimming::skim_members"}
+READ = 'rbreak {}\ncommands\nsilent\nprintf "{} %ld\\n", (long)$rsp\ncont\nend\n'
+WHERE = "set pagination off\n" + "".join(READ.format(function, name) for name, function in ENTRIES.items()) + "run\n"
 
 
 def ends_well(words, limit, status):
@@ -52,7 +35,7 @@ def ends_well(words, limit, status):
 
 
 def least(words, status):
-    """The least limit that does; a greater one always does too."""
+    """Returns the least limit that is enough, by bisection."""
     low, high = 0, 1024
     while high - low > 1:
         middle = (low + high) // 2
@@ -61,10 +44,10 @@ def least(words, status):
 
 
 def places(words, folder):
-    """Where the stack is at each geometry of the first reading and of the exact audit, and wherever a scan begins to go over members."""
+    """Returns a list of stack pointers for each of ENTRIES."""
     script = written(folder, "where.gdb", WHERE.encode())
     told = subprocess.run(["gdb", "-nx", "-batch", "-x", script, "--args", *words], capture_output=True, text=True).stdout
-    return [[int(place) for place in re.findall(rf"^{step} (\d+)$", told, re.M)] for step in ("first", "audit", "scan")]
+    return [[int(place) for place in re.findall(rf"^{step} (\d+)$", told, re.M)] for step in ENTRIES]
 
 
 def main():
