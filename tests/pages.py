@@ -90,7 +90,7 @@ def sizes(reach):
 def speed(reach):
     """Returns the table of times."""
     found = Page(reach.top, SPEED).rows()
-    rows = ["| Step, one thread, 40 MB | Dozhemik, ms | Fastest Rust, ms | Plain Rust, ms |", "|---|---|---|---|"]
+    rows = ["| Step, one thread, 40 MB | Dozhemik, ms | Fastest Rust without SIMD, ms | Plain Rust, ms |", "|---|---|---|---|"]
     for name, cells, has_rivals in STEPS:
         at = next(at for at, row in enumerate(found) if row[: len(cells)] == cells)
         heading = next(row for row in reversed(found[:at]) if "ours, ms" in row)
