@@ -16,19 +16,10 @@ mod plain;
 mod scans;
 mod words;
 
-/// The answer of a mode.
-fn answer(mode: &str, bytes: &[u8], window: [i128; 4]) -> String {
-    match mode {
-        "touch" => bytes.iter().map(|&byte| byte as u64).sum::<u64>().to_string(),
-        "check" | "decode" => audits::check(bytes, mode == "check"),
-        "scan" | "scanall" => {
-            let (hits, read) = scans::scan(bytes, window, mode == "scan");
-            format!("hits={hits} read={read}")
-        }
-        _ => panic!("no such mode: {mode}"),
-    }
-}
-
 fn main() {
-    command::run(answer);
+    command::run(command::Program {
+        check: audits::check,
+        hop_scan: scans::scan_all::<true>,
+        whole_scan: scans::scan_all::<false>,
+    });
 }

@@ -58,18 +58,11 @@ impl<const N: usize> Points<N> for Sought {
 /// Whether a vertex of a geometry is inside, how many bytes were hopped over, and what is behind it.
 pub type Found<'a> = (bool, usize, &'a [u8]);
 
-/// The number of hits, and of bytes that had to be read. If `hop` is true, geometries with a size and a box that misses
+/// The number of hits, and of bytes that had to be read. If `HOP` is true, geometries with a size and a box that misses
 /// the window are hopped over, at any depth.
-pub fn scan(bytes: &[u8], units: [i128; 4], hop: bool) -> (usize, usize) {
-    if hop {
-        scan_all::<true>(bytes, &window(units))
-    } else {
-        scan_all::<false>(bytes, &window(units))
-    }
-}
-
 #[inline(never)]
-fn scan_all<const HOP: bool>(bytes: &[u8], window: &Window) -> (usize, usize) {
+pub fn scan_all<const HOP: bool>(bytes: &[u8], units: [i128; 4]) -> (usize, usize) {
+    let window = &window(units);
     let (mut hits, mut hopped, mut rest) = (0, 0, bytes);
     while !rest.is_empty() {
         if let (true, Some((more, behind))) = (HOP, missed(rest, window)) {

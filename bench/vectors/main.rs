@@ -1,8 +1,7 @@
 //! The yardstick with SIMD: the fastest checker and scanner of TWKB layers that we know how to write in Rust for one
 //! thread of an x86-64-v2 processor. It isn't verified.
 //!
-//! Usage: vectors check FILE [REPEATS], vectors scan|scanall FILE X0 X1 Y0 Y1 [REPEATS], the window in units. The
-//! answers are those of `../fast`. Compile it with `-C target-cpu=x86-64-v2`.
+//! It is used as `../fast` is, and has its answers. Compile it with `-C target-cpu=x86-64-v2`.
 //!
 //! `kernels` reads several varints into the lanes of a vector (`lanes`), by the top bits of their bytes (`tables`).
 //! From these come boxes (`frames`) and runs of points (`runs`), which an audit compares with the box (`audits`) and a
@@ -36,18 +35,10 @@ mod windows;
 #[path = "../fast/words.rs"]
 mod words;
 
-/// The answer of a mode.
-fn answer(mode: &str, bytes: &[u8], window: [i128; 4]) -> String {
-    match mode {
-        "check" => audits::check(bytes),
-        "scan" | "scanall" => {
-            let (hits, read) = scans::scan(bytes, window, mode == "scan");
-            format!("hits={hits} read={read}")
-        }
-        _ => panic!("no such mode: {mode}"),
-    }
-}
-
 fn main() {
-    command::run(answer);
+    command::run(command::Program {
+        check: |bytes, judge| if judge { audits::check(bytes) } else { fast_audits::check(bytes, false) },
+        hop_scan: scans::scan_all::<true>,
+        whole_scan: scans::scan_all::<false>,
+    });
 }

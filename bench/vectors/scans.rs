@@ -7,18 +7,11 @@ use crate::kernels::{ahead, two};
 use crate::windows::{Nears, Sought};
 use crate::words::{skip, unsigned, word};
 
-/// The number of hits, and of bytes that had to be read. If `hop` is true, geometries with a size and a box that misses
+/// The number of hits, and of bytes that had to be read. If `HOP` is true, geometries with a size and a box that misses
 /// the window are hopped over, at any depth.
-pub fn scan(bytes: &[u8], units: [i128; 4], hop: bool) -> (usize, usize) {
-    if hop {
-        scan_all::<true>(bytes, &window(units))
-    } else {
-        scan_all::<false>(bytes, &window(units))
-    }
-}
-
 #[inline(never)]
-fn scan_all<const HOP: bool>(bytes: &[u8], window: &Window) -> (usize, usize) {
+pub fn scan_all<const HOP: bool>(bytes: &[u8], units: [i128; 4]) -> (usize, usize) {
+    let window = &window(units);
     let nears = Nears::new(window);
     let (mut hits, mut hopped, mut rest) = (0, 0, bytes);
     while !rest.is_empty() {

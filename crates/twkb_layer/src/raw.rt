@@ -253,7 +253,7 @@ impl<'w> RawWindows<'w> {
 }
 
 /// Converts a window, once a scan: `raws` becomes the window in raw integers at each precision, by the codes of precisions.
-// The table is filled in place, since a scan of one blob takes a quarter longer with two copies of it.
+// The table is filled in place, since a scan of one blob takes a tenth longer with a copy of it.
 #[inline(always)]
 pub fn fill_raws(window: &Window, raws: &mut [RawWindow; 16])
     ensures { AreRawWindows window.now raws.new }
