@@ -1,7 +1,7 @@
 -- The steps by which code reads a header, as the reader of headers takes them.
-use Rattle.std.proofs.Common.{◌≡◌, ℕ, ◌+◌, ◌-◌, ◌*◌, ◌/◌, ◌%◌, ◌<◌, ◌==◌, List, [], ◌∷◌, ◌++◌, length, Option, Some, None, option_map, is_some, Bool, true, false, ◌&&◌, ◌||◌, ℤ, ◌+ℤ◌, Result, Ok, Err, refl, sym, ap, ap₂, subst, ◌∙◌, arith}
+use Rattle.std.proofs.Common.{◌≡◌, ℕ, ◌+◌, ◌-◌, ◌*◌, ◌/◌, ◌%◌, ◌<◌, ◌==◌, List, [], ◌∷◌, ◌++◌, length, Option, Some, None, option_map, Bool, true, false, ℤ, ◌+ℤ◌, Result, Ok, Err, refl, sym, ap, ap₂, subst, ◌∙◌, arith}
 use Rattle.std.specs.Int.Bits.{bit_and}
-use Rattle.std.proofs.lemmas.Nat.{and_block, and_mask}
+use Rattle.std.proofs.lemmas.Nat.{and_block, and_le_r, and_mask}
 use Rattle.std.proofs.lemmas.Grind.{common_steps}
 use Rattle.std.proofs.lemmas.List.{append-nil}
 use Rattle.twkb_num.specs.Cursor.{Reading, passed, IsMoved, IsSound}
@@ -22,7 +22,7 @@ use Rattle.twkb_head.specs.declared.raw.RawBox.{RawBox}
 use Rattle.twkb_head.specs.declared.raw.RawRange.{RawRange}
 use Rattle.twkb_head.specs.declared.raw.Fields.{Fields}
 use Rattle.twkb_head.specs.Raw.{BeginsHead, ends_of, raw_bounds, flat_box, head_said}
-use Rattle.twkb_head.specs.Devices.Raw.{IsRangeIf, HasBegun}
+use Rattle.twkb_head.specs.Devices.Raw.{HasBegun}
 use Rattle.twkb_head.specs.declared.read.Begun.{Begun}
 use Rattle.twkb_head.specs.declared.header.SizeField.{SizeField}
 use Rattle.twkb_head.specs.declared.refusal.Malformed.{Malformed}
@@ -83,6 +83,20 @@ kind_and_fields first metadata low =
     let both = and_block 8 metadata 0x1f first 0x0f low (omega arith) in
     ap (λ x. bit_and x 0x1f0f) split ∙ omega (arith, both, and_mask first 4, and_mask metadata 5)
 
+-- the bits of a metadata byte for a box, extended dimensions and no body
+pub box_bits : (metadata : ℕ) → bit_and metadata 0x19 ≡ metadata % 2 + 8 * (metadata / 8 % 4)
+box_bits metadata =
+    let split : metadata ≡ metadata / 8 * 8 + metadata % 8 = omega arith in
+    let both = and_block 3 (metadata / 8) 3 (metadata % 8) 1 (omega arith) (omega arith) in
+    ap (λ x. bit_and x 0x19) split ∙ omega (arith, both, and_mask (metadata / 8) 2, and_mask (metadata % 8) 1)
+
+-- the bits of a metadata byte for a size and ids
+pub size_bits : (metadata : ℕ) → bit_and metadata 6 ≡ 2 * (metadata / 2 % 4)
+size_bits metadata =
+    let split : metadata ≡ metadata / 2 * 2 + metadata % 2 = omega arith in
+    let both = and_block 1 (metadata / 2) 3 (metadata % 2) 0 (omega arith) (omega arith) in
+    ap (λ x. bit_and x 6) split ∙ omega (arith, both, and_mask (metadata / 2) 2, and_le_r (metadata % 2) 0)
+
 -- each kind is allowed at the first depth
 pub first_allowed : (kind : Kind) → IsAllowedAt kind 1
 first_allowed GeometryCollection = (omega arith, omega arith)
@@ -109,7 +123,7 @@ named n MultiLineString e = ap kind_of_code e
 named n MultiPolygon e = ap kind_of_code e
 named n GeometryCollection e = ap kind_of_code e
 
-bits_same : (m n k : ℕ) → m / k % 2 ≡ n / k % 2 → has_bit m k ≡ has_bit n k
+pub bits_same : (m n k : ℕ) → m / k % 2 ≡ n / k % 2 → has_bit m k ≡ has_bit n k
 bits_same m n k e = ap (λ (b : ℕ). b == 1) e
 
 pub begins_goes_on : (begun : Begun) (depth : ℕ) (before now : Reading) → IsSound before → BeginsHead begun depth before now → GoesOn depth begun before now

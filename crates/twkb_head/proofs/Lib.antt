@@ -13,5 +13,6 @@ pub mod HeadSteps
 pub mod HeadRuns
 pub mod Loops
 pub mod HeadLaws
+pub mod Rests
 pub mod HeadBack
 pub mod Limits

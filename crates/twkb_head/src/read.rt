@@ -13,7 +13,7 @@ ghost use Rattle.twkb_head.specs.Devices.Raw.{made_whole, HasBegun};
 ghost use Rattle.twkb_head.specs.Raw.{head_said, BeginsHead, ReadsHead};
 ghost use Rattle.twkb_head.specs.Header.{has_bit, code_of};
 
-use crate::bits::{BOX, EMPTY, EXTENDED, SIZE, has_bit, ids_of, m_of, precision_of, z_of};
+use crate::bits::{BOX, EMPTY, EXTENDED, IDS, SIZE, has_bit, ids_of, m_of, precision_of, z_of};
 use crate::fields::{take_byte, take_number, take_type};
 use crate::header::{Head, SizeField};
 use crate::kinds::{Kind, kind_at};
@@ -95,6 +95,23 @@ impl Begun {
         self.metadata % 32 == SIZE + BOX
     }
 
+    /// This header, if it announces a box in X and Y and a body; its metadata byte then has no other bits than those of the box, the
+    /// size and the ids. So the compiler knows which fields there can be.
+    #[inline(always)]
+    pub fn flat_boxed(self) -> Option<Begun>
+        ensures announcing { IfSome result (λ begun. begun ≡ record self { metadata = self.metadata % 32 }) }
+        ensures boxed { IfSome result (λ begun. has_bit begun.metadata 1 ≡ true) }
+        ensures flat { IfSome result (λ begun. has_bit begun.metadata 8 ≡ false) }
+        ensures full { IfSome result (λ begun. has_bit begun.metadata 16 ≡ false) }
+        ensures only { IsSome result ↔ ((has_bit self.metadata 1 ≡ true) × (has_bit self.metadata 8 ≡ false)
+            × (has_bit self.metadata 16 ≡ false)) }
+    {
+        if self.metadata & (BOX + EXTENDED + EMPTY) != BOX {
+            return None;
+        }
+        Some(self.announcing(BOX + (self.metadata & (SIZE + IDS))))
+    }
+
     /// `true` says that it is a point, and that a size follows, no other field, and a body.
     #[inline(always)]
     pub fn is_sized_point(self) -> bool
@@ -146,7 +163,7 @@ fn take_head(cursor: &mut Cursor, depth: u8) -> Result<Fields, Malformed>
     ensures m_high { IfOk result (λ raw. IfSome raw.axes.m (λ p. p ≤ 7)) }
 {
     let first_two = take_begun(cursor, depth)?;
-    take_fields(cursor, first_two)
+    take_fields::<false>(cursor, first_two)
 }
 
 /// The first two bytes of the header at the place.
@@ -255,13 +272,34 @@ pub fn take_rest(cursor: &mut Cursor, begun: Begun) -> Result<Fields, Malformed>
     ensures no_box { has_bit begun.metadata 1 ≡ false → IfOk result (λ raw. raw.bounds ≡ None) }
     ensures kind { IfOk result (λ raw. raw.kind ≡ begun.kind) }
 {
-    take_fields(cursor, begun)
+    take_fields::<false>(cursor, begun)
+}
+
+/// Reads the other fields of a header as [`take_rest`] does. It is for callers that mostly read headers with a box: the reading of
+/// the box is inlined.
+#[inline(always)]
+pub fn take_boxed_rest(cursor: &mut Cursor, begun: Begun) -> Result<Fields, Malformed>
+    requires { IsPrecision begun.xy }
+    ensures read { (depth : ℕ) (before : Reading) → IsSound before → BeginsHead begun depth before cursor.old
+        → ReadsHead depth before cursor.new result }
+    ensures exact { (depth : ℕ) (before : Reading) → IsSound before → BeginsHead begun depth before cursor.old
+        → IsOk result ↔ StartsWithHeader depth (rest before) }
+    ensures xy { IfOk result (λ raw. IsPrecision raw.axes.xy) }
+    ensures z_high { IfOk result (λ raw. IfSome raw.axes.z (λ p. p ≤ 7)) }
+    ensures m_high { IfOk result (λ raw. IfSome raw.axes.m (λ p. p ≤ 7)) }
+    ensures flat { has_bit begun.metadata 8 ≡ false → IfOk result (λ raw. (raw.axes.z ≡ None) × (raw.axes.m ≡ None)) }
+    ensures empty { IfOk result (λ raw. raw.empty ≡ has_bit begun.metadata 16) }
+    ensures no_box { has_bit begun.metadata 1 ≡ false → IfOk result (λ raw. raw.bounds ≡ None) }
+    ensures boxed { has_bit begun.metadata 1 ≡ true → IfOk result (λ raw. IsSome raw.bounds) }
+    ensures kind { IfOk result (λ raw. raw.kind ≡ begun.kind) }
+{
+    take_fields::<true>(cursor, begun)
 }
 
 /// The fields after the first two bytes, in order.
 #[inline(always)]
 #[tactic(auto, unfolding(crate::specs::Devices::HeadReader::rest_at))]
-fn take_fields(cursor: &mut Cursor, begun: Begun) -> Result<Fields, Malformed>
+fn take_fields<const INLINE: bool>(cursor: &mut Cursor, begun: Begun) -> Result<Fields, Malformed>
     requires xy { IsPrecision begun.xy }
     ensures read { rest_at begun.kind begun.xy begun.metadata begun.start cursor.old ≡ (made_whole result, cursor.new) }
     ensures xy { IfOk result (λ raw. IsPrecision raw.axes.xy) }
@@ -270,6 +308,7 @@ fn take_fields(cursor: &mut Cursor, begun: Begun) -> Result<Fields, Malformed>
     ensures flat { has_bit begun.metadata 8 ≡ false → IfOk result (λ raw. (raw.axes.z ≡ None) × (raw.axes.m ≡ None)) }
     ensures empty { IfOk result (λ raw. raw.empty ≡ has_bit begun.metadata 16) }
     ensures no_box { has_bit begun.metadata 1 ≡ false → IfOk result (λ raw. raw.bounds ≡ None) }
+    ensures boxed { has_bit begun.metadata 1 ≡ true → IfOk result (λ raw. IsSome raw.bounds) }
     ensures kind { IfOk result (λ raw. raw.kind ≡ begun.kind) }
 {
     let extended = take_extended(cursor, has_bit(begun.metadata, EXTENDED))?;
@@ -278,7 +317,7 @@ fn take_fields(cursor: &mut Cursor, begun: Begun) -> Result<Fields, Malformed>
     let size_place = cursor.place();
     let size = take_size(cursor, has_bit(begun.metadata, SIZE))?;
     let box_place = cursor.place();
-    let bounds = take_box(
+    let bounds = take_box::<INLINE>(
         cursor,
         has_bit(begun.metadata, BOX),
         z.is_some(),

@@ -1,14 +1,11 @@
 -- Devices of proofs: nothing public names them.
 -- Headers read from a cursor as the code does it, one field after another.
-use Rattle.std.specs.Prelude.{ℕ, ◌/◌, ℤ, pos, Option, option_map, Some, None, Result, Ok, Err}
+use Rattle.std.specs.Prelude.{ℕ, ◌/◌, ℤ, pos, Option, option_map, Some, None, Ok}
 use Rattle.twkb_num.specs.Varint.{zigzag_value}
 use Rattle.twkb_head.specs.declared.kinds.Kind.{Kind}
 use Rattle.twkb_head.specs.declared.boxes.Span.{Span}
 use Rattle.twkb_head.specs.declared.boxes.Bounds.{Bounds}
 use Rattle.twkb_head.specs.declared.header.Head.{Head}
-use Rattle.twkb_head.specs.declared.raw.RawRange.{RawRange}
-use Rattle.twkb_head.specs.declared.refusal.Malformed.{Malformed}
-use Rattle.twkb_head.specs.Raw.{ends_of}
 use Rattle.twkb_head.specs.Header.{has_bit, has_ids, z_in, m_in}
 use Rattle.twkb_head.specs.Head.{span_at}
 use Rattle.twkb_head.specs.Shared.HeadPlan.{kind_from}

@@ -1,15 +1,19 @@
 -- Field after field, the code answers what the reader answers.
-use Rattle.std.proofs.Common.{◌≡◌, is_some, sym, ap, ◌∙◌, Ok, arith}
+use Rattle.std.proofs.Common.{◌≡◌, Option, Some, None, option_map, is_some, IsSome, refl, sym, ap, ◌∙◌, Ok, Err, arith}
 use Rattle.std.proofs.lemmas.Int.{ints}
 use mir.Val.{to_z, of_z}
 use Rattle.std.specs.Int.{w8}
+use Rattle.twkb_num.specs.Cursor.{Reading}
+use Rattle.twkb_head.specs.declared.boxes.Bounds.{Bounds}
 use Rattle.twkb_head.specs.declared.header.Head.{Head}
+use Rattle.twkb_head.specs.declared.raw.RawBox.{RawBox}
 use Rattle.twkb_head.specs.Header.{has_bit, z_in, m_in}
+use Rattle.twkb_head.specs.Shared.Reader.{Answer, viewed}
 use Rattle.twkb_head.proofs.HeadSteps.{rest_is, box_seen}
 use Rattle.twkb_head.proofs.read.take_fields.Goals as goal
 
 pub returns-clause-read : goal.returns-clause-read
-returns-clause-read c =
+returns-clause-read g c =
     let b8 : c.has_bit.result ≡ has_bit c.args.begun.metadata 8 = c.has_bit.ensures in
     let b2 : c.has_bit-2.result ≡ has_bit c.args.begun.metadata 2 = c.has_bit-2.ensures in
     let b1 : c.has_bit-3.result ≡ has_bit c.args.begun.metadata 1 = c.has_bit-3.ensures in
@@ -35,4 +39,15 @@ returns-clause-read c =
     })
 
 pub returns-clause-no_box : goal.returns-clause-no_box
-returns-clause-no_box c unset = c.in_ok-bounds.ensures.none (c.has_bit-3.ensures ∙ unset)
+returns-clause-no_box g c unset = c.in_ok-bounds.ensures.none (c.has_bit-3.ensures ∙ unset)
+
+-- a box that was read is there
+there : (a : Answer Bounds) (f : RawBox → Bounds) (box : Option RawBox) (new : Reading) → viewed Some a ≡ (Ok (option_map f box), new) → IsSome box
+there a f (Some box) new is = refl
+there (Ok x, b) f None new is = let same = ap (λ (z : Answer (Option Bounds)). z.0) is in absurd (cc (same))
+there (Err m, b) f None new is = let same = ap (λ (z : Answer (Option Bounds)). z.0) is in absurd (cc (same))
+
+pub returns-clause-boxed : goal.returns-clause-boxed
+returns-clause-boxed g c set =
+    let is = c.in_ok-bounds.ensures.read c.args.begun.xy c.z_of-z.result c.m_of-m.result (sym c.is_some.ensures) (sym c.is_some-2.ensures) in
+    there _ _ c.in_ok-bounds.bounds _ (rw (c.has_bit-3.ensures ∙ set) at is)
