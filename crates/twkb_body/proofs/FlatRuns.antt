@@ -53,16 +53,14 @@ module _ {S : Type 0} (step : S → PointValue → S) (start : Trail) (state : S
         points = points j;
       }
 
-  pub flat_goes_on : (x y x_more y_more x_next y_next : ℤ) (now next : S) (r new : Reading) (i : ℕ) → SpellsTwoSigned (passed r new) x_more y_more → IsMoved r new
-      → SFits w64 (x +ℤ x_more) → SFits w64 (y +ℤ y_more) → x_next ≡ x +ℤ x_more → y_next ≡ y +ℤ y_more
+  -- a run goes on by a point whose two coordinates were read
+  pub flat_adds : (x y x_more y_more x_next y_next : ℤ) (now next : S) (r middle new : Reading) (i : ℕ) → coordinate_at x r ≡ (Ok x_more, middle) → coordinate_at y middle ≡ (Ok y_more, new)
+      → x_next ≡ x +ℤ x_more → y_next ≡ y +ℤ y_more
       → next ≡ step now (x_next ∷ y_next ∷ drop 2 start.last) → IsFlatRun x y now r i → IsFlatRun x_next y_next next new (i + 1)
-  flat_goes_on x y x_more y_more x_next y_next now next r new i spells moved x_fits y_fits x_is y_is step_is run =
+  flat_adds x y x_more y_more x_next y_next now next r middle new i first second x_is y_is step_is run =
       run_goes_on step 2 start (flat_trail start x y i) (flat_trail start x_next y_next (i + 1)) state now next from r new i
-      (x_more ∷ y_more ∷ []) (two_coordinates x y x_more y_more (drop 2 start.last) r pair.0 new pair.1 pair.2) walked run
+      (x_more ∷ y_more ∷ []) (two_coordinates x y x_more y_more (drop 2 start.last) r middle new first second) walked run
     where
-      pair : (middle : Reading) × (coordinate_at x r ≡ (Ok x_more, middle)) × (coordinate_at y middle ≡ (Ok y_more, new))
-      pair = pair_read x y x_more y_more r new spells moved x_fits y_fits
-
       last : x_next ∷ y_next ∷ drop 2 start.last ≡ (x +ℤ x_more) ∷ (y +ℤ y_more) ∷ drop 2 start.last
       last = ap₂ (λ (a b : ℤ). a ∷ b ∷ drop 2 start.last) x_is y_is
 
@@ -72,8 +70,15 @@ module _ {S : Type 0} (step : S → PointValue → S) (start : Trail) (state : S
         points = omega arith;
         added = step_is ∙ ap (step now) last;
         have = (refl, tt);
-        ahead = let a = coordinate_ahead x x_more r pair.0 pair.1 in let b = coordinate_ahead y y_more pair.0 new pair.2 in omega (arith, a, b);
+        ahead = let a = coordinate_ahead x x_more r middle first in let b = coordinate_ahead y y_more middle new second in omega (arith, a, b);
       }
+
+  pub flat_goes_on : (x y x_more y_more x_next y_next : ℤ) (now next : S) (r new : Reading) (i : ℕ) → SpellsTwoSigned (passed r new) x_more y_more → IsMoved r new
+      → SFits w64 (x +ℤ x_more) → SFits w64 (y +ℤ y_more) → x_next ≡ x +ℤ x_more → y_next ≡ y +ℤ y_more
+      → next ≡ step now (x_next ∷ y_next ∷ drop 2 start.last) → IsFlatRun x y now r i → IsFlatRun x_next y_next next new (i + 1)
+  flat_goes_on x y x_more y_more x_next y_next now next r new i spells moved x_fits y_fits x_is y_is step_is run =
+      let pair = pair_read x y x_more y_more r new spells moved x_fits y_fits in
+      flat_adds x y x_more y_more x_next y_next now next r pair.0 new i pair.1 pair.2 x_is y_is step_is run
 
   -- a run that is written back to the trail is a run
   pub flat_ends : (x y : ℤ) (now : S) (r : Reading) (i : ℕ) (after : Trail) (left : S) → length start.last ≡ 4 → after ≡ record { last = set (set start.last 0 x) 1 y; points = start.points + i }

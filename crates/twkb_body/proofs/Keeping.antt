@@ -42,11 +42,11 @@ keeps_read : {A : Type 0} (p : Plan A) → Keeps (read p)
 keeps_read (done x) r = refl
 keeps_read (ask q next) r = keeps_field q _ (λ front. read (next front)) r (λ front. keeps_read (next front))
 
-keeps_number : Keeps number_at
+pub keeps_number : Keeps number_at
 unfolding number_at
 keeps_number = keeps_read number_plan
 
-keeps_signed : Keeps signed_at
+pub keeps_signed : Keeps signed_at
 unfolding signed_at
 keeps_signed = keeps_read signed_plan
 

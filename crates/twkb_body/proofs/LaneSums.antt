@@ -1,11 +1,11 @@
 -- Sums in lanes, in two's complement.
-use Rattle.std.proofs.Common.{◌≡◌, ℕ, ◌+◌, ◌-◌, ◌%◌, List, [], ◌∷◌, map, ℤ, pos, neg_ℤ, ◌+ℤ◌, ◌≤ℤ◌, ◌<ℤ◌, refl, sym, ap, ap₂, ◌∙◌, arith, Fits, w16, w32, Bool, true, false, ◌&&◌, nat_eq, nat_le}
+use Rattle.std.proofs.Common.{◌≡◌, ℕ, ◌+◌, ◌-◌, ◌%◌, List, [], ◌∷◌, map, ℤ, pos, negsuc, neg_ℤ, ◌+ℤ◌, ◌≤ℤ◌, ◌<ℤ◌, inl, inr, refl, sym, ap, ap₂, ◌∙◌, arith, Fits, w16, w32, Bool, true, false, ◌&&◌, nat_eq, nat_le}
 use Rattle.std.proofs.lemmas.Int.{ints, of_z-to_z}
 use Rattle.std.specs.Int.{cast_signed, cast_unsigned}
 use mir.Syntax.{Width}
 use Rattle.std.proofs.lemmas.Bool.{leb-true, le-leb}
 use Rattle.std.proofs.lemmas.Bool.Decides.{leb_tells}
-use Rattle.std.specs.Prelude.{if◌then◌else◌, nat_lt, ◌≤◌}
+use Rattle.std.specs.Prelude.{if◌then◌else◌, nat_lt, ◌≤◌, ◌⊎◌}
 use lib.Lanes.{Each1, mask_l}
 use Rattle.twkb_num.specs.Varint.{IsBrief, IsShort}
 use Rattle.twkb_body.specs.Devices.Boxed.{reaches}
@@ -32,11 +32,18 @@ sum_16 p q h i j k = omega (arith, ints, h, i, j, k)
 none_16 : (p : ℤ) → neg_ℤ (pos 32768) ≤ℤ p → p <ℤ pos 32768 → (cast_unsigned w16 p + 0) % 65536 ≡ cast_unsigned w16 p
 none_16 p h i = omega (arith, ints, h, i)
 
+-- a lane of 32 bits holds a distance, or one that wraps around
+wrapped : (z : ℤ) → neg_ℤ (pos 4294967296) ≤ℤ z → ((pos 0 ≤ℤ z) × (pos (cast_unsigned w32 z) ≡ z)) ⊎ ((z <ℤ pos 0) × (pos (cast_unsigned w32 z) ≡ z +ℤ pos 4294967296))
+wrapped (pos n) low = inl (omega (arith, ints), refl)
+wrapped (negsuc n) low = inr (omega (arith, ints), omega (arith, ints, low))
+
 -- a lane of 32 bits has the sum of a distance and a lane of 16 bits
 lane_sum : (z x y : ℤ) → neg_ℤ (pos 32768) ≤ℤ z → z <ℤ pos 32768 → IsInLane x → y ≡ x +ℤ z → ((cast_unsigned w16 z + 32768) % 65536 + (cast_unsigned w32 x + (4294967296 - 32768)) % 4294967296) % 4294967296 ≡ cast_unsigned w32 y
 lane_sum z x y h i l e =
     let value : pos ((cast_unsigned w16 z + 32768) % 65536) ≡ z +ℤ pos 32768 = omega (arith, ints, h, i) in
-    omega (arith, ints, value, h, i, l.0, l.1, e)
+    let before = wrapped x (omega (arith, ints, l.0)) in
+    let after = wrapped y (omega (arith, ints, e, h, l.0)) in
+    omega (arith, ints, value, h, i, l.0, l.1, e, before, after)
 
 -- the lanes of four points, from the first to the last
 pub first_lane : (a x : ℤ) → IsBrief a → IsInLane x → ((((cast_unsigned w16 a + 0) % 65536 + 0) % 65536 + 32768) % 65536 + (cast_unsigned w32 x + (4294967296 - 32768)) % 4294967296) % 4294967296 ≡ cast_unsigned w32 (x +ℤ a)
@@ -70,21 +77,37 @@ fourth_lane a b c d x one two three four l =
     ap (λ (s : ℕ). ((s + 32768) % 65536 + (cast_unsigned w32 x + (4294967296 - 32768)) % 4294967296) % 4294967296) (ap₂ (λ (s t : ℕ). (s + t) % 65536) back front ∙ all)
     ∙ lane_sum ((d +ℤ c) +ℤ (b +ℤ a)) x ((((x +ℤ a) +ℤ b) +ℤ c) +ℤ d) (omega (arith, ints, one.0, two.0, three.0, four.0)) (omega (arith, ints, one.1, two.1, three.1, four.1)) l (omega (arith, ints))
 
+-- the lanes of one point
+pub one_lane : (a x : ℤ) → IsShort a → IsInLane x → (cast_unsigned w32 a + cast_unsigned w32 x) % 4294967296 ≡ cast_unsigned w32 (x +ℤ a)
+one_lane a x short l =
+    let more = wrapped a (omega (arith, ints, short.0)) in
+    let before = wrapped x (omega (arith, ints, l.0)) in
+    let after = wrapped (x +ℤ a) (omega (arith, ints, short.0, l.0)) in
+    omega (arith, ints, short.0, short.1, l.0, l.1, more, before, after)
+
 -- the lanes of two points
 pub first_wide : (a x : ℤ) → IsShort a → IsInLane x → ((cast_unsigned w32 a + 0) % 4294967296 + cast_unsigned w32 x) % 4294967296 ≡ cast_unsigned w32 (x +ℤ a)
-first_wide a x short l = omega (arith, ints, short.0, short.1, l.0, l.1)
+first_wide a x short l =
+    let none : (cast_unsigned w32 a + 0) % 4294967296 ≡ cast_unsigned w32 a = omega (arith, ints, short.0, short.1) in
+    ap (λ (s : ℕ). (s + cast_unsigned w32 x) % 4294967296) none ∙ one_lane a x short l
 
 pub second_wide : (a b x : ℤ) → IsShort a → IsShort b → IsInLane x → ((cast_unsigned w32 b + cast_unsigned w32 a) % 4294967296 + cast_unsigned w32 x) % 4294967296 ≡ cast_unsigned w32 ((x +ℤ a) +ℤ b)
 second_wide a b x one two l =
     let both : (cast_unsigned w32 b + cast_unsigned w32 a) % 4294967296 ≡ cast_unsigned w32 (b +ℤ a) = omega (arith, ints, one.0, one.1, two.0, two.1) in
-    ap (λ (s : ℕ). (s + cast_unsigned w32 x) % 4294967296) both ∙ omega (arith, ints, one.0, one.1, two.0, two.1, l.0, l.1)
+    let more = wrapped (b +ℤ a) (omega (arith, ints, one.0, two.0)) in
+    let before = wrapped x (omega (arith, ints, l.0)) in
+    let after = wrapped ((x +ℤ a) +ℤ b) (omega (arith, ints, one.0, two.0, l.0)) in
+    ap (λ (s : ℕ). (s + cast_unsigned w32 x) % 4294967296) both ∙ omega (arith, ints, one.0, one.1, two.0, two.1, l.0, l.1, more, before, after)
 
 -- one comparison without signs decides whether a distance is within an extent
 pub lane_reaches : (extent z : ℤ) → IsLaneExtent extent → IsMetInLane z → nat_le (cast_unsigned w32 z) (cast_unsigned w32 extent) ≡ reaches extent z
 lane_reaches extent z e m =
+    let lane = wrapped z (omega (arith, ints, m.0)) in
+    let width = wrapped extent (omega (arith, ints, e.0)) in
     same_truth (nat_le (cast_unsigned w32 z) (cast_unsigned w32 extent)) (reaches extent z)
-    (λ le. let low : cast_unsigned w32 z ≤ cast_unsigned w32 extent = leb-true _ _ le in (reaches_decides extent z).1 (omega (arith, ints, low, e.0, e.1, m.0, m.1), omega (arith, ints, low, e.0, e.1, m.0, m.1)))
-    (λ r. let in_it = (reaches_decides extent z).0 r in le-leb _ _ (omega (arith, ints, in_it.0, in_it.1, e.0, e.1, m.0, m.1)))
+    (λ le. let low : cast_unsigned w32 z ≤ cast_unsigned w32 extent = leb-true _ _ le in
+    (reaches_decides extent z).1 (omega (arith, ints, low, e.0, e.1, m.0, m.1, lane, width), omega (arith, ints, low, e.0, e.1, m.0, m.1, lane, width)))
+    (λ r. let in_it = (reaches_decides extent z).0 r in le-leb _ _ (omega (arith, ints, in_it.0, in_it.1, e.0, e.1, m.0, m.1, lane, width)))
 
 -- the greater of two numbers is within a bound exactly if both are
 pub greater_within : (a b w : ℕ) → nat_le (if nat_lt a b then b else a) w ≡ (nat_le a w && nat_le b w)

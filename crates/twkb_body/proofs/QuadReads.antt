@@ -11,6 +11,10 @@ pub not_false : (b : Bool) → not b ≡ false → b ≡ true
 not_false true e = refl
 not_false false e = absurd (cc (e))
 
+pub not_true : (b : Bool) → not b ≡ true → b ≡ false
+not_true true e = absurd (cc (e))
+not_true false e = refl
+
 -- a number that two bytes can spell can be spelled by four
 brief_short : (z : ℤ) → IsBrief z → IsShort z
 brief_short z brief = (omega (arith, ints, brief.0), omega (arith, ints, brief.1))

@@ -47,6 +47,7 @@ use Rattle.twkb_body.specs.Devices.Boxed.{Held, held_then, held_with}
 use Rattle.twkb_body.specs.Devices.Found.{named, size_judged}
 use Rattle.twkb_body.specs.Devices.IdLists.{IsListFound, HasManyIdsAfterCount}
 use Rattle.twkb_body.specs.Devices.Inside.{of_head}
+use Rattle.twkb_body.specs.Devices.LaneTrail.{LeaveBox}
 use Rattle.twkb_body.specs.Devices.Pass.{false_at, ids_refused, are_distinct}
 use Rattle.twkb_body.specs.Devices.Sure.{framed, has_further, ReadParts, IsCounted, IsWrongCount, AreMalformed, AreHeld, IsHeldBy, IsFrameUnder, frame_bounds, body_vertices, IsSureBody, IsSureBehind, IsSure, IsJudged, IsApart, HasDoubt, doubt_of, Certifies, CertifiesBody, CertifiesShape, IsTrueInside, IsRefutedBody, IsRefutedBehind, IsRefuted}
 use Rattle.twkb_body.specs.Devices.Walk.{HaveAxes, lasts_from}
@@ -221,26 +222,44 @@ module _ (head : Head) (levels : ℕ) (old : Reading) (frame : Option Frame) (fu
 -- a body is refuted if the frame doesn't hold a point
 module _ (head : Head) (levels : ℕ) (old : Reading) (frame : Frame) (full : head.empty ≡ false) (single : is_collection head.kind ≡ false) (precisions : frame ≡ framed head frame.bounds)
     (mid : Reading) (list : ListHead) (found : ListFound) (listed : count_at (is_multi head.kind) head.ids old ≡ (Ok list, mid)) (is_found : IsListFound old mid list found) where
-  pub points_refute : (axes : ℕ) → axes ≡ axes_of (of_head head) → (new : Reading) (vertices : ℕ) → AreHeld false head.kind axes found.count frame.bounds mid new vertices → IsRefutedBody levels head (Some frame) old
+  -- parts that leave the frame's box, and whose points have these axes
+  pub points_refute : (axes : ℕ) → axes ≡ axes_of (of_head head) → LeaveBox head.kind axes found.count frame.bounds mid
+      → ((parts : List PolygonValue) (stop : Reading) → many_at found.count ring_sums (part_at head.kind axes) zeros mid ≡ (Ok parts, stop) → HaveAxes axes (points_of parts)) → IsRefutedBody levels head (Some frame) old
   unfolding member_vertices
-  points_refute axes axes_are new vertices (held, were, outside) body stop e inside all =
+  points_refute axes axes_are leave have_axes body stop e inside all =
       let m = parts_read head levels old (Some frame) full single mid list found listed is_found axes axes_are body stop e in
-      let one = one_answer (many_at found.count ring_sums (part_at head.kind axes) zeros mid) m.0 were.parts stop new m.1 were.read in
       let h = of_head head in
       let start : Held = record { box = frame.bounds; inside = true } in
-      let have : HaveAxes (axes_of h) (points_of were.parts) = subst (λ (n : ℕ). HaveAxes n (points_of were.parts)) axes_are were.walked.have in
-      let same : body_vertices h body ≡ map (vertex_of h) (lasts_from zeros (points_of were.parts)) =
-      ap (body_vertices h) (sym m.2 ∙ ap (parts_body list) one.0) ∙ append-nil (map (vertex_of h) (points_of (absolute were.parts)))
-      ∙ ap (map (vertex_of h)) (points_absolute were.parts) ∙ sym (vertices_same h zeros (points_of were.parts) have) in
-      let holds : All (Holds (frame_bounds (framed head frame.bounds))) (map (vertex_of h) (lasts_from zeros (points_of were.parts))) =
+      let have : HaveAxes (axes_of h) (points_of m.0) = subst (λ (n : ℕ). HaveAxes n (points_of m.0)) axes_are (have_axes m.0 stop m.1) in
+      let same : body_vertices h body ≡ map (vertex_of h) (lasts_from zeros (points_of m.0)) =
+      ap (body_vertices h) (sym m.2) ∙ append-nil (map (vertex_of h) (points_of (absolute m.0)))
+      ∙ ap (map (vertex_of h)) (points_absolute m.0) ∙ sym (vertices_same h zeros (points_of m.0) have) in
+      let holds : All (Holds (frame_bounds (framed head frame.bounds))) (map (vertex_of h) (lasts_from zeros (points_of m.0))) =
       subst (All (Holds (frame_bounds (framed head frame.bounds)))) same (subst (λ (f : Frame). All (Holds (frame_bounds f)) (body_vertices h body)) precisions all) in
-      let yes : (fold (held_with h) start (lasts_from zeros (points_of were.parts))).inside ≡ true = all_inside h start (lasts_from zeros (points_of were.parts)) refl holds in
-      let no : (fold (held_with h) start (lasts_from zeros (points_of were.parts))).inside ≡ false =
-      ap (λ (k : ℕ). (fold (held_then k) start (lasts_from zeros (points_of were.parts))).inside) (sym axes_are) ∙ ap (λ (x : Held). x.inside) (sym were.walked.added) ∙ outside in
+      let yes : (fold (held_with h) start (lasts_from zeros (points_of m.0))).inside ≡ true = all_inside h start (lasts_from zeros (points_of m.0)) refl holds in
+      let no : (fold (held_with h) start (lasts_from zeros (points_of m.0))).inside ≡ false =
+      ap (λ (k : ℕ). (fold (held_then k) start (lasts_from zeros (points_of m.0))).inside) (sym axes_are) ∙ leave m.0 stop m.1 in
       true_not_false _ yes no
     where
       true_not_false : (b : Bool) → b ≡ true → b ≡ false → ⊥
       true_not_false b p q = cc (p, q)
+
+-- parts that were read, and of which the box doesn't hold all points, leave it
+module _ (kind : Kind) (axes count : ℕ) (box : RawBox) (mid new : Reading) (vertices : ℕ) (are : AreHeld false kind axes count box mid new vertices) where
+  same_parts : (parts : List PolygonValue) (stop : Reading) → many_at count ring_sums (part_at kind axes) zeros mid ≡ (Ok parts, stop) → are.1.parts ≡ parts
+  same_parts parts stop e = (one_answer (many_at count ring_sums (part_at kind axes) zeros mid) are.1.parts parts new stop are.1.read e).0
+
+  pub outside_leaves : LeaveBox kind axes count box mid
+  outside_leaves parts stop e =
+      ap (λ (ps : List PolygonValue). (fold (held_then axes) (record { box = box; inside = true }) (lasts_from zeros (points_of ps))).inside) (sym (same_parts parts stop e))
+      ∙ ap (λ (x : Held). x.inside) (sym are.1.walked.added) ∙ are.2
+
+  pub outside_have : (parts : List PolygonValue) (stop : Reading) → many_at count ring_sums (part_at kind axes) zeros mid ≡ (Ok parts, stop) → HaveAxes axes (points_of parts)
+  outside_have parts stop e = subst (λ (ps : List PolygonValue). HaveAxes axes (points_of ps)) (same_parts parts stop e) are.1.walked.have
+
+-- parts that can't be read leave any box
+pub malformed_leave : (kind : Kind) (axes count : ℕ) (box : RawBox) (mid new : Reading) → AreMalformed kind axes count mid new → LeaveBox kind axes count box mid
+malformed_leave kind axes count box mid new bad parts stop e = absurd (no_failure (many_at count ring_sums (part_at kind axes) zeros mid) parts stop new bad.0 e bad.1)
 
 -- ---- the geometry
 -- a geometry is refuted if its header can't be read
@@ -538,7 +557,7 @@ adds_parts step kind ids axes count old mid new s t vertices (list, listed, foun
 
 -- a body is certified by its parts
 module _ (head : Head) (levels axes count : ℕ) (old mid new : Reading) (full : head.empty ≡ false) (single : is_collection head.kind ≡ false) (axes_are : axes ≡ axes_of (of_head head)) (counted : IsCounted (is_multi head.kind) head.ids old mid count) where
-  counted_keeps : mid.bytes ≡ old.bytes
+  pub counted_keeps : mid.bytes ≡ old.bytes
   counted_keeps = read_keeps (count_at (is_multi head.kind) head.ids) old mid counted.0 (keeps_count (is_multi head.kind) head.ids) counted.1
 
   pub malformed_keeps : AreMalformed head.kind axes count mid new → new.bytes ≡ old.bytes
@@ -564,7 +583,9 @@ module _ (head : Head) (levels axes count : ℕ) (old mid new : Reading) (full :
         (held, adds_parts (held_then axes) head.kind head.ids axes count old mid new (record { box = frame.bounds; inside = true }) held vertices counted parts, inside)
 
     pub outside_refutes : (vertices : ℕ) → AreHeld false head.kind axes count frame.bounds mid new vertices → IsRefutedBody levels head (Some frame) old
-    outside_refutes vertices are = points_refute head levels old frame full single precisions mid counted.0 (record { count = count; ids = None }) counted.1 counted.2 axes axes_are new vertices are
+    outside_refutes vertices are =
+        points_refute head levels old frame full single precisions mid counted.0 (record { count = count; ids = None }) counted.1 counted.2 axes axes_are
+        (outside_leaves head.kind axes count frame.bounds mid new vertices are) (outside_have head.kind axes count frame.bounds mid new vertices are)
 
     pub boxed_certifies : (result : Result ℕ Doubt) → IfOk result (AreHeld true head.kind axes count frame.bounds mid new)
         → OnErr result (AreMalformed head.kind axes count mid new ⊎ ((vertices : ℕ) × AreHeld false head.kind axes count frame.bounds mid new vertices)) → IfErr result (λ d. d ≡ Refused) → CertifiesShape levels head (Some frame) old result new

@@ -11,8 +11,6 @@ mod holding;
 use self::holding::is_in_box;
 use crate::numbers::{Numbers, take_differences};
 use crate::points::Points;
-use crate::positions::{distances_in, is_in_lane, is_lane_extent, lanes_of};
-use crate::quads::next_points;
 use crate::trail::Trail;
 use std::marker::Model;
 use twkb_head::{Head, RawBox, RawRange};
@@ -51,73 +49,7 @@ impl Boxed {
         }
     }
 
-    /// A run of points of X and Y alone: up to four at once, and then one after another.
-    #[inline(always)]
-    fn take_flat_run(
-        &mut self,
-        cursor: &mut Cursor,
-        head: &Head,
-        most: u64,
-        trail: &mut Trail,
-    ) -> u64
-        requires flat { axes_with head.now.z head.now.m ≡ 2 }
-        requires counted { trail.old.points ≤ cursor.old.place }
-        ensures few { result ≤ most }
-        ensures run { IsRun (held_with (of_head head.now)) 2 trail.old trail.new self.old self.new
-            cursor.old cursor.new result }
-    {
-        let done = self.take_quads(cursor, head, most, trail);
-        if done == most {
-            return done;
-        }
-        done + self.take_pairs(cursor, head, most - done, trail)
-    }
-
-    /// A run of points of X and Y, in quads, where their distances from the minima of the box fit lanes of 32 bits.
-    #[inline(always)]
-    fn take_quads(&mut self, cursor: &mut Cursor, _head: &Head, most: u64, trail: &mut Trail) -> u64
-        requires flat { axes_with _head.now.z _head.now.m ≡ 2 }
-        requires counted { trail.old.points ≤ cursor.old.place }
-        ensures few { result ≤ most }
-        ensures run { IsRun (held_with (of_head _head.now)) 2 trail.old trail.new self.old self.new
-            cursor.old cursor.new result }
-    {
-        if !is_near(trail.last[0]) || !is_near(trail.last[1]) {
-            return 0;
-        }
-        let RawBox { x, y, .. } = self.bounds;
-        let across = trail.last[0] - x.minimum;
-        let up = trail.last[1] - y.minimum;
-        if !is_in_lane(across) || !is_in_lane(up) {
-            return 0;
-        }
-        if !is_lane_extent(x.extent) || !is_lane_extent(y.extent) {
-            return 0;
-        }
-        let extent = lanes_of(x.extent, y.extent);
-        let mut at = lanes_of(across, up);
-        let mut inside = self.inside;
-        let mut done = 0;
-        while inside && done < most {
-            let step = next_points(cursor, most - done, at, extent);
-            if step.points == 0 {
-                break;
-            }
-            at = step.reached.at;
-            inside = step.reached.inside;
-            done += step.points;
-        }
-        // The proof knows from here that the place fits its type, and so does the number of points.
-        let _stop = cursor.place();
-        let (x_apart, y_apart) = distances_in(at);
-        trail.last[0] = x.minimum + x_apart;
-        trail.last[1] = y.minimum + y_apart;
-        trail.points += done as usize;
-        self.inside = inside;
-        done
-    }
-
-    /// A run of points of X and Y, one after another.
+    /// A run of points of X and Y alone, one after another.
     // All that changes from point to point is in locals. While points are in the box no sum leaves 64 bits, and the first
     // that isn't ends the run.
     #[inline(always)]
@@ -344,7 +276,7 @@ impl Points for Boxed {
         trail: &mut Trail,
     ) -> u64 {
         if axes == 2 {
-            self.take_flat_run(cursor, head, most, trail)
+            self.take_pairs(cursor, head, most, trail)
         } else {
             0
         }

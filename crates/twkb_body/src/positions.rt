@@ -5,12 +5,15 @@
 ghost use Rattle.std.specs.Prelude.{◌≡◌, ◌+◌, ◌-◌, ◌%◌, ◌&&◌, ℕ, ℤ, map, [], ◌∷◌, nat_le, nat_lt, if◌then◌else◌, All, IsTrue};
 ghost use Rattle.std.specs.Int.{w16, w32, cast_signed};
 ghost use Rattle.twkb_num.specs.Varint.{IsBrief, IsShort};
-ghost use Rattle.twkb_body.specs.Devices.Quads.{lanes_at, IsInLane, IsMetInLane, IsLaneExtent, HaveReached};
+ghost use Rattle.twkb_body.specs.Devices.Quads.{lanes_at, IsInLane, IsLaneExtent, HaveReached};
 
 use std::simd::prelude::*;
 
-/// Distances from -2^30 on and below 2^30 stay within a lane for four short differences.
-const IN_LANE: i64 = 1 << 30;
+/// A lane holds distances from -2^31 on and below 2^31.
+const IN_LANE: i64 = 1 << 31;
+
+/// Four short differences lead at most 2^29 further, where lanes wrap around. Then a lane below this is no point outside.
+const WIDEST: i64 = 1 << 30;
 
 /// The last of some points, and whether a box holds them all.
 #[derive(Clone, Copy)]
@@ -20,7 +23,7 @@ pub struct Reached {
     pub inside: bool,
 }
 
-/// Whether a run of points may go on in lanes from a distance.
+/// Whether a lane holds a distance.
 #[inline(always)]
 pub fn is_in_lane(distance: i64) -> bool
     ensures { IsTrue result → IsInLane distance }
@@ -28,12 +31,12 @@ pub fn is_in_lane(distance: i64) -> bool
     -IN_LANE <= distance && distance < IN_LANE
 }
 
-/// Whether distances within an extent are told in lanes.
+/// Whether lanes tell the distances within an extent from others.
 #[inline(always)]
 pub fn is_lane_extent(extent: i64) -> bool
     ensures { IsTrue result → IsLaneExtent extent }
 {
-    0 <= extent && extent < IN_LANE
+    0 <= extent && extent < WIDEST
 }
 
 /// Two distances in lanes, twice.
@@ -51,7 +54,9 @@ pub fn lanes_of(x: i64, y: i64) -> u32x4
 /// The distances in the first two lanes.
 #[inline(always)]
 pub fn distances_in(at: u32x4) -> (i64, i64)
-    ensures { (x y : ℤ) → at ≡ lanes_at x y → IsMetInLane x → IsMetInLane y → (result.0 ≡ x) × (result.1 ≡ y) }
+    ensures both { (x y : ℤ) → at ≡ lanes_at x y → IsInLane x → IsInLane y → (result.0 ≡ x) × (result.1 ≡ y) }
+    ensures x { IsInLane result.0 }
+    ensures y { IsInLane result.1 }
 {
     let lanes = at.to_array();
     (
@@ -90,6 +95,30 @@ pub fn two_more(differences: u32x4, at: u32x4, extent: u32x4) -> Reached
         at: last_twice(points),
         inside: are_both_within(points, extent),
     }
+}
+
+/// One point more, by differences of at most four bytes.
+#[inline(always)]
+pub fn one_more(x_more: i64, y_more: i64, at: u32x4, extent: u32x4) -> Reached
+    requires x { IsShort x_more }
+    requires y { IsShort y_more }
+    ensures { (x y w h : ℤ) → at ≡ lanes_at x y → extent ≡ lanes_at w h → IsInLane x → IsInLane y → IsLaneExtent w → IsLaneExtent h
+        → HaveReached w h x y ((x_more, y_more) ∷ []) result.at result.inside }
+{
+    let point = summed(lanes_of(x_more, y_more), at);
+    Reached {
+        at: point,
+        inside: are_both_within(point, extent),
+    }
+}
+
+/// The sums of lanes.
+#[inline(always)]
+fn summed(more: u32x4, at: u32x4) -> u32x4
+    ensures { (a b c d w x y z : ℕ) → more ≡ a ∷ b ∷ c ∷ d ∷ [] → at ≡ w ∷ x ∷ y ∷ z ∷ []
+        → result ≡ ((a + w) % 4294967296) ∷ ((b + x) % 4294967296) ∷ ((c + y) % 4294967296) ∷ ((d + z) % 4294967296) ∷ [] }
+{
+    more + at
 }
 
 /// Adds to each pair of lanes the pair before it.

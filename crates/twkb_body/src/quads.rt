@@ -2,7 +2,7 @@
 ghost use Rattle.std.specs.Prelude.{◌≡◌, ◌≤◌, ℤ, true};
 ghost use Rattle.twkb_body.specs.Devices.Quads.{lanes_at, IsInLane, IsLaneExtent, IsQuadStep};
 
-use crate::positions::{Reached, four_more, two_more};
+use crate::positions::{Reached, four_more, one_more, two_more};
 use std::simd::prelude::*;
 use twkb_num::Cursor;
 
@@ -28,12 +28,14 @@ impl Step {
     }
 }
 
-/// Reads four points at the place, or two, by their distances from the minima of a box, in lanes. It reads none if only one is
-/// left, if a difference takes more than four bytes, or near the end of the bytes.
+/// Reads four points at the place, or two, or one, by their distances from the minima of a box, in lanes. It reads none if a
+/// difference of the first takes more than four bytes, or if fewer than eight bytes are left.
 #[inline(always)]
 pub fn next_points(cursor: &mut Cursor, left: u64, at: u32x4, extent: u32x4) -> Step
     requires { 1 ≤ left }
     ensures few { result.points ≤ left }
+    ensures none { result.points ≡ 0 → cursor.new ≡ cursor.old }
+    ensures bytes { cursor.new.bytes ≡ cursor.old.bytes }
     ensures step { (x y w h : ℤ) → at ≡ lanes_at x y → extent ≡ lanes_at w h → IsInLane x → IsInLane y → IsLaneExtent w → IsLaneExtent h
         → IsQuadStep w h x y cursor.old cursor.new result.points result.reached.at result.reached.inside }
 {
@@ -43,10 +45,13 @@ pub fn next_points(cursor: &mut Cursor, left: u64, at: u32x4, extent: u32x4) -> 
             return step;
         }
     }
-    if left == 1 {
-        return Step::none(at);
+    if 2 <= left {
+        let step = next_two(cursor, at, extent);
+        if step.points != 0 {
+            return step;
+        }
     }
-    next_two(cursor, at, extent)
+    next_one(cursor, at, extent)
 }
 
 /// Reads four points, or none.
@@ -54,6 +59,7 @@ pub fn next_points(cursor: &mut Cursor, left: u64, at: u32x4, extent: u32x4) -> 
 fn next_four(cursor: &mut Cursor, at: u32x4, extent: u32x4) -> Step
     ensures few { result.points ≤ 4 }
     ensures none { result.points ≡ 0 → cursor.new ≡ cursor.old }
+    ensures bytes { cursor.new.bytes ≡ cursor.old.bytes }
     ensures step { (x y w h : ℤ) → at ≡ lanes_at x y → extent ≡ lanes_at w h → IsInLane x → IsInLane y → IsLaneExtent w → IsLaneExtent h
         → IsQuadStep w h x y cursor.old cursor.new result.points result.reached.at result.reached.inside }
 {
@@ -71,6 +77,8 @@ fn next_four(cursor: &mut Cursor, at: u32x4, extent: u32x4) -> Step
 #[inline(always)]
 fn next_two(cursor: &mut Cursor, at: u32x4, extent: u32x4) -> Step
     ensures few { result.points ≤ 2 }
+    ensures none { result.points ≡ 0 → cursor.new ≡ cursor.old }
+    ensures bytes { cursor.new.bytes ≡ cursor.old.bytes }
     ensures step { (x y w h : ℤ) → at ≡ lanes_at x y → extent ≡ lanes_at w h → IsInLane x → IsInLane y → IsLaneExtent w → IsLaneExtent h
         → IsQuadStep w h x y cursor.old cursor.new result.points result.reached.at result.reached.inside }
 {
@@ -81,5 +89,23 @@ fn next_two(cursor: &mut Cursor, at: u32x4, extent: u32x4) -> Step
     Step {
         points: 2,
         reached: two_more(differences.lanes, at, extent),
+    }
+}
+
+/// Reads one point, or none.
+#[inline(always)]
+fn next_one(cursor: &mut Cursor, at: u32x4, extent: u32x4) -> Step
+    ensures few { result.points ≤ 1 }
+    ensures none { result.points ≡ 0 → cursor.new ≡ cursor.old }
+    ensures bytes { cursor.new.bytes ≡ cursor.old.bytes }
+    ensures step { (x y w h : ℤ) → at ≡ lanes_at x y → extent ≡ lanes_at w h → IsInLane x → IsInLane y → IsLaneExtent w → IsLaneExtent h
+        → IsQuadStep w h x y cursor.old cursor.new result.points result.reached.at result.reached.inside }
+{
+    match cursor.svarint_pair() {
+        Some((x, y)) => Step {
+            points: 1,
+            reached: one_more(x, y, at, extent),
+        },
+        None => Step::none(at),
     }
 }

@@ -2,8 +2,10 @@
 //! vertices.
 ghost use Rattle.std.specs.Prelude.{◌≡◌, ◌≤◌, ◌+◌, ◌-◌, ℕ, [], ◌∷◌, true, false, Option, None, Some, option_map, IfSome, OnSome, IfOk, Ok};
 ghost use Rattle.twkb_num.specs.Cursor.{Reading, passed, IsMoved, IsSound};
+ghost use Rattle.twkb_num.specs.Units.{IsPrecision};
 ghost use Rattle.twkb_head.specs.BegunHeader.{deepest, is_collection, IsAllowedAt};
 ghost use Rattle.twkb_head.specs.Header.{has_bit};
+ghost use Rattle.twkb_head.specs.Raw.{ReadsHead};
 ghost use Rattle.twkb_head.specs.declared.header.Head.{Head as HeadOf};
 ghost use Rattle.twkb_head.specs.declared.kinds.Kind.TheVariants.{Point, LineString};
 ghost use Rattle.twkb_body.specs.declared.doubt.Doubt.TheVariants.{Refused};
@@ -17,16 +19,15 @@ mod plain;
 mod unboxed;
 
 use self::apart::{flat_ranges, take_apart, take_apart_flat};
-use self::parts::{take_boxed, take_count, take_parts_of};
+use self::parts::{take_boxed, take_count, take_flat_boxed};
 use self::plain::{take_plain_line, take_plain_point};
 use self::unboxed::take_unboxed;
-use crate::boxed::Boxed;
 use crate::doubt::Doubt;
 use crate::found::judge_size;
 use crate::frame::Frame;
 use crate::lists::take_list;
 use crate::rooms::IdRoom;
-use twkb_head::{Head, Kind, RawBox, begun_as, begun_by, take_rest};
+use twkb_head::{Fields, Head, Kind, RawBox, begun_as, begun_by, take_boxed_rest, take_rest};
 use twkb_num::Cursor;
 
 /// Reads the blob at the place, and returns how many vertices it has and where it ends. A doubt says that it isn't certified,
@@ -49,7 +50,7 @@ pub fn take_blob<R: IdRoom>(room: &mut R, cursor: &mut Cursor) -> Result<(usize,
     }
     let vertices = match begun_as(cursor, Kind::LineString, NO_FIELD, first, metadata) {
         Some(begun) => take_plain_line(cursor, begun)?,
-        None => take_flat(room, cursor, 1, &None, first, metadata)?,
+        None => take_geometry(room, cursor, 1, &None, first, metadata)?,
     };
     Ok((vertices, cursor.place()))
 }
@@ -62,6 +63,45 @@ const SIZE_ALONE: u8 = 2;
 const NO_FIELD: u8 = 0;
 
 /// Reads a geometry at `depth` after its first two bytes. The frame above has to hold its points.
+#[cycle(take_flat)]
+#[inline(always)]
+fn take_geometry<R: IdRoom>(
+    room: &mut R,
+    cursor: &mut Cursor,
+    depth: u8,
+    above: &Option<Frame>,
+    first: u8,
+    metadata: u8,
+) -> Result<usize, Doubt>
+    requires shallowest { 1 ≤ depth }
+    requires deepest { depth ≤ deepest }
+    requires read { 2 ≤ cursor.old.place }
+    requires before { (before : Reading) × IsSound before × IsMoved before cursor.old
+        × (passed before cursor.old ≡ first ∷ metadata ∷ []) }
+    requires near { IfSome above.now IsNearFrame }
+    ensures { (before : Reading) → IsSound before → IsMoved before cursor.old
+        → passed before cursor.old ≡ first ∷ metadata ∷ []
+        → Certifies depth above.now before result cursor.new }
+{
+    // Both read any geometry; each is fast for its own.
+    if metadata & FLAT_BOX_BITS == BOX && first % 16 != COLLECTION {
+        take_boxed_shape(room, cursor, depth, above, first, metadata)
+    } else {
+        take_flat(room, cursor, depth, above, first, metadata)
+    }
+}
+
+/// The bits of a metadata byte for a box, an extended dimensions byte and an empty geometry (TWKB specification, "Metadata
+/// Header").
+const FLAT_BOX_BITS: u8 = 0x19;
+
+/// Of these bits, the one of a box.
+const BOX: u8 = 1;
+
+/// The code of a collection, in the low half of the first byte (TWKB specification, "Type & Precision").
+const COLLECTION: u8 = 7;
+
+/// Reads a geometry as [`take_geometry`] does.
 #[cycle(take_flat)]
 #[inline(never)]
 fn take_flat<R: IdRoom>(
@@ -91,6 +131,66 @@ fn take_flat<R: IdRoom>(
     let Ok(raw) = take_rest(cursor, begun) else {
         return Err(Doubt::Refused);
     };
+    take_flat_behind(room, cursor, depth, above, raw)
+}
+
+/// Reads a geometry as [`take_flat`] does. It is for shapes with a box in X and Y, whose readers are inlined here.
+#[cycle(take_flat)]
+#[inline(never)]
+fn take_boxed_shape<R: IdRoom>(
+    room: &mut R,
+    cursor: &mut Cursor,
+    depth: u8,
+    above: &Option<Frame>,
+    first: u8,
+    metadata: u8,
+) -> Result<usize, Doubt>
+    requires shallowest { 1 ≤ depth }
+    requires deepest { depth ≤ deepest }
+    requires read { 2 ≤ cursor.old.place }
+    requires before { (before : Reading) × IsSound before × IsMoved before cursor.old
+        × (passed before cursor.old ≡ first ∷ metadata ∷ []) }
+    requires near { IfSome above.now IsNearFrame }
+    ensures { (before : Reading) → IsSound before → IsMoved before cursor.old
+        → passed before cursor.old ≡ first ∷ metadata ∷ []
+        → Certifies depth above.now before result cursor.new }
+{
+    let Some(begun) = begun_by(cursor, depth, first, metadata) else {
+        return Err(Doubt::Refused);
+    };
+    if begun.kind.is_collection() {
+        return take_flat(room, cursor, depth, above, first, metadata);
+    }
+    let Some(boxed) = begun.flat_boxed() else {
+        return take_flat(room, cursor, depth, above, first, metadata);
+    };
+    let Ok(raw) = take_boxed_rest(cursor, boxed) else {
+        return Err(Doubt::Refused);
+    };
+    take_flat_behind(room, cursor, depth, above, raw)
+}
+
+/// Reads a geometry of X and Y alone after its header.
+#[cycle(take_flat)]
+#[inline(always)]
+fn take_flat_behind<R: IdRoom>(
+    room: &mut R,
+    cursor: &mut Cursor,
+    depth: u8,
+    above: &Option<Frame>,
+    raw: Fields,
+) -> Result<usize, Doubt>
+    requires shallowest { 1 ≤ depth }
+    requires deepest { depth ≤ deepest }
+    requires near { IfSome above.now IsNearFrame }
+    requires xy { IsPrecision raw.axes.xy }
+    requires z { raw.axes.z ≡ None }
+    requires m { raw.axes.m ≡ None }
+    requires full { raw.empty ≡ false }
+    requires read { (before : Reading) × IsSound before × ReadsHead depth before cursor.old (Ok raw) }
+    ensures { (before : Reading) → IsSound before → ReadsHead depth before cursor.old (Ok raw)
+        → Certifies depth above.now before result cursor.new }
+{
     let head = raw.boxless();
     let Some(frame) = Frame::under(above, &head, &raw.bounds) else {
         // A header in memory would be set to zero for each geometry, so its parts are passed one by one.
@@ -291,7 +391,7 @@ fn take_members<R: IdRoom>(
         let Some((first, metadata)) = cursor.two_bytes() else {
             return Err(Doubt::Refused);
         };
-        let member = take_flat(room, cursor, depth + 1, &below, first, metadata)?;
+        let member = take_geometry(room, cursor, depth + 1, &below, first, metadata)?;
         cursor.place_is_within();
         vertices += member;
     }
@@ -316,14 +416,7 @@ fn take_flat_shape<R: IdRoom>(
 {
     let count = take_count(room, cursor, head.kind, head.ids)?;
     match frame {
-        Some(frame) => {
-            let mut boxed = Boxed::new(&frame.bounds);
-            let vertices = take_parts_of(cursor, head, 2, count, &mut boxed)?;
-            if !boxed.is_inside() {
-                return Err(Doubt::Refused);
-            }
-            Ok(vertices)
-        }
+        Some(frame) => take_flat_boxed(cursor, head.kind, count, &frame.bounds),
         None => take_unboxed(cursor, head.kind, 2, count),
     }
 }

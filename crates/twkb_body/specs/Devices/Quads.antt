@@ -1,24 +1,25 @@
 -- Devices of proofs: nothing public names them.
 -- Points of X and Y that are compared with a box up to four at once: their distances from its minima are in lanes of 32 bits.
-use Rattle.std.specs.Prelude.{◌≡◌, ℕ, ◌≤◌, ◌^◌, Bool, true, ◌&&◌, List, [], ◌∷◌, length, ℤ, pos, neg_ℤ, ◌+ℤ◌, ◌≤ℤ◌, ◌<ℤ◌}
+use Rattle.std.specs.Prelude.{◌≡◌, ℕ, ◌+◌, ◌≤◌, ◌^◌, Bool, true, false, ◌&&◌, List, [], ◌∷◌, length, ℤ, pos, neg_ℤ, ◌+ℤ◌, ◌≤ℤ◌, ◌<ℤ◌, Ok}
 use Rattle.std.specs.Int.{w32, cast_unsigned}
 use Rattle.twkb_num.specs.Cursor.{Reading, passed, IsMoved}
 use Rattle.twkb_num.specs.Varint.{SpellsTwoSigned, IsShort}
+use Rattle.twkb_head.specs.Shared.Reader.{signed_at}
 use Rattle.twkb_body.specs.Devices.Boxed.{reaches}
 
 -- two distances in lanes, in two's complement, twice
 abbrev pub lanes_at : ℤ → ℤ → List ℕ
 lanes_at x y = cast_unsigned w32 x ∷ cast_unsigned w32 y ∷ cast_unsigned w32 x ∷ cast_unsigned w32 y ∷ []
 
--- a distance from which four short differences lead to one that a lane holds
-abbrev pub IsInLane : ℤ → Type 0
-IsInLane z = (neg_ℤ (pos (2 ^ 30)) ≤ℤ z) × (z <ℤ pos (2 ^ 30))
-
 -- a distance that a lane holds
-abbrev pub IsMetInLane : ℤ → Type 0
-IsMetInLane z = (neg_ℤ (pos (2 ^ 31)) ≤ℤ z) × (z <ℤ pos (2 ^ 31))
+abbrev pub IsInLane : ℤ → Type 0
+IsInLane z = (neg_ℤ (pos (2 ^ 31)) ≤ℤ z) × (z <ℤ pos (2 ^ 31))
 
--- an extent whose points are all at distances from which a run goes on in lanes
+-- a distance to which at most four short differences lead from one that a lane holds
+abbrev pub IsMetInLane : ℤ → Type 0
+IsMetInLane z = (neg_ℤ (pos (2 ^ 31 + 2 ^ 29)) ≤ℤ z) × (z <ℤ pos (2 ^ 31 + 2 ^ 29))
+
+-- an extent that lanes tell from all these distances, which wrap around
 abbrev pub IsLaneExtent : ℤ → Type 0
 IsLaneExtent z = (pos 0 ≤ℤ z) × (z <ℤ pos (2 ^ 30))
 
@@ -54,3 +55,10 @@ pub record IsQuadStep (w h x y : ℤ) (old new : Reading) (points : ℕ) (at : L
   pub few : points ≤ 4
   pub read : ReadsPairs differences old new
   pub reached : HaveReached w h x y differences at inside
+
+-- Two numbers lead from a distance to lanes, and the extents hold the point; or, if two numbers can be read there, they don't.
+abbrev pub IsFarStep : ℤ → ℤ → ℤ → ℤ → Reading → Reading → List ℕ → Bool → Type 0
+IsFarStep w h x y old new at true = (a b : ℤ) × (middle : Reading) × (signed_at old ≡ (Ok a, middle)) × (signed_at middle ≡ (Ok b, new))
+    × (at ≡ lanes_at (x +ℤ a) (y +ℤ b)) × ((reaches w (x +ℤ a) && reaches h (y +ℤ b)) ≡ true)
+IsFarStep w h x y old new at false = (new.bytes ≡ old.bytes)
+    × ((a b : ℤ) (middle stop : Reading) → signed_at old ≡ (Ok a, middle) → signed_at middle ≡ (Ok b, stop) → (reaches w (x +ℤ a) && reaches h (y +ℤ b)) ≡ false)

@@ -4,6 +4,7 @@ ghost use Rattle.twkb_num.specs.Units.{IsPrecision};
 ghost use Rattle.twkb_head.specs.Header.{axes_with, is_multi};
 ghost use Rattle.twkb_body.specs.Devices.Boxed.{IsNearBox};
 ghost use Rattle.twkb_body.specs.Devices.Inside.{of_head};
+ghost use Rattle.twkb_body.specs.Devices.LaneTrail.{LeaveBox};
 ghost use Rattle.twkb_body.specs.Devices.Sure.{ReadParts, AreMalformed, AreHeld, CountsParts};
 ghost use Rattle.twkb_body.specs.declared.doubt.Doubt.TheVariants.{Refused};
 ghost use Rattle.twkb_body.specs.Devices.Walk.{HasPrecisions};
@@ -11,6 +12,7 @@ ghost use Rattle.twkb_body.specs.Devices.Walk.{HasPrecisions};
 use crate::boxed::Boxed;
 use crate::doubt::Doubt;
 use crate::further::Further;
+use crate::lane_trail::{LaneTrail, fits_lanes};
 use crate::lists::take_list;
 use crate::parts::take_parts;
 use crate::points::Points;
@@ -63,6 +65,50 @@ pub fn head_of(kind: Kind, axes: usize) -> Head
         start: 0,
         stop: 0,
     }
+}
+
+/// Reads a body of X and Y, whose points the box has to hold.
+#[inline(always)]
+pub fn take_flat_boxed(
+    cursor: &mut Cursor,
+    kind: Kind,
+    count: u64,
+    bounds: &RawBox,
+) -> Result<usize, Doubt>
+    requires near { IsNearBox bounds.now }
+    ensures ok { IfOk result (AreHeld true kind 2 count bounds.now cursor.old cursor.new) }
+    ensures leave { OnErr result (LeaveBox kind 2 count bounds.now cursor.old) }
+    ensures bytes { cursor.new.bytes ≡ cursor.old.bytes }
+    ensures refused { IfErr result (λ doubt. doubt ≡ Refused) }
+{
+    if !fits_lanes(bounds) {
+        // A copy, so that the box stays in registers elsewhere.
+        let bounds = *bounds;
+        return take_wide(cursor, kind, count, &bounds);
+    }
+    let mut trail = LaneTrail::new(bounds);
+    match trail.take_parts(cursor, kind, count) {
+        Some(()) => Ok(trail.points),
+        None => Err(Doubt::Refused),
+    }
+}
+
+/// Reads a body as [`take_flat_boxed`] does, of a box that is too wide for lanes or too far from zero.
+#[inline(never)]
+fn take_wide(cursor: &mut Cursor, kind: Kind, count: u64, bounds: &RawBox) -> Result<usize, Doubt>
+    requires near { IsNearBox bounds.now }
+    ensures ok { IfOk result (AreHeld true kind 2 count bounds.now cursor.old cursor.new) }
+    ensures leave { OnErr result (LeaveBox kind 2 count bounds.now cursor.old) }
+    ensures bytes { cursor.new.bytes ≡ cursor.old.bytes }
+    ensures refused { IfErr result (λ doubt. doubt ≡ Refused) }
+{
+    let head = head_of(kind, 2);
+    let mut boxed = Boxed::new(bounds);
+    let vertices = take_parts_of(cursor, &head, 2, count, &mut boxed)?;
+    if !boxed.is_inside() {
+        return Err(Doubt::Refused);
+    }
+    Ok(vertices)
 }
 
 /// Reads a body of three axes or four, whose points the box has to hold.

@@ -4,21 +4,31 @@ use Rattle.twkb_head.specs.BegunHeader.{deepest}
 use Rattle.twkb_body.proofs.SureSteps.{IsSureLoop}
 use Rattle.twkb_body.proofs.sure.+take_flat.Given as goal
 
--- a collection reads its members a level below, and a geometry is handed on to the reading of more axes at its own level
+-- a collection reads its members a level below, and a geometry is handed on at its own level: to the readers of its kind, of more
+-- axes, and of its body
+abbrev pub decreases-take_geometry : goal.decreases-take_geometry
+decreases-take_geometry g l = 8 * (deepest - l.depth) + 6
+
+abbrev pub decreases-take_boxed_shape : goal.decreases-take_boxed_shape
+decreases-take_boxed_shape g l = 8 * (deepest - l.depth) + 5
+
 abbrev pub decreases-take_flat : goal.decreases-take_flat
-decreases-take_flat g l = 4 * (deepest - l.depth) + 3
+decreases-take_flat g l = 8 * (deepest - l.depth) + 4
 
 abbrev pub decreases-take_further : goal.decreases-take_further
-decreases-take_further g l = 4 * (deepest - l.depth) + 2
+decreases-take_further g l = 8 * (deepest - l.depth) + 3
+
+abbrev pub decreases-take_flat_behind : goal.decreases-take_flat_behind
+decreases-take_flat_behind g l = 8 * (deepest - l.depth) + 3
 
 abbrev pub decreases-take_flat_body : goal.decreases-take_flat_body
-decreases-take_flat_body g l = 4 * (deepest - l.depth) + 1
+decreases-take_flat_body g l = 8 * (deepest - l.depth) + 2
 
 abbrev pub decreases-take_further_body : goal.decreases-take_further_body
-decreases-take_further_body g l = 4 * (deepest - l.depth) + 1
+decreases-take_further_body g l = 8 * (deepest - l.depth) + 2
 
 abbrev pub decreases-take_members : goal.decreases-take_members
-decreases-take_members g l = 4 * (deepest - l.depth)
+decreases-take_members g l = 8 * (deepest - l.depth) + 1
 
 abbrev pub invariant-take_members-loop : goal.invariant-take_members-loop
 invariant-take_members-loop g l = IsSureLoop (deepest - (l.depth + 1)) l.end l.initial.cursor l.frame l.counter l.vertices l.cursor
