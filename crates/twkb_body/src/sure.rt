@@ -83,9 +83,9 @@ fn take_geometry<R: IdRoom>(
         → passed before cursor.old ≡ first ∷ metadata ∷ []
         → Certifies depth above.now before result cursor.new }
 {
-    // Both read any geometry; each is fast for its own.
-    if metadata & FLAT_BOX_BITS == BOX && first % 16 != COLLECTION {
-        take_boxed_shape(room, cursor, depth, above, first, metadata)
+    // Both read any geometry. The first is the faster one of a box in X and Y, and the slower one of anything else.
+    if metadata & FLAT_BOX_BITS == BOX {
+        take_with_box(room, cursor, depth, above, first, metadata)
     } else {
         take_flat(room, cursor, depth, above, first, metadata)
     }
@@ -97,9 +97,6 @@ const FLAT_BOX_BITS: u8 = 0x19;
 
 /// Of these bits, the one of a box.
 const BOX: u8 = 1;
-
-/// The code of a collection, in the low half of the first byte (TWKB specification, "Type & Precision").
-const COLLECTION: u8 = 7;
 
 /// Reads a geometry as [`take_geometry`] does.
 #[cycle(take_flat)]
@@ -134,10 +131,10 @@ fn take_flat<R: IdRoom>(
     take_flat_behind(room, cursor, depth, above, raw)
 }
 
-/// Reads a geometry as [`take_flat`] does. It is for shapes with a box in X and Y, whose readers are inlined here.
+/// Reads a geometry as [`take_flat`] does. The reader of a box in X and Y is inlined here.
 #[cycle(take_flat)]
 #[inline(never)]
-fn take_boxed_shape<R: IdRoom>(
+fn take_with_box<R: IdRoom>(
     room: &mut R,
     cursor: &mut Cursor,
     depth: u8,
@@ -158,9 +155,6 @@ fn take_boxed_shape<R: IdRoom>(
     let Some(begun) = begun_by(cursor, depth, first, metadata) else {
         return Err(Doubt::Refused);
     };
-    if begun.kind.is_collection() {
-        return take_flat(room, cursor, depth, above, first, metadata);
-    }
     let Some(boxed) = begun.flat_boxed() else {
         return take_flat(room, cursor, depth, above, first, metadata);
     };

@@ -312,25 +312,25 @@ take_flat-returns g t c = λ before sound moved two.
 boxed_begins : (begun boxed : Begun) (depth : ℕ) (before now : Reading) → boxed ≡ record begun { metadata = begun.metadata % 32 } → BeginsHead begun depth before now → BeginsHead boxed depth before now
 boxed_begins begun boxed depth before now is begins = announced_same begun boxed depth (begun.metadata % 32) before now refl is begins
 
-pub take_boxed_shape-returns-in_default : goal.take_boxed_shape-returns-in_default
-take_boxed_shape-returns-in_default g t c = λ before sound moved two.
+pub take_with_box-returns-in_default : goal.take_with_box-returns-in_default
+take_with_box-returns-in_default g t c = λ before sound moved two.
     (moved.bytes, no_header_refutes c.args.depth c.args.above.now before c.requires.shallowest c.requires.deepest sound (λ starts. cc (c.in_default.ensures.none before sound moved two starts)))
 
-pub take_boxed_shape-returns-in_default-take_boxed_rest : goal.take_boxed_shape-returns-in_default-take_boxed_rest
-take_boxed_shape-returns-in_default-take_boxed_rest g t c = λ before sound moved two.
+pub take_with_box-returns-in_default-take_boxed_rest : goal.take_with_box-returns-in_default-take_boxed_rest
+take_with_box-returns-in_default-take_boxed_rest g t c = λ before sound moved two.
     let begins = boxed_begins c.in-Some.begun c.in-Some-flat_boxed.boxed c.args.depth before c.args.cursor.now c.in-Some-flat_boxed.ensures.announcing (c.in-Some.ensures.some before sound moved two) in (
       ap (λ (r : Reading). r.bytes) (c.in_default-take_boxed_rest.ensures.read c.args.depth before sound begins).1,
       rest_refutes c.in_default-take_boxed_rest.field-0 c.args.depth c.args.above.now before c.requires.shallowest c.requires.deepest sound (c.in_default-take_boxed_rest.ensures.exact c.args.depth before sound begins),
     )
 
-pub take_boxed_shape-take_flat_behind-requires : goal.take_boxed_shape-take_flat_behind-requires
-take_boxed_shape-take_flat_behind-requires g t c κs within =
+pub take_with_box-take_flat_behind-requires : goal.take_with_box-take_flat_behind-requires
+take_with_box-take_flat_behind-requires g t c κs within =
     let b = c.requires.before in
     let s = c.in-Ok.ensures.read c.args.depth b.0 b.1 (boxed_begins c.in-Some.begun c.in-Some-flat_boxed.boxed c.args.depth b.0 c.args.cursor.now c.in-Some-flat_boxed.ensures.announcing (c.in-Some.ensures.some b.0 b.1 b.2 b.3)) in
     let full : c.in-Ok.raw.empty ≡ false = c.in-Ok.ensures.empty ∙ c.in-Some-flat_boxed.ensures.full in
     let flat = c.in-Ok.ensures.flat c.in-Some-flat_boxed.ensures.flat in
     search rules
 
-pub take_boxed_shape-returns : goal.take_boxed_shape-returns
-take_boxed_shape-returns g t c = λ before sound moved two.
+pub take_with_box-returns : goal.take_with_box-returns
+take_with_box-returns g t c = λ before sound moved two.
     c.take_flat_behind.ensures before sound (c.in-Ok.ensures.read c.args.depth before sound (boxed_begins c.in-Some.begun c.in-Some-flat_boxed.boxed c.args.depth before c.args.cursor.now c.in-Some-flat_boxed.ensures.announcing (c.in-Some.ensures.some before sound moved two)))

@@ -9,8 +9,8 @@ use Rattle.twkb_body.proofs.sure.+take_flat.Given as goal
 abbrev pub decreases-take_geometry : goal.decreases-take_geometry
 decreases-take_geometry g l = 8 * (deepest - l.depth) + 6
 
-abbrev pub decreases-take_boxed_shape : goal.decreases-take_boxed_shape
-decreases-take_boxed_shape g l = 8 * (deepest - l.depth) + 5
+abbrev pub decreases-take_with_box : goal.decreases-take_with_box
+decreases-take_with_box g l = 8 * (deepest - l.depth) + 5
 
 abbrev pub decreases-take_flat : goal.decreases-take_flat
 decreases-take_flat g l = 8 * (deepest - l.depth) + 4
