@@ -16,12 +16,12 @@ ghost use Rattle.twkb_body.specs.Devices.Walk.{HasPrecisions};
 mod apart;
 mod parts;
 mod plain;
+mod shapes;
 mod unboxed;
 
 use self::apart::{flat_ranges, take_apart, take_apart_flat};
-use self::parts::{take_boxed, take_count, take_flat_boxed};
 use self::plain::{take_plain_line, take_plain_point};
-use self::unboxed::take_unboxed;
+use self::shapes::{take_flat_shape, take_further_shape};
 use crate::doubt::Doubt;
 use crate::found::judge_size;
 use crate::frame::Frame;
@@ -50,7 +50,7 @@ pub fn take_blob<R: IdRoom>(room: &mut R, cursor: &mut Cursor) -> Result<(usize,
     }
     let vertices = match begun_as(cursor, Kind::LineString, NO_FIELD, first, metadata) {
         Some(begun) => take_plain_line(cursor, begun)?,
-        None => take_geometry(room, cursor, 1, &None, first, metadata)?,
+        None => take_sure(room, cursor, 1, &None, first, metadata)?,
     };
     Ok((vertices, cursor.place()))
 }
@@ -65,7 +65,7 @@ const NO_FIELD: u8 = 0;
 /// Reads a geometry at `depth` after its first two bytes. The frame above has to hold its points.
 #[cycle(take_flat)]
 #[inline(always)]
-fn take_geometry<R: IdRoom>(
+fn take_sure<R: IdRoom>(
     room: &mut R,
     cursor: &mut Cursor,
     depth: u8,
@@ -83,7 +83,7 @@ fn take_geometry<R: IdRoom>(
         → passed before cursor.old ≡ first ∷ metadata ∷ []
         → Certifies depth above.now before result cursor.new }
 {
-    // Both read any geometry. The first is the faster one of a box in X and Y, and the slower one of anything else.
+    // Both read any geometry: `take_with_box` is faster if a box in X and Y follows, and `take_flat` if not.
     if metadata & FLAT_BOX_BITS == BOX {
         take_with_box(room, cursor, depth, above, first, metadata)
     } else {
@@ -98,7 +98,7 @@ const FLAT_BOX_BITS: u8 = 0x19;
 /// Of these bits, the one of a box.
 const BOX: u8 = 1;
 
-/// Reads a geometry as [`take_geometry`] does.
+/// Reads a geometry as [`take_sure`] does.
 #[cycle(take_flat)]
 #[inline(never)]
 fn take_flat<R: IdRoom>(
@@ -385,57 +385,9 @@ fn take_members<R: IdRoom>(
         let Some((first, metadata)) = cursor.two_bytes() else {
             return Err(Doubt::Refused);
         };
-        let member = take_geometry(room, cursor, depth + 1, &below, first, metadata)?;
+        let member = take_sure(room, cursor, depth + 1, &below, first, metadata)?;
         cursor.place_is_within();
         vertices += member;
     }
     Ok(vertices)
-}
-
-/// Reads the body of a geometry of X and Y alone that is no collection.
-#[inline(always)]
-fn take_flat_shape<R: IdRoom>(
-    room: &mut R,
-    cursor: &mut Cursor,
-    head: &Head,
-    frame: &Option<Frame>,
-) -> Result<usize, Doubt>
-    requires precisions { HasPrecisions head.now }
-    requires full { head.now.empty ≡ false }
-    requires kind { is_collection head.now.kind ≡ false }
-    requires frame { IfSome frame.now (IsFramed head.now) }
-    requires z { head.now.z ≡ None }
-    requires m { head.now.m ≡ None }
-    ensures { (levels : ℕ) → CertifiesShape levels head.now frame.now cursor.old result cursor.new }
-{
-    let count = take_count(room, cursor, head.kind, head.ids)?;
-    match frame {
-        Some(frame) => take_flat_boxed(cursor, head.kind, count, &frame.bounds),
-        None => take_unboxed(cursor, head.kind, 2, count),
-    }
-}
-
-/// Reads the body of a geometry that is no collection.
-#[inline(always)]
-fn take_further_shape<R: IdRoom>(
-    room: &mut R,
-    cursor: &mut Cursor,
-    head: &Head,
-    frame: &Option<Frame>,
-) -> Result<usize, Doubt>
-    requires precisions { HasPrecisions head.now }
-    requires full { head.now.empty ≡ false }
-    requires kind { is_collection head.now.kind ≡ false }
-    requires frame { IfSome frame.now (IsFramed head.now) }
-    requires further { has_further head.now.z head.now.m ≡ true }
-    ensures { (levels : ℕ) → CertifiesShape levels head.now frame.now cursor.old result cursor.new }
-{
-    let count = take_count(room, cursor, head.kind, head.ids)?;
-    match frame {
-        Some(frame) => {
-            let bounds = frame.bounds;
-            take_boxed(cursor, head.kind, head.axes(), count, &bounds)
-        }
-        None => take_unboxed(cursor, head.kind, head.axes(), count),
-    }
 }

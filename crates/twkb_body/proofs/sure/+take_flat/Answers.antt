@@ -162,7 +162,7 @@ take_members-overflow_add-vertices g t c =
 pub take_members-loop-preserved : goal.take_members-loop-preserved
 take_members-loop-preserved g t c =
     let one = c.in_ok-member.ensures c.loop.cursor c.place_is_within-in-loop.ensures c.in-Some.ensures.moved c.in-Some.ensures.some in
-    sure_goes_on _ _ _ _ c.loop.counter c.loop.vertices c.in_ok-member.member _ c.loop.cursor c.take_geometry.new.cursor c.loop-test.true one refl c.loop.invariant
+    sure_goes_on _ _ _ _ c.loop.counter c.loop.vertices c.in_ok-member.member _ c.loop.cursor c.take_sure.new.cursor c.loop-test.true one refl c.loop.invariant
 
 pub take_members-returns : goal.take_members-returns
 take_members-returns g t c =
@@ -187,8 +187,8 @@ take_members-returns-in_default g t c =
           (no_header_refutes (c.args.depth + 1) c.args.frame.now c.loop.cursor (omega arith) c.requires.below c.place_is_within-in-loop.ensures (λ starts. absurd (omega (arith, c.in_default.ensures.end.0 refl, header_two (c.args.depth + 1) (rest c.loop.cursor) starts)))),
     )
 
-pub take_members-take_geometry-requires : goal.take_members-take_geometry-requires
-take_members-take_geometry-requires g t c κs within =
+pub take_members-take_sure-requires : goal.take_members-take_sure-requires
+take_members-take_sure-requires g t c κs within =
     let before : (before : Reading) × IsSound before × IsMoved before c.two_bytes.new.self × (passed before c.two_bytes.new.self ≡ c.in-Some.first ∷ c.in-Some.metadata ∷ []) =
     (c.loop.cursor, c.place_is_within-in-loop.ensures, c.in-Some.ensures.moved, c.in-Some.ensures.some) in
     let read : 2 ≤ c.two_bytes.new.self.place = omega (arith, two_back c.loop.cursor c.two_bytes.new.self _ _ c.in-Some.ensures.moved c.in-Some.ensures.some) in
@@ -207,7 +207,7 @@ take_members-returns-in_err-member g t c =
     let one = c.in_err-member.ensures c.loop.cursor c.place_is_within-in-loop.ensures c.in-Some.ensures.moved c.in-Some.ensures.some in
     let l = c.loop.invariant in
     rw (p.1, p.2) (doubts_through (IsRefuted inner c.args.frame.now c.loop.cursor) (IsRefutedBody (deepest - c.args.depth) head c.args.frame.now c.args.cursor.now) (HasLongList (c.args.depth + 1) (rest c.loop.cursor))
-    (WantsIn (is_collection head.kind) head.empty c.args.depth head.ids c.args.cursor.now) c.loop.cursor c.args.cursor.now _ c.take_geometry.new.cursor
+    (WantsIn (is_collection head.kind) head.empty c.args.depth head.ids c.args.cursor.now) c.loop.cursor c.args.cursor.now _ c.take_sure.new.cursor
     (member_bytes inner head.ids c.args.cursor.now c.take_list.new.cursor c.loop.cursor list.0 c.loop.counter l.loop.front c.place_is_within.ensures listed l.loop.so_far)
     (λ wrong. members_refute head (deepest - c.args.depth) inner c.args.cursor.now c.args.frame.now under full many c.take_list.new.cursor list.0 c.in_ok-list.list listed list.2 c.loop.counter c.loop.vertices c.loop.cursor c.loop-test.true l wrong)
     (λ wants. wants_members head c.args.depth c.args.cursor.now full many (member_ids list.0 c.take_list.new.cursor c.loop.cursor c.loop.counter l.loop.front listed (omega (arith, c.loop-test.true, list.2.count)) l.loop.so_far wants)) one)

@@ -6,8 +6,8 @@ use Rattle.twkb_body.proofs.sure.+take_flat.Given as goal
 
 -- a collection reads its members a level below, and a geometry is handed on at its own level: to the readers of its kind, of more
 -- axes, and of its body
-abbrev pub decreases-take_geometry : goal.decreases-take_geometry
-decreases-take_geometry g l = 8 * (deepest - l.depth) + 6
+abbrev pub decreases-take_sure : goal.decreases-take_sure
+decreases-take_sure g l = 8 * (deepest - l.depth) + 6
 
 abbrev pub decreases-take_with_box : goal.decreases-take_with_box
 decreases-take_with_box g l = 8 * (deepest - l.depth) + 5

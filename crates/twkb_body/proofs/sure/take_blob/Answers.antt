@@ -12,5 +12,5 @@ returns-in_default-clause-certified g c = (
   no_header_refutes 1 None c.args.cursor.now (omega arith) (omega arith) c.place_is_within.ensures (λ starts. absurd (omega (arith, c.in_default.ensures.end.0 refl, header_two 1 (rest c.args.cursor.now) starts))),
 )
 
-pub take_geometry-requires-clause-read : goal.take_geometry-requires-clause-read
-take_geometry-requires-clause-read g c = omega (arith, two_back c.args.cursor.now c.two_bytes.new.self _ _ c.in-Some.ensures.moved c.in-Some.ensures.some)
+pub take_sure-requires-clause-read : goal.take_sure-requires-clause-read
+take_sure-requires-clause-read g c = omega (arith, two_back c.args.cursor.now c.two_bytes.new.self _ _ c.in-Some.ensures.moved c.in-Some.ensures.some)

@@ -5,7 +5,7 @@ use Rattle.twkb_head.specs.Header.{axes_with, axes_of}
 use Rattle.twkb_body.specs.Devices.Inside.{of_head}
 use Rattle.twkb_body.proofs.FlatBodies.{flat_certifies}
 use Rattle.twkb_body.proofs.Refuting.{shape_count_doubts, unboxed_certifies}
-use Rattle.twkb_body.proofs.sure.take_flat_shape.Goals as goal
+use Rattle.twkb_body.proofs.sure.shapes.take_flat_shape.Goals as goal
 
 pub returns-in_err-count : goal.returns-in_err-count
 returns-in_err-count g c = λ levels.
