@@ -90,13 +90,20 @@ impl LaneTrail {
         match kind {
             Kind::Point | Kind::MultiPoint => self.take_points(cursor, 1),
             Kind::LineString | Kind::MultiLineString => self.take_ring(cursor),
-            Kind::Polygon | Kind::MultiPolygon => self.take_polygon(cursor),
+            Kind::Polygon | Kind::MultiPolygon => {
+                // A copy, so that the trail of a line stays in registers.
+                let mut trail = *self;
+                trail.take_polygon(cursor)?;
+                *self = trail;
+                Some(())
+            }
             Kind::GeometryCollection => Some(()),
         }
     }
 
     /// Reads the rings of a polygon.
-    #[inline(always)]
+    // Out of line, since the compiler inlines nothing into a function that would grow very large.
+    #[inline(never)]
     fn take_polygon(&mut self, cursor: &mut Cursor) -> Option<()>
         requires there { (box : BoxOf) × (trail : TrailOf) × IsLaneTrail box self.old trail }
         requires counted { self.old.points ≤ cursor.old.place }

@@ -9,7 +9,7 @@ use Rattle.twkb_body.specs.declared.trail.Trail.{Trail}
 use Rattle.twkb_body.specs.Devices.Boxed.{held_then}
 use Rattle.twkb_body.specs.Devices.LaneTrail.{StaysInside, LeavesBox, holding}
 use Rattle.twkb_body.specs.Devices.BodyReader.{ring_at}
-use Rattle.twkb_body.proofs.LaneParts.{some_then, none_then, made_stays, made_leaves, ring_alone, point_stays, point_leaves}
+use Rattle.twkb_body.proofs.LaneParts.{some_then, none_then, none_left, made_stays, made_leaves, ring_alone, point_stays, point_leaves}
 use Rattle.twkb_body.proofs.Showing.{is_points, is_lines, is_polygons}
 use Rattle.twkb_body.proofs.Walks.{ring_points, part_points, walked_none}
 use Rattle.twkb_body.proofs.lane_trail.LaneTrail.take_part.Goals as goal
@@ -41,13 +41,13 @@ returns-in-LineString-clause-none c = none_then c.take_ring.result _ _ (λ leave
     subst (λ (each : PointValue → Reader PolygonValue). Leaves each box trail.last c.args.cursor.now) (sym (is_lines c.args.kind 2 c.in-LineString.is))
     (made_leaves (λ line. line ∷ []) (ring_at 2) ring_points part_points ring_alone box trail.last c.args.cursor.now (leave box trail lanes))) c.take_ring.ensures.none
 
-pub returns-in-Polygon-clause-some : goal.returns-in-Polygon-clause-some
-returns-in-Polygon-clause-some c = some_then c.take_polygon.result _ _ (λ stay box trail lanes.
-    subst (λ (each : PointValue → Reader PolygonValue). Stays each box trail c.take_polygon.new.self c.args.cursor.now c.take_polygon.new.cursor) (sym (is_polygons c.args.kind 2 c.in-Polygon.is)) (stay box trail lanes)) c.take_polygon.ensures.some
+pub returns-in_ok-take_polygon-in-Polygon-clause-some : goal.returns-in_ok-take_polygon-in-Polygon-clause-some
+returns-in_ok-take_polygon-in-Polygon-clause-some c = λ box trail lanes.
+    subst (λ (each : PointValue → Reader PolygonValue). Stays each box trail c.take_polygon.new.self c.args.cursor.now c.take_polygon.new.cursor) (sym (is_polygons c.args.kind 2 c.in-Polygon.is)) (c.in_ok-take_polygon-in-Polygon.ensures.some box trail lanes)
 
-pub returns-in-Polygon-clause-none : goal.returns-in-Polygon-clause-none
-returns-in-Polygon-clause-none c = none_then c.take_polygon.result _ _ (λ leave box trail lanes.
-    subst (λ (each : PointValue → Reader PolygonValue). Leaves each box trail.last c.args.cursor.now) (sym (is_polygons c.args.kind 2 c.in-Polygon.is)) (leave box trail lanes)) c.take_polygon.ensures.none
+pub returns-in_err-take_polygon-in-Polygon-clause-none : goal.returns-in_err-take_polygon-in-Polygon-clause-none
+returns-in_err-take_polygon-in-Polygon-clause-none c = none_left c.from_residual.result _ (λ box trail lanes.
+    subst (λ (each : PointValue → Reader PolygonValue). Leaves each box trail.last c.args.cursor.now) (sym (is_polygons c.args.kind 2 c.in-Polygon.is)) (c.in_err-take_polygon-in-Polygon.ensures.none box trail lanes))
 
 pub returns-in-GeometryCollection-clause-some : goal.returns-in-GeometryCollection-clause-some
 returns-in-GeometryCollection-clause-some c box trail lanes = rw c.in-GeometryCollection.is (record {
