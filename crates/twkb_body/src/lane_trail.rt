@@ -60,7 +60,8 @@ impl LaneTrail {
     }
 
     /// Reads `count` parts of a kind. `None`: they are malformed, or a point is outside.
-    #[inline(always)]
+    // Out of line, as polygons are: the compiler inlines no function that would grow very large.
+    #[inline(never)]
     pub fn take_parts(&mut self, cursor: &mut Cursor, kind: Kind, count: u64) -> Option<()>
         requires there { (box : BoxOf) × (trail : TrailOf) × IsLaneTrail box self.old trail }
         requires counted { self.old.points ≤ cursor.old.place }
@@ -102,7 +103,6 @@ impl LaneTrail {
     }
 
     /// Reads the rings of a polygon.
-    // Out of line, since the compiler inlines nothing into a function that would grow very large.
     #[inline(never)]
     fn take_polygon(&mut self, cursor: &mut Cursor) -> Option<()>
         requires there { (box : BoxOf) × (trail : TrailOf) × IsLaneTrail box self.old trail }
