@@ -1,5 +1,5 @@
 -- Sums in lanes, in two's complement.
-use Rattle.std.proofs.Common.{◌≡◌, ℕ, ◌+◌, ◌-◌, ◌%◌, List, [], ◌∷◌, map, ℤ, pos, negsuc, neg_ℤ, ◌+ℤ◌, ◌≤ℤ◌, ◌<ℤ◌, inl, inr, refl, sym, ap, ap₂, ◌∙◌, arith, Fits, w16, w32, Bool, true, false, ◌&&◌, nat_eq, nat_le}
+use Rattle.std.proofs.Common.{◌≡◌, ℕ, ◌+◌, ◌-◌, ◌%◌, List, [], ◌∷◌, map, ◌^◌, ℤ, pos, negsuc, neg_ℤ, ◌+ℤ◌, ◌≤ℤ◌, ◌<ℤ◌, inl, inr, refl, sym, ap, ap₂, ◌∙◌, arith, Fits, w16, w32, Bool, true, false, ◌&&◌, nat_eq, nat_le}
 use Rattle.std.proofs.lemmas.Int.{ints, of_z-to_z}
 use Rattle.std.specs.Int.{cast_signed, cast_unsigned}
 use mir.Syntax.{Width}
@@ -9,8 +9,12 @@ use Rattle.std.specs.Prelude.{if◌then◌else◌, nat_lt, ◌≤◌, ◌⊎◌}
 use lib.Lanes.{Each1, mask_l}
 use Rattle.twkb_num.specs.Varint.{IsBrief, IsShort}
 use Rattle.twkb_body.specs.Devices.Boxed.{reaches}
-use Rattle.twkb_body.specs.Devices.Quads.{IsInLane, IsLaneExtent, IsMetInLane}
+use Rattle.twkb_body.specs.Devices.Quads.{IsInLane, IsLaneExtent}
 use Rattle.twkb_body.proofs.BoxedRuns.{reaches_decides, both_true}
+
+-- a distance to which at most four short differences lead from one that a lane holds
+abbrev pub IsMetInLane : ℤ → Type 0
+IsMetInLane z = (neg_ℤ (pos (2 ^ 31 + 2 ^ 29)) ≤ℤ z) × (z <ℤ pos (2 ^ 31 + 2 ^ 29))
 
 pub same_truth : (a b : Bool) → (a ≡ true → b ≡ true) → (b ≡ true → a ≡ true) → a ≡ b
 same_truth true b to from = sym (to refl)

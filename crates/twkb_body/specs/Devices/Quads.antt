@@ -15,10 +15,6 @@ lanes_at x y = cast_unsigned w32 x ∷ cast_unsigned w32 y ∷ cast_unsigned w32
 abbrev pub IsInLane : ℤ → Type 0
 IsInLane z = (neg_ℤ (pos (2 ^ 31)) ≤ℤ z) × (z <ℤ pos (2 ^ 31))
 
--- a distance to which at most four short differences lead from one that a lane holds
-abbrev pub IsMetInLane : ℤ → Type 0
-IsMetInLane z = (neg_ℤ (pos (2 ^ 31 + 2 ^ 29)) ≤ℤ z) × (z <ℤ pos (2 ^ 31 + 2 ^ 29))
-
 -- an extent that lanes tell from all these distances, which wrap around
 abbrev pub IsLaneExtent : ℤ → Type 0
 IsLaneExtent z = (pos 0 ≤ℤ z) × (z <ℤ pos (2 ^ 30))
