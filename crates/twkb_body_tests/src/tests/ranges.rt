@@ -48,10 +48,10 @@ fn places_agree(
     kinds_agree(rt, alloc, &bounds, &differences)
 }
 
-// Distances and extents fit a lane below this.
+// Lanes tell extents below this, and distances below twice as much.
 const LANE: i64 = 1 << 30;
 
-const MINIMA: [i64; 17] = [
+const MINIMA: [i64; 21] = [
     0,
     1,
     -1,
@@ -61,8 +61,12 @@ const MINIMA: [i64; 17] = [
     1 - LANE,
     -LANE,
     -LANE - 1,
+    2 * LANE - 1,
     2 * LANE,
+    2 * LANE + 1,
+    1 - 2 * LANE,
     -2 * LANE,
+    -2 * LANE - 1,
     4 * LANE,
     -4 * LANE,
     4 * LANE + 1,
@@ -162,7 +166,16 @@ fn ends_agree(
 #[test]
 fn a_point_outside_by_one(rt: HostRuntime) -> Result<(), Fail> {
     for axis in 0..2usize {
-        for minimum in [0, -3, 70, -9000, 2000000, -(1 << 29), LANE, 1 - LANE] {
+        for minimum in [
+            0,
+            -3,
+            70,
+            -9000,
+            -(1 << 29),
+            1 - LANE,
+            2 * LANE - 1,
+            -2 * LANE,
+        ] {
             for extent in [0, 8, 120, 16000, 2000000, 200000000, LANE - 1] {
                 ends_agree(&rt, rt.alloc(), axis, (minimum, extent))?;
             }
