@@ -17,7 +17,7 @@ use crate::bits::{BOX, EMPTY, EXTENDED, IDS, SIZE, has_bit, ids_of, m_of, precis
 use crate::fields::{take_byte, take_number, take_type};
 use crate::header::{Head, SizeField};
 use crate::kinds::{Kind, kind_at};
-use crate::ranges::take_box;
+use crate::ranges::{Called, FlatRanges, Inlined, take_box};
 use crate::raw::{Axes, Fields};
 use crate::refusal::Malformed;
 use twkb_num::Cursor;
@@ -163,7 +163,7 @@ fn take_head(cursor: &mut Cursor, depth: u8) -> Result<Fields, Malformed>
     ensures m_high { IfOk result (λ raw. IfSome raw.axes.m (λ p. p ≤ 7)) }
 {
     let first_two = take_begun(cursor, depth)?;
-    take_fields::<false>(cursor, first_two)
+    take_fields::<Called>(cursor, first_two)
 }
 
 /// The first two bytes of the header at the place.
@@ -272,7 +272,7 @@ pub fn take_rest(cursor: &mut Cursor, begun: Begun) -> Result<Fields, Malformed>
     ensures no_box { has_bit begun.metadata 1 ≡ false → IfOk result (λ raw. raw.bounds ≡ None) }
     ensures kind { IfOk result (λ raw. raw.kind ≡ begun.kind) }
 {
-    take_fields::<false>(cursor, begun)
+    take_fields::<Called>(cursor, begun)
 }
 
 /// Reads the other fields of a header as [`take_rest`] does. It is for callers that mostly read headers with a box: the reading of
@@ -293,13 +293,13 @@ pub fn take_boxed_rest(cursor: &mut Cursor, begun: Begun) -> Result<Fields, Malf
     ensures boxed { has_bit begun.metadata 1 ≡ true → IfOk result (λ raw. IsSome raw.bounds) }
     ensures kind { IfOk result (λ raw. raw.kind ≡ begun.kind) }
 {
-    take_fields::<true>(cursor, begun)
+    take_fields::<Inlined>(cursor, begun)
 }
 
 /// The fields after the first two bytes, in order.
 #[inline(always)]
 #[tactic(auto, unfolding(crate::specs::Devices::HeadReader::rest_at))]
-fn take_fields<const INLINE: bool>(cursor: &mut Cursor, begun: Begun) -> Result<Fields, Malformed>
+fn take_fields<R: FlatRanges>(cursor: &mut Cursor, begun: Begun) -> Result<Fields, Malformed>
     requires xy { IsPrecision begun.xy }
     ensures read { rest_at begun.kind begun.xy begun.metadata begun.start cursor.old ≡ (made_whole result, cursor.new) }
     ensures xy { IfOk result (λ raw. IsPrecision raw.axes.xy) }
@@ -317,7 +317,7 @@ fn take_fields<const INLINE: bool>(cursor: &mut Cursor, begun: Begun) -> Result<
     let size_place = cursor.place();
     let size = take_size(cursor, has_bit(begun.metadata, SIZE))?;
     let box_place = cursor.place();
-    let bounds = take_box::<INLINE>(
+    let bounds = take_box::<R>(
         cursor,
         has_bit(begun.metadata, BOX),
         z.is_some(),

@@ -63,8 +63,20 @@ pub fn take_bare_point(cursor: &mut Cursor) -> Result<usize, Doubt>
     cursor.place_is_within();
     match cursor.pass_pair() {
         Some(()) => Ok(1),
-        None => take_summed(cursor, Kind::Point, 2, 1),
+        None => take_long_point(cursor),
     }
+}
+
+/// Reads a point as [`take_bare_point`] does, whose numbers don't end in the next eight bytes.
+// A function of its own, so that memory for the result isn't set to zero at each point.
+#[inline(always)]
+fn take_long_point(cursor: &mut Cursor) -> Result<usize, Doubt>
+    ensures ok { IfOk result (ReadParts unchanged Point 2 1 cursor.old cursor.new tt tt) }
+    ensures malformed { OnErr result (AreMalformed Point 2 1 cursor.old cursor.new) }
+    ensures refused { IfErr result (λ doubt. doubt ≡ Refused) }
+{
+    let points = take_summed(cursor, Kind::Point, 2, 1)?;
+    Ok(points)
 }
 
 /// Passes the parts by the ends of their numbers, and returns how many points there are. It returns `None` and passes nothing
