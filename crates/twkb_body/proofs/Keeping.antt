@@ -65,8 +65,11 @@ keeps_many (suc n) after f s each r =
     ∙ each s r
 
 -- ---- bodies
-keeps_point : (axes : ℕ) (s : PointValue) → Keeps (point_at axes s)
+pub keeps_point : (axes : ℕ) (s : PointValue) → Keeps (point_at axes s)
 keeps_point axes s = keeps_many axes (λ (s : PointValue) (z : ℤ). behind s) (λ s. coordinate_at (first_of s)) s (λ s. keeps_coordinate (first_of s))
+
+pub keeps_points : (axes n : ℕ) (s : PointValue) → Keeps (many_at n add (point_at axes) s)
+keeps_points axes n s = keeps_many n add (point_at axes) s (keeps_point axes)
 
 keeps_ring : (axes : ℕ) (s : PointValue) → Keeps (ring_at axes s)
 keeps_ring axes s r = keeps_then (number_at r) (λ n. many_at n add (point_at axes) s) (λ n. keeps_many n add (point_at axes) s (keeps_point axes)) ∙ keeps_number r

@@ -1,8 +1,9 @@
 -- Points that a box has to hold, read in lanes: a run that reaches the end, and a point that is outside.
-use Rattle.std.proofs.Common.{◌≡◌, ℕ, ◌+◌, ◌<◌, ◌≤◌, Bool, true, false, ◌&&◌, List, [], ◌∷◌, length, drop, slice_index_or, fold, flat_map, ℤ, pos, ◌+ℤ◌, ◌-ℤ◌, Ok, Err, refl, sym, ap, ap₂, subst, ◌∙◌, arith}
+use Rattle.std.proofs.Common.{◌≡◌, ℕ, ◌+◌, ◌<◌, ◌≤◌, Bool, true, false, ◌&&◌, List, [], ◌∷◌, length, drop, slice_index_or, fold, flat_map, ℤ, pos, ◌+ℤ◌, ◌-ℤ◌, Ok, Err, inr, refl, sym, ap, ap₂, subst, ◌∙◌, arith}
 use Rattle.std.proofs.lemmas.Int.{ints}
 use Rattle.twkb_num.specs.Cursor.{Reading}
 use Rattle.twkb_head.specs.declared.raw.RawBox.{RawBox}
+use Rattle.twkb_head.specs.declared.refusal.Malformed.{Malformed}
 use Rattle.twkb_head.specs.declared.refusal.Why.TheVariants.{Range}
 use Rattle.twkb_head.specs.Shared.Plan.{fits}
 use Rattle.twkb_head.specs.Shared.Reader.{Answer, ◌>>=◌, viewed, signed_at, coordinate_at, many_at}
@@ -13,13 +14,14 @@ use Rattle.twkb_body.specs.declared.trail.Trail.{Trail}
 use Rattle.twkb_body.specs.Geometry.{PointValue}
 use Rattle.twkb_body.specs.Devices.Body.{first_of, behind, add}
 use Rattle.twkb_body.specs.Devices.BodyReader.{point_at}
-use Rattle.twkb_body.specs.Devices.Boxed.{reaches, Held, held_then}
-use Rattle.twkb_body.specs.Devices.LaneTrail.{holding, trail_at, IsLaneTrail, StaysInside, LeavesBox}
+use Rattle.twkb_body.specs.Devices.Boxed.{reaches, Held, held_then, is_in_box}
+use Rattle.twkb_body.specs.Devices.LaneTrail.{holding, holding_at, trail_at, IsLaneTrail, StandsInLanes, IsOutside, LeavesBox}
+use Rattle.twkb_body.specs.Devices.PointReader.{Stage, HasRead, EndsEarly}
 use Rattle.twkb_body.specs.Devices.Quads.{IsFarStep}
 use Rattle.twkb_body.specs.Devices.Walk.{lasts_from, IsRun}
 use Rattle.twkb_body.proofs.FlatRuns.{flat_begins, flat_trail}
-use Rattle.twkb_body.proofs.LeavingBox.{loop_leaves, next_leaves}
 use Rattle.twkb_body.proofs.PartPlans.{flat_single}
+use Rattle.twkb_body.proofs.PointReads.{loop_leads, next_leads}
 use Rattle.twkb_body.proofs.QuadRuns.{IsRunAt, IsLaneRun}
 use Rattle.twkb_body.proofs.Refuting.{viewed_back}
 use Rattle.twkb_body.proofs.Runs.{ring_goes_far}
@@ -79,6 +81,10 @@ pair_back x y others r stop p e = go (coordinate_at x r) refl e
 from_there : (low distance more : ℤ) → ((low +ℤ distance) +ℤ more) -ℤ low ≡ distance +ℤ more
 from_there low distance more = omega (arith, ints)
 
+-- once a point is outside, no point changes that
+stays_outside : (held : Held) (point : PointValue) → IsOutside held → IsOutside (held_then 2 held point)
+stays_outside held point out = ap (λ (inside : Bool). inside && is_in_box 2 held.box point) out
+
 module _ (box : RawBox) (start : Trail) (from : Reading) where
   -- a trail in lanes begins a run
   pub lanes_begin : (lanes : LaneTrail) → IsLaneTrail box lanes start → IsLaneRun start from box lanes.at from 0
@@ -108,14 +114,14 @@ module _ (box : RawBox) (start : Trail) (from : Reading) where
     -- a run to a point outside
     pub run_leaves : (across up : ℤ) (r : Reading) (k : ℕ) → k ≤ count → IsRunAt start from box across up false r k → LeaveFrom
     run_leaves across up r k le run =
-        as_points (loop_leaves add (point_at 2) one_point add_is_sums count start box from k (flat_trail start (box.x.minimum +ℤ across) (box.y.minimum +ℤ up) k) (record { box = box; inside = false }) r
-        (as_loop k _ _ r le run) refl)
+        as_points (loop_leads (held_then 2) (holding_at box start) add (point_at 2) one_point add_is_sums count from k (flat_trail start (box.x.minimum +ℤ across) (box.y.minimum +ℤ up) k) (record { box = box; inside = false }) r
+        (as_loop k _ _ r le run) IsOutside stays_outside refl)
 
     -- a run whose next point can't be read, or is outside
     pub far_leaves : (at next : List ℕ) (inside : Bool) (r new : Reading) (i : ℕ) (l : IsLaneRun start from box at r i) → i < count → inside ≡ false → IsFarStep box.x.extent box.y.extent l.across l.up r new next inside → LeaveFrom
     far_leaves at next inside r new i l lt so step =
-        as_points (next_leaves add (point_at 2) one_point add_is_sums count start box from i (flat_trail start (box.x.minimum +ℤ l.across) (box.y.minimum +ℤ l.up) i) (holding box) r
-        (as_loop i _ _ r (omega (arith, lt)) l.run) lt refl (outside (subst (λ (b : Bool). IsFarStep box.x.extent box.y.extent l.across l.up r new next b) so step)))
+        as_points (next_leads (held_then 2) (holding_at box start) add (point_at 2) one_point add_is_sums count from i (flat_trail start (box.x.minimum +ℤ l.across) (box.y.minimum +ℤ l.up) i) (holding box) r
+        (as_loop i _ _ r (omega (arith, lt)) l.run) IsOutside stays_outside lt (outside (subst (λ (b : Bool). IsFarStep box.x.extent box.y.extent l.across l.up r new next b) so step)))
       where
         outside : IsFarStep box.x.extent box.y.extent l.across l.up r new next false
             → LeavesBox 2 (point_at 2) one_point box ((box.x.minimum +ℤ l.across) ∷ (box.y.minimum +ℤ l.up) ∷ drop 2 start.last) r
@@ -127,21 +133,44 @@ module _ (box : RawBox) (start : Trail) (from : Reading) where
 
     -- a run of all points
     pub run_ends : (lanes after : LaneTrail) (r : Reading) (i : ℕ) → i ≡ count → (l : IsLaneRun start from box after.at r i) → IsLaneTrail box lanes start → after.extent ≡ lanes.extent → after.points ≡ lanes.points + count
-        → StaysInside (many_at count add (point_at 2)) (λ points. points) box start after from r
+        → HasRead (many_at count add (point_at 2)) (λ points. points) (held_then 2) (StandsInLanes after) (holding_at box start) from r
     run_ends lanes after r i end l begun extent points = record {
       value = l.run.numbers;
       read = ap (λ (n : ℕ). many_at n add (point_at 2) start.last from) (sym end) ∙ l.run.read;
-      after = flat_trail start (box.x.minimum +ℤ l.across) (box.y.minimum +ℤ l.up) i;
-      lanes_are = record {
-        across = l.across;
-        up = l.up;
-        is = ap (λ (t : Trail). flat_trail t (box.x.minimum +ℤ l.across) (box.y.minimum +ℤ l.up) i) begun.is
-            ∙ ap (λ (n : ℕ). trail_at box l.across l.up n) (ap (λ (n : ℕ). lanes.points + n) end ∙ sym points);
-        at = l.at_is;
-        extent = extent ∙ begun.extent;
-        in_x = l.in_x;
-        in_y = l.in_y;
-        fits = begun.fits;
+      trail = flat_trail start (box.x.minimum +ℤ l.across) (box.y.minimum +ℤ l.up) i;
+      state = holding box;
+      there = record {
+        box = box;
+        trail = flat_trail start (box.x.minimum +ℤ l.across) (box.y.minimum +ℤ l.up) i;
+        at_is = refl;
+        lanes_are = record {
+          across = l.across;
+          up = l.up;
+          is = ap (λ (t : Trail). flat_trail t (box.x.minimum +ℤ l.across) (box.y.minimum +ℤ l.up) i) begun.is
+              ∙ ap (λ (n : ℕ). trail_at box l.across l.up n) (ap (λ (n : ℕ). lanes.points + n) end ∙ sym points);
+          at = l.at_is;
+          extent = extent ∙ begun.extent;
+          in_x = l.in_x;
+          in_y = l.in_y;
+          fits = begun.fits;
+        };
       };
       walked = l.run.walked;
     }
+
+-- no more points than bytes
+pub lanes_counted : (lanes : LaneTrail) (at : Stage Held) → StandsInLanes lanes at → (place : ℕ) → at.trail.points ≤ place → lanes.points ≤ place
+lanes_counted lanes at s place few =
+    let there = ap (λ (at : Stage Held). at.trail.points) s.at_is in
+    let counted = ap (λ (t : Trail). t.points) s.lanes_are.is in
+    omega (arith, there, counted, few)
+
+-- what is read from the stage of a box in lanes, or ended early
+module _ (from to : Reading) (lanes : LaneTrail) (at : Stage Held) (s : StandsInLanes lanes at) (count : ℕ) where
+  pub in_lanes_read : (after : LaneTrail) → HasRead (many_at count add (point_at 2)) (λ points. points) (held_then 2) (StandsInLanes after) (holding_at s.box s.trail) from to
+      → HasRead (many_at count add (point_at at.axes)) (λ points. points) (held_then 2) (StandsInLanes after) at from to
+  in_lanes_read after h = subst (λ (at : Stage Held). HasRead (many_at count add (point_at at.axes)) (λ points. points) (held_then 2) (StandsInLanes after) at from to) (sym s.at_is) h
+
+  pub in_lanes_ended : (tells : Malformed → Type 0) → LeavesBox 2 (many_at count add (point_at 2)) (λ points. points) s.box s.trail.last from → EndsEarly (many_at count add (point_at at.axes)) (λ points. points) (held_then 2) IsOutside tells at from to
+  in_lanes_ended tells leaves =
+      subst (λ (at : Stage Held). EndsEarly (many_at count add (point_at at.axes)) (λ points. points) (held_then 2) IsOutside tells at from to) (sym s.at_is) (inr ((record { box = s.box; inside = false }, refl), leaves))

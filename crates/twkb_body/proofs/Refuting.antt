@@ -50,7 +50,7 @@ use Rattle.twkb_body.specs.Devices.Inside.{of_head}
 use Rattle.twkb_body.specs.Devices.LaneTrail.{LeaveBox}
 use Rattle.twkb_body.specs.Devices.Pass.{false_at, ids_refused, are_distinct}
 use Rattle.twkb_body.specs.Devices.Sure.{framed, has_further, ReadParts, IsCounted, IsWrongCount, AreMalformed, AreHeld, IsHeldBy, IsFrameUnder, frame_bounds, body_vertices, IsSureBody, IsSureBehind, IsSure, IsJudged, IsApart, HasDoubt, doubt_of, Certifies, CertifiesBody, CertifiesShape, IsTrueInside, IsRefutedBody, IsRefutedBehind, IsRefuted}
-use Rattle.twkb_body.specs.Devices.Walk.{HaveAxes, lasts_from}
+use Rattle.twkb_body.specs.Devices.Walk.{no_points, HaveAxes, lasts_from}
 use Rattle.twkb_body.proofs.Coordinates.{vertices_same}
 use Rattle.twkb_body.proofs.Outside.{all_inside}
 use Rattle.twkb_body.proofs.ShapeSteps.{no_count, behind_count}
@@ -205,7 +205,7 @@ module _ (head : Head) (levels : ℕ) (old : Reading) (frame : Option Frame) (fu
         → (parts : List PolygonValue) × (reads_parts axes ≡ (Ok parts, new)) × (parts_body list parts ≡ body)
     parts_read axes axes_are body new e =
         viewed_back (parts_body list) (reads_parts axes) body new
-        (sym (behind_count (of_head head) old axes mid list found.count (record { last = zeros; points = 0 }) axes_are refl listed is_found.count) ∙ sym as_shape ∙ e)
+        (sym (behind_count (of_head head) old axes mid list found.count (no_points) axes_are refl listed is_found.count) ∙ sym as_shape ∙ e)
 
     -- the body of a shape is refuted if its ids aren't distinct
     pub shape_ids_refute : (f : FalseClaim) → found.ids ≡ Some f → IsRefutedBody levels head frame old

@@ -37,7 +37,7 @@ use Rattle.twkb_body.specs.Devices.Inside.{of_head, IsInside}
 use Rattle.twkb_body.specs.Devices.Pass.{first, false_at, is_within}
 use Rattle.twkb_body.specs.Devices.Ranges.{widened}
 use Rattle.twkb_body.specs.Devices.Sure.{LiesIn, LiesInAll, framed, faultless, unseen, frame_bounds, IsHeldBy, IsFrameUnder, body_vertices, IsSureBody, IsSureBehind, IsSure, IsFramed}
-use Rattle.twkb_body.specs.Devices.Walk.{HaveAxes, IsWalked, lasts_from}
+use Rattle.twkb_body.specs.Devices.Walk.{no_points, HaveAxes, IsWalked, lasts_from}
 use Rattle.twkb_body.proofs.BoxedRuns.{reaches_decides, both_true}
 use Rattle.twkb_body.proofs.Coordinates.{vertices_same}
 use Rattle.twkb_body.proofs.GeometrySteps.{body_gives, empty_body, shape_body, body_of_head, nothing_inside, geometry_found}
@@ -59,7 +59,7 @@ pub record AddsParts {S : Type 0} (step : S → PointValue → S) (kind : Kind) 
   pub counted : count_at (is_multi kind) has_ids old ≡ (Ok list, middle)
   pub found : IsListFound old middle list (record { count = (list.0).0; ids = None })
   pub read : many_at (list.0).0 ring_sums (part_at kind axes) zeros middle ≡ (Ok parts, new)
-  pub walked : IsWalked step axes (record { last = zeros; points = 0 }) after state state' middle.place new.place (points_of parts)
+  pub walked : IsWalked step axes (no_points) after state state' middle.place new.place (points_of parts)
   pub vertices_are : vertices ≡ after.points
 
 -- The parts of a body were read, and a box of raw numbers holds their points.
@@ -138,7 +138,7 @@ module _ (levels : ℕ) (head : Head) (old new : Reading) (vertices axes : ℕ) 
     body_of : (frame : Option Frame) → IsHeldBy frame (map (vertex_of (of_head head)) (lasts_from zeros numbers)) → IsSureBody levels head frame old new vertices
     body_of frame held =
         let w = added.walked in
-        let shape = shape_of_parts (of_head head) old axes added.middle added.list (added.list.0).0 (record { last = zeros; points = 0 }) (sym axes_are) refl added.counted refl
+        let shape = shape_of_parts (of_head head) old axes added.middle added.list (added.list.0).0 (no_points) (sym axes_are) refl added.counted refl
         false (record { count = (added.list.0).0; ids = None }) new added.parts None added.after (reach_of []) ranges unseen unseen (record { found = faultless vertices; boxed = None; ids = None })
         added.found refl refl added.read (record { last = w.last; points = w.points; added = refl; have = w.have; ahead = w.ahead }) added.vertices_are refl
         (record { asked = refl; extent = λ e. absurd (cc (e)) }) refl refl in

@@ -6,6 +6,7 @@ pub mod Ranges
 pub mod Walk
 pub mod Boxed
 pub mod Quads
+pub mod PointReader
 pub mod LaneTrail
 pub mod Numbers
 pub mod Found

@@ -2,20 +2,16 @@
 //! read, up to the first point that the box doesn't hold.
 ghost use Rattle.std.specs.Prelude.{◌≡◌, ◌≤◌, ◌&&◌, ◌^◌, ℤ, pos, ◌+ℤ◌, ◌<ℤ◌, IsTrue, IfSome, IfNone, OnSome, flat_map, false, true};
 ghost use Rattle.twkb_body.specs.Devices.Boxed.{reaches};
-ghost use Rattle.twkb_head.specs.Shared.Reader.{many_at};
-ghost use Rattle.twkb_head.specs.declared.raw.RawBox.{RawBox as BoxOf};
-ghost use Rattle.twkb_body.specs.declared.trail.Trail.{Trail as TrailOf};
-ghost use Rattle.twkb_body.specs.Geometry.{points_of};
-ghost use Rattle.twkb_body.specs.Devices.Body.{add, ring_sums, zeros};
-ghost use Rattle.twkb_body.specs.Devices.BodyReader.{point_at, ring_at, polygon_at, part_at};
-ghost use Rattle.twkb_body.specs.Devices.LaneTrail.{FitsLane, FitsLanes, IsLaneTrail, StaysInside, LeavesBox};
+ghost use Rattle.twkb_body.specs.Devices.LaneTrail.{FitsLane, FitsLanes, StandsInLanes, holding_at};
 ghost use Rattle.twkb_body.specs.Devices.Quads.{lanes_at, IsInLane, IsLaneExtent, IsFarStep};
+ghost use Rattle.twkb_body.specs.Devices.Walk.{no_points};
 
-use crate::fields::{take_number, take_signed};
+use crate::fields::take_signed;
+use crate::point_reader::PointReader;
 use crate::positions::{Reached, distances_in, is_in_lane, is_lane_extent, lanes_of};
 use crate::quads::next_points;
 use std::simd::prelude::*;
-use twkb_head::{Kind, RawBox, RawRange};
+use twkb_head::{Malformed, RawBox, RawRange};
 use twkb_num::Cursor;
 
 /// How far a pass has come among points that a box has to hold.
@@ -50,7 +46,7 @@ impl LaneTrail {
     #[inline(always)]
     pub fn new(bounds: &RawBox) -> LaneTrail
         requires { FitsLanes bounds.now }
-        ensures { IsLaneTrail bounds.now result (record { last = zeros; points = 0 }) }
+        ensures { StandsInLanes result (holding_at bounds.now no_points) }
     {
         LaneTrail {
             at: lanes_of(-bounds.x.minimum, -bounds.y.minimum),
@@ -58,98 +54,30 @@ impl LaneTrail {
             points: 0,
         }
     }
+}
 
-    /// Reads `count` parts of a kind. `None`: they are malformed, or a point is outside.
-    // Out of line, as polygons are: the compiler inlines no function that would grow very large.
-    #[inline(never)]
-    pub fn take_parts(&mut self, cursor: &mut Cursor, kind: Kind, count: u64) -> Option<()>
-        requires there { (box : BoxOf) × (trail : TrailOf) × IsLaneTrail box self.old trail }
-        requires counted { self.old.points ≤ cursor.old.place }
-        ensures some { OnSome result ((box : BoxOf) (trail : TrailOf) → IsLaneTrail box self.old trail
-            → StaysInside (many_at count ring_sums (part_at kind 2)) points_of box trail self.new cursor.old cursor.new) }
-        ensures none { IfNone result ((box : BoxOf) (trail : TrailOf) → IsLaneTrail box self.old trail
-            → LeavesBox 2 (many_at count ring_sums (part_at kind 2)) points_of box trail.last cursor.old) }
-        ensures bytes { cursor.new.bytes ≡ cursor.old.bytes }
-    {
-        for _ in 0..count {
-            self.take_part(cursor, kind)?;
-        }
-        Some(())
-    }
+impl PointReader for LaneTrail {
+    ghost use Rattle.std.specs.Prelude.{⊤, refl};
+    ghost use Rattle.twkb_body.specs.Devices.Boxed.{Held, held_then};
+    ghost use Rattle.twkb_body.specs.Devices.LaneTrail.{StandsInLanes, IsOutside};
 
-    /// Reads one part: a point, a line or a polygon, by the kind.
+    type Fault = NotHeld;
+
+    ghost State = { Held };
+
+    ghost step = { held_then 2 };
+
+    ghost stands = { StandsInLanes };
+
+    ghost ends = { IsOutside };
+
+    ghost lasts = { λ held point out. rw out refl };
+
+    ghost tells = { λ fault malformed. ⊤ };
+
+    /// Reads the points up to four at once.
     #[inline(always)]
-    fn take_part(&mut self, cursor: &mut Cursor, kind: Kind) -> Option<()>
-        requires there { (box : BoxOf) × (trail : TrailOf) × IsLaneTrail box self.old trail }
-        requires counted { self.old.points ≤ cursor.old.place }
-        ensures some { OnSome result ((box : BoxOf) (trail : TrailOf) → IsLaneTrail box self.old trail
-            → StaysInside (part_at kind 2) (λ part. flat_map (λ ring. ring) part) box trail self.new cursor.old cursor.new) }
-        ensures none { IfNone result ((box : BoxOf) (trail : TrailOf) → IsLaneTrail box self.old trail
-            → LeavesBox 2 (part_at kind 2) (λ part. flat_map (λ ring. ring) part) box trail.last cursor.old) }
-        ensures bytes { cursor.new.bytes ≡ cursor.old.bytes }
-    {
-        match kind {
-            Kind::Point | Kind::MultiPoint => self.take_points(cursor, 1),
-            Kind::LineString | Kind::MultiLineString => self.take_ring(cursor),
-            Kind::Polygon | Kind::MultiPolygon => {
-                // A copy, so that the trail of a line stays in registers.
-                let mut trail = *self;
-                trail.take_polygon(cursor)?;
-                *self = trail;
-                Some(())
-            }
-            Kind::GeometryCollection => Some(()),
-        }
-    }
-
-    /// Reads the rings of a polygon.
-    #[inline(never)]
-    fn take_polygon(&mut self, cursor: &mut Cursor) -> Option<()>
-        requires there { (box : BoxOf) × (trail : TrailOf) × IsLaneTrail box self.old trail }
-        requires counted { self.old.points ≤ cursor.old.place }
-        ensures some { OnSome result ((box : BoxOf) (trail : TrailOf) → IsLaneTrail box self.old trail
-            → StaysInside (polygon_at 2) (λ polygon. flat_map (λ ring. ring) polygon) box trail self.new cursor.old cursor.new) }
-        ensures none { IfNone result ((box : BoxOf) (trail : TrailOf) → IsLaneTrail box self.old trail
-            → LeavesBox 2 (polygon_at 2) (λ polygon. flat_map (λ ring. ring) polygon) box trail.last cursor.old) }
-        ensures bytes { cursor.new.bytes ≡ cursor.old.bytes }
-    {
-        let Ok(count) = take_number(cursor) else {
-            return None;
-        };
-        for _ in 0..count {
-            self.take_ring(cursor)?;
-        }
-        Some(())
-    }
-
-    /// Reads the points of a ring, or of a line.
-    #[inline(always)]
-    fn take_ring(&mut self, cursor: &mut Cursor) -> Option<()>
-        requires there { (box : BoxOf) × (trail : TrailOf) × IsLaneTrail box self.old trail }
-        requires counted { self.old.points ≤ cursor.old.place }
-        ensures some { OnSome result ((box : BoxOf) (trail : TrailOf) → IsLaneTrail box self.old trail
-            → StaysInside (ring_at 2) (λ ring. ring) box trail self.new cursor.old cursor.new) }
-        ensures none { IfNone result ((box : BoxOf) (trail : TrailOf) → IsLaneTrail box self.old trail
-            → LeavesBox 2 (ring_at 2) (λ ring. ring) box trail.last cursor.old) }
-        ensures bytes { cursor.new.bytes ≡ cursor.old.bytes }
-    {
-        let Ok(count) = take_number(cursor) else {
-            return None;
-        };
-        self.take_points(cursor, count)
-    }
-
-    /// Reads `count` points, up to four at once.
-    #[inline(always)]
-    fn take_points(&mut self, cursor: &mut Cursor, count: u64) -> Option<()>
-        requires there { (box : BoxOf) × (trail : TrailOf) × IsLaneTrail box self.old trail }
-        requires counted { self.old.points ≤ cursor.old.place }
-        ensures some { OnSome result ((box : BoxOf) (trail : TrailOf) → IsLaneTrail box self.old trail
-            → StaysInside (many_at count add (point_at 2)) (λ points. points) box trail self.new cursor.old cursor.new) }
-        ensures none { IfNone result ((box : BoxOf) (trail : TrailOf) → IsLaneTrail box self.old trail
-            → LeavesBox 2 (many_at count add (point_at 2)) (λ points. points) box trail.last cursor.old) }
-        ensures bytes { cursor.new.bytes ≡ cursor.old.bytes }
-    {
+    fn take_points(&mut self, cursor: &mut Cursor, count: u64) -> Result<(), NotHeld> {
         let mut at = self.at;
         let mut done = 0;
         while done < count {
@@ -157,13 +85,13 @@ impl LaneTrail {
             if step.points == 0 {
                 let reached = far_point(cursor, at, self.extent);
                 if !reached.inside {
-                    return None;
+                    return Err(NotHeld);
                 }
                 at = reached.at;
                 done += 1;
             } else {
                 if !step.reached.inside {
-                    return None;
+                    return Err(NotHeld);
                 }
                 at = step.reached.at;
                 done += step.points;
@@ -173,9 +101,18 @@ impl LaneTrail {
         let _stop = cursor.place();
         self.at = at;
         self.points += count as usize;
-        Some(())
+        Ok(())
+    }
+
+    #[inline(always)]
+    fn fault_of(_malformed: Malformed) -> NotHeld {
+        NotHeld
     }
 }
+
+/// Some point isn't in the box, or a field is malformed.
+#[derive(Drop)]
+pub struct NotHeld;
 
 /// Reads one point, whose differences may take more than four bytes. `inside` is false if it is malformed, too.
 // Out of line: most points are read by vectors.

@@ -1,104 +1,94 @@
 //! Reading the parts of a body that is no collection's: points, lines and polygons. The first reading and the exact audit both
-//! read them here, and differ in what they add the points to.
-ghost use Rattle.std.specs.Prelude.{◌≡◌, flat_map};
+//! read them here, and differ in what reads the points.
+ghost use Rattle.std.specs.Prelude.{◌≡◌, IfOk, IfErr, flat_map};
 ghost use Rattle.twkb_head.specs.Shared.Reader.{many_at};
 ghost use Rattle.twkb_body.specs.Devices.Body.{ring_sums};
 ghost use Rattle.twkb_body.specs.Devices.BodyReader.{ring_at, polygon_at, part_at};
 ghost use Rattle.twkb_body.specs.Geometry.{points_of};
-ghost use Rattle.twkb_body.specs.Devices.Inside.{of_head};
-ghost use Rattle.twkb_body.specs.Devices.Walk.{IsWalk, ReadsPoints};
+ghost use Rattle.twkb_body.specs.Devices.PointReader.{Stage, IsReady, HasRead, EndsEarly};
 
 use crate::fields::take_number;
-use crate::points::Points;
-use crate::trail::{Trail, take_point};
-use twkb_head::{Head, Kind, Malformed};
+use crate::point_reader::PointReader;
+use twkb_head::Kind;
 use twkb_num::Cursor;
 
-/// Reads `count` parts, and adds their points.
-#[inline(always)]
-pub fn take_parts<P: Points>(
+/// Reads `count` parts of a kind.
+// Out of line, as polygons are: the compiler inlines no function that would grow very large.
+#[inline(never)]
+pub fn take_parts<R: PointReader>(
     cursor: &mut Cursor,
-    head: &Head,
-    axes: usize,
+    kind: Kind,
     count: u64,
-    trail: &mut Trail,
-    points: &mut P,
-) -> Result<(), Malformed>
-    requires walk { IsWalk head.now axes trail.old cursor.old }
-    ensures { ReadsPoints (many_at count ring_sums (part_at head.now.kind axes)) points_of
-        (P.step (of_head head.now)) axes trail.old trail.new
-        (P.state points.old) (P.state points.new) cursor.old result cursor.new }
+    reader: &mut R,
+) -> Result<(), R::Fault>
+    requires ready { IsReady (R.stands reader.old) cursor.old }
+    ensures read { IfOk result (λ done. (at : Stage R.State) → R.stands reader.old at
+        → HasRead (many_at count ring_sums (part_at kind at.axes)) points_of R.step (R.stands reader.new) at cursor.old cursor.new) }
+    ensures ended { IfErr result (λ fault. (at : Stage R.State) → R.stands reader.old at
+        → EndsEarly (many_at count ring_sums (part_at kind at.axes)) points_of R.step R.ends (R.tells fault) at cursor.old cursor.new) }
+    ensures bytes { cursor.new.bytes ≡ cursor.old.bytes }
 {
     for _ in 0..count {
-        take_part(cursor, head, axes, trail, points)?;
+        take_part(cursor, kind, reader)?;
     }
     Ok(())
 }
 
 /// Reads one part: a point, a line or a polygon, by the kind.
 #[inline(always)]
-fn take_part<P: Points>(
+fn take_part<R: PointReader>(
     cursor: &mut Cursor,
-    head: &Head,
-    axes: usize,
-    trail: &mut Trail,
-    points: &mut P,
-) -> Result<(), Malformed>
-    requires walk { IsWalk head.now axes trail.old cursor.old }
-    ensures { ReadsPoints (part_at head.now.kind axes) (λ part. flat_map (λ ring. ring) part)
-        (P.step (of_head head.now)) axes trail.old trail.new
-        (P.state points.old) (P.state points.new) cursor.old result cursor.new }
+    kind: Kind,
+    reader: &mut R,
+) -> Result<(), R::Fault>
+    requires ready { IsReady (R.stands reader.old) cursor.old }
+    ensures read { IfOk result (λ done. (at : Stage R.State) → R.stands reader.old at
+        → HasRead (part_at kind at.axes) (λ part. flat_map (λ ring. ring) part) R.step (R.stands reader.new) at cursor.old cursor.new) }
+    ensures ended { IfErr result (λ fault. (at : Stage R.State) → R.stands reader.old at
+        → EndsEarly (part_at kind at.axes) (λ part. flat_map (λ ring. ring) part) R.step R.ends (R.tells fault) at cursor.old cursor.new) }
+    ensures bytes { cursor.new.bytes ≡ cursor.old.bytes }
 {
-    match head.kind {
-        Kind::Point | Kind::MultiPoint => take_point(cursor, head, axes, trail, points),
-        Kind::LineString | Kind::MultiLineString => take_ring(cursor, head, axes, trail, points),
-        Kind::Polygon | Kind::MultiPolygon => take_polygon(cursor, head, axes, trail, points),
+    match kind {
+        Kind::Point | Kind::MultiPoint => reader.take_points(cursor, 1),
+        Kind::LineString | Kind::MultiLineString => take_ring(cursor, reader),
+        Kind::Polygon | Kind::MultiPolygon => take_polygon(cursor, reader),
         Kind::GeometryCollection => Ok(()),
     }
 }
 
 /// Reads the rings of a polygon.
-#[inline(always)]
-fn take_polygon<P: Points>(
-    cursor: &mut Cursor,
-    head: &Head,
-    axes: usize,
-    trail: &mut Trail,
-    points: &mut P,
-) -> Result<(), Malformed>
-    requires walk { IsWalk head.now axes trail.old cursor.old }
-    ensures { ReadsPoints (polygon_at axes) (λ polygon. flat_map (λ ring. ring) polygon)
-        (P.step (of_head head.now)) axes trail.old trail.new
-        (P.state points.old) (P.state points.new) cursor.old result cursor.new }
+// Out of line: the compiler inlines no function that would grow very large.
+#[inline(never)]
+fn take_polygon<R: PointReader>(cursor: &mut Cursor, reader: &mut R) -> Result<(), R::Fault>
+    requires ready { IsReady (R.stands reader.old) cursor.old }
+    ensures read { IfOk result (λ done. (at : Stage R.State) → R.stands reader.old at
+        → HasRead (polygon_at at.axes) (λ polygon. flat_map (λ ring. ring) polygon) R.step (R.stands reader.new) at cursor.old cursor.new) }
+    ensures ended { IfErr result (λ fault. (at : Stage R.State) → R.stands reader.old at
+        → EndsEarly (polygon_at at.axes) (λ polygon. flat_map (λ ring. ring) polygon) R.step R.ends (R.tells fault) at cursor.old cursor.new) }
+    ensures bytes { cursor.new.bytes ≡ cursor.old.bytes }
 {
-    let count = take_number(cursor)?;
+    let count = match take_number(cursor) {
+        Ok(count) => count,
+        Err(malformed) => return Err(R::fault_of(malformed)),
+    };
     for _ in 0..count {
-        take_ring(cursor, head, axes, trail, points)?;
+        take_ring(cursor, reader)?;
     }
     Ok(())
 }
 
 /// Reads the points of a ring, or of a line.
 #[inline(always)]
-fn take_ring<P: Points>(
-    cursor: &mut Cursor,
-    head: &Head,
-    axes: usize,
-    trail: &mut Trail,
-    points: &mut P,
-) -> Result<(), Malformed>
-    requires walk { IsWalk head.now axes trail.old cursor.old }
-    ensures { ReadsPoints (ring_at axes) (λ ring. ring) (P.step (of_head head.now)) axes
-        trail.old trail.new (P.state points.old) (P.state points.new) cursor.old result cursor.new }
+fn take_ring<R: PointReader>(cursor: &mut Cursor, reader: &mut R) -> Result<(), R::Fault>
+    requires ready { IsReady (R.stands reader.old) cursor.old }
+    ensures read { IfOk result (λ done. (at : Stage R.State) → R.stands reader.old at
+        → HasRead (ring_at at.axes) (λ ring. ring) R.step (R.stands reader.new) at cursor.old cursor.new) }
+    ensures ended { IfErr result (λ fault. (at : Stage R.State) → R.stands reader.old at
+        → EndsEarly (ring_at at.axes) (λ ring. ring) R.step R.ends (R.tells fault) at cursor.old cursor.new) }
+    ensures bytes { cursor.new.bytes ≡ cursor.old.bytes }
 {
-    let count = take_number(cursor)?;
-    let mut done = 0;
-    while done < count {
-        done += points.take_run(cursor, head, axes, count - done, trail);
-        if done < count {
-            take_point(cursor, head, axes, trail, points)?;
-            done += 1;
-        }
+    match take_number(cursor) {
+        Ok(count) => reader.take_points(cursor, count),
+        Err(malformed) => Err(R::fault_of(malformed)),
     }
-    Ok(())
 }

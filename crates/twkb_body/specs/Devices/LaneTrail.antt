@@ -1,6 +1,6 @@
 -- Devices of proofs: nothing public names them.
 -- Points of X and Y that a box has to hold, where the last one's distances from its minima are in lanes.
-use Rattle.std.specs.Prelude.{◌≡◌, ℕ, List, [], ◌∷◌, fold, true, false, ℤ, pos, neg_ℤ, ◌+ℤ◌, Ok}
+use Rattle.std.specs.Prelude.{◌≡◌, ℕ, List, [], ◌∷◌, true, false, ℤ, pos, neg_ℤ, ◌+ℤ◌}
 use Rattle.twkb_num.specs.Cursor.{Reading}
 use Rattle.twkb_head.specs.declared.kinds.Kind.{Kind}
 use Rattle.twkb_head.specs.declared.raw.RawBox.{RawBox}
@@ -12,8 +12,8 @@ use Rattle.twkb_body.specs.Geometry.{PointValue, points_of}
 use Rattle.twkb_body.specs.Devices.Body.{ring_sums, zeros}
 use Rattle.twkb_body.specs.Devices.BodyReader.{part_at}
 use Rattle.twkb_body.specs.Devices.Boxed.{Held, held_then}
+use Rattle.twkb_body.specs.Devices.PointReader.{Stage, Leads}
 use Rattle.twkb_body.specs.Devices.Quads.{lanes_at, IsInLane, IsLaneExtent}
-use Rattle.twkb_body.specs.Devices.Walk.{lasts_from, IsWalked}
 
 -- a range, distances from whose minimum lanes hold
 pub record FitsLane (range : RawRange) : Type 0 where
@@ -43,18 +43,24 @@ pub record IsLaneTrail (box : RawBox) (lanes : LaneTrail) (trail : Trail) : Type
   pub in_y : IsInLane up
   pub fits : FitsLanes box
 
--- a value was read from a trail on, and the box holds all its points
-pub record StaysInside {A : Type 0} (each : PointValue → Reader A) (points_in : A → List PointValue) (box : RawBox) (trail : Trail) (lanes : LaneTrail) (from to : Reading) : Type 0 where
-  pub value : A
-  pub read : each trail.last from ≡ (Ok value, to)
-  pub after : Trail
-  pub lanes_are : IsLaneTrail box lanes after
-  pub walked : IsWalked (held_then 2) 2 trail after (holding box) (holding box) from.place to.place (points_in value)
+-- the stage of a trail in a box that holds all points so far
+abbrev pub holding_at : RawBox → Trail → Stage Held
+holding_at box trail = record { axes = 2; trail = trail; state = holding box }
+
+-- the lanes are those of a box, which holds all points so far, and of the trail of a stage
+pub record StandsInLanes (lanes : LaneTrail) (at : Stage Held) : Type 0 where
+  pub box : RawBox
+  pub trail : Trail
+  pub at_is : at ≡ holding_at box trail
+  pub lanes_are : IsLaneTrail box lanes trail
+
+-- the box doesn't hold some point
+abbrev pub IsOutside : Held → Type 0
+IsOutside held = held.inside ≡ false
 
 -- if a value can be read from a trail on, the box doesn't hold all its points
 abbrev pub LeavesBox : {A : Type 0} → ℕ → (PointValue → Reader A) → (A → List PointValue) → RawBox → PointValue → Reading → Type 0
-LeavesBox {A} axes each points_in box last from =
-    (x : A) (stop : Reading) → each last from ≡ (Ok x, stop) → (fold (held_then axes) (holding box) (lasts_from last (points_in x))).inside ≡ false
+LeavesBox axes each points_in box last from = Leads each points_in (held_then axes) IsOutside last (holding box) from
 
 -- if the parts can be read, the box doesn't hold all their points
 abbrev pub LeaveBox : Kind → ℕ → ℕ → RawBox → Reading → Type 0

@@ -36,7 +36,7 @@ use Rattle.twkb_body.specs.declared.stopped.Stopped.TheVariants.{Malformed as Ba
 use Rattle.twkb_body.specs.Devices.IdLists.{IsListFound, HasManyIdsAfterCount}
 use Rattle.twkb_body.specs.Devices.Inside.{of_head, IsInside}
 use Rattle.twkb_body.specs.Devices.Stops.{WantsIn}
-use Rattle.twkb_body.specs.Devices.Walk.{IsWalked}
+use Rattle.twkb_body.specs.Devices.Walk.{no_points, IsWalked}
 
 -- this many vertices were found, and no false claim
 abbrev pub faultless : ℕ → Found
@@ -51,7 +51,7 @@ pub record ReadParts {S : Type 0} (step : S → PointValue → S) (kind : Kind) 
   pub parts : List PolygonValue
   pub after : Trail
   pub read : many_at count ring_sums (part_at kind axes) zeros old ≡ (Ok parts, new)
-  pub walked : IsWalked step axes (record { last = zeros; points = 0 }) after state state' old.place new.place (points_of parts)
+  pub walked : IsWalked step axes no_points after state state' old.place new.place (points_of parts)
   pub vertices_are : vertices ≡ after.points
 
 -- the parts can't be read

@@ -10,7 +10,7 @@ use Rattle.twkb_head.specs.declared.refusal.Malformed.{Malformed}
 use Rattle.twkb_head.specs.Shared.Reader.{Reader, Reads, many_at}
 use Rattle.twkb_body.specs.declared.trail.Trail.{Trail}
 use Rattle.twkb_body.specs.Geometry.{PointValue, vertex_of}
-use Rattle.twkb_body.specs.Devices.Body.{add, sums, map_from}
+use Rattle.twkb_body.specs.Devices.Body.{add, sums, zeros, map_from}
 use Rattle.twkb_body.specs.Devices.BodyReader.{point_at}
 
 -- the precisions of a header lie in their ranges
@@ -20,6 +20,10 @@ HasPrecisions head = IsPrecision head.xy × IfSome head.z (λ p. p ≤ 7) × IfS
 -- What a pass over the points under a header carries: how many axes they have, and no more points than bytes.
 abbrev pub IsWalk : Head → ℕ → Trail → Reading → Type 0
 IsWalk head axes trail r = HasPrecisions head × (axes ≡ axes_with head.z head.m) × (trail.points ≤ r.place)
+
+-- the trail of no points, from which differences start
+abbrev pub no_points : Trail
+no_points = record { last = zeros; points = 0 }
 
 -- each point has this many numbers
 abbrev pub HaveAxes : ℕ → List PointValue → Type 0

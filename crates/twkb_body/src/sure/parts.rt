@@ -17,7 +17,7 @@ use crate::lists::take_list;
 use crate::parts::take_parts;
 use crate::points::Points;
 use crate::rooms::IdRoom;
-use crate::trail::Trail;
+use crate::walk::Walk;
 use twkb_head::{Head, Kind, RawBox};
 use twkb_num::Cursor;
 
@@ -87,9 +87,9 @@ pub fn take_flat_boxed(
         return take_wide(cursor, kind, count, &bounds);
     }
     let mut trail = LaneTrail::new(bounds);
-    match trail.take_parts(cursor, kind, count) {
-        Some(()) => Ok(trail.points),
-        None => Err(Doubt::Refused),
+    match take_parts(cursor, kind, count, &mut trail) {
+        Ok(()) => Ok(trail.points),
+        Err(_) => Err(Doubt::Refused),
     }
 }
 
@@ -103,12 +103,11 @@ fn take_wide(cursor: &mut Cursor, kind: Kind, count: u64, bounds: &RawBox) -> Re
     ensures refused { IfErr result (λ doubt. doubt ≡ Refused) }
 {
     let head = head_of(kind, 2);
-    let mut boxed = Boxed::new(bounds);
-    let vertices = take_parts_of(cursor, &head, 2, count, &mut boxed)?;
-    if !boxed.is_inside() {
+    let walk = take_walk(cursor, &head, 2, count, Boxed::new(bounds))?;
+    if !walk.points.is_inside() {
         return Err(Doubt::Refused);
     }
-    Ok(vertices)
+    Ok(walk.trail.points)
 }
 
 /// Reads a body of three axes or four, whose points the box has to hold.
@@ -152,33 +151,33 @@ fn take_boxed_by<const AXES: usize>(
 {
     let head = head_of(kind, AXES);
     let boxed = Boxed::new(bounds);
-    let mut further = Further::<AXES> { boxed };
-    let vertices = take_parts_of(cursor, &head, AXES, count, &mut further)?;
-    if !further.boxed.is_inside() {
+    let walk = take_walk(cursor, &head, AXES, count, Further::<AXES> { boxed })?;
+    if !walk.points.boxed.is_inside() {
         return Err(Doubt::Refused);
     }
-    Ok(vertices)
+    Ok(walk.trail.points)
 }
 
-/// Reads `count` parts whose points have `axes` numbers, and returns how many points there are.
+/// Reads `count` parts whose points have `axes` numbers, and adds their points.
 #[inline(always)]
-pub fn take_parts_of<P: Points>(
+pub fn take_walk<'h, P: Points + Drop>(
     cursor: &mut Cursor,
-    head: &Head,
+    head: &'h Head,
     axes: usize,
     count: u64,
-    points: &mut P,
-) -> Result<usize, Doubt>
+    points: P,
+) -> Result<Walk<'h, P>, Doubt>
     requires precisions { HasPrecisions head.now }
     requires axes { axes ≡ axes_with head.now.z head.now.m }
-    ensures ok { IfOk result (ReadParts (P.step (of_head head.now)) head.now.kind axes count cursor.old cursor.new
-        (P.state points.old) (P.state points.new)) }
+    ensures ok { IfOk result (λ walk. ReadParts (P.step (of_head head.now)) head.now.kind axes count cursor.old cursor.new
+        (P.state points) (P.state walk.points) walk.trail.points) }
     ensures malformed { OnErr result (AreMalformed head.now.kind axes count cursor.old cursor.new) }
     ensures refused { IfErr result (λ doubt. doubt ≡ Refused) }
+    ensures bytes { cursor.new.bytes ≡ cursor.old.bytes }
 {
-    let mut trail = Trail::new();
-    let Ok(()) = take_parts(cursor, head, axes, count, &mut trail, points) else {
+    let mut walk = Walk::new(head, axes, points);
+    let Ok(()) = take_parts(cursor, head.kind, count, &mut walk) else {
         return Err(Doubt::Refused);
     };
-    Ok(trail.points)
+    Ok(walk)
 }

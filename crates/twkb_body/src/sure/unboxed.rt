@@ -6,7 +6,7 @@ ghost use Rattle.twkb_body.specs.Devices.Bare.{unchanged};
 ghost use Rattle.twkb_body.specs.Devices.Sure.{ReadParts, AreMalformed};
 ghost use Rattle.twkb_body.specs.declared.doubt.Doubt.TheVariants.{Refused};
 
-use super::parts::{head_of, take_parts_of};
+use super::parts::{head_of, take_walk};
 use crate::doubt::Doubt;
 use crate::summed::Summed;
 use twkb_head::Kind;
@@ -116,5 +116,6 @@ fn take_summed(cursor: &mut Cursor, kind: Kind, axes: usize, count: u64) -> Resu
     ensures refused { IfErr result (λ doubt. doubt ≡ Refused) }
 {
     let head = head_of(kind, axes);
-    take_parts_of(cursor, &head, axes, count, &mut Summed)
+    let walk = take_walk(cursor, &head, axes, count, Summed)?;
+    Ok(walk.trail.points)
 }

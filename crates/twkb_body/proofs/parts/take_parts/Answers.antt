@@ -1,29 +1,42 @@
--- Each turn walks one more part; a malformed one ends the walk.
-use Rattle.std.proofs.Common.{arith}
+-- One more part is read at each turn.
+use Rattle.std.proofs.Common.{refl, ◌∙◌, arith}
 use Rattle.std.proofs.lemmas.Result.{err_from_is_err_and}
 use Rattle.twkb_body.specs.Devices.Body.{ring_sums}
 use Rattle.twkb_body.specs.Devices.BodyReader.{part_at}
-use Rattle.twkb_body.specs.Devices.Inside.{of_head}
+use Rattle.twkb_body.specs.Devices.PointReader.{on}
+use Rattle.twkb_body.proofs.PointReads.{some_begin, some_ready, some_go_on, some_end, some_fail}
 use Rattle.twkb_body.proofs.Sums.{rings_sums_flat}
-use Rattle.twkb_body.proofs.Walks.{walk_goes_on, walk_fails, walk_ends, part_points}
+use Rattle.twkb_body.proofs.Walks.{part_points}
 use Rattle.twkb_body.proofs.parts.take_parts.Goals as goal
+
+pub loop-init : goal.loop-init
+loop-init g c = record {
+  bytes = refl;
+  read = λ at there. some_begin g.R.PointReader.step at ring_sums (part_at c.args.kind at.axes) part_points rings_sums_flat c.args.count c.args.cursor.now (g.R.PointReader.stands c.args.reader.now) there;
+}
 
 pub take_part-requires : goal.take_part-requires
 take_part-requires g c =
-    let w = c.loop.invariant.walked in
-    record { walk = (c.requires.walk.0, c.requires.walk.1, omega (arith, w.points, w.ahead, c.requires.walk.2)) }
+    let ready = c.requires.ready in
+    let at = ready.0 in
+    record { ready = some_ready g.R.PointReader.step at ring_sums (part_at c.args.kind at.axes) part_points rings_sums_flat c.args.count c.args.cursor.now (g.R.PointReader.stands c.loop.reader) c.loop.counter c.loop.cursor ready.2 (c.loop.invariant.read at ready.1) }
 
-pub returns-in_err-take_part : goal.returns-in_err-take_part
-returns-in_err-take_part g c =
+pub returns-in_err-take_part-clause-ended : goal.returns-in_err-take_part-clause-ended
+returns-in_err-take_part-clause-ended g c =
     let p = err_from_is_err_and c.from_residual.result c.from_residual.ensures.1 in
-    rw (p.1, p.2) (walk_fails (g.P.Points.step (of_head c.args.head.now)) c.args.axes ring_sums (part_at c.args.head.now.kind c.args.axes) part_points rings_sums_flat c.args.count c.args.trail.now (g.P.Points.state c.args.points.now) c.args.cursor.now
-    c.loop.counter _ _ _ _ _ c.loop-test.true c.in_err-take_part.ensures c.loop.invariant)
+    rw (p.1, p.2) (λ at there.
+    let h = c.loop.invariant.read at there in
+    some_fail g.R.PointReader.step at ring_sums (part_at c.args.kind at.axes) part_points rings_sums_flat c.args.count c.args.cursor.now g.R.PointReader.ends g.R.PointReader.lasts (g.R.PointReader.tells c.in_err-take_part.field-0.0) (g.R.PointReader.stands c.loop.reader) c.loop.counter c.loop.cursor c.take_part.new.cursor
+    c.loop-test.true h (c.in_err-take_part.ensures.ended (on at h.trail h.state) h.there))
 
 pub loop-preserved : goal.loop-preserved
-loop-preserved g c =
-    let read = c.in_ok-take_part.ensures in
-    walk_goes_on (g.P.Points.step (of_head c.args.head.now)) c.args.axes ring_sums (part_at c.args.head.now.kind c.args.axes) part_points rings_sums_flat c.args.count c.args.trail.now (g.P.Points.state c.args.points.now) c.args.cursor.now
-    c.loop.counter _ _ _ _ _ _ read.0 c.loop-test.true read.1 read.2 c.loop.invariant
+loop-preserved g c = record {
+  bytes = c.in_ok-take_part.ensures.bytes ∙ c.loop.invariant.bytes;
+  read = λ at there.
+      let h = c.loop.invariant.read at there in
+      some_go_on g.R.PointReader.step at ring_sums (part_at c.args.kind at.axes) part_points rings_sums_flat c.args.count c.args.cursor.now (g.R.PointReader.stands c.loop.reader) (g.R.PointReader.stands c.take_part.new.reader) c.loop.counter c.loop.cursor c.take_part.new.cursor c.loop-test.true h (c.in_ok-take_part.ensures.read (on at h.trail h.state) h.there);
+}
 
-pub returns : goal.returns
-returns g c = walk_ends (g.P.Points.step (of_head c.args.head.now)) c.args.axes ring_sums (part_at c.args.head.now.kind c.args.axes) part_points rings_sums_flat c.args.count c.args.trail.now (g.P.Points.state c.args.points.now) c.args.cursor.now c.loop.counter _ _ _ (omega arith) c.loop.invariant
+pub returns-clause-read : goal.returns-clause-read
+returns-clause-read g c at there =
+    some_end g.R.PointReader.step at ring_sums (part_at c.args.kind at.axes) part_points rings_sums_flat c.args.count c.args.cursor.now (g.R.PointReader.stands c.loop.reader) c.loop.counter c.loop.cursor (omega arith) (c.loop.invariant.read at there)

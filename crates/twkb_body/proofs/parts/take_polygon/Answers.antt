@@ -1,28 +1,49 @@
--- Each turn walks one more ring; a malformed one ends the walk.
-use Rattle.std.proofs.Common.{arith}
+-- Rings after their number are a polygon, and one more is read at each turn.
+use Rattle.std.proofs.Common.{ℕ, sym, ap, ◌∙◌, arith}
 use Rattle.std.proofs.lemmas.Result.{err_from_is_err_and}
+use Rattle.twkb_head.specs.Shared.Reader.{Answer}
 use Rattle.twkb_body.specs.Devices.Body.{sums}
 use Rattle.twkb_body.specs.Devices.BodyReader.{ring_at}
-use Rattle.twkb_body.specs.Devices.Inside.{of_head}
-use Rattle.twkb_body.proofs.Walks.{number_ahead, walk_goes_on, counted_fails, counted_ends, ring_points, rings_are_sums}
+use Rattle.twkb_body.specs.Devices.PointReader.{on}
+use Rattle.twkb_body.proofs.Keeping.{keeps_number}
+use Rattle.twkb_body.proofs.PointReads.{counted_read, counted_ends, some_begin, some_ready, some_go_on, some_end, some_fail}
+use Rattle.twkb_body.proofs.Walks.{number_ahead, ring_points, rings_are_sums, part_points}
 use Rattle.twkb_body.proofs.parts.take_polygon.Goals as goal
+
+pub returns-in-Err-clause-bytes : goal.returns-in-Err-clause-bytes
+returns-in-Err-clause-bytes g c = ap (λ (a : Answer ℕ). a.1.bytes) (sym c.in-Err.ensures) ∙ keeps_number c.args.cursor.now
+
+pub loop-init : goal.loop-init
+loop-init g c = record {
+  bytes = ap (λ (a : Answer ℕ). a.1.bytes) (sym c.in-Ok.ensures) ∙ keeps_number c.args.cursor.now;
+  read = λ at there. some_begin g.R.PointReader.step at sums (ring_at at.axes) ring_points rings_are_sums c.in-Ok.count c.take_number.new.cursor (g.R.PointReader.stands c.args.reader.now) there;
+}
 
 pub take_ring-requires : goal.take_ring-requires
 take_ring-requires g c =
-    let w = c.loop.invariant.walked in
-    record { walk = (c.requires.walk.0, c.requires.walk.1, omega (arith, w.points, w.ahead, number_ahead _ _ _ c.in_ok-count.ensures, c.requires.walk.2)) }
+    let ready = c.requires.ready in
+    let at = ready.0 in
+    let ahead = number_ahead _ _ _ c.in-Ok.ensures in
+    record { ready = some_ready g.R.PointReader.step at sums (ring_at at.axes) ring_points rings_are_sums c.in-Ok.count c.take_number.new.cursor (g.R.PointReader.stands c.loop.reader) c.loop.counter c.loop.cursor (omega (arith, ahead, ready.2)) (c.loop.invariant.read at ready.1) }
 
-pub returns-in_err-take_ring : goal.returns-in_err-take_ring
-returns-in_err-take_ring g c =
-    let p = err_from_is_err_and c.from_residual-in_err-take_ring.result c.from_residual-in_err-take_ring.ensures.1 in
-    rw (p.1, p.2) (counted_fails (g.P.Points.step (of_head c.args.head.now)) c.args.axes sums (ring_at c.args.axes) ring_points rings_are_sums c.in_ok-count.count c.args.trail.now (g.P.Points.state c.args.points.now) c.take_number.new.cursor _ c.loop.counter _ _ _ _ _ c.in_ok-count.ensures c.loop-test.true c.in_err-take_ring.ensures c.loop.invariant)
+pub returns-in_err-take_ring-clause-ended : goal.returns-in_err-take_ring-clause-ended
+returns-in_err-take_ring-clause-ended g c =
+    let p = err_from_is_err_and c.from_residual.result c.from_residual.ensures.1 in
+    rw (p.1, p.2) (λ at there.
+    let h = c.loop.invariant.read at there in
+    counted_ends g.R.PointReader.step at g.R.PointReader.ends (g.R.PointReader.tells c.in_err-take_ring.field-0.0) sums (ring_at at.axes) part_points c.args.cursor.now c.take_number.new.cursor c.take_ring.new.cursor c.in-Ok.count c.in-Ok.ensures
+    (some_fail g.R.PointReader.step at sums (ring_at at.axes) ring_points rings_are_sums c.in-Ok.count c.take_number.new.cursor g.R.PointReader.ends g.R.PointReader.lasts (g.R.PointReader.tells c.in_err-take_ring.field-0.0) (g.R.PointReader.stands c.loop.reader) c.loop.counter c.loop.cursor c.take_ring.new.cursor
+    c.loop-test.true h (c.in_err-take_ring.ensures.ended (on at h.trail h.state) h.there)))
 
 pub loop-preserved : goal.loop-preserved
-loop-preserved g c =
-    let read = c.in_ok-take_ring.ensures in
-    walk_goes_on (g.P.Points.step (of_head c.args.head.now)) c.args.axes sums (ring_at c.args.axes) ring_points rings_are_sums c.in_ok-count.count c.args.trail.now (g.P.Points.state c.args.points.now) c.take_number.new.cursor c.loop.counter _ _ _ _ _ _ read.0 c.loop-test.true read.1 read.2 c.loop.invariant
+loop-preserved g c = record {
+  bytes = c.in_ok-take_ring.ensures.bytes ∙ c.loop.invariant.bytes;
+  read = λ at there.
+      let h = c.loop.invariant.read at there in
+      some_go_on g.R.PointReader.step at sums (ring_at at.axes) ring_points rings_are_sums c.in-Ok.count c.take_number.new.cursor (g.R.PointReader.stands c.loop.reader) (g.R.PointReader.stands c.take_ring.new.reader) c.loop.counter c.loop.cursor c.take_ring.new.cursor c.loop-test.true h (c.in_ok-take_ring.ensures.read (on at h.trail h.state) h.there);
+}
 
-pub returns : goal.returns
-returns g c =
-    let t = counted_ends (g.P.Points.step (of_head c.args.head.now)) c.args.axes sums (ring_at c.args.axes) ring_points rings_are_sums c.in_ok-count.count c.args.trail.now (g.P.Points.state c.args.points.now) c.take_number.new.cursor _ c.loop.counter _ _ _ c.in_ok-count.ensures (omega arith) c.loop.invariant in
-    t
+pub returns-clause-read : goal.returns-clause-read
+returns-clause-read g c at there =
+    counted_read g.R.PointReader.step at (g.R.PointReader.stands c.loop.reader) sums (ring_at at.axes) part_points c.args.cursor.now c.take_number.new.cursor c.loop.cursor c.in-Ok.count c.in-Ok.ensures
+    (some_end g.R.PointReader.step at sums (ring_at at.axes) ring_points rings_are_sums c.in-Ok.count c.take_number.new.cursor (g.R.PointReader.stands c.loop.reader) c.loop.counter c.loop.cursor (omega arith) (c.loop.invariant.read at there))

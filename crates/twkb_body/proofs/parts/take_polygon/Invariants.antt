@@ -1,7 +1,15 @@
--- The rings so far were walked, from the first trail to this one.
-use Rattle.twkb_body.specs.Devices.Inside.{of_head}
-use Rattle.twkb_body.proofs.Walks.{IsPolygonLoop}
+-- The rings so far were read.
+use Rattle.std.proofs.Common.{◌≡◌}
+use Rattle.twkb_body.specs.Devices.Body.{sums}
+use Rattle.twkb_body.specs.Devices.BodyReader.{ring_at}
+use Rattle.twkb_body.specs.Devices.PointReader.{Stage}
+use Rattle.twkb_body.proofs.PointReads.{HasReadSome}
+use Rattle.twkb_body.proofs.Walks.{ring_points, rings_are_sums}
 use Rattle.twkb_body.proofs.parts.take_polygon.Given as goal
 
 abbrev pub invariant-loop : goal.invariant-loop
-invariant-loop g l = IsPolygonLoop (g.P.Points.step (of_head l.head)) l.axes l.count l.fn.trail (g.P.Points.state l.fn.points) l.initial.cursor l.counter l.trail (g.P.Points.state l.points) l.cursor
+invariant-loop g l = record {
+  bytes : l.cursor.bytes ≡ l.fn.cursor.bytes;
+  read : (at : Stage g.R.PointReader.State) → g.R.PointReader.stands l.fn.reader at
+      → HasReadSome g.R.PointReader.step at sums (ring_at at.axes) ring_points rings_are_sums l.count l.initial.cursor (g.R.PointReader.stands l.reader) l.counter l.cursor;
+}

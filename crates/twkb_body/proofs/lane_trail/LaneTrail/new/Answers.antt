@@ -1,9 +1,10 @@
 -- The first distances are those of the origin, from which the first differences go.
-use Rattle.std.proofs.Common.{◌≡◌, ◌∷◌, [], pos, neg_ℤ, ◌+ℤ◌, ◌-ℤ◌, ap₂, ◌∙◌, arith}
+use Rattle.std.proofs.Common.{◌≡◌, ◌∷◌, [], pos, neg_ℤ, ◌+ℤ◌, ◌-ℤ◌, refl, ap₂, ◌∙◌, arith}
 use Rattle.std.proofs.lemmas.Int.{ints}
 use mir.Val.{to_z, of_z}
 use Rattle.std.specs.Int.{w64}
 use Rattle.twkb_body.specs.Devices.Quads.{lanes_at}
+use Rattle.twkb_body.specs.Devices.Walk.{no_points}
 use Rattle.twkb_body.proofs.lane_trail.LaneTrail.new.Goals as goal
 
 pub returns : goal.returns
@@ -16,12 +17,17 @@ returns c =
     let x : pos 0 ≡ box.x.minimum +ℤ neg_ℤ box.x.minimum = omega (arith, ints) in
     let y : pos 0 ≡ box.y.minimum +ℤ neg_ℤ box.y.minimum = omega (arith, ints) in
     record {
-      across = neg_ℤ box.x.minimum;
-      up = neg_ℤ box.y.minimum;
-      is = λ j. record { last = x j ∷ y j ∷ pos 0 ∷ pos 0 ∷ []; points = 0 };
-      at = c.lanes_of.ensures ∙ ap₂ lanes_at left below;
-      extent = c.lanes_of-2.ensures ∙ ap₂ lanes_at width height;
-      in_x = c.requires.0.low;
-      in_y = c.requires.1.low;
-      fits = c.requires;
+      box = box;
+      trail = no_points;
+      at_is = refl;
+      lanes_are = record {
+        across = neg_ℤ box.x.minimum;
+        up = neg_ℤ box.y.minimum;
+        is = λ j. record { last = x j ∷ y j ∷ pos 0 ∷ pos 0 ∷ []; points = 0 };
+        at = c.lanes_of.ensures ∙ ap₂ lanes_at left below;
+        extent = c.lanes_of-2.ensures ∙ ap₂ lanes_at width height;
+        in_x = c.requires.0.low;
+        in_y = c.requires.1.low;
+        fits = c.requires;
+      };
     }

@@ -1,11 +1,18 @@
--- Parts that stay inside the box are held.
-use Rattle.twkb_body.proofs.FlatBodies.{parts_held}
-use Rattle.twkb_body.specs.Devices.Body.{zeros}
+-- Parts that are read in lanes are held, and parts whose reading ends early leave the box.
+use Rattle.std.proofs.Common.{arith}
+use Rattle.std.specs.Prelude.{⊤}
+use Rattle.twkb_body.specs.Devices.LaneTrail.{holding_at}
+use Rattle.twkb_body.specs.Devices.Walk.{no_points}
+use Rattle.twkb_body.proofs.FlatBodies.{parts_held, parts_leave}
 use Rattle.twkb_body.proofs.sure.parts.take_flat_boxed.Goals as goal
 
-pub returns-in-Some-clause-ok : goal.returns-in-Some-clause-ok
-returns-in-Some-clause-ok c =
-    parts_held c.args.kind c.args.count c.args.bounds.now c.take_parts.new.self c.args.cursor.now c.take_parts.new.cursor (c.in-Some.ensures.some c.args.bounds.now (record { last = zeros; points = 0 }) c.new-trail.ensures)
+pub take_parts-requires : goal.take_parts-requires
+take_parts-requires c = record { ready = (holding_at c.args.bounds.now no_points, c.new-trail.ensures, omega arith) }
 
-pub returns-in-None-clause-leave : goal.returns-in-None-clause-leave
-returns-in-None-clause-leave c = c.in-None.ensures.none c.args.bounds.now (record { last = zeros; points = 0 }) c.new-trail.ensures
+pub returns-in-Ok-clause-ok : goal.returns-in-Ok-clause-ok
+returns-in-Ok-clause-ok c =
+    parts_held c.args.kind c.args.count c.args.bounds.now c.args.cursor.now c.take_parts.new.cursor c.take_parts.new.reader (c.in-Ok.ensures.read (holding_at c.args.bounds.now no_points) c.new-trail.ensures)
+
+pub returns-in-Err-clause-leave : goal.returns-in-Err-clause-leave
+returns-in-Err-clause-leave c =
+    parts_leave c.args.kind c.args.count c.args.bounds.now c.args.cursor.now c.take_parts.new.cursor (λ malformed. ⊤) (c.in-Err.ensures.ended (holding_at c.args.bounds.now no_points) c.new-trail.ensures)

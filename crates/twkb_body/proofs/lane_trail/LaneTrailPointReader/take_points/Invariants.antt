@@ -4,7 +4,7 @@ use Rattle.twkb_head.specs.declared.raw.RawBox.{RawBox}
 use Rattle.twkb_body.specs.declared.trail.Trail.{Trail}
 use Rattle.twkb_body.specs.Devices.LaneTrail.{IsLaneTrail}
 use Rattle.twkb_body.proofs.QuadRuns.{IsLaneRun}
-use Rattle.twkb_body.proofs.lane_trail.LaneTrail.take_points.Given as goal
+use Rattle.twkb_body.proofs.lane_trail.LaneTrailPointReader.take_points.Given as goal
 
 abbrev pub invariant-loop-done : goal.invariant-loop-done
 invariant-loop-done l = record {

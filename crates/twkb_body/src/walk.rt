@@ -1,0 +1,94 @@
+//! [`Walk`], which reads points one after another, sums up their coordinates, and adds them to something.
+ghost use Rattle.std.specs.Prelude.{◌≡◌, ◌≤◌};
+ghost use Rattle.twkb_head.specs.Header.{Header, axes_with};
+ghost use Rattle.twkb_body.specs.Devices.Inside.{of_head};
+ghost use Rattle.twkb_body.specs.Devices.PointReader.{IsWalking};
+ghost use Rattle.twkb_body.specs.Devices.Walk.{HasPrecisions, no_points};
+
+use crate::point_reader::PointReader;
+use crate::points::Points;
+use crate::trail::{Trail, take_point};
+use twkb_head::{Head, Malformed};
+use twkb_num::Cursor;
+
+/// Points under one header, which are added to `points`, and how far they have come.
+#[derive(Drop)]
+pub struct Walk<'h, P> {
+    head: &'h Head,
+    axes: usize,
+    /// The last point, and how many there were.
+    pub trail: Trail,
+    /// What the points are added to.
+    pub points: P,
+}
+
+impl<'h, P: Points> Walk<'h, P> {
+    /// No point yet.
+    #[inline(always)]
+    pub fn new(head: &'h Head, axes: usize, points: P) -> Walk<'h, P>
+        requires precisions { HasPrecisions head.now }
+        requires axes { axes ≡ axes_with head.now.z head.now.m }
+        ensures stands { IsWalking result.head.now result.axes result.trail (P.state result.points)
+            (record { axes = axes; trail = no_points; state = (of_head head.now, P.state points) }) }
+    {
+        Walk {
+            head,
+            axes,
+            trail: Trail::new(),
+            points,
+        }
+    }
+}
+
+impl<'h, P: Points> PointReader for Walk<'h, P> {
+    ghost use Rattle.std.specs.Prelude.{◌≡◌};
+    ghost use Rattle.twkb_head.specs.Header.{Header};
+    ghost use Rattle.twkb_body.specs.Devices.PointReader.{IsWalking};
+
+    type Fault = Malformed;
+
+    ghost State = { Header × P.State };
+
+    ghost step = { λ s point. (s.0, P.step s.0 s.1 point) };
+
+    ghost stands = { λ walk at. IsWalking walk.head.now walk.axes walk.trail (P.state walk.points) at };
+
+    ghost ends = { λ s. ⊥ };
+
+    ghost lasts = { λ s point ended. ended };
+
+    ghost tells = { λ fault m. fault ≡ m };
+
+    /// Reads the points in runs, and one by one where a run ends early.
+    #[inline(always)]
+    fn take_points(&mut self, cursor: &mut Cursor, count: u64) -> Result<(), Malformed> {
+        let mut done = 0;
+        while done < count {
+            done += self.points.take_run(
+                cursor,
+                self.head,
+                self.axes,
+                count - done,
+                &mut self.trail,
+            );
+            if done < count {
+                take_point(
+                    cursor,
+                    self.head,
+                    self.axes,
+                    &mut self.trail,
+                    &mut self.points,
+                )?;
+                done += 1;
+            }
+        }
+        Ok(())
+    }
+
+    #[inline(always)]
+    fn fault_of(malformed: Malformed) -> Malformed
+        ensures { result ≡ malformed }
+    {
+        malformed
+    }
+}
