@@ -1,8 +1,9 @@
+-- Lane by lane, the two groups are pushed together.
 use Rattle.std.proofs.Common.{◌+◌, ◌/◌, ◌%◌, ◌^◌, bit_and, ◌∙◌, w16}
 use Rattle.std.proofs.lemmas.Simd.{zip2_splat, zip2_of_maps, splat_is_map}
 use Rattle.twkb_num.specs.Devices.Lanes.{two_groups}
 use Rattle.twkb_num.proofs.LaneLaws.{joined_lane, same_where_fits}
-use Rattle.twkb_num.proofs.lanes.packed_narrow.Goals as goal
+use Rattle.twkb_num.proofs.vectors.packed_narrow.Goals as goal
 
 pub returns : goal.returns
 returns c =

@@ -4,7 +4,7 @@ use Rattle.std.proofs.lemmas.Bool.{and_parts, eqb-true, cases_lt}
 use Rattle.std.proofs.lemmas.Simd.{Each1-get_or, below_from_Fits}
 use Rattle.std.proofs.lemmas.List.{get_or-map, get_or_append_left, get_or-append_right}
 use Rattle.twkb_num.proofs.Below.{true_below}
-use Rattle.twkb_num.proofs.lanes.low_halves.Goals as goal
+use Rattle.twkb_num.proofs.vectors.low_halves.Goals as goal
 
 abbrev ks : List ℕ
 ks = 0 ∷ 1 ∷ 2 ∷ 3 ∷ 4 ∷ 5 ∷ 6 ∷ 7 ∷ 16 ∷ 17 ∷ 18 ∷ 19 ∷ 20 ∷ 21 ∷ 22 ∷ 23 ∷ []

@@ -1,7 +1,7 @@
 -- The groups below the first end are the number.
 use Rattle.std.proofs.Common.{refl}
 use Rattle.twkb_num.proofs.FrontLemmas.{front_spells, front_goes_on}
-use Rattle.twkb_num.proofs.word.front_of.Goals as goal
+use Rattle.twkb_num.proofs.word.first_number.Goals as goal
 
 pub returns-clause-some : goal.returns-clause-some
 returns-clause-some c = rw c.from.ensures (front_spells c.args.low _ c.ranges.low.fits c.if-ends-eq0.false refl)

@@ -3,7 +3,7 @@ use Rattle.std.proofs.Common.{ℕ, ◌+◌, ◌/◌, ◌%◌, ◌^◌, bit_and, 
 use Rattle.std.proofs.lemmas.Simd.{zip2_splat, zip2_of_maps, splat_is_map}
 use Rattle.twkb_num.specs.Devices.Lanes.{four_groups}
 use Rattle.twkb_num.proofs.LaneLaws.{paired, joined_wide_lane, same_where_fits}
-use Rattle.twkb_num.proofs.lanes.packed_wide.Goals as goal
+use Rattle.twkb_num.proofs.vectors.packed_wide.Goals as goal
 
 pub returns : goal.returns
 returns c =

@@ -1,14 +1,14 @@
--- Two fronts, one after the other, are eight numbers.
-use Rattle.std.proofs.Common.{rules, ◌≡◌, ℕ, ◌+◌, ◌%◌, ◌<◌, List, ◌++◌, map, take, ap, ◌∙◌, sym, subst, arith, w16}
+-- Two rows, one after the other, are eight numbers.
+use Rattle.std.proofs.Common.{rules, ◌≡◌, ℕ, ◌%◌, List, ◌++◌, map, ap, ◌∙◌, sym, subst, w16}
 use Rattle.std.specs.Prelude.{All}
 use Rattle.std.specs.Int.{cast_signed}
 use lib.Lanes.{number_l, digits_l}
-use Rattle.twkb_num.specs.Varint.{SpellsAllSigned, IsBrief, zigzag_value}
+use Rattle.twkb_num.specs.Varint.{IsBrief, zigzag_value}
 use Rattle.twkb_num.specs.Devices.Lanes.{values}
 use Rattle.twkb_num.proofs.LaneLaws.{all_brief}
-use Rattle.twkb_num.proofs.LaneLemmas.{first_tops, second_tops, first_piece, second_piece, flag_place, flag_short, both, signed_all, IsJoined, narrow_values}
+use Rattle.twkb_num.proofs.LaneLemmas.{first_tops, second_tops, first_piece, second_piece, flag_place, lanes_spell, IsJoined, narrow_values}
 use Rattle.twkb_num.proofs.LongLemmas.{long_of}
-use Rattle.twkb_num.proofs.lanes.narrow_eight.Goals as goal
+use Rattle.twkb_num.proofs.vectors.narrow_eight.Goals as goal
 
 pub narrow_four-first-requires-clause-tops : goal.narrow_four-first-requires-clause-tops
 narrow_four-first-requires-clause-tops c = first_tops c.continuation_bits-tops.result _ c.continuation_bits-tops.ensures
@@ -33,12 +33,8 @@ returns-clause-spelled c short =
       high = c.low_halves-all.ensures.high;
     } in
     let means : map (cast_signed w16) c.unzigzag_narrow.result ≡ map zigzag_value (ns ++ ms) = c.unzigzag_narrow.ensures ∙ ap (map zigzag_value) (c.packed_narrow.ensures ∙ narrow_values _ _ _ j) in
-    let one = first.result.len in
-    let two = second.result.len in
-    let low_one : one < 128 = omega (arith, short) in
-    let low_two : two < 128 = omega (arith, short) in
-    let all = both bytes _ _ ns ms one two (first_piece bytes) (second_piece (one % 16) bytes) (flag_short one first.ensures.flag low_one) (flag_short two second.ensures.flag low_two) (first.ensures.spelled low_one) (second.ensures.spelled low_two) in
-    subst (λ zs. SpellsAllSigned (take (one + two) bytes) zs) (sym means) (signed_all (take (one + two) bytes) (ns ++ ms) all)
+    lanes_spell bytes _ _ ns ms first.result.len second.result.len _ (first_piece bytes) (second_piece (first.result.len % 16) bytes)
+    first.ensures.flag second.ensures.flag first.ensures.spelled second.ensures.spelled means short
 
 pub returns-clause-brief : goal.returns-clause-brief
 returns-clause-brief c = subst (All IsBrief) (sym (c.unzigzag_narrow.ensures ∙ ap (map zigzag_value) c.packed_narrow.ensures)) (all_brief (digits_l 65536 8 (number_l 256 c.low_halves-all.result)))

@@ -1,6 +1,6 @@
 -- The bytes before have all ends but the ones left, and it is known how many of them the next varint has.
 use Rattle.twkb_num.proofs.ManySpelled.{IsEndsLoop}
-use Rattle.twkb_num.proofs.ends.run_of.Given as goal
+use Rattle.twkb_num.proofs.ends.first_varints.Given as goal
 
 abbrev pub invariant-loop-left : goal.invariant-loop-left
 invariant-loop-left l = IsEndsLoop l.fn.bytes l.fn.many l.left l.done l.low

@@ -2,14 +2,15 @@
 ghost use Rattle.std.specs.Prelude.{◌≡◌, ◌+◌, ◌<◌, ◌≤◌, ◌/◌, ◌%◌, ◌^◌, ℕ, map, slice_index, take, All};
 ghost use Rattle.std.specs.Int.{w16, w32, cast_signed};
 ghost use Rattle.twkb_num.specs.Varint.{zigzag_value, SpellsAll, SpellsAllSigned, IsShort, IsBrief, HasLong};
-ghost use Rattle.twkb_num.specs.Devices.Lanes.{two_groups, four_groups, byte_at, IsTops, IsFlag, values};
+ghost use Rattle.twkb_num.specs.Devices.Lanes.{two_groups, four_groups, byte_or_zero, IsTops, IsFlag, values};
 
 use crate::tables::{narrow_len, narrow_places, wide_len, wide_places};
 use std::simd::prelude::*;
 
-/// The first numbers of sixteen bytes, each with its bytes in a lane, and the length of all. A length of 128: one is too long.
+/// The first numbers of sixteen bytes, with the bytes of each in a lane, whose groups of seven bits aren't pushed together yet, and
+/// the length of all spellings together. A length of 128: one is too long.
 #[derive(Clone, Copy)]
-struct Front {
+struct Unpacked {
     lanes: u8x16,
     len: u32,
 }
@@ -32,7 +33,8 @@ pub struct Narrow {
 #[inline(always)]
 pub fn wide_four(bytes: &[u8; 32]) -> Wide
     ensures few { result.len < 128 → result.len ≤ 16 }
-    ensures spelled { result.len < 128 → SpellsAllSigned (take result.len bytes.now) (map (cast_signed w32) result.lanes) }
+    ensures spelled { result.len < 128
+        → SpellsAllSigned (take result.len bytes.now) (map (cast_signed w32) result.lanes) }
     ensures short { All IsShort (map (cast_signed w32) result.lanes) }
     ensures long { 128 ≤ result.len → HasLong 4 16 bytes.now }
 {
@@ -55,7 +57,8 @@ pub fn wide_four(bytes: &[u8; 32]) -> Wide
 #[inline(always)]
 pub fn narrow_eight(bytes: &[u8; 32]) -> Narrow
     ensures few { result.len < 128 → result.len ≤ 16 }
-    ensures spelled { result.len < 128 → SpellsAllSigned (take result.len bytes.now) (map (cast_signed w16) result.lanes) }
+    ensures spelled { result.len < 128
+        → SpellsAllSigned (take result.len bytes.now) (map (cast_signed w16) result.lanes) }
     ensures brief { All IsBrief (map (cast_signed w16) result.lanes) }
     ensures long { 128 ≤ result.len → HasLong 2 16 bytes.now }
 {
@@ -75,14 +78,14 @@ pub fn narrow_eight(bytes: &[u8; 32]) -> Narrow
 
 /// Two numbers of at most four bytes, by the continuation bits of the first eight bytes.
 #[inline(always)]
-fn wide_two(v: u8x16, tops: usize) -> Front
+fn wide_two(v: u8x16, tops: usize) -> Unpacked
     requires few { tops < 256 }
     requires tops { IsTops tops v }
     ensures flag { IsFlag result.len }
     ensures spelled { result.len < 128 → SpellsAll (take result.len v) (values 4 2 result.lanes 0) }
     ensures long { result.len ≡ 128 → HasLong 4 8 v }
 {
-    Front {
+    Unpacked {
         lanes: picked(v, wide_places(tops)),
         len: wide_len(tops),
     }
@@ -90,14 +93,14 @@ fn wide_two(v: u8x16, tops: usize) -> Front
 
 /// Four numbers of at most two bytes, by the continuation bits of the first eight bytes.
 #[inline(always)]
-fn narrow_four(v: u8x16, tops: usize) -> Front
+fn narrow_four(v: u8x16, tops: usize) -> Unpacked
     requires few { tops < 256 }
     requires tops { IsTops tops v }
     ensures flag { IsFlag result.len }
     ensures spelled { result.len < 128 → SpellsAll (take result.len v) (values 2 4 result.lanes 0) }
     ensures long { result.len ≡ 128 → HasLong 2 8 v }
 {
-    Front {
+    Unpacked {
         lanes: picked(v, narrow_places(tops)),
         len: narrow_len(tops),
     }
@@ -124,7 +127,7 @@ fn bits_from(tops: u32, len: u32) -> usize
 /// The bytes at these places, and zero at a place from 128 on.
 #[inline(always)]
 fn picked(v: u8x16, places: u8x16) -> u8x16
-    ensures { (i : ℕ) → i < 16 → slice_index result i ≡ byte_at v (slice_index places i) }
+    ensures { (i : ℕ) → i < 16 → slice_index result i ≡ byte_or_zero v (slice_index places i) }
 {
     // These are the bits of a place that `pshufb` reads, so the compiler makes no comparison.
     v.swizzle_dyn(places & u8x16::splat(0x8f))

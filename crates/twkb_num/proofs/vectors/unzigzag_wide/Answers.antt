@@ -5,7 +5,7 @@ use Rattle.std.specs.Int.Bits.{bit_xor}
 use Rattle.std.proofs.lemmas.Simd.{zip2_splat, zip2_of_maps, splat_is_map, map-map}
 use Rattle.twkb_num.specs.Varint.{zigzag_value}
 use Rattle.twkb_num.proofs.LaneLaws.{sign_32, same_where_fits}
-use Rattle.twkb_num.proofs.lanes.unzigzag_wide.Goals as goal
+use Rattle.twkb_num.proofs.vectors.unzigzag_wide.Goals as goal
 
 pub returns : goal.returns
 returns c =

@@ -4,7 +4,7 @@ use Rattle.std.proofs.lemmas.Bool.{cases_lt, lt-leb, le-leb, cond-true, cond-fal
 use Rattle.std.proofs.lemmas.List.{length-map, get_or-map}
 use Rattle.std.proofs.lemmas.Simd.{tops_compared, zip2_splat_left, mask_l-mod, bit_mask_l, Each1-get_or, below_from_Fits}
 use lib.Lanes.{mask_l}
-use Rattle.twkb_num.proofs.lanes.continuation_bits.Goals as goal
+use Rattle.twkb_num.proofs.vectors.continuation_bits.Goals as goal
 
 pub returns : goal.returns
 returns c i h =
