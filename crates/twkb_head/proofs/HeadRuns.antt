@@ -120,16 +120,16 @@ abbrev pub One : {A : Type 0} → Reading → Answer A → Type 0
 One r (Ok x, a) = a.place ≡ r.place + 1
 One r (Err m, a) = Unit {0}
 
-further : {A : Type 0} (n : ℕ) (r : Reading) (a : Answer A) → Ahead (past n r) a → Ahead r a
-further n r (Ok x, a) h = omega (arith, h)
-further n r (Err m, a) h = tt
+ahead_further : {A : Type 0} (n : ℕ) (r : Reading) (a : Answer A) → Ahead (past n r) a → Ahead r a
+ahead_further n r (Ok x, a) h = omega (arith, h)
+ahead_further n r (Err m, a) h = tt
 
 pub read_ahead : {A : Type 0} (p : Plan A) (r : Reading) → Ahead r (read p r)
 read_ahead (done x) r = omega arith
 read_ahead {A} (ask q next) r = go (cut_field (field_of q) (rest r)) (λ front r. read_ahead (next front) r)
   where
     whole : (j : Option Why) (x : List ℕ × List ℕ) → ((front : List ℕ) (r : Reading) → Ahead r (read (next front) r)) → Ahead r (read_judged {A = A} j (length x.0) (read (next x.0)) r)
-    whole None x ih = further (length x.0) r (read (next x.0) (past (length x.0) r)) (ih x.0 (past (length x.0) r))
+    whole None x ih = ahead_further (length x.0) r (read (next x.0) (past (length x.0) r)) (ih x.0 (past (length x.0) r))
     whole (Some w) x ih = tt
 
     go : (c : Result (List ℕ × List ℕ) Why) → ((front : List ℕ) (r : Reading) → Ahead r (read (next front) r)) → Ahead r (read_field {A = A} q c (λ front. read (next front)) r)
@@ -253,11 +253,11 @@ metadata_with : (r a : Reading) (t : ℕ) → a.place ≡ r.place + 1 → (q : A
 metadata_with r a t at (Ok metadata, b) h = extended_runs r t metadata b (omega (arith, at, h))
 metadata_with r a t at (Err m, b) h = refl
 
-abbrev named : Answer ℕ → Answer (Kind × ℤ)
-named q = viewed (λ t. (kind_from t, zigzag_value (t / 16))) q
+abbrev kind_viewed : Answer ℕ → Answer (Kind × ℤ)
+kind_viewed q = viewed (λ t. (kind_from t, zigzag_value (t / 16))) q
 
 type_with : (levels : ℕ) (r : Reading) (q : Answer ℕ) → One r q
-    → placed r (q >>= λ t. read (after_type t)) ≡ (named q >>= λ type a. (read byte_plan a >>= λ metadata b. (optional_at (has_bit metadata 8) (read byte_plan) b >>= λ extended c. (optional_at (has_bit metadata 2) (read number_plan) c >>= λ size d. (optional_at (has_bit metadata 1) (bounds_from type.1 (z_in extended) (m_in extended)) d >>= λ bounds e. (Ok (head_with type.0 type.1 metadata extended size bounds r.place c.place d.place e.place), e))))))
+    → placed r (q >>= λ t. read (after_type t)) ≡ (kind_viewed q >>= λ type a. (read byte_plan a >>= λ metadata b. (optional_at (has_bit metadata 8) (read byte_plan) b >>= λ extended c. (optional_at (has_bit metadata 2) (read number_plan) c >>= λ size d. (optional_at (has_bit metadata 1) (bounds_from type.1 (z_in extended) (m_in extended)) d >>= λ bounds e. (Ok (head_with type.0 type.1 metadata extended size bounds r.place c.place d.place e.place), e))))))
 type_with levels r (Ok t, a) h = ap (placed r) (read-bind byte_plan (after_metadata t) a) ∙ metadata_with r a t h (read byte_plan a) (one_byte a)
 type_with levels r (Err m, a) h = refl
 

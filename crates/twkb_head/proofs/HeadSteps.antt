@@ -109,31 +109,31 @@ unfolding rest_at
 rest_same kind xy m n start b e8 e2 e1 e16 e4 = rw (e8, e2, e1, e16, e4) refl
 
 -- a header that is allowed at the depth was begun: what is read after its first two bytes is what is read from its start
-abbrev pub GoesOn : ℕ → Begun → Reading → Reading → Type 0
-GoesOn depth begun before now = (answer : Result Head Malformed) (new : Reading) → rest_at begun.kind begun.xy begun.metadata begun.start now ≡ (answer, new)
+abbrev pub RestIsHead : ℕ → Begun → Reading → Reading → Type 0
+RestIsHead depth begun before now = (answer : Result Head Malformed) (new : Reading) → rest_at begun.kind begun.xy begun.metadata begun.start now ≡ (answer, new)
     → head_at (deepest - depth) before ≡ (answer, new)
 
--- the code of a kind names it
-named : (n : ℕ) (k : Kind) → n ≡ code_of k → kind_of_code n ≡ Some k
-named n Point e = ap kind_of_code e
-named n LineString e = ap kind_of_code e
-named n Polygon e = ap kind_of_code e
-named n MultiPoint e = ap kind_of_code e
-named n MultiLineString e = ap kind_of_code e
-named n MultiPolygon e = ap kind_of_code e
-named n GeometryCollection e = ap kind_of_code e
+-- the code of a kind names this kind
+kind_of_code-code_of : (n : ℕ) (k : Kind) → n ≡ code_of k → kind_of_code n ≡ Some k
+kind_of_code-code_of n Point e = ap kind_of_code e
+kind_of_code-code_of n LineString e = ap kind_of_code e
+kind_of_code-code_of n Polygon e = ap kind_of_code e
+kind_of_code-code_of n MultiPoint e = ap kind_of_code e
+kind_of_code-code_of n MultiLineString e = ap kind_of_code e
+kind_of_code-code_of n MultiPolygon e = ap kind_of_code e
+kind_of_code-code_of n GeometryCollection e = ap kind_of_code e
 
 pub bits_same : (m n k : ℕ) → m / k % 2 ≡ n / k % 2 → has_bit m k ≡ has_bit n k
 bits_same m n k e = ap (λ (b : ℕ). b == 1) e
 
-pub begins_goes_on : (begun : Begun) (depth : ℕ) (before now : Reading) → IsSound before → BeginsHead begun depth before now → GoesOn depth begun before now
+pub begins_goes_on : (begun : Begun) (depth : ℕ) (before now : Reading) → IsSound before → BeginsHead begun depth before now → RestIsHead depth begun before now
 begins_goes_on begun depth before now sound begins answer new e =
     let t = begins.type_byte in
     let m = begins.metadata in
     let n = begun.metadata in
     let levels = deepest - depth in
     let full : depth + levels ≡ deepest = omega (arith, begins.allowed.0, begins.allowed.1) in
-    let has = has_begun levels t m before now sound begins.bytes begins.moved begun.kind begun.xy begun.start (named (t % 16) begun.kind begins.kind) (allowed_with deepest levels depth begun.kind full begins.allowed) begins.precision begins.start in
+    let has = has_begun levels t m before now sound begins.bytes begins.moved begun.kind begun.xy begun.start (kind_of_code-code_of (t % 16) begun.kind begins.kind) (allowed_with deepest levels depth begun.kind full begins.allowed) begins.precision begins.start in
     let eight : m / 8 % 2 ≡ n / 8 % 2 = omega (arith, begins.announced) in
     let two : m / 2 % 2 ≡ n / 2 % 2 = omega (arith, begins.announced) in
     let one : m / 1 % 2 ≡ n / 1 % 2 = omega (arith, begins.announced) in

@@ -37,9 +37,13 @@ pub record HasNearRanges (box : RawBox) : Type 0 where
   pub third : IsNear box.third
   pub fourth : IsNear box.fourth
 
+-- the range of an axis that isn't there
+abbrev pub zero_range : RawRange
+zero_range = record { minimum = pos 0; extent = pos 0 }
+
 -- the box of two ranges in X and Y, and none in Z and M
 abbrev pub flat_box : RawRange → RawRange → RawBox
-flat_box x y = record { x = x; y = y; third = record { minimum = pos 0; extent = pos 0 }; fourth = record { minimum = pos 0; extent = pos 0 } }
+flat_box x y = record { x = x; y = y; third = zero_range; fourth = zero_range }
 
 -- a box of raw numbers in units, by the precisions of its header
 abbrev pub raw_bounds : ℤ → Option ℕ → Option ℕ → RawBox → Bounds
@@ -83,6 +87,7 @@ pub record BeginsHead (begun : Begun) (depth : ℕ) (before now : Reading) : Typ
 
 -- The header was read from its start; or a field can't follow, and the cursor is at that field, with the bytes looked at counted.
 abbrev pub ReadsHead : ℕ → Reading → Reading → Result Fields Malformed → Type 0
-ReadsHead depth before new (Ok raw) = IsHeadAt (head_said raw) depth before.place (passed before new) × IsMoved before new
+ReadsHead depth before new (Ok raw) =
+    IsHeadAt (head_said raw) depth before.place (passed before new) × IsMoved before new
 ReadsHead depth before new (Err m) = IsRefusedHead m depth before.place (rest before)
     × (new ≡ record { bytes = before.bytes; place = m.offset; count = added before.count (looked_at_until m before) })

@@ -230,16 +230,8 @@ impl Fields {
             None => None,
         };
         Head {
-            kind: self.kind,
-            xy: self.axes.xy,
-            z: self.axes.z,
-            m: self.axes.m,
-            size: self.size,
             bounds,
-            ids: self.ids,
-            empty: self.empty,
-            start: self.start,
-            stop: self.stop,
+            ..self.boxless()
         }
     }
 }

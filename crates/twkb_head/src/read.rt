@@ -9,12 +9,12 @@ ghost use Rattle.twkb_head.specs.Head.{StartsWithHeader, IsHeadAt};
 ghost use Rattle.twkb_head.specs.Refusal.{IsRefusedHead, looked_at_until};
 ghost use Rattle.twkb_head.specs.Devices.HeadReader.{byte_at, head_at, rest_at};
 ghost use Rattle.twkb_head.specs.Shared.Reader.{number_at, optional_at};
-ghost use Rattle.twkb_head.specs.Devices.Raw.{made_whole, HasBegun};
+ghost use Rattle.twkb_head.specs.Devices.Raw.{head_result, HasBegun};
 ghost use Rattle.twkb_head.specs.Raw.{head_said, BeginsHead, ReadsHead};
 ghost use Rattle.twkb_head.specs.Header.{has_bit, code_of};
 
 use crate::bits::{BOX, EMPTY, EXTENDED, IDS, SIZE, has_bit, ids_of, m_of, precision_of, z_of};
-use crate::fields::{take_byte, take_number, take_type};
+use crate::field_readers::{take_byte, take_number, take_type};
 use crate::header::{Head, SizeField};
 use crate::kinds::{Kind, kind_at};
 use crate::ranges::{Called, FlatRanges, Inlined, take_box};
@@ -157,7 +157,7 @@ impl Begun {
 #[inline(always)]
 fn take_head(cursor: &mut Cursor, depth: u8) -> Result<Fields, Malformed>
     requires { depth ≤ deepest }
-    ensures read { head_at (deepest - depth) cursor.old ≡ (made_whole result, cursor.new) }
+    ensures read { head_at (deepest - depth) cursor.old ≡ (head_result result, cursor.new) }
     ensures xy { IfOk result (λ raw. IsPrecision raw.axes.xy) }
     ensures z_high { IfOk result (λ raw. IfSome raw.axes.z (λ p. p ≤ 7)) }
     ensures m_high { IfOk result (λ raw. IfSome raw.axes.m (λ p. p ≤ 7)) }
@@ -301,7 +301,8 @@ pub fn take_boxed_rest(cursor: &mut Cursor, begun: Begun) -> Result<Fields, Malf
 #[tactic(auto, unfolding(crate::specs::Devices::HeadReader::rest_at))]
 fn take_fields<R: FlatRanges>(cursor: &mut Cursor, begun: Begun) -> Result<Fields, Malformed>
     requires xy { IsPrecision begun.xy }
-    ensures read { rest_at begun.kind begun.xy begun.metadata begun.start cursor.old ≡ (made_whole result, cursor.new) }
+    ensures read { rest_at begun.kind begun.xy begun.metadata begun.start cursor.old
+        ≡ (head_result result, cursor.new) }
     ensures xy { IfOk result (λ raw. IsPrecision raw.axes.xy) }
     ensures z_high { IfOk result (λ raw. IfSome raw.axes.z (λ p. p ≤ 7)) }
     ensures m_high { IfOk result (λ raw. IfSome raw.axes.m (λ p. p ≤ 7)) }

@@ -1,7 +1,7 @@
 -- The byte that was read, or the end, is what the reader answers.
 use Rattle.std.proofs.Common.{refl}
 use Rattle.twkb_head.proofs.Steps.{read_byte, read_no_byte}
-use Rattle.twkb_head.proofs.fields.take_byte.Goals as goal
+use Rattle.twkb_head.proofs.field_readers.take_byte.Goals as goal
 
 pub returns-in-Some : goal.returns-in-Some
 returns-in-Some c = read_byte _ _ _ c.in-Some.ensures.some c.in-Some.ensures.moved

@@ -6,7 +6,7 @@ use mir.Val.{SFits}
 use Rattle.std.specs.Int.{w8}
 use Rattle.twkb_head.specs.BegunHeader.{deepest}
 use Rattle.twkb_head.proofs.Steps.{byte_moved, type_no_byte, type_ok, type_refused}
-use Rattle.twkb_head.proofs.fields.take_type.Goals as goal
+use Rattle.twkb_head.proofs.field_readers.take_type.Goals as goal
 
 pub returns-in_err-byte-clause-read : goal.returns-in_err-byte-clause-read
 returns-in_err-byte-clause-read c =
