@@ -1,12 +1,14 @@
 -- Headers whose boxes are raw numbers.
-use Rattle.std.specs.Prelude.{◌≡◌, ℕ, ◌/◌, ◌%◌, ◌^◌, ℤ, pos, neg_ℤ, ◌+ℤ◌, ◌≤ℤ◌, List, [], ◌∷◌, Option, None, option_map, Result, Ok, Err}
+use Rattle.std.specs.Prelude.{◌≡◌, ℕ, ◌/◌, ◌%◌, ◌^◌, ◌≤◌, ℤ, pos, neg_ℤ, ◌+ℤ◌, ◌≤ℤ◌, List, [], ◌∷◌, Option, None, option_map, IfSome, Result, Ok, Err}
 use Rattle.twkb_head.specs.declared.boxes.Bounds.{Bounds}
 use Rattle.twkb_head.specs.declared.raw.RawRange.{RawRange}
 use Rattle.twkb_head.specs.declared.raw.RawBox.{RawBox}
+use Rattle.twkb_head.specs.declared.raw.Axes.{Axes}
 use Rattle.twkb_head.specs.declared.raw.Fields.{Fields}
 use Rattle.twkb_head.specs.declared.header.Head.{Head}
 use Rattle.twkb_head.specs.declared.header.BoxField.{BoxField}
 use Rattle.twkb_num.specs.Cursor.{Reading, rest, passed, added, IsMoved}
+use Rattle.twkb_num.specs.Units.{IsPrecision}
 use Rattle.twkb_num.specs.Varint.{zigzag_value}
 use Rattle.twkb_head.specs.declared.read.Begun.{Begun}
 use Rattle.twkb_head.specs.declared.refusal.Malformed.{Malformed}
@@ -14,6 +16,10 @@ use Rattle.twkb_head.specs.BegunHeader.{IsAllowedAt}
 use Rattle.twkb_head.specs.Header.{code_of}
 use Rattle.twkb_head.specs.Head.{IsHeadAt, bounds_of}
 use Rattle.twkb_head.specs.Refusal.{IsRefusedHead, looked_at_until}
+
+-- each precision is in its range: of X and Y from -8 to 7, of Z and M from 0 to 7
+abbrev pub HavePrecisions : Axes → Type 0
+HavePrecisions axes = IsPrecision axes.xy × IfSome axes.z (λ p. p ≤ 7) × IfSome axes.m (λ p. p ≤ 7)
 
 -- the least and the greatest number of a range
 abbrev pub ends_of : RawRange → ℤ × ℤ

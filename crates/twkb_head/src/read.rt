@@ -10,7 +10,7 @@ ghost use Rattle.twkb_head.specs.Refusal.{IsRefusedHead, looked_at_until};
 ghost use Rattle.twkb_head.specs.Devices.HeadReader.{byte_at, head_at, rest_at};
 ghost use Rattle.twkb_head.specs.Shared.Reader.{number_at, optional_at};
 ghost use Rattle.twkb_head.specs.Devices.Raw.{head_result, HasBegun};
-ghost use Rattle.twkb_head.specs.Raw.{head_said, BeginsHead, ReadsHead};
+ghost use Rattle.twkb_head.specs.Raw.{HavePrecisions, head_said, BeginsHead, ReadsHead};
 ghost use Rattle.twkb_head.specs.Header.{has_bit, code_of};
 
 use crate::bits::{BOX, EMPTY, EXTENDED, IDS, SIZE, has_bit, ids_of, m_of, precision_of, z_of};
@@ -158,9 +158,7 @@ impl Begun {
 fn take_head(cursor: &mut Cursor, depth: u8) -> Result<Fields, Malformed>
     requires { depth ≤ deepest }
     ensures read { head_at (deepest - depth) cursor.old ≡ (head_result result, cursor.new) }
-    ensures xy { IfOk result (λ raw. IsPrecision raw.axes.xy) }
-    ensures z_high { IfOk result (λ raw. IfSome raw.axes.z (λ p. p ≤ 7)) }
-    ensures m_high { IfOk result (λ raw. IfSome raw.axes.m (λ p. p ≤ 7)) }
+    ensures axes { IfOk result (λ raw. HavePrecisions raw.axes) }
 {
     let first_two = take_begun(cursor, depth)?;
     take_fields::<Called>(cursor, first_two)
@@ -303,9 +301,7 @@ fn take_fields<R: FlatRanges>(cursor: &mut Cursor, begun: Begun) -> Result<Field
     requires xy { IsPrecision begun.xy }
     ensures read { rest_at begun.kind begun.xy begun.metadata begun.start cursor.old
         ≡ (head_result result, cursor.new) }
-    ensures xy { IfOk result (λ raw. IsPrecision raw.axes.xy) }
-    ensures z_high { IfOk result (λ raw. IfSome raw.axes.z (λ p. p ≤ 7)) }
-    ensures m_high { IfOk result (λ raw. IfSome raw.axes.m (λ p. p ≤ 7)) }
+    ensures axes { IfOk result (λ raw. HavePrecisions raw.axes) }
     ensures flat { has_bit begun.metadata 8 ≡ false → IfOk result (λ raw. (raw.axes.z ≡ None) × (raw.axes.m ≡ None)) }
     ensures empty { IfOk result (λ raw. raw.empty ≡ has_bit begun.metadata 16) }
     ensures no_box { has_bit begun.metadata 1 ≡ false → IfOk result (λ raw. raw.bounds ≡ None) }
