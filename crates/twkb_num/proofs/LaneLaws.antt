@@ -1,5 +1,5 @@
 -- The numbers that the code computes in lanes are the numbers of the definitions, lane by lane.
-use Rattle.std.proofs.Common.{◌≡◌, map, eqb, suc, subst, get_or, ℕ, ◌+◌, ◌-◌, ◌*◌, ◌<◌, length, ◌/◌, ◌%◌, ◌^◌, List, [], ◌∷◌, bit_and, refl, sym, ap, ◌∙◌, arith, Fits, w16, w32, inl, inr}
+use Rattle.std.proofs.Common.{◌≡◌, map, eqb, suc, subst, get_or, ℕ, ◌+◌, ◌-◌, ◌*◌, ◌<◌, length, replicate, ◌/◌, ◌%◌, ◌^◌, List, [], ◌∷◌, bit_and, refl, sym, ap, ◌∙◌, arith, Fits, w16, w32, inl, inr}
 use Rattle.std.specs.Int.{cast_signed}
 use Rattle.std.specs.Prelude.{pos, neg_ℤ, All}
 use Rattle.std.proofs.lemmas.List.{length-map, get_or-map}
@@ -11,6 +11,8 @@ use Rattle.std.proofs.Math.Facts.{to_z-neg}
 use mir.Syntax.{Width}
 use mir.Val.{bits}
 use lib.Lanes.{Each1}
+use Rattle.std.specs.Simd.Lanes.{zip2}
+use Rattle.std.proofs.lemmas.Simd.{zip2_splat, zip2_of_maps, splat_is_map, map-map}
 use Rattle.twkb_num.specs.Devices.Lanes.{two_groups, four_groups}
 use Rattle.twkb_num.proofs.PairLaws.{zigzag_short}
 use Rattle.twkb_num.proofs.WordLemmas.{firsts_4, seconds_4}
@@ -83,6 +85,18 @@ sign_32 n h =
 pub same_where_fits : {A : Type 0} (w : Width) (f g : ℕ → A) → ((n : ℕ) → n < 2 ^ bits w → f n ≡ g n) → (v : List ℕ) → Each1 (Fits w) v → map f v ≡ map g v
 same_where_fits w f g same [] fits = refl
 same_where_fits w f g same (x ∷ xs) fits = ap (λ y. y ∷ map f xs) (same x fits.0.fits) ∙ ap (λ ys. g x ∷ ys) (same_where_fits w f g same xs fits.1)
+
+-- zigzag is undone in each lane of a vector, if it is undone so in each number that fits a lane
+pub lanes_mean : (w : Width) (many size : ℕ) (v : List ℕ) → length v ≡ many → Each1 (Fits w) v
+    → ((n : ℕ) → n < 2 ^ bits w → cast_signed w (bit_xor (n / 2 ^ 1) ((0 + (size - bit_and n 1)) % size)) ≡ zigzag_value n)
+    → map (cast_signed w) (zip2 bit_xor (zip2 (λ a b. a / 2 ^ b) v (replicate many 1)) (zip2 (λ a b. (a + (size - b)) % size) (replicate many 0) (zip2 bit_and v (replicate many 1)))) ≡ map zigzag_value v
+lanes_mean w many size v long fits undone =
+    let half = zip2_splat (λ a b. a / 2 ^ b) v many 1 long in
+    let odd = zip2_splat bit_and v many 1 long in
+    let minus = zip2_of_maps (λ a b. (a + (size - b)) % size) (λ _. 0) (λ x. bit_and x 1) v (splat_is_map v many 0 long) odd in
+    let all = zip2_of_maps bit_xor (λ x. x / 2 ^ 1) (λ x. (0 + (size - bit_and x 1)) % size) v half minus in
+    ap (map (cast_signed w)) all ∙ map-map (cast_signed w) (λ x. bit_xor (x / 2 ^ 1) ((0 + (size - bit_and x 1)) % size)) v
+    ∙ same_where_fits w (λ x. cast_signed w (bit_xor (x / 2 ^ 1) ((0 + (size - bit_and x 1)) % size))) zigzag_value undone v fits
 
 -- a number below 2^28 means a short one by zigzag
 short_number : (n : ℕ) → n < 2 ^ 28 → IsShort (zigzag_value n)

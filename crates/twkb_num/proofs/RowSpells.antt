@@ -3,7 +3,7 @@ use Rattle.std.proofs.Common.{◌≡◌, ℕ, zero, suc, ◌+◌, ◌-◌, ◌/�
 use Rattle.std.proofs.lemmas.Bool.{and_parts, eqb-true, eqb-false, ltb-true, lt-ltb, cond-true, cond-false, cases_Bool}
 use Rattle.std.proofs.lemmas.List.{drop_more, drop-drop, length-take}
 use Rattle.std.proofs.Math.Seq.{take-add}
-use Rattle.twkb_num.specs.Devices.Lanes.{byte_or_zero, byte_of, value_at, values}
+use Rattle.twkb_num.specs.Devices.Lanes.{byte_or_zero, byte_of, value_at, values, IsTops}
 use Rattle.twkb_num.specs.Varint.{SpellsAll}
 use Rattle.twkb_num.proofs.SpellingForms.{varint_value, IsVarintForm, form_spells}
 use Rattle.twkb_num.proofs.TableLaws.{length_at, none_ok, lane_ok, row_ok}
@@ -18,6 +18,15 @@ pub record IsPicked (bytes : List ℕ) (row : ℕ) (picked : List ℕ) (mask : �
   pub picks : (i : ℕ) → i < 8 → get_or picked i 0 ≡ byte_or_zero bytes (byte_of row i)
   pub tops : (i : ℕ) → i < 8 → mask / 2 ^ i % 2 ≡ get_or bytes i 0 / 128
   pub long : 16 ≤ length bytes
+
+-- what the places of a row pick from sixteen bytes
+pub picked_row : (v places picked : List ℕ) (row tops : ℕ) → length v ≡ 16 → IsTops tops v → ((i : ℕ) → i < 16 → get_or picked i 0 ≡ byte_or_zero v (get_or places i 0)) → ((i : ℕ) → i < 8 → get_or places i 0 ≡ byte_of row i)
+    → IsPicked v row picked tops
+picked_row v places picked row tops long are picks place = record {
+  picks = λ i h. picks i (omega (arith, h)) ∙ ap (byte_or_zero v) (place i h);
+  tops = are;
+  long = omega (arith, long);
+}
 
 -- a place that takes nothing gives a zero
 none_value : (bytes : List ℕ) (row : ℕ) (picked : List ℕ) (mask : ℕ) → IsPicked bytes row picked mask → (n i : ℕ) → none_ok n row i ≡ true → value_at n picked i ≡ 0
