@@ -1,6 +1,6 @@
 -- Devices of proofs: nothing public names them.
 -- The fields of a header whose box is raw numbers, as they are read.
-use Rattle.std.specs.Prelude.{◌≡◌, ℕ, ℤ, Bool, true, false, Option, option_map, Result, Ok, Err}
+use Rattle.std.specs.Prelude.{◌≡◌, ℕ, ℤ, Bool, true, false, Option, Some, is_some, option_map, Result, Ok, Err}
 use Rattle.twkb_head.specs.declared.refusal.Malformed.{Malformed}
 use Rattle.twkb_head.specs.declared.raw.RawBox.{RawBox}
 use Rattle.twkb_num.specs.Cursor.{Reading}
@@ -8,8 +8,8 @@ use Rattle.twkb_head.specs.declared.boxes.Bounds.{Bounds}
 use Rattle.twkb_head.specs.declared.raw.RawRange.{RawRange}
 use Rattle.twkb_head.specs.declared.raw.Fields.{Fields}
 use Rattle.twkb_head.specs.declared.read.Begun.{Begun}
-use Rattle.twkb_head.specs.Shared.Reader.{range_from}
-use Rattle.twkb_head.specs.Devices.HeadReader.{kind_from_type, byte_at}
+use Rattle.twkb_head.specs.Shared.Reader.{optional_at, range_from}
+use Rattle.twkb_head.specs.Devices.HeadReader.{kind_from_type, byte_at, bounds_from}
 use Rattle.twkb_head.specs.Raw.{ends_of, zero_range, raw_bounds, head_said}
 use Rattle.twkb_head.specs.declared.header.Head.{Head}
 
@@ -47,6 +47,17 @@ head_result (Err m) = Err m
 abbrev pub ReadsIf : Bool → Result RawRange Malformed → Reading → Reading → Type 0
 ReadsIf there (Ok range) old new = IsRangeIf there range old new
 ReadsIf there (Err m) old new = (there ≡ true) × (range_from old ≡ (Err m, new))
+
+-- a box of all four axes was read, whatever their precisions, or its fault
+abbrev pub ReadsFullBox : Result RawBox Malformed → Reading → Reading → Type 0
+ReadsFullBox result old new =
+    (xy : ℤ) (z m : ℕ) → bounds_from xy (Some z) (Some m) old ≡ (bounds_result xy (Some z) (Some m) result, new)
+
+-- a box was read if it is announced, whatever the precisions of its axes, or its fault
+abbrev pub ReadsBoxIf : Bool → Bool → Bool → Result (Option RawBox) Malformed → Reading → Reading → Type 0
+ReadsBoxIf announced has_z has_m result old new =
+    (xy : ℤ) (z m : Option ℕ) → is_some z ≡ has_z → is_some m ≡ has_m
+    → optional_at announced (bounds_from xy z m) old ≡ (bounds_result_if xy z m result, new)
 
 -- A header was begun, by its first two bytes.
 pub record HasBegun (levels : ℕ) (begun : Begun) (before now : Reading) : Type 0 where
