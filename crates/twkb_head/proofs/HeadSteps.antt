@@ -189,7 +189,7 @@ two_spelled bytes s = go s.numbers s.count s.spelled
     )
     go (n ∷ m ∷ k ∷ ns) count all = absurd (omega (arith, count))
 
--- a box of raw numbers in units, with its place
+-- a box of raw integers in units, with its place
 pub box_seen : (p q : ℤ) (z y m n : Option ℕ) (offset place : ℕ) → p ≡ q → z ≡ y → m ≡ n → offset ≡ place → (o : Option RawBox)
     → option_map (λ bounds. (let field : BoxField = record { bounds = bounds; offset = offset } in field)) (option_map (raw_bounds p z m) o) ≡ option_map (λ box. record { bounds = raw_bounds q y n box; offset = place }) o
 box_seen p q z y m n offset place xy_is z_is m_is at None = refl

@@ -1,4 +1,4 @@
--- Headers whose boxes are raw numbers.
+-- Headers whose boxes are raw integers.
 use Rattle.std.specs.Prelude.{◌≡◌, ℕ, ◌/◌, ◌%◌, ◌^◌, ◌≤◌, ℤ, pos, neg_ℤ, ◌+ℤ◌, ◌≤ℤ◌, List, [], ◌∷◌, Option, None, option_map, IfSome, Result, Ok, Err}
 use Rattle.twkb_head.specs.declared.boxes.Bounds.{Bounds}
 use Rattle.twkb_head.specs.declared.raw.RawRange.{RawRange}
@@ -51,7 +51,7 @@ zero_range = record { minimum = pos 0; extent = pos 0 }
 abbrev pub flat_box : RawRange → RawRange → RawBox
 flat_box x y = record { x = x; y = y; third = zero_range; fourth = zero_range }
 
--- a box of raw numbers in units, by the precisions of its header
+-- a box of raw integers in units, by the precisions of its header
 abbrev pub raw_bounds : ℤ → Option ℕ → Option ℕ → RawBox → Bounds
 raw_bounds xy z m box = bounds_of xy z m (ranges_in box)
 

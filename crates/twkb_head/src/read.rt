@@ -51,7 +51,7 @@ pub fn read_head(cursor: &mut Cursor, depth: u8) -> Result<Head, Malformed>
     Ok(raw.whole())
 }
 
-/// Reads the header at the place as [`read_head`] does, with its box in raw numbers.
+/// Reads the header at the place as [`read_head`] does, with its box in raw integers.
 #[inline(always)]
 pub fn read_raw(cursor: &mut Cursor, depth: u8) -> Result<Fields, Malformed>
     requires shallowest { 1 ≤ depth }

@@ -1,5 +1,5 @@
 -- Devices of proofs: nothing public names them.
--- The fields of a header whose box is raw numbers, as they are read.
+-- The fields of a header whose box is raw integers, as they are read.
 use Rattle.std.specs.Prelude.{◌≡◌, ℕ, ℤ, Bool, true, false, Option, Some, is_some, option_map, Result, Ok, Err}
 use Rattle.twkb_head.specs.declared.refusal.Malformed.{Malformed}
 use Rattle.twkb_head.specs.declared.raw.RawBox.{RawBox}
