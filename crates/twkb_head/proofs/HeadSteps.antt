@@ -22,7 +22,7 @@ use Rattle.twkb_head.specs.declared.raw.RawBox.{RawBox}
 use Rattle.twkb_head.specs.declared.raw.RawRange.{RawRange}
 use Rattle.twkb_head.specs.declared.raw.Fields.{Fields}
 use Rattle.twkb_head.specs.Raw.{BeginsHead, ends_of, raw_bounds, flat_box, head_said}
-use Rattle.twkb_head.specs.Devices.Raw.{HasBegun}
+use Rattle.twkb_head.specs.Devices.Raw.{ReadsFirstTwo}
 use Rattle.twkb_head.specs.declared.read.Begun.{Begun}
 use Rattle.twkb_head.specs.declared.header.SizeField.{SizeField}
 use Rattle.twkb_head.specs.declared.refusal.Malformed.{Malformed}
@@ -47,7 +47,7 @@ unfolding rest_at
 rest_is b c d e kind xy metadata extended size bounds start h3 h4 h5 = rw (h3, h4, h5) refl
 
 -- a header from its first two bytes and the rest
-pub head_of_rest : (levels : ℕ) (begun : Begun) (r b new : Reading) (answer : Result Head Malformed) → HasBegun levels begun r b
+pub head_of_rest : (levels : ℕ) (begun : Begun) (r b new : Reading) (answer : Result Head Malformed) → ReadsFirstTwo levels begun r b
     → rest_at begun.kind begun.xy begun.metadata begun.start b ≡ (answer, new) → head_at levels r ≡ (answer, new)
 unfolding head_at rest_at
 head_of_rest levels begun r b new answer has e = rw (has.type, has.byte, ← has.start) e
@@ -57,9 +57,9 @@ module _ (levels first metadata : ℕ) (old new : Reading) (sound : IsSound old)
   way : (b : Reading) × IsMoved old b × IsMoved b new × (passed old b ≡ first ∷ []) × (passed b new ≡ metadata ∷ [])
   way = IsMoved-two old new (first ∷ []) (metadata ∷ []) moved bytes
 
-  pub has_begun : (kind : Kind) (xy : ℤ) (start : ℕ) → kind_of_code (first % 16) ≡ Some kind → judge_kind levels (Some kind) ≡ None → xy ≡ zigzag_value (first / 16) → start ≡ old.place
-      → HasBegun levels (record { kind = kind; xy = xy; metadata = metadata; start = start }) old new
-  has_begun kind xy start code allowed precision at =
+  pub first_two_read : (kind : Kind) (xy : ℤ) (start : ℕ) → kind_of_code (first % 16) ≡ Some kind → judge_kind levels (Some kind) ≡ None → xy ≡ zigzag_value (first / 16) → start ≡ old.place
+      → ReadsFirstTwo levels (record { kind = kind; xy = xy; metadata = metadata; start = start }) old new
+  first_two_read kind xy start code allowed precision at =
       let type = type_ok levels old way.0 first sound (read_byte old way.0 first way.3 way.1) kind code allowed in
       record { mid = way.0; type = rw (type, code) (ap (λ (p : ℤ). (Ok (kind, p), way.0)) (sym precision)); byte = read_byte way.0 new metadata way.4 way.2; start = at }
 
@@ -133,7 +133,7 @@ begins_goes_on begun depth before now sound begins answer new e =
     let n = begun.metadata in
     let levels = deepest - depth in
     let full : depth + levels ≡ deepest = omega (arith, begins.allowed.0, begins.allowed.1) in
-    let has = has_begun levels t m before now sound begins.bytes begins.moved begun.kind begun.xy begun.start (kind_of_code-code_of (t % 16) begun.kind begins.kind) (allowed_with deepest levels depth begun.kind full begins.allowed) begins.precision begins.start in
+    let has = first_two_read levels t m before now sound begins.bytes begins.moved begun.kind begun.xy begun.start (kind_of_code-code_of (t % 16) begun.kind begins.kind) (allowed_with deepest levels depth begun.kind full begins.allowed) begins.precision begins.start in
     let eight : m / 8 % 2 ≡ n / 8 % 2 = omega (arith, begins.announced) in
     let two : m / 2 % 2 ≡ n / 2 % 2 = omega (arith, begins.announced) in
     let one : m / 1 % 2 ≡ n / 1 % 2 = omega (arith, begins.announced) in

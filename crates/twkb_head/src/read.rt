@@ -9,7 +9,7 @@ ghost use Rattle.twkb_head.specs.Head.{StartsWithHeader, IsHeadAt};
 ghost use Rattle.twkb_head.specs.Refusal.{IsRefusedHead, looked_at_until};
 ghost use Rattle.twkb_head.specs.Devices.HeadReader.{byte_at, head_at, rest_at};
 ghost use Rattle.twkb_head.specs.Shared.Reader.{number_at, optional_at};
-ghost use Rattle.twkb_head.specs.Devices.Raw.{head_result, HasBegun};
+ghost use Rattle.twkb_head.specs.Devices.Raw.{head_result, ReadsFirstTwo};
 ghost use Rattle.twkb_head.specs.Raw.{HavePrecisions, head_said, BeginsHead, ReadsHead};
 ghost use Rattle.twkb_head.specs.Header.{has_bit, code_of};
 
@@ -169,7 +169,7 @@ fn take_head(cursor: &mut Cursor, depth: u8) -> Result<Fields, Malformed>
 #[tactic(auto, unfolding(crate::specs::Devices::HeadReader::head_at))]
 fn take_begun(cursor: &mut Cursor, depth: u8) -> Result<Begun, Malformed>
     requires { depth ≤ deepest }
-    ensures ok { IfOk result (λ begun. HasBegun (deepest - depth) begun cursor.old cursor.new) }
+    ensures ok { IfOk result (λ begun. ReadsFirstTwo (deepest - depth) begun cursor.old cursor.new) }
     ensures err { IfErr result (λ m. head_at (deepest - depth) cursor.old ≡ (Err m, cursor.new)) }
     ensures xy { IfOk result (λ begun. IsPrecision begun.xy) }
 {

@@ -59,8 +59,8 @@ ReadsBoxIf announced has_z has_m result old new =
     (xy : ℤ) (z m : Option ℕ) → is_some z ≡ has_z → is_some m ≡ has_m
     → optional_at announced (bounds_from xy z m) old ≡ (bounds_result_if xy z m result, new)
 
--- A header was begun, by its first two bytes.
-pub record HasBegun (levels : ℕ) (begun : Begun) (before now : Reading) : Type 0 where
+-- the first two bytes of a header were read, one after the other
+pub record ReadsFirstTwo (levels : ℕ) (begun : Begun) (before now : Reading) : Type 0 where
   pub mid : Reading
   pub type : kind_from_type levels before ≡ (Ok (begun.kind, begun.xy), mid)
   pub byte : byte_at mid ≡ (Ok begun.metadata, now)
