@@ -34,7 +34,8 @@ bounds_result xy z m (Ok box) = Ok (raw_bounds xy z m box)
 bounds_result xy z m (Err w) = Err w
 
 -- a box in units, where there is one, or the fault
-abbrev pub bounds_result_if : ℤ → Option ℕ → Option ℕ → Result (Option RawBox) Malformed → Result (Option Bounds) Malformed
+abbrev pub bounds_result_if : ℤ → Option ℕ → Option ℕ → Result (Option RawBox) Malformed
+    → Result (Option Bounds) Malformed
 bounds_result_if xy z m (Ok box) = Ok (option_map (raw_bounds xy z m) box)
 bounds_result_if xy z m (Err w) = Err w
 
