@@ -1,7 +1,6 @@
 -- The reader of blobs agrees with the definitions, and the laws of blobs.
-use Rattle.std.proofs.Common.{◌≡◌, ◌≢◌, ℕ, zero, suc, ◌+◌, ◌-◌, ◌%◌, ◌≤◌, Bool, true, false, cond, List, [], ◌∷◌, ◌++◌, Option, Some, None, Result, Ok, Err, ◌⊎◌, inl, inr, ⊎_elim, refl, sym, ap, subst, ◌∙◌, arith}
+use Rattle.std.proofs.Common.{◌≡◌, ◌≢◌, ℕ, zero, suc, ◌+◌, ◌-◌, ◌%◌, ◌≤◌, Bool, true, false, cond, List, [], ◌∷◌, ◌++◌, Some, None, Result, Ok, Err, ◌⊎◌, inl, inr, ⊎_elim, refl, sym, ap, subst, ◌∙◌, arith}
 use Rattle.std.proofs.lemmas.List.{append-nil, append_cancel_right}
-use Rattle.twkb_head.specs.declared.kinds.Kind.{Kind}
 use Rattle.twkb_head.specs.declared.kinds.Kind.TheVariants.{GeometryCollection}
 use Rattle.twkb_head.specs.declared.refusal.Why.{Why}
 use Rattle.twkb_head.specs.declared.refusal.Why.TheVariants.{Cut, Varint, Kind as BadKind, Depth, Range}
@@ -10,7 +9,8 @@ use Rattle.twkb_head.specs.BegunHeader.{Field, type_field, byte_field, number_fi
 use Rattle.twkb_head.specs.Shared.Plan.{Request, type_byte, byte, number, coordinate, field_of, judge, judge_kind, kind_of_code, cut_byte, cut_field}
 use Rattle.twkb_head.proofs.Spelling.{Fault, fault}
 use Rattle.twkb_head.proofs.FieldCuts.{ok_is, err_is, byte_fails, number_fails, cut_off, too_long}
-use Rattle.twkb_head.proofs.Heads.{no_kind, code_kind, kind_code}
+use Rattle.twkb_head.proofs.HeadLaws.{kind_fails}
+use Rattle.twkb_head.proofs.Heads.{kind_code}
 use Rattle.twkb_head.proofs.HeadBack.{none_kind}
 use Rattle.twkb_head.proofs.Plans.{IsViableIn, IsRefused, no_field, no_value, run_takes, run_again, run_stops, run_fails, run_goes_on, run_uncut, run_refused, run_judged}
 use Rattle.twkb_body.specs.Geometry.{Geometry}
@@ -88,14 +88,6 @@ module _ (levels depth : ℕ) (deep : depth + levels ≡ deepest) (some : 1 ≤ 
 top : PlanLaws (geometry_plan (deepest - 1)) (λ g front. Blob g front 1) (IsBegun 1)
 top = laws (deepest - 1) 1 from_top (omega arith)
 
-code_is : (levels : ℕ) (t : ℕ) (o : Option Kind) (why : Why) → kind_of_code (t % 16) ≡ o → judge_kind levels o ≡ Some why
-    → ((why ≡ BadKind) × ((t % 16 ≡ 0) ⊎ (8 ≤ t % 16))) ⊎ ((why ≡ Depth) × (t % 16 ≡ 7))
-code_is levels t None why e j = inl (cc (j), no_kind (t % 16) e)
-code_is zero t (Some GeometryCollection) why e j = inr (cc (j), code_kind (t % 16) GeometryCollection e)
-code_is (suc levels) t (Some GeometryCollection) why e j = absurd (cc (j))
-code_is zero t (Some _) why e j = absurd (cc (j))
-code_is (suc levels) t (Some _) why e j = absurd (cc (j))
-
 out_of_range : (b : Bool) (why : Why) → cond b None (Some Range) ≡ Some why → why ≡ Range
 out_of_range true why e = absurd (cc (e))
 out_of_range false why e = cc (e)
@@ -122,7 +114,7 @@ wrong_value (type_byte levels) why p front behind f parts (b, e) bad none =
     (λ (c : (why ≡ BadKind) × ((b % 16 ≡ 0) ⊎ (8 ≤ b % 16))). subst (λ (w : Why). IsWrong w type_field p f) (sym c.0) (b, behind, whole, c.1))
     (λ (c : (why ≡ Depth) × (b % 16 ≡ 7)). subst (λ (w : Why). IsWrong w type_field p f) (sym c.0)
     (b, behind, whole, (c.1, subst (λ (z : List ℕ). IsViable (p ++ z) → ⊥) e none)))
-    (code_is levels b (kind_of_code (b % 16)) why refl (subst (λ (z : List ℕ). judge (type_byte levels) z ≡ Some why) e bad))
+    (kind_fails levels b (kind_of_code (b % 16)) why refl (subst (λ (z : List ℕ). judge (type_byte levels) z ≡ Some why) e bad))
   where
     whole : f ≡ b ∷ behind
     whole = parts ∙ ap (λ (z : List ℕ). z ++ behind) e

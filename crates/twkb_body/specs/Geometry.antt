@@ -1,6 +1,6 @@
 -- A geometry as a value: a tree of headers, with absolute coordinates and the lengths of its parts in bytes.
-use Rattle.std.specs.Prelude.{ℕ, suc, ◌≤◌, IfSome, List, [], ◌++◌, map, flat_map, slice_get, ℤ, pos, Option, unwrap_or, option_map}
-use Rattle.twkb_num.specs.Units.{units_of, IsPrecision}
+use Rattle.std.specs.Prelude.{ℕ, suc, List, [], ◌++◌, map, flat_map, slice_get, ℤ, pos, Option, unwrap_or, option_map}
+use Rattle.twkb_num.specs.Units.{units_of}
 use Rattle.twkb_head.specs.Header.{Header}
 use Rattle.twkb_head.specs.declared.raw.Axes.{Axes}
 use Rattle.twkb_head.specs.Head.{m_axis}
@@ -65,10 +65,6 @@ vertex_of h point = record {
   z = option_map (λ p. units_of (coordinate point 2) (pos p)) h.z;
   m = option_map (λ p. units_of (coordinate point (m_axis h.z)) (pos p)) h.m;
 }
-
--- each precision is in its range
-abbrev pub HavePrecisions : Axes → Type 0
-HavePrecisions axes = IsPrecision axes.xy × IfSome axes.z (λ p. p ≤ 7) × IfSome axes.m (λ p. p ≤ 7)
 
 -- like `vertex_of`, by the precisions alone instead of a header
 abbrev pub vertex_at : Axes → PointValue → Vertex

@@ -4,7 +4,7 @@ ghost use Rattle.std.specs.Prelude.{◌≡◌, true, None};
 ghost use Rattle.twkb_head.specs.declared.kinds.Kind.TheVariants.{Point, LineString};
 ghost use Rattle.twkb_head.specs.BegunHeader.{is_collection};
 ghost use Rattle.twkb_num.specs.Units.{IsPrecision};
-ghost use Rattle.twkb_body.specs.Geometry.{HavePrecisions};
+ghost use Rattle.twkb_head.specs.Raw.{HavePrecisions};
 ghost use Rattle.twkb_body.specs.Devices.Skimmed.{IsBehind, IsThere, Enters, flat_axes};
 
 use crate::lists::pass_list;

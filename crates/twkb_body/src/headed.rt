@@ -2,8 +2,8 @@
 ghost use Rattle.std.specs.Prelude.{◌≡◌, ℕ, ◌+◌, ◌≤◌, fold};
 ghost use Rattle.twkb_num.specs.Cursor.{Reading, added};
 ghost use Rattle.twkb_num.specs.Units.{IsPrecision};
-ghost use Rattle.twkb_head.specs.Raw.{head_said};
-ghost use Rattle.twkb_body.specs.Geometry.{Geometry, HavePrecisions, lengths_of, vertices};
+ghost use Rattle.twkb_head.specs.Raw.{HavePrecisions, head_said};
+ghost use Rattle.twkb_body.specs.Geometry.{Geometry, lengths_of, vertices};
 ghost use Rattle.twkb_body.specs.Standing.{StandsAt, head_standing};
 ghost use Rattle.twkb_body.specs.Devices.Skimmed.{HasCome, HasRead, skimmed};
 ghost use Rattle.twkb_body.specs.Visit.{walk, bytes_to_pass};

@@ -2,9 +2,9 @@
 ghost use Rattle.std.specs.Prelude.{◌≡◌, ℕ, ◌+◌, ◌<◌, ◌^◌, true, None, IfSome};
 ghost use Rattle.twkb_num.specs.Units.{IsPrecision};
 ghost use Rattle.twkb_head.specs.declared.kinds.Kind.TheVariants.{Point};
-ghost use Rattle.twkb_body.specs.Geometry.{Geometry, HavePrecisions};
+ghost use Rattle.twkb_body.specs.Geometry.{Geometry};
 ghost use Rattle.twkb_body.specs.Devices.Skimmed.{hop_of, Entered, HasCome, HasRead, IsThere, Enters};
-ghost use Rattle.twkb_head.specs.Raw.{head_said, flat_box, raw_bounds, IsNear};
+ghost use Rattle.twkb_head.specs.Raw.{HavePrecisions, head_said, flat_box, raw_bounds, IsNear};
 ghost use Rattle.twkb_body.specs.Standing.{StandsAt};
 
 use crate::body::{enter_deep_body, enter_flat, enter_point};

@@ -2,10 +2,10 @@
 use Rattle.std.proofs.Common.{◌≡◌, ℕ, ℤ, pos, Bool, true, false, ◌&&◌, ◌||◌, Option, Some, None, is_some, Result, Ok, Err, refl, ap, ◌∙◌}
 use Rattle.twkb_num.specs.Cursor.{Reading}
 use Rattle.twkb_head.specs.Head.{span_at}
-use Rattle.twkb_head.specs.Raw.{ends_of, raw_bounds}
+use Rattle.twkb_head.specs.Raw.{ends_of, zero_range, raw_bounds}
 use Rattle.twkb_head.specs.Shared.Reader.{Answer, Reader, ◌>>=◌, viewed, range_from}
 use Rattle.twkb_head.specs.Devices.HeadReader.{axis_from, bounds_from, two_ranges_from}
-use Rattle.twkb_head.specs.Devices.Raw.{IsRangeIf, both_ended, in_units}
+use Rattle.twkb_head.specs.Devices.Raw.{IsRangeIf, two_ranges_result, bounds_result}
 use Rattle.twkb_head.specs.declared.boxes.Bounds.{Bounds}
 use Rattle.twkb_head.specs.declared.boxes.Span.{Span}
 use Rattle.twkb_head.specs.declared.raw.RawBox.{RawBox}
@@ -40,7 +40,7 @@ module _ (xy : ℤ) (z m : Option ℕ) where
       first (Ok x, a) = second x (range_from a)
       first (Err w, a) = refl
 
-  pub flat_first : (r b : Reading) (both : Result (RawRange × RawRange) Malformed) → two_ranges_from r ≡ (both_ended both, b) → bounds_from xy z m r ≡ box_after xy z m both b
+  pub flat_first : (r b : Reading) (both : Result (RawRange × RawRange) Malformed) → two_ranges_from r ≡ (two_ranges_result both, b) → bounds_from xy z m r ≡ box_after xy z m both b
   flat_first r b (Ok both) read = by_two r ∙ ap go_on read
   flat_first r b (Err w) read = by_two r ∙ ap go_on read
 
@@ -72,17 +72,17 @@ module _ (xy : ℤ) (p q : ℕ) (x y : RawRange) where
       first (Err w, c) = refl
 
   -- the whole box, or the fault of one of its last ranges
-  pub four_read : (r b c : Reading) (third fourth : RawRange) → bounds_from xy (Some p) (Some q) r ≡ box_after xy (Some p) (Some q) (Ok (x, y)) b → two_ranges_from b ≡ (both_ended (Ok (third, fourth)), c)
-      → bounds_from xy (Some p) (Some q) r ≡ (in_units xy (Some p) (Some q) (Ok (box_of third fourth)), c)
+  pub four_read : (r b c : Reading) (third fourth : RawRange) → bounds_from xy (Some p) (Some q) r ≡ box_after xy (Some p) (Some q) (Ok (x, y)) b → two_ranges_from b ≡ (two_ranges_result (Ok (third, fourth)), c)
+      → bounds_from xy (Some p) (Some q) r ≡ (bounds_result xy (Some p) (Some q) (Ok (box_of third fourth)), c)
   four_read r b c third fourth flat read = flat ∙ by_two_more b ∙ ap all read
 
-  pub four_stop : (r b c : Reading) (w : Malformed) → bounds_from xy (Some p) (Some q) r ≡ box_after xy (Some p) (Some q) (Ok (x, y)) b → two_ranges_from b ≡ (both_ended (Err w), c)
-      → bounds_from xy (Some p) (Some q) r ≡ (in_units xy (Some p) (Some q) (Err w), c)
+  pub four_stop : (r b c : Reading) (w : Malformed) → bounds_from xy (Some p) (Some q) r ≡ box_after xy (Some p) (Some q) (Ok (x, y)) b → two_ranges_from b ≡ (two_ranges_result (Err w), c)
+      → bounds_from xy (Some p) (Some q) r ≡ (bounds_result xy (Some p) (Some q) (Err w), c)
   four_stop r b c w flat read = flat ∙ by_two_more b ∙ ap all read
 
 -- a box of all four axes, whatever their precisions
 pub both_there : (xy : ℤ) (z m : Option ℕ) (r b : Reading) (box : Result RawBox Malformed) → (is_some z && is_some m) ≡ true
-    → ((p q : ℕ) → bounds_from xy (Some p) (Some q) r ≡ (in_units xy (Some p) (Some q) box, b)) → bounds_from xy z m r ≡ (in_units xy z m box, b)
+    → ((p q : ℕ) → bounds_from xy (Some p) (Some q) r ≡ (bounds_result xy (Some p) (Some q) box, b)) → bounds_from xy z m r ≡ (bounds_result xy z m box, b)
 both_there xy (Some p) (Some q) r b box e read = read p q
 both_there xy (Some p) None r b box e read = absurd (cc (e))
 both_there xy None m r b box e read = absurd (cc (e))
@@ -104,6 +104,6 @@ third_stop xy (Some p) None x y r b c w some one flat read = flat ∙ rw read re
 third_stop xy (Some p) (Some q) x y r b c w some one flat read = absurd (cc (one))
 
 -- an axis that isn't there has no range to read
-pub none_left : (there : Bool) (r : Reading) → there ≡ false → IsRangeIf there (record { minimum = pos 0; extent = pos 0 }) r r
-none_left false r e = (refl, refl)
-none_left true r e = absurd (cc (e))
+pub absent_range : (there : Bool) (r : Reading) → there ≡ false → IsRangeIf there zero_range r r
+absent_range false r e = (refl, refl)
+absent_range true r e = absurd (cc (e))

@@ -6,7 +6,7 @@ use Rattle.std.proofs.lemmas.Grind.{common_steps}
 use Rattle.std.proofs.lemmas.List.Elements.{All-cons, All-nil, All-head, All-tail}
 use Rattle.twkb_head.specs.declared.refusal.Why.{Why}
 use Rattle.twkb_head.specs.declared.refusal.Why.TheVariants.{Cut, Varint}
-use Rattle.twkb_num.specs.Varint.{Spells, IsCut as IsCutOff, IsLong}
+use Rattle.twkb_num.specs.Varint.{Spells, IsCut, IsLong}
 use Rattle.twkb_head.specs.BegunHeader.{Field, type_field, byte_field, number_field, coordinate_field, IsField}
 use Rattle.twkb_head.specs.Shared.Plan.{cut_varint, cut_byte, cut_field, push_byte}
 use Rattle.twkb_num.proofs.SpellingForms.{varint_value, IsVarintForm, Spells-form, Spells-value, form_spells}
@@ -31,12 +31,12 @@ unfolding limit
 limit-9 = refl
 
 -- one varint of at most room + 1 bytes
-record IsShort (room : ℕ) (bytes : List ℕ) : Type 0 where
+record IsVarintWithin (room : ℕ) (bytes : List ℕ) : Type 0 where
   form : IsVarintForm bytes
   short : length bytes ≤ suc room
   fits : varint_value bytes < limit room
 
-varint_again : (room : ℕ) (front rest : List ℕ) → IsShort room front → cut_varint room (front ++ rest) ≡ Ok (front, rest)
+varint_again : (room : ℕ) (front rest : List ℕ) → IsVarintWithin room front → cut_varint room (front ++ rest) ≡ Ok (front, rest)
 unfolding limit
 varint_again zero [] rest s = absurd s.form
 varint_again (suc room) [] rest s = absurd s.form
@@ -54,19 +54,19 @@ varint_again (suc room) (b ∷ c ∷ bs) rest s =
     rw e (rw again refl)
 
 -- the bytes are a front of which P holds, and the rest
-record IsCut (P : List ℕ → Type 0) (bytes front rest : List ℕ) : Type 0 where
+record IsSplit (P : List ℕ → Type 0) (bytes front rest : List ℕ) : Type 0 where
   parts : bytes ≡ front ++ rest
   is : P front
 
-IsShort-more : (room b : ℕ) (front : List ℕ) → 128 ≤ b → IsShort room front → IsShort (suc room) (b ∷ front)
+IsVarintWithin-more : (room b : ℕ) (front : List ℕ) → 128 ≤ b → IsVarintWithin room front → IsVarintWithin (suc room) (b ∷ front)
 unfolding limit
-IsShort-more room b [] big s = absurd s.form
-IsShort-more room b (c ∷ bs) big s = record { form = (big, s.form); short = omega (arith, s.short); fits = omega (arith, s.fits) }
+IsVarintWithin-more room b [] big s = absurd s.form
+IsVarintWithin-more room b (c ∷ bs) big s = record { form = (big, s.form); short = omega (arith, s.short); fits = omega (arith, s.fits) }
 
 Cuts : ℕ → List ℕ → Type 0
-Cuts room bytes = (x : List ℕ × List ℕ) → cut_varint room bytes ≡ Ok x → IsCut (IsShort room) bytes x.0 x.1
+Cuts room bytes = (x : List ℕ × List ℕ) → cut_varint room bytes ≡ Ok x → IsSplit (IsVarintWithin room) bytes x.0 x.1
 
-one_short : (room b : ℕ) → b < 128 → b < limit room → IsShort room (b ∷ [])
+one_short : (room b : ℕ) → b < 128 → b < limit room → IsVarintWithin room (b ∷ [])
 one_short room b small fits = record { form = small; short = omega arith; fits = omega arith }
 
 limit-big : (room : ℕ) → 128 ≤ limit (suc room)
@@ -80,24 +80,24 @@ varint_takes zero [] x e = absurd (cc)
 varint_takes (suc room) [] x e = absurd (cc)
 varint_takes zero (b ∷ bs) x e = go (nat_lt b 2) refl e
   where
-    go : (t : Bool) → nat_lt b 2 ≡ t → cond {A = Pieces} t (Ok (b ∷ [], bs)) (Err Varint) ≡ Ok x → IsCut (IsShort zero) (b ∷ bs) x.0 x.1
+    go : (t : Bool) → nat_lt b 2 ≡ t → cond {A = Pieces} t (Ok (b ∷ [], bs)) (Err Varint) ≡ Ok x → IsSplit (IsVarintWithin zero) (b ∷ bs) x.0 x.1
     go true small e =
         let fits : b < 2 = ltb-true b 2 small in
-        subst (λ (y : List ℕ × List ℕ). IsCut (IsShort zero) (b ∷ bs) y.0 y.1) (ok_is _ _ e)
+        subst (λ (y : List ℕ × List ℕ). IsSplit (IsVarintWithin zero) (b ∷ bs) y.0 y.1) (ok_is _ _ e)
         (record { parts = refl; is = one_short zero b (omega arith) (omega arith) })
     go false big e = absurd (cc)
 varint_takes (suc room) (b ∷ bs) x e = go (nat_lt b 128) refl (cut_varint room bs) (varint_takes room bs) e
   where
-    go : (t : Bool) → nat_lt b 128 ≡ t → (r : Pieces) → ((x : List ℕ × List ℕ) → r ≡ Ok x → IsCut (IsShort room) bs x.0 x.1)
-        → cond {A = Pieces} t (Ok (b ∷ [], bs)) (push_byte b r) ≡ Ok x → IsCut (IsShort (suc room)) (b ∷ bs) x.0 x.1
+    go : (t : Bool) → nat_lt b 128 ≡ t → (r : Pieces) → ((x : List ℕ × List ℕ) → r ≡ Ok x → IsSplit (IsVarintWithin room) bs x.0 x.1)
+        → cond {A = Pieces} t (Ok (b ∷ [], bs)) (push_byte b r) ≡ Ok x → IsSplit (IsVarintWithin (suc room)) (b ∷ bs) x.0 x.1
     go true small r ih e =
         let fits : b < 128 = ltb-true b 128 small in
-        subst (λ (y : List ℕ × List ℕ). IsCut (IsShort (suc room)) (b ∷ bs) y.0 y.1) (ok_is _ _ e)
+        subst (λ (y : List ℕ × List ℕ). IsSplit (IsVarintWithin (suc room)) (b ∷ bs) y.0 y.1) (ok_is _ _ e)
         (record { parts = refl; is = one_short (suc room) b fits (omega (arith, limit-big room)) })
     go false big (Ok y) ih e =
         let first = ih y refl in
-        subst (λ (y : List ℕ × List ℕ). IsCut (IsShort (suc room)) (b ∷ bs) y.0 y.1) (ok_is _ _ e)
-        (record { parts = ap (λ (zs : List ℕ). b ∷ zs) first.parts; is = IsShort-more room b y.0 (ltb-false b 128 big) first.is })
+        subst (λ (y : List ℕ × List ℕ). IsSplit (IsVarintWithin (suc room)) (b ∷ bs) y.0 y.1) (ok_is _ _ e)
+        (record { parts = ap (λ (zs : List ℕ). b ∷ zs) first.parts; is = IsVarintWithin-more room b y.0 (ltb-false b 128 big) first.is })
     go false big (Err w) ih e = absurd (cc)
 
 -- why no varint can be cut off
@@ -127,11 +127,11 @@ varint_fails (suc room) (b ∷ bs) why e = go (nat_lt b 128) refl (cut_varint ro
         inr (c.0, omega (arith, c.1), All-cons (λ b. 128 ≤ b) b (take room bs) (ltb-false b 128 big) c.2, c.3))
         (ih why e)
 
-Spells-short : (front : List ℕ) → IsShort 9 front → Spells front (varint_value front)
+Spells-short : (front : List ℕ) → IsVarintWithin 9 front → Spells front (varint_value front)
 unfolding limit
 Spells-short front s = form_spells front (varint_value front) s.form (omega (arith, s.short)) refl (omega (arith, s.fits))
 
-short_spells : (front : List ℕ) (n : ℕ) → Spells front n → IsShort 9 front
+short_spells : (front : List ℕ) (n : ℕ) → Spells front n → IsVarintWithin 9 front
 unfolding limit
 short_spells front n s = record { form = Spells-form front n s; short = s.few; fits = omega (arith, Spells-value front n s, s.fits) }
 
@@ -149,19 +149,19 @@ field_again byte_field front rest h = byte_again front rest h
 field_again number_field front rest h = varint_again_9 front rest h.0 h.1
 field_again coordinate_field front rest h = varint_again_9 front rest h.0 h.1
 
-IsCut-field : (P Q : List ℕ → Type 0) → ((front : List ℕ) → P front → Q front) → (bytes front rest : List ℕ) → IsCut P bytes front rest → IsCut Q bytes front rest
-IsCut-field P Q h bytes front rest c = record { parts = c.parts; is = h front c.is }
+IsSplit-field : (P Q : List ℕ → Type 0) → ((front : List ℕ) → P front → Q front) → (bytes front rest : List ℕ) → IsSplit P bytes front rest → IsSplit Q bytes front rest
+IsSplit-field P Q h bytes front rest c = record { parts = c.parts; is = h front c.is }
 
-byte_takes : (bytes : List ℕ) (x : List ℕ × List ℕ) → cut_byte bytes ≡ Ok x → IsCut (λ front. (b : ℕ) × (front ≡ b ∷ [])) bytes x.0 x.1
+byte_takes : (bytes : List ℕ) (x : List ℕ × List ℕ) → cut_byte bytes ≡ Ok x → IsSplit (λ front. (b : ℕ) × (front ≡ b ∷ [])) bytes x.0 x.1
 byte_takes [] x e = absurd (cc)
-byte_takes (b ∷ bs) x e = subst (λ (y : List ℕ × List ℕ). IsCut (λ front. (b : ℕ) × (front ≡ b ∷ [])) (b ∷ bs) y.0 y.1) (ok_is _ _ e)
+byte_takes (b ∷ bs) x e = subst (λ (y : List ℕ × List ℕ). IsSplit (λ front. (b : ℕ) × (front ≡ b ∷ [])) (b ∷ bs) y.0 y.1) (ok_is _ _ e)
     (record { parts = refl; is = (b, refl) })
 
-number_takes : (bytes : List ℕ) (x : List ℕ × List ℕ) → cut_varint 9 bytes ≡ Ok x → IsCut (λ front. (n : ℕ) × Spells front n) bytes x.0 x.1
+number_takes : (bytes : List ℕ) (x : List ℕ × List ℕ) → cut_varint 9 bytes ≡ Ok x → IsSplit (λ front. (n : ℕ) × Spells front n) bytes x.0 x.1
 unfolding Cuts
-number_takes bytes x e = IsCut-field (IsShort 9) (λ front. (n : ℕ) × Spells front n) (λ front s. (varint_value front, Spells-short front s)) bytes x.0 x.1 (varint_takes 9 bytes x e)
+number_takes bytes x e = IsSplit-field (IsVarintWithin 9) (λ front. (n : ℕ) × Spells front n) (λ front s. (varint_value front, Spells-short front s)) bytes x.0 x.1 (varint_takes 9 bytes x e)
 
-field_cut : (f : Field) (bytes : List ℕ) (x : List ℕ × List ℕ) → cut_field f bytes ≡ Ok x → IsCut (IsField f) bytes x.0 x.1
+field_cut : (f : Field) (bytes : List ℕ) (x : List ℕ × List ℕ) → cut_field f bytes ≡ Ok x → IsSplit (IsField f) bytes x.0 x.1
 field_cut type_field bytes x e = byte_takes bytes x e
 field_cut byte_field bytes x e = byte_takes bytes x e
 field_cut number_field bytes x e = number_takes bytes x e
@@ -220,7 +220,7 @@ varint_long (suc room) (b ∷ f) long all last =
     let more : cut_varint room f ≡ Err Varint = varint_long room f (omega (arith, long)) (All-tail (λ b. 128 ≤ b) b (take room f) all) last in
     rw big (rw more refl)
 
-pub cut_off : (f : List ℕ) → IsCutOff f → cut_varint 9 f ≡ Err Cut
+pub cut_off : (f : List ℕ) → IsCut f → cut_varint 9 f ≡ Err Cut
 cut_off f h = varint_cuts 9 f (omega (arith, h.few)) (each_all f h.goes_on)
 
 pub too_long : (f : List ℕ) → IsLong f → cut_varint 9 f ≡ Err Varint
@@ -231,7 +231,7 @@ too_long f h = varint_long 9 f (omega (arith, h.ten))
     omega (arith, h.goes_on k (omega arith))))
     h.top
 
-pub number_fails : (f : List ℕ) (why : Why) → cut_varint 9 f ≡ Err why → ((why ≡ Cut) × IsCutOff f) ⊎ ((why ≡ Varint) × IsLong f)
+pub number_fails : (f : List ℕ) (why : Why) → cut_varint 9 f ≡ Err why → ((why ≡ Cut) × IsCut f) ⊎ ((why ≡ Varint) × IsLong f)
 unfolding IsUncut
 number_fails f why e = ⊎_elim
     (λ (c : (why ≡ Cut) × (length f ≤ 9) × All (λ b. 128 ≤ b) f). inl (c.0, record { few = omega (arith, c.1); goes_on = all_each f c.2 }))

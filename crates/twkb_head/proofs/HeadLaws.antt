@@ -28,15 +28,15 @@ use Rattle.twkb_head.proofs.Readings.{IsLooked, read_ok, read_err, ok_not_err}
 use Rattle.twkb_head.proofs.HeadRuns.{placed, head_runs}
 
 -- a header that was read, as the plan has it
-record IsRead (levels : ℕ) (r new : Reading) (head : Head) : Type 0 where
+record IsReadByPlan (levels : ℕ) (r new : Reading) (head : Head) : Type 0 where
   value : HeadValue
   is : read (head_plan levels) r ≡ (Ok value, new)
   same : head ≡ head_of value.header r.place (r.place + value.before) (r.place + value.before + value.size) new.place
 
-read_of : (levels : ℕ) (r new : Reading) (head : Head) → head_at levels r ≡ (Ok head, new) → IsRead levels r new head
+read_of : (levels : ℕ) (r new : Reading) (head : Head) → head_at levels r ≡ (Ok head, new) → IsReadByPlan levels r new head
 read_of levels r new head e = go (read (head_plan levels) r) refl (sym (head_runs levels r) ∙ e)
   where
-    go : (a : Answer HeadValue) → read (head_plan levels) r ≡ a → placed r a ≡ (Ok head, new) → IsRead levels r new head
+    go : (a : Answer HeadValue) → read (head_plan levels) r ≡ a → placed r a ≡ (Ok head, new) → IsReadByPlan levels r new head
     go (Ok x, a) is e =
         let left : a ≡ new = ap (λ (z : Answer Head). z.1) e in
         let made : head_of x.header r.place (r.place + x.before) (r.place + x.before + x.size) a.place ≡ head = ok_is {A = Head} {E = Malformed} _ _ (ap (λ (z : Answer Head). z.0) e) in
@@ -62,13 +62,14 @@ head_placed : (head : Head) (h : Header) (start a b c a' b' c' : ℕ) → head �
 head_placed head h start a b c a' b' c' e x y z = e ∙ (λ j. head_of h start (x j) (y j) (z j))
 
 -- ---- what is wrong with a field
-code_is : (levels : ℕ) (t : ℕ) (o : Option KindOf) (why : Why) → kind_of_code (t % 16) ≡ o → judge_kind levels o ≡ Some why
+-- a type byte that is refused names no kind, or a collection that is too deep
+pub kind_fails : (levels : ℕ) (t : ℕ) (o : Option KindOf) (why : Why) → kind_of_code (t % 16) ≡ o → judge_kind levels o ≡ Some why
     → ((why ≡ Kind) × ((t % 16 ≡ 0) ⊎ (8 ≤ t % 16))) ⊎ ((why ≡ Depth) × (t % 16 ≡ 7))
-code_is levels t None why e j = inl (cc (j), no_kind (t % 16) e)
-code_is zero t (Some GeometryCollection) why e j = inr (cc (j), code_kind (t % 16) GeometryCollection e)
-code_is (suc levels) t (Some GeometryCollection) why e j = absurd (cc (j))
-code_is zero t (Some _) why e j = absurd (cc (j))
-code_is (suc levels) t (Some _) why e j = absurd (cc (j))
+kind_fails levels t None why e j = inl (cc (j), no_kind (t % 16) e)
+kind_fails zero t (Some GeometryCollection) why e j = inr (cc (j), code_kind (t % 16) GeometryCollection e)
+kind_fails (suc levels) t (Some GeometryCollection) why e j = absurd (cc (j))
+kind_fails zero t (Some _) why e j = absurd (cc (j))
+kind_fails (suc levels) t (Some _) why e j = absurd (cc (j))
 
 no_coordinate : (limit depth : ℕ) (p : List ℕ) (due : Field) → IsBegunHeader limit depth p due → due ≡ coordinate_field → ⊥
 no_coordinate limit depth p due (type_due e is) h = absurd (cc (is, h))
@@ -112,7 +113,7 @@ module _ (limit levels depth : ℕ) (deep : depth + levels ≡ limit) (some : 1 
           )),
         ),
       ))
-      (code_is l b (kind_of_code (b % 16)) why refl (subst (λ (z : List ℕ). judge (type_byte l) z ≡ Some why) e bad))
+      (kind_fails l b (kind_of_code (b % 16)) why refl (subst (λ (z : List ℕ). judge (type_byte l) z ≡ Some why) e bad))
     where
       whole : f ≡ b ∷ behind
       whole = parts ∙ ap (λ (z : List ℕ). z ++ behind) e
@@ -130,12 +131,12 @@ module _ (limit levels depth : ℕ) (deep : depth + levels ≡ limit) (some : 1 
       (wrong_value q why p front behind f (subst (IsBegunHeader limit depth p) is begun) parts (subst (λ (d : Field). IsField d front) is field) bad none)
 
 -- how many bytes the fault showed
-looked_same : (why : Why) (f : List ℕ) (n : ℕ) → (why ≡ Range → ⊥) → IsLooked why f n → n ≡ looked_at_field why f
-looked_same Cut f n none h = h
-looked_same Varint f n none h = h
-looked_same Kind f n none h = h
-looked_same Depth f n none h = h
-looked_same Range f n none h = absurd (none refl)
+looked_at_same : (why : Why) (f : List ℕ) (n : ℕ) → (why ≡ Range → ⊥) → IsLooked why f n → n ≡ looked_at_field why f
+looked_at_same Cut f n none h = h
+looked_at_same Varint f n none h = h
+looked_at_same Kind f n none h = h
+looked_at_same Depth f n none h = h
+looked_at_same Range f n none h = absurd (none refl)
 
 no_range : (limit depth : ℕ) (why : Why) (due : Field) (f : List ℕ) → IsWrongField limit depth why due f → why ≡ Range → ⊥
 no_range limit depth why due f h e = never limit depth due f (subst (λ (w : Why). IsWrongField limit depth w due f) e h)
@@ -217,7 +218,7 @@ module _ (depth : ℕ) (some : 1 ≤ depth) (deep : depth ≤ deepest) (r new : 
       let failed = run_fails (head_plan (deepest - depth)) (rest r) m.why bad.due (drop m.offset r.bytes) bad.is in
       let begun = laws.stops failed.p bad.due failed.stops in
       let wrong = wrong_of deepest (deepest - depth) depth sum some failed.p m.why bad.due (drop m.offset r.bytes) begun failed.refused in
-      let looked : bad.looked ≡ looked_at_field m.why (drop m.offset r.bytes) = looked_same m.why (drop m.offset r.bytes) bad.looked (no_range deepest depth m.why bad.due (drop m.offset r.bytes) wrong) bad.looked_is in
+      let looked : bad.looked ≡ looked_at_field m.why (drop m.offset r.bytes) = looked_at_same m.why (drop m.offset r.bytes) bad.looked (no_range deepest depth m.why bad.due (drop m.offset r.bytes) wrong) bad.looked_is in
       bad.left ∙ ap (λ (n : ℕ). record { bytes = r.bytes; place = m.offset; count = added r.count (m.offset - r.place + n) }) looked
 
   -- the clauses of a function that answers as the reader of headers does

@@ -111,25 +111,26 @@ bounds_runs xy (Some p) (Some q) r =
     range_last (λ rs. bounds_of xy (Some p) (Some q) (x ∷ y ∷ z ∷ rs)) (λ range. Some (span_at (pos q) range)) _ c (λ t. refl))))
 
 -- ---- places
+-- an answer that is a value leaves the place where it was or further
 abbrev pub Ahead : {A : Type 0} → Reading → Answer A → Type 0
 Ahead r (Ok x, a) = r.place ≤ a.place
 Ahead r (Err m, a) = Unit {0}
 
 -- an answer that is a value leaves the place one byte further
-abbrev pub One : {A : Type 0} → Reading → Answer A → Type 0
-One r (Ok x, a) = a.place ≡ r.place + 1
-One r (Err m, a) = Unit {0}
+abbrev pub OneFurther : {A : Type 0} → Reading → Answer A → Type 0
+OneFurther r (Ok x, a) = a.place ≡ r.place + 1
+OneFurther r (Err m, a) = Unit {0}
 
-further : {A : Type 0} (n : ℕ) (r : Reading) (a : Answer A) → Ahead (past n r) a → Ahead r a
-further n r (Ok x, a) h = omega (arith, h)
-further n r (Err m, a) h = tt
+ahead_further : {A : Type 0} (n : ℕ) (r : Reading) (a : Answer A) → Ahead (past n r) a → Ahead r a
+ahead_further n r (Ok x, a) h = omega (arith, h)
+ahead_further n r (Err m, a) h = tt
 
 pub read_ahead : {A : Type 0} (p : Plan A) (r : Reading) → Ahead r (read p r)
 read_ahead (done x) r = omega arith
 read_ahead {A} (ask q next) r = go (cut_field (field_of q) (rest r)) (λ front r. read_ahead (next front) r)
   where
     whole : (j : Option Why) (x : List ℕ × List ℕ) → ((front : List ℕ) (r : Reading) → Ahead r (read (next front) r)) → Ahead r (read_judged {A = A} j (length x.0) (read (next x.0)) r)
-    whole None x ih = further (length x.0) r (read (next x.0) (past (length x.0) r)) (ih x.0 (past (length x.0) r))
+    whole None x ih = ahead_further (length x.0) r (read (next x.0) (past (length x.0) r)) (ih x.0 (past (length x.0) r))
     whole (Some w) x ih = tt
 
     go : (c : Result (List ℕ × List ℕ) Why) → ((front : List ℕ) (r : Reading) → Ahead r (read (next front) r)) → Ahead r (read_field {A = A} q c (λ front. read (next front)) r)
@@ -159,21 +160,21 @@ read-measure {A} n (ask q next) r = go (cut_field (field_of q) (rest r)) (λ fro
     go (Ok x) ih = whole (judge q x.0) x ih
     go (Err w) ih = refl
 
-pub one_byte : (r : Reading) → One r (read byte_plan r)
+pub one_byte : (r : Reading) → OneFurther r (read byte_plan r)
 one_byte r = go (rest r)
   where
-    go : (bs : List ℕ) → One r (read_field {A = ℕ} byte (cut_byte bs) (λ (field : List ℕ). read (done (slice_index field 0))) r)
+    go : (bs : List ℕ) → OneFurther r (read_field {A = ℕ} byte (cut_byte bs) (λ (field : List ℕ). read (done (slice_index field 0))) r)
     go [] = tt
     go (y ∷ bs) = refl
 
-pub one_type : (levels : ℕ) (r : Reading) → One r (read (type_plan levels) r)
+pub one_type : (levels : ℕ) (r : Reading) → OneFurther r (read (type_plan levels) r)
 one_type levels r = go (rest r)
   where
-    whole : (y : ℕ) (j : Option Why) → One r (read_judged {A = ℕ} j 1 (read (done y)) r)
+    whole : (y : ℕ) (j : Option Why) → OneFurther r (read_judged {A = ℕ} j 1 (read (done y)) r)
     whole y None = refl
     whole y (Some w) = tt
 
-    go : (bs : List ℕ) → One r (read_field {A = ℕ} (type_byte levels) (cut_byte bs) (λ (field : List ℕ). read (done (slice_index field 0))) r)
+    go : (bs : List ℕ) → OneFurther r (read_field {A = ℕ} (type_byte levels) (cut_byte bs) (λ (field : List ℕ). read (done (slice_index field 0))) r)
     go [] = tt
     go (y ∷ bs) = whole y (judge (type_byte levels) (y ∷ []))
 
@@ -186,30 +187,32 @@ optional_ahead {A} true p r = go (read p r) (read_ahead p r)
     go (Err m, a) h = tt
 
 -- ---- the header
+-- the code's form of a header that was read from a place
 abbrev pub placed : Reading → Answer HeadValue → Answer Head
 placed r (Ok x, e) = (Ok (head_of x.header r.place (r.place + x.before) (r.place + x.before + x.size) e.place), e)
 placed r (Err m, e) = (Err m, e)
 
 module _ (r : Reading) (t metadata : ℕ) where
-  abbrev End : Option ℕ → Option ℕ → Reading → Reading → Option Bounds → Reader Head
-  End extended size c d bounds e = (Ok (head_with (kind_from t) (zigzag_value (t / 16)) metadata extended size bounds r.place c.place d.place e.place), e)
+  -- the header, where all its fields were read
+  abbrev head_end : Option ℕ → Option ℕ → Reading → Reading → Option Bounds → Reader Head
+  head_end extended size c d bounds e = (Ok (head_with (kind_from t) (zigzag_value (t / 16)) metadata extended size bounds r.place c.place d.place e.place), e)
 
   module _ (extended size : Option ℕ) (x y : ℕ) (c d : Reading) (at : r.place + (2 + x) ≡ c.place) (then : r.place + (2 + x) + y ≡ d.place) where
     boxed : (there : Bool) → placed r (viewed (head_from t metadata (extended, x) (size, y)) (optional_at there (read (box_plan (axes_with (z_in extended) (m_in extended)))) d))
-        ≡ (optional_at there (bounds_from (zigzag_value (t / 16)) (z_in extended) (m_in extended)) d >>= End extended size c d)
+        ≡ (optional_at there (bounds_from (zigzag_value (t / 16)) (z_in extended) (m_in extended)) d >>= head_end extended size c d)
     boxed false = ap₂ (λ (a b : ℕ). (Ok (head_with (kind_from t) (zigzag_value (t / 16)) metadata extended size None r.place a b d.place), d)) at then
     boxed true =
         ap (λ (q : Answer (List (ℤ × ℤ))). placed r (viewed (head_from t metadata (extended, x) (size, y)) (viewed Some q))) (read-box (axes_with (z_in extended) (m_in extended)) d)
         ∙ go (box_at (axes_with (z_in extended) (m_in extended)) d)
-        ∙ ap (λ (q : Answer Bounds). viewed Some q >>= End extended size c d) (bounds_runs (zigzag_value (t / 16)) (z_in extended) (m_in extended) d)
+        ∙ ap (λ (q : Answer Bounds). viewed Some q >>= head_end extended size c d) (bounds_runs (zigzag_value (t / 16)) (z_in extended) (m_in extended) d)
       where
         go : (q : Answer (List (ℤ × ℤ))) → placed r (viewed (head_from t metadata (extended, x) (size, y)) (viewed Some q))
-            ≡ (viewed Some (viewed (bounds_of (zigzag_value (t / 16)) (z_in extended) (m_in extended)) q) >>= End extended size c d)
+            ≡ (viewed Some (viewed (bounds_of (zigzag_value (t / 16)) (z_in extended) (m_in extended)) q) >>= head_end extended size c d)
         go (Ok rs, e) = ap₂ (λ (a b : ℕ). (Ok (head_with (kind_from t) (zigzag_value (t / 16)) metadata extended size (Some (bounds_of (zigzag_value (t / 16)) (z_in extended) (m_in extended) rs)) r.place a b e.place), e)) at then
         go (Err m, e) = refl
 
     after_size_runs : placed r (read (after_size t metadata (extended, x) (size, y)) d)
-        ≡ (optional_at (has_bit metadata 1) (bounds_from (zigzag_value (t / 16)) (z_in extended) (m_in extended)) d >>= End extended size c d)
+        ≡ (optional_at (has_bit metadata 1) (bounds_from (zigzag_value (t / 16)) (z_in extended) (m_in extended)) d >>= head_end extended size c d)
     after_size_runs =
         ap (placed r) (read-done (optional (has_bit metadata 1) (box_plan (axes_with (z_in extended) (m_in extended)))) (head_from t metadata (extended, x) (size, y)) d
         ∙ ap (viewed (head_from t metadata (extended, x) (size, y))) (read-optional (has_bit metadata 1) (box_plan (axes_with (z_in extended) (m_in extended))) d))
@@ -218,12 +221,12 @@ module _ (r : Reading) (t metadata : ℕ) where
   -- the fields after the extended dimensions
   sized : (extended : Option ℕ) (x : ℕ) (c : Reading) → r.place + (2 + x) ≡ c.place → (q : Answer (Option ℕ)) → Ahead c q
       → placed r (lengthened 0 c q >>= λ size. read (after_size t metadata (extended, x) size))
-      ≡ (q >>= λ size d. (optional_at (has_bit metadata 1) (bounds_from (zigzag_value (t / 16)) (z_in extended) (m_in extended)) d >>= End extended size c d))
+      ≡ (q >>= λ size d. (optional_at (has_bit metadata 1) (bounds_from (zigzag_value (t / 16)) (z_in extended) (m_in extended)) d >>= head_end extended size c d))
   sized extended x c at (Ok size, d) h = after_size_runs extended size x (0 + (d.place - c.place)) c d at (omega (arith, h, at))
   sized extended x c at (Err m, d) h = refl
 
   size_runs : (extended : Option ℕ) (x : ℕ) (c : Reading) → r.place + (2 + x) ≡ c.place → placed r (read (after_extended t metadata (extended, x)) c)
-      ≡ (optional_at (has_bit metadata 2) (read number_plan) c >>= λ size d. (optional_at (has_bit metadata 1) (bounds_from (zigzag_value (t / 16)) (z_in extended) (m_in extended)) d >>= End extended size c d))
+      ≡ (optional_at (has_bit metadata 2) (read number_plan) c >>= λ size d. (optional_at (has_bit metadata 1) (bounds_from (zigzag_value (t / 16)) (z_in extended) (m_in extended)) d >>= head_end extended size c d))
   size_runs extended x c at =
       ap (placed r) (read-bind (measure 0 (optional (has_bit metadata 2) number_plan)) (after_size t metadata (extended, x)) c
       ∙ ap (λ (q : Answer (Option ℕ × ℕ)). q >>= λ size. read (after_size t metadata (extended, x) size))
@@ -233,31 +236,33 @@ module _ (r : Reading) (t metadata : ℕ) where
   -- the fields after the metadata byte
   extended_with : (b : Reading) → r.place + 2 ≡ b.place → (q : Answer (Option ℕ)) → Ahead b q
       → placed r (lengthened 0 b q >>= λ extended. read (after_extended t metadata extended))
-      ≡ (q >>= λ extended c. (optional_at (has_bit metadata 2) (read number_plan) c >>= λ size d. (optional_at (has_bit metadata 1) (bounds_from (zigzag_value (t / 16)) (z_in extended) (m_in extended)) d >>= End extended size c d)))
+      ≡ (q >>= λ extended c. (optional_at (has_bit metadata 2) (read number_plan) c >>= λ size d. (optional_at (has_bit metadata 1) (bounds_from (zigzag_value (t / 16)) (z_in extended) (m_in extended)) d >>= head_end extended size c d)))
   extended_with b at (Ok extended, c) h = size_runs extended (0 + (c.place - b.place)) c (omega (arith, h, at))
   extended_with b at (Err m, c) h = refl
 
   extended_runs : (b : Reading) → r.place + 2 ≡ b.place → placed r (read (after_metadata t metadata) b)
-      ≡ (optional_at (has_bit metadata 8) (read byte_plan) b >>= λ extended c. (optional_at (has_bit metadata 2) (read number_plan) c >>= λ size d. (optional_at (has_bit metadata 1) (bounds_from (zigzag_value (t / 16)) (z_in extended) (m_in extended)) d >>= End extended size c d)))
+      ≡ (optional_at (has_bit metadata 8) (read byte_plan) b >>= λ extended c. (optional_at (has_bit metadata 2) (read number_plan) c >>= λ size d. (optional_at (has_bit metadata 1) (bounds_from (zigzag_value (t / 16)) (z_in extended) (m_in extended)) d >>= head_end extended size c d)))
   extended_runs b at =
       ap (placed r) (read-bind (measure 0 (optional (has_bit metadata 8) byte_plan)) (after_extended t metadata) b
       ∙ ap (λ (q : Answer (Option ℕ × ℕ)). q >>= λ extended. read (after_extended t metadata extended))
       (read-measure 0 (optional (has_bit metadata 8) byte_plan) b ∙ ap (lengthened 0 b) (read-optional (has_bit metadata 8) byte_plan b)))
       ∙ extended_with b at (optional_at (has_bit metadata 8) (read byte_plan) b) (optional_ahead (has_bit metadata 8) byte_plan b)
 
-abbrev Rest : Reading → ℕ → ℕ → Reader Head
-Rest r t metadata b =
-    optional_at (has_bit metadata 8) (read byte_plan) b >>= λ extended c. (optional_at (has_bit metadata 2) (read number_plan) c >>= λ size d. (optional_at (has_bit metadata 1) (bounds_from (zigzag_value (t / 16)) (z_in extended) (m_in extended)) d >>= End r t metadata extended size c d))
+-- the fields after the metadata byte
+abbrev rest_with : Reading → ℕ → ℕ → Reader Head
+rest_with r t metadata b =
+    optional_at (has_bit metadata 8) (read byte_plan) b >>= λ extended c. (optional_at (has_bit metadata 2) (read number_plan) c >>= λ size d. (optional_at (has_bit metadata 1) (bounds_from (zigzag_value (t / 16)) (z_in extended) (m_in extended)) d >>= head_end r t metadata extended size c d))
 
-metadata_with : (r a : Reading) (t : ℕ) → a.place ≡ r.place + 1 → (q : Answer ℕ) → One a q → placed r (q >>= λ metadata. read (after_metadata t metadata)) ≡ (q >>= Rest r t)
+metadata_with : (r a : Reading) (t : ℕ) → a.place ≡ r.place + 1 → (q : Answer ℕ) → OneFurther a q → placed r (q >>= λ metadata. read (after_metadata t metadata)) ≡ (q >>= rest_with r t)
 metadata_with r a t at (Ok metadata, b) h = extended_runs r t metadata b (omega (arith, at, h))
 metadata_with r a t at (Err m, b) h = refl
 
-abbrev named : Answer ℕ → Answer (Kind × ℤ)
-named q = viewed (λ t. (kind_from t, zigzag_value (t / 16))) q
+-- the kind and the precision of X and Y, of a type byte that was read
+abbrev kind_viewed : Answer ℕ → Answer (Kind × ℤ)
+kind_viewed q = viewed (λ t. (kind_from t, zigzag_value (t / 16))) q
 
-type_with : (levels : ℕ) (r : Reading) (q : Answer ℕ) → One r q
-    → placed r (q >>= λ t. read (after_type t)) ≡ (named q >>= λ type a. (read byte_plan a >>= λ metadata b. (optional_at (has_bit metadata 8) (read byte_plan) b >>= λ extended c. (optional_at (has_bit metadata 2) (read number_plan) c >>= λ size d. (optional_at (has_bit metadata 1) (bounds_from type.1 (z_in extended) (m_in extended)) d >>= λ bounds e. (Ok (head_with type.0 type.1 metadata extended size bounds r.place c.place d.place e.place), e))))))
+type_with : (levels : ℕ) (r : Reading) (q : Answer ℕ) → OneFurther r q
+    → placed r (q >>= λ t. read (after_type t)) ≡ (kind_viewed q >>= λ type a. (read byte_plan a >>= λ metadata b. (optional_at (has_bit metadata 8) (read byte_plan) b >>= λ extended c. (optional_at (has_bit metadata 2) (read number_plan) c >>= λ size d. (optional_at (has_bit metadata 1) (bounds_from type.1 (z_in extended) (m_in extended)) d >>= λ bounds e. (Ok (head_with type.0 type.1 metadata extended size bounds r.place c.place d.place e.place), e))))))
 type_with levels r (Ok t, a) h = ap (placed r) (read-bind byte_plan (after_metadata t) a) ∙ metadata_with r a t h (read byte_plan a) (one_byte a)
 type_with levels r (Err m, a) h = refl
 

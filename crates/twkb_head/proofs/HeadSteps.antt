@@ -22,7 +22,7 @@ use Rattle.twkb_head.specs.declared.raw.RawBox.{RawBox}
 use Rattle.twkb_head.specs.declared.raw.RawRange.{RawRange}
 use Rattle.twkb_head.specs.declared.raw.Fields.{Fields}
 use Rattle.twkb_head.specs.Raw.{BeginsHead, ends_of, raw_bounds, flat_box, head_said}
-use Rattle.twkb_head.specs.Devices.Raw.{HasBegun}
+use Rattle.twkb_head.specs.Devices.Raw.{ReadsFirstTwo}
 use Rattle.twkb_head.specs.declared.read.Begun.{Begun}
 use Rattle.twkb_head.specs.declared.header.SizeField.{SizeField}
 use Rattle.twkb_head.specs.declared.refusal.Malformed.{Malformed}
@@ -47,7 +47,7 @@ unfolding rest_at
 rest_is b c d e kind xy metadata extended size bounds start h3 h4 h5 = rw (h3, h4, h5) refl
 
 -- a header from its first two bytes and the rest
-pub head_of_rest : (levels : ℕ) (begun : Begun) (r b new : Reading) (answer : Result Head Malformed) → HasBegun levels begun r b
+pub head_of_rest : (levels : ℕ) (begun : Begun) (r b new : Reading) (answer : Result Head Malformed) → ReadsFirstTwo levels begun r b
     → rest_at begun.kind begun.xy begun.metadata begun.start b ≡ (answer, new) → head_at levels r ≡ (answer, new)
 unfolding head_at rest_at
 head_of_rest levels begun r b new answer has e = rw (has.type, has.byte, ← has.start) e
@@ -57,9 +57,9 @@ module _ (levels first metadata : ℕ) (old new : Reading) (sound : IsSound old)
   way : (b : Reading) × IsMoved old b × IsMoved b new × (passed old b ≡ first ∷ []) × (passed b new ≡ metadata ∷ [])
   way = IsMoved-two old new (first ∷ []) (metadata ∷ []) moved bytes
 
-  pub has_begun : (kind : Kind) (xy : ℤ) (start : ℕ) → kind_of_code (first % 16) ≡ Some kind → judge_kind levels (Some kind) ≡ None → xy ≡ zigzag_value (first / 16) → start ≡ old.place
-      → HasBegun levels (record { kind = kind; xy = xy; metadata = metadata; start = start }) old new
-  has_begun kind xy start code allowed precision at =
+  pub first_two_read : (kind : Kind) (xy : ℤ) (start : ℕ) → kind_of_code (first % 16) ≡ Some kind → judge_kind levels (Some kind) ≡ None → xy ≡ zigzag_value (first / 16) → start ≡ old.place
+      → ReadsFirstTwo levels (record { kind = kind; xy = xy; metadata = metadata; start = start }) old new
+  first_two_read kind xy start code allowed precision at =
       let type = type_ok levels old way.0 first sound (read_byte old way.0 first way.3 way.1) kind code allowed in
       record { mid = way.0; type = rw (type, code) (ap (λ (p : ℤ). (Ok (kind, p), way.0)) (sym precision)); byte = read_byte way.0 new metadata way.4 way.2; start = at }
 
@@ -109,31 +109,31 @@ unfolding rest_at
 rest_same kind xy m n start b e8 e2 e1 e16 e4 = rw (e8, e2, e1, e16, e4) refl
 
 -- a header that is allowed at the depth was begun: what is read after its first two bytes is what is read from its start
-abbrev pub GoesOn : ℕ → Begun → Reading → Reading → Type 0
-GoesOn depth begun before now = (answer : Result Head Malformed) (new : Reading) → rest_at begun.kind begun.xy begun.metadata begun.start now ≡ (answer, new)
+abbrev pub RestIsHead : ℕ → Begun → Reading → Reading → Type 0
+RestIsHead depth begun before now = (answer : Result Head Malformed) (new : Reading) → rest_at begun.kind begun.xy begun.metadata begun.start now ≡ (answer, new)
     → head_at (deepest - depth) before ≡ (answer, new)
 
--- the code of a kind names it
-named : (n : ℕ) (k : Kind) → n ≡ code_of k → kind_of_code n ≡ Some k
-named n Point e = ap kind_of_code e
-named n LineString e = ap kind_of_code e
-named n Polygon e = ap kind_of_code e
-named n MultiPoint e = ap kind_of_code e
-named n MultiLineString e = ap kind_of_code e
-named n MultiPolygon e = ap kind_of_code e
-named n GeometryCollection e = ap kind_of_code e
+-- the code of a kind names this kind
+kind_of_code-code_of : (n : ℕ) (k : Kind) → n ≡ code_of k → kind_of_code n ≡ Some k
+kind_of_code-code_of n Point e = ap kind_of_code e
+kind_of_code-code_of n LineString e = ap kind_of_code e
+kind_of_code-code_of n Polygon e = ap kind_of_code e
+kind_of_code-code_of n MultiPoint e = ap kind_of_code e
+kind_of_code-code_of n MultiLineString e = ap kind_of_code e
+kind_of_code-code_of n MultiPolygon e = ap kind_of_code e
+kind_of_code-code_of n GeometryCollection e = ap kind_of_code e
 
 pub bits_same : (m n k : ℕ) → m / k % 2 ≡ n / k % 2 → has_bit m k ≡ has_bit n k
 bits_same m n k e = ap (λ (b : ℕ). b == 1) e
 
-pub begins_goes_on : (begun : Begun) (depth : ℕ) (before now : Reading) → IsSound before → BeginsHead begun depth before now → GoesOn depth begun before now
+pub begins_goes_on : (begun : Begun) (depth : ℕ) (before now : Reading) → IsSound before → BeginsHead begun depth before now → RestIsHead depth begun before now
 begins_goes_on begun depth before now sound begins answer new e =
     let t = begins.type_byte in
     let m = begins.metadata in
     let n = begun.metadata in
     let levels = deepest - depth in
     let full : depth + levels ≡ deepest = omega (arith, begins.allowed.0, begins.allowed.1) in
-    let has = has_begun levels t m before now sound begins.bytes begins.moved begun.kind begun.xy begun.start (named (t % 16) begun.kind begins.kind) (allowed_with deepest levels depth begun.kind full begins.allowed) begins.precision begins.start in
+    let has = first_two_read levels t m before now sound begins.bytes begins.moved begun.kind begun.xy begun.start (kind_of_code-code_of (t % 16) begun.kind begins.kind) (allowed_with deepest levels depth begun.kind full begins.allowed) begins.precision begins.start in
     let eight : m / 8 % 2 ≡ n / 8 % 2 = omega (arith, begins.announced) in
     let two : m / 2 % 2 ≡ n / 2 % 2 = omega (arith, begins.announced) in
     let one : m / 1 % 2 ≡ n / 1 % 2 = omega (arith, begins.announced) in
@@ -189,7 +189,7 @@ two_spelled bytes s = go s.numbers s.count s.spelled
     )
     go (n ∷ m ∷ k ∷ ns) count all = absurd (omega (arith, count))
 
--- a box of raw numbers in units, with its place
+-- a box of raw integers in units, with its place
 pub box_seen : (p q : ℤ) (z y m n : Option ℕ) (offset place : ℕ) → p ≡ q → z ≡ y → m ≡ n → offset ≡ place → (o : Option RawBox)
     → option_map (λ bounds. (let field : BoxField = record { bounds = bounds; offset = offset } in field)) (option_map (raw_bounds p z m) o) ≡ option_map (λ box. record { bounds = raw_bounds q y n box; offset = place }) o
 box_seen p q z y m n offset place xy_is z_is m_is at None = refl

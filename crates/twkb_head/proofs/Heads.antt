@@ -13,7 +13,7 @@ use Rattle.twkb_head.specs.Shared.HeadPlan.{ranges_of, box_plan, HeadValue, kind
 use Rattle.twkb_head.proofs.Spelling.{IsGood}
 use Rattle.twkb_head.proofs.BoxFields.{box_numbers, ranges_numbers, numbers_ranges}
 use Rattle.twkb_head.proofs.Combinators.{PlanLaws, restated, Chain, chained, BegunChain, Made, Measured, bind_laws, done_laws, measure_laws, optional_laws}
-use Rattle.twkb_head.proofs.Leaves.{IsDue, IsNumber, alone, leaf_laws, byte_laws, number_laws, signeds_laws}
+use Rattle.twkb_head.proofs.Leaves.{IsDue, IsNumber, byte_alone, leaf_laws, byte_laws, number_laws, signeds_laws}
 
 -- kinds
 pub kind_code : (k : Kind) → kind_of_code (code_of k) ≡ Some k
@@ -26,22 +26,22 @@ kind_code MultiPolygon = refl
 kind_code GeometryCollection = refl
 
 -- a number is the code of its kind, or of none
-kind_at : (n : ℕ) → IfSome (kind_of_code n) (λ k. n ≡ code_of k) × IfNone (kind_of_code n) ((n ≡ 0) ⊎ (8 ≤ n))
-kind_at zero = (tt, inl refl)
-kind_at (suc zero) = (refl, tt)
-kind_at (suc (suc zero)) = (refl, tt)
-kind_at (suc (suc (suc zero))) = (refl, tt)
-kind_at (suc (suc (suc (suc zero)))) = (refl, tt)
-kind_at (suc (suc (suc (suc (suc zero))))) = (refl, tt)
-kind_at (suc (suc (suc (suc (suc (suc zero)))))) = (refl, tt)
-kind_at (suc (suc (suc (suc (suc (suc (suc zero))))))) = (refl, tt)
-kind_at (suc (suc (suc (suc (suc (suc (suc (suc n)))))))) = (tt, inr (omega arith))
+kind_of_code-cases : (n : ℕ) → IfSome (kind_of_code n) (λ k. n ≡ code_of k) × IfNone (kind_of_code n) ((n ≡ 0) ⊎ (8 ≤ n))
+kind_of_code-cases zero = (tt, inl refl)
+kind_of_code-cases (suc zero) = (refl, tt)
+kind_of_code-cases (suc (suc zero)) = (refl, tt)
+kind_of_code-cases (suc (suc (suc zero))) = (refl, tt)
+kind_of_code-cases (suc (suc (suc (suc zero)))) = (refl, tt)
+kind_of_code-cases (suc (suc (suc (suc (suc zero))))) = (refl, tt)
+kind_of_code-cases (suc (suc (suc (suc (suc (suc zero)))))) = (refl, tt)
+kind_of_code-cases (suc (suc (suc (suc (suc (suc (suc zero))))))) = (refl, tt)
+kind_of_code-cases (suc (suc (suc (suc (suc (suc (suc (suc n)))))))) = (tt, inr (omega arith))
 
 pub code_kind : (n : ℕ) (k : Kind) → kind_of_code n ≡ Some k → n ≡ code_of k
-code_kind n k e = subst (λ (o : Option Kind). IfSome o (λ k. n ≡ code_of k)) e (kind_at n).0
+code_kind n k e = subst (λ (o : Option Kind). IfSome o (λ k. n ≡ code_of k)) e (kind_of_code-cases n).0
 
 pub no_kind : (n : ℕ) → kind_of_code n ≡ None → (n ≡ 0) ⊎ (8 ≤ n)
-no_kind n e = subst (λ (o : Option Kind). IfNone o ((n ≡ 0) ⊎ (8 ≤ n))) e (kind_at n).1
+no_kind n e = subst (λ (o : Option Kind). IfNone o ((n ≡ 0) ⊎ (8 ≤ n))) e (kind_of_code-cases n).1
 
 -- the kind is allowed with this many levels below it
 abbrev pub IsAllowedWith : ℕ → Kind → Type 0
@@ -74,7 +74,7 @@ type_laws levels = restated (leaf_laws (type_byte levels) (λ (field : List ℕ)
   where
     whole : (t : ℕ) (bytes : List ℕ) → IsGood (type_byte levels) bytes × (t ≡ slice_index bytes 0) → IsType levels t bytes
     whole t bytes (good, e) =
-        let same = alone t bytes good.0 e in
+        let same = byte_alone t bytes good.0 e in
         let ok : judge_kind levels (kind_of_code (t % 16)) ≡ None = subst (λ (z : List ℕ). judge (type_byte levels) z ≡ None) same good.1 in
         let k = judged_kind levels (kind_of_code (t % 16)) ok in
         let is : k.0 ≡ kind_from t = ap (λ (o : Option Kind). unwrap_or o Point) (sym k.1) in
@@ -151,9 +151,9 @@ fields_laws levels =
     (λ size. done_laws (head_from t m extended size) (optional_laws (has_bit m 1) (box_laws (axes_in extended)))))))
 
 -- a type byte, a metadata byte, and the rest
-two_bytes : (t m : ℕ) (bytes first behind second rest : List ℕ) → bytes ≡ first ++ behind → first ≡ t ∷ [] → behind ≡ second ++ rest → second ≡ m ∷ []
+first_two_bytes : (t m : ℕ) (bytes first behind second rest : List ℕ) → bytes ≡ first ++ behind → first ≡ t ∷ [] → behind ≡ second ++ rest → second ≡ m ∷ []
     → bytes ≡ t ∷ m ∷ rest
-two_bytes t m bytes first behind second rest split one split_again two =
+first_two_bytes t m bytes first behind second rest split one split_again two =
     split ∙ ap (λ (z : List ℕ). z ++ behind) one ∙ ap (λ (z : List ℕ). t ∷ z) (split_again ∙ ap (λ (z : List ℕ). z ++ rest) two)
 
 -- ---- headers
@@ -163,8 +163,8 @@ pub record IsHead (levels : ℕ) (x : HeadValue) (bytes : List ℕ) : Type 0 whe
   pub before : x.before ≡ 2 + length header.extended_bytes
   pub size : x.size ≡ length header.size_bytes
 
-head_is : (levels : ℕ) (x : HeadValue) (bytes : List ℕ) → AreFields levels x bytes → IsHead levels x bytes
-head_is levels x bytes (t, (f₁, r₁, s₁, (is_t, code, ok), (m, (f₂, r₂, s₂, is_m, (extended, (eb, r₃, s₃, is_extended, (size, (sb, bb, s₄, is_size, (box, e, is_box))))))))) =
+fields_head : (levels : ℕ) (x : HeadValue) (bytes : List ℕ) → AreFields levels x bytes → IsHead levels x bytes
+fields_head levels x bytes (t, (f₁, r₁, s₁, (is_t, code, ok), (m, (f₂, r₂, s₂, is_m, (extended, (eb, r₃, s₃, is_extended, (size, (sb, bb, s₄, is_size, (box, e, is_box))))))))) =
     subst (λ (x : HeadValue). IsHead levels x bytes) (sym e) (record {
       header = record {
         type_byte = t;
@@ -173,7 +173,7 @@ head_is levels x bytes (t, (f₁, r₁, s₁, (is_t, code, ok), (m, (f₂, r₂,
         extended_bytes = eb;
         size_bytes = sb;
         box_bytes = bb;
-        fields = two_bytes t m bytes f₁ r₁ f₂ r₂ s₁ is_t s₂ is_m ∙ ap (λ (z : List ℕ). t ∷ m ∷ z) (s₃ ∙ ap (λ (z : List ℕ). eb ++ z) s₄);
+        fields = first_two_bytes t m bytes f₁ r₁ f₂ r₂ s₁ is_t s₂ is_m ∙ ap (λ (z : List ℕ). t ∷ m ∷ z) (s₃ ∙ ap (λ (z : List ℕ). eb ++ z) s₄);
         kind = code;
         precision = refl;
         extended_byte = is_extended.0;
@@ -196,8 +196,8 @@ header_path a b k xy z m s x i e = λ j. record { kind = k j; xy = xy j; z = z j
 head_path : (a b : HeadValue) → a.header ≡ b.header → a.before ≡ b.before → a.size ≡ b.size → a ≡ b
 head_path a b h f s = λ j. record { header = h j; before = f j; size = s j }
 
-is_head : (levels : ℕ) (x : HeadValue) (bytes : List ℕ) → IsHead levels x bytes → AreFields levels x bytes
-is_head levels x bytes ok =
+head_fields : (levels : ℕ) (x : HeadValue) (bytes : List ℕ) → IsHead levels x bytes → AreFields levels x bytes
+head_fields levels x bytes ok =
     let t = h.type_byte in
     let m = h.metadata in
     let extended : Option ℕ × ℕ = (h.extended, length h.extended_bytes) in
@@ -230,13 +230,13 @@ module _ (limit levels depth : ℕ) (deep : depth + levels ≡ limit) (some : 1 
   begun p due (inr (t, (f₁, r₁, s₁, type, inl (nil, is)))) =
       metadata_due t (start_of t f₁ type) (s₁ ∙ ap (λ (z : List ℕ). z ++ r₁) type.0 ∙ ap (λ (z : List ℕ). t ∷ z) nil) is
   begun p due (inr (t, (f₁, r₁, s₁, type, inr (m, (f₂, r₂, s₂, is_m, inl (has, (nil, is))))))) =
-      extended_due t m (start_of t f₁ type) has (two_bytes t m p f₁ r₁ f₂ r₂ s₁ type.0 s₂ is_m ∙ ap (λ (z : List ℕ). t ∷ m ∷ z) nil) is
+      extended_due t m (start_of t f₁ type) has (first_two_bytes t m p f₁ r₁ f₂ r₂ s₁ type.0 s₂ is_m ∙ ap (λ (z : List ℕ). t ∷ m ∷ z) nil) is
   begun p due (inr (t, (f₁, r₁, s₁, type, inr (m, (f₂, r₂, s₂, is_m, inr (extended, (eb, r₃, s₃, is_extended, inl (has, (nil, is))))))))) =
       size_due t m extended.0 eb (start_of t f₁ type) is_extended.0 has
-      (two_bytes t m p f₁ r₁ f₂ r₂ s₁ type.0 s₂ is_m ∙ ap (λ (z : List ℕ). t ∷ m ∷ z) (s₃ ∙ ap (λ (z : List ℕ). eb ++ z) nil ∙ append-nil eb)) is
+      (first_two_bytes t m p f₁ r₁ f₂ r₂ s₁ type.0 s₂ is_m ∙ ap (λ (z : List ℕ). t ∷ m ∷ z) (s₃ ∙ ap (λ (z : List ℕ). eb ++ z) nil ∙ append-nil eb)) is
   begun p due (inr (t, (f₁, r₁, s₁, type, inr (m, (f₂, r₂, s₂, is_m, inr (extended, (eb, r₃, s₃, is_extended, inr (size, (sb, box, s₄, is_size, (has, (zs, few, is))))))))))) =
       box_due t m extended.0 size.0 eb sb box zs (start_of t f₁ type) is_extended.0 is_size.0 has few
-      (two_bytes t m p f₁ r₁ f₂ r₂ s₁ type.0 s₂ is_m ∙ ap (λ (z : List ℕ). t ∷ m ∷ z) (s₃ ∙ ap (λ (z : List ℕ). eb ++ z) s₄)) is
+      (first_two_bytes t m p f₁ r₁ f₂ r₂ s₁ type.0 s₂ is_m ∙ ap (λ (z : List ℕ). t ∷ m ∷ z) (s₃ ∙ ap (λ (z : List ℕ). eb ++ z) s₄)) is
 
   begun_back : (p : List ℕ) (due : Field) → IsBegunHeader limit depth p due → AreBegun levels p due
   begun_back p due (type_due nil is) = inl (nil, is)
@@ -252,4 +252,4 @@ module _ (limit levels depth : ℕ) (deep : depth + levels ≡ limit) (some : 1 
       (inr (chained (size, length sb) sb box refl (is_size, refl) (has, (zs, few, is)))))))))
 
   pub head_laws : PlanLaws (head_plan levels) (IsHead levels) (IsBegunHeader limit depth)
-  head_laws = restated (fields_laws levels) (head_is levels) (is_head levels) begun begun_back
+  head_laws = restated (fields_laws levels) (fields_head levels) (head_fields levels) begun begun_back

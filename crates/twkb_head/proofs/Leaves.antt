@@ -33,11 +33,11 @@ leaf_laws {A} r g = record {
     begun p due (inr (front, rest, parts, ok, more)) = absurd more
 
 -- a byte alone is the byte at its front
-pub alone : (b : ℕ) (bytes : List ℕ) → (c : ℕ) × (bytes ≡ c ∷ []) → b ≡ slice_index bytes 0 → bytes ≡ b ∷ []
-alone b bytes (c, is) e = is ∙ ap (λ (d : ℕ). d ∷ []) (sym (e ∙ ap (λ (z : List ℕ). slice_index z 0) is))
+pub byte_alone : (b : ℕ) (bytes : List ℕ) → (c : ℕ) × (bytes ≡ c ∷ []) → b ≡ slice_index bytes 0 → bytes ≡ b ∷ []
+byte_alone b bytes (c, is) e = is ∙ ap (λ (d : ℕ). d ∷ []) (sym (e ∙ ap (λ (z : List ℕ). slice_index z 0) is))
 
 pub byte_laws : PlanLaws byte_plan IsByte (IsDue byte_field)
-byte_laws = restated (leaf_laws byte (λ (field : List ℕ). slice_index field 0)) (λ b bytes h. alone b bytes h.0.0 h.1)
+byte_laws = restated (leaf_laws byte (λ (field : List ℕ). slice_index field 0)) (λ b bytes h. byte_alone b bytes h.0.0 h.1)
     (λ b bytes is. (((b, is), refl), sym (ap (λ (z : List ℕ). slice_index z 0) is))) (λ p due b. b) (λ p due b. b)
 
 -- the number that a varint spells
@@ -58,9 +58,9 @@ pub signed_laws : PlanLaws signed_plan IsSigned (IsDue number_field)
 signed_laws = restated (leaf_laws number (λ (field : List ℕ). zigzag_value (sum_of_groups 0 field))) (λ z bytes h. signed_from z bytes h.0.0 h.1)
     (λ z bytes s. (((s.0, s.1), refl), signed_is z bytes s)) (λ p due b. b) (λ p due b. b)
 
-no_range : (b : Bool) → cond b None (Some Range) ≡ None → b ≡ true
-no_range true e = refl
-no_range false e = absurd (cc (e))
+in_range : (b : Bool) → cond b None (Some Range) ≡ None → b ≡ true
+in_range true e = refl
+in_range false e = absurd (cc (e))
 
 pub coordinate_laws : (c : ℤ) → PlanLaws (coordinate_plan c) (λ z bytes. IsSigned z bytes × (fits (c +ℤ z) ≡ true)) (IsDue coordinate_field)
 coordinate_laws c =
@@ -68,7 +68,7 @@ coordinate_laws c =
   where
     whole : (z : ℤ) (bytes : List ℕ) → IsGood (coordinate c) bytes × (z ≡ zigzag_value (sum_of_groups 0 bytes))
         → IsSigned z bytes × (fits (c +ℤ z) ≡ true)
-    whole z bytes (good, e) = (signed_from z bytes good.0 e, ap (λ (y : ℤ). fits (c +ℤ y)) e ∙ no_range _ good.1)
+    whole z bytes (good, e) = (signed_from z bytes good.0 e, ap (λ (y : ℤ). fits (c +ℤ y)) e ∙ in_range _ good.1)
 
     back : (z : ℤ) (bytes : List ℕ) → IsSigned z bytes × (fits (c +ℤ z) ≡ true) → IsGood (coordinate c) bytes × (z ≡ zigzag_value (sum_of_groups 0 bytes))
     back z bytes (s, fit) =

@@ -6,7 +6,7 @@ use Rattle.twkb_num.specs.Cursor.{Reading, rest, added, counted, IsMoved, IsSoun
 use Rattle.twkb_num.specs.Varint.{IsCut, IsLong}
 use Rattle.twkb_head.specs.BegunHeader.{Field, type_field, byte_field, number_field, coordinate_field, IsField}
 use Rattle.twkb_head.specs.Shared.Plan.{Request, type_byte, byte, number, coordinate, field_of, cut_varint, cut_byte, cut_field, kind_of_code, judge_kind, judge, Plan, done, ask, bind}
-use Rattle.twkb_head.proofs.Spelling.{Fault, fault, judged, step, run}
+use Rattle.twkb_head.proofs.Spelling.{Fault, fault, after_judged, run_field, run}
 use Rattle.twkb_head.specs.Shared.Reader.{Answer, ◌>>=◌, past, looked_in, read_judged, read_field, read, Fails}
 use Rattle.twkb_num.proofs.CursorLemmas.{IsMoved-here, IsMoved-after, IsSound-moved}
 use Rattle.twkb_head.specs.declared.kinds.Kind.{Kind as KindOf}
@@ -160,7 +160,7 @@ read_ends {A} (ask q next) r sound = go (cut_field (field_of q) (rest r)) refl (
   where
     whole : (x : List ℕ × List ℕ) → rest r ≡ x.0 ++ x.1 → IsField (field_of q) x.0 → (j : Option Why) → judge q x.0 ≡ j
         → ((front : List ℕ) (r : Reading) → IsSound r → Ends r (read (next front) r) (run (next front) (rest r)))
-        → Ends r (read_judged {A = A} j (length x.0) (read (next x.0)) r) (judged {B = A × List ℕ} j (field_of q) (rest r) (λ u. run (next x.0) x.1))
+        → Ends r (read_judged {A = A} j (length x.0) (read (next x.0)) r) (after_judged {B = A × List ℕ} j (field_of q) (rest r) (λ u. run (next x.0) x.1))
     whole x parts field None is ih =
         let moved = moved_past r x.0 x.1 sound parts in
         let there = ih x.0 (past (length x.0) r) (IsSound-moved r (past (length x.0) r) sound moved) in
@@ -170,7 +170,7 @@ read_ends {A} (ask q next) r sound = go (cut_field (field_of q) (rest r)) refl (
 
     go : (c : Result (List ℕ × List ℕ) Why) → cut_field (field_of q) (rest r) ≡ c
         → ((front : List ℕ) (r : Reading) → IsSound r → Ends r (read (next front) r) (run (next front) (rest r)))
-        → Ends r (read_field {A = A} q c (λ front. read (next front)) r) (step {B = A × List ℕ} q c (rest r) (λ front left. run (next front) left))
+        → Ends r (read_field {A = A} q c (λ front. read (next front)) r) (run_field {B = A × List ℕ} q c (rest r) (λ front left. run (next front) left))
     go (Ok x) cut ih = let t = field_takes (field_of q) (rest r) x cut in whole x t.0 t.1 (judge q x.0) refl ih
     go (Err w) cut ih = failed_here r w (field_of q) (looked_in w (rest r)) (Err (fault w (field_of q) (rest r))) sound refl (looked_part (field_of q) w (rest r) cut)
 

@@ -8,7 +8,7 @@ use Rattle.twkb_head.specs.BegunHeader.{deepest}
 use Rattle.twkb_head.specs.Head.{StartsWithHeader}
 use Rattle.twkb_head.specs.Raw.{BeginsHead, head_said, ReadsHead}
 use Rattle.twkb_head.specs.Devices.HeadReader.{head_at, rest_at}
-use Rattle.twkb_head.specs.Devices.Raw.{made_whole}
+use Rattle.twkb_head.specs.Devices.Raw.{head_result}
 use Rattle.twkb_head.proofs.HeadLaws.{head_ok, head_moved, head_exact, head_err, head_left}
 use Rattle.twkb_head.proofs.HeadSteps.{begins_goes_on}
 
@@ -20,12 +20,12 @@ module _ (begun : Begun) (depth : ℕ) (before now new : Reading) (sound : IsSou
   most : depth ≤ deepest
   most = omega (arith, begins.allowed.1)
 
-  answers : (result : Result Fields Malformed) → head_at (deepest - depth) before ≡ (made_whole result, new) → ReadsHead depth before new result × (IsOk result ↔ StartsWithHeader depth (rest before))
+  answers : (result : Result Fields Malformed) → head_at (deepest - depth) before ≡ (head_result result, new) → ReadsHead depth before new result × (IsOk result ↔ StartsWithHeader depth (rest before))
   answers (Ok raw) e = (
     (head_ok depth least most before new sound (Ok (head_said raw)) e, head_moved depth least most before new sound (Ok (head_said raw)) e),
     head_exact depth least most before new sound (Ok (head_said raw)) e,
   )
   answers (Err m) e = ((head_err depth least most before new sound (Err m) e, head_left depth least most before new sound m e), head_exact depth least most before new sound (Err m) e)
 
-  pub rest_reads : (result : Result Fields Malformed) → rest_at begun.kind begun.xy begun.metadata begun.start now ≡ (made_whole result, new) → ReadsHead depth before new result × (IsOk result ↔ StartsWithHeader depth (rest before))
-  rest_reads result e = answers result (begins_goes_on begun depth before now sound begins (made_whole result) new e)
+  pub rest_reads : (result : Result Fields Malformed) → rest_at begun.kind begun.xy begun.metadata begun.start now ≡ (head_result result, new) → ReadsHead depth before new result × (IsOk result ↔ StartsWithHeader depth (rest before))
+  rest_reads result e = answers result (begins_goes_on begun depth before now sound begins (head_result result) new e)

@@ -9,19 +9,19 @@ pub data Fault : Type 0 where
   fault : Why → Field → List ℕ → Fault
 
 -- goes on after a field that was judged
-abbrev pub judged : {B : Type 0} → Option Why → Field → List ℕ → (Unit {0} → Result B Fault) → Result B Fault
-judged None f bytes k = k tt
-judged (Some w) f bytes k = Err (fault w f bytes)
+abbrev pub after_judged : {B : Type 0} → Option Why → Field → List ℕ → (Unit {0} → Result B Fault) → Result B Fault
+after_judged None f bytes k = k tt
+after_judged (Some w) f bytes k = Err (fault w f bytes)
 
 -- one field of a reading: it was cut off, or nothing could be
-abbrev pub step : {B : Type 0} → Request → Result (List ℕ × List ℕ) Why → List ℕ → (List ℕ → List ℕ → Result B Fault) → Result B Fault
-step r (Err w) bytes k = Err (fault w (field_of r) bytes)
-step r (Ok x) bytes k = judged (judge r x.0) (field_of r) bytes (λ u. k x.0 x.1)
+abbrev pub run_field : {B : Type 0} → Request → Result (List ℕ × List ℕ) Why → List ℕ → (List ℕ → List ℕ → Result B Fault) → Result B Fault
+run_field r (Err w) bytes k = Err (fault w (field_of r) bytes)
+run_field r (Ok x) bytes k = after_judged (judge r x.0) (field_of r) bytes (λ u. k x.0 x.1)
 
 -- reads by a plan: the value and the bytes after it, or the first fault
 abbrev pub run : {A : Type 0} → Plan A → List ℕ → Result (A × List ℕ) Fault
 run (done x) bytes = Ok (x, bytes)
-run (ask r next) bytes = step r (cut_field (field_of r) bytes) bytes (λ front rest. run (next front) rest)
+run (ask r next) bytes = run_field r (cut_field (field_of r) bytes) bytes (λ front rest. run (next front) rest)
 
 -- the bytes are a field as it is asked for
 abbrev pub IsGood : Request → List ℕ → Type 0

@@ -62,9 +62,9 @@ uncut : (fault : NumFault) (bs : List ℕ) → Faults fault bs → cut_varint 9 
 uncut TooShort bs h = cut_off bs h
 uncut Long bs h = too_long bs h
 
-looked_same : (fault : NumFault) (bs : List ℕ) → looked_in (why_of fault) bs ≡ looked_at fault bs
-looked_same TooShort bs = refl
-looked_same Long bs = refl
+looked_in-why_of : (fault : NumFault) (bs : List ℕ) → looked_in (why_of fault) bs ≡ looked_at fault bs
+looked_in-why_of TooShort bs = refl
+looked_in-why_of Long bs = refl
 
 -- if no number can be read, reading one fails with its fault
 read_fault : {A : Type 0} (q : Request) (next : List ℕ → Plan A) (a b : Reading) (fault : NumFault) (m : Malformed) → cut_field (field_of q) (rest a) ≡ Err (why_of fault)
@@ -73,7 +73,7 @@ read_fault q next a b fault m cut at offset why =
     let place : a.place ≡ m.offset = ap (λ (r : Reading). r.place) (sym at) ∙ sym offset in
     let says : Malformed = record { offset = a.place; why = why_of fault } in
     let same : says ≡ m = λ j. record { offset = place j; why = sym why j } in
-    rw cut (ap₂ (λ (x : Malformed) (r : Reading). (Err x, r)) same (ap (counted a) (looked_same fault (rest a)) ∙ sym at))
+    rw cut (ap₂ (λ (x : Malformed) (r : Reading). (Err x, r)) same (ap (counted a) (looked_in-why_of fault (rest a)) ∙ sym at))
 
 module _ (a b : Reading) (fault : NumFault) (m : Malformed) (h : Faults fault (rest a)) (at : b ≡ counted a (looked_at fault (rest a)))
     (offset : m.offset ≡ b.place) (why : m.why ≡ why_of fault) where

@@ -1,12 +1,14 @@
--- Headers whose boxes are raw numbers.
-use Rattle.std.specs.Prelude.{◌≡◌, ℕ, ◌/◌, ◌%◌, ◌^◌, ℤ, pos, neg_ℤ, ◌+ℤ◌, ◌≤ℤ◌, List, [], ◌∷◌, Option, None, option_map, Result, Ok, Err}
+-- Headers whose boxes are raw integers.
+use Rattle.std.specs.Prelude.{◌≡◌, ℕ, ◌/◌, ◌%◌, ◌^◌, ◌≤◌, ℤ, pos, neg_ℤ, ◌+ℤ◌, ◌≤ℤ◌, List, [], ◌∷◌, Option, None, option_map, IfSome, Result, Ok, Err}
 use Rattle.twkb_head.specs.declared.boxes.Bounds.{Bounds}
 use Rattle.twkb_head.specs.declared.raw.RawRange.{RawRange}
 use Rattle.twkb_head.specs.declared.raw.RawBox.{RawBox}
+use Rattle.twkb_head.specs.declared.raw.Axes.{Axes}
 use Rattle.twkb_head.specs.declared.raw.Fields.{Fields}
 use Rattle.twkb_head.specs.declared.header.Head.{Head}
 use Rattle.twkb_head.specs.declared.header.BoxField.{BoxField}
 use Rattle.twkb_num.specs.Cursor.{Reading, rest, passed, added, IsMoved}
+use Rattle.twkb_num.specs.Units.{IsPrecision}
 use Rattle.twkb_num.specs.Varint.{zigzag_value}
 use Rattle.twkb_head.specs.declared.read.Begun.{Begun}
 use Rattle.twkb_head.specs.declared.refusal.Malformed.{Malformed}
@@ -14,6 +16,10 @@ use Rattle.twkb_head.specs.BegunHeader.{IsAllowedAt}
 use Rattle.twkb_head.specs.Header.{code_of}
 use Rattle.twkb_head.specs.Head.{IsHeadAt, bounds_of}
 use Rattle.twkb_head.specs.Refusal.{IsRefusedHead, looked_at_until}
+
+-- each precision is in its range: of X and Y from -8 to 7, of Z and M from 0 to 7
+abbrev pub HavePrecisions : Axes → Type 0
+HavePrecisions axes = IsPrecision axes.xy × IfSome axes.z (λ p. p ≤ 7) × IfSome axes.m (λ p. p ≤ 7)
 
 -- the least and the greatest number of a range
 abbrev pub ends_of : RawRange → ℤ × ℤ
@@ -37,11 +43,15 @@ pub record HasNearRanges (box : RawBox) : Type 0 where
   pub third : IsNear box.third
   pub fourth : IsNear box.fourth
 
+-- the range of an axis that isn't there
+abbrev pub zero_range : RawRange
+zero_range = record { minimum = pos 0; extent = pos 0 }
+
 -- the box of two ranges in X and Y, and none in Z and M
 abbrev pub flat_box : RawRange → RawRange → RawBox
-flat_box x y = record { x = x; y = y; third = record { minimum = pos 0; extent = pos 0 }; fourth = record { minimum = pos 0; extent = pos 0 } }
+flat_box x y = record { x = x; y = y; third = zero_range; fourth = zero_range }
 
--- a box of raw numbers in units, by the precisions of its header
+-- a box of raw integers in units, by the precisions of its header
 abbrev pub raw_bounds : ℤ → Option ℕ → Option ℕ → RawBox → Bounds
 raw_bounds xy z m box = bounds_of xy z m (ranges_in box)
 
@@ -83,6 +93,7 @@ pub record BeginsHead (begun : Begun) (depth : ℕ) (before now : Reading) : Typ
 
 -- The header was read from its start; or a field can't follow, and the cursor is at that field, with the bytes looked at counted.
 abbrev pub ReadsHead : ℕ → Reading → Reading → Result Fields Malformed → Type 0
-ReadsHead depth before new (Ok raw) = IsHeadAt (head_said raw) depth before.place (passed before new) × IsMoved before new
+ReadsHead depth before new (Ok raw) =
+    IsHeadAt (head_said raw) depth before.place (passed before new) × IsMoved before new
 ReadsHead depth before new (Err m) = IsRefusedHead m depth before.place (rest before)
     × (new ≡ record { bytes = before.bytes; place = m.offset; count = added before.count (looked_at_until m before) })

@@ -71,7 +71,7 @@ pub fn kind_at(byte: u8, depth: u8) -> Result<Kind, Why>
     ensures allowed { IfOk result (λ kind. judge_kind (deepest - depth) (Some kind) ≡ None) }
     ensures refused { IfErr result (λ why. judge_kind (deepest - depth) (kind_of_code (byte % 16)) ≡ Some why) }
 {
-    match kind_of(byte) {
+    match kind_named(byte) {
         Some(Kind::GeometryCollection) if depth == DEEPEST => Err(Why::Depth),
         Some(kind) => Ok(kind),
         None => Err(Why::Kind),
@@ -92,7 +92,7 @@ static KINDS: [Kind; 7] = [
 
 /// The kind that the low four bits of a type byte name; 0 and 8 to 15 name none.
 #[inline(always)]
-fn kind_of(byte: u8) -> Option<Kind>
+fn kind_named(byte: u8) -> Option<Kind>
     ensures { result ≡ kind_of_code (byte % 16) }
 {
     match byte % 16 {

@@ -30,7 +30,7 @@
 
 mod bits;
 mod boxes;
-mod fields;
+mod field_readers;
 mod header;
 mod kinds;
 pub mod laws;
@@ -40,7 +40,7 @@ mod read;
 mod refusal;
 
 pub use boxes::{Bounds, Span, Vertex};
-pub use fields::malformed;
+pub use field_readers::malformed;
 pub use header::{BoxField, Head, SizeField};
 pub use kinds::{DEEPEST, Kind};
 pub use raw::{Axes, Fields, RawBox, RawRange};

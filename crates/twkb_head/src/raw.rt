@@ -1,4 +1,4 @@
-//! Boxes and headers in raw numbers. Numbers of one precision compare without units. `ranges` and `read` read them.
+//! Boxes and headers in raw integers. Numbers of one precision compare without units. `ranges` and `read` read them.
 ghost use Rattle.std.specs.Prelude.{◌≡◌, ◌≤◌, ◌^◌, ◌≤ℤ◌, pos, neg_ℤ, None, true, option_map, IfSome};
 ghost use Rattle.twkb_num.specs.Units.{IsPrecision};
 ghost use Rattle.twkb_head.specs.Raw.{ends_of, ranges_in, flat_box, raw_bounds, head_said, boxless, IsNear, HasNearRanges};
@@ -38,7 +38,7 @@ pub struct Axes {
     pub m: Option<u8>,
 }
 
-/// A header, with its box in raw numbers.
+/// A header, with its box in raw integers.
 #[derive(Clone, Copy, Debug, PartialEq, Eq)]
 pub struct Fields {
     pub kind: Kind,
@@ -230,16 +230,8 @@ impl Fields {
             None => None,
         };
         Head {
-            kind: self.kind,
-            xy: self.axes.xy,
-            z: self.axes.z,
-            m: self.axes.m,
-            size: self.size,
             bounds,
-            ids: self.ids,
-            empty: self.empty,
-            start: self.start,
-            stop: self.stop,
+            ..self.boxless()
         }
     }
 }

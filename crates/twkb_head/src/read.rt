@@ -9,12 +9,12 @@ ghost use Rattle.twkb_head.specs.Head.{StartsWithHeader, IsHeadAt};
 ghost use Rattle.twkb_head.specs.Refusal.{IsRefusedHead, looked_at_until};
 ghost use Rattle.twkb_head.specs.Devices.HeadReader.{byte_at, head_at, rest_at};
 ghost use Rattle.twkb_head.specs.Shared.Reader.{number_at, optional_at};
-ghost use Rattle.twkb_head.specs.Devices.Raw.{made_whole, HasBegun};
-ghost use Rattle.twkb_head.specs.Raw.{head_said, BeginsHead, ReadsHead};
+ghost use Rattle.twkb_head.specs.Devices.Raw.{head_result, ReadsFirstTwo};
+ghost use Rattle.twkb_head.specs.Raw.{HavePrecisions, head_said, BeginsHead, ReadsHead};
 ghost use Rattle.twkb_head.specs.Header.{has_bit, code_of};
 
 use crate::bits::{BOX, EMPTY, EXTENDED, IDS, SIZE, has_bit, ids_of, m_of, precision_of, z_of};
-use crate::fields::{take_byte, take_number, take_type};
+use crate::field_readers::{take_byte, take_number, take_type};
 use crate::header::{Head, SizeField};
 use crate::kinds::{Kind, kind_at};
 use crate::ranges::{Called, FlatRanges, Inlined, take_box};
@@ -51,7 +51,7 @@ pub fn read_head(cursor: &mut Cursor, depth: u8) -> Result<Head, Malformed>
     Ok(raw.whole())
 }
 
-/// Reads the header at the place as [`read_head`] does, with its box in raw numbers.
+/// Reads the header at the place as [`read_head`] does, with its box in raw integers.
 #[inline(always)]
 pub fn read_raw(cursor: &mut Cursor, depth: u8) -> Result<Fields, Malformed>
     requires shallowest { 1 ≤ depth }
@@ -157,10 +157,8 @@ impl Begun {
 #[inline(always)]
 fn take_head(cursor: &mut Cursor, depth: u8) -> Result<Fields, Malformed>
     requires { depth ≤ deepest }
-    ensures read { head_at (deepest - depth) cursor.old ≡ (made_whole result, cursor.new) }
-    ensures xy { IfOk result (λ raw. IsPrecision raw.axes.xy) }
-    ensures z_high { IfOk result (λ raw. IfSome raw.axes.z (λ p. p ≤ 7)) }
-    ensures m_high { IfOk result (λ raw. IfSome raw.axes.m (λ p. p ≤ 7)) }
+    ensures read { head_at (deepest - depth) cursor.old ≡ (head_result result, cursor.new) }
+    ensures axes { IfOk result (λ raw. HavePrecisions raw.axes) }
 {
     let first_two = take_begun(cursor, depth)?;
     take_fields::<Called>(cursor, first_two)
@@ -171,7 +169,7 @@ fn take_head(cursor: &mut Cursor, depth: u8) -> Result<Fields, Malformed>
 #[tactic(auto, unfolding(crate::specs::Devices::HeadReader::head_at))]
 fn take_begun(cursor: &mut Cursor, depth: u8) -> Result<Begun, Malformed>
     requires { depth ≤ deepest }
-    ensures ok { IfOk result (λ begun. HasBegun (deepest - depth) begun cursor.old cursor.new) }
+    ensures ok { IfOk result (λ begun. ReadsFirstTwo (deepest - depth) begun cursor.old cursor.new) }
     ensures err { IfErr result (λ m. head_at (deepest - depth) cursor.old ≡ (Err m, cursor.new)) }
     ensures xy { IfOk result (λ begun. IsPrecision begun.xy) }
 {
@@ -301,10 +299,9 @@ pub fn take_boxed_rest(cursor: &mut Cursor, begun: Begun) -> Result<Fields, Malf
 #[tactic(auto, unfolding(crate::specs::Devices::HeadReader::rest_at))]
 fn take_fields<R: FlatRanges>(cursor: &mut Cursor, begun: Begun) -> Result<Fields, Malformed>
     requires xy { IsPrecision begun.xy }
-    ensures read { rest_at begun.kind begun.xy begun.metadata begun.start cursor.old ≡ (made_whole result, cursor.new) }
-    ensures xy { IfOk result (λ raw. IsPrecision raw.axes.xy) }
-    ensures z_high { IfOk result (λ raw. IfSome raw.axes.z (λ p. p ≤ 7)) }
-    ensures m_high { IfOk result (λ raw. IfSome raw.axes.m (λ p. p ≤ 7)) }
+    ensures read { rest_at begun.kind begun.xy begun.metadata begun.start cursor.old
+        ≡ (head_result result, cursor.new) }
+    ensures axes { IfOk result (λ raw. HavePrecisions raw.axes) }
     ensures flat { has_bit begun.metadata 8 ≡ false → IfOk result (λ raw. (raw.axes.z ≡ None) × (raw.axes.m ≡ None)) }
     ensures empty { IfOk result (λ raw. raw.empty ≡ has_bit begun.metadata 16) }
     ensures no_box { has_bit begun.metadata 1 ≡ false → IfOk result (λ raw. raw.bounds ≡ None) }

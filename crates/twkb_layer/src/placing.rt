@@ -1,6 +1,7 @@
 //! The slots of a blob, put into memory: into a vector, or into room that a caller lends.
 ghost use Rattle.std.specs.Prelude.{◌≡◌, ◌+◌, ◌-◌, ◌*◌, ◌<◌, ◌≤◌, ◌++◌, ◌∷◌, [], List, length, take, drop, vec_len, vec_capacity};
-ghost use Rattle.twkb_body.specs.Geometry.{Geometry, HavePrecisions};
+ghost use Rattle.twkb_head.specs.Raw.{HavePrecisions};
+ghost use Rattle.twkb_body.specs.Geometry.{Geometry};
 ghost use Rattle.twkb_body.specs.Visit.{bytes_to_pass};
 ghost use Rattle.twkb_layer.specs.Directory.{Entry, IsDirectoryOf, entry_of};
 ghost use Rattle.twkb_layer.specs.Layer.{IsCertifiedLayer, AddsAtMost, OfLayer};

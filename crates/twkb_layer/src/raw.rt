@@ -7,10 +7,10 @@ ghost use Rattle.twkb_layer.specs.Devices.Slots.{IsInner};
 ghost use Rattle.twkb_layer.specs.Slots.{precision_of};
 ghost use Rattle.twkb_layer.specs.Window.{is_inside, box_misses};
 ghost use Rattle.twkb_head.specs.Head.{span_at};
-ghost use Rattle.twkb_head.specs.Raw.{ends_of, raw_bounds, IsNear, HasNearRanges};
+ghost use Rattle.twkb_head.specs.Raw.{HavePrecisions, ends_of, raw_bounds, IsNear, HasNearRanges};
 ghost use Rattle.twkb_head.specs.declared.boxes.Bounds.{Bounds};
 ghost use Rattle.twkb_head.specs.declared.boxes.Span.{Span};
-ghost use Rattle.twkb_body.specs.Geometry.{HavePrecisions, vertex_at};
+ghost use Rattle.twkb_body.specs.Geometry.{vertex_at};
 
 use crate::window::Window;
 use std::marker::Model;

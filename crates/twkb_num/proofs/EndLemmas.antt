@@ -4,12 +4,13 @@ use Rattle.std.specs.Int.{Width, w64, from_le_bytes, bit_at, trailing_zeros}
 use mir.Val.{bits}
 use Rattle.std.specs.Int.Bits.{bit_and}
 use Rattle.std.proofs.lemmas.Nat.{and_block, pow_pos}
-use Rattle.std.proofs.lemmas.Nat.Bits.{and_pow, bit_at_cat_low, bit_at-pow_same, bit_at-pow_other, bit_at-trailing_zeros}
+use Rattle.std.proofs.lemmas.Nat.Bits.{bit_at_cat_low, bit_at-pow_same, bit_at-pow_other, bit_at-trailing_zeros}
 use Rattle.std.proofs.lemmas.Bool.{cases_lt}
 use Rattle.std.proofs.lemmas.Grind.{common_steps}
 use Rattle.std.proofs.lemmas.List.{get_or-take}
 use Rattle.twkb_num.specs.Varint.{sum_of_groups, Spells, IsUnended}
 use Rattle.twkb_num.proofs.VarintLemmas.{sum_of_groups-fits, Spells-take}
+use Rattle.twkb_num.proofs.WordLemmas.{tops_4}
 use Rattle.twkb_num.specs.Devices.Ends.{IsFirstEnd, ended, four_bytes, eight_bytes}
 
 -- the lowest 1 of a number
@@ -29,25 +30,19 @@ lowest_at w n m k fits e =
           ]
     ]
 
--- the top bit of a byte
-top_of : (b : ℕ) → b < 256 → bit_and b 128 ≡ b / 128 * 128
-top_of b h = omega (arith, and_pow b 7)
-
--- the tops of two bytes, of four and of eight
-tops_2 : (a b : ℕ) → a < 256 → b < 256 → bit_and (b * 256 + a) 0x8080 ≡ b / 128 * 128 * 256 + a / 128 * 128
-tops_2 a b in_a in_b = omega (arith, and_block 8 b 128 a 128 in_a (omega arith), top_of a in_a, top_of b in_b)
-
-tops_4 : (a b c d : ℕ) → a < 256 → b < 256 → c < 256 → d < 256
+-- the tops of the four bytes of half a word
+tops_of_half : (a b c d : ℕ) → a < 256 → b < 256 → c < 256 → d < 256
     → bit_and ((d * 256 + c) * 65536 + (b * 256 + a)) 0x80808080 ≡ (d / 128 * 128 * 256 + c / 128 * 128) * 65536 + (b / 128 * 128 * 256 + a / 128 * 128)
-tops_4 a b c d in_a in_b in_c in_d =
-    omega (arith, and_block 16 (d * 256 + c) 0x8080 (b * 256 + a) 0x8080 (omega arith) (omega arith), tops_2 a b in_a in_b, tops_2 c d in_c in_d)
+tops_of_half a b c d in_a in_b in_c in_d =
+    let same : (d * 256 + c) * 65536 + (b * 256 + a) ≡ (((0 * 256 + d) * 256 + c) * 256 + b) * 256 + a = omega arith in
+    omega (arith, ap (λ x. bit_and x 0x80808080) same, tops_4 a b c d 0 in_a in_b in_c in_d)
 
 -- the tops of eight bytes
 pub tops_eight : (f : ℕ → ℕ) → ((k : ℕ) → k < 8 → f k < 256) → bit_and (eight_bytes f) 0x8080808080808080 ≡ eight_bytes (λ k. f k / 128 * 128)
 tops_eight f fit =
     let halves : bit_and (four_bytes f 4 * 4294967296 + four_bytes f 0) 0x8080808080808080 ≡ bit_and (four_bytes f 4) 0x80808080 * 4294967296 + bit_and (four_bytes f 0) 0x80808080 =
     and_block 32 (four_bytes f 4) 0x80808080 (four_bytes f 0) 0x80808080 (omega (arith, fit 0 (omega arith), fit 1 (omega arith), fit 2 (omega arith), fit 3 (omega arith))) (omega arith) in
-    halves ∙ ap₂ (λ x y. x * 4294967296 + y) (tops_4 (f 4) (f 5) (f 6) (f 7) (fit 4 (omega arith)) (fit 5 (omega arith)) (fit 6 (omega arith)) (fit 7 (omega arith))) (tops_4 (f 0) (f 1) (f 2) (f 3) (fit 0 (omega arith)) (fit 1 (omega arith)) (fit 2 (omega arith)) (fit 3 (omega arith)))
+    halves ∙ ap₂ (λ x y. x * 4294967296 + y) (tops_of_half (f 4) (f 5) (f 6) (f 7) (fit 4 (omega arith)) (fit 5 (omega arith)) (fit 6 (omega arith)) (fit 7 (omega arith))) (tops_of_half (f 0) (f 1) (f 2) (f 3) (fit 0 (omega arith)) (fit 1 (omega arith)) (fit 2 (omega arith)) (fit 3 (omega arith)))
 
 -- the complement of a word has the complements of its bytes
 turned_by : (b c : ℕ → ℕ) (word : ℕ) → ((k : ℕ) → b k + c k ≡ 255) → word ≡ eight_bytes b → 2 ^ 64 - 1 - word ≡ eight_bytes c

@@ -1,5 +1,5 @@
 -- The numbers that the code computes in lanes are the numbers of the definitions, lane by lane.
-use Rattle.std.proofs.Common.{◌≡◌, map, eqb, suc, subst, get_or, ℕ, ◌+◌, ◌-◌, ◌*◌, ◌<◌, length, ◌/◌, ◌%◌, ◌^◌, List, [], ◌∷◌, bit_and, refl, sym, ap, ◌∙◌, arith, Fits, w16, w32, inl, inr}
+use Rattle.std.proofs.Common.{◌≡◌, map, eqb, suc, subst, get_or, ℕ, ◌+◌, ◌-◌, ◌*◌, ◌<◌, length, replicate, ◌/◌, ◌%◌, ◌^◌, List, [], ◌∷◌, bit_and, refl, sym, ap, ◌∙◌, arith, Fits, w16, w32, inl, inr}
 use Rattle.std.specs.Int.{cast_signed}
 use Rattle.std.specs.Prelude.{pos, neg_ℤ, All}
 use Rattle.std.proofs.lemmas.List.{length-map, get_or-map}
@@ -11,6 +11,8 @@ use Rattle.std.proofs.Math.Facts.{to_z-neg}
 use mir.Syntax.{Width}
 use mir.Val.{bits}
 use lib.Lanes.{Each1}
+use Rattle.std.specs.Simd.Lanes.{zip2}
+use Rattle.std.proofs.lemmas.Simd.{zip2_splat, zip2_of_maps, splat_is_map, map-map}
 use Rattle.twkb_num.specs.Devices.Lanes.{two_groups, four_groups}
 use Rattle.twkb_num.proofs.PairLaws.{zigzag_short}
 use Rattle.twkb_num.proofs.WordLemmas.{firsts_4, seconds_4}
@@ -50,51 +52,51 @@ joined_wide_lane n h =
     let shifted : bit_and m 0x3fff0000 / 2 ^ 2 ≡ bit_and (m / 2 ^ 2) 0x0fffc000 = and_shr m 0x3fff0000 2 in
     omega (arith, is, low, high, shifted, and_mask (m / 65536) 14, and_le_r (m % 65536) 0)
 
--- zigzag undone in two's complement
-pub sign_16 : (n : ℕ) → n < 65536 → cast_signed w16 (bit_xor (n / 2 ^ 1) ((0 + (65536 - bit_and n 1)) % 65536)) ≡ zigzag_value n
-sign_16 n h =
-    let x : ℕ = (0 + (65536 - bit_and n 1)) % 65536 in
-    let one : bit_and n 1 ≡ n % 2 = and_mask n 1 in
+-- half a number, turned by x, means the number by zigzag: x is zero for an even number, and has all bits set for an odd one
+turned_means : (w : Width) (n x ones : ℕ) → (n % 2 ≡ 0 → x ≡ 0) → (n % 2 ≡ 1 → x ≡ ones) → cast_signed w (n / 2) ≡ pos (n / 2)
+    → cast_signed w (bit_xor (n / 2) ones) ≡ neg_ℤ (pos (suc (n / 2))) → cast_signed w (bit_xor (n / 2 ^ 1) x) ≡ zigzag_value n
+turned_means w n x ones none all up down =
     elim (cases_lt (n % 2) 1) [
       | inl even ↦
-          let zero : x ≡ 0 = omega (arith, one, even) in
-          let is : bit_xor (n / 2 ^ 1) x ≡ n / 2 = ap (λ y. bit_xor (n / 2 ^ 1) y) zero ∙ xor_zero_r (n / 2) in
+          let is : bit_xor (n / 2 ^ 1) x ≡ n / 2 = ap (λ y. bit_xor (n / 2 ^ 1) y) (none (omega (arith, even))) ∙ xor_zero_r (n / 2) in
           let means : pos (n / 2) ≡ zigzag_value n = sym (cond-true (eqb (n % 2) 0) _ _ (eq-eqb (n % 2) 0 (omega (arith, even)))) in
-          ap (cast_signed w16) is ∙ to_z_pos w16 (n / 2) (omega (arith, h)) ∙ means
+          ap (cast_signed w) is ∙ up ∙ means
       | inr odd ↦
-          let all : x ≡ 65535 = omega (arith, one, odd) in
-          let is : bit_xor (n / 2 ^ 1) x ≡ 65535 - n / 2 = ap (λ y. bit_xor (n / 2 ^ 1) y) all ∙ omega (arith, h, xor_add_and (n / 2) 65535, and_mask (n / 2) 16) in
-          let bits_are : 65535 - n / 2 ≡ 65536 - suc (n / 2) = omega (arith, h) in
-          let up : (n + 1) / 2 ≡ suc (n / 2) = omega (arith, odd) in
-          let low : cast_signed w16 (65535 - n / 2) ≡ neg_ℤ (pos ((n + 1) / 2)) = ap (cast_signed w16) bits_are ∙ to_z-neg w16 (n / 2) (omega (arith, h)) ∙ sym (ap (λ k. neg_ℤ (pos k)) up) in
+          let is : bit_xor (n / 2 ^ 1) x ≡ bit_xor (n / 2) ones = ap (λ y. bit_xor (n / 2 ^ 1) y) (all (omega (arith, odd))) in
+          let half : (n + 1) / 2 ≡ suc (n / 2) = omega (arith, odd) in
           let means : neg_ℤ (pos ((n + 1) / 2)) ≡ zigzag_value n = sym (cond-false (eqb (n % 2) 0) _ _ (ne_eqb (n % 2) 0 (λ e. omega (arith, e, odd)))) in
-          ap (cast_signed w16) is ∙ low ∙ means
+          ap (cast_signed w) is ∙ down ∙ sym (ap (λ k. neg_ℤ (pos k)) half) ∙ means
     ]
+
+-- zigzag undone in two's complement, in lanes of 16 bits and of 32
+pub sign_16 : (n : ℕ) → n < 65536 → cast_signed w16 (bit_xor (n / 2 ^ 1) ((0 + (65536 - bit_and n 1)) % 65536)) ≡ zigzag_value n
+sign_16 n h =
+    let one : bit_and n 1 ≡ n % 2 = and_mask n 1 in
+    let is : bit_xor (n / 2) 65535 ≡ 65536 - suc (n / 2) = omega (arith, h, xor_add_and (n / 2) 65535, and_mask (n / 2) 16) in
+    turned_means w16 n _ 65535 (λ e. omega (arith, one, e)) (λ e. omega (arith, one, e)) (to_z_pos w16 (n / 2) (omega (arith, h))) (ap (cast_signed w16) is ∙ to_z-neg w16 (n / 2) (omega (arith, h)))
 
 pub sign_32 : (n : ℕ) → n < 4294967296 → cast_signed w32 (bit_xor (n / 2 ^ 1) ((0 + (4294967296 - bit_and n 1)) % 4294967296)) ≡ zigzag_value n
 sign_32 n h =
-    let x : ℕ = (0 + (4294967296 - bit_and n 1)) % 4294967296 in
     let one : bit_and n 1 ≡ n % 2 = and_mask n 1 in
-    elim (cases_lt (n % 2) 1) [
-      | inl even ↦
-          let zero : x ≡ 0 = omega (arith, one, even) in
-          let is : bit_xor (n / 2 ^ 1) x ≡ n / 2 = ap (λ y. bit_xor (n / 2 ^ 1) y) zero ∙ xor_zero_r (n / 2) in
-          let means : pos (n / 2) ≡ zigzag_value n = sym (cond-true (eqb (n % 2) 0) _ _ (eq-eqb (n % 2) 0 (omega (arith, even)))) in
-          ap (cast_signed w32) is ∙ to_z_pos w32 (n / 2) (omega (arith, h)) ∙ means
-      | inr odd ↦
-          let all : x ≡ 4294967295 = omega (arith, one, odd) in
-          let is : bit_xor (n / 2 ^ 1) x ≡ 4294967295 - n / 2 = ap (λ y. bit_xor (n / 2 ^ 1) y) all ∙ omega (arith, h, xor_add_and (n / 2) 4294967295, and_mask (n / 2) 32) in
-          let bits_are : 4294967295 - n / 2 ≡ 4294967296 - suc (n / 2) = omega (arith, h) in
-          let up : (n + 1) / 2 ≡ suc (n / 2) = omega (arith, odd) in
-          let low : cast_signed w32 (4294967295 - n / 2) ≡ neg_ℤ (pos ((n + 1) / 2)) = ap (cast_signed w32) bits_are ∙ to_z-neg w32 (n / 2) (omega (arith, h)) ∙ sym (ap (λ k. neg_ℤ (pos k)) up) in
-          let means : neg_ℤ (pos ((n + 1) / 2)) ≡ zigzag_value n = sym (cond-false (eqb (n % 2) 0) _ _ (ne_eqb (n % 2) 0 (λ e. omega (arith, e, odd)))) in
-          ap (cast_signed w32) is ∙ low ∙ means
-    ]
+    let is : bit_xor (n / 2) 4294967295 ≡ 4294967296 - suc (n / 2) = omega (arith, h, xor_add_and (n / 2) 4294967295, and_mask (n / 2) 32) in
+    turned_means w32 n _ 4294967295 (λ e. omega (arith, one, e)) (λ e. omega (arith, one, e)) (to_z_pos w32 (n / 2) (omega (arith, h))) (ap (cast_signed w32) is ∙ to_z-neg w32 (n / 2) (omega (arith, h)))
 
 -- two functions that agree below a bound give equal results on lanes below it
 pub same_where_fits : {A : Type 0} (w : Width) (f g : ℕ → A) → ((n : ℕ) → n < 2 ^ bits w → f n ≡ g n) → (v : List ℕ) → Each1 (Fits w) v → map f v ≡ map g v
 same_where_fits w f g same [] fits = refl
 same_where_fits w f g same (x ∷ xs) fits = ap (λ y. y ∷ map f xs) (same x fits.0.fits) ∙ ap (λ ys. g x ∷ ys) (same_where_fits w f g same xs fits.1)
+
+-- zigzag is undone in each lane of a vector, if it is undone so in each number that fits a lane
+pub lanes_mean : (w : Width) (many size : ℕ) (v : List ℕ) → length v ≡ many → Each1 (Fits w) v
+    → ((n : ℕ) → n < 2 ^ bits w → cast_signed w (bit_xor (n / 2 ^ 1) ((0 + (size - bit_and n 1)) % size)) ≡ zigzag_value n)
+    → map (cast_signed w) (zip2 bit_xor (zip2 (λ a b. a / 2 ^ b) v (replicate many 1)) (zip2 (λ a b. (a + (size - b)) % size) (replicate many 0) (zip2 bit_and v (replicate many 1)))) ≡ map zigzag_value v
+lanes_mean w many size v long fits undone =
+    let half = zip2_splat (λ a b. a / 2 ^ b) v many 1 long in
+    let odd = zip2_splat bit_and v many 1 long in
+    let minus = zip2_of_maps (λ a b. (a + (size - b)) % size) (λ _. 0) (λ x. bit_and x 1) v (splat_is_map v many 0 long) odd in
+    let all = zip2_of_maps bit_xor (λ x. x / 2 ^ 1) (λ x. (0 + (size - bit_and x 1)) % size) v half minus in
+    ap (map (cast_signed w)) all ∙ map-map (cast_signed w) (λ x. bit_xor (x / 2 ^ 1) ((0 + (size - bit_and x 1)) % size)) v
+    ∙ same_where_fits w (λ x. cast_signed w (bit_xor (x / 2 ^ 1) ((0 + (size - bit_and x 1)) % size))) zigzag_value undone v fits
 
 -- a number below 2^28 means a short one by zigzag
 short_number : (n : ℕ) → n < 2 ^ 28 → IsShort (zigzag_value n)

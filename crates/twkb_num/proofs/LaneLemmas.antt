@@ -1,5 +1,5 @@
 -- Two rows, one after the other, and their lanes.
-use Rattle.std.proofs.Common.{◌≡◌, ℕ, zero, suc, ◌+◌, ◌-◌, ◌*◌, ◌/◌, ◌%◌, ◌<◌, ◌≤◌, ◌^◌, true, eqb, ltb, refl, sym, ap, ◌∙◌, subst, List, [], ◌∷◌, ◌++◌, map, length, take, drop, get_or, arith, inl, inr}
+use Rattle.std.proofs.Common.{◌≡◌, ℕ, ℤ, zero, suc, ◌+◌, ◌-◌, ◌*◌, ◌/◌, ◌%◌, ◌<◌, ◌≤◌, ◌^◌, true, eqb, ltb, refl, sym, ap, ◌∙◌, subst, List, [], ◌∷◌, ◌++◌, map, length, take, drop, get_or, arith, inl, inr}
 use Rattle.std.proofs.lemmas.Bool.{eqb-true, ltb-true, lt-ltb, cond-true, or_cases}
 use Rattle.std.proofs.lemmas.List.{take-take, get_or-take, get_or-drop, append_assoc}
 use Rattle.std.proofs.lemmas.Nat.{shr-shr}
@@ -35,7 +35,7 @@ pub flag_le : (len : ℕ) → IsFlag len → len ≤ 128
 flag_le len (inl low) = omega (arith, low)
 flag_le len (inr far) = omega (arith, far)
 
-pub flag_short : (len : ℕ) → IsFlag len → len < 128 → len ≤ 8
+flag_short : (len : ℕ) → IsFlag len → len < 128 → len ≤ 8
 flag_short len (inl low) short = low
 flag_short len (inr far) short = absurd (omega (arith, far, short))
 
@@ -95,19 +95,30 @@ append_all : (bs cs ns ms : List ℕ) → SpellsAll bs ns → SpellsAll cs ms �
 append_all bs cs [] ms a b = subst (λ xs. SpellsAll (xs ++ cs) ms) (sym a) b
 append_all bs cs (n ∷ ns) ms a b = (a.0, a.1 ++ cs, ap (λ xs. xs ++ cs) a.2 ∙ append_assoc a.0 a.1 cs, a.3, append_all a.1 cs ns ms a.4 b)
 
-pub signed_all : (bs ns : List ℕ) → SpellsAll bs ns → SpellsAllSigned bs (map zigzag_value ns)
+signed_all : (bs ns : List ℕ) → SpellsAll bs ns → SpellsAllSigned bs (map zigzag_value ns)
 signed_all bs [] a = a
 signed_all bs (n ∷ ns) a = (a.0, a.1, a.2, (n, a.3, refl), signed_all a.1 ns a.4)
 
-pub at_front : (bytes v ns : List ℕ) (len : ℕ) → v ≡ take 16 bytes → len ≤ 16 → SpellsAll (take len v) ns → SpellsAll (take len bytes) ns
+at_front : (bytes v ns : List ℕ) (len : ℕ) → v ≡ take 16 bytes → len ≤ 16 → SpellsAll (take len v) ns → SpellsAll (take len bytes) ns
 at_front bytes v ns len v_is few a = subst (λ xs. SpellsAll xs ns) (ap (take len) v_is ∙ take-take len 16 bytes few) a
 
-pub both : (bytes v w ns ms : List ℕ) (one two : ℕ) → v ≡ take 16 bytes → w ≡ take 16 (drop (one % 16) bytes) → one ≤ 8 → two ≤ 8 → SpellsAll (take one v) ns → SpellsAll (take two w) ms → SpellsAll (take (one + two) bytes) (ns ++ ms)
-both bytes v w ns ms one two v_is w_is few_one few_two a b =
+-- two rows, one after the other, spell the numbers of both
+two_rows_spell : (bytes v w ns ms : List ℕ) (one two : ℕ) → v ≡ take 16 bytes → w ≡ take 16 (drop (one % 16) bytes) → one ≤ 8 → two ≤ 8 → SpellsAll (take one v) ns → SpellsAll (take two w) ms → SpellsAll (take (one + two) bytes) (ns ++ ms)
+two_rows_spell bytes v w ns ms one two v_is w_is few_one few_two a b =
     let at : one % 16 ≡ one = omega (arith, few_one) in
     let first = at_front bytes v ns one v_is (omega (arith, few_one)) a in
     let second = at_front (drop one bytes) w ms two (w_is ∙ ap (λ s. take 16 (drop s bytes)) at) (omega (arith, few_two)) b in
     subst (λ xs. SpellsAll xs (ns ++ ms)) (sym (take-add one two bytes)) (append_all (take one bytes) (take two (drop one bytes)) ns ms first second)
+
+-- two rows of numbers that fit their lanes spell what the lanes mean
+pub lanes_spell : (bytes v w ns ms : List ℕ) (one two : ℕ) (zs : List ℤ) → v ≡ take 16 bytes → w ≡ take 16 (drop (one % 16) bytes) → IsFlag one → IsFlag two
+    → (one < 128 → SpellsAll (take one v) ns) → (two < 128 → SpellsAll (take two w) ms) → zs ≡ map zigzag_value (ns ++ ms) → one + two < 128
+    → SpellsAllSigned (take (one + two) bytes) zs
+lanes_spell bytes v w ns ms one two zs v_is w_is flag_one flag_two first second means short =
+    let low_one : one < 128 = omega (arith, short) in
+    let low_two : two < 128 = omega (arith, short) in
+    let all = two_rows_spell bytes v w ns ms one two v_is w_is (flag_short one flag_one low_one) (flag_short two flag_two low_two) (first low_one) (second low_two) in
+    subst (λ xs. SpellsAllSigned (take (one + two) bytes) xs) (sym means) (signed_all (take (one + two) bytes) (ns ++ ms) all)
 
 -- ---- lanes
 cons_same : {A : Type 0} (x y : A) (xs ys : List A) → x ≡ y → xs ≡ ys → x ∷ xs ≡ y ∷ ys

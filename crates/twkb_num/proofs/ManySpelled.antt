@@ -184,8 +184,8 @@ closed bytes many begun none p = subst (λ (bs : List ℕ). SpellsMany bs many) 
     empty (b ∷ bs) e = absurd (omega (arith, e))
 
 -- the bytes from a place to the end
-pub rest_is : (bytes : List ℕ) (done : ℕ) → take (length bytes - done) (drop done bytes) ≡ drop done bytes
-rest_is bytes done = grind (arith, common_steps)
+pub take-behind : (bytes : List ℕ) (done : ℕ) → take (length bytes - done) (drop done bytes) ≡ drop done bytes
+take-behind bytes done = grind (arith, common_steps)
 
 pub ends_begin : (bytes : List ℕ) (many : ℕ) → IsEndsLoop bytes many many 0 (2 ^ 56 - 1)
 ends_begin bytes many = record {
@@ -283,8 +283,8 @@ module _ (bytes : List ℕ) (many left done low : ℕ) (l : IsEndsLoop bytes man
   }
 
 -- bytes up to the second end in a word spell two numbers
-pub two_spelled : (word : List ℕ) (size : ℕ) → length word ≡ 8 → IsEnd word 2 size → IsFrontOf word 2 size
-two_spelled word size eight end =
+pub second_end_spells : (word : List ℕ) (size : ℕ) → length word ≡ 8 → IsEnd word 2 size → IsFrontOf word 2 size
+second_end_spells word size eight end =
     let all : word ≡ take 8 word = sym (ap (λ (n : ℕ). take n word) (sym eight) ∙ take-length word) in
     let early : 1 ≤ ends_to word 7 = omega (arith, end.count, ends_to_grow word size 8 end.few, ended_once word 7) in
     let here : 0 + size ≡ size = omega arith in
@@ -341,7 +341,7 @@ module _ (bytes : List ℕ) (many left done low size : ℕ) (l : IsEndsLoop byte
     | inr none ↦ none
   ])
 
--- the same from the bytes before
+-- bytes that are stuck behind a place are stuck from their beginning on
 pub stuck_behind : (bytes : List ℕ) (place size : ℕ) → place ≤ length bytes → IsStuck (drop place bytes) size → IsStuck bytes (place + size)
 stuck_behind bytes place size within (inl few) = inl (omega (arith, few, within, length-drop place bytes))
 stuck_behind bytes place size within (inr (at, low, on)) = inr (

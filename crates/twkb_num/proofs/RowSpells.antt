@@ -3,7 +3,7 @@ use Rattle.std.proofs.Common.{◌≡◌, ℕ, zero, suc, ◌+◌, ◌-◌, ◌/�
 use Rattle.std.proofs.lemmas.Bool.{and_parts, eqb-true, eqb-false, ltb-true, lt-ltb, cond-true, cond-false, cases_Bool}
 use Rattle.std.proofs.lemmas.List.{drop_more, drop-drop, length-take}
 use Rattle.std.proofs.Math.Seq.{take-add}
-use Rattle.twkb_num.specs.Devices.Lanes.{byte_at, byte_of, value_at, values}
+use Rattle.twkb_num.specs.Devices.Lanes.{byte_or_zero, byte_of, value_at, values, IsTops}
 use Rattle.twkb_num.specs.Varint.{SpellsAll}
 use Rattle.twkb_num.proofs.SpellingForms.{varint_value, IsVarintForm, form_spells}
 use Rattle.twkb_num.proofs.TableLaws.{length_at, none_ok, lane_ok, row_ok}
@@ -15,9 +15,18 @@ form_more b (c ∷ bs) on form = (on, form)
 
 -- picked from the bytes by the places of a row; the mask has their tops
 pub record IsPicked (bytes : List ℕ) (row : ℕ) (picked : List ℕ) (mask : ℕ) : Type 0 where
-  pub picks : (i : ℕ) → i < 8 → get_or picked i 0 ≡ byte_at bytes (byte_of row i)
+  pub picks : (i : ℕ) → i < 8 → get_or picked i 0 ≡ byte_or_zero bytes (byte_of row i)
   pub tops : (i : ℕ) → i < 8 → mask / 2 ^ i % 2 ≡ get_or bytes i 0 / 128
   pub long : 16 ≤ length bytes
+
+-- what the places of a row pick from sixteen bytes
+pub picked_row : (v places picked : List ℕ) (row tops : ℕ) → length v ≡ 16 → IsTops tops v → ((i : ℕ) → i < 16 → get_or picked i 0 ≡ byte_or_zero v (get_or places i 0)) → ((i : ℕ) → i < 8 → get_or places i 0 ≡ byte_of row i)
+    → IsPicked v row picked tops
+picked_row v places picked row tops long are picks place = record {
+  picks = λ i h. picks i (omega (arith, h)) ∙ ap (byte_or_zero v) (place i h);
+  tops = are;
+  long = omega (arith, long);
+}
 
 -- a place that takes nothing gives a zero
 none_value : (bytes : List ℕ) (row : ℕ) (picked : List ℕ) (mask : ℕ) → IsPicked bytes row picked mask → (n i : ℕ) → none_ok n row i ≡ true → value_at n picked i ≡ 0
@@ -25,16 +34,16 @@ none_value bytes row picked mask p zero i ok = refl
 none_value bytes row picked mask p (suc n) i ok =
     let one = and_parts (ltb i 8) (eqb (byte_of row i) 255 && none_ok n row (suc i)) ok in
     let two = and_parts (eqb (byte_of row i) 255) (none_ok n row (suc i)) one.1 in
-    let is : get_or picked i 0 ≡ 0 = p.picks i (ltb-true i 8 one.0) ∙ ap (byte_at bytes) (eqb-true (byte_of row i) 255 two.0) in
+    let is : get_or picked i 0 ≡ 0 = p.picks i (ltb-true i 8 one.0) ∙ ap (byte_or_zero bytes) (eqb-true (byte_of row i) 255 two.0) in
     omega (arith, is, none_value bytes row picked mask p n (suc i) two.1)
 
 -- what a lane holds, of n places from i on, by the varint at a place
-pub record Holds (bytes picked : List ℕ) (n i at len : ℕ) : Type 0 where
+pub record LaneHolds (bytes picked : List ℕ) (n i at len : ℕ) : Type 0 where
   pub form : IsVarintForm (take len (drop at bytes))
   pub value : varint_value (take len (drop at bytes)) ≡ value_at n picked i
   pub few : at + len ≤ 8
 
-lane_holds : (bytes : List ℕ) (row : ℕ) (picked : List ℕ) (mask : ℕ) → IsPicked bytes row picked mask → (n i at : ℕ) → lane_ok n row i mask at ≡ true → Holds bytes picked n i at (length_at n mask at)
+lane_holds : (bytes : List ℕ) (row : ℕ) (picked : List ℕ) (mask : ℕ) → IsPicked bytes row picked mask → (n i at : ℕ) → lane_ok n row i mask at ≡ true → LaneHolds bytes picked n i at (length_at n mask at)
 lane_holds bytes row picked mask p zero i at ok = absurd (cc ok)
 lane_holds bytes row picked mask p (suc n) i at ok =
     let bit : Bool = eqb (mask / 2 ^ at % 2) 0 in
@@ -45,7 +54,7 @@ lane_holds bytes row picked mask p (suc n) i at ok =
     let there : at < 8 = ltb-true at 8 two.0 in
     let b : ℕ = get_or bytes at 0 in
     let same : at % 16 ≡ at = omega (arith, there) in
-    let is : get_or picked i 0 ≡ b = p.picks i (ltb-true i 8 one.0) ∙ ap (byte_at bytes) (eqb-true (byte_of row i) at three.0) ∙ cond-true (ltb at 128) _ _ (lt-ltb at 128 (omega (arith, there))) ∙ ap (λ k. get_or bytes k 0) same in
+    let is : get_or picked i 0 ≡ b = p.picks i (ltb-true i 8 one.0) ∙ ap (byte_or_zero bytes) (eqb-true (byte_of row i) at three.0) ∙ cond-true (ltb at 128) _ _ (lt-ltb at 128 (omega (arith, there))) ∙ ap (λ k. get_or bytes k 0) same in
     let next : at + 1 ≡ suc at = omega arith in
     let front : drop at bytes ≡ b ∷ drop (suc at) bytes = drop_more bytes at 0 (omega (arith, there, p.long)) ∙ ap (λ k. b ∷ drop k bytes) next in
     let top = p.tops at there in
@@ -56,12 +65,12 @@ lane_holds bytes row picked mask p (suc n) i at ok =
           let len : length_at (suc n) mask at ≡ 1 = cond-true bit _ _ ends in
           let whole : take 1 (drop at bytes) ≡ b ∷ [] = ap (take 1) front in
           let end : b < 128 = omega (arith, top, zero_bit) in
-          let held : Holds bytes picked (suc n) i at 1 = record {
+          let held : LaneHolds bytes picked (suc n) i at 1 = record {
             form = subst IsVarintForm (sym whole) end;
             value = ap varint_value whole ∙ omega (arith, is, none);
             few = omega (arith, there);
           } in
-          subst (λ l. Holds bytes picked (suc n) i at l) (sym len) held
+          subst (λ l. LaneHolds bytes picked (suc n) i at l) (sym len) held
       | inr goes ↦
           let l : ℕ = length_at n mask (suc at) in
           let one_bit = eqb-false (mask / 2 ^ at % 2) 0 goes in
@@ -69,12 +78,12 @@ lane_holds bytes row picked mask p (suc n) i at ok =
           let len : length_at (suc n) mask at ≡ suc l = cond-false bit _ _ goes in
           let whole : take (suc l) (drop at bytes) ≡ b ∷ take l (drop (suc at) bytes) = ap (take (suc l)) front in
           let on : 128 ≤ b = omega (arith, top, one_bit) in
-          let held : Holds bytes picked (suc n) i at (suc l) = record {
+          let held : LaneHolds bytes picked (suc n) i at (suc l) = record {
             form = subst IsVarintForm (sym whole) (form_more b _ on rec.form);
             value = ap varint_value whole ∙ omega (arith, is, rec.value);
             few = omega (arith, rec.few);
           } in
-          subst (λ l. Holds bytes picked (suc n) i at l) (sym len) held
+          subst (λ l. LaneHolds bytes picked (suc n) i at l) (sym len) held
     ]
 
 -- k lanes hold k numbers that the bytes spell, from a place on

@@ -118,7 +118,7 @@ one_top_ends bytes n is some none =
     ] in
     omega (arith, sym (cleared_behind i f k (omega (arith, from, before))) ∙ all_zero (cleared i f) m (λ k h. cleared_few i f k (ended_once bytes k)) is_m none k h)
 
--- the same where the number before is as the code has it
+-- where no top is left without the lowest, as the code computes it, at most one byte ends
 pub no_second_end : (bytes : List ℕ) (n : ℕ) → n < 2 ^ 64 → n ≡ eight_bytes (λ k. ended bytes k * 128) → bit_and n ((n + (2 ^ 64 - 1)) % 2 ^ 64) ≡ 0 → EndsOnce bytes
 no_second_end bytes n fits is none =
     elim (cases_lt 0 n) [

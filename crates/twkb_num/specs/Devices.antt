@@ -3,3 +3,4 @@ pub mod Varint
 pub mod Ends
 pub mod Word
 pub mod Lanes
+pub mod Pairs

@@ -20,7 +20,8 @@ pub record PassesRun (each : ℕ) (old new : Reading) (groups : ℕ) : Type 0 wh
 abbrev pub PassesRuns : ℕ → ℕ → Reading → Reading → ℕ → Type 0
 PassesRuns each zero old new groups = (new ≡ old) × (groups ≡ 0)
 PassesRuns each (suc runs) old new groups =
-    (last : Reading) × (before count : ℕ) × PassesRuns each runs old last before × PassesRun each last new count × (groups ≡ before + count)
+    (last : Reading) × (before count : ℕ)
+    × PassesRuns each runs old last before × PassesRun each last new count × (groups ≡ before + count)
 
 -- a count of runs was passed, and then that many runs
 pub record PassesCountedRuns (each : ℕ) (old new : Reading) (groups : ℕ) : Type 0 where
@@ -29,12 +30,21 @@ pub record PassesCountedRuns (each : ℕ) (old new : Reading) (groups : ℕ) : T
   pub counted : PassesNumber old middle runs
   pub passed : PassesRuns each runs middle new groups
 
--- the run at the place isn't passed: its count is a fault, or there are more groups in it than this, or too few bytes for its
--- varints, or they stop before the last
+-- no number is at the place: there is a fault
+abbrev pub LacksNumber : Reading → Type 0
+LacksNumber r = (fault : NumFault) × Faults fault (rest r)
+
+-- so many groups aren't passed: they are more than the most, or there are too few bytes for their varints, or these stop before
+-- the last
+abbrev pub RefusesGroups : ℕ → ℕ → ℕ → Reading → Type 0
+RefusesGroups each most groups r =
+    (most < groups) ⊎ ((length (rest r) < groups * each) ⊎ StopsBefore (groups * each) (rest r))
+
+-- the run at the place isn't passed: it has no count, or its groups aren't passed
 abbrev pub RefusesRun : ℕ → ℕ → Reading → Type 0
 RefusesRun each most old =
-    ((fault : NumFault) × Faults fault (rest old))
-    ⊎ ((middle : Reading) × (count : ℕ) × PassesNumber old middle count × ((most < count) ⊎ ((length (rest middle) < count * each) ⊎ StopsBefore (count * each) (rest middle))))
+    LacksNumber old
+    ⊎ ((middle : Reading) × (groups : ℕ) × PassesNumber old middle groups × RefusesGroups each most groups middle)
 
 -- fewer runs than these can be passed: the one after them isn't, of the groups that are then left of the most
 pub record StopsBeforeRun (each runs most : ℕ) (old : Reading) : Type 0 where
@@ -45,7 +55,9 @@ pub record StopsBeforeRun (each runs most : ℕ) (old : Reading) : Type 0 where
   pub ahead : PassesRuns each before old last groups
   pub refused : RefusesRun each (most - groups) last
 
--- the count of runs is a fault or above 2^16, or fewer runs can be passed
+-- there is no count of runs, or it is above 2^16, or fewer runs can be passed
 abbrev pub RefusesCountedRuns : ℕ → ℕ → Reading → Type 0
 RefusesCountedRuns each most old =
-    ((fault : NumFault) × Faults fault (rest old)) ⊎ ((middle : Reading) × (runs : ℕ) × PassesNumber old middle runs × ((2 ^ 16 < runs) ⊎ StopsBeforeRun each runs most middle))
+    LacksNumber old
+    ⊎ ((middle : Reading) × (runs : ℕ) × PassesNumber old middle runs
+    × ((2 ^ 16 < runs) ⊎ StopsBeforeRun each runs most middle))

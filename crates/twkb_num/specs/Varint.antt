@@ -66,7 +66,8 @@ SpellsAll bytes (n ∷ ns) = (front behind : List ℕ) × (bytes ≡ front ++ be
 -- the bytes spell numbers that mean these by zigzag, one after another
 abbrev pub SpellsAllSigned : List ℕ → List ℤ → Type 0
 SpellsAllSigned bytes [] = bytes ≡ []
-SpellsAllSigned bytes (z ∷ zs) = (front behind : List ℕ) × (bytes ≡ front ++ behind) × IsSigned z front × SpellsAllSigned behind zs
+SpellsAllSigned bytes (z ∷ zs) =
+    (front behind : List ℕ) × (bytes ≡ front ++ behind) × IsSigned z front × SpellsAllSigned behind zs
 
 -- a signed number that two bytes can spell
 abbrev pub IsBrief : ℤ → Type 0
@@ -89,7 +90,9 @@ IsUnended bytes = (length bytes < 8) ⊎ ((k : ℕ) → k < 8 → 128 ≤ slice_
 
 -- after the first `size` bytes fewer than eleven are left, or four of the next eleven, one after another, go on
 abbrev pub IsStuck : List ℕ → ℕ → Type 0
-IsStuck bytes size = (length bytes < size + 11) ⊎ ((at : ℕ) × (at ≤ 7) × ((k : ℕ) → k < 4 → 128 ≤ slice_index bytes (size + at + k)))
+IsStuck bytes size =
+    (length bytes < size + 11)
+    ⊎ ((at : ℕ) × (at ≤ 7) × ((k : ℕ) → k < 4 → 128 ≤ slice_index bytes (size + at + k)))
 
 -- among the first `within` bytes, n go on, one after another
 abbrev pub HasLong : ℕ → ℕ → List ℕ → Type 0

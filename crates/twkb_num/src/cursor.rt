@@ -6,7 +6,7 @@ ghost use Rattle.twkb_num.specs.Varint.{SpellsMany, Spells, IsSigned, Faults, Is
 ghost use Rattle.twkb_num.specs.declared.varint.NumFault.TheVariants.{Cut};
 ghost use Rattle.twkb_num.specs.Devices.Varint.{IsBegunBy};
 
-use crate::ends::{first_end, run_of};
+use crate::ends::{first_end, first_varints};
 use crate::signed::unzigzag;
 use crate::varint::{NumFault, decode};
 use std::marker::Model;
@@ -295,9 +295,9 @@ impl<'a> Cursor<'a> {
         ensures stops { result < many → IsStuck self.old.bytes self.new.place }
         ensures moved { IsMoved self.old self.new }
     {
-        let run = run_of(&self.bytes[self.place..], many);
-        self.place += run.size;
-        run.many
+        let first = first_varints(&self.bytes[self.place..], many);
+        self.place += first.size;
+        first.many
     }
 
     /// Moves past `many` varints, or past none: if [`Cursor::pass_varints`] would pass fewer, it returns `None`, and the cursor is
@@ -314,7 +314,7 @@ impl<'a> Cursor<'a> {
         if (bytes.len() as u64) < many {
             return None;
         }
-        let front = run_of(bytes, many);
+        let front = first_varints(bytes, many);
         if front.many < many {
             return None;
         }

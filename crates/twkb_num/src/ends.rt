@@ -45,7 +45,7 @@ pub fn second_end(bytes: &[u8; 8]) -> Option<usize>
 
 /// Varints at the front of bytes: how many, and how many bytes they take.
 #[derive(Clone, Copy)]
-pub struct Run {
+pub struct FirstVarints {
     pub many: u64,
     pub size: usize,
 }
@@ -54,7 +54,7 @@ pub struct Run {
 /// of the first word in its first seven bytes. It also stops before a word without an end in its second half, unless the last
 /// varint ends in the word. So each varint takes at most seven bytes. Ends are counted, and no step waits for a varint's length.
 #[inline(always)]
-pub fn run_of(bytes: &[u8], many: u64) -> Run
+pub fn first_varints(bytes: &[u8], many: u64) -> FirstVarints
     ensures few { result.many ≤ many }
     ensures front { IsFrontOf bytes.now result.many result.size }
     ensures stuck { result.many < many → IsStuck bytes.now result.size }
@@ -72,7 +72,7 @@ pub fn run_of(bytes: &[u8], many: u64) -> Run
         }
         let here = count_of_ends(word);
         if left <= here {
-            return Run {
+            return FirstVarints {
                 many,
                 size: done + end_of(word, left),
             };
@@ -84,7 +84,7 @@ pub fn run_of(bytes: &[u8], many: u64) -> Run
         done += 8;
         low = FOUR;
     }
-    Run {
+    FirstVarints {
         many: many - left,
         size: last_end(&bytes[..done]),
     }

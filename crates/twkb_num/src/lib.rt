@@ -28,13 +28,13 @@
 
 mod cursor;
 mod ends;
-mod lanes;
 mod scale;
 mod signed;
 mod tables;
 #[cfg(test)]
 mod tests;
 mod varint;
+mod vectors;
 mod word;
 
 pub use cursor::{Cursor, Eight, Four};

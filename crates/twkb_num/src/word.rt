@@ -1,13 +1,13 @@
 //! Two varints from the next eight bytes, read as one word.
 ghost use Rattle.std.specs.Prelude.{◌≡◌, ◌<◌, ◌≤◌, ◌^◌, take, IfSome, IfNone};
 ghost use Rattle.twkb_num.specs.Varint.{IsShort, SpellsTwo, SpellsTwoSigned, zigzag_value, HasLong};
-ghost use Rattle.twkb_num.specs.Devices.Word.{IsFront, AllGoOn};
+ghost use Rattle.twkb_num.specs.Devices.Word.{LowBitsSpell, AllGoOn};
 
 use crate::signed::unzigzag;
 
-/// Two numbers, and the length of both spellings together.
+/// Two unsigned numbers, and the length of both spellings together.
 #[derive(Clone, Copy)]
-struct Two {
+struct UnsignedPair {
     first: u64,
     second: u64,
     len: usize,
@@ -15,21 +15,21 @@ struct Two {
 
 /// Two signed numbers, and the length of both spellings together.
 #[derive(Clone, Copy)]
-pub struct Pair {
+pub struct SignedPair {
     pub first: i64,
     pub second: i64,
     pub len: usize,
 }
 
-impl Two {
+impl UnsignedPair {
     /// What the numbers mean by zigzag.
     #[inline(always)]
-    fn signed(self) -> Pair
+    fn unzigzag(self) -> SignedPair
         ensures first { result.first ≡ zigzag_value self.first }
         ensures second { result.second ≡ zigzag_value self.second }
         ensures len { result.len ≡ self.len }
     {
-        Pair {
+        SignedPair {
             first: unzigzag(self.first),
             second: unzigzag(self.second),
             len: self.len,
@@ -39,7 +39,7 @@ impl Two {
 
 /// The two numbers that the front of the eight bytes spells, if both take one byte or both take two. `None` says nothing.
 #[inline(always)]
-fn short_two(bytes: &[u8; 8]) -> Option<Two>
+fn short_two(bytes: &[u8; 8]) -> Option<UnsignedPair>
     ensures len { IfSome result (λ two. two.len ≤ 8) }
     ensures some { IfSome result (λ two. SpellsTwo (take two.len bytes.now) two.first two.second) }
     ensures short { IfSome result (λ two. (two.first < 2 ^ 28) × (two.second < 2 ^ 28)) }
@@ -48,14 +48,14 @@ fn short_two(bytes: &[u8; 8]) -> Option<Two>
     if word & 0x8080_8080 == 0x0080_0080 {
         // The second group of each number is pushed to its first.
         let packed = (word & 0x007f_007f) + (word & 0x7f00_7f00) / 2;
-        return Some(Two {
+        return Some(UnsignedPair {
             first: packed % 65536,
             second: packed / 65536,
             len: 4,
         });
     }
     if word & 0x8080 == 0 {
-        return Some(Two {
+        return Some(UnsignedPair {
             first: word % 128,
             second: word / 256 % 128,
             len: 2,
@@ -67,53 +67,53 @@ fn short_two(bytes: &[u8; 8]) -> Option<Two>
 /// The two signed numbers that the front of the eight bytes spells, if each takes at most four bytes. `None` says nothing.
 // Each arm undoes zigzag by itself: after the `match`, the compiler would put the two numbers into one register.
 #[inline(always)]
-pub fn next_pair(bytes: &[u8; 8]) -> Option<Pair>
+pub fn next_pair(bytes: &[u8; 8]) -> Option<SignedPair>
     ensures len { IfSome result (λ pair. pair.len ≤ 8) }
     ensures some { IfSome result (λ pair. SpellsTwoSigned (take pair.len bytes.now) pair.first pair.second) }
     ensures short { IfSome result (λ pair. IsShort pair.first × IsShort pair.second) }
     ensures told { IfNone result (HasLong 4 8 bytes.now) }
 {
     match short_two(bytes) {
-        Some(two) => Some(two.signed()),
+        Some(two) => Some(two.unzigzag()),
         None => {
             let two = mixed_two(bytes)?;
-            Some(two.signed())
+            Some(two.unzigzag())
         }
     }
 }
 
 /// Reads two numbers as [`next_pair`] does, without a path for two of equal length.
 #[inline(always)]
-pub fn next_mixed_pair(bytes: &[u8; 8]) -> Option<Pair>
+pub fn next_mixed_pair(bytes: &[u8; 8]) -> Option<SignedPair>
     ensures len { IfSome result (λ pair. pair.len ≤ 8) }
     ensures some { IfSome result (λ pair. SpellsTwoSigned (take pair.len bytes.now) pair.first pair.second) }
     ensures short { IfSome result (λ pair. IsShort pair.first × IsShort pair.second) }
     ensures told { IfNone result (HasLong 4 8 bytes.now) }
 {
     let two = mixed_two(bytes)?;
-    Some(two.signed())
+    Some(two.unzigzag())
 }
 
-/// A number, and the length of its spelling in bits: 8, 16, 24 or 32.
+/// The first number of a word, and the length of its spelling in bits: 8, 16, 24 or 32.
 #[derive(Clone, Copy)]
-struct Front {
+struct FirstNumber {
     value: u64,
     bits: u32,
 }
 
 /// The two numbers that the front of the eight bytes spells, if each takes at most four bytes. `None` says nothing.
 #[inline(always)]
-fn mixed_two(bytes: &[u8; 8]) -> Option<Two>
+fn mixed_two(bytes: &[u8; 8]) -> Option<UnsignedPair>
     ensures len { IfSome result (λ two. two.len ≤ 8) }
     ensures some { IfSome result (λ two. SpellsTwo (take two.len bytes.now) two.first two.second) }
     ensures short { IfSome result (λ two. (two.first < 2 ^ 28) × (two.second < 2 ^ 28)) }
     ensures told { IfNone result (HasLong 4 8 bytes.now) }
 {
     let word = u64::from_le_bytes(*bytes);
-    let first = front_of((word % (1 << 32)) as u32)?;
+    let first = first_number((word % (1 << 32)) as u32)?;
     let behind = word >> first.bits;
-    let second = front_of((behind % (1 << 32)) as u32)?;
-    Some(Two {
+    let second = first_number((behind % (1 << 32)) as u32)?;
+    Some(UnsignedPair {
         first: first.value,
         second: second.value,
         len: ((first.bits + second.bits) / 8) as usize,
@@ -122,9 +122,9 @@ fn mixed_two(bytes: &[u8; 8]) -> Option<Two>
 
 // The number that the lowest bytes spell, and its length in bits. `None` if no byte of the four ends it.
 #[inline(always)]
-fn front_of(low: u32) -> Option<Front>
-    ensures some { IfSome result (λ front. IsFront low front.bits front.value) }
-    ensures short { IfSome result (λ front. front.value < 2 ^ 28) }
+fn first_number(low: u32) -> Option<FirstNumber>
+    ensures some { IfSome result (λ first. LowBitsSpell low first.bits first.value) }
+    ensures short { IfSome result (λ first. first.value < 2 ^ 28) }
     ensures told { IfNone result (AllGoOn low) }
 {
     let ends = !low & 0x8080_8080;
@@ -137,5 +137,5 @@ fn front_of(low: u32) -> Option<Front>
         + cut / 256 % 128 * 128
         + cut / 65536 % 128 * 16384
         + cut / 16777216 % 128 * 2097152;
-    Some(Front { value, bits })
+    Some(FirstNumber { value, bits })
 }

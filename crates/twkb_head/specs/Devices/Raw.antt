@@ -1,6 +1,6 @@
 -- Devices of proofs: nothing public names them.
--- The fields of a header whose box is raw numbers, as they are read.
-use Rattle.std.specs.Prelude.{◌≡◌, ℕ, ℤ, pos, Bool, true, false, Option, option_map, Result, Ok, Err}
+-- The fields of a header whose box is raw integers, as they are read.
+use Rattle.std.specs.Prelude.{◌≡◌, ℕ, ℤ, Bool, true, false, Option, Some, is_some, option_map, Result, Ok, Err}
 use Rattle.twkb_head.specs.declared.refusal.Malformed.{Malformed}
 use Rattle.twkb_head.specs.declared.raw.RawBox.{RawBox}
 use Rattle.twkb_num.specs.Cursor.{Reading}
@@ -8,44 +8,60 @@ use Rattle.twkb_head.specs.declared.boxes.Bounds.{Bounds}
 use Rattle.twkb_head.specs.declared.raw.RawRange.{RawRange}
 use Rattle.twkb_head.specs.declared.raw.Fields.{Fields}
 use Rattle.twkb_head.specs.declared.read.Begun.{Begun}
-use Rattle.twkb_head.specs.Shared.Reader.{range_from}
-use Rattle.twkb_head.specs.Devices.HeadReader.{kind_from_type, byte_at}
-use Rattle.twkb_head.specs.Raw.{ends_of, raw_bounds, head_said}
+use Rattle.twkb_head.specs.Shared.Reader.{optional_at, range_from}
+use Rattle.twkb_head.specs.Devices.HeadReader.{kind_from_type, byte_at, bounds_from}
+use Rattle.twkb_head.specs.Raw.{ends_of, zero_range, raw_bounds, head_said}
 use Rattle.twkb_head.specs.declared.header.Head.{Head}
 
 -- the range of an axis that is there was read, or it isn't there, and the range is all zeros
 abbrev pub IsRangeIf : Bool → RawRange → Reading → Reading → Type 0
 IsRangeIf true range old new = range_from old ≡ (Ok (ends_of range), new)
-IsRangeIf false range old new = (range ≡ record { minimum = pos 0; extent = pos 0 }) × (new ≡ old)
+IsRangeIf false range old new = (range ≡ zero_range) × (new ≡ old)
 
--- a range that was read, as its least and its greatest number, or the fault
-abbrev pub ended : Result RawRange Malformed → Result (ℤ × ℤ) Malformed
-ended (Ok range) = Ok (ends_of range)
-ended (Err m) = Err m
+-- what the code read, in the terms of the definitions, or the fault: a range as its least and its greatest number
+abbrev pub range_result : Result RawRange Malformed → Result (ℤ × ℤ) Malformed
+range_result (Ok range) = Ok (ends_of range)
+range_result (Err m) = Err m
 
-abbrev pub both_ended : Result (RawRange × RawRange) Malformed → Result ((ℤ × ℤ) × (ℤ × ℤ)) Malformed
-both_ended (Ok both) = Ok (ends_of both.0, ends_of both.1)
-both_ended (Err m) = Err m
+-- two ranges, each as its least and its greatest number, or the fault
+abbrev pub two_ranges_result : Result (RawRange × RawRange) Malformed → Result ((ℤ × ℤ) × (ℤ × ℤ)) Malformed
+two_ranges_result (Ok both) = Ok (ends_of both.0, ends_of both.1)
+two_ranges_result (Err m) = Err m
 
-abbrev pub in_units : ℤ → Option ℕ → Option ℕ → Result RawBox Malformed → Result Bounds Malformed
-in_units xy z m (Ok box) = Ok (raw_bounds xy z m box)
-in_units xy z m (Err w) = Err w
+-- a box in units, or the fault
+abbrev pub bounds_result : ℤ → Option ℕ → Option ℕ → Result RawBox Malformed → Result Bounds Malformed
+bounds_result xy z m (Ok box) = Ok (raw_bounds xy z m box)
+bounds_result xy z m (Err w) = Err w
 
-abbrev pub bounded : ℤ → Option ℕ → Option ℕ → Result (Option RawBox) Malformed → Result (Option Bounds) Malformed
-bounded xy z m (Ok box) = Ok (option_map (raw_bounds xy z m) box)
-bounded xy z m (Err w) = Err w
+-- a box in units, where there is one, or the fault
+abbrev pub bounds_result_if : ℤ → Option ℕ → Option ℕ → Result (Option RawBox) Malformed
+    → Result (Option Bounds) Malformed
+bounds_result_if xy z m (Ok box) = Ok (option_map (raw_bounds xy z m) box)
+bounds_result_if xy z m (Err w) = Err w
 
-abbrev pub made_whole : Result Fields Malformed → Result Head Malformed
-made_whole (Ok raw) = Ok (head_said raw)
-made_whole (Err m) = Err m
+-- a header with its box in units, or the fault
+abbrev pub head_result : Result Fields Malformed → Result Head Malformed
+head_result (Ok raw) = Ok (head_said raw)
+head_result (Err m) = Err m
 
 -- the range of an axis that is there was read, or its fault; or it isn't there, and the range is all zeros
 abbrev pub ReadsIf : Bool → Result RawRange Malformed → Reading → Reading → Type 0
 ReadsIf there (Ok range) old new = IsRangeIf there range old new
 ReadsIf there (Err m) old new = (there ≡ true) × (range_from old ≡ (Err m, new))
 
--- A header was begun, by its first two bytes.
-pub record HasBegun (levels : ℕ) (begun : Begun) (before now : Reading) : Type 0 where
+-- a box of all four axes was read, whatever their precisions, or its fault
+abbrev pub ReadsFullBox : Result RawBox Malformed → Reading → Reading → Type 0
+ReadsFullBox result old new =
+    (xy : ℤ) (z m : ℕ) → bounds_from xy (Some z) (Some m) old ≡ (bounds_result xy (Some z) (Some m) result, new)
+
+-- a box was read if it is announced, whatever the precisions of its axes, or its fault
+abbrev pub ReadsBoxIf : Bool → Bool → Bool → Result (Option RawBox) Malformed → Reading → Reading → Type 0
+ReadsBoxIf announced has_z has_m result old new =
+    (xy : ℤ) (z m : Option ℕ) → is_some z ≡ has_z → is_some m ≡ has_m
+    → optional_at announced (bounds_from xy z m) old ≡ (bounds_result_if xy z m result, new)
+
+-- the first two bytes of a header were read, one after the other
+pub record ReadsFirstTwo (levels : ℕ) (begun : Begun) (before now : Reading) : Type 0 where
   pub mid : Reading
   pub type : kind_from_type levels before ≡ (Ok (begun.kind, begun.xy), mid)
   pub byte : byte_at mid ≡ (Ok begun.metadata, now)

@@ -47,11 +47,13 @@ head_from t metadata extended size box = record {
 -- the rest of a header after its size
 abbrev pub after_size : ℕ → ℕ → Option ℕ × ℕ → Option ℕ × ℕ → Plan HeadValue
 after_size t metadata extended size =
-    bind (optional (has_bit metadata 1) (box_plan (axes_with (z_in extended.0) (m_in extended.0)))) (λ box. done (head_from t metadata extended size box))
+    bind (optional (has_bit metadata 1) (box_plan (axes_with (z_in extended.0) (m_in extended.0))))
+    (λ box. done (head_from t metadata extended size box))
 
 -- the rest of a header after its extended dimensions byte
 abbrev pub after_extended : ℕ → ℕ → Option ℕ × ℕ → Plan HeadValue
-after_extended t metadata extended = bind (measure 0 (optional (has_bit metadata 2) number_plan)) (after_size t metadata extended)
+after_extended t metadata extended =
+    bind (measure 0 (optional (has_bit metadata 2) number_plan)) (after_size t metadata extended)
 
 -- the rest of a header after its metadata byte
 abbrev pub after_metadata : ℕ → ℕ → Plan HeadValue

@@ -11,8 +11,8 @@ abbrev pub four_groups : ℕ → ℕ
 four_groups n = n % 128 + n / 256 % 128 * 128 + n / 65536 % 128 * 16384 + n / 16777216 % 128 * 2097152
 
 -- the byte at a place of sixteen, or zero at a place from 128 on
-abbrev pub byte_at : List ℕ → ℕ → ℕ
-byte_at bytes place = if nat_lt place 128 then slice_index bytes (place % 16) else 0
+abbrev pub byte_or_zero : List ℕ → ℕ → ℕ
+byte_or_zero bytes place = if nat_lt place 128 then slice_index bytes (place % 16) else 0
 
 -- the i-th byte of a word, where the lowest is the first
 abbrev pub byte_of : ℕ → ℕ → ℕ

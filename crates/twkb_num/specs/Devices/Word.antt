@@ -4,8 +4,8 @@ use Rattle.std.specs.Prelude.{◌≡◌, ℕ, ◌*◌, ◌/◌, ◌%◌, ◌≤�
 use Rattle.std.specs.Int.{w32, to_le_bytes}
 use Rattle.twkb_num.specs.Varint.{Spells}
 
--- the lowest bits of a word of four bytes, which are whole bytes, spell the value
-pub record IsFront (low bits value : ℕ) : Type 0 where
+-- so many of the lowest bits of a word of four bytes, which are whole bytes, spell the value
+pub record LowBitsSpell (low bits value : ℕ) : Type 0 where
   pub some : 8 ≤ bits
   pub few : bits ≤ 32
   pub whole : bits ≡ 8 * (bits / 8)

@@ -5,7 +5,7 @@ ghost use Rattle.twkb_num.specs.Cursor.{passed, rest, IsMoved};
 ghost use Rattle.twkb_num.specs.Varint.{SpellsAllSigned, IsShort, IsBrief, HasLong};
 
 use super::Cursor;
-use crate::lanes::{narrow_eight, wide_four};
+use crate::vectors::{narrow_eight, wide_four};
 use std::simd::prelude::*;
 
 /// Four signed numbers in lanes of 32 bits, in two's complement. If `is_read` is false, none were read and the lanes are zero.
@@ -30,15 +30,15 @@ impl Four {
     {
         let lanes = self.lanes.to_array();
         (
-            (signed(lanes[0]), signed(lanes[1])),
-            (signed(lanes[2]), signed(lanes[3])),
+            (signed_lane(lanes[0]), signed_lane(lanes[1])),
+            (signed_lane(lanes[2]), signed_lane(lanes[3])),
         )
     }
 }
 
 /// What a lane means in two's complement.
 #[inline(always)]
-fn signed(lane: u32) -> i64
+fn signed_lane(lane: u32) -> i64
     ensures { result ≡ cast_signed w32 lane }
 {
     i64::from(lane.cast_signed())
@@ -49,7 +49,8 @@ impl<'a> Cursor<'a> {
     /// false: it has read nothing, and the lanes are zero.
     #[inline(always)]
     pub fn svarint_four(&mut self) -> Four
-        ensures some { IsTrue result.is_read → SpellsAllSigned (passed self.old self.new) (map (cast_signed w32) result.lanes) }
+        ensures some { IsTrue result.is_read
+            → SpellsAllSigned (passed self.old self.new) (map (cast_signed w32) result.lanes) }
         ensures short { All IsShort (map (cast_signed w32) result.lanes) }
         ensures told { result.is_read ≡ false → (length (rest self.old) < 32) ⊎ HasLong 4 16 (rest self.old) }
         ensures moved { IsTrue result.is_read → IsMoved self.old self.new }
@@ -76,7 +77,8 @@ impl<'a> Cursor<'a> {
     /// false: it has read nothing, and the lanes are zero.
     #[inline(always)]
     pub fn svarint_eight(&mut self) -> Eight
-        ensures some { IsTrue result.is_read → SpellsAllSigned (passed self.old self.new) (map (cast_signed w16) result.lanes) }
+        ensures some { IsTrue result.is_read
+            → SpellsAllSigned (passed self.old self.new) (map (cast_signed w16) result.lanes) }
         ensures brief { All IsBrief (map (cast_signed w16) result.lanes) }
         ensures told { result.is_read ≡ false → (length (rest self.old) < 32) ⊎ HasLong 2 16 (rest self.old) }
         ensures moved { IsTrue result.is_read → IsMoved self.old self.new }

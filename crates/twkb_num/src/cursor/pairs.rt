@@ -1,5 +1,6 @@
 //! Two to four signed numbers at a cursor's place, read together, and two numbers passed together.
 ghost use Rattle.std.specs.Prelude.{◌≡◌, ◌↔◌, ◌+◌, ◌<◌, ◌≤◌, ◌⊎◌, length, IfSome, IfNone, OnSome, IsTrue};
+ghost use Rattle.twkb_num.specs.Devices.Pairs.{PassesTwoPairs};
 ghost use Rattle.twkb_num.specs.Cursor.{Reading, passed, rest, IsMoved};
 ghost use Rattle.twkb_num.specs.Varint.{SpellsMany, SpellsTwoSigned, IsSigned, IsShort, HasLong, EndsOnce};
 
@@ -61,9 +62,7 @@ impl<'a> Cursor<'a> {
     // Two pairs, each from one word of eight bytes.
     #[inline(always)]
     fn two_word_pairs(&mut self) -> Option<((i64, i64), (i64, i64))>
-        ensures some { IfSome result (λ two. (middle : Reading)
-            × SpellsTwoSigned (passed self.old middle) (two.0).0 (two.0).1 × IsMoved self.old middle
-            × SpellsTwoSigned (passed middle self.new) (two.1).0 (two.1).1 × IsMoved middle self.new) }
+        ensures some { IfSome result (λ two. PassesTwoPairs self.old self.new two.0 two.1) }
         ensures first { IfSome result (λ two. IsShort (two.0).0 × IsShort (two.0).1) }
         ensures second { IfSome result (λ two. IsShort (two.1).0 × IsShort (two.1).1) }
         ensures told { IfNone result ((length (rest self.old) < 16) ⊎ HasLong 4 16 (rest self.old)) }

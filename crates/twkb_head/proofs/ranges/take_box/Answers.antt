@@ -3,7 +3,7 @@ use Rattle.std.proofs.Common.{◌≡◌, Bool, ◌&&◌, ◌||◌, true, false, 
 use Rattle.std.proofs.lemmas.Result.{err_from_is_err_and}
 use Rattle.twkb_head.specs.Devices.HeadReader.{bounds_from}
 use Rattle.twkb_head.specs.Shared.Reader.{viewed, optional_at}
-use Rattle.twkb_head.proofs.BoxReads.{flat_first, both_there, box_read, third_stop, none_left}
+use Rattle.twkb_head.proofs.BoxReads.{flat_first, both_there, box_read, third_stop, absent_range}
 use Rattle.twkb_head.proofs.ranges.take_box.Goals as goal
 
 pub returns-then-has_z-has_m-clause-read : goal.returns-then-has_z-has_m-clause-read
@@ -32,4 +32,4 @@ pub returns-in_ok-third-clause-read : goal.returns-in_ok-third-clause-read
 returns-in_ok-third-clause-read g c xy z m z_is m_is =
     let one : (is_some z && is_some m) ≡ false = rw (z_is, m_is) c.if-has_z-has_m.false in
     ap (λ (b : Bool). optional_at b (bounds_from xy z m) c.args.cursor.now) c.if-announced.true
-    ∙ ap (viewed Some) (box_read xy z m _ _ _ _ _ (flat_first xy z m _ _ (Ok (c.in_ok-x.x, c.in_ok-x.y)) c.in_ok-x.ensures) (rw (sym z_is, sym m_is) at c.in_ok-third.ensures) (none_left _ _ one))
+    ∙ ap (viewed Some) (box_read xy z m _ _ _ _ _ (flat_first xy z m _ _ (Ok (c.in_ok-x.x, c.in_ok-x.y)) c.in_ok-x.ensures) (rw (sym z_is, sym m_is) at c.in_ok-third.ensures) (absent_range _ _ one))

@@ -12,4 +12,4 @@ returns-clause-stops c fewer =
     let bytes = c.self.inside.bytes.now in
     let place = c.self.inside.place in
     let whole : slice_range bytes place (length bytes) ≡ drop place bytes = grind (arith, common_steps) in
-    rw (← c.self.view_is) (stuck_behind bytes place c.run_of-run.result.size (search rules) (rw whole at (c.run_of-run.ensures.stuck fewer)))
+    rw (← c.self.view_is) (stuck_behind bytes place c.first_varints-first.result.size (search rules) (rw whole at (c.first_varints-first.ensures.stuck fewer)))

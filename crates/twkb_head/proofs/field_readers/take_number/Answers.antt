@@ -1,0 +1,10 @@
+-- The number that was read, or its fault, is what the reader answers.
+use Rattle.std.proofs.Common.{refl}
+use Rattle.twkb_head.proofs.Steps.{read_number, read_no_number}
+use Rattle.twkb_head.proofs.field_readers.take_number.Goals as goal
+
+pub returns-in-Ok : goal.returns-in-Ok
+returns-in-Ok c = read_number _ _ _ c.in-Ok.ensures.ok c.in-Ok.ensures.moved
+
+pub returns-in-Err : goal.returns-in-Err
+returns-in-Err c = read_no_number _ _ c.in-Err.fault c.malformed.result ((c.in-Err.ensures.fault c.in-Err.fault).0 refl) c.in-Err.ensures.still c.malformed.ensures.offset c.malformed.ensures.why

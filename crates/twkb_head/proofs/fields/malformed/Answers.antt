@@ -1,6 +1,0 @@
--- The refusal names the fault of the number.
-use Rattle.std.proofs.Common.{rules}
-use Rattle.twkb_head.proofs.fields.malformed.Goals as goal
-
-pub returns-in-Cut-clause-why : goal.returns-in-Cut-clause-why
-returns-in-Cut-clause-why c = search rules

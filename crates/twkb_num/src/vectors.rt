@@ -1,0 +1,177 @@
+//! Varints from the next 32 bytes, read into the lanes of vectors.
+ghost use Rattle.std.specs.Prelude.{◌≡◌, ◌+◌, ◌<◌, ◌≤◌, ◌/◌, ◌%◌, ◌^◌, ℕ, map, slice_index, take, All};
+ghost use Rattle.std.specs.Int.{w16, w32, cast_signed};
+ghost use Rattle.twkb_num.specs.Varint.{zigzag_value, SpellsAll, SpellsAllSigned, IsShort, IsBrief, HasLong};
+ghost use Rattle.twkb_num.specs.Devices.Lanes.{two_groups, four_groups, byte_or_zero, IsTops, IsFlag, values};
+
+use crate::tables::{narrow_len, narrow_places, wide_len, wide_places};
+use std::simd::prelude::*;
+
+/// The first numbers of sixteen bytes, with the bytes of each in a lane, whose groups of seven bits aren't pushed together yet, and
+/// the length of all spellings together. A length of 128: one is too long.
+#[derive(Clone, Copy)]
+struct Unpacked {
+    lanes: u8x16,
+    len: u32,
+}
+
+/// Four signed numbers, and the length of all spellings together. 128 or more: one is too long.
+#[derive(Clone, Copy)]
+pub struct Wide {
+    pub lanes: u32x4,
+    pub len: u32,
+}
+
+/// Eight signed numbers, and the length of all spellings together. 128 or more: one is too long.
+#[derive(Clone, Copy)]
+pub struct Narrow {
+    pub lanes: u16x8,
+    pub len: u32,
+}
+
+/// The four numbers that the front of the bytes spells, if each takes at most four bytes.
+#[inline(always)]
+pub fn wide_four(bytes: &[u8; 32]) -> Wide
+    ensures few { result.len < 128 → result.len ≤ 16 }
+    ensures spelled { result.len < 128
+        → SpellsAllSigned (take result.len bytes.now) (map (cast_signed w32) result.lanes) }
+    ensures short { All IsShort (map (cast_signed w32) result.lanes) }
+    ensures long { 128 ≤ result.len → HasLong 4 16 bytes.now }
+{
+    let v = u8x16::from_slice(&bytes[0..16]);
+    let tops = continuation_bits(v);
+    let first = wide_two(v, (tops % 256) as usize);
+    let start = (first.len % 16) as usize;
+    let second = wide_two(
+        u8x16::from_slice(&bytes[start..start + 16]),
+        bits_from(tops, first.len),
+    );
+    let lanes = u32x4::from_le_bytes(low_halves(first.lanes, second.lanes));
+    Wide {
+        lanes: unzigzag_wide(packed_wide(lanes)),
+        len: first.len + second.len,
+    }
+}
+
+/// The eight numbers that the front of the bytes spells, if each takes at most two bytes.
+#[inline(always)]
+pub fn narrow_eight(bytes: &[u8; 32]) -> Narrow
+    ensures few { result.len < 128 → result.len ≤ 16 }
+    ensures spelled { result.len < 128
+        → SpellsAllSigned (take result.len bytes.now) (map (cast_signed w16) result.lanes) }
+    ensures brief { All IsBrief (map (cast_signed w16) result.lanes) }
+    ensures long { 128 ≤ result.len → HasLong 2 16 bytes.now }
+{
+    let v = u8x16::from_slice(&bytes[0..16]);
+    let tops = continuation_bits(v);
+    let first = narrow_four(v, (tops % 256) as usize);
+    let start = (first.len % 16) as usize;
+    let rest = bits_from(tops, first.len);
+    let second = narrow_four(u8x16::from_slice(&bytes[start..start + 16]), rest);
+    let len = first.len + second.len;
+    let all = u16x8::from_le_bytes(low_halves(first.lanes, second.lanes));
+    Narrow {
+        lanes: unzigzag_narrow(packed_narrow(all)),
+        len,
+    }
+}
+
+/// Two numbers of at most four bytes, by the continuation bits of the first eight bytes.
+#[inline(always)]
+fn wide_two(v: u8x16, tops: usize) -> Unpacked
+    requires few { tops < 256 }
+    requires tops { IsTops tops v }
+    ensures flag { IsFlag result.len }
+    ensures spelled { result.len < 128 → SpellsAll (take result.len v) (values 4 2 result.lanes 0) }
+    ensures long { result.len ≡ 128 → HasLong 4 8 v }
+{
+    Unpacked {
+        lanes: picked(v, wide_places(tops)),
+        len: wide_len(tops),
+    }
+}
+
+/// Four numbers of at most two bytes, by the continuation bits of the first eight bytes.
+#[inline(always)]
+fn narrow_four(v: u8x16, tops: usize) -> Unpacked
+    requires few { tops < 256 }
+    requires tops { IsTops tops v }
+    ensures flag { IsFlag result.len }
+    ensures spelled { result.len < 128 → SpellsAll (take result.len v) (values 2 4 result.lanes 0) }
+    ensures long { result.len ≡ 128 → HasLong 2 8 v }
+{
+    Unpacked {
+        lanes: picked(v, narrow_places(tops)),
+        len: narrow_len(tops),
+    }
+}
+
+/// Bit i is the top bit of byte i, which is set where a varint goes on.
+#[inline(always)]
+fn continuation_bits(v: u8x16) -> u32
+    ensures { (i : ℕ) → i < 16 → result / 2 ^ i % 2 ≡ slice_index v i / 128 }
+{
+    (v.simd_ge(u8x16::splat(128)).to_bitmask() % 65536) as u32
+}
+
+/// The continuation bits of the eight bytes after the first `len`, of the continuation bits of sixteen bytes.
+#[inline(always)]
+fn bits_from(tops: u32, len: u32) -> usize
+    requires { IsFlag len }
+    ensures few { result < 256 }
+    ensures moved { result ≡ tops / 2 ^ (len % 16) % 256 }
+{
+    ((tops >> (len % 32)) % 256) as usize
+}
+
+/// The bytes at these places, and zero at a place from 128 on.
+#[inline(always)]
+fn picked(v: u8x16, places: u8x16) -> u8x16
+    ensures { (i : ℕ) → i < 16 → slice_index result i ≡ byte_or_zero v (slice_index places i) }
+{
+    // These are the bits of a place that `pshufb` reads, so the compiler makes no comparison.
+    v.swizzle_dyn(places & u8x16::splat(0x8f))
+}
+
+/// The first eight bytes of one vector, and then the first eight of another.
+#[inline(always)]
+fn low_halves(lo: u8x16, hi: u8x16) -> u8x16
+    ensures low { (i : ℕ) → i < 8 → slice_index result i ≡ slice_index lo i }
+    ensures high { (i : ℕ) → i < 8 → slice_index result (8 + i) ≡ slice_index hi i }
+    ensures fit { (i : ℕ) → i < 16 → slice_index result i < 256 }
+{
+    lo.shuffle(hi, [0, 1, 2, 3, 4, 5, 6, 7, 16, 17, 18, 19, 20, 21, 22, 23])
+}
+
+/// The groups of seven bits of each lane's four bytes, pushed together.
+#[inline(always)]
+fn packed_wide(v: u32x4) -> u32x4
+    ensures { result ≡ map four_groups v }
+{
+    let v = (v & u32x4::splat(0x007f_007f)) + ((v >> u32x4::splat(1)) & u32x4::splat(0x3f80_3f80));
+    (v & u32x4::splat(0x3fff)) + ((v >> u32x4::splat(2)) & u32x4::splat(0x0fff_c000))
+}
+
+/// The groups of seven bits of each lane's two bytes, pushed together.
+#[inline(always)]
+fn packed_narrow(v: u16x8) -> u16x8
+    ensures { result ≡ map two_groups v }
+{
+    (v & u16x8::splat(0x7f)) + ((v & u16x8::splat(0x7f00)) >> u16x8::splat(1))
+}
+
+/// What each lane means by zigzag, in two's complement.
+#[inline(always)]
+fn unzigzag_wide(v: u32x4) -> u32x4
+    ensures { map (cast_signed w32) result ≡ map zigzag_value v }
+{
+    (v >> u32x4::splat(1)) ^ (u32x4::splat(0) - (v & u32x4::splat(1)))
+}
+
+/// What each lane means by zigzag, in two's complement.
+#[inline(always)]
+fn unzigzag_narrow(v: u16x8) -> u16x8
+    ensures { map (cast_signed w16) result ≡ map zigzag_value v }
+{
+    (v >> u16x8::splat(1)) ^ (u16x8::splat(0) - (v & u16x8::splat(1)))
+}
