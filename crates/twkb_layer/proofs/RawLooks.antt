@@ -10,11 +10,11 @@ use Rattle.twkb_head.specs.declared.raw.RawRange.{RawRange}
 use Rattle.twkb_head.specs.declared.raw.RawBox.{RawBox}
 use Rattle.twkb_head.specs.declared.boxes.Bounds.{Bounds}
 use Rattle.twkb_head.specs.declared.boxes.Span.{Span}
-use Rattle.twkb_layer.specs.declared.raw.RawWindow.{RawWindow}
-use Rattle.twkb_layer.specs.Devices.Raw.{IsRawWindow}
+use Rattle.twkb_layer.specs.declared.raw_windows.RawWindow.{RawWindow}
+use Rattle.twkb_layer.specs.Devices.RawWindows.{IsRawWindow}
 use Rattle.twkb_layer.specs.Devices.Slots.{IsInner, AreInner}
 use Rattle.twkb_layer.specs.Window.{in_span, in_bound, is_inside, lie_apart}
-use Rattle.twkb_layer.proofs.Raws.{misses_raw}
+use Rattle.twkb_layer.proofs.RawWindows.{misses_raw}
 
 -- the ends of a near range are neither the least nor the greatest number of 64 bits
 pub inner : (range : RawRange) → IsNear range → AreInner (ends_of range)

@@ -4,7 +4,7 @@ ghost use Rattle.std.specs.Str.Parse.{digits_value, AllDigits};
 ghost use Rattle.twkb_layer.specs.Devices.Decimals.{leaning};
 ghost use Rattle.twkb_layer.specs.Decimals.{Decimal, IsDecimalText, is_less, rational_of, rounded_up, rounded_down, signed, farthest, span_of_decimals};
 
-use crate::text::Text;
+use crate::text_reader::TextReader;
 use std::marker::Model;
 use thiserror::Error;
 use twkb_body::Span;
@@ -89,7 +89,7 @@ impl<'t> Decimal<'t> {
         ensures some { IfSome result (λ d. IsDecimalText text.now d) }
         ensures exact { (d : Decimal) → IsDecimalText text.now d → result ≡ Some d }
     {
-        let mut rest = Text::new(text);
+        let mut rest = TextReader::new(text);
         let minus = rest.skip(b"-");
         let whole = rest.digits();
         let fraction = rest.fraction();

@@ -11,9 +11,9 @@ is_among None blob = true
 is_among (Some limit) blob = nat_lt blob limit
 
 -- the first blobs, as many as the limit says; without a limit all blobs
-abbrev pub first_of : Option ℕ → List Geometry → List Geometry
-first_of None trees = trees
-first_of (Some limit) trees = take limit trees
+abbrev pub first_blobs : Option ℕ → List Geometry → List Geometry
+first_blobs None trees = trees
+first_blobs (Some limit) trees = take limit trees
 
 -- the state after one step for each blob, in file order; the first blob has this number and offset
 abbrev pub after_from : {S : Type 0} → (S → ℕ → ℕ → Geometry → S) → ℕ → ℕ → List Geometry → S → S

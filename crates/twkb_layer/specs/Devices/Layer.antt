@@ -11,5 +11,5 @@ abbrev pub OfBlob : List ℕ → ℕ → (Geometry → Type 0) → Type 0
 OfBlob bytes place P = (g : Geometry) → StandsAt g 1 bytes place → P g
 
 -- the cursor after a geometry of which this many bytes were read
-abbrev pub past : ℕ → Geometry → Reading → Reading
-past read g r = record { bytes = r.bytes; place = r.place + size_of g; count = added r.count read }
+abbrev pub past_blob : ℕ → Geometry → Reading → Reading
+past_blob read g r = record { bytes = r.bytes; place = r.place + size_of g; count = added r.count read }

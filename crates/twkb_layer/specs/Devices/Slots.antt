@@ -31,7 +31,7 @@ pub record HasInnerEnds (l : Written) : Type 0 where
   pub second : (unpacked l.word).form ≡ 0 → AreInner l.second
 
 -- the slot has a box, and `misses` says whether it misses the window in X or in Y
-pub record IsJudged (window : Bounds) (slot : Said) (misses : Bool) : Type 0 where
+pub record IsJudgedByEnds (window : Bounds) (slot : Said) (misses : Bool) : Type 0 where
   pub x : Span
   pub y : Span
   pub first : slot.first ≡ Some x

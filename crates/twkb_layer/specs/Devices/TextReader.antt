@@ -16,8 +16,8 @@ starts_fraction [] = false
 starts_fraction (c ∷ cs) = (c == 46) && starts_digit cs
 
 -- no number goes on here
-abbrev pub ends : List ℕ → Bool
-ends text = not (starts_digit text) && not (starts_fraction text)
+abbrev pub number_ends : List ℕ → Bool
+number_ends text = not (starts_digit text) && not (starts_fraction text)
 
 -- a front was passed that is the text of this value
 abbrev pub Passes : {A : Type 0} → (List ℕ → A → Type 0) → List ℕ → List ℕ → A → Type 0
@@ -26,7 +26,7 @@ Passes IsText old new x = (front : List ℕ) × (old ≡ front ++ new) × IsText
 -- each text of a value at the front is read, if no number goes on after it
 abbrev pub ReadsEach : {A : Type 0} → (List ℕ → A → Type 0) → List ℕ → List ℕ → Option A → Type 0
 ReadsEach {A} IsText old new result = (front behind : List ℕ) (x : A) → old ≡ front ++ behind → IsText front x
-    → ends behind ≡ true → (result ≡ Some x) × (new ≡ behind)
+    → number_ends behind ≡ true → (result ≡ Some x) × (new ≡ behind)
 
 -- a name and a range are read exactly if the text begins with them and no number goes on after them
 pub record ReadsSpan (name old new : List ℕ) (result : Option Span) : Type 0 where
