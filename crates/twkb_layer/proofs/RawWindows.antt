@@ -13,7 +13,7 @@ use Rattle.twkb_head.specs.declared.boxes.Bounds.{Bounds}
 use Rattle.twkb_head.specs.Head.{span_at}
 use Rattle.twkb_layer.specs.declared.raw_windows.RawEnds.{RawEnds}
 use Rattle.twkb_layer.specs.declared.raw_windows.RawWindow.{RawWindow}
-use Rattle.twkb_layer.specs.Devices.RawWindows.{IsRawEnds, IsRawWindow, IsExactEnds, IsExactWindow}
+use Rattle.twkb_layer.specs.Devices.RawWindows.{IsRawEnds, IsRawWindow, IsExactEnds, IsExactWindow, raw_range_misses, raw_box_misses}
 use Rattle.twkb_layer.specs.Devices.Slots.{IsInner, AreInner, HasInnerEnds, IsJudgedByEnds}
 use Rattle.twkb_layer.specs.Slots.{precision_of, Said, Written, range_in, slot_says, unpacked}
 use Rattle.twkb_layer.specs.Window.{lie_apart}
@@ -143,17 +143,17 @@ less_fits hi (negsuc k) fits some rest = absurd (omega (arith, ints, some))
 -- ---- a box against a window
 
 -- a range lies apart in units exactly if its ends do in raw integers
-pub apart : (p : ℤ) (range : Span) (raw : RawEnds) → IsRawEnds p range raw → (ends : ℤ × ℤ) → AreInner ends → (int_lt ends.1 raw.least || int_lt raw.greatest ends.0) ≡ lie_apart (span_at p ends) range
+pub apart : (p : ℤ) (range : Span) (raw : RawEnds) → IsRawEnds p range raw → (ends : ℤ × ℤ) → AreInner ends → raw_range_misses raw ends ≡ lie_apart (span_at p ends) range
 apart p range raw is ends inner = sym (λ j. is.below ends.1 inner.second j || is.above ends.0 inner.first j)
 
 -- a box misses the window in X or Y in units exactly if its ends do in raw integers
 pub misses_raw : (p : ℤ) (window : Bounds) (raw : RawWindow) → IsRawWindow p window raw → (x y : ℤ × ℤ) → AreInner x → AreInner y
-    → ((int_lt x.1 raw.x.least || int_lt raw.x.greatest x.0) || (int_lt y.1 raw.y.least || int_lt raw.y.greatest y.0)) ≡ (lie_apart (span_at p x) window.x || lie_apart (span_at p y) window.y)
+    → raw_box_misses raw x y ≡ (lie_apart (span_at p x) window.x || lie_apart (span_at p y) window.y)
 misses_raw p window raw is x y x_inner y_inner = (λ j. apart p window.x raw.x is.x x x_inner j || apart p window.y raw.y is.y y y_inner j)
 
 -- a slot that keeps ends is judged by comparing them
 pub judged : (window : Bounds) (l : Written) (slot : Said) → slot ≡ slot_says l → HasInnerEnds l → (unpacked l.word).form ≡ 0 → (raw : RawWindow) → IsRawWindow (precision_of (unpacked l.word).code) window raw
-    → IsJudgedByEnds window slot ((int_lt l.first.1 raw.x.least || int_lt raw.x.greatest l.first.0) || (int_lt l.second.1 raw.y.least || int_lt raw.y.greatest l.second.0))
+    → IsJudgedByEnds window slot (raw_box_misses raw l.first l.second)
 judged window l slot is inner near raw at = record {
   x = span_at (precision_of (unpacked l.word).code) l.first;
   y = span_at (precision_of (unpacked l.word).code) l.second;

@@ -81,7 +81,8 @@ entry_with beyond slot = record {
 -- the entries of the blobs of slots
 abbrev pub entries_from : Said → List Said → List Entry
 entries_from beyond [] = []
-entries_from beyond (slot ∷ slots) = cond slot.beyond (entries_from slot slots) (entry_with beyond slot ∷ entries_from beyond slots)
+entries_from beyond (slot ∷ slots) =
+    cond slot.beyond (entries_from slot slots) (entry_with beyond slot ∷ entries_from beyond slots)
 
 -- `entries_from` the first slot on, which no slot precedes
 abbrev pub entries_of : List Said → List Entry

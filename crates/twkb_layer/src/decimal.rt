@@ -1,7 +1,7 @@
 //! Decimals of any length, as bounds of windows.
 ghost use Rattle.std.specs.Prelude.{◌≡◌, ◌+◌, ◌*◌, ◌/◌, ◌%◌, ◌^◌, ◌==◌, ◌&&◌, min, cond, not, pos, neg_ℤ, ◌+ℤ◌, ◌-ℤ◌, ◌*ℤ◌, ◌≤ℤ◌, if◌then◌else◌, Ok, Err, IfOk, Some, IfSome, true, false};
 ghost use Rattle.std.specs.Str.Parse.{digits_value, AllDigits};
-ghost use Rattle.twkb_layer.specs.Devices.Decimals.{leaning};
+ghost use Rattle.twkb_layer.specs.Devices.Decimals.{is_between_units, leaning, whole_units};
 ghost use Rattle.twkb_layer.specs.Decimals.{Decimal, IsDecimalText, is_less, rational_of, rounded_up, rounded_down, signed, farthest, span_of_decimals};
 
 use crate::text_reader::TextReader;
@@ -134,8 +134,8 @@ impl<'t> Decimal<'t> {
 
     /// The value rounded to units, away from 0 or towards it, at most [`FARTHEST`] from 0.
     fn rounded(&self, away: bool) -> i128
-        ensures { let units = self.now.number * 10 ^ 7 in let one = 10 ^ self.now.places in
-            result ≡ signed self.now.minus (min (units / one + cond (away && not (units % one == 0)) 1 0) farthest) }
+        ensures { result ≡ signed self.now.minus
+            (min (whole_units self.now + cond (away && is_between_units self.now) 1 0) farthest) }
     {
         let mut amount = self.amount();
         if away && self.is_between_units() {
@@ -147,7 +147,7 @@ impl<'t> Decimal<'t> {
 
     /// The absolute value in units, rounded down, at most [`FARTHEST`].
     fn amount(&self) -> u128
-        ensures { result ≡ min (self.now.number * 10 ^ 7 / 10 ^ self.now.places) farthest }
+        ensures { result ≡ min (whole_units self.now) farthest }
     {
         let places = self.fraction.len();
         let mut behind = self.whole.len() + places + UNIT_PLACES;
@@ -161,7 +161,7 @@ impl<'t> Decimal<'t> {
 
     /// Whether the value isn't a whole number of units.
     fn is_between_units(&self) -> bool
-        ensures { result ≡ not (self.now.number * 10 ^ 7 % 10 ^ self.now.places == 0) }
+        ensures { result ≡ is_between_units self.now }
     {
         for behind in 0..self.fraction.len() {
             if self.digit(UNIT_PLACES, behind) != 0 {

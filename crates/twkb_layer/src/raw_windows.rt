@@ -2,7 +2,7 @@
 ghost use Rattle.std.specs.Prelude.{◌≡◌, ◌<◌, ◌<ℤ◌, ◌≤ℤ◌, ◌*ℤ◌, ◌-ℤ◌, ◌||◌, ◌∷◌, [], ℤ, pos, int_lt, true, IfSome};
 ghost use Rattle.std.specs.Int.RustNames.{int_div, int_rem};
 ghost use Rattle.twkb_num.specs.Units.{IsPrecision};
-ghost use Rattle.twkb_layer.specs.Devices.RawWindows.{IsRawEnds, IsRawWindow, IsExactEnds, IsExactWindow, AreRawWindows, misses_beyond};
+ghost use Rattle.twkb_layer.specs.Devices.RawWindows.{IsRawEnds, IsRawWindow, IsExactEnds, IsExactWindow, AreCoarserEnds, IsCoarserWindow, AreRawWindows, raw_range_misses, raw_box_misses, misses_beyond};
 ghost use Rattle.twkb_layer.specs.Devices.Slots.{IsInner};
 ghost use Rattle.twkb_layer.specs.Slots.{precision_of};
 ghost use Rattle.twkb_layer.specs.Window.{is_inside, box_misses};
@@ -51,7 +51,7 @@ impl RawEnds {
     /// The ends at the next coarser precision.
     #[inline(always)]
     fn coarser(&self) -> RawEnds
-        ensures { (p : ℤ) (range : Span) → p ≤ℤ pos 7 → IsExactEnds p range self.now → IsExactEnds (p -ℤ pos 1) range result }
+        ensures { AreCoarserEnds self.now result }
     {
         RawEnds {
             least: tenth_up(self.least),
@@ -63,7 +63,7 @@ impl RawEnds {
     /// don't change at coarser precisions.
     #[inline(always)]
     fn coarsest(&self) -> RawEnds
-        ensures { (p : ℤ) (range : Span) → p ≤ℤ pos 7 → IsExactEnds p range result → IsExactEnds (p -ℤ pos 1) range result }
+        ensures { AreCoarserEnds result result }
     {
         RawEnds {
             least: i64::from(self.least > 0),
@@ -74,7 +74,7 @@ impl RawEnds {
     /// Whether the range between two numbers has no number in common with the range between these ends.
     #[inline(always)]
     pub fn misses(&self, ends: (i64, i64)) -> bool
-        ensures { result ≡ (int_lt ends.1 self.now.least || int_lt self.now.greatest ends.0) }
+        ensures { result ≡ raw_range_misses self.now ends }
     {
         ends.1 < self.least || self.greatest < ends.0
     }
@@ -104,7 +104,7 @@ impl RawWindow {
     /// The window at the next coarser precision.
     #[inline(always)]
     fn coarser(&self) -> RawWindow
-        ensures { (p : ℤ) (window : Bounds) → p ≤ℤ pos 7 → IsExactWindow p window self.now → IsExactWindow (p -ℤ pos 1) window result }
+        ensures { IsCoarserWindow self.now result }
     {
         RawWindow {
             x: self.x.coarser(),
@@ -115,7 +115,7 @@ impl RawWindow {
     /// The window at each precision whose unit is greater than all ends. It doesn't change at coarser precisions.
     #[inline(always)]
     fn coarsest(&self) -> RawWindow
-        ensures { (p : ℤ) (window : Bounds) → p ≤ℤ pos 7 → IsExactWindow p window result → IsExactWindow (p -ℤ pos 1) window result }
+        ensures { IsCoarserWindow result result }
     {
         RawWindow {
             x: self.x.coarsest(),
@@ -126,8 +126,7 @@ impl RawWindow {
     /// Whether the box between these numbers in X and in Y misses the window. Y is only compared if X doesn't decide.
     #[inline(always)]
     pub fn misses(&self, x: (i64, i64), y: (i64, i64)) -> bool
-        ensures { result ≡ ((int_lt x.1 self.now.x.least || int_lt self.now.x.greatest x.0)
-            || (int_lt y.1 self.now.y.least || int_lt self.now.y.greatest y.0)) }
+        ensures { result ≡ raw_box_misses self.now x y }
     {
         self.x.misses(x) || self.y.misses(y)
     }

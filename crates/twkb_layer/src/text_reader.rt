@@ -3,7 +3,7 @@ ghost use Rattle.std.specs.Prelude.{◌≡◌, ◌≢◌, ◌-◌, ◌*◌, ◌^
 ghost use Rattle.std.specs.Bool.{OnTrue, OnFalse};
 ghost use Rattle.std.specs.Str.Parse.{digits_value, AllDigits};
 ghost use Rattle.twkb_head.specs.declared.boxes.Span.{Span};
-ghost use Rattle.twkb_layer.specs.Devices.TextReader.{starts_digit, starts_fraction, number_ends, ReadsSpan, Passes, ReadsEach};
+ghost use Rattle.twkb_layer.specs.Devices.TextReader.{starts_digit, starts_fraction, ReadsSpan, Passes, ReadsEach, ReadsFraction, ReadsEachIfAny};
 ghost use Rattle.twkb_layer.specs.WindowText.{point_and, IsAmountText, IsNumberText, IsRangeText, IsNamedTextIfAny};
 
 use std::marker::Model;
@@ -47,9 +47,7 @@ impl<'t> TextReader<'t> {
     /// Reads a name and the range after it, if the name is there.
     pub fn optional_range(&mut self, name: &[u8]) -> Option<Option<Span>>
         ensures some { IfSome result (Passes (IsNamedTextIfAny name.now) self.old self.new) }
-        ensures exact { (front behind : List ℕ) (span : Option Span) → self.old ≡ front ++ behind
-            → IsNamedTextIfAny name.now front span → number_ends behind ≡ true
-            → (span ≡ None → (rest : List ℕ) → behind ≢ name.now ++ rest) → (result ≡ Some span) × (self.new ≡ behind) }
+        ensures exact { ReadsEachIfAny name.now self.old self.new result }
     {
         if self.skip(name) {
             Some(Some(self.span()?))
@@ -102,8 +100,7 @@ impl<'t> TextReader<'t> {
     pub fn fraction(&mut self) -> &'t [u8]
         ensures parts { self.old ≡ point_and result.now ++ self.new }
         ensures digits { AllDigits 10 result.now }
-        ensures exact { (digits behind : List ℕ) → self.old ≡ point_and digits ++ behind → AllDigits 10 digits
-            → number_ends behind ≡ true → (result.now ≡ digits) × (self.new ≡ behind) }
+        ensures exact { ReadsFraction self.old self.new result.now }
     {
         if has_fraction(self.rest) {
             self.rest = &self.rest[1..];

@@ -18,7 +18,8 @@ first_blobs (Some limit) trees = take limit trees
 -- the state after one step for each blob, in file order; the first blob has this number and offset
 abbrev pub after_from : {S : Type 0} → (S → ℕ → ℕ → Geometry → S) → ℕ → ℕ → List Geometry → S → S
 after_from step blob offset [] s = s
-after_from step blob offset (tree ∷ trees) s = after_from step (blob + 1) (offset + size_of tree) trees (step s blob offset tree)
+after_from step blob offset (tree ∷ trees) s =
+    after_from step (blob + 1) (offset + size_of tree) trees (step s blob offset tree)
 
 -- `after_from` blob 0 at offset 0
 abbrev pub after_blobs : {S : Type 0} → (S → ℕ → ℕ → Geometry → S) → List Geometry → S → S

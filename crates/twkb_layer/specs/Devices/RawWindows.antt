@@ -1,6 +1,6 @@
 -- Devices of proofs: nothing public names them.
 -- Windows in raw integers, the numbers that headers and bodies have, at a precision.
-use Rattle.std.specs.Prelude.{◌≡◌, ℕ, ◌<◌, ℤ, int_lt, ◌||◌, Bool, List, get_or, length}
+use Rattle.std.specs.Prelude.{◌≡◌, ℕ, ◌<◌, ℤ, pos, ◌≤ℤ◌, ◌-ℤ◌, int_lt, ◌||◌, Bool, List, get_or, length}
 use Rattle.twkb_num.specs.Units.{units_of}
 use Rattle.twkb_head.specs.declared.boxes.Span.{Span}
 use Rattle.twkb_head.specs.declared.boxes.Bounds.{Bounds}
@@ -31,10 +31,29 @@ pub record IsExactWindow (p : ℤ) (window : Bounds) (raw : RawWindow) : Type 0 
   pub x : IsExactEnds p window.x raw.x
   pub y : IsExactEnds p window.y raw.y
 
+-- The second ends are a range's exact ends at the next coarser precision, for each range whose exact ends are the first.
+abbrev pub AreCoarserEnds : RawEnds → RawEnds → Type 0
+AreCoarserEnds raw coarse = (p : ℤ) (range : Span) → p ≤ℤ pos 7
+    → IsExactEnds p range raw → IsExactEnds (p -ℤ pos 1) range coarse
+
+-- `AreCoarserEnds` for a window in X and in Y
+abbrev pub IsCoarserWindow : RawWindow → RawWindow → Type 0
+IsCoarserWindow raw coarse = (p : ℤ) (window : Bounds) → p ≤ℤ pos 7
+    → IsExactWindow p window raw → IsExactWindow (p -ℤ pos 1) window coarse
+
 -- a raw window for each code of a precision
 pub record AreRawWindows (window : Bounds) (raws : List RawWindow) : Type 0 where
   pub all : length raws ≡ 16
-  pub each : (code : ℕ) → code < 16 → (nowhere : RawWindow) → IsRawWindow (precision_of code) window (get_or raws code nowhere)
+  pub each : (code : ℕ) → code < 16 → (nowhere : RawWindow)
+      → IsRawWindow (precision_of code) window (get_or raws code nowhere)
+
+-- the range between two numbers has no number in common with the range between these ends
+abbrev pub raw_range_misses : RawEnds → ℤ × ℤ → Bool
+raw_range_misses raw ends = int_lt ends.1 raw.least || int_lt raw.greatest ends.0
+
+-- the box between these numbers in X and in Y misses the window
+abbrev pub raw_box_misses : RawWindow → ℤ × ℤ → ℤ × ℤ → Bool
+raw_box_misses raw x y = raw_range_misses raw.x x || raw_range_misses raw.y y
 
 -- a box misses the window in Z or in M
 abbrev pub misses_beyond : Bounds → Bounds → Bool

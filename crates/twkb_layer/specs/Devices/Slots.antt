@@ -69,7 +69,13 @@ own_said offset deep box = record {
 
 -- what the slot before the own slot of a blob with this offset and box says
 abbrev pub said_before : ℕ → Option Bounds → Said
-said_before offset box = record { beyond = true; deep = false; offset = offset / 2 ^ 57 * 2 ^ 57; first = box_z box; second = box_m box }
+said_before offset box = record {
+  beyond = true;
+  deep = false;
+  offset = offset / 2 ^ 57 * 2 ^ 57;
+  first = box_z box;
+  second = box_m box;
+}
 
 -- how many slots a blob with this offset and box takes
 abbrev pub slots_for : ℕ → Option Bounds → ℕ
