@@ -79,13 +79,13 @@ four_coordinates axes point x y third fourth a b c d = λ j. record {
     last (Some p) = d
 
 -- a vertex is inside exactly if its raw numbers in X and Y, none an end of 64 bits, don't miss the window, and Z and M are inside
-pub point_inside : (axes : Axes) (w : Bounds) (raw : RawWindow) (point : PointValue) (p x_bits y_bits : ℤ) (misses : Bool) → IsRawWindow p w raw → IsInner (coordinate point 0) → IsInner (coordinate point 1)
+pub point_inside : (axes : Axes) (w : Bounds) (raw : RawWindow) (point : PointValue) (p x_bits y_bits : ℤ) (misses : Bool) → IsRawWindow p w raw → IsInner x_bits → IsInner y_bits
     → misses ≡ raw_box_misses raw (x_bits, x_bits) (y_bits, y_bits)
     → p ≡ axes.xy → x_bits ≡ coordinate point 0 → y_bits ≡ coordinate point 1
     → (not misses && (in_bound w.z (vertex_at axes point).z && in_bound w.m (vertex_at axes point).m)) ≡ is_inside w (vertex_at axes point)
 point_inside axes w raw point p x_bits y_bits misses is x_inner y_inner missed p_is x_is y_is =
     point_judged axes.xy w raw (coordinate point 0) (coordinate point 1) x_bits y_bits misses _ x_is y_is (subst (λ (q : ℤ). IsRawWindow q w raw) p_is is)
-    x_inner y_inner missed
+    (subst IsInner x_is x_inner) (subst IsInner y_is y_inner) missed
 
 -- an answer about the four coordinates of a point is an answer about the point
 pub inside_by_four : (axes : Axes) (w : Bounds) (point : PointValue) (x y third fourth : ℤ) (answer : Bool) → answer ≡ is_inside w (vertex_at axes (x ∷ y ∷ third ∷ fourth ∷ []))

@@ -1,26 +1,26 @@
 -- Ends that are divided and rounded have the same numbers between them.
-use Rattle.std.proofs.Common.{◌≡◌, ◌*◌, ◌^◌, pos, ◌-ℤ◌, FitsSigned, unsigned_abs, arith, rules}
+use Rattle.std.proofs.Common.{◌≡◌, ◌*◌, ◌^◌, ℤ, pos, ◌<ℤ◌, ◌-ℤ◌, FitsSigned, unsigned_abs, to_z, of_z, subst, sym, arith, rules}
 use Rattle.std.specs.Int.{w8, w64, w128}
 use Rattle.std.proofs.lemmas.Int.{ints, to_z-of_z}
 use Rattle.std.proofs.Math.Nat.{one-le-pow}
 use Rattle.twkb_layer.proofs.RawWindows.{raw_ends}
 use Rattle.twkb_layer.proofs.raw_windows.RawEnds.of.Goals as goal
 
+-- the unit of a precision is positive
+unit_positive : (p unit : ℤ) → FitsSigned w128 unit → unit ≡ pos (1 * 10 ^ unsigned_abs (pos 7 -ℤ p)) → pos 0 <ℤ to_z w128 (of_z w128 unit)
+unit_positive p unit fits is =
+    let some = one-le-pow (unsigned_abs (pos 7 -ℤ p)) 10 (omega arith) in
+    subst (λ (n : ℤ). pos 0 <ℤ n) (sym (to_z-of_z w128 unit fits)) (omega (arith, ints, is, some))
+
 pub least_from-requires : goal.least_from-requires
 least_from-requires c =
-    let some = one-le-pow (unsigned_abs (pos 7 -ℤ c.args.precision)) 10 (omega arith) in
-    let fits : FitsSigned w128 c.units-unit.result = search rules in
     let precise : FitsSigned w8 c.args.precision = c.ranges.precision in
-    let unit : c.units-unit.result ≡ pos (1 * 10 ^ unsigned_abs (pos 7 -ℤ c.args.precision)) = simp to_z-of_z at c.units-unit.ensures in
-    simp (to_z-of_z, unit) (omega (arith, ints))
+    unit_positive c.args.precision c.units-unit.result (search rules) (simp to_z-of_z at c.units-unit.ensures)
 
 pub greatest_to-requires : goal.greatest_to-requires
 greatest_to-requires c =
-    let some = one-le-pow (unsigned_abs (pos 7 -ℤ c.args.precision)) 10 (omega arith) in
-    let fits : FitsSigned w128 c.units-unit.result = search rules in
     let precise : FitsSigned w8 c.args.precision = c.ranges.precision in
-    let unit : c.units-unit.result ≡ pos (1 * 10 ^ unsigned_abs (pos 7 -ℤ c.args.precision)) = simp to_z-of_z at c.units-unit.ensures in
-    simp (to_z-of_z, unit) (omega (arith, ints))
+    unit_positive c.args.precision c.units-unit.result (search rules) (simp to_z-of_z at c.units-unit.ensures)
 
 pub returns : goal.returns
 returns c =

@@ -2,8 +2,7 @@
 use Rattle.std.proofs.Common.{pos, ◌&&◌, not, refl, ap, sym, ◌∙◌, arith}
 use Rattle.std.proofs.lemmas.Int.{ints}
 use Rattle.std.proofs.lemmas.Option.{unwrap_or-slice_get}
-use Rattle.twkb_body.specs.Geometry.{coordinate, vertex_at}
-use Rattle.twkb_layer.specs.Devices.Slots.{IsInner}
+use Rattle.twkb_body.specs.Geometry.{vertex_at}
 use Rattle.twkb_layer.specs.Window.{in_bound}
 use Rattle.twkb_layer.proofs.RawLooks.{point_inside, flat_holds, inside_by_four}
 use Rattle.twkb_layer.proofs.raw_windows.RawWindows.holds.Goals as goal
@@ -15,12 +14,8 @@ returns-then-misses c =
     let v = vertex_at c.args.axes point in
     let x = unwrap_or-slice_get point 0 (pos 0) in
     let y = unwrap_or-slice_get point 1 (pos 0) in
-    let one = c.if-not-is_inner.ensures refl in
-    let other = c.if-not-is_inner-2.ensures refl in
-    let x_inner : IsInner (coordinate point 0) = record { low = omega (arith, ints, one.low, other.low, x); high = omega (arith, ints, one.high, other.high, x) } in
-    let y_inner : IsInner (coordinate point 1) = record { low = omega (arith, ints, one.low, other.low, y); high = omega (arith, ints, one.high, other.high, y) } in
     ap (λ m. not m && (in_bound w.z v.z && in_bound w.m v.m)) (sym c.if-misses.true)
-    ∙ point_inside c.args.axes w c.at-raw.result point _ _ _ c.misses.result c.at-raw.ensures x_inner y_inner c.misses.ensures
+    ∙ point_inside c.args.axes w c.at-raw.result point _ _ _ c.misses.result c.at-raw.ensures (c.if-not-is_inner.ensures refl) (c.if-not-is_inner-2.ensures refl) c.misses.ensures
     (omega (arith, ints, c.requires.0)) (omega (arith, ints, x)) (omega (arith, ints, y))
 
 pub returns-then-is_flat : goal.returns-then-is_flat
@@ -30,14 +25,10 @@ returns-then-is_flat c =
     let v = vertex_at c.args.axes point in
     let x = unwrap_or-slice_get point 0 (pos 0) in
     let y = unwrap_or-slice_get point 1 (pos 0) in
-    let one = c.if-not-is_inner.ensures refl in
-    let other = c.if-not-is_inner-2.ensures refl in
-    let x_inner : IsInner (coordinate point 0) = record { low = omega (arith, ints, one.low, other.low, x); high = omega (arith, ints, one.high, other.high, x) } in
-    let y_inner : IsInner (coordinate point 1) = record { low = omega (arith, ints, one.low, other.low, y); high = omega (arith, ints, one.high, other.high, y) } in
     c.if-is_flat.true
     ∙ sym (flat_holds w.z w.m v.z v.m (sym (rw c.window.ensures at c.is_flat.ensures) ∙ c.if-is_flat.true))
     ∙ ap (λ m. not m && (in_bound w.z v.z && in_bound w.m v.m)) (sym c.if-misses.false)
-    ∙ point_inside c.args.axes w c.at-raw.result point _ _ _ c.misses.result c.at-raw.ensures x_inner y_inner c.misses.ensures
+    ∙ point_inside c.args.axes w c.at-raw.result point _ _ _ c.misses.result c.at-raw.ensures (c.if-not-is_inner.ensures refl) (c.if-not-is_inner-2.ensures refl) c.misses.ensures
     (omega (arith, ints, c.requires.0)) (omega (arith, ints, x)) (omega (arith, ints, y))
 
 pub returns-then-not-is_inner : goal.returns-then-not-is_inner
