@@ -1,4 +1,4 @@
-//! Directories of layers in memory that the caller lends.
+//! Directories of layers in memory that the caller lends, and scans with them for one window or for many.
 ghost use Rattle.std.specs.Prelude.{◌≡◌, ◌+◌, ◌*◌, ◌<◌, ◌≤◌, length, map, take, sum_by, slice_set};
 ghost use Rattle.twkb_num.specs.Cursor.{added};
 ghost use Rattle.twkb_layer.specs.Directory.{IsDirectoryOf, directory_cost};
@@ -77,7 +77,7 @@ pub fn scan_directory_many(
     let mut used = 0;
     for asked in 0..windows.len() {
         let one = scan_directory(layer, slots, &windows[asked], &mut room[used..]);
-        report(scanned, asked, one);
+        put_scanned(scanned, asked, one);
         if one.hits > room.len() - used {
             return asked;
         }
@@ -87,7 +87,7 @@ pub fn scan_directory_many(
 }
 
 /// Writes what a scan says of a window to its place, if there is one.
-fn report(scanned: &mut [Scanned], place: usize, one: Scanned)
+fn put_scanned(scanned: &mut [Scanned], place: usize, one: Scanned)
     ensures { scanned.new ≡ slice_set scanned.old place one }
 {
     if place < scanned.len() {

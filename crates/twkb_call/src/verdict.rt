@@ -1,4 +1,4 @@
-//! Verdicts on bytes.
+//! [`Verdict`], the result of certifying bytes, in numbers.
 ghost use Rattle.std.specs.Prelude.{◌≡◌, List, ◌⊎◌};
 ghost use Rattle.twkb_body.specs.Claims.{IsTrueClaim};
 ghost use Rattle.twkb_body.specs.Geometry.{Geometry};

@@ -1,4 +1,4 @@
-//! Windows in a form for other languages.
+//! [`Window`], a window in words of 64 bits, the parser of its text, and ranges of decimals.
 ghost use Rattle.std.specs.Prelude.{◌≡◌, ◌≢◌, ◌≤◌, if◌then◌else◌, true, false};
 ghost use Rattle.twkb_head.specs.declared.boxes.Bounds.{Bounds};
 ghost use Rattle.twkb_layer.specs.Decimals.{Decimal, IsDecimalText, is_less, rational_of, span_of_decimals};
