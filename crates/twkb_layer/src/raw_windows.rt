@@ -2,7 +2,7 @@
 ghost use Rattle.std.specs.Prelude.{◌≡◌, ◌<◌, ◌<ℤ◌, ◌≤ℤ◌, ◌*ℤ◌, ◌-ℤ◌, ◌||◌, ◌∷◌, [], ℤ, pos, int_lt, true, IfSome};
 ghost use Rattle.std.specs.Int.RustNames.{int_div, int_rem};
 ghost use Rattle.twkb_num.specs.Units.{IsPrecision};
-ghost use Rattle.twkb_layer.specs.Devices.RawWindows.{IsRawEnds, IsRawWindow, IsExactEnds, IsExactWindow, AreCoarserEnds, IsCoarserWindow, AreRawWindows, raw_range_misses, raw_box_misses, misses_beyond};
+ghost use Rattle.twkb_layer.specs.Devices.RawWindows.{IsRawEnds, IsRawWindow, IsExactEnds, IsExactWindow, AreCoarserEnds, IsCoarserWindow, AreRawWindows, raw_range_misses, raw_box_misses, misses_in_z_or_m};
 ghost use Rattle.twkb_layer.specs.Devices.Slots.{IsInner};
 ghost use Rattle.twkb_layer.specs.Slots.{precision_of};
 ghost use Rattle.twkb_layer.specs.Window.{is_inside, box_misses};
@@ -59,8 +59,8 @@ impl RawEnds {
         }
     }
 
-    /// The ends at each precision whose unit is greater than both: 0, or the number next to 0 if the range doesn't reach it. They
-    /// don't change at coarser precisions.
+    /// The ends at each precision whose unit is greater than both: 0, or the number next to 0 if the range doesn't reach it.
+    /// They don't change at coarser precisions.
     #[inline(always)]
     fn coarsest(&self) -> RawEnds
         ensures { AreCoarserEnds result result }
@@ -177,7 +177,7 @@ impl<'w> RawWindows<'w> {
         ensures { result ≡ box_misses self.now (raw_bounds axes.xy axes.z axes.m b.now) }
     {
         let raw = self.at((axes.xy + 8) as usize);
-        raw.misses(b.x.ends(), b.y.ends()) || self.misses_beyond(axes, *b)
+        raw.misses(b.x.ends(), b.y.ends()) || self.misses_in_z_or_m(axes, *b)
     }
 
     /// Whether each box that has this range in X misses the window. `false` says nothing.
@@ -193,20 +193,20 @@ impl<'w> RawWindows<'w> {
 
     /// Whether the box misses the window in Z or in M.
     #[inline(always)]
-    fn misses_beyond(&self, axes: Axes, b: RawBox) -> bool
+    fn misses_in_z_or_m(&self, axes: Axes, b: RawBox) -> bool
         requires { HavePrecisions axes }
-        ensures { result ≡ misses_beyond self.now (raw_bounds axes.xy axes.z axes.m b) }
+        ensures { result ≡ misses_in_z_or_m self.now (raw_bounds axes.xy axes.z axes.m b) }
     {
         if axes.is_flat() {
             return false;
         }
-        self.misses_beyond_in_units(axes, b)
+        self.misses_in_z_or_m_in_units(axes, b)
     }
 
     #[inline(never)]
-    fn misses_beyond_in_units(&self, axes: Axes, b: RawBox) -> bool
+    fn misses_in_z_or_m_in_units(&self, axes: Axes, b: RawBox) -> bool
         requires { HavePrecisions axes }
-        ensures { result ≡ misses_beyond self.now (raw_bounds axes.xy axes.z axes.m b) }
+        ensures { result ≡ misses_in_z_or_m self.now (raw_bounds axes.xy axes.z axes.m b) }
     {
         let bounds = b.in_units(axes);
         self.window.misses_in_z_or_m(bounds.z, bounds.m)
@@ -263,8 +263,8 @@ pub fn fill_raws(window: &Window, raws: &mut [RawWindow; 16])
     }
 }
 
-/// Makes each window from the one at the next finer precision, down to the precision from which on it doesn't change. A division by
-/// ten is a multiplication, so this takes a fraction of the time of [`fill_by_divisions`].
+/// Makes each window from the one at the next finer precision, down to the precision from which on it doesn't change. A
+/// division by ten is a multiplication, so this takes a fraction of the time of [`fill_by_divisions`].
 #[inline(always)]
 fn fill_by_tenths(finest: RawWindow, raws: &mut [RawWindow; 16])
     ensures { (window : Bounds) → IsExactWindow (pos 7) window finest → AreRawWindows window raws.new }

@@ -56,5 +56,5 @@ abbrev pub raw_box_misses : RawWindow → ℤ × ℤ → ℤ × ℤ → Bool
 raw_box_misses raw x y = raw_range_misses raw.x x || raw_range_misses raw.y y
 
 -- a box misses the window in Z or in M
-abbrev pub misses_beyond : Bounds → Bounds → Bool
-misses_beyond w box = lie_apart_if_both box.z w.z || lie_apart_if_both box.m w.m
+abbrev pub misses_in_z_or_m : Bounds → Bounds → Bool
+misses_in_z_or_m w box = lie_apart_if_both box.z w.z || lie_apart_if_both box.m w.m

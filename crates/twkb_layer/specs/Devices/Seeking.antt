@@ -9,7 +9,7 @@ use Rattle.std.proofs.lemmas.Int.{ints}
 use Rattle.twkb_head.specs.declared.boxes.Span.{Span}
 use Rattle.twkb_head.specs.Holds.{Holds, IsWithin}
 use Rattle.twkb_layer.specs.Window.{in_span, in_bound, is_inside, lie_apart, lie_apart_if_both, box_misses}
-use Rattle.twkb_layer.specs.Devices.RawWindows.{misses_beyond}
+use Rattle.twkb_layer.specs.Devices.RawWindows.{misses_in_z_or_m}
 
 -- a window, and whether a vertex inside was met
 pub record Seeking : Type 0 where
@@ -59,12 +59,12 @@ outside w box v e h = go (either (lie_apart box.x w.x) _ e)
     last (inl z) = no_left _ _ (bound_outside box.z w.z v.z z h.z)
     last (inr m) = no_right _ _ (bound_outside box.m w.m v.m m h.m)
 
-    behind : (lie_apart box.y w.y ≡ true) ⊎ (misses_beyond w box ≡ true)
+    behind : (lie_apart box.y w.y ≡ true) ⊎ (misses_in_z_or_m w box ≡ true)
         → (in_span w.y v.y && (in_bound w.z v.z && in_bound w.m v.m)) ≡ false
     behind (inl y) = no_left _ _ (span_outside box.y w.y v.y y h.y)
     behind (inr r) = no_right _ _ (last (either (lie_apart_if_both box.z w.z) _ r))
 
-    go : (lie_apart box.x w.x ≡ true) ⊎ ((lie_apart box.y w.y || misses_beyond w box) ≡ true) → is_inside w v ≡ false
+    go : (lie_apart box.x w.x ≡ true) ⊎ ((lie_apart box.y w.y || misses_in_z_or_m w box) ≡ true) → is_inside w v ≡ false
     go (inl x) = no_left _ _ (span_outside box.x w.x v.x x h.x)
     go (inr r) = no_right _ _ (behind (either (lie_apart box.y w.y) _ r))
 
