@@ -78,7 +78,8 @@ four_coordinates axes point x y third fourth a b c d = λ j. record {
     last None = c
     last (Some p) = d
 
--- a vertex is inside exactly if its raw numbers in X and Y, none an end of 64 bits, don't miss the window, and Z and M are inside
+-- a vertex is inside exactly if its raw numbers in X and Y, none an end of 64 bits, don't miss the window, and Z and M are
+-- inside
 pub point_inside : (axes : Axes) (w : Bounds) (raw : RawWindow) (point : PointValue) (p x_bits y_bits : ℤ) (misses : Bool) → IsRawWindow p w raw → IsInner x_bits → IsInner y_bits
     → misses ≡ raw_box_misses raw (x_bits, x_bits) (y_bits, y_bits)
     → p ≡ axes.xy → x_bits ≡ coordinate point 0 → y_bits ≡ coordinate point 1

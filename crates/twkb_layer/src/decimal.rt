@@ -26,8 +26,8 @@ pub enum BadRange {
     Order = 2,
 }
 
-/// Makes the range in units between two decimals: its lower bound is rounded up, and its upper bound down. A coordinate is a whole
-/// number of units, so it is in this range if and only if it is between the decimals. If no unit is, `lo` is above `hi`.
+/// Makes the range in units between two decimals: its lower bound is rounded up, and its upper bound down. A coordinate is a
+/// whole number of units, so it is in this range if and only if it is between the decimals. If no unit is, `lo` is above `hi`.
 ///
 /// A decimal is an optional minus, one or more digits, and optionally a point and one or more digits. Its value may be farther
 /// from 0 than any coordinate; the bound is then 10^34 units, or -10^34. Nothing is allocated.

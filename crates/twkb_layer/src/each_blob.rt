@@ -38,7 +38,8 @@ pub trait EachBlob {
         ensures few { OfBlob cursor.old.bytes cursor.old.place (λ g. reads (state self.old) g ≤ size_of g) };
 }
 
-/// Calls [`take_blob`](EachBlob::take_blob) for each blob of a certified layer, in file order, or only for the first `limit` blobs.
+/// Calls [`take_blob`](EachBlob::take_blob) for each blob of a certified layer, in file order, or only for the first `limit`
+/// blobs.
 #[inline(always)]
 pub fn for_each_blob<B: EachBlob>(each: &mut B, cursor: &mut Cursor, limit: Option<usize>)
     requires { (trees : List Geometry) × IsCertifiedLayer trees cursor.old.bytes

@@ -21,9 +21,9 @@ pub const OFFSET_LIMIT: usize = 1 << 57;
 /// A slot of a directory.
 ///
 /// A box is kept in raw integers with its precision, so that a scan compares numbers of 64 bits. Its ends are kept if all its
-/// numbers are at most 2^61 from zero, and otherwise its minima and widths, as the header spells them. So a slot takes 40 bytes,
-/// and an `Option<Bounds>` alone would take 176. Z and M, which few layers have, go into a slot of their own before their blob's
-/// slot, because a scan spends its time on reading memory.
+/// numbers are at most 2^61 from zero, and otherwise its minima and widths, as the header spells them. So a slot takes 40
+/// bytes, and an `Option<Bounds>` alone would take 176. Z and M, which few layers have, go into a slot of their own before
+/// their blob's slot, because a scan spends its time on reading memory.
 #[repr(C)]
 #[derive(Clone, Copy)]
 pub struct Slot {
@@ -125,7 +125,8 @@ impl Slot {
         }
     }
 
-    /// The slot before a blob's own slot: the box's ranges in Z and M, and the part of the offset that is beyond a slot's reach.
+    /// The slot before a blob's own slot: the box's ranges in Z and M, and the part of the offset that is beyond a slot's
+    /// reach.
     pub(crate) fn beyond(offset: usize, z: Kept, m: Kept) -> Slot
         ensures { slot_says result ≡ record {
           beyond = true;
@@ -218,8 +219,8 @@ impl Slot {
     }
 }
 
-/// The range of an axis that a box may lack: a minimum and a width, and the code of their precision, which is below 8 if there is
-/// no range.
+/// The range of an axis that a box may lack: a minimum and a width, and the code of their precision, which is below 8 if there
+/// is no range.
 #[derive(Drop)]
 pub struct Kept {
     code: u64,
