@@ -92,7 +92,7 @@ def test_c(program, folder):
     drive("C, by the second compiler", [build("cases", "-O2", archive=SECOND)], program, folder)
     succeeds("C, memory refused", [build("refuse", "-O2", "-Wl,--wrap=malloc,--wrap=realloc,--wrap=free")])
     test_shared(source, folder)
-    programs = {name: build(name, "-O2", "-g", "-pthread") for name in ("edges", "many")}
+    programs = {name: build(name, "-O2", "-g", "-pthread") for name in ("edges", "windows", "many")}
     sanitized = {name: build(name, *SANITIZED, "-pthread") for name in programs}
     for layer in EXAMPLES:
         path = os.path.join(TOP, "examples", layer)

@@ -18,4 +18,8 @@ static inline struct twkb_window window_of(const char *text) {
     return window;
 }
 
+static inline struct twkb_window whole_world(void) {
+    return window_of("x=-1000..1000,y=-1000..1000");
+}
+
 #endif

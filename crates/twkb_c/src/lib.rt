@@ -57,8 +57,8 @@ pub extern "C" fn twkb_list(layer: &Layer, room: &mut [Row]) -> usize
     twkb_call::list(layer, room)
 }
 
-/// Parses a window. The result is 0, or 1 if the text doesn't have the form of a window, or 2 if a lower bound is above its upper
-/// bound.
+/// Parses a window. The result is 0, or 1 if the text doesn't have the form of a window, or 2 if a lower bound is above its
+/// upper bound.
 #[unsafe(no_mangle)]
 pub extern "C" fn twkb_window_parse(text: &[u8], window: &mut Window) -> u32
     ensures answers { result ≤ 2 }
@@ -71,8 +71,8 @@ pub extern "C" fn twkb_window_parse(text: &[u8], window: &mut Window) -> u32
     twkb_call::parse_window(text, window)
 }
 
-/// Makes the range in units between two decimals of any length, rounded inward. The result is 0, or 1 if one of them isn't of the
-/// form `[-]digits[.digits]`, or 2 if the lower one is greater.
+/// Makes the range in units between two decimals of any length, rounded inward. The result is 0, or 1 if one of them isn't of
+/// the form `[-]digits[.digits]`, or 2 if the lower one is greater.
 #[unsafe(no_mangle)]
 pub extern "C" fn twkb_span_of_decimals(lo: &[u8], hi: &[u8], span: &mut Range) -> u32
     ensures answers { result ≤ 2 }
@@ -100,9 +100,9 @@ pub extern "C" fn twkb_scan(layer: &Layer, window: &Window, room: &mut [Hit]) ->
     twkb_call::scan(layer, window, room)
 }
 
-/// Writes a directory of the layer to `room`, and returns how many slots it has: at most two for each blob. It is written whole or
-/// not at all; two places for each blob always suffice. If it doesn't fit, the result is how many places are needed, which is more
-/// than `room` has.
+/// Writes a directory of the layer to `room`, and returns how many slots it has: at most two for each blob. It is written whole
+/// or not at all; two places for each blob always suffice. If it doesn't fit, the result is how many places are needed, which
+/// is more than `room` has.
 #[unsafe(no_mangle)]
 pub extern "C" fn twkb_directory_build(layer: &Layer, room: &mut [Slot]) -> usize
     requires { IsCounted layer.now.bytes.now layer.now.blobs layer.now.vertices }
@@ -135,11 +135,11 @@ pub extern "C" fn twkb_directory_scan(
     twkb_call::scan_directory(layer, slots, window, room)
 }
 
-/// Scans for one window after another, each as `twkb_directory_scan` does, until the hits of one don't fit any more. Returns how
-/// many windows it answered: all, or those before that one.
+/// Scans for one window after another, each as `twkb_directory_scan` does, until the hits of one don't fit any more. Returns
+/// how many windows it answered: all, or those before that one.
 ///
-/// The hits of the windows are written to `room` one after another, and what a scan says of each window to `scanned`, as many as
-/// fit. The window whose hits don't fit is among them: `scanned` says how many it has, and as many as fit are in `room`.
+/// The hits of the windows are written to `room` one after another, and what a scan says of each window to `scanned`, as many
+/// as fit. The window whose hits don't fit is among them: `scanned` says how many it has, and as many as fit are in `room`.
 #[unsafe(no_mangle)]
 pub extern "C" fn twkb_directory_scan_many(
     layer: &Layer,

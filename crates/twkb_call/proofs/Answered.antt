@@ -72,7 +72,7 @@ module _ (trees : List Geometry) (windows : List Window) (n : ℕ) (d : Window) 
             ∙ filled_behind seen next room (omega (arith, so_far.counted, fits, same)) ∙ ap (λ xs. filled xs room) (sym (founds more));
       }
 
--- The same of any layer that the bytes are.
+-- `one_more` for all trees of which the bytes are a certified layer
 pub next_answered : (bytes : List ℕ) (windows : List Window) (n : ℕ) (d : Window) (used : ℕ) (scanned scanned' : List Scanned) (room room' behind : List Hit) (one : Scanned)
     → OfLayer bytes (λ trees. Answered trees windows n used scanned scanned' room room') → n < length windows → used ≤ length room' → length room' ≡ length room
     → OfLayer bytes (λ trees. one.hits ≡ length (hits trees (ranges_of (get_or windows n d))))

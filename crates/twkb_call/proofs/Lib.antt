@@ -1,4 +1,4 @@
--- What is proved of what crosses.
+-- The proofs about what calls for other languages return.
 pub mod Windows
 pub mod Points
 pub mod Verdicts

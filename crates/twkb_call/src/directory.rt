@@ -1,4 +1,4 @@
-//! Directories of layers in memory that the caller lends.
+//! Directories of layers in memory that the caller lends, and scans with them for one window or for many.
 ghost use Rattle.std.specs.Prelude.{◌≡◌, ◌+◌, ◌*◌, ◌<◌, ◌≤◌, length, map, take, sum_by, slice_set};
 ghost use Rattle.twkb_num.specs.Cursor.{added};
 ghost use Rattle.twkb_layer.specs.Directory.{IsDirectoryOf, directory_cost};
@@ -17,9 +17,9 @@ const SIZE: usize = std::mem::size_of::<Slot>();
 
 const _: () = prove!(SIZE == 40);
 
-/// Writes a directory of the layer to `room`, and returns how many slots it has: at most two for each blob. It is written whole or
-/// not at all; two places for each blob always suffice. If it doesn't fit, the result is how many places are needed, which is more
-/// than `room` has.
+/// Writes a directory of the layer to `room`, and returns how many slots it has: at most two for each blob. It is written whole
+/// or not at all; two places for each blob always suffice. If it doesn't fit, the result is how many places are needed, which
+/// is more than `room` has.
 pub fn build_directory(layer: &Layer, room: &mut [Slot]) -> usize
     requires { IsCounted layer.now.bytes.now layer.now.blobs layer.now.vertices }
     ensures directory { result ≤ length room.old
@@ -50,11 +50,11 @@ pub fn scan_directory(layer: &Layer, slots: &[Slot], window: &Window, room: &mut
     }
 }
 
-/// Scans for one window after another, each as [`scan_directory`] does, until the hits of one don't fit any more. Returns how many
-/// windows it answered: all, or those before that one.
+/// Scans for one window after another, each as [`scan_directory`] does, until the hits of one don't fit any more. Returns how
+/// many windows it answered: all, or those before that one.
 ///
-/// The hits of the windows are written to `room` one after another, and what a scan says of each window to `scanned`, as many as
-/// fit. The window whose hits don't fit is among them: `scanned` says how many it has, and as many as fit are in `room`.
+/// The hits of the windows are written to `room` one after another, and what a scan says of each window to `scanned`, as many
+/// as fit. The window whose hits don't fit is among them: `scanned` says how many it has, and as many as fit are in `room`.
 pub fn scan_directory_many(
     layer: &Layer,
     slots: &[Slot],
@@ -77,7 +77,7 @@ pub fn scan_directory_many(
     let mut used = 0;
     for asked in 0..windows.len() {
         let one = scan_directory(layer, slots, &windows[asked], &mut room[used..]);
-        report(scanned, asked, one);
+        put_scanned(scanned, asked, one);
         if one.hits > room.len() - used {
             return asked;
         }
@@ -87,7 +87,7 @@ pub fn scan_directory_many(
 }
 
 /// Writes what a scan says of a window to its place, if there is one.
-fn report(scanned: &mut [Scanned], place: usize, one: Scanned)
+fn put_scanned(scanned: &mut [Scanned], place: usize, one: Scanned)
     ensures { scanned.new ≡ slice_set scanned.old place one }
 {
     if place < scanned.len() {

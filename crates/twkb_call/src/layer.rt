@@ -1,4 +1,4 @@
-//! A layer that was certified before.
+//! [`Layer`], a layer that was certified before, in the caller's storage.
 ghost use Rattle.std.specs.Prelude.{◌≡◌};
 ghost use Rattle.twkb_layer.specs.Layer.{IsCounted};
 

@@ -1,13 +1,12 @@
-//! Lists of layers.
+//! Lists of layers, in memory that the caller lends: a row of numbers and flags for each blob.
 ghost use Rattle.std.specs.Prelude.{◌≡◌, length, map};
-ghost use Rattle.twkb_head.specs.Header.{code_of};
 ghost use Rattle.twkb_layer.specs.Hits.{filled};
 ghost use Rattle.twkb_layer.specs.Layer.{IsCounted, OfLayer};
 ghost use Rattle.twkb_layer.specs.Rows.{rows};
 ghost use Rattle.twkb_call.specs.Rows.{in_numbers};
 
 use crate::layer::Layer;
-use twkb_layer::{FromRow, Kind};
+use twkb_layer::FromRow;
 
 /// A row of a list: one blob.
 #[repr(C)]
@@ -44,26 +43,11 @@ impl FromRow for Row {
             offset: row.offset,
             bytes: row.bytes,
             vertices: row.vertices,
-            kind: code_of(row.kind),
+            kind: row.kind.code(),
             precision: row.precision,
             has_size: row.has_size,
             has_box: row.has_box,
         }
-    }
-}
-
-/// The number of a type in the format.
-fn code_of(kind: Kind) -> u8
-    ensures { result ≡ code_of kind }
-{
-    match kind {
-        Kind::Point => 1,
-        Kind::LineString => 2,
-        Kind::Polygon => 3,
-        Kind::MultiPoint => 4,
-        Kind::MultiLineString => 5,
-        Kind::MultiPolygon => 6,
-        Kind::GeometryCollection => 7,
     }
 }
 

@@ -1,4 +1,4 @@
-//! Scans of layers.
+//! Scans of layers for a window, whose hits are put into memory that the caller lends.
 ghost use Rattle.std.specs.Prelude.{◌≡◌, length, map, sum_by};
 ghost use Rattle.twkb_num.specs.Cursor.{added};
 ghost use Rattle.twkb_layer.specs.Hits.{hits, found_blobs, cost, filled};

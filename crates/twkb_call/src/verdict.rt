@@ -1,4 +1,4 @@
-//! Verdicts on bytes.
+//! [`Verdict`], the result of certifying bytes, in numbers.
 ghost use Rattle.std.specs.Prelude.{◌≡◌, List, ◌⊎◌};
 ghost use Rattle.twkb_body.specs.Claims.{IsTrueClaim};
 ghost use Rattle.twkb_body.specs.Geometry.{Geometry};
@@ -59,8 +59,8 @@ pub fn certify_tight<A: Allocator>(alloc: &A, bytes: &[u8]) -> Verdict
     }
 }
 
-/// Certifies the bytes as a layer with no memory but a buffer for the ids of a list, which it overwrites. The verdict may be "out
-/// of memory" if a list has more ids than the buffer has places, and more than sixteen.
+/// Certifies the bytes as a layer with no memory but a buffer for the ids of a list, which it overwrites. The verdict may be
+/// "out of memory" if a list has more ids than the buffer has places, and more than sixteen.
 pub fn certify_lent(bytes: &[u8], ids: &mut [i64]) -> Verdict
     ensures says { Says IsTrueClaim result bytes.now }
     ensures complete { (trees : List Geometry) → IsCertifiedLayer trees bytes.now

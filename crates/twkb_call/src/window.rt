@@ -1,4 +1,4 @@
-//! Windows in a form for other languages.
+//! [`Window`], a window in words of 64 bits, the parser of its text, and ranges of decimals.
 ghost use Rattle.std.specs.Prelude.{◌≡◌, ◌≢◌, ◌≤◌, if◌then◌else◌, true, false};
 ghost use Rattle.twkb_head.specs.declared.boxes.Bounds.{Bounds};
 ghost use Rattle.twkb_layer.specs.Decimals.{Decimal, IsDecimalText, is_less, rational_of, span_of_decimals};
@@ -138,9 +138,9 @@ pub fn parse_window(text: &[u8], window: &mut Window) -> u32
     }
 }
 
-/// Makes the range in units between two decimals of any length: its lower bound is rounded up, and its upper bound down. The result
-/// is 0, or 1 if one of them isn't of the form `[-]digits[.digits]`, or 2 if the lower one is greater. If it isn't 0, the range is
-/// unchanged.
+/// Makes the range in units between two decimals of any length: its lower bound is rounded up, and its upper bound down. The
+/// result is 0, or 1 if one of them isn't of the form `[-]digits[.digits]`, or 2 if the lower one is greater. If it isn't 0,
+/// the range is unchanged.
 pub fn span_of_decimals(lo: &[u8], hi: &[u8], range: &mut Range) -> u32
     ensures answers { result ≤ 2 }
     ensures range { result ≡ 0 → (a b : Decimal) × IsDecimalText lo.now a × IsDecimalText hi.now b

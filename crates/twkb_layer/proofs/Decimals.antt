@@ -13,7 +13,7 @@ use Rattle.std.proofs.lemmas.Bool.Decides.{nat_tests}
 use Rattle.std.proofs.lemmas.List.{append-nil}
 use Rattle.twkb_layer.specs.Decimals.{Decimal, IsDecimalText}
 use Rattle.twkb_layer.specs.Devices.Decimals.{AreDigits}
-use Rattle.twkb_layer.specs.Devices.TextReader.{starts_digit, ends}
+use Rattle.twkb_layer.specs.Devices.TextReader.{starts_digit, ReadsFraction}
 use Rattle.twkb_layer.specs.WindowText.{point_and}
 use Rattle.twkb_layer.proofs.Texts.{digits_value_after-append, after_from, digit_here as is_digit, digits_once, point_ends, on_true, on_false}
 
@@ -188,7 +188,7 @@ pub record IsRead (text : List ℕ) (d : Decimal) (minus : Bool) (whole fraction
 
 pub decimal_once : (text mid rest new whole fraction : List ℕ) (minus : Bool) → OnTrue minus (text ≡ 45 ∷ mid) → OnFalse minus (mid ≡ text) → ((behind : List ℕ) → text ≡ 45 ∷ behind → (minus ≡ true) × (mid ≡ behind))
     → mid ≡ whole ++ rest → AllDigits 10 whole → starts_digit rest ≡ false
-    → ((digits behind : List ℕ) → rest ≡ point_and digits ++ behind → AllDigits 10 digits → ends behind ≡ true → (fraction ≡ digits) × (new ≡ behind))
+    → ReadsFraction rest new fraction
     → (d : Decimal) → IsDecimalText text d → IsRead text d minus whole fraction new
 decimal_once text mid rest new whole fraction minus taken still exact parts digits most reads d h =
     let sign = sign_once text mid minus taken still exact d.minus (h.whole ++ point_and h.fraction) h.parts (whole_starts h.whole (point_and h.fraction) h.whole_digits h.whole_some) in

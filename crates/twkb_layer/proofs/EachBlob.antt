@@ -10,7 +10,7 @@ use Rattle.twkb_body.specs.Geometry.{Geometry}
 use Rattle.twkb_body.specs.Claims.{IsCertified}
 use Rattle.twkb_body.specs.Standing.{StandsAt}
 use Rattle.twkb_layer.specs.Layer.{IsLayer, IsCertifiedLayer, AddsAtMost, size_of, told_from}
-use Rattle.twkb_layer.specs.Devices.EachBlob.{is_among, first_of, after_from, after_blobs, read_from, bytes_read, adds, Lent, lent}
+use Rattle.twkb_layer.specs.Devices.EachBlob.{is_among, first_blobs, after_from, after_blobs, read_from, bytes_read, adds, Lent, lent}
 use Rattle.twkb_layer.proofs.Layers.{blob_some, size_of-blob, layer_once, layer_short}
 
 -- ---- the next blob
@@ -57,7 +57,7 @@ abbrev pub to_come : Option ℕ → ℕ → List Geometry → List Geometry
 to_come None blob rest = rest
 to_come (Some limit) blob rest = take (limit - blob) rest
 
-come_all : (limit : Option ℕ) (trees : List Geometry) → to_come limit 0 trees ≡ first_of limit trees
+come_all : (limit : Option ℕ) (trees : List Geometry) → to_come limit 0 trees ≡ first_blobs limit trees
 come_all None trees = refl
 come_all (Some limit) trees = let same : limit - 0 ≡ limit = omega arith in ap (λ (n : ℕ). take n trees) same
 
@@ -108,16 +108,16 @@ module _ {S : Type 0} (step : S → ℕ → ℕ → Geometry → S) (reads : S �
     pub trees : List Geometry
     pub whole : IsCertifiedLayer trees bytes
     pub left : IsCertifiedLayer rest (drop place bytes)
-    pub state_is : after_from step blob place (to_come limit blob rest) state ≡ after_blobs step (first_of limit trees) state0
+    pub state_is : after_from step blob place (to_come limit blob rest) state ≡ after_blobs step (first_blobs limit trees) state0
     pub read : ℕ
     pub count_is : count ≡ added count0 read
-    pub read_is : read + read_from step reads blob place (to_come limit blob rest) state ≡ bytes_read step reads (first_of limit trees) state0
+    pub read_is : read + read_from step reads blob place (to_come limit blob rest) state ≡ bytes_read step reads (first_blobs limit trees) state0
     pub read_few : read ≤ place
     pub blob_is : blob + length rest ≡ length trees
     pub room : fits blob (length (to_come limit blob rest))
     pub within : place ≤ length bytes
 
-  pub walk_begins : (bytes : List ℕ) (count0 : ℕ) (state0 : S) (fits : ℕ → ℕ → Type 0) (trees : List Geometry) → IsCertifiedLayer trees bytes → fits 0 (length (first_of limit trees)) → count0 < 2 ^ 64 → Walking bytes count0 state0 trees 0 0 count0 state0 fits
+  pub walk_begins : (bytes : List ℕ) (count0 : ℕ) (state0 : S) (fits : ℕ → ℕ → Type 0) (trees : List Geometry) → IsCertifiedLayer trees bytes → fits 0 (length (first_blobs limit trees)) → count0 < 2 ^ 64 → Walking bytes count0 state0 trees 0 0 count0 state0 fits
   walk_begins bytes count0 state0 fits trees whole room small =
       let all = come_all limit trees in
       record {
@@ -177,12 +177,12 @@ module _ {S : Type 0} (step : S → ℕ → ℕ → Geometry → S) (reads : S �
 
     -- then the state and the bytes read are those of the layer
     pub walk_ends : to_come limit blob rest ≡ [] → (trees : List Geometry) → IsCertifiedLayer trees bytes
-        → (state ≡ after_blobs step (first_of limit trees) state0) × (count ≡ added count0 (bytes_read step reads (first_of limit trees) state0))
+        → (state ≡ after_blobs step (first_blobs limit trees) state0) × (count ≡ added count0 (bytes_read step reads (first_blobs limit trees) state0))
     walk_ends none trees h =
         let same : w.trees ≡ trees = layer_once w.trees trees bytes w.whole.layer h.layer in
-        let all : w.read ≡ bytes_read step reads (first_of limit w.trees) state0 = omega arith ∙ (ap (λ ts. w.read + read_from step reads blob place ts state) (sym none) ∙ w.read_is) in (
-          ap (λ ts. after_from step blob place ts state) (sym none) ∙ (w.state_is ∙ ap (λ ts. after_blobs step (first_of limit ts) state0) same),
-          w.count_is ∙ ap (added count0) (all ∙ ap (λ ts. bytes_read step reads (first_of limit ts) state0) same),
+        let all : w.read ≡ bytes_read step reads (first_blobs limit w.trees) state0 = omega arith ∙ (ap (λ ts. w.read + read_from step reads blob place ts state) (sym none) ∙ w.read_is) in (
+          ap (λ ts. after_from step blob place ts state) (sym none) ∙ (w.state_is ∙ ap (λ ts. after_blobs step (first_blobs limit ts) state0) same),
+          w.count_is ∙ ap (added count0) (all ∙ ap (λ ts. bytes_read step reads (first_blobs limit ts) state0) same),
         )
 
 -- ---- steps

@@ -9,7 +9,7 @@ use Rattle.std.proofs.lemmas.Nat.{div-add-mod'}
 use Rattle.twkb_layer.specs.Decimals.{Rational, RationalRange, is_less, units_as_rational, rounded_up, rounded_down, rounded_inward, in_rationals, in_rationals_if_any, HasDenominators, IsWithinFarthest}
 use Rattle.twkb_layer.specs.Laws.{RoundsInward, NoneIsFarther}
 use Rattle.twkb_layer.specs.Window.{in_span, in_bound}
-use Rattle.twkb_layer.proofs.Raws.{down_as_it_is}
+use Rattle.twkb_layer.proofs.RawWindows.{down_as_it_is}
 use Rattle.twkb_layer.proofs.Rounding.{signed_product}
 
 -- ---- quotients rounded down

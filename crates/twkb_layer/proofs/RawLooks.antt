@@ -1,5 +1,5 @@
 -- Boxes and points judged by raw integers.
-use Rattle.std.proofs.Common.{◌≡◌, ℕ, ℤ, pos, int_lt, ◌||◌, ◌&&◌, Bool, not, true, false, [], ◌∷◌, Option, Some, None, option_map, refl, ap, sym, subst, ◌∙◌, arith}
+use Rattle.std.proofs.Common.{◌≡◌, ℕ, ℤ, pos, ◌||◌, ◌&&◌, Bool, not, true, false, [], ◌∷◌, Option, Some, None, option_map, refl, ap, sym, subst, ◌∙◌, arith}
 use Rattle.std.proofs.lemmas.Int.{ints}
 use Rattle.twkb_num.specs.Units.{units_of}
 use Rattle.twkb_head.specs.Head.{span_at, m_axis}
@@ -10,11 +10,11 @@ use Rattle.twkb_head.specs.declared.raw.RawRange.{RawRange}
 use Rattle.twkb_head.specs.declared.raw.RawBox.{RawBox}
 use Rattle.twkb_head.specs.declared.boxes.Bounds.{Bounds}
 use Rattle.twkb_head.specs.declared.boxes.Span.{Span}
-use Rattle.twkb_layer.specs.declared.raw.RawWindow.{RawWindow}
-use Rattle.twkb_layer.specs.Devices.Raw.{IsRawWindow}
+use Rattle.twkb_layer.specs.declared.raw_windows.RawWindow.{RawWindow}
+use Rattle.twkb_layer.specs.Devices.RawWindows.{IsRawWindow, raw_box_misses}
 use Rattle.twkb_layer.specs.Devices.Slots.{IsInner, AreInner}
 use Rattle.twkb_layer.specs.Window.{in_span, in_bound, is_inside, lie_apart}
-use Rattle.twkb_layer.proofs.Raws.{misses_raw}
+use Rattle.twkb_layer.proofs.RawWindows.{misses_raw}
 
 -- the ends of a near range are neither the least nor the greatest number of 64 bits
 pub inner : (range : RawRange) → IsNear range → AreInner (ends_of range)
@@ -25,7 +25,7 @@ inner range near = record {
 
 -- a box of near ranges lies apart in X or in Y exactly if its raw ends do
 pub box_judged : (xy : ℤ) (w : Bounds) (raw : RawWindow) (box : RawBox) (p : ℤ) (misses : Bool) → IsRawWindow p w raw → HasNearRanges box → p ≡ xy
-    → misses ≡ ((int_lt (ends_of box.x).1 raw.x.least || int_lt raw.x.greatest (ends_of box.x).0) || (int_lt (ends_of box.y).1 raw.y.least || int_lt raw.y.greatest (ends_of box.y).0))
+    → misses ≡ raw_box_misses raw (ends_of box.x) (ends_of box.y)
     → misses ≡ (lie_apart (span_at xy (ends_of box.x)) w.x || lie_apart (span_at xy (ends_of box.y)) w.y)
 box_judged xy w raw box p misses is near p_is missed =
     missed ∙ misses_raw xy w raw (subst (λ (q : ℤ). IsRawWindow q w raw) p_is is) (ends_of box.x) (ends_of box.y) (inner box.x near.x) (inner box.y near.y)
@@ -50,10 +50,10 @@ join false b c = refl
 
 -- a point is inside in X and in Y exactly if the box of the point alone doesn't miss the window
 point_judged : (p : ℤ) (w : Bounds) (raw : RawWindow) (x y x_bits y_bits : ℤ) (misses rest : Bool) → x_bits ≡ x → y_bits ≡ y → IsRawWindow p w raw → IsInner x → IsInner y
-    → misses ≡ ((int_lt x_bits raw.x.least || int_lt raw.x.greatest x_bits) || (int_lt y_bits raw.y.least || int_lt raw.y.greatest y_bits))
+    → misses ≡ raw_box_misses raw (x_bits, x_bits) (y_bits, y_bits)
     → (not misses && rest) ≡ (in_span w.x (units_of x p) && (in_span w.y (units_of y p) && rest))
 point_judged p w raw x y x_bits y_bits misses rest x_is y_is is x_inner y_inner missed =
-    let bits = missed ∙ (λ j. (int_lt (x_is j) raw.x.least || int_lt raw.x.greatest (x_is j)) || (int_lt (y_is j) raw.y.least || int_lt raw.y.greatest (y_is j))) in
+    let bits = missed ∙ (λ j. raw_box_misses raw (x_is j, x_is j) (y_is j, y_is j)) in
     let same = bits ∙ misses_raw p w raw is (x, x) (y, y) (record { first = x_inner; second = x_inner }) (record { first = y_inner; second = y_inner }) in
     (λ j. not (same j) && rest) ∙ join (lie_apart (span_at p (x, x)) w.x) (lie_apart (span_at p (y, y)) w.y) rest
     ∙ (λ j. sym (in_or_apart w.x (units_of x p)) j && (sym (in_or_apart w.y (units_of y p)) j && rest))
@@ -78,14 +78,15 @@ four_coordinates axes point x y third fourth a b c d = λ j. record {
     last None = c
     last (Some p) = d
 
--- a vertex is inside exactly if its raw numbers in X and Y, none an end of 64 bits, don't miss the window, and Z and M are inside
-pub point_inside : (axes : Axes) (w : Bounds) (raw : RawWindow) (point : PointValue) (p x_bits y_bits : ℤ) (misses : Bool) → IsRawWindow p w raw → IsInner (coordinate point 0) → IsInner (coordinate point 1)
-    → misses ≡ ((int_lt x_bits raw.x.least || int_lt raw.x.greatest x_bits) || (int_lt y_bits raw.y.least || int_lt raw.y.greatest y_bits))
+-- a vertex is inside exactly if its raw numbers in X and Y, none an end of 64 bits, don't miss the window, and Z and M are
+-- inside
+pub point_inside : (axes : Axes) (w : Bounds) (raw : RawWindow) (point : PointValue) (p x_bits y_bits : ℤ) (misses : Bool) → IsRawWindow p w raw → IsInner x_bits → IsInner y_bits
+    → misses ≡ raw_box_misses raw (x_bits, x_bits) (y_bits, y_bits)
     → p ≡ axes.xy → x_bits ≡ coordinate point 0 → y_bits ≡ coordinate point 1
     → (not misses && (in_bound w.z (vertex_at axes point).z && in_bound w.m (vertex_at axes point).m)) ≡ is_inside w (vertex_at axes point)
 point_inside axes w raw point p x_bits y_bits misses is x_inner y_inner missed p_is x_is y_is =
     point_judged axes.xy w raw (coordinate point 0) (coordinate point 1) x_bits y_bits misses _ x_is y_is (subst (λ (q : ℤ). IsRawWindow q w raw) p_is is)
-    x_inner y_inner missed
+    (subst IsInner x_is x_inner) (subst IsInner y_is y_inner) missed
 
 -- an answer about the four coordinates of a point is an answer about the point
 pub inside_by_four : (axes : Axes) (w : Bounds) (point : PointValue) (x y third fourth : ℤ) (answer : Bool) → answer ≡ is_inside w (vertex_at axes (x ∷ y ∷ third ∷ fourth ∷ []))

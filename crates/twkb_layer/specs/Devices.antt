@@ -5,7 +5,7 @@ pub mod Refusal
 pub mod Tight
 pub mod Seeking
 pub mod Scanning
-pub mod Raw
+pub mod RawWindows
 pub mod Slots
 pub mod TextReader
 pub mod Decimals

@@ -67,21 +67,22 @@ abbrev pub unboxed : ℕ → Said
 unboxed offset = record { beyond = false; deep = false; offset = offset; first = None; second = None }
 
 -- the box of these ranges, or none if X or Y is missing
-abbrev pub boxed : Option Span → Option Span → Option Span → Option Span → Option Bounds
-boxed (Some x) (Some y) z m = Some (record { x = x; y = y; z = z; m = m })
-boxed _ _ _ _ = None
+abbrev pub box_with : Option Span → Option Span → Option Span → Option Span → Option Bounds
+box_with (Some x) (Some y) z m = Some (record { x = x; y = y; z = z; m = m })
+box_with _ _ _ _ = None
 
 -- the entry of a slot's blob. If the slot is deep, Z, M and the rest of the offset are from the last slot that says them.
 abbrev pub entry_with : Said → Said → Entry
 entry_with beyond slot = record {
   offset = slot.offset + cond slot.deep beyond.offset 0;
-  bounds = boxed slot.first slot.second (cond slot.deep beyond.first None) (cond slot.deep beyond.second None);
+  bounds = box_with slot.first slot.second (cond slot.deep beyond.first None) (cond slot.deep beyond.second None);
 }
 
 -- the entries of the blobs of slots
 abbrev pub entries_from : Said → List Said → List Entry
 entries_from beyond [] = []
-entries_from beyond (slot ∷ slots) = cond slot.beyond (entries_from slot slots) (entry_with beyond slot ∷ entries_from beyond slots)
+entries_from beyond (slot ∷ slots) =
+    cond slot.beyond (entries_from slot slots) (entry_with beyond slot ∷ entries_from beyond slots)
 
 -- `entries_from` the first slot on, which no slot precedes
 abbrev pub entries_of : List Said → List Entry

@@ -12,4 +12,5 @@ all_vertices trees = flat_map vertices trees
 -- how many bytes a visitor in a state reads of blobs, one after another
 abbrev pub layer_walk : List Geometry → (S : Type 0) → (S → Vertex → S) → (S → Bounds → Bool) → S → ℕ
 layer_walk [] S step skips s = 0
-layer_walk (tree ∷ trees) S step skips s = walk tree S step skips s + layer_walk trees S step skips (fold step s (vertices tree))
+layer_walk (tree ∷ trees) S step skips s =
+    walk tree S step skips s + layer_walk trees S step skips (fold step s (vertices tree))

@@ -1,10 +1,10 @@
 //! Decimals of any length, as bounds of windows.
 ghost use Rattle.std.specs.Prelude.{◌≡◌, ◌+◌, ◌*◌, ◌/◌, ◌%◌, ◌^◌, ◌==◌, ◌&&◌, min, cond, not, pos, neg_ℤ, ◌+ℤ◌, ◌-ℤ◌, ◌*ℤ◌, ◌≤ℤ◌, if◌then◌else◌, Ok, Err, IfOk, Some, IfSome, true, false};
 ghost use Rattle.std.specs.Str.Parse.{digits_value, AllDigits};
-ghost use Rattle.twkb_layer.specs.Devices.Decimals.{leaning};
+ghost use Rattle.twkb_layer.specs.Devices.Decimals.{is_between_units, leaning, whole_units};
 ghost use Rattle.twkb_layer.specs.Decimals.{Decimal, IsDecimalText, is_less, rational_of, rounded_up, rounded_down, signed, farthest, span_of_decimals};
 
-use crate::text::Text;
+use crate::text_reader::TextReader;
 use std::marker::Model;
 use thiserror::Error;
 use twkb_body::Span;
@@ -26,8 +26,8 @@ pub enum BadRange {
     Order = 2,
 }
 
-/// Makes the range in units between two decimals: its lower bound is rounded up, and its upper bound down. A coordinate is a whole
-/// number of units, so it is in this range if and only if it is between the decimals. If no unit is, `lo` is above `hi`.
+/// Makes the range in units between two decimals: its lower bound is rounded up, and its upper bound down. A coordinate is a
+/// whole number of units, so it is in this range if and only if it is between the decimals. If no unit is, `lo` is above `hi`.
 ///
 /// A decimal is an optional minus, one or more digits, and optionally a point and one or more digits. Its value may be farther
 /// from 0 than any coordinate; the bound is then 10^34 units, or -10^34. Nothing is allocated.
@@ -89,7 +89,7 @@ impl<'t> Decimal<'t> {
         ensures some { IfSome result (λ d. IsDecimalText text.now d) }
         ensures exact { (d : Decimal) → IsDecimalText text.now d → result ≡ Some d }
     {
-        let mut rest = Text::new(text);
+        let mut rest = TextReader::new(text);
         let minus = rest.skip(b"-");
         let whole = rest.digits();
         let fraction = rest.fraction();
@@ -134,8 +134,8 @@ impl<'t> Decimal<'t> {
 
     /// The value rounded to units, away from 0 or towards it, at most [`FARTHEST`] from 0.
     fn rounded(&self, away: bool) -> i128
-        ensures { let units = self.now.number * 10 ^ 7 in let one = 10 ^ self.now.places in
-            result ≡ signed self.now.minus (min (units / one + cond (away && not (units % one == 0)) 1 0) farthest) }
+        ensures { result ≡ signed self.now.minus
+            (min (whole_units self.now + cond (away && is_between_units self.now) 1 0) farthest) }
     {
         let mut amount = self.amount();
         if away && self.is_between_units() {
@@ -147,7 +147,7 @@ impl<'t> Decimal<'t> {
 
     /// The absolute value in units, rounded down, at most [`FARTHEST`].
     fn amount(&self) -> u128
-        ensures { result ≡ min (self.now.number * 10 ^ 7 / 10 ^ self.now.places) farthest }
+        ensures { result ≡ min (whole_units self.now) farthest }
     {
         let places = self.fraction.len();
         let mut behind = self.whole.len() + places + UNIT_PLACES;
@@ -161,7 +161,7 @@ impl<'t> Decimal<'t> {
 
     /// Whether the value isn't a whole number of units.
     fn is_between_units(&self) -> bool
-        ensures { result ≡ not (self.now.number * 10 ^ 7 % 10 ^ self.now.places == 0) }
+        ensures { result ≡ is_between_units self.now }
     {
         for behind in 0..self.fraction.len() {
             if self.digit(UNIT_PLACES, behind) != 0 {

@@ -4,8 +4,8 @@ ghost use Rattle.twkb_num.specs.Cursor.{added};
 ghost use Rattle.twkb_body.specs.Geometry.{Geometry};
 ghost use Rattle.twkb_body.specs.Standing.{StandsAt};
 ghost use Rattle.twkb_layer.specs.Layer.{IsCertifiedLayer, AddsAtMost, OfLayer, size_of};
-ghost use Rattle.twkb_layer.specs.Devices.Layer.{OfBlob, past};
-ghost use Rattle.twkb_layer.specs.Devices.EachBlob.{is_among, first_of, after_blobs, bytes_read};
+ghost use Rattle.twkb_layer.specs.Devices.Layer.{OfBlob, past_blob};
+ghost use Rattle.twkb_layer.specs.Devices.EachBlob.{is_among, first_blobs, after_blobs, bytes_read};
 
 use twkb_num::Cursor;
 
@@ -34,20 +34,21 @@ pub trait EachBlob {
             state self.new ≡ step (state self.old) blob cursor.old.place g) }
         ensures fits { (more : ℕ) → fits self.old blob (more + 1) → fits self.new (blob + 1) more }
         ensures cursor { OfBlob cursor.old.bytes cursor.old.place (λ g.
-            cursor.new ≡ past (reads (state self.old) g) g cursor.old) }
+            cursor.new ≡ past_blob (reads (state self.old) g) g cursor.old) }
         ensures few { OfBlob cursor.old.bytes cursor.old.place (λ g. reads (state self.old) g ≤ size_of g) };
 }
 
-/// Calls [`take_blob`](EachBlob::take_blob) for each blob of a certified layer, in file order, or only for the first `limit` blobs.
+/// Calls [`take_blob`](EachBlob::take_blob) for each blob of a certified layer, in file order, or only for the first `limit`
+/// blobs.
 #[inline(always)]
 pub fn for_each_blob<B: EachBlob>(each: &mut B, cursor: &mut Cursor, limit: Option<usize>)
     requires { (trees : List Geometry) × IsCertifiedLayer trees cursor.old.bytes
-        × B.fits each.old 0 (length (first_of limit trees)) }
+        × B.fits each.old 0 (length (first_blobs limit trees)) }
     ensures state { OfLayer cursor.old.bytes (λ trees.
-        B.state each.new ≡ after_blobs B.step (first_of limit trees) (B.state each.old)) }
+        B.state each.new ≡ after_blobs B.step (first_blobs limit trees) (B.state each.old)) }
     ensures bytes { cursor.new.bytes ≡ cursor.old.bytes }
     ensures count { OfLayer cursor.old.bytes (λ trees. cursor.new.count
-        ≡ added cursor.old.count (bytes_read B.step B.reads (first_of limit trees) (B.state each.old))) }
+        ≡ added cursor.old.count (bytes_read B.step B.reads (first_blobs limit trees) (B.state each.old))) }
     ensures few { AddsAtMost (length cursor.old.bytes) cursor.old.count cursor.new.count }
     ensures grows { cursor.old.count ≤ cursor.new.count }
 {

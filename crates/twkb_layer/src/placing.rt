@@ -80,8 +80,8 @@ pub fn put_slots(room: &mut [Slot], cursor: &mut Cursor) -> usize
     slots.used
 }
 
-/// Puts the slots of a blob that begins at the offset with this header after the `used` ones of the room. Returns how many are used
-/// then.
+/// Puts the slots of a blob that begins at the offset with this header after the `used` ones of the room. Returns how many are
+/// used then.
 #[inline(always)]
 fn put(room: &mut [Slot], used: usize, offset: usize, raw: &Fields) -> usize
     requires axes { HavePrecisions raw.now.axes }

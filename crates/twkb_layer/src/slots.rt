@@ -3,13 +3,13 @@ ghost use Rattle.std.specs.Prelude.{◌≡◌, ◌+◌, ◌*◌, ◌/◌, ◌%�
 ghost use Rattle.twkb_num.specs.Units.{IsPrecision};
 ghost use Rattle.twkb_head.specs.Head.{span_at};
 ghost use Rattle.twkb_head.specs.Raw.{ends_of};
-ghost use Rattle.twkb_layer.specs.Devices.Slots.{AreInner, IsJudged};
+ghost use Rattle.twkb_layer.specs.Devices.Slots.{AreInner, IsJudgedByEnds};
 ghost use Rattle.twkb_layer.specs.Slots.{range_in, slot_says, unboxed};
 ghost use Rattle.twkb_layer.specs.Window.{lie_apart_if_both};
 
-use crate::raw::RawWindows;
+use crate::raw_windows::RawWindows;
+use crate::slot_word::{BEYOND, ENDS, UNBOXED, WIDTHS, Word};
 use crate::window::Window;
-use crate::word::{BEYOND, ENDS, UNBOXED, WIDTHS, Word};
 use std::marker::Model;
 use twkb_body::Span;
 use twkb_head::RawRange;
@@ -21,23 +21,23 @@ pub const OFFSET_LIMIT: usize = 1 << 57;
 /// A slot of a directory.
 ///
 /// A box is kept in raw integers with its precision, so that a scan compares numbers of 64 bits. Its ends are kept if all its
-/// numbers are at most 2^61 from zero, and otherwise its minima and widths, as the header spells them. So a slot takes 40 bytes,
-/// and an `Option<Bounds>` alone would take 176. Z and M, which few layers have, go into a slot of their own before their blob's
-/// slot, because a scan spends its time on reading memory.
+/// numbers are at most 2^61 from zero, and otherwise its minima and widths, as the header spells them. So a slot takes 40
+/// bytes, and an `Option<Bounds>` alone would take 176. Z and M, which few layers have, go into a slot of their own before
+/// their blob's slot, because a scan spends its time on reading memory.
 #[repr(C)]
 #[derive(Clone, Copy)]
 pub struct Slot {
     word: Word,
     /// The range in X, or in Z.
-    first: Pair,
+    first: SlotRange,
     /// The range in Y, or in M.
-    second: Pair,
+    second: SlotRange,
 }
 
 /// Both ends of a range, or its minimum and its width.
 #[repr(C)]
 #[derive(Clone, Copy)]
-struct Pair {
+struct SlotRange {
     low: i64,
     high: i64,
 }
@@ -59,12 +59,12 @@ impl Model for Slot {
     ghost invariant = { λ s. HasInnerEnds (written s) };
 }
 
-impl Pair {
+impl SlotRange {
     #[inline(always)]
-    fn of(numbers: (i64, i64)) -> Pair
+    fn of(numbers: (i64, i64)) -> SlotRange
         ensures { (result.low, result.high) ≡ numbers }
     {
-        Pair {
+        SlotRange {
             low: numbers.0,
             high: numbers.1,
         }
@@ -92,8 +92,8 @@ impl Slot {
     {
         Slot {
             word: Word::new(0, UNBOXED, deep, offset as u64),
-            first: Pair::of((0, 0)),
-            second: Pair::of((0, 0)),
+            first: SlotRange::of((0, 0)),
+            second: SlotRange::of((0, 0)),
         }
     }
 
@@ -114,18 +114,19 @@ impl Slot {
         match (near_ends(x), near_ends(y)) {
             (Some(first), Some(second)) => Slot {
                 word: Word::new(code, ENDS, deep, offset as u64),
-                first: Pair::of(first),
-                second: Pair::of(second),
+                first: SlotRange::of(first),
+                second: SlotRange::of(second),
             },
             _ => Slot {
                 word: Word::new(code, WIDTHS, deep, offset as u64),
-                first: Pair::of((x.minimum, x.extent)),
-                second: Pair::of((y.minimum, y.extent)),
+                first: SlotRange::of((x.minimum, x.extent)),
+                second: SlotRange::of((y.minimum, y.extent)),
             },
         }
     }
 
-    /// The slot before a blob's own slot: the box's ranges in Z and M, and the part of the offset that is beyond a slot's reach.
+    /// The slot before a blob's own slot: the box's ranges in Z and M, and the part of the offset that is beyond a slot's
+    /// reach.
     pub(crate) fn beyond(offset: usize, z: Kept, m: Kept) -> Slot
         ensures { slot_says result ≡ record {
           beyond = true;
@@ -138,8 +139,8 @@ impl Slot {
         let passed = (offset / OFFSET_LIMIT) as u64;
         Slot {
             word: Word::new(z.code, BEYOND, false, m.code + 16 * passed),
-            first: Pair::of(z.numbers),
-            second: Pair::of(m.numbers),
+            first: SlotRange::of(z.numbers),
+            second: SlotRange::of(m.numbers),
         }
     }
 
@@ -177,7 +178,7 @@ impl Slot {
     /// Whether the box misses the window in X or in Y, if the slot keeps the ends of a box. Otherwise `None`.
     #[inline(always)]
     pub(crate) fn misses_by_ends(&self, windows: &RawWindows) -> Option<bool>
-        ensures { IfSome result (IsJudged windows.now (slot_says self.now)) }
+        ensures { IfSome result (IsJudgedByEnds windows.now (slot_says self.now)) }
     {
         if self.word.form() == ENDS {
             Some(
@@ -194,7 +195,7 @@ impl Slot {
     pub(crate) fn first(&self) -> Option<Span>
         ensures { result ≡ (slot_says self.now).first }
     {
-        range_of(self.word.form(), self.word.code(), self.first.numbers())
+        range_in(self.word.form(), self.word.code(), self.first.numbers())
     }
 
     /// The range in Y, or in M.
@@ -206,7 +207,7 @@ impl Slot {
         } else {
             self.word.code()
         };
-        range_of(self.word.form(), code, self.second.numbers())
+        range_in(self.word.form(), code, self.second.numbers())
     }
 
     /// Whether the ranges in Z and M that the slot says miss the window.
@@ -218,8 +219,8 @@ impl Slot {
     }
 }
 
-/// The range of an axis that a box may lack: a minimum and a width, and the code of their precision, which is below 8 if there is
-/// no range.
+/// The range of an axis that a box may lack: a minimum and a width, and the code of their precision, which is below 8 if there
+/// is no range.
 #[derive(Drop)]
 pub struct Kept {
     code: u64,
@@ -275,7 +276,7 @@ impl Kept {
 }
 
 /// The range in a slot of this form, if it has one.
-fn range_of(form: u64, code: usize, numbers: (i64, i64)) -> Option<Span>
+fn range_in(form: u64, code: usize, numbers: (i64, i64)) -> Option<Span>
     requires { code < 16 }
     ensures { result ≡ range_in form code numbers }
 {

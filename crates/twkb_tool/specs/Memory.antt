@@ -13,7 +13,7 @@ abbrev pub number_after : Option ℕ → Option ℕ
 number_after None = None
 number_after (Some n) = if nat_lt n (2 ^ 64 - 1) then Some (n + 1) else None
 
--- a source: what every source shows, the most bytes of a call, the number of the next call, and the number of the call that fails
+-- a source: what every source shows, the most bytes of a call, and the numbers of the next call and of the call that fails
 pub record MemSourceState : Type 0 where
   pub state : SourceState
   pub step : ℕ

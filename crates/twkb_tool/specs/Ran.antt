@@ -16,7 +16,7 @@ pub record GivesAll (limit : ℕ) (s t : SourceState) (given : List ℕ) : Type 
   pub fine : t.failed ≡ false
   pub within : length given ≤ limit
 
--- reading stopped, for this reason: the last call failed; the source gave one byte more than the limit; or, for `Memory`, neither
+-- reading stopped, for this reason: the last call failed; the source gave a byte more than the limit; or, for `Memory`, neither
 abbrev pub StopsReading : ℕ → RunFault → SourceState → SourceState → Type 0
 StopsReading limit Read s t = (given : List ℕ) × Gives s t given × (length given ≤ limit) × IsTrue t.failed
 StopsReading limit TooLarge s t = (given : List ℕ) × Gives s t given × (length given ≡ limit + 1) × (t.failed ≡ false)

@@ -1,8 +1,9 @@
 //! Certifies a layer of TWKB blobs, or names the first blob that is wrong, and where.
 //!
-//! The command line is parsed first (`words`). Then the file is opened, and `run` reads it whole, checks its bytes and writes the
-//! text. `run` is generic in its streams (`streams`), so its contract is about the bytes that came in and went out; here it runs
-//! on the file and on standard output. The first fault ends the program, with a line on standard error and a status (`status`).
+//! The command line is parsed first (`words`). Then the file is opened, and `run` reads it whole, checks its bytes and writes
+//! the text. `run` is generic in its streams (`streams`), so its contract is about the bytes that came in and went out; here it
+//! runs on the file and on standard output. The first fault ends the program, with a line on standard error and a status
+//! (`status`).
 #![tactic(auto)]
 
 ghost use Rattle.std.specs.Prelude.{◌≡◌};

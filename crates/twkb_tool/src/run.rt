@@ -1,8 +1,7 @@
 //! [`run`], a whole run from the bytes that come in to the text that goes out.
 ghost use Rattle.std.specs.Prelude.{◌≡◌, ℕ, ◌+◌, ◌<◌, ◌≤◌, List, [], ◌++◌, length, take, false, IfOk, IfErr, OnOk, IsTrue, vec_len};
 ghost use Rattle.twkb_tool.specs.Ran.{GivesAll, StopsReading, PutsAll, Ran};
-ghost use Rattle.twkb_tool.specs.Devices.Ran.{StopsPiece, StopsWriting};
-ghost use Rattle.twkb_tool.specs.Streams.{Gives};
+ghost use Rattle.twkb_tool.specs.Devices.Ran.{AddsPiece, StopsPiece, StopsWriting};
 ghost use Rattle.twkb_tool.specs.Words.{HoldsWindows};
 
 use crate::judge::{Verdict, answer};
@@ -113,8 +112,8 @@ fn take_piece<A: Allocator, S: Source>(
     requires more { held < most }
     requires within { vec_len bytes.old ≤ most }
     requires small { most ≤ MAX_FILE + 1 }
-    ensures piece { IfOk result (λ n. (given : List ℕ) × Gives (S.state source.old) (S.state source.new) given
-        × (length given ≡ n) × (take (held + n) bytes.new.items ≡ take held bytes.old.items ++ given)) }
+    ensures piece { IfOk result
+        (AddsPiece (S.state source.old) (S.state source.new) held bytes.old.items bytes.new.items) }
     ensures end { result ≡ Ok 0 → IsTrue (S.state source.old).tells → (S.state source.new).rest ≡ [] }
     ensures fine { OnOk result ((S.state source.new).failed ≡ false) }
     ensures room { IfOk result (λ n. held + n ≤ vec_len bytes.new) }

@@ -40,8 +40,8 @@ pub trait Source {
         ensures { result ≡ (state self.now).moved };
 }
 
-/// An output: takes bytes, a piece at a time. An implementation says whether its contract states its bytes; if so, it states the
-/// bytes that were put.
+/// An output: takes bytes, a piece at a time. An implementation says whether its contract states its bytes; if so, it states
+/// the bytes that were put.
 pub trait Sink {
     ghost state: { Self → SinkState };
 

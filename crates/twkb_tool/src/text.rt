@@ -162,8 +162,8 @@ fn push_window_at<A: Allocator, D: Allocator>(
     push_found(out, room, found, read, layer.len())
 }
 
-/// Pushes the lines of the hits in the front of the room, and then the line of how many hits there are, how many bytes were read
-/// for them, and how many bytes the layer has.
+/// Pushes the lines of the hits in the front of the room, and then the line of how many hits there are, how many bytes were
+/// read for them, and how many bytes the layer has.
 fn push_found<A: Allocator>(
     out: &mut Vec<u8, A>,
     room: &[Hit],

@@ -1,7 +1,7 @@
 //! What a command line requests.
 //!
-//! `clap` parses the words by the command (`command`). What it found (`found`) becomes a [`Line`], whose windows are parsed from
-//! their texts (`windows`). `specs/Words.antt` defines what each of these returns.
+//! `clap` parses the words by the command (`command`). What it found (`found`) becomes a [`Line`], whose windows are parsed
+//! from their texts (`windows`). `specs/Words.antt` defines what each of these returns.
 ghost use Rattle.std.specs.List.{list_all};
 ghost use Rattle.std.specs.Prelude.{◌≡◌, ◌≢◌, List, [], ◌∷◌, map, codes, true, IfOk, IfErr, OnOk, IsErrAnd};
 ghost use Rattle.clap.specs.Words.{Text, fault_of, found_of, rows_of, subcommand_of, subcommand_rows_of};

@@ -24,8 +24,8 @@ ghost use Rattle.twkb_call.specs.Window.{ranges_of, span_from};
 
 use twkb_call::{Hit, Layer, Point, Range, Row, Scanned, Verdict, Window};
 
-/// Certifies the bytes as a layer, with a buffer for the ids of a list. The verdict may be "out of memory" if a list has more ids
-/// than the buffer has places, and more than sixteen.
+/// Certifies the bytes as a layer, with a buffer for the ids of a list. The verdict may be "out of memory" if a list has more
+/// ids than the buffer has places, and more than sixteen.
 #[unsafe(no_mangle)]
 pub extern "C" fn twkb_certify(bytes: &[u8], ids: &mut [i64]) -> Verdict
     ensures says { Says IsTrueClaim result bytes.now }
@@ -55,8 +55,8 @@ pub extern "C" fn twkb_list(layer: &Layer, room: &mut [Row]) -> usize
     twkb_call::list(layer, room)
 }
 
-/// Parses a window. The result is 0, or 1 if the text doesn't have the form of a window, or 2 if a lower bound is above its upper
-/// bound.
+/// Parses a window. The result is 0, or 1 if the text doesn't have the form of a window, or 2 if a lower bound is above its
+/// upper bound.
 #[unsafe(no_mangle)]
 pub extern "C" fn twkb_window_parse(text: &[u8], window: &mut Window) -> u32
     ensures answers { result ≤ 2 }
@@ -69,8 +69,8 @@ pub extern "C" fn twkb_window_parse(text: &[u8], window: &mut Window) -> u32
     twkb_call::parse_window(text, window)
 }
 
-/// Makes the range in units between two decimals of any length, rounded inward. The result is 0, or 1 if one of them isn't of the
-/// form `[-]digits[.digits]`, or 2 if the lower one is greater.
+/// Makes the range in units between two decimals of any length, rounded inward. The result is 0, or 1 if one of them isn't of
+/// the form `[-]digits[.digits]`, or 2 if the lower one is greater.
 #[unsafe(no_mangle)]
 pub extern "C" fn twkb_span_of_decimals(lo: &[u8], hi: &[u8], span: &mut Range) -> u32
     ensures answers { result ≤ 2 }

@@ -15,12 +15,17 @@ pub record Drawing : Type 0 where
   pub room : List Point
   pub drawn : ℕ
 
+-- what a pen has drawn so far
 abbrev pub drawing_of : Pen → Drawing
 drawing_of pen = record { lent = pen.room.ghost_name; room = pen.room.now; drawn = pen.drawn }
 
 -- a vertex goes to the next place, if there is one
 abbrev pub draws : Drawing → Vertex → Drawing
-draws s v = cond (ltb s.drawn (length s.room)) (record { lent = s.lent; room = slice_set s.room s.drawn (point_of v); drawn = s.drawn + 1 }) s
+draws s v = cond (ltb s.drawn (length s.room)) (record {
+  lent = s.lent;
+  room = slice_set s.room s.drawn (point_of v);
+  drawn = s.drawn + 1;
+}) s
 
 -- it skips no box
 abbrev pub never : Drawing → Bounds → Bool

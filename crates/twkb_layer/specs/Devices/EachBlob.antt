@@ -11,14 +11,15 @@ is_among None blob = true
 is_among (Some limit) blob = nat_lt blob limit
 
 -- the first blobs, as many as the limit says; without a limit all blobs
-abbrev pub first_of : Option ℕ → List Geometry → List Geometry
-first_of None trees = trees
-first_of (Some limit) trees = take limit trees
+abbrev pub first_blobs : Option ℕ → List Geometry → List Geometry
+first_blobs None trees = trees
+first_blobs (Some limit) trees = take limit trees
 
 -- the state after one step for each blob, in file order; the first blob has this number and offset
 abbrev pub after_from : {S : Type 0} → (S → ℕ → ℕ → Geometry → S) → ℕ → ℕ → List Geometry → S → S
 after_from step blob offset [] s = s
-after_from step blob offset (tree ∷ trees) s = after_from step (blob + 1) (offset + size_of tree) trees (step s blob offset tree)
+after_from step blob offset (tree ∷ trees) s =
+    after_from step (blob + 1) (offset + size_of tree) trees (step s blob offset tree)
 
 -- `after_from` blob 0 at offset 0
 abbrev pub after_blobs : {S : Type 0} → (S → ℕ → ℕ → Geometry → S) → List Geometry → S → S

@@ -31,7 +31,7 @@ pub record HasInnerEnds (l : Written) : Type 0 where
   pub second : (unpacked l.word).form ≡ 0 → AreInner l.second
 
 -- the slot has a box, and `misses` says whether it misses the window in X or in Y
-pub record IsJudged (window : Bounds) (slot : Said) (misses : Bool) : Type 0 where
+pub record IsJudgedByEnds (window : Bounds) (slot : Said) (misses : Bool) : Type 0 where
   pub x : Span
   pub y : Span
   pub first : slot.first ≡ Some x
@@ -69,7 +69,13 @@ own_said offset deep box = record {
 
 -- what the slot before the own slot of a blob with this offset and box says
 abbrev pub said_before : ℕ → Option Bounds → Said
-said_before offset box = record { beyond = true; deep = false; offset = offset / 2 ^ 57 * 2 ^ 57; first = box_z box; second = box_m box }
+said_before offset box = record {
+  beyond = true;
+  deep = false;
+  offset = offset / 2 ^ 57 * 2 ^ 57;
+  first = box_z box;
+  second = box_m box;
+}
 
 -- how many slots a blob with this offset and box takes
 abbrev pub slots_for : ℕ → Option Bounds → ℕ

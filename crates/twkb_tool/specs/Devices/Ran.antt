@@ -1,10 +1,15 @@
 -- Devices of proofs: nothing public names them.
--- How reading a piece and writing a text stop.
-use Rattle.std.specs.Prelude.{◌≡◌, ℕ, List, true}
-use Rattle.twkb_tool.specs.Streams.{SourceState, SinkState}
+-- What reading a piece gives, and how it and writing a text stop.
+use Rattle.std.specs.Prelude.{◌≡◌, ℕ, ◌+◌, List, ◌++◌, length, take, true}
+use Rattle.twkb_tool.specs.Streams.{SourceState, SinkState, Gives}
 use Rattle.twkb_tool.specs.declared.run.RunFault.{RunFault}
 use Rattle.twkb_tool.specs.declared.run.RunFault.TheVariants.{Read, TooLarge, Memory, Write}
 use Rattle.twkb_tool.specs.Ran.{PutsSome}
+
+-- the source gave a piece of n bytes, which stand in the buffer after the first ones, those held
+abbrev pub AddsPiece : SourceState → SourceState → ℕ → List ℕ → List ℕ → ℕ → Type 0
+AddsPiece s t held old new n = (given : List ℕ) × Gives s t given × (length given ≡ n)
+    × (take (held + n) new ≡ take held old ++ given)
 
 -- why no piece came
 abbrev pub StopsPiece : RunFault → SourceState → SourceState → Type 0

@@ -19,13 +19,13 @@ pub fn windows_of(alloc: Global, texts: &[&str]) -> Result<Vec<Window>, Usage>
 {
     let mut windows = Vec::new(alloc);
     for (i, text) in texts.iter().enumerate() {
-        push_window(&mut windows, i + 1, text)?;
+        push_window_of(&mut windows, i + 1, text)?;
     }
     Ok(windows)
 }
 
 /// Reads the text of this number as a window, and pushes it.
-fn push_window(windows: &mut Vec<Window>, number: usize, text: &str) -> Result<(), Usage>
+fn push_window_of(windows: &mut Vec<Window>, number: usize, text: &str) -> Result<(), Usage>
     ensures ok { OnOk result ((window : Bounds) × IsWindow text.now window
         × (windows.new.items ≡ windows.old.items ++ window ∷ [])) }
     ensures err { IfErr result (IsNoWindowMore number text.now) }

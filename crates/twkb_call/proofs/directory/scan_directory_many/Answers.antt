@@ -10,7 +10,7 @@ loop-asked-preserved c =
     record {
       fits = omega (arith, c.if-one-room.false, inv.fits, inv.same);
       same = search rules;
-      so_far = rw c.report.ensures (next_answered _ _ _ _ _ _ _ _ _ _ _ inv.so_far (omega (arith, c.loop-asked-test.true)) (omega (arith, inv.fits, inv.same)) inv.same scan.hits scan.read scan.room);
+      so_far = rw c.put_scanned.ensures (next_answered _ _ _ _ _ _ _ _ _ _ _ inv.so_far (omega (arith, c.loop-asked-test.true)) (omega (arith, inv.fits, inv.same)) inv.same scan.hits scan.read scan.room);
     }
 
 pub returns-then-one-room : goal.returns-then-one-room
@@ -20,7 +20,7 @@ returns-then-one-room c =
     let next = next_answered _ _ _ _ _ _ _ _ _ _ _ inv.so_far (omega (arith, c.loop-asked-test.true)) (omega (arith, inv.fits, inv.same)) inv.same scan.hits scan.read scan.room in
     record {
       few = omega (arith, c.loop-asked-test.true);
-      scanned = λ trees h. rw c.report.ensures (next trees h).told;
+      scanned = λ trees h. rw c.put_scanned.ensures (next trees h).told;
       room = λ trees h. (next trees h).shown;
       fit = λ trees h. omega (arith, (inv.so_far trees h).counted, inv.fits);
       full = λ trees h more. omega (arith, (next trees h).counted, c.if-one-room.true, inv.same, inv.fits);

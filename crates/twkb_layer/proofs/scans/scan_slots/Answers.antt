@@ -27,8 +27,8 @@ look_at-requires g c =
     let h = here_of g.R.FromFound.of _ _ _ _ _ _ _ _ _ _ _ s c.new-entry.result c.new-entry.ensures c.if-is_beyond.ensures in
     (h.next.tree, here_stands _ _ _ _ _ _ _ _ h inv.bytes)
 
-pub passed-requires : goal.passed-requires
-passed-requires g c =
+pub found_blob-requires : goal.found_blob-requires
+found_blob-requires g c =
     let inv = c.loop-slot.invariant in
     let s = slot_next g.R.FromFound.of _ _ _ _ _ _ _ _ _ _ _ inv.going c.slot-item.result c.slot-item.is c.loop-slot-test.true in
     let h = here_of g.R.FromFound.of _ _ _ _ _ _ _ _ _ _ _ s c.new-entry.result c.new-entry.ensures c.if-is_beyond.ensures in
@@ -68,7 +68,7 @@ loop-slot-preserved g c =
             bytes = rw w.cursor-is (w.look_at.ensures.bytes ∙ inv.bytes);
             small = inv.small;
             going = rw (w.cursor-is, w.room-is, w.beyond-is, w.blob-is, w.found-is) (elim w.if-look_at.branch [
-              | then-look_at v ↦ rw (v.found-is, v.report.ensures.found, v.room-is, v.report.ensures.room) (look_goes_on g.R.FromFound.of _ _ _ _ _ _ _ _ _ _ _ s _ h (g.R.FromFound.of v.passed.result) (ap g.R.FromFound.of (passed_is c.loop-slot.blob v.offset.result w.new-entry.result.offset w.look_at.new.cursor.place (size_of h.next.tree) v.passed.result v.passed.ensures v.offset.ensures (w.look_at.ensures.past h.next.tree stands v.if-look_at.true))) _ count true (sym v.if-look_at.true ∙ found))
+              | then-look_at v ↦ rw (v.found-is, v.report.ensures.found, v.room-is, v.report.ensures.room) (look_goes_on g.R.FromFound.of _ _ _ _ _ _ _ _ _ _ _ s _ h (g.R.FromFound.of v.found_blob.result) (ap g.R.FromFound.of (passed_is c.loop-slot.blob v.offset.result w.new-entry.result.offset w.look_at.new.cursor.place (size_of h.next.tree) v.found_blob.result v.found_blob.ensures v.offset.ensures (w.look_at.ensures.past h.next.tree stands v.if-look_at.true))) _ count true (sym v.if-look_at.true ∙ found))
               | else-look_at v ↦ rw (v.found-is, v.room-is) (look_goes_on g.R.FromFound.of _ _ _ _ _ _ _ _ _ _ _ s _ h _ refl _ count false (sym v.if-look_at.false ∙ found))
             ]);
           }

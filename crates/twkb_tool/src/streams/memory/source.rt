@@ -34,8 +34,8 @@ impl<'a> Model for MemSource<'a> {
 }
 
 impl<'a> MemSource<'a> {
-    /// A source of these bytes, which gives at most `step` bytes a call. Calls of `take` are numbered from 1. Only call `fail_at`
-    /// fails.
+    /// A source of these bytes, which gives at most `step` bytes a call. Calls of `take` are numbered from 1. Only call
+    /// `fail_at` fails.
     pub fn new(bytes: &'a [u8], step: usize, fail_at: Option<usize>) -> MemSource<'a>
         requires { 0 < step }
         ensures { result ≡ record {

@@ -4,8 +4,8 @@ use Rattle.twkb_num.specs.Cursor.{Reading}
 use Rattle.twkb_layer.proofs.Costs.{cost_few}
 use Rattle.twkb_layer.proofs.scans.ScannerEachBlob.take_blob.Goals as goal
 
-pub passed-requires : goal.passed-requires
-passed-requires g c =
+pub found_blob-requires : goal.found_blob-requires
+found_blob-requires g c =
     let moved = c.look.ensures.cursor c.requires.stands.0 c.requires.stands.1 in
     omega (arith, c.place-offset.ensures.value, ap (λ (r : Reading). r.place) moved)
 

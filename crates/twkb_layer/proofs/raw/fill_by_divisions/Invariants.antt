@@ -1,7 +1,0 @@
--- Below this code each precision has its window in raw integers.
-use Rattle.std.proofs.Common.{◌≡◌, length}
-use Rattle.twkb_layer.proofs.Raws.{AreRawBelow}
-use Rattle.twkb_layer.proofs.raw.fill_by_divisions.Given as goal
-
-abbrev pub invariant-loop-code : goal.invariant-loop-code
-invariant-loop-code l = (length l.raws ≡ 16) × AreRawBelow l.code l.window l.raws

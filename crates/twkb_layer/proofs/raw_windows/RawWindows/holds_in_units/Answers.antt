@@ -1,0 +1,17 @@
+-- The four coordinates are the point's.
+use Rattle.std.proofs.Common.{◌≡◌, ℤ, [], ◌∷◌, ap, ◌∙◌, arith}
+use Rattle.std.proofs.lemmas.Int.{ints}
+use mir.Val.{to_z, of_z}
+use Rattle.std.specs.Int.{w64}
+use Rattle.twkb_body.specs.Geometry.{vertex_at}
+use Rattle.twkb_layer.specs.Window.{is_inside}
+use Rattle.twkb_layer.proofs.raw_windows.RawWindows.holds_in_units.Goals as goal
+
+pub returns : goal.returns
+returns c =
+    let bits : ℤ → ℤ = λ n. to_z w64 (of_z w64 n) in
+    let x : bits c.args.x ≡ c.args.x = omega (arith, ints) in
+    let y : bits c.args.y ≡ c.args.y = omega (arith, ints) in
+    let third : bits c.args.third ≡ c.args.third = omega (arith, ints) in
+    let fourth : bits c.args.fourth ≡ c.args.fourth = omega (arith, ints) in
+    rw c.window.ensures at c.inside.ensures ∙ ap (is_inside c.args.self.now) (c.vertex_at.ensures ∙ ap (vertex_at c.args.axes) (λ j. x j ∷ y j ∷ third j ∷ fourth j ∷ []))

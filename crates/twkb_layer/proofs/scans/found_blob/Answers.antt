@@ -1,0 +1,6 @@
+-- The blob that was passed ends at the place.
+use Rattle.std.proofs.Common.{rules}
+use Rattle.twkb_layer.proofs.scans.found_blob.Goals as goal
+
+pub returns : goal.returns
+returns c = search rules

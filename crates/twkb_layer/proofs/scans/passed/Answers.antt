@@ -1,6 +1,0 @@
--- The blob that was passed ends at the place.
-use Rattle.std.proofs.Common.{rules}
-use Rattle.twkb_layer.proofs.scans.passed.Goals as goal
-
-pub returns : goal.returns
-returns c = search rules

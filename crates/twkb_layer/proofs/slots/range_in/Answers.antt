@@ -1,0 +1,58 @@
+-- In each form the range is the range of the definition.
+use Rattle.std.proofs.Common.{◌≡◌, inl, inr, ℕ, pos, ◌-ℤ◌, FitsSigned, to_z, of_z, Some, None, Bool, true, false, nat_lt, ◌==◌, ◌||◌, ◌&&◌, if◌then◌else◌, ap, sym, ◌∙◌, arith, rules}
+use Rattle.std.specs.Int.{w8, w64, w128}
+use Rattle.std.proofs.lemmas.Int.{ints, to_z-of_z}
+use Rattle.std.proofs.lemmas.Bool.Decides.{nat_tests}
+use Rattle.twkb_num.specs.Units.{units_of}
+use Rattle.twkb_head.specs.Head.{span_at}
+use Rattle.twkb_layer.specs.Slots.{precision_of, range_at, range_in}
+use Rattle.twkb_layer.proofs.slots.range_in.Goals as goal
+
+pub units-requires-clause-least : goal.units-requires-clause-least
+units-requires-clause-least c = let fits : FitsSigned w64 c.args.numbers.0 = search rules in omega (arith, ints, fits, c.from.ensures)
+
+pub units-requires-clause-greatest : goal.units-requires-clause-greatest
+units-requires-clause-greatest c = let fits : FitsSigned w64 c.args.numbers.0 = search rules in omega (arith, ints, fits, c.from.ensures)
+
+pub units-requires-then-form-eq-ENDS-clause-least : goal.units-requires-then-form-eq-ENDS-clause-least
+units-requires-then-form-eq-ENDS-clause-least c = let fits : FitsSigned w64 c.args.numbers.1 = search rules in omega (arith, ints, fits, c.from-then-form-eq-ENDS.ensures)
+
+pub units-requires-then-form-eq-ENDS-clause-greatest : goal.units-requires-then-form-eq-ENDS-clause-greatest
+units-requires-then-form-eq-ENDS-clause-greatest c = let fits : FitsSigned w64 c.args.numbers.1 = search rules in omega (arith, ints, fits, c.from-then-form-eq-ENDS.ensures)
+
+pub returns-then-form-eq-ENDS : goal.returns-then-form-eq-ENDS
+returns-then-form-eq-ENDS c =
+    let first_fits : FitsSigned w64 c.args.numbers.0 = search rules in
+    let second_fits : FitsSigned w64 c.args.numbers.1 = search rules in
+    let precision : to_z w8 (of_z w8 (to_z w8 c.args.code -ℤ pos 8)) ≡ precision_of c.args.code = omega (arith, ints) in
+    let first : to_z w128 (of_z w128 c.from.result) ≡ c.args.numbers.0 = omega (arith, ints, c.from.ensures) in
+    let second : to_z w128 (of_z w128 c.from-then-form-eq-ENDS.result) ≡ c.args.numbers.1 = omega (arith, ints, c.from-then-form-eq-ENDS.ensures) in
+    let lo = to_z-of_z w128 c.units.result (search rules) ∙ c.units.ensures ∙ (λ j. units_of (first j) (precision j)) in
+    let hi = to_z-of_z w128 c.units-then-form-eq-ENDS.result (search rules) ∙ c.units-then-form-eq-ENDS.ensures ∙ (λ j. units_of (second j) (precision j)) in
+    (λ j. Some (record { lo = lo j; hi = hi j })) ∙ sym (ap (λ (form : ℕ). range_in form c.args.code c.args.numbers) c.if-form-eq-ENDS.true)
+
+pub returns-then-code-gt7 : goal.returns-then-code-gt7
+returns-then-code-gt7 c =
+    let first_fits : FitsSigned w64 c.args.numbers.0 = search rules in
+    let second_fits : FitsSigned w64 c.args.numbers.1 = search rules in
+    let precision : to_z w8 (of_z w8 (to_z w8 c.args.code -ℤ pos 8)) ≡ precision_of c.args.code = omega (arith, ints) in
+    ap Some (simp (to_z-of_z, precision) at c.spelled.ensures)
+    ∙ elim c.if-code-gt7.either [
+      | inl wide ↦ sym (ap (λ (form : ℕ). range_in form c.args.code c.args.numbers) wide)
+      | inr beyond ↦
+          let has : nat_lt 7 c.args.code ≡ true = let more = beyond.2 in grind (arith, nat_tests) in
+          sym (ap (λ (form : ℕ). range_in form c.args.code c.args.numbers) beyond.1 ∙ ap (λ (b : Bool). if b then Some (range_at (precision_of c.args.code) c.args.numbers) else None) has)
+    ]
+
+pub returns-else-code-gt7 : goal.returns-else-code-gt7
+returns-else-code-gt7 c =
+    elim c.if-code-gt7.either [
+      | inl beyond ↦
+          let none : nat_lt 7 c.args.code ≡ false = let few = beyond.2 in grind (arith, nat_tests) in
+          sym (ap (λ (form : ℕ). range_in form c.args.code c.args.numbers) beyond.1 ∙ ap (λ (b : Bool). if b then Some (range_at (precision_of c.args.code) c.args.numbers) else None) none)
+      | inr other ↦
+          let near : (c.args.form == 0) ≡ false = grind (arith, nat_tests) in
+          let wide : (c.args.form == 1) ≡ false = let no = other.0 in grind (arith, nat_tests) in
+          let beyond : (c.args.form == 3) ≡ false = let no = other.1 in grind (arith, nat_tests) in
+          (λ j. if sym near j then Some (span_at (precision_of c.args.code) c.args.numbers) else if (sym wide j) || ((sym beyond j) && nat_lt 7 c.args.code) then Some (range_at (precision_of c.args.code) c.args.numbers) else None)
+    ]
