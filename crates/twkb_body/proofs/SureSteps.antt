@@ -36,7 +36,7 @@ use Rattle.twkb_body.specs.Devices.IdLists.{IsListFound}
 use Rattle.twkb_body.specs.Devices.Inside.{of_head, IsInside}
 use Rattle.twkb_body.specs.Devices.Pass.{first, false_at, is_within}
 use Rattle.twkb_body.specs.Devices.Ranges.{widened}
-use Rattle.twkb_body.specs.Devices.Sure.{LiesIn, LiesInAll, framed, faultless, unseen, frame_bounds, IsHeldBy, IsFrameUnder, body_vertices, IsSureBody, IsSureBehind, IsSure, IsFramed}
+use Rattle.twkb_body.specs.Devices.Sure.{HasReadTwo, LiesIn, LiesInAll, framed, faultless, unseen, frame_bounds, IsHeldBy, IsFrameUnder, body_vertices, IsSureBody, IsSureBehind, IsSure, IsFramed}
 use Rattle.twkb_body.specs.Devices.Walk.{no_points, HaveAxes, IsWalked, lasts_from}
 use Rattle.twkb_body.proofs.BoxedRuns.{reaches_decides, both_true}
 use Rattle.twkb_body.proofs.Coordinates.{vertices_same}
@@ -48,6 +48,11 @@ use Rattle.twkb_body.proofs.Reaches.{reach_of-append}
 use Rattle.twkb_body.proofs.Scales.{times_le}
 use Rattle.twkb_body.proofs.ShapeSteps.{shape_of_parts}
 use Rattle.twkb_body.proofs.Sums.{points_absolute}
+use Rattle.twkb_head.proofs.HeadSteps.{two_back}
+
+-- after two bytes the place is two or more
+pub two_read : (first metadata : ℕ) (now : Reading) → (before : Reading) × HasReadTwo before first metadata now → 2 ≤ now.place
+two_read first metadata now (before, two) = omega (arith, two_back before now first metadata two.moved two.bytes)
 
 -- The parts of a body of this kind, with ids or none, were read, and their points, `vertices` in all, were added to a state.
 -- The ids, if there are any, are distinct.

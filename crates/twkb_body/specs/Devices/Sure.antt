@@ -1,7 +1,7 @@
 -- Devices of proofs: nothing public names them.
 -- The first reading: what it certifies, and what it refuses.
-use Rattle.std.specs.Prelude.{◌≡◌, ◌≢◌, ℕ, ◌+◌, ◌-◌, ◌≤◌, ◌+ℤ◌, ◌≤ℤ◌, Bool, false, List, [], ◌++◌, map, Option, Some, None, Result, Ok, Err, All, AllPairs, IfSome, true, ⊤, is_some, ◌||◌, ◌⊎◌, option_map, ℤ}
-use Rattle.twkb_num.specs.Cursor.{Reading, rest}
+use Rattle.std.specs.Prelude.{◌≡◌, ◌≢◌, ℕ, ◌+◌, ◌-◌, ◌≤◌, ◌+ℤ◌, ◌≤ℤ◌, Bool, false, List, [], ◌∷◌, ◌++◌, map, Option, Some, None, Result, Ok, Err, All, AllPairs, IfSome, true, ⊤, is_some, ◌||◌, ◌⊎◌, option_map, ℤ}
+use Rattle.twkb_num.specs.Cursor.{Reading, rest, passed, IsMoved, IsSound}
 use Rattle.twkb_num.specs.Units.{IsPrecision}
 use Rattle.twkb_head.specs.declared.header.Head.{Head}
 use Rattle.twkb_head.specs.declared.kinds.Kind.{Kind}
@@ -181,6 +181,17 @@ CertifiesBody depth head frame old result new =
 abbrev pub Certifies : ℕ → Option Frame → Reading → Result ℕ Doubt → Reading → Type 0
 Certifies depth above old result new =
     IsSureOr (IsSure (deepest - depth) above old new) (IsRefuted (deepest - depth) above old) (HasLongList depth (rest old)) old result new
+
+-- Two bytes were read, the second of them for metadata, from where a reading was sound.
+pub record HasReadTwo (before : Reading) (first metadata : ℕ) (now : Reading) : Type 0 where
+  pub sound : IsSound before
+  pub moved : IsMoved before now
+  pub bytes : passed before now ≡ first ∷ metadata ∷ []
+
+-- `Certifies`, of a geometry whose first two bytes were read before
+abbrev pub CertifiesAfterTwo : ℕ → Option Frame → ℕ → ℕ → Reading → Result ℕ Doubt → Reading → Type 0
+CertifiesAfterTwo depth above first metadata now result new =
+    (before : Reading) → HasReadTwo before first metadata now → Certifies depth above before result new
 
 -- on Ok the size is true of a geometry that ends at stop; on Err the size is false
 abbrev pub IsJudged : Head → ℕ → ℕ → Result ℕ Doubt → Type 0
