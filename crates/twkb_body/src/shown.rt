@@ -10,7 +10,7 @@ ghost use Rattle.twkb_body.specs.Devices.Body.{add, ring_sums};
 ghost use Rattle.twkb_body.specs.Devices.BodyReader.{point_at, ring_at, polygon_at, part_at};
 ghost use Rattle.twkb_body.specs.Devices.Inside.{of_head};
 ghost use Rattle.twkb_body.specs.Devices.Walk.{IsWalk, IsRun, IsStill, HasPrecisions, StandsThere, ShowsIt, shown};
-ghost use Rattle.twkb_body.specs.Geometry.{PointValue, Ring, PolygonValue, points_of};
+ghost use Rattle.twkb_body.specs.Geometry.{PointValue, points_of};
 ghost use Rattle.twkb_head.specs.Header.{axes_with};
 
 use crate::fields::take_number;
