@@ -297,7 +297,6 @@ fn take_flat_body<R: IdRoom>(
 ) -> Result<usize, Doubt>
     requires shallowest { 1 ≤ depth }
     requires allowed { IsAllowedAt head.now.kind depth }
-    requires precisions { HasPrecisions head.now }
     requires full { head.now.empty ≡ false }
     requires frame { IfSome frame.now (IsFramed head.now) }
     requires z { head.now.z ≡ None }
@@ -323,7 +322,6 @@ fn take_further_body<R: IdRoom>(
 ) -> Result<usize, Doubt>
     requires shallowest { 1 ≤ depth }
     requires allowed { IsAllowedAt head.now.kind depth }
-    requires precisions { HasPrecisions head.now }
     requires full { head.now.empty ≡ false }
     requires frame { IfSome frame.now (IsFramed head.now) }
     requires further { has_further head.now.z head.now.m ≡ true }

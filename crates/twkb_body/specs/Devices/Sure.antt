@@ -223,6 +223,12 @@ IsCounted multi ids old new count = (list : ListHead) × (count_at multi ids old
 abbrev pub CountsParts : Bool → Bool → Reading → Result ℕ Doubt → Reading → Type 0
 CountsParts multi ids old result new = IsSureOr (IsCounted multi ids old new) (IsWrongCount multi ids old new) (HasManyIdsAfterCount ids (rest old)) old result new
 
+-- The header is of a geometry that has a body and is no collection, and the frame, if there is one, has its precisions.
+pub record IsShapeHead (head : Head) (frame : Option Frame) : Type 0 where
+  pub full : head.empty ≡ false
+  pub kind : is_collection head.kind ≡ false
+  pub framed : IfSome frame (IsFramed head)
+
 -- on Ok a body that is no collection's is sure; on Err there is the doubt
 abbrev pub CertifiesShape : ℕ → Head → Option Frame → Reading → Result ℕ Doubt → Reading → Type 0
 CertifiesShape levels head frame old result new =

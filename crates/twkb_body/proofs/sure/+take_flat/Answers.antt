@@ -1,7 +1,7 @@
 -- The first reading of a geometry and of members, each by the other: what it certifies, and what it refutes.
-use Rattle.std.proofs.Common.{rules, ◌≡◌, ◌≤◌, ◌+◌, ◌-◌, ℕ, suc, Bool, false, Option, None, option_map, is_some, Ok, refl, sym, ap, subst, ◌∙◌, arith}
+use Rattle.std.proofs.Common.{rules, ◌≡◌, ◌+◌, ◌-◌, ℕ, suc, Bool, false, Option, None, option_map, is_some, Ok, refl, sym, ap, subst, ◌∙◌, arith}
 use Rattle.std.proofs.lemmas.Int.{ints}
-use Rattle.std.specs.Prelude.{◌%◌, IfSome}
+use Rattle.std.specs.Prelude.{◌%◌}
 use Rattle.std.proofs.lemmas.Result.{err_from_is_err_and}
 use Rattle.std.specs.Int.{w8}
 use mir.Val.{to_z, of_z}
@@ -22,16 +22,11 @@ use Rattle.twkb_body.specs.Devices.Found.{named}
 use Rattle.twkb_body.specs.Devices.IdLists.{HasManyIdsAfterCount}
 use Rattle.twkb_body.specs.Devices.Stops.{WantsIn, own_ids, member_ids}
 use Rattle.twkb_body.specs.Devices.Sure.{HasReadTwo, IsJudged, IsRefuted, IsRefutedBody}
-use Rattle.twkb_body.specs.Devices.Walk.{HasPrecisions}
 use Rattle.twkb_body.proofs.Keeping.{keeps_list, read_keeps}
 use Rattle.twkb_body.proofs.MemberSteps.{member_bytes}
 use Rattle.twkb_body.proofs.SureSteps.{two_read, sure_begins, sure_goes_on, members_sure}
 use Rattle.twkb_body.proofs.Refuting.{some_of, none_of, wants_members, shape_certifies, no_header_refutes, rest_refutes, list_refutes, ids_refute, members_refute, doubts_outside, doubts_through, raw_allowed, behind_doubts, apart_certifies, body_doubts, judged_certifies, bit_unset, apart_flat, apart_box, apart_there, apart_any, flat_ends}
 use Rattle.twkb_body.proofs.sure.+take_flat.Goals as goal
-
--- an axis that isn't there has no precision
-none_high : (o : Option ℕ) → o ≡ None → IfSome o (λ p. p ≤ 7)
-none_high o e = subst (λ (q : Option ℕ). IfSome q (λ p. p ≤ 7)) (sym e) tt
 
 pub take_flat-returns-in_default-take_rest : goal.take_flat-returns-in_default-take_rest
 take_flat-returns-in_default-take_rest g t c = λ before two.
@@ -53,7 +48,6 @@ take_flat_behind-take_flat_body-requires g t c κs within =
     let s = b.2 in
     let same = c.boxless-head.ensures in
     let allowed : IsAllowedAt c.boxless-head.result.kind c.args.depth = subst (λ (h : Head). IsAllowedAt h.kind c.args.depth) (sym same) (raw_allowed c.args.raw c.args.depth c.args.above.now b.0 c.args.cursor.now c.requires.shallowest c.requires.deepest b.1 s.0 s.1) in
-    let precisions : HasPrecisions c.boxless-head.result = subst HasPrecisions (sym same) (c.requires.xy, none_high c.args.raw.axes.z c.requires.z, none_high c.args.raw.axes.m c.requires.m) in
     let has_body : c.boxless-head.result.empty ≡ false = ap (λ (h : Head). h.empty) same ∙ c.requires.full in
     let z : c.boxless-head.result.z ≡ None = ap (λ (h : Head). h.z) same ∙ c.requires.z in
     let m : c.boxless-head.result.m ≡ None = ap (λ (h : Head). h.m) same ∙ c.requires.m in
@@ -98,7 +92,6 @@ take_further-take_further_body-requires g t c κs within =
     let s = c.in-Ok.ensures.read c.args.depth b.0 b.1.sound (c.in-Some.ensures.some b.0 b.1.sound b.1.moved b.1.bytes) in
     let same = c.boxless-head.ensures in
     let allowed : IsAllowedAt c.boxless-head.result.kind c.args.depth = subst (λ (h : Head). IsAllowedAt h.kind c.args.depth) (sym same) (raw_allowed c.in-Ok.raw c.args.depth c.args.above.now b.0 c.take_rest.new.cursor c.requires.shallowest c.requires.deepest b.1.sound s.0 s.1) in
-    let precisions : HasPrecisions c.boxless-head.result = subst HasPrecisions (sym same) (c.in-Ok.ensures.xy, c.in-Ok.ensures.z_high, c.in-Ok.ensures.m_high) in
     let full : c.in-Ok.raw.empty ≡ false = c.in-Ok.ensures.empty ∙ sym c.is_empty.ensures ∙ c.if-is_empty.false in
     let has_body : c.boxless-head.result.empty ≡ false = ap (λ (h : Head). h.empty) same ∙ full in
     let further = c.in-Some-further_frame.ensures.further in
