@@ -1,8 +1,7 @@
 -- Devices of proofs: nothing public names them.
 -- The first reading: what it certifies, and what it refuses.
-use Rattle.std.specs.Prelude.{◌≡◌, ◌≢◌, ℕ, ◌+◌, ◌-◌, ◌≤◌, ◌+ℤ◌, ◌≤ℤ◌, Bool, false, List, [], ◌∷◌, ◌++◌, map, Option, Some, None, Result, Ok, Err, All, AllPairs, IfSome, true, ⊤, is_some, ◌||◌, ◌⊎◌, option_map, ℤ}
+use Rattle.std.specs.Prelude.{◌≡◌, ◌≢◌, ℕ, ◌+◌, ◌-◌, ◌+ℤ◌, ◌≤ℤ◌, Bool, false, List, [], ◌∷◌, ◌++◌, map, Option, Some, None, Result, Ok, Err, All, AllPairs, IfSome, true, ⊤, is_some, ◌||◌, ◌⊎◌, option_map, ℤ}
 use Rattle.twkb_num.specs.Cursor.{Reading, rest, passed, IsMoved, IsSound}
-use Rattle.twkb_num.specs.Units.{IsPrecision}
 use Rattle.twkb_head.specs.declared.header.Head.{Head}
 use Rattle.twkb_head.specs.declared.kinds.Kind.{Kind}
 use Rattle.twkb_head.specs.declared.boxes.Bounds.{Bounds}
@@ -36,7 +35,7 @@ use Rattle.twkb_body.specs.declared.stopped.Stopped.TheVariants.{Malformed as Ba
 use Rattle.twkb_body.specs.Devices.IdLists.{IsListFound, HasManyIdsAfterCount}
 use Rattle.twkb_body.specs.Devices.Inside.{of_head, IsInside}
 use Rattle.twkb_body.specs.Devices.Stops.{WantsIn}
-use Rattle.twkb_body.specs.Devices.Walk.{no_points, IsWalked}
+use Rattle.twkb_body.specs.Devices.Walk.{ArePrecisions, no_points, IsWalked}
 
 -- this many vertices were found, and no false claim
 abbrev pub faultless : ℕ → Found
@@ -95,13 +94,14 @@ framed head box = record { xy = head.xy; z = head.z; m = head.m; bounds = box }
 abbrev pub has_further : Option ℕ → Option ℕ → Bool
 has_further z m = is_some z || is_some m
 
--- the numbers of a frame are near, in the axes that there are
+-- the numbers of a box are near, in the axes that there are
 pub record IsNear (z m : Option ℕ) (box : RawBox) : Type 0 where
   pub flat : IsNearBox box
   pub further : has_further z m ≡ true → IsNearRange box.third × IsNearRange box.fourth
 
+-- the numbers of a frame are near, in the axes that there are, and its precisions lie in their ranges
 abbrev pub IsNearFrame : Frame → Type 0
-IsNearFrame frame = IsNear frame.z frame.m frame.bounds × (IsPrecision frame.xy × IfSome frame.z (λ p. p ≤ 7) × IfSome frame.m (λ p. p ≤ 7))
+IsNearFrame frame = IsNear frame.z frame.m frame.bounds × ArePrecisions frame.xy frame.z frame.m
 
 -- the frame is near (`IsNearFrame`) and has the precisions of a header
 abbrev pub IsFramed : Head → Frame → Type 0

@@ -1,21 +1,24 @@
 -- Devices of proofs: nothing public names them.
 -- How reading points changes the sums under one header, and the state that the points are added to.
-use Rattle.std.specs.Prelude.{◌≡◌, ℕ, ◌+◌, ◌≤◌, Bool, true, false, List, [], ◌∷◌, length, fold, IfSome, Result, Ok}
+use Rattle.std.specs.Prelude.{◌≡◌, ℕ, ◌+◌, ◌≤◌, Bool, true, false, List, [], ◌∷◌, length, fold, ℤ, Option, Result, Ok}
 use Rattle.twkb_num.specs.Cursor.{Reading}
-use Rattle.twkb_num.specs.Units.{IsPrecision}
 use Rattle.twkb_head.specs.declared.boxes.Vertex.{Vertex}
 use Rattle.twkb_head.specs.declared.header.Head.{Head}
 use Rattle.twkb_head.specs.Header.{Header, axes_with}
 use Rattle.twkb_head.specs.declared.refusal.Malformed.{Malformed}
 use Rattle.twkb_head.specs.Shared.Reader.{Reader, Reads, many_at}
 use Rattle.twkb_body.specs.declared.trail.Trail.{Trail}
-use Rattle.twkb_body.specs.Geometry.{PointValue, vertex_of}
+use Rattle.twkb_body.specs.Geometry.{PointValue, HavePrecisions, vertex_of}
 use Rattle.twkb_body.specs.Devices.Body.{add, sums, zeros, map_from}
 use Rattle.twkb_body.specs.Devices.BodyReader.{point_at}
 
+-- precisions of X and Y, and of Z and M where there are these, that lie in their ranges
+abbrev pub ArePrecisions : ℤ → Option ℕ → Option ℕ → Type 0
+ArePrecisions xy z m = HavePrecisions (record { xy = xy; z = z; m = m })
+
 -- the precisions of a header lie in their ranges
 abbrev pub HasPrecisions : Head → Type 0
-HasPrecisions head = IsPrecision head.xy × IfSome head.z (λ p. p ≤ 7) × IfSome head.m (λ p. p ≤ 7)
+HasPrecisions head = ArePrecisions head.xy head.z head.m
 
 -- What a pass over the points under a header carries: how many axes they have, and no more points than bytes.
 abbrev pub IsWalk : Head → ℕ → Trail → Reading → Type 0

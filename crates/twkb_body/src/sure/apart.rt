@@ -7,6 +7,7 @@ ghost use Rattle.twkb_head.specs.declared.header.Head.{Head as HeadOf};
 ghost use Rattle.twkb_head.specs.declared.raw.RawBox.{RawBox as BoxOf};
 ghost use Rattle.twkb_body.specs.declared.doubt.Doubt.TheVariants.{Refused};
 ghost use Rattle.twkb_body.specs.Devices.Sure.{IsNearFrame, IsApart, CertifiesBehind};
+ghost use Rattle.twkb_body.specs.Devices.Walk.{ArePrecisions};
 
 use crate::doubt::Doubt;
 use crate::frame::Frame;
@@ -83,9 +84,7 @@ pub fn take_apart<R: IdRoom>(
 ) -> Result<usize, Doubt>
     requires shallowest { 1 ≤ depth }
     requires allowed { IsAllowedAt kind depth }
-    requires xy { IsPrecision xy }
-    requires z_high { IfSome z (λ p. p ≤ 7) }
-    requires m_high { IfSome m (λ p. p ≤ 7) }
+    requires precisions { ArePrecisions xy z m }
     requires near { IfSome above.now IsNearFrame }
     ensures { (head : HeadOf) → IsApart head kind xy z m ids bounds.now
         → CertifiesBehind depth head above.now cursor.old result cursor.new }
