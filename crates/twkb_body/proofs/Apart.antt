@@ -25,9 +25,9 @@ use Rattle.twkb_body.specs.declared.stopped.Stopped.{Stopped}
 use Rattle.twkb_body.specs.Devices.Body.{Body}
 use Rattle.twkb_body.specs.Devices.BodyReader.{body_at, members_under}
 use Rattle.twkb_body.specs.Devices.Found.{named, box_judged}
-use Rattle.twkb_body.specs.Devices.Inside.{of_head, IsInside}
+use Rattle.twkb_body.specs.Devices.Inside.{of_head, IsInside, body_behind}
 use Rattle.twkb_body.specs.Devices.Pass.{Refused, first, false_at, is_within, ids_refused, NamesFirstFalse}
-use Rattle.twkb_body.specs.Devices.Stops.{HasStopped, WantsIn}
+use Rattle.twkb_body.specs.Devices.Stops.{HasStopped, WantsIn, WantsBehind}
 use Rattle.twkb_body.specs.Devices.Sure.{faultless, unseen, frame_bounds, body_vertices, IsHeldBy, IsSureBehind, IsTrueInside, IsRefutedBehind, HasDoubt, doubt_of, IsApart}
 use Rattle.twkb_body.proofs.Judging.{box_decides, distinct_decides}
 use Rattle.twkb_body.proofs.Keeping.{keeps_body_under, read_keeps}
@@ -74,19 +74,19 @@ same_bounds P (Some f) (Some g) e h = let is : g.bounds ≡ f.bounds = cc (e) in
 -- ---- the result for a body, under a header whose box has equal bounds
 module _ (levels : ℕ) (head made : Head) (above : Option Frame) (old new : Reading) (same : of_head head ≡ of_head made) (bounds : option_map (λ (f : BoxField). f.bounds) head.bounds ≡ option_map (λ (f : BoxField). f.bounds) made.bounds) where
   -- both headers are followed by the same body
-  same_body : body_at head.empty (is_collection head.kind) (of_head head) (members_under levels) old ≡ body_at made.empty (is_collection made.kind) (of_head made) (members_under levels) old
+  same_body : body_behind levels head old ≡ body_behind levels made old
   same_body = ap (λ (h : Header). body_at h.empty (is_collection h.kind) h (members_under levels) old) same
 
   -- a body that can't be read is refuted; or memory was wanted for it
-  pub apart_doubts : (depth : ℕ) (e : Stopped) → HasStopped (body_at made.empty (is_collection made.kind) (of_head made) (members_under levels) old) (WantsIn (is_collection made.kind) made.empty depth made.ids old) old e new
-      → HasDoubt (IsRefutedBehind levels head above old) (WantsIn (is_collection head.kind) head.empty depth head.ids old) old (doubt_of e) new
+  pub apart_doubts : (depth : ℕ) (e : Stopped) → HasStopped (body_behind levels made old) (WantsBehind depth made old) old e new
+      → HasDoubt (IsRefutedBehind levels head above old) (WantsBehind depth head old) old (doubt_of e) new
   apart_doubts depth e stopped =
-      let reads : Reader Body = body_at made.empty (is_collection made.kind) (of_head made) (members_under levels) in
-      doubts_outside reads (IsRefutedBehind levels head above old) (WantsIn (is_collection made.kind) made.empty depth made.ids old) (WantsIn (is_collection head.kind) head.empty depth head.ids old) old old e new
+      let reads : Reader Body = body_behind levels made in
+      doubts_outside reads (IsRefutedBehind levels head above old) (WantsBehind depth made old) (WantsBehind depth head old) old old e new
       (keeps_body_under levels made.empty (is_collection made.kind) (of_head made)) refl (λ m f body stop read inside size box held. no_failure (reads old) body stop new m (sym same_body ∙ read) f)
       (λ wants. subst (λ (h : Header). WantsIn (is_collection h.kind) h.empty depth h.ids old) (sym same) wants) stopped
 
-  module _ (before after : Seen) (inside : Inside) (body : Body) (read : body_at made.empty (is_collection made.kind) (of_head made) (members_under levels) old ≡ (Ok body, new))
+  module _ (before after : Seen) (inside : Inside) (body : Body) (read : body_behind levels made old ≡ (Ok body, new))
       (i : IsInside false (of_head made) made.bounds body old.place new.place before after inside) where
     -- the vertices of the body
     abbrev vs : List Vertex
@@ -112,7 +112,7 @@ module _ (levels : ℕ) (head made : Head) (above : Option Frame) (old new : Rea
 
     -- the bytes are unchanged
     keeps : new.bytes ≡ old.bytes
-    keeps = read_keeps (body_at made.empty (is_collection made.kind) (of_head made) (members_under levels)) old new body (keeps_body_under levels made.empty (is_collection made.kind) (of_head made)) read
+    keeps = read_keeps (body_behind levels made) old new body (keeps_body_under levels made.empty (is_collection made.kind) (of_head made)) read
 
     -- a body without a false claim is sure if the frame above holds its vertices
     pub found_sure : inside.boxed ≡ None → inside.ids ≡ None → inside.found.refused ≡ None → IsHeldBy above vs → IsSureBehind levels head above old new inside.found.vertices
@@ -139,7 +139,7 @@ module _ (levels : ℕ) (head made : Head) (above : Option Frame) (old new : Rea
       where
         refutes : IsRefutedBehind levels head above old
         refutes other stop e true_inside size box held =
-            let one = one_answer (body_at head.empty (is_collection head.kind) (of_head head) (members_under levels) old) other body stop new e (same_body ∙ read) in
+            let one = one_answer (body_behind levels head old) other body stop new e (same_body ∙ read) in
             let inside_true : IsTrueInside body old.place = subst (λ (b : Body). IsTrueInside b old.place) one.0 true_inside in
             let own = subst (λ (b : Body). IfSome head.bounds (λ field. All (Holds field.bounds) (body_vertices (of_head head) b))) one.0 box in
             some (
@@ -154,7 +154,7 @@ module _ (levels : ℕ) (head made : Head) (above : Option Frame) (old new : Rea
       where
         refutes : IsRefutedBehind levels head above old
         refutes other stop e true_inside size box held =
-            let one = one_answer (body_at head.empty (is_collection head.kind) (of_head head) (members_under levels) old) other body stop new e (same_body ∙ read) in
+            let one = one_answer (body_behind levels head old) other body stop new e (same_body ∙ read) in
             wrong (subst (λ (b : Body). IsHeldBy above (body_vertices (of_head head) b)) one.0 held)
 
 -- ---- the header that the exact audit is given

@@ -40,13 +40,13 @@ use Rattle.twkb_body.specs.declared.doubt.Doubt.{Doubt}
 use Rattle.twkb_body.specs.declared.doubt.Doubt.TheVariants.{Refused, Memory}
 use Rattle.twkb_body.specs.declared.stopped.Stopped.{Stopped}
 use Rattle.twkb_body.specs.declared.stopped.Stopped.TheVariants.{Malformed as BadField, Memory as NoMemory}
-use Rattle.twkb_body.specs.Devices.Stops.{HasStopped, WantsIn, WantsInside}
+use Rattle.twkb_body.specs.Devices.Stops.{HasStopped, WantsIn, WantsInside, WantsBehind}
 use Rattle.twkb_body.specs.Devices.Body.{Body, ListHead, absolute, zeros, ring_sums, parts_body, members_body, members_of, geometry_from}
 use Rattle.twkb_body.specs.Devices.BodyReader.{list_at, count_at, part_at, shape_at, body_at, collection_at, geometry_at, members_under}
 use Rattle.twkb_body.specs.Devices.Boxed.{Held, held_then, held_with}
 use Rattle.twkb_body.specs.Devices.Found.{named, size_judged}
 use Rattle.twkb_body.specs.Devices.IdLists.{IsListFound, HasManyIdsAfterCount}
-use Rattle.twkb_body.specs.Devices.Inside.{of_head}
+use Rattle.twkb_body.specs.Devices.Inside.{of_head, body_behind}
 use Rattle.twkb_body.specs.Devices.LaneTrail.{LeaveBox}
 use Rattle.twkb_body.specs.Devices.Pass.{false_at, ids_refused, are_distinct}
 use Rattle.twkb_body.specs.Devices.Sure.{framed, has_further, ReadParts, IsCounted, IsWrongCount, AreMalformed, AreHeld, IsHeldBy, IsFrameUnder, frame_bounds, body_vertices, IsSureBody, IsSureBehind, IsSure, IsJudged, IsApart, HasDoubt, doubt_of, Certifies, CertifiesBody, CertifiesShape, IsTrueInside, IsRefutedBody, IsRefutedBehind, IsRefuted}
@@ -150,7 +150,7 @@ ids_wrong old mid head list f found is true_ids = go (head.1).0 (sym (ap named i
 
 -- ---- the body of a collection
 module _ (head : Head) (levels inner : ℕ) (old : Reading) (frame : Option Frame) (under : levels ≡ suc inner) (full : head.empty ≡ false) (many : is_collection head.kind ≡ true) where
-  as_collection : body_at head.empty (is_collection head.kind) (of_head head) (members_under levels) old ≡ collection_at (geometry_at inner) head.ids old
+  as_collection : body_behind levels head old ≡ collection_at (geometry_at inner) head.ids old
   as_collection = collection_body levels inner (of_head head) old under full many
 
   -- the body of a collection is refuted if its list can't be read
@@ -164,7 +164,7 @@ module _ (head : Head) (levels inner : ℕ) (old : Reading) (frame : Option Fram
       read : repeated found.count (geometry_at inner) mid ≡ (Ok gs, new)
       is : members_body list (members_of gs) ≡ body
 
-    members_read : (body : Body) (new : Reading) → body_at head.empty (is_collection head.kind) (of_head head) (members_under levels) old ≡ (Ok body, new) → HasMembers body new
+    members_read : (body : Body) (new : Reading) → body_behind levels head old ≡ (Ok body, new) → HasMembers body new
     members_read body new e =
         let outer = viewed_back (members_body list) (viewed members_of (repeated found.count (geometry_at inner) mid)) body new
         (sym (behind_list inner head.ids old mid list listed found.count is_found.count) ∙ sym as_collection ∙ e) in
@@ -189,7 +189,7 @@ module _ (head : Head) (levels inner : ℕ) (old : Reading) (frame : Option Fram
 
 -- ---- the body of a shape
 module _ (head : Head) (levels : ℕ) (old : Reading) (frame : Option Frame) (full : head.empty ≡ false) (single : is_collection head.kind ≡ false) where
-  as_shape : body_at head.empty (is_collection head.kind) (of_head head) (members_under levels) old ≡ shape_at (is_multi head.kind) (of_head head) old
+  as_shape : body_behind levels head old ≡ shape_at (is_multi head.kind) (of_head head) old
   as_shape = shape_body (of_head head) (members_under levels) old full single
 
   -- the body of a shape is refuted if its list can't be read
@@ -201,7 +201,7 @@ module _ (head : Head) (levels : ℕ) (old : Reading) (frame : Option Frame) (fu
     abbrev reads_parts : ℕ → Answer (List PolygonValue)
     reads_parts axes = many_at found.count ring_sums (part_at head.kind axes) zeros mid
 
-    parts_read : (axes : ℕ) → axes ≡ axes_of (of_head head) → (body : Body) (new : Reading) → body_at head.empty (is_collection head.kind) (of_head head) (members_under levels) old ≡ (Ok body, new)
+    parts_read : (axes : ℕ) → axes ≡ axes_of (of_head head) → (body : Body) (new : Reading) → body_behind levels head old ≡ (Ok body, new)
         → (parts : List PolygonValue) × (reads_parts axes ≡ (Ok parts, new)) × (parts_body list parts ≡ body)
     parts_read axes axes_are body new e =
         viewed_back (parts_body list) (reads_parts axes) body new
@@ -278,7 +278,7 @@ module _ (head : Head) (depth : ℕ) (above : Option Frame) (r mid : Reading) (s
   abbrev made : Body → Reading → Geometry
   made body new = geometry_from ((value, mid.place - r.place), body) (new.place - r.place)
 
-  body_is : body_at head.empty (is_collection head.kind) (of_head head) (members_under (deepest - depth)) mid ≡ body_at at.header.empty (is_collection at.header.kind) at.header (members_under (deepest - depth)) mid
+  body_is : body_behind (deepest - depth) head mid ≡ body_at at.header.empty (is_collection at.header.kind) at.header (members_under (deepest - depth)) mid
   body_is = body_of_head head at.header _ _ _ _ at.fields (members_under (deepest - depth)) mid
 
   vertices_are : (body : Body) (new : Reading) → vertices_of (made body new) ≡ body_vertices (of_head head) body
@@ -378,7 +378,7 @@ body_refutes levels raw above frame mid under wrong body new e inside size box h
 pub size_refutes : (levels : ℕ) (head : Head) (above : Option Frame) (mid new : Reading) (vertices : ℕ) (f : ℕ × ℕ) → IsSureBehind levels head above mid new vertices → size_judged head.size new.place ≡ Some f
     → IsRefutedBehind levels head above mid
 size_refutes levels head above mid new vertices f sure is body stop e inside size box held =
-    let one = one_answer (body_at head.empty (is_collection head.kind) (of_head head) (members_under levels) mid) sure.body body new stop sure.read e in
+    let one = one_answer (body_behind levels head mid) sure.body body new stop sure.read e in
     some_not_none f (sym is ∙ ap (λ (s : Reading). size_judged head.size s.place) one.1 ∙ size)
 
 -- ---- doubts
@@ -417,10 +417,10 @@ module _ (raw : Fields) (depth : ℕ) (above : Option Frame) (r mid : Reading) (
   raw_allowed = subst (λ (h : Head). IsAllowedAt h.kind depth) (sym at.fields) at.allowed
 
   -- a doubt about the part after the header is a doubt about the geometry
-  pub behind_doubts : (d : Doubt) (new : Reading) → HasDoubt (IsRefutedBehind (deepest - depth) (head_said raw) above mid) (WantsIn (is_collection raw.kind) raw.empty depth raw.ids mid) mid d new
+  pub behind_doubts : (d : Doubt) (new : Reading) → HasDoubt (IsRefutedBehind (deepest - depth) (head_said raw) above mid) (WantsBehind depth (head_said raw) mid) mid d new
       → HasDoubt (IsRefuted (deepest - depth) above r) (HasLongList depth (rest r)) r d new
   behind_doubts d new s =
-      doubts_through (IsRefutedBehind (deepest - depth) (head_said raw) above mid) (IsRefuted (deepest - depth) above r) (WantsIn (is_collection raw.kind) raw.empty depth raw.ids mid) (HasLongList depth (rest r)) mid r d new moved.bytes
+      doubts_through (IsRefutedBehind (deepest - depth) (head_said raw) above mid) (IsRefuted (deepest - depth) above r) (WantsBehind depth (head_said raw) mid) (HasLongList depth (rest r)) mid r d new moved.bytes
       (behind_refutes (head_said raw) depth above r mid some deep sound at moved)
       (long_list_in (head_said raw) depth r mid some sound at moved (is_collection raw.kind) refl) s
 
@@ -445,13 +445,13 @@ module _ (raw : Fields) (depth : ℕ) (above : Option Frame) (r mid : Reading) (
       raw_under : IsFrameUnder above (boxless raw) (option_map (framed (boxless raw)) raw.bounds) frame
       raw_under = subst (λ (h : Head). IsFrameUnder above h (option_map (framed h) raw.bounds) frame) same under
 
-      pub body_doubts : (d : Doubt) → HasDoubt (IsRefutedBody (deepest - depth) plain frame mid) (WantsIn (is_collection plain.kind) plain.empty depth plain.ids mid) mid d new
+      pub body_doubts : (d : Doubt) → HasDoubt (IsRefutedBody (deepest - depth) plain frame mid) (WantsBehind depth plain mid) mid d new
           → HasDoubt (IsRefuted (deepest - depth) above r) (HasLongList depth (rest r)) r d new
       body_doubts d s =
-          let wants : Type 0 = WantsIn (is_collection raw.kind) raw.empty depth raw.ids mid in
+          let wants : Type 0 = WantsBehind depth (head_said raw) mid in
           behind_doubts d new (doubts_through (IsRefutedBody (deepest - depth) (boxless raw) frame mid) (IsRefutedBehind (deepest - depth) (head_said raw) above mid) wants wants mid mid d new refl
           (body_refutes (deepest - depth) raw above frame mid raw_under) (λ w. w)
-          (subst (λ (h : Head). HasDoubt (IsRefutedBody (deepest - depth) h frame mid) (WantsIn (is_collection h.kind) h.empty depth h.ids mid) mid d new) same s))
+          (subst (λ (h : Head). HasDoubt (IsRefutedBody (deepest - depth) h frame mid) (WantsBehind depth h mid) mid d new) same s))
 
       pub judged_certifies : (vertices : ℕ) (result : Result ℕ Doubt) → IsSureBody (deepest - depth) plain frame mid new vertices → IsJudged plain new.place vertices result → Certifies depth above r result new
       judged_certifies vertices result sure judged =
@@ -514,7 +514,7 @@ none_of None e = refl
 none_of (Some x) e = absurd (cc (e))
 
 pub wants_members : (head : Head) (depth : ℕ) (old : Reading) → head.empty ≡ false → is_collection head.kind ≡ true → WantsInside depth (deepest - (depth + 1)) head.ids old
-    → WantsIn (is_collection head.kind) head.empty depth head.ids old
+    → WantsBehind depth head old
 wants_members head depth old full many wants = subst (λ (b : Bool). WantsIn b head.empty depth head.ids old) (sym many) (full, wants)
 
 pub shape_certifies : (depth : ℕ) (head : Head) (frame : Option Frame) (old new : Reading) (result : Result ℕ Doubt) → is_collection head.kind ≡ false → CertifiesShape (deepest - depth) head frame old result new

@@ -1,12 +1,11 @@
 -- Devices of proofs: nothing public names them.
 -- How reading points changes the sums under one header, and the state that the points are added to.
-use Rattle.std.specs.Prelude.{◌≡◌, ℕ, ◌+◌, ◌≤◌, Bool, true, false, List, [], ◌∷◌, length, fold, ℤ, Option, Result, Ok}
+use Rattle.std.specs.Prelude.{◌≡◌, ℕ, ◌+◌, ◌≤◌, Bool, true, false, List, [], ◌∷◌, length, fold, ℤ, Option, Ok}
 use Rattle.twkb_num.specs.Cursor.{Reading}
 use Rattle.twkb_head.specs.declared.boxes.Vertex.{Vertex}
 use Rattle.twkb_head.specs.declared.header.Head.{Head}
 use Rattle.twkb_head.specs.Header.{Header, axes_with}
-use Rattle.twkb_head.specs.declared.refusal.Malformed.{Malformed}
-use Rattle.twkb_head.specs.Shared.Reader.{Reader, Reads, many_at}
+use Rattle.twkb_head.specs.Shared.Reader.{Reader, many_at}
 use Rattle.twkb_body.specs.declared.trail.Trail.{Trail}
 use Rattle.twkb_body.specs.Geometry.{PointValue, HavePrecisions, vertex_of}
 use Rattle.twkb_body.specs.Devices.Body.{add, sums, zeros, map_from}
@@ -43,22 +42,17 @@ shown step h s point = step s (vertex_of h point)
 
 -- From one trail to another these numbers were read, between two places, with at least a byte for each point; and the points
 -- were added, one after another.
-pub record IsWalked {S : Type 0} (step : S → PointValue → S) (axes : ℕ) (old new : Trail) (state state' : S) (start stop : ℕ) (numbers : List PointValue) : Type 0 where
+pub record IsWalked {S : Type 0} (step : S → PointValue → S) (axes : ℕ) (old new : Trail) (state state' : S)
+    (start stop : ℕ) (numbers : List PointValue) : Type 0 where
   pub last : new.last ≡ sums old.last numbers
   pub points : new.points ≡ old.points + length numbers
   pub added : state' ≡ fold step state (lasts_from old.last numbers)
   pub have : HaveAxes axes numbers
   pub ahead : length numbers + start ≤ stop
 
--- From a trail on the reader gives a value, or its fault, and the points in the value were added to a state.
-abbrev pub ReadsPoints : {A B S : Type 0} → (PointValue → Reader A) → (A → List PointValue) → (S → PointValue → S) → ℕ
-    → Trail → Trail → S → S → Reading → Result B Malformed → Reading → Type 0
-ReadsPoints each points_in step axes old new state state' from result to =
-    Reads (each old.last from)
-    (λ x done. IsWalked step axes old new state state' from.place to.place (points_in x)) result to
-
 -- This many points were read, one after another, and added.
-pub record IsRun {S : Type 0} (step : S → PointValue → S) (axes : ℕ) (old new : Trail) (state state' : S) (from to : Reading) (count : ℕ) : Type 0 where
+pub record IsRun {S : Type 0} (step : S → PointValue → S) (axes : ℕ) (old new : Trail) (state state' : S)
+    (from to : Reading) (count : ℕ) : Type 0 where
   pub numbers : List PointValue
   pub many : length numbers ≡ count
   pub read : many_at count add (point_at axes) old.last from ≡ (Ok numbers, to)

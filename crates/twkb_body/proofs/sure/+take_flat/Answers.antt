@@ -8,7 +8,7 @@ use mir.Val.{to_z, of_z}
 use Rattle.twkb_num.specs.Units.{IsPrecision}
 use Rattle.twkb_num.specs.Cursor.{Reading, rest}
 use Rattle.twkb_head.proofs.HeadLaws.{header_two}
-use Rattle.twkb_head.specs.BegunHeader.{deepest, is_collection, IsAllowedAt}
+use Rattle.twkb_head.specs.BegunHeader.{deepest, IsAllowedAt}
 use Rattle.twkb_head.specs.Shared.Reader.{Fails}
 use Rattle.twkb_head.specs.Header.{has_bit}
 use Rattle.twkb_head.specs.Raw.{head_said, flat_box, BeginsHead}
@@ -20,7 +20,7 @@ use Rattle.twkb_body.specs.Audited.{HasLongList}
 use Rattle.twkb_body.specs.Devices.BodyReader.{list_at}
 use Rattle.twkb_body.specs.Devices.Found.{named}
 use Rattle.twkb_body.specs.Devices.IdLists.{HasManyIdsAfterCount}
-use Rattle.twkb_body.specs.Devices.Stops.{WantsIn, own_ids, member_ids}
+use Rattle.twkb_body.specs.Devices.Stops.{own_ids, member_ids, WantsBehind}
 use Rattle.twkb_body.specs.Devices.Sure.{HasReadTwo, IsJudged, IsRefuted, IsRefutedBody}
 use Rattle.twkb_body.proofs.Keeping.{keeps_list, read_keeps}
 use Rattle.twkb_body.proofs.MemberSteps.{member_bytes}
@@ -134,7 +134,7 @@ take_members-returns-in_err-list g t c =
     let inner = deepest - (c.args.depth + 1) in
     let under : deepest - c.args.depth ≡ suc inner = omega (arith, c.requires.below) in
     rw (p.1, p.2) (doubts_outside (list_at c.args.has_ids) (IsRefutedBody (deepest - c.args.depth) head c.args.frame.now c.args.cursor.now) (HasManyIdsAfterCount c.args.has_ids (rest c.args.cursor.now))
-    (WantsIn (is_collection head.kind) head.empty c.args.depth head.ids c.args.cursor.now) c.args.cursor.now c.args.cursor.now _ c.take_list.new.cursor (keeps_list c.args.has_ids) refl
+    (WantsBehind c.args.depth head c.args.cursor.now) c.args.cursor.now c.args.cursor.now _ c.take_list.new.cursor (keeps_list c.args.has_ids) refl
     (λ m f. list_refutes head (deepest - c.args.depth) inner c.args.cursor.now c.args.frame.now under full many m _ (subst (λ (b : Bool). Fails (list_at b c.args.cursor.now) m c.take_list.new.cursor) (sym ids) f))
     (λ wants. wants_members head c.args.depth c.args.cursor.now full many (own_ids (subst (λ (b : Bool). HasManyIdsAfterCount b (rest c.args.cursor.now)) (sym ids) wants))) c.in_err-list.ensures)
 
@@ -204,7 +204,7 @@ take_members-returns-in_err-member g t c =
     let one = c.in_err-member.ensures c.loop.cursor (record { sound = c.place_is_within-in-loop.ensures; moved = c.in-Some.ensures.moved; bytes = c.in-Some.ensures.some }) in
     let l = c.loop.invariant in
     rw (p.1, p.2) (doubts_through (IsRefuted inner c.args.frame.now c.loop.cursor) (IsRefutedBody (deepest - c.args.depth) head c.args.frame.now c.args.cursor.now) (HasLongList (c.args.depth + 1) (rest c.loop.cursor))
-    (WantsIn (is_collection head.kind) head.empty c.args.depth head.ids c.args.cursor.now) c.loop.cursor c.args.cursor.now _ c.take_sure.new.cursor
+    (WantsBehind c.args.depth head c.args.cursor.now) c.loop.cursor c.args.cursor.now _ c.take_sure.new.cursor
     (member_bytes inner head.ids c.args.cursor.now c.take_list.new.cursor c.loop.cursor list.0 c.loop.counter l.loop.front c.place_is_within.ensures listed l.loop.so_far)
     (λ wrong. members_refute head (deepest - c.args.depth) inner c.args.cursor.now c.args.frame.now under full many c.take_list.new.cursor list.0 c.in_ok-list.list listed list.2 c.loop.counter c.loop.vertices c.loop.cursor c.loop-test.true l wrong)
     (λ wants. wants_members head c.args.depth c.args.cursor.now full many (member_ids list.0 c.take_list.new.cursor c.loop.cursor c.loop.counter l.loop.front listed (omega (arith, c.loop-test.true, list.2.count)) l.loop.so_far wants)) one)
