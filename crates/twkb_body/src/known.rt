@@ -6,7 +6,7 @@ ghost use Rattle.twkb_head.specs.declared.raw.RawRange.{RawRange};
 ghost use Rattle.twkb_head.specs.declared.refusal.Malformed.{Malformed};
 ghost use Rattle.twkb_head.specs.Shared.Reader.{range_from};
 
-use crate::fields::take_signed;
+use crate::varints::take_signed;
 use twkb_head::RawRange;
 use twkb_num::Cursor;
 

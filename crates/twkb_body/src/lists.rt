@@ -5,10 +5,10 @@ ghost use Rattle.twkb_body.specs.Devices.Stops.{ReadsList};
 ghost use Rattle.twkb_body.specs.Devices.BodyReader.{list_at};
 
 use crate::answers::Claim;
-use crate::fields::{take_number, take_signed};
 use crate::found::{FalseClaim, claimed};
 use crate::rooms::IdRoom;
 use crate::stopped::Stopped;
+use crate::varints::{take_number, take_signed};
 use twkb_head::Malformed;
 use twkb_num::Cursor;
 

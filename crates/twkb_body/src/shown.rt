@@ -13,10 +13,10 @@ ghost use Rattle.twkb_body.specs.Devices.Walk.{IsWalk, IsRun, IsStill, HasPrecis
 ghost use Rattle.twkb_body.specs.Geometry.{PointValue, points_of};
 ghost use Rattle.twkb_head.specs.Header.{axes_with};
 
-use crate::fields::take_number;
 use crate::points::Points;
 use crate::settled::{pass_known, pass_point};
 use crate::trail::{Trail, take_point};
+use crate::varints::take_number;
 use crate::visit::Visit;
 use twkb_head::{Head, Kind};
 use twkb_num::Cursor;

@@ -18,7 +18,8 @@ HasManyIds count bytes = (17 ≤ count)
 abbrev pub HasManyIdsAfterCount : Bool → List ℕ → Type 0
 HasManyIdsAfterCount has_ids bytes =
     (has_ids ≡ true)
-    × ((n : ℕ) × (count : List ℕ) × (behind : List ℕ) × (bytes ≡ count ++ behind) × Spells count n × HasManyIds n behind)
+    × ((n : ℕ) × (count : List ℕ) × (behind : List ℕ)
+    × (bytes ≡ count ++ behind) × Spells count n × HasManyIds n behind)
 
 -- the code found this of the count and the ids between two readings
 pub record IsListFound (old new : Reading) (head : ListHead) (list : ListFound) : Type 0 where

@@ -62,7 +62,8 @@ AreMalformed kind axes count old new =
 -- The parts were read. The box holds all their points if `all` is true, and not all if it is false.
 abbrev pub AreHeld : Bool → Kind → ℕ → ℕ → RawBox → Reading → Reading → ℕ → Type 0
 AreHeld all kind axes count box old new vertices =
-    (held : Held) × ReadParts (held_then axes) kind axes count old new (record { box = box; inside = true }) held vertices
+    (held : Held)
+    × ReadParts (held_then axes) kind axes count old new (record { box = box; inside = true }) held vertices
     × (held.inside ≡ all)
 
 abbrev pub frame_bounds : Frame → Bounds
