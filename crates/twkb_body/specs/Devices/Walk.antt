@@ -68,21 +68,29 @@ pub record Follows {S : Type 0} (step : S → PointValue → S) (lost : Bool) (t
   pub still : lost ≡ true → IsStill step s
 
 -- The reader gives this value at the reading, from the trail t; it is known without reading.
-pub record IsKnown {A S : Type 0} (each : PointValue → Reader A) (step : S → PointValue → S) (lost : Bool) (trail : Trail) (s : S) (r : Reading) (t : Trail) (x : A) (stop : Reading) : Type 0 where
+pub record IsKnown {A S : Type 0} (each : PointValue → Reader A) (step : S → PointValue → S) (lost : Bool)
+    (trail : Trail) (s : S) (r : Reading) (t : Trail) (x : A) (stop : Reading) : Type 0 where
   pub read : each t.last r ≡ (Ok x, stop)
   pub follows : Follows step lost trail t s
   pub counted : t.points ≤ r.place
 
 -- The points of a value that is known (`IsKnown`) were shown, and the place is after it.
-pub record AreShown {A S : Type 0} (points_in : A → List PointValue) (step : S → PointValue → S) (axes : ℕ) (lost : Bool) (trail : Trail) (s s' : S) (r new : Reading) (t : Trail) (x : A) (stop : Reading) : Type 0 where
+pub record AreShown {A S : Type 0} (points_in : A → List PointValue) (step : S → PointValue → S) (axes : ℕ)
+    (lost : Bool) (trail : Trail) (s s' : S) (r new : Reading) (t : Trail) (x : A) (stop : Reading) : Type 0 where
   pub there : new ≡ stop
   pub after : Trail
   pub walked : IsWalked step axes t after s s' r.place new.place (points_in x)
   pub follows : Follows step lost trail after s'
 
-abbrev pub StandsThere : {A S : Type 0} → (PointValue → Reader A) → (S → PointValue → S) → Bool → Trail → S → Reading → Type 0
-StandsThere {A} each step lost trail s r = (t : Trail) × (x : A) × (stop : Reading) × IsKnown each step lost trail s r t x stop
+-- the reader gives a value that is known (`IsKnown`)
+abbrev pub StandsThere : {A S : Type 0} → (PointValue → Reader A) → (S → PointValue → S)
+    → Bool → Trail → S → Reading → Type 0
+StandsThere {A} each step lost trail s r =
+    (t : Trail) × (x : A) × (stop : Reading) × IsKnown each step lost trail s r t x stop
 
-abbrev pub ShowsIt : {A S : Type 0} → (PointValue → Reader A) → (A → List PointValue) → (S → PointValue → S) → ℕ → Bool → Bool → Trail → Trail → S → S → Reading → Reading → Type 0
+-- the points of each value that is known (`IsKnown`) were shown
+abbrev pub ShowsIt : {A S : Type 0} → (PointValue → Reader A) → (A → List PointValue) → (S → PointValue → S) → ℕ
+    → Bool → Bool → Trail → Trail → S → S → Reading → Reading → Type 0
 ShowsIt {A} each points_in step axes lost lost' trail trail' s s' r new =
-    (t : Trail) (x : A) (stop : Reading) → IsKnown each step lost trail s r t x stop → AreShown points_in step axes lost' trail' s s' r new t x stop
+    (t : Trail) (x : A) (stop : Reading) → IsKnown each step lost trail s r t x stop
+    → AreShown points_in step axes lost' trail' s s' r new t x stop
