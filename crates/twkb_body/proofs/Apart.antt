@@ -12,7 +12,6 @@ use Rattle.twkb_head.specs.declared.header.BoxField.{BoxField}
 use Rattle.twkb_head.specs.declared.header.Head.{Head}
 use Rattle.twkb_head.specs.declared.kinds.Kind.{Kind}
 use Rattle.twkb_head.specs.declared.raw.RawBox.{RawBox}
-use Rattle.twkb_head.specs.Raw.{raw_bounds}
 use Rattle.twkb_head.proofs.Readings.{one_answer, no_failure}
 use Rattle.twkb_body.specs.Geometry.{Members, vertex_of, points_of, member_vertices}
 use Rattle.twkb_body.specs.Claims.{IsTrueClaim, member_claims}
@@ -158,24 +157,12 @@ module _ (levels : ℕ) (head made : Head) (above : Option Frame) (old new : Rea
             wrong (subst (λ (b : Body). IsHeldBy above (body_vertices (of_head head) b)) one.0 held)
 
 -- ---- the header that the exact audit is given
-abbrev pub made_head : Kind → ℤ → Option ℕ → Option ℕ → Bool → Option BoxField → Head
-made_head kind xy z m ids bounds = record { kind = kind; xy = xy; z = z; m = m; size = None; bounds = bounds; ids = ids; empty = false; start = 0; stop = 0 }
-
--- the box of that header is the raw box in units
-pub some_box : (xy : ℤ) (z m : Option ℕ) (made : Option BoxField) (own : Option RawBox) (field : BoxField) (box : RawBox) → made ≡ Some field → own ≡ Some box → field.bounds ≡ raw_bounds xy z m box
-    → option_map (λ (f : BoxField). f.bounds) made ≡ option_map (raw_bounds xy z m) own
-some_box xy z m made own field box is own_is same = ap (option_map (λ (f : BoxField). f.bounds)) is ∙ ap Some same ∙ ap (option_map (raw_bounds xy z m)) (sym own_is)
-
-pub no_box : (xy : ℤ) (z m : Option ℕ) (made : Option BoxField) (own : Option RawBox) → made ≡ None → own ≡ None → option_map (λ (f : BoxField). f.bounds) made ≡ option_map (raw_bounds xy z m) own
-no_box xy z m made own is own_is = ap (option_map (λ (f : BoxField). f.bounds)) is ∙ ap (option_map (raw_bounds xy z m)) (sym own_is)
-
--- The header that the exact audit is given says what the header of the blob says, but for size and places.
-module _ (head : Head) (kind : Kind) (xy raw : ℤ) (z m : Option ℕ) (ids : Bool) (own : Option RawBox) (made : Option BoxField) (apart : IsApart head kind xy z m ids own) (xy_is : raw ≡ xy) (box_is : option_map (λ (f : BoxField). f.bounds) made ≡ option_map (raw_bounds raw z m) own) where
-  pub same_head : of_head head ≡ of_head (made_head kind raw z m ids made)
-  same_head = apart.same ∙ ap (λ (p : ℤ). of_head (made_head kind p z m ids made)) (sym xy_is)
-
-  pub same_box : option_map (λ (f : BoxField). f.bounds) head.bounds ≡ option_map (λ (f : BoxField). f.bounds) made
-  same_box = apart.bounds ∙ ap (λ (p : ℤ). option_map (raw_bounds p z m) own) (sym xy_is) ∙ sym box_is
+-- two headers that say this are the same but for size and places
+pub same_apart : (a b : Head) (kind : Kind) (xy raw : ℤ) (z m : Option ℕ) (ids : Bool) (own : Option RawBox) → raw ≡ xy → IsApart a kind xy z m ids own → IsApart b kind raw z m ids own
+    → (of_head a ≡ of_head b) × (option_map (λ (f : BoxField). f.bounds) a.bounds ≡ option_map (λ (f : BoxField). f.bounds) b.bounds)
+same_apart a b kind xy raw z m ids own is a_says b_says =
+    let says = subst (λ (p : ℤ). IsApart b kind p z m ids own) is b_says in
+    (a_says.same ∙ sym says.same, a_says.bounds ∙ sym says.bounds)
 
 -- ---- the frame above
 pub asked_for : (asked other boxed : Bool) (above : Option Frame) (frame : Frame) → asked ≡ (other || boxed) → boxed ≡ is_some above → above ≡ Some frame → asked ≡ true
