@@ -6,7 +6,11 @@ use Rattle.std.proofs.lemmas.Bool.{eq-eqb}
 use Rattle.std.proofs.lemmas.Bool.Decides.{not_from_Decides}
 use Rattle.std.proofs.lemmas.List.Elements.{All-head}
 use Rattle.std.proofs.lemmas.List.{append-nil}
+use Rattle.std.proofs.lemmas.Int.{ints}
+use mir.Val.{to_z, of_z}
+use Rattle.std.specs.Int.{w8}
 use Rattle.twkb_num.specs.Cursor.{Reading, rest, passed, IsMoved, IsSound}
+use Rattle.twkb_num.specs.Units.{IsPrecision}
 use Rattle.twkb_num.proofs.CursorLemmas.{rest-passed}
 use Rattle.twkb_head.specs.declared.boxes.Vertex.{Vertex}
 use Rattle.twkb_head.specs.declared.header.Head.{Head}
@@ -20,7 +24,7 @@ use Rattle.twkb_head.specs.BegunHeader.{deepest, is_collection, IsAllowedAt}
 use Rattle.twkb_head.specs.Head.{bounds_of, IsHeadAt, StartsWithHeader}
 use Rattle.twkb_head.specs.Header.{axes_of, axes_with, is_multi}
 use Rattle.twkb_head.specs.Holds.{Holds}
-use Rattle.twkb_head.specs.Raw.{raw_bounds, flat_box, fields_box, head_said, boxless}
+use Rattle.twkb_head.specs.Raw.{raw_bounds, flat_box, fields_box, head_said, boxless, ReadsHead}
 use Rattle.twkb_head.specs.Shared.HeadPlan.{HeadValue, head_plan}
 use Rattle.twkb_head.specs.Devices.HeadReader.{head_at}
 use Rattle.twkb_head.specs.Shared.Reader.{Answer, Reader, ◌>>=◌, viewed, read, many_at, Fails}
@@ -405,11 +409,13 @@ no_header_refutes depth above r some deep sound none = go (head_at (deepest - de
         let moved : IsMoved r b = head_moved depth some deep r b sound (Ok head) is in
         absurd (none (record { header = at.header; front = passed r b; behind = rest b; parts = rest-passed r b moved; is = at.is; allowed = at.allowed }))
 
--- a geometry is refuted if the rest of its header can't be read
-pub rest_refutes : (m : Malformed) (depth : ℕ) (above : Option Frame) (r : Reading) → 1 ≤ depth → depth ≤ deepest → IsSound r → (IsOk {T = Fields} {E = Malformed} (Err m) ↔ StartsWithHeader depth (rest r))
-    → IsRefuted (deepest - depth) above r
-rest_refutes m depth above r some deep sound exact =
-    no_header_refutes depth above r some deep sound (λ starts. let bad : is_ok {T = Fields} {E = Malformed} (Err m) ≡ true = exact.1 starts in cc)
+-- a geometry is refuted if the rest of its header can't be read, and the bytes are unchanged
+pub rest_refutes : (m : Malformed) (depth : ℕ) (above : Option Frame) (r new : Reading) → 1 ≤ depth → depth ≤ deepest → IsSound r → ReadsHead depth r new (Err m)
+    → (IsOk {T = Fields} {E = Malformed} (Err m) ↔ StartsWithHeader depth (rest r)) → (new.bytes ≡ r.bytes) × IsRefuted (deepest - depth) above r
+rest_refutes m depth above r new some deep sound read exact = (
+  ap (λ (q : Reading). q.bytes) read.1,
+  no_header_refutes depth above r some deep sound (λ starts. let bad : is_ok {T = Fields} {E = Malformed} (Err m) ≡ true = exact.1 starts in cc),
+)
 
 -- ---- a geometry whose header was read in raw numbers
 module _ (raw : Fields) (depth : ℕ) (above : Option Frame) (r mid : Reading) (some : 1 ≤ depth) (deep : depth ≤ deepest) (sound : IsSound r) (at : IsHeadAt (head_said raw) depth r.place (passed r mid)) (moved : IsMoved r mid) where
@@ -470,8 +476,14 @@ pub flat_ends : (plain : Head) (raw : Fields) (depth : ℕ) (r mid : Reading) �
 flat_ends plain raw depth r mid same at moved stop le = subst (λ (h : Head). IfSome h.size (λ size. size.after ≤ stop)) (sym same) (head_size r mid (head_said raw) depth at moved stop le)
 
 -- ---- a geometry that no frame can hold
+-- the precision of X and Y goes through eight bits unchanged
+plain_xy : (raw : Fields) (plain : Head) → IsPrecision raw.axes.xy → plain ≡ boxless raw → to_z w8 (of_z w8 plain.xy) ≡ plain.xy
+plain_xy raw plain precise same =
+    let p : IsPrecision plain.xy = subst (λ (h : Head). IsPrecision h.xy) (sym same) precise in
+    omega (arith, ints, p)
+
 -- the header of a geometry in X and Y, with or without a box
-pub apart_flat : (raw : Fields) (plain : Head) (xy : ℤ) → xy ≡ plain.xy → plain ≡ boxless raw → raw.axes.z ≡ None → raw.axes.m ≡ None → raw.empty ≡ false
+apart_flat : (raw : Fields) (plain : Head) (xy : ℤ) → xy ≡ plain.xy → plain ≡ boxless raw → raw.axes.z ≡ None → raw.axes.m ≡ None → raw.empty ≡ false
     → IsApart (head_said raw) plain.kind xy None None plain.ids (option_map (λ b. flat_box b.x b.y) raw.bounds)
 apart_flat raw plain xy xy_is same z m full = record {
   same = λ j. record { kind = ap (λ (h : Head). h.kind) (sym same) j; xy = (ap (λ (h : Head). h.xy) (sym same) ∙ sym xy_is) j; z = z j; m = m j; size = None; box = None; ids = ap (λ (h : Head). h.ids) (sym same) j; empty = full j };
@@ -483,16 +495,23 @@ apart_flat raw plain xy xy_is same z m full = record {
     go (Some b) = (λ j. Some (raw_bounds raw.axes.xy (z j) (m j) b)) ∙ ap (λ (h : Head). Some (raw_bounds h.xy None None b)) (sym same) ∙ ap (λ (p : ℤ). Some (raw_bounds p None None b)) (sym xy_is)
 
 -- a box in X and Y that is handed over by its two ranges
-pub apart_box : (o : Option RawBox) (x y : RawRange) → IfSome o (λ b. (x ≡ b.x) × (y ≡ b.y)) → IfSome (option_map (λ b. flat_box b.x b.y) o) (λ box. box ≡ flat_box x y)
+apart_box : (o : Option RawBox) (x y : RawRange) → IfSome o (λ b. (x ≡ b.x) × (y ≡ b.y)) → IfSome (option_map (λ b. flat_box b.x b.y) o) (λ box. box ≡ flat_box x y)
 apart_box None x y ranges = tt
 apart_box (Some b) x y (x_is, y_is) = λ j. flat_box (sym x_is j) (sym y_is j)
 
-pub apart_there : (o : Option RawBox) → is_some (option_map (λ b. flat_box b.x b.y) o) ≡ is_some o
+apart_there : (o : Option RawBox) → is_some (option_map (λ b. flat_box b.x b.y) o) ≡ is_some o
 apart_there None = refl
 apart_there (Some b) = refl
 
+-- the header of a geometry in X and Y, whose box is handed over by its two ranges
+pub flat_apart : (raw : Fields) (plain : Head) (has_box : Bool) (x y : RawRange) → IsPrecision raw.axes.xy → plain ≡ boxless raw → raw.axes.z ≡ None → raw.axes.m ≡ None → raw.empty ≡ false
+    → has_box ≡ is_some raw.bounds → IfSome raw.bounds (λ b. (x ≡ b.x) × (y ≡ b.y))
+    → (box : Option RawBox) × (is_some box ≡ has_box) × IfSome box (λ box. box ≡ flat_box x y) × IsApart (head_said raw) plain.kind (to_z w8 (of_z w8 plain.xy)) None None plain.ids box
+flat_apart raw plain has_box x y precise same z m full there ranges =
+    (option_map (λ b. flat_box b.x b.y) raw.bounds, apart_there raw.bounds ∙ sym there, apart_box raw.bounds x y ranges, apart_flat raw plain _ (plain_xy raw plain precise same) same z m full)
+
 -- the header of a geometry in any axes, with or without a box
-pub apart_any : (raw : Fields) (plain : Head) (xy : ℤ) → xy ≡ plain.xy → plain ≡ boxless raw → raw.empty ≡ false → IsApart (head_said raw) plain.kind xy plain.z plain.m plain.ids raw.bounds
+apart_any : (raw : Fields) (plain : Head) (xy : ℤ) → xy ≡ plain.xy → plain ≡ boxless raw → raw.empty ≡ false → IsApart (head_said raw) plain.kind xy plain.z plain.m plain.ids raw.bounds
 apart_any raw plain xy xy_is same full = record {
   same = (λ j. record { kind = raw.kind; xy = raw.axes.xy; z = raw.axes.z; m = raw.axes.m; size = None; box = None; ids = raw.ids; empty = full j })
       ∙ ap (λ (h : Head). record { kind = h.kind; xy = h.xy; z = h.z; m = h.m; size = None; box = None; ids = h.ids; empty = false }) (sym same)
@@ -503,6 +522,9 @@ apart_any raw plain xy xy_is same full = record {
     go : (o : Option RawBox) → option_map (λ field. field.bounds) (option_map (fields_box raw) o) ≡ option_map (raw_bounds xy plain.z plain.m) o
     go None = refl
     go (Some b) = ap (λ (h : Head). Some (raw_bounds h.xy h.z h.m b)) (sym same) ∙ ap (λ (p : ℤ). Some (raw_bounds p plain.z plain.m b)) (sym xy_is)
+
+pub any_apart : (raw : Fields) (plain : Head) → IsPrecision raw.axes.xy → plain ≡ boxless raw → raw.empty ≡ false → IsApart (head_said raw) plain.kind (to_z w8 (of_z w8 plain.xy)) plain.z plain.m plain.ids raw.bounds
+any_apart raw plain precise same full = apart_any raw plain _ (plain_xy raw plain precise same) same full
 
 -- ---- what the first reading hands over
 pub some_of : {A : Type 0} (o : Option A) → is_some o ≡ true → (x : A) × (o ≡ Some x)

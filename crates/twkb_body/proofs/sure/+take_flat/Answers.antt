@@ -1,21 +1,16 @@
 -- The first reading of a geometry and of members, each by the other: what it certifies, and what it refutes.
-use Rattle.std.proofs.Common.{rules, ◌≡◌, ◌+◌, ◌-◌, ℕ, suc, Bool, false, Option, None, option_map, is_some, Ok, refl, sym, ap, subst, ◌∙◌, arith}
-use Rattle.std.proofs.lemmas.Int.{ints}
+use Rattle.std.proofs.Common.{rules, ◌≡◌, ◌+◌, ◌-◌, ℕ, suc, Bool, false, None, Ok, refl, sym, ap, subst, ◌∙◌, arith}
 use Rattle.std.specs.Prelude.{◌%◌}
 use Rattle.std.proofs.lemmas.Result.{err_from_is_err_and}
-use Rattle.std.specs.Int.{w8}
-use mir.Val.{to_z, of_z}
-use Rattle.twkb_num.specs.Units.{IsPrecision}
 use Rattle.twkb_num.specs.Cursor.{Reading, rest}
 use Rattle.twkb_head.proofs.HeadLaws.{header_two}
 use Rattle.twkb_head.specs.BegunHeader.{deepest, IsAllowedAt}
 use Rattle.twkb_head.specs.Shared.Reader.{Fails}
 use Rattle.twkb_head.specs.Header.{has_bit}
-use Rattle.twkb_head.specs.Raw.{head_said, flat_box, BeginsHead}
+use Rattle.twkb_head.specs.Raw.{head_said, BeginsHead}
 use Rattle.twkb_head.specs.declared.read.Begun.{Begun}
 use Rattle.twkb_body.proofs.Beginning.{announced_same}
 use Rattle.twkb_head.specs.declared.header.Head.{Head}
-use Rattle.twkb_head.specs.declared.raw.RawBox.{RawBox}
 use Rattle.twkb_body.specs.Audited.{HasLongList}
 use Rattle.twkb_body.specs.Devices.BodyReader.{list_at}
 use Rattle.twkb_body.specs.Devices.Found.{named}
@@ -25,15 +20,13 @@ use Rattle.twkb_body.specs.Devices.Sure.{HasReadTwo, IsJudged, IsRefuted, IsRefu
 use Rattle.twkb_body.proofs.Keeping.{keeps_list, read_keeps}
 use Rattle.twkb_body.proofs.MemberSteps.{member_bytes}
 use Rattle.twkb_body.proofs.SureSteps.{two_read, sure_begins, sure_goes_on, members_sure}
-use Rattle.twkb_body.proofs.Refuting.{some_of, none_of, wants_members, shape_certifies, no_header_refutes, rest_refutes, list_refutes, ids_refute, members_refute, doubts_outside, doubts_through, raw_allowed, behind_doubts, apart_certifies, body_doubts, judged_certifies, bit_unset, apart_flat, apart_box, apart_there, apart_any, flat_ends}
+use Rattle.twkb_body.proofs.Refuting.{some_of, none_of, wants_members, shape_certifies, no_header_refutes, rest_refutes, list_refutes, ids_refute, members_refute, doubts_outside, doubts_through, raw_allowed, behind_doubts, apart_certifies, body_doubts, judged_certifies, bit_unset, flat_apart, any_apart, flat_ends}
 use Rattle.twkb_body.proofs.sure.+take_flat.Goals as goal
 
 pub take_flat-returns-in_default-take_rest : goal.take_flat-returns-in_default-take_rest
 take_flat-returns-in_default-take_rest g t c = λ before two.
-    let begins = c.in-Some.ensures.some before two.sound two.moved two.bytes in (
-      ap (λ (r : Reading). r.bytes) (c.in_default-take_rest.ensures.read c.args.depth before two.sound begins).1,
-      rest_refutes c.in_default-take_rest.field-0 c.args.depth c.args.above.now before c.requires.shallowest c.requires.deepest two.sound (c.in_default-take_rest.ensures.exact c.args.depth before two.sound begins),
-    )
+    let begins = c.in-Some.ensures.some before two.sound two.moved two.bytes in
+    rest_refutes c.in_default-take_rest.field-0 c.args.depth c.args.above.now before _ c.requires.shallowest c.requires.deepest two.sound (c.in_default-take_rest.ensures.read c.args.depth before two.sound begins) (c.in_default-take_rest.ensures.exact c.args.depth before two.sound begins)
 
 pub take_flat-begun_by-requires-clause-read : goal.take_flat-begun_by-requires-clause-read
 take_flat-begun_by-requires-clause-read g t c = two_read _ _ _ c.requires.before
@@ -56,9 +49,8 @@ take_flat_behind-take_flat_body-requires g t c κs within =
 
 pub take_flat_behind-returns-in_err-vertices-2 : goal.take_flat_behind-returns-in_err-vertices-2
 take_flat_behind-returns-in_err-vertices-2 g t c = λ before sound read.
-    let s = read in
     let p = err_from_is_err_and c.from_residual-in_err-vertices-2.result c.from_residual-in_err-vertices-2.ensures.1 in
-    rw (p.1, p.2) (body_doubts c.args.raw c.args.depth c.args.above.now before c.args.cursor.now c.requires.shallowest c.requires.deepest sound s.0 s.1 c.boxless-head.result c.boxless-head.ensures c.in-Some.frame c.in-Some.ensures c.take_flat_body.new.cursor _ c.in_err-vertices-2.ensures)
+    rw (p.1, p.2) (body_doubts c.args.raw c.args.depth c.args.above.now before c.args.cursor.now c.requires.shallowest c.requires.deepest sound read.0 read.1 c.boxless-head.result c.boxless-head.ensures c.in-Some.frame c.in-Some.ensures c.take_flat_body.new.cursor _ c.in_err-vertices-2.ensures)
 
 pub take_flat_behind-judged-requires-2 : goal.take_flat_behind-judged-requires-2
 take_flat_behind-judged-requires-2 g t c =
@@ -68,16 +60,13 @@ take_flat_behind-judged-requires-2 g t c =
 
 pub take_flat_behind-returns : goal.take_flat_behind-returns
 take_flat_behind-returns g t c = λ before sound read.
-    let s = read in
-    judged_certifies c.args.raw c.args.depth c.args.above.now before c.args.cursor.now c.requires.shallowest c.requires.deepest sound s.0 s.1 c.boxless-head.result c.boxless-head.ensures c.in-Some.frame c.in-Some.ensures c.take_flat_body.new.cursor
+    judged_certifies c.args.raw c.args.depth c.args.above.now before c.args.cursor.now c.requires.shallowest c.requires.deepest sound read.0 read.1 c.boxless-head.result c.boxless-head.ensures c.in-Some.frame c.in-Some.ensures c.take_flat_body.new.cursor
     c.in_ok-vertices-2.vertices c.judged-2.result c.in_ok-vertices-2.ensures (subst (λ (stop : ℕ). IsJudged c.boxless-head.result stop c.in_ok-vertices-2.vertices c.judged-2.result) c.place-2.ensures.value c.judged-2.ensures)
 
 pub take_further-returns-in_default-take_rest : goal.take_further-returns-in_default-take_rest
 take_further-returns-in_default-take_rest g t c = λ before two.
-    let begins = c.in-Some.ensures.some before two.sound two.moved two.bytes in (
-      ap (λ (r : Reading). r.bytes) (c.in_default-take_rest.ensures.read c.args.depth before two.sound begins).1,
-      rest_refutes c.in_default-take_rest.field-0 c.args.depth c.args.above.now before c.requires.shallowest c.requires.deepest two.sound (c.in_default-take_rest.ensures.exact c.args.depth before two.sound begins),
-    )
+    let begins = c.in-Some.ensures.some before two.sound two.moved two.bytes in
+    rest_refutes c.in_default-take_rest.field-0 c.args.depth c.args.above.now before _ c.requires.shallowest c.requires.deepest two.sound (c.in_default-take_rest.ensures.read c.args.depth before two.sound begins) (c.in_default-take_rest.ensures.exact c.args.depth before two.sound begins)
 
 pub take_further-begun_by-requires-clause-read : goal.take_further-begun_by-requires-clause-read
 take_further-begun_by-requires-clause-read g t c = two_read _ _ _ c.requires.before
@@ -211,40 +200,23 @@ take_members-returns-in_err-member g t c =
 
 pub take_flat_behind-returns-in_err-vertices : goal.take_flat_behind-returns-in_err-vertices
 take_flat_behind-returns-in_err-vertices g t c = λ before sound read.
-    let s = read in
-    let precise : IsPrecision c.boxless-head.result.xy = subst (λ (h : Head). IsPrecision h.xy) (sym c.boxless-head.ensures) c.requires.xy in
-    let xy : to_z w8 (of_z w8 c.boxless-head.result.xy) ≡ c.boxless-head.result.xy = omega (arith, ints, precise) in
-    let apart = apart_flat c.args.raw c.boxless-head.result _ xy c.boxless-head.ensures c.requires.z c.requires.m c.requires.full in
-    let box : Option RawBox = option_map (λ b. flat_box b.x b.y) c.args.raw.bounds in
-    let there : is_some box ≡ c.is_some.result = apart_there c.args.raw.bounds ∙ sym c.is_some.ensures in
-    let ranges = apart_box c.args.raw.bounds c.flat_ranges.result.0 c.flat_ranges.result.1 c.flat_ranges.ensures in
+    let (box, there, ranges, apart) = flat_apart c.args.raw c.boxless-head.result c.is_some.result c.flat_ranges.result.0 c.flat_ranges.result.1 c.requires.xy c.boxless-head.ensures c.requires.z c.requires.m c.requires.full c.is_some.ensures c.flat_ranges.ensures in
     let p = err_from_is_err_and c.from_residual.result c.from_residual.ensures.1 in
-    rw (p.1, p.2) (behind_doubts c.args.raw c.args.depth c.args.above.now before c.args.cursor.now c.requires.shallowest c.requires.deepest sound s.0 s.1 _ c.take_apart_flat.new.cursor (c.in_err-vertices.ensures (head_said c.args.raw) box there ranges apart))
+    rw (p.1, p.2) (behind_doubts c.args.raw c.args.depth c.args.above.now before c.args.cursor.now c.requires.shallowest c.requires.deepest sound read.0 read.1 _ c.take_apart_flat.new.cursor (c.in_err-vertices.ensures (head_said c.args.raw) box there ranges apart))
 
 pub take_flat_behind-judged-requires : goal.take_flat_behind-judged-requires
 take_flat_behind-judged-requires g t c =
     let b = c.requires.read in
     let s = b.2 in
-    let precise : IsPrecision c.boxless-head.result.xy = subst (λ (h : Head). IsPrecision h.xy) (sym c.boxless-head.ensures) c.requires.xy in
-    let xy : to_z w8 (of_z w8 c.boxless-head.result.xy) ≡ c.boxless-head.result.xy = omega (arith, ints, precise) in
-    let apart = apart_flat c.args.raw c.boxless-head.result _ xy c.boxless-head.ensures c.requires.z c.requires.m c.requires.full in
-    let box : Option RawBox = option_map (λ b. flat_box b.x b.y) c.args.raw.bounds in
-    let there : is_some box ≡ c.is_some.result = apart_there c.args.raw.bounds ∙ sym c.is_some.ensures in
-    let ranges = apart_box c.args.raw.bounds c.flat_ranges.result.0 c.flat_ranges.result.1 c.flat_ranges.ensures in
+    let (box, there, ranges, apart) = flat_apart c.args.raw c.boxless-head.result c.is_some.result c.flat_ranges.result.0 c.flat_ranges.result.1 c.requires.xy c.boxless-head.ensures c.requires.z c.requires.m c.requires.full c.is_some.ensures c.flat_ranges.ensures in
     let sure = c.in_ok-vertices.ensures (head_said c.args.raw) box there ranges apart in
     flat_ends c.boxless-head.result c.args.raw c.args.depth b.0 c.args.cursor.now c.boxless-head.ensures s.0 s.1 _ (omega (arith, sure.inside.few, c.place.ensures.value))
 
 pub take_flat_behind-returns-in_default : goal.take_flat_behind-returns-in_default
 take_flat_behind-returns-in_default g t c = λ before sound read.
-    let s = read in
-    let precise : IsPrecision c.boxless-head.result.xy = subst (λ (h : Head). IsPrecision h.xy) (sym c.boxless-head.ensures) c.requires.xy in
-    let xy : to_z w8 (of_z w8 c.boxless-head.result.xy) ≡ c.boxless-head.result.xy = omega (arith, ints, precise) in
-    let apart = apart_flat c.args.raw c.boxless-head.result _ xy c.boxless-head.ensures c.requires.z c.requires.m c.requires.full in
-    let box : Option RawBox = option_map (λ b. flat_box b.x b.y) c.args.raw.bounds in
-    let there : is_some box ≡ c.is_some.result = apart_there c.args.raw.bounds ∙ sym c.is_some.ensures in
-    let ranges = apart_box c.args.raw.bounds c.flat_ranges.result.0 c.flat_ranges.result.1 c.flat_ranges.ensures in
+    let (box, there, ranges, apart) = flat_apart c.args.raw c.boxless-head.result c.is_some.result c.flat_ranges.result.0 c.flat_ranges.result.1 c.requires.xy c.boxless-head.ensures c.requires.z c.requires.m c.requires.full c.is_some.ensures c.flat_ranges.ensures in
     let sure = c.in_ok-vertices.ensures (head_said c.args.raw) box there ranges apart in
-    apart_certifies c.args.raw c.args.depth c.args.above.now before c.args.cursor.now c.requires.shallowest c.requires.deepest sound s.0 s.1 c.boxless-head.result c.boxless-head.ensures c.take_apart_flat.new.cursor c.in_ok-vertices.vertices c.judged.result sure
+    apart_certifies c.args.raw c.args.depth c.args.above.now before c.args.cursor.now c.requires.shallowest c.requires.deepest sound read.0 read.1 c.boxless-head.result c.boxless-head.ensures c.take_apart_flat.new.cursor c.in_ok-vertices.vertices c.judged.result sure
     (subst (λ (stop : ℕ). IsJudged c.boxless-head.result stop c.in_ok-vertices.vertices c.judged.result) c.place.ensures.value c.judged.ensures)
 
 pub take_further-returns-in_err-vertices : goal.take_further-returns-in_err-vertices
@@ -252,9 +224,7 @@ take_further-returns-in_err-vertices g t c = λ before two.
     let begins = c.in-Some.ensures.some before two.sound two.moved two.bytes in
     let s = c.in-Ok.ensures.read c.args.depth before two.sound begins in
     let full : c.in-Ok.raw.empty ≡ false = c.in-Ok.ensures.empty ∙ sym c.is_empty.ensures ∙ c.if-is_empty.false in
-    let precise : IsPrecision c.boxless-head.result.xy = subst (λ (h : Head). IsPrecision h.xy) (sym c.boxless-head.ensures) c.in-Ok.ensures.xy in
-    let xy : to_z w8 (of_z w8 c.boxless-head.result.xy) ≡ c.boxless-head.result.xy = omega (arith, ints, precise) in
-    let apart = apart_any c.in-Ok.raw c.boxless-head.result _ xy c.boxless-head.ensures full in
+    let apart = any_apart c.in-Ok.raw c.boxless-head.result c.in-Ok.ensures.xy c.boxless-head.ensures full in
     let p = err_from_is_err_and c.from_residual.result c.from_residual.ensures.1 in
     rw (p.1, p.2) (behind_doubts c.in-Ok.raw c.args.depth c.args.above.now before c.take_rest.new.cursor c.requires.shallowest c.requires.deepest two.sound s.0 s.1 _ c.take_apart.new.cursor (c.in_err-vertices.ensures (head_said c.in-Ok.raw) apart))
 
@@ -263,9 +233,7 @@ take_further-judged-requires g t c =
     let b = c.requires.before in
     let s = c.in-Ok.ensures.read c.args.depth b.0 b.1.sound (c.in-Some.ensures.some b.0 b.1.sound b.1.moved b.1.bytes) in
     let full : c.in-Ok.raw.empty ≡ false = c.in-Ok.ensures.empty ∙ sym c.is_empty.ensures ∙ c.if-is_empty.false in
-    let precise : IsPrecision c.boxless-head.result.xy = subst (λ (h : Head). IsPrecision h.xy) (sym c.boxless-head.ensures) c.in-Ok.ensures.xy in
-    let xy : to_z w8 (of_z w8 c.boxless-head.result.xy) ≡ c.boxless-head.result.xy = omega (arith, ints, precise) in
-    let apart = apart_any c.in-Ok.raw c.boxless-head.result _ xy c.boxless-head.ensures full in
+    let apart = any_apart c.in-Ok.raw c.boxless-head.result c.in-Ok.ensures.xy c.boxless-head.ensures full in
     let sure = c.in_ok-vertices.ensures (head_said c.in-Ok.raw) apart in
     flat_ends c.boxless-head.result c.in-Ok.raw c.args.depth b.0 c.take_rest.new.cursor c.boxless-head.ensures s.0 s.1 _ (omega (arith, sure.inside.few, c.place.ensures.value))
 
@@ -274,9 +242,7 @@ take_further-returns-in_default-further_frame g t c = λ before two.
     let begins = c.in-Some.ensures.some before two.sound two.moved two.bytes in
     let s = c.in-Ok.ensures.read c.args.depth before two.sound begins in
     let full : c.in-Ok.raw.empty ≡ false = c.in-Ok.ensures.empty ∙ sym c.is_empty.ensures ∙ c.if-is_empty.false in
-    let precise : IsPrecision c.boxless-head.result.xy = subst (λ (h : Head). IsPrecision h.xy) (sym c.boxless-head.ensures) c.in-Ok.ensures.xy in
-    let xy : to_z w8 (of_z w8 c.boxless-head.result.xy) ≡ c.boxless-head.result.xy = omega (arith, ints, precise) in
-    let apart = apart_any c.in-Ok.raw c.boxless-head.result _ xy c.boxless-head.ensures full in
+    let apart = any_apart c.in-Ok.raw c.boxless-head.result c.in-Ok.ensures.xy c.boxless-head.ensures full in
     let sure = c.in_ok-vertices.ensures (head_said c.in-Ok.raw) apart in
     apart_certifies c.in-Ok.raw c.args.depth c.args.above.now before c.take_rest.new.cursor c.requires.shallowest c.requires.deepest two.sound s.0 s.1 c.boxless-head.result c.boxless-head.ensures c.take_apart.new.cursor c.in_ok-vertices.vertices c.judged.result sure
     (subst (λ (stop : ℕ). IsJudged c.boxless-head.result stop c.in_ok-vertices.vertices c.judged.result) c.place.ensures.value c.judged.ensures)
@@ -318,10 +284,8 @@ take_with_box-returns-in_default g t c = λ before two.
 
 pub take_with_box-returns-in_default-take_boxed_rest : goal.take_with_box-returns-in_default-take_boxed_rest
 take_with_box-returns-in_default-take_boxed_rest g t c = λ before two.
-    let begins = boxed_begins c.in-Some.begun c.in-Some-flat_boxed.boxed c.args.depth before c.args.cursor.now c.in-Some-flat_boxed.ensures.announcing (c.in-Some.ensures.some before two.sound two.moved two.bytes) in (
-      ap (λ (r : Reading). r.bytes) (c.in_default-take_boxed_rest.ensures.read c.args.depth before two.sound begins).1,
-      rest_refutes c.in_default-take_boxed_rest.field-0 c.args.depth c.args.above.now before c.requires.shallowest c.requires.deepest two.sound (c.in_default-take_boxed_rest.ensures.exact c.args.depth before two.sound begins),
-    )
+    let begins = boxed_begins c.in-Some.begun c.in-Some-flat_boxed.boxed c.args.depth before c.args.cursor.now c.in-Some-flat_boxed.ensures.announcing (c.in-Some.ensures.some before two.sound two.moved two.bytes) in
+    rest_refutes c.in_default-take_boxed_rest.field-0 c.args.depth c.args.above.now before _ c.requires.shallowest c.requires.deepest two.sound (c.in_default-take_boxed_rest.ensures.read c.args.depth before two.sound begins) (c.in_default-take_boxed_rest.ensures.exact c.args.depth before two.sound begins)
 
 pub take_with_box-take_flat_behind-requires : goal.take_with_box-take_flat_behind-requires
 take_with_box-take_flat_behind-requires g t c κs within =

@@ -1,6 +1,5 @@
 -- Only the size of an empty geometry can be false: its box has no vertices to hold.
 use Rattle.std.proofs.Common.{◌≡◌, ◌-◌, ℕ, true, ap, subst, ◌∙◌, arith}
-use Rattle.twkb_num.specs.Cursor.{Reading}
 use Rattle.twkb_head.specs.BegunHeader.{deepest}
 use Rattle.twkb_head.specs.Header.{has_bit}
 use Rattle.twkb_head.specs.Raw.{head_said}
@@ -18,10 +17,8 @@ returns-in_default c = λ above before two.
 
 pub returns-in_default-take_rest : goal.returns-in_default-take_rest
 returns-in_default-take_rest c = λ above before two.
-    let begins = c.in-Some.ensures.some before two.sound two.moved two.bytes in (
-      ap (λ (r : Reading). r.bytes) (c.in_default-take_rest.ensures.read c.args.depth before two.sound begins).1,
-      rest_refutes c.in_default-take_rest.field-0 c.args.depth above before c.requires.shallowest c.requires.deepest two.sound (c.in_default-take_rest.ensures.exact c.args.depth before two.sound begins),
-    )
+    let begins = c.in-Some.ensures.some before two.sound two.moved two.bytes in
+    rest_refutes c.in_default-take_rest.field-0 c.args.depth above before _ c.requires.shallowest c.requires.deepest two.sound (c.in_default-take_rest.ensures.read c.args.depth before two.sound begins) (c.in_default-take_rest.ensures.exact c.args.depth before two.sound begins)
 
 pub judged-requires : goal.judged-requires
 judged-requires c =
