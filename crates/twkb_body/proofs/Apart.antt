@@ -12,7 +12,6 @@ use Rattle.twkb_head.specs.declared.header.BoxField.{BoxField}
 use Rattle.twkb_head.specs.declared.header.Head.{Head}
 use Rattle.twkb_head.specs.declared.kinds.Kind.{Kind}
 use Rattle.twkb_head.specs.declared.raw.RawBox.{RawBox}
-use Rattle.twkb_head.specs.Raw.{raw_bounds}
 use Rattle.twkb_head.proofs.Readings.{one_answer, no_failure}
 use Rattle.twkb_body.specs.Geometry.{Members, vertex_of, points_of, member_vertices}
 use Rattle.twkb_body.specs.Claims.{IsTrueClaim, member_claims}
@@ -25,9 +24,9 @@ use Rattle.twkb_body.specs.declared.stopped.Stopped.{Stopped}
 use Rattle.twkb_body.specs.Devices.Body.{Body}
 use Rattle.twkb_body.specs.Devices.BodyReader.{body_at, members_under}
 use Rattle.twkb_body.specs.Devices.Found.{named, box_judged}
-use Rattle.twkb_body.specs.Devices.Inside.{of_head, IsInside}
+use Rattle.twkb_body.specs.Devices.Inside.{of_head, IsInside, body_behind}
 use Rattle.twkb_body.specs.Devices.Pass.{Refused, first, false_at, is_within, ids_refused, NamesFirstFalse}
-use Rattle.twkb_body.specs.Devices.Stops.{HasStopped, WantsIn}
+use Rattle.twkb_body.specs.Devices.Stops.{HasStopped, WantsIn, WantsBehind}
 use Rattle.twkb_body.specs.Devices.Sure.{faultless, unseen, frame_bounds, body_vertices, IsHeldBy, IsSureBehind, IsTrueInside, IsRefutedBehind, HasDoubt, doubt_of, IsApart}
 use Rattle.twkb_body.proofs.Judging.{box_decides, distinct_decides}
 use Rattle.twkb_body.proofs.Keeping.{keeps_body_under, read_keeps}
@@ -74,19 +73,19 @@ same_bounds P (Some f) (Some g) e h = let is : g.bounds ≡ f.bounds = cc (e) in
 -- ---- the result for a body, under a header whose box has equal bounds
 module _ (levels : ℕ) (head made : Head) (above : Option Frame) (old new : Reading) (same : of_head head ≡ of_head made) (bounds : option_map (λ (f : BoxField). f.bounds) head.bounds ≡ option_map (λ (f : BoxField). f.bounds) made.bounds) where
   -- both headers are followed by the same body
-  same_body : body_at head.empty (is_collection head.kind) (of_head head) (members_under levels) old ≡ body_at made.empty (is_collection made.kind) (of_head made) (members_under levels) old
+  same_body : body_behind levels head old ≡ body_behind levels made old
   same_body = ap (λ (h : Header). body_at h.empty (is_collection h.kind) h (members_under levels) old) same
 
   -- a body that can't be read is refuted; or memory was wanted for it
-  pub apart_doubts : (depth : ℕ) (e : Stopped) → HasStopped (body_at made.empty (is_collection made.kind) (of_head made) (members_under levels) old) (WantsIn (is_collection made.kind) made.empty depth made.ids old) old e new
-      → HasDoubt (IsRefutedBehind levels head above old) (WantsIn (is_collection head.kind) head.empty depth head.ids old) old (doubt_of e) new
+  pub apart_doubts : (depth : ℕ) (e : Stopped) → HasStopped (body_behind levels made old) (WantsBehind depth made old) old e new
+      → HasDoubt (IsRefutedBehind levels head above old) (WantsBehind depth head old) old (doubt_of e) new
   apart_doubts depth e stopped =
-      let reads : Reader Body = body_at made.empty (is_collection made.kind) (of_head made) (members_under levels) in
-      doubts_outside reads (IsRefutedBehind levels head above old) (WantsIn (is_collection made.kind) made.empty depth made.ids old) (WantsIn (is_collection head.kind) head.empty depth head.ids old) old old e new
+      let reads : Reader Body = body_behind levels made in
+      doubts_outside reads (IsRefutedBehind levels head above old) (WantsBehind depth made old) (WantsBehind depth head old) old old e new
       (keeps_body_under levels made.empty (is_collection made.kind) (of_head made)) refl (λ m f body stop read inside size box held. no_failure (reads old) body stop new m (sym same_body ∙ read) f)
       (λ wants. subst (λ (h : Header). WantsIn (is_collection h.kind) h.empty depth h.ids old) (sym same) wants) stopped
 
-  module _ (before after : Seen) (inside : Inside) (body : Body) (read : body_at made.empty (is_collection made.kind) (of_head made) (members_under levels) old ≡ (Ok body, new))
+  module _ (before after : Seen) (inside : Inside) (body : Body) (read : body_behind levels made old ≡ (Ok body, new))
       (i : IsInside false (of_head made) made.bounds body old.place new.place before after inside) where
     -- the vertices of the body
     abbrev vs : List Vertex
@@ -112,7 +111,7 @@ module _ (levels : ℕ) (head made : Head) (above : Option Frame) (old new : Rea
 
     -- the bytes are unchanged
     keeps : new.bytes ≡ old.bytes
-    keeps = read_keeps (body_at made.empty (is_collection made.kind) (of_head made) (members_under levels)) old new body (keeps_body_under levels made.empty (is_collection made.kind) (of_head made)) read
+    keeps = read_keeps (body_behind levels made) old new body (keeps_body_under levels made.empty (is_collection made.kind) (of_head made)) read
 
     -- a body without a false claim is sure if the frame above holds its vertices
     pub found_sure : inside.boxed ≡ None → inside.ids ≡ None → inside.found.refused ≡ None → IsHeldBy above vs → IsSureBehind levels head above old new inside.found.vertices
@@ -139,7 +138,7 @@ module _ (levels : ℕ) (head made : Head) (above : Option Frame) (old new : Rea
       where
         refutes : IsRefutedBehind levels head above old
         refutes other stop e true_inside size box held =
-            let one = one_answer (body_at head.empty (is_collection head.kind) (of_head head) (members_under levels) old) other body stop new e (same_body ∙ read) in
+            let one = one_answer (body_behind levels head old) other body stop new e (same_body ∙ read) in
             let inside_true : IsTrueInside body old.place = subst (λ (b : Body). IsTrueInside b old.place) one.0 true_inside in
             let own = subst (λ (b : Body). IfSome head.bounds (λ field. All (Holds field.bounds) (body_vertices (of_head head) b))) one.0 box in
             some (
@@ -154,28 +153,16 @@ module _ (levels : ℕ) (head made : Head) (above : Option Frame) (old new : Rea
       where
         refutes : IsRefutedBehind levels head above old
         refutes other stop e true_inside size box held =
-            let one = one_answer (body_at head.empty (is_collection head.kind) (of_head head) (members_under levels) old) other body stop new e (same_body ∙ read) in
+            let one = one_answer (body_behind levels head old) other body stop new e (same_body ∙ read) in
             wrong (subst (λ (b : Body). IsHeldBy above (body_vertices (of_head head) b)) one.0 held)
 
 -- ---- the header that the exact audit is given
-abbrev pub made_head : Kind → ℤ → Option ℕ → Option ℕ → Bool → Option BoxField → Head
-made_head kind xy z m ids bounds = record { kind = kind; xy = xy; z = z; m = m; size = None; bounds = bounds; ids = ids; empty = false; start = 0; stop = 0 }
-
--- the box of that header is the raw box in units
-pub some_box : (xy : ℤ) (z m : Option ℕ) (made : Option BoxField) (own : Option RawBox) (field : BoxField) (box : RawBox) → made ≡ Some field → own ≡ Some box → field.bounds ≡ raw_bounds xy z m box
-    → option_map (λ (f : BoxField). f.bounds) made ≡ option_map (raw_bounds xy z m) own
-some_box xy z m made own field box is own_is same = ap (option_map (λ (f : BoxField). f.bounds)) is ∙ ap Some same ∙ ap (option_map (raw_bounds xy z m)) (sym own_is)
-
-pub no_box : (xy : ℤ) (z m : Option ℕ) (made : Option BoxField) (own : Option RawBox) → made ≡ None → own ≡ None → option_map (λ (f : BoxField). f.bounds) made ≡ option_map (raw_bounds xy z m) own
-no_box xy z m made own is own_is = ap (option_map (λ (f : BoxField). f.bounds)) is ∙ ap (option_map (raw_bounds xy z m)) (sym own_is)
-
--- The header that the exact audit is given says what the header of the blob says, but for size and places.
-module _ (head : Head) (kind : Kind) (xy raw : ℤ) (z m : Option ℕ) (ids : Bool) (own : Option RawBox) (made : Option BoxField) (apart : IsApart head kind xy z m ids own) (xy_is : raw ≡ xy) (box_is : option_map (λ (f : BoxField). f.bounds) made ≡ option_map (raw_bounds raw z m) own) where
-  pub same_head : of_head head ≡ of_head (made_head kind raw z m ids made)
-  same_head = apart.same ∙ ap (λ (p : ℤ). of_head (made_head kind p z m ids made)) (sym xy_is)
-
-  pub same_box : option_map (λ (f : BoxField). f.bounds) head.bounds ≡ option_map (λ (f : BoxField). f.bounds) made
-  same_box = apart.bounds ∙ ap (λ (p : ℤ). option_map (raw_bounds p z m) own) (sym xy_is) ∙ sym box_is
+-- two headers that say this are the same but for size and places
+pub same_apart : (a b : Head) (kind : Kind) (xy raw : ℤ) (z m : Option ℕ) (ids : Bool) (own : Option RawBox) → raw ≡ xy → IsApart a kind xy z m ids own → IsApart b kind raw z m ids own
+    → (of_head a ≡ of_head b) × (option_map (λ (f : BoxField). f.bounds) a.bounds ≡ option_map (λ (f : BoxField). f.bounds) b.bounds)
+same_apart a b kind xy raw z m ids own is a_says b_says =
+    let says = subst (λ (p : ℤ). IsApart b kind p z m ids own) is b_says in
+    (a_says.same ∙ sym says.same, a_says.bounds ∙ sym says.bounds)
 
 -- ---- the frame above
 pub asked_for : (asked other boxed : Bool) (above : Option Frame) (frame : Frame) → asked ≡ (other || boxed) → boxed ≡ is_some above → above ≡ Some frame → asked ≡ true

@@ -20,7 +20,7 @@ use Rattle.twkb_body.specs.Audited.{HasLongList}
 use Rattle.twkb_body.specs.Devices.Bare.{unchanged}
 use Rattle.twkb_body.specs.Devices.BodyReader.{geometry_at}
 use Rattle.twkb_body.specs.Devices.Inside.{of_head}
-use Rattle.twkb_body.specs.Devices.Stops.{WantsIn}
+use Rattle.twkb_body.specs.Devices.Stops.{WantsBehind}
 use Rattle.twkb_body.specs.Devices.Sure.{framed, IsCounted, ReadParts, AreMalformed, IsFrameUnder, IsRefuted, IsRefutedBody, IsJudged, HasDoubt, Certifies}
 use Rattle.twkb_body.proofs.AuditFacts.{blob_stands, is_malformed}
 use Rattle.twkb_body.proofs.BlobLaws.{blob_once}
@@ -61,7 +61,7 @@ module _ (raw : Fields) (plain : Head) (same : plain ≡ boxless raw) (kind : Ki
       let bad_plain : AreMalformed plain.kind 2 1 mid new = subst (λ (k : Kind). AreMalformed k 2 1 mid new) (sym plain_kind) bad in
       let refuted : IsRefutedBody (deepest - 1) plain None mid =
       parts_refute plain (deepest - 1) mid None plain_full plain_single mid counted.0 (record { count = 1; ids = None }) counted.1 counted.2 2 two new bad_plain in
-      let doubt : HasDoubt (IsRefutedBody (deepest - 1) plain None mid) (WantsIn (is_collection plain.kind) plain.empty 1 plain.ids mid) mid Refused new =
+      let doubt : HasDoubt (IsRefutedBody (deepest - 1) plain None mid) (WantsBehind 1 plain mid) mid Refused new =
       (malformed_keeps plain (deepest - 1) 2 1 mid mid new plain_full plain_single two counted bad_plain, refuted) in
       subst (λ (e : Doubt). HasDoubt (IsRefuted (deepest - 1) None r) (HasLongList 1 (rest r)) r e new) (sym is)
       (body_doubts raw 1 None r mid (omega arith) (omega arith) sound at moved plain same None under new Refused doubt)

@@ -41,18 +41,18 @@ module _ (levels : ℕ) (r : Reading) where
 
   -- reading a geometry after its header
   module _ (a : Reading) (x : HeadValue) (headed : read (head_plan levels) r ≡ (Ok x, a)) where
-    abbrev pub body_behind : Answer Body
-    body_behind = body_at x.header.empty (is_collection x.header.kind) x.header (members_under levels) a
+    abbrev pub body_read : Answer Body
+    body_read = body_at x.header.empty (is_collection x.header.kind) x.header (members_under levels) a
 
-    behind_header : geometry_at levels r ≡ viewed (λ x. geometry_from x.0 x.1) (spanned r (viewed (λ body. ((x, a.place - r.place), body)) body_behind))
+    behind_header : geometry_at levels r ≡ viewed (λ x. geometry_from x.0 x.1) (spanned r (viewed (λ body. ((x, a.place - r.place), body)) body_read))
     unfolding parts_at
     behind_header = geometry_is levels r ∙ ap (λ (a : Answer HeadValue). viewed (λ x. geometry_from x.0 x.1) (spanned r (spanned r a >>= λ head a.
         viewed (λ body. (head, body)) (body_at (head.0).header.empty (is_collection (head.0).header.kind) (head.0).header (members_under levels) a)))) headed
 
-    pub body_gives : (b : Body) (new : Reading) → body_behind ≡ (Ok b, new) → geometry_at levels r ≡ (Ok (geometry_from ((x, a.place - r.place), b) (new.place - r.place)), new)
+    pub body_gives : (b : Body) (new : Reading) → body_read ≡ (Ok b, new) → geometry_at levels r ≡ (Ok (geometry_from ((x, a.place - r.place), b) (new.place - r.place)), new)
     body_gives b new e = behind_header ∙ ap (λ (y : Answer Body). viewed (λ x. geometry_from x.0 x.1) (spanned r (viewed (λ body. ((x, a.place - r.place), body)) y))) e
 
-    pub body_fails : (m : Malformed) (new : Reading) → Fails body_behind m new → Fails (geometry_at levels r) m new
+    pub body_fails : (m : Malformed) (new : Reading) → Fails body_read m new → Fails (geometry_at levels r) m new
     body_fails m new f = record {
       left = f.left;
       is = behind_header ∙ ap (λ (y : Answer Body). viewed (λ x. geometry_from x.0 x.1) (spanned r (viewed (λ body. ((x, a.place - r.place), body)) y))) f.is;

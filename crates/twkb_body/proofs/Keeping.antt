@@ -12,7 +12,7 @@ use Rattle.twkb_head.specs.Shared.Plan.{Request, Plan, done, ask, judge, number_
 use Rattle.twkb_head.specs.Shared.Reader.{Answer, Reader, ◌>>=◌, viewed, past, read_judged, read_field, read, number_at, signed_at, coordinate_at, optional_at, many_at, signeds_at, Fails}
 use Rattle.twkb_body.specs.Geometry.{Geometry, Members, none, PointValue}
 use Rattle.twkb_body.specs.Devices.Body.{first_of, behind, add, sums, ring_sums, zeros, parts_body, members_body, part_body, geometry_from, members_of}
-use Rattle.twkb_body.specs.Devices.BodyReader.{point_at, ring_at, polygon_at, part_at, spanned, list_at, count_at, shape_at, body_at, parts_at, members_at, geometry_by, geometry_at, members_under}
+use Rattle.twkb_body.specs.Devices.BodyReader.{point_at, ring_at, polygon_at, part_at, spanned, list_at, count_at, shape_at, body_at, parts_at, members_at, geometry_by, geometry_at, members_under, geometries_at}
 
 abbrev pub Keeps : {A : Type 0} → Reader A → Type 0
 Keeps f = (r : Reading) → (f r).1.bytes ≡ r.bytes
@@ -126,7 +126,7 @@ keeps_geometry_by levels members each r =
 
 keeps_members : (each : Reader Geometry) (n : ℕ) → Keeps each → Keeps (members_at each n)
 keeps_members each n keeps r =
-    keeps_viewed members_of (many_at n (λ (s : ℤ) (g : Geometry). s) (λ (s : ℤ). each) (pos 0) r) ∙ keeps_many n (λ (s : ℤ) (g : Geometry). s) (λ (s : ℤ). each) (pos 0) (λ s. keeps) r
+    keeps_viewed members_of (geometries_at each n r) ∙ keeps_many n (λ (s : ℤ) (g : Geometry). s) (λ (s : ℤ). each) (pos 0) (λ s. keeps) r
 
 pub keeps_geometry : (levels : ℕ) → Keeps (geometry_at levels)
 unfolding geometry_at

@@ -6,7 +6,11 @@ use Rattle.std.proofs.lemmas.Bool.{eq-eqb}
 use Rattle.std.proofs.lemmas.Bool.Decides.{not_from_Decides}
 use Rattle.std.proofs.lemmas.List.Elements.{All-head}
 use Rattle.std.proofs.lemmas.List.{append-nil}
+use Rattle.std.proofs.lemmas.Int.{ints}
+use mir.Val.{to_z, of_z}
+use Rattle.std.specs.Int.{w8}
 use Rattle.twkb_num.specs.Cursor.{Reading, rest, passed, IsMoved, IsSound}
+use Rattle.twkb_num.specs.Units.{IsPrecision}
 use Rattle.twkb_num.proofs.CursorLemmas.{rest-passed}
 use Rattle.twkb_head.specs.declared.boxes.Vertex.{Vertex}
 use Rattle.twkb_head.specs.declared.header.Head.{Head}
@@ -20,7 +24,7 @@ use Rattle.twkb_head.specs.BegunHeader.{deepest, is_collection, IsAllowedAt}
 use Rattle.twkb_head.specs.Head.{bounds_of, IsHeadAt, StartsWithHeader}
 use Rattle.twkb_head.specs.Header.{axes_of, axes_with, is_multi}
 use Rattle.twkb_head.specs.Holds.{Holds}
-use Rattle.twkb_head.specs.Raw.{raw_bounds, flat_box, fields_box, head_said, boxless}
+use Rattle.twkb_head.specs.Raw.{raw_bounds, flat_box, fields_box, head_said, boxless, ReadsHead}
 use Rattle.twkb_head.specs.Shared.HeadPlan.{HeadValue, head_plan}
 use Rattle.twkb_head.specs.Devices.HeadReader.{head_at}
 use Rattle.twkb_head.specs.Shared.Reader.{Answer, Reader, ◌>>=◌, viewed, read, many_at, Fails}
@@ -40,13 +44,13 @@ use Rattle.twkb_body.specs.declared.doubt.Doubt.{Doubt}
 use Rattle.twkb_body.specs.declared.doubt.Doubt.TheVariants.{Refused, Memory}
 use Rattle.twkb_body.specs.declared.stopped.Stopped.{Stopped}
 use Rattle.twkb_body.specs.declared.stopped.Stopped.TheVariants.{Malformed as BadField, Memory as NoMemory}
-use Rattle.twkb_body.specs.Devices.Stops.{HasStopped, WantsIn, WantsInside}
+use Rattle.twkb_body.specs.Devices.Stops.{HasStopped, WantsIn, WantsInside, WantsBehind}
 use Rattle.twkb_body.specs.Devices.Body.{Body, ListHead, absolute, zeros, ring_sums, parts_body, members_body, members_of, geometry_from}
 use Rattle.twkb_body.specs.Devices.BodyReader.{list_at, count_at, part_at, shape_at, body_at, collection_at, geometry_at, members_under}
 use Rattle.twkb_body.specs.Devices.Boxed.{Held, held_then, held_with}
 use Rattle.twkb_body.specs.Devices.Found.{named, size_judged}
 use Rattle.twkb_body.specs.Devices.IdLists.{IsListFound, HasManyIdsAfterCount}
-use Rattle.twkb_body.specs.Devices.Inside.{of_head}
+use Rattle.twkb_body.specs.Devices.Inside.{of_head, body_behind}
 use Rattle.twkb_body.specs.Devices.LaneTrail.{LeaveBox}
 use Rattle.twkb_body.specs.Devices.Pass.{false_at, ids_refused, are_distinct}
 use Rattle.twkb_body.specs.Devices.Sure.{framed, has_further, ReadParts, IsCounted, IsWrongCount, AreMalformed, AreHeld, IsHeldBy, IsFrameUnder, frame_bounds, body_vertices, IsSureBody, IsSureBehind, IsSure, IsJudged, IsApart, HasDoubt, doubt_of, Certifies, CertifiesBody, CertifiesShape, IsTrueInside, IsRefutedBody, IsRefutedBehind, IsRefuted}
@@ -150,7 +154,7 @@ ids_wrong old mid head list f found is true_ids = go (head.1).0 (sym (ap named i
 
 -- ---- the body of a collection
 module _ (head : Head) (levels inner : ℕ) (old : Reading) (frame : Option Frame) (under : levels ≡ suc inner) (full : head.empty ≡ false) (many : is_collection head.kind ≡ true) where
-  as_collection : body_at head.empty (is_collection head.kind) (of_head head) (members_under levels) old ≡ collection_at (geometry_at inner) head.ids old
+  as_collection : body_behind levels head old ≡ collection_at (geometry_at inner) head.ids old
   as_collection = collection_body levels inner (of_head head) old under full many
 
   -- the body of a collection is refuted if its list can't be read
@@ -164,7 +168,7 @@ module _ (head : Head) (levels inner : ℕ) (old : Reading) (frame : Option Fram
       read : repeated found.count (geometry_at inner) mid ≡ (Ok gs, new)
       is : members_body list (members_of gs) ≡ body
 
-    members_read : (body : Body) (new : Reading) → body_at head.empty (is_collection head.kind) (of_head head) (members_under levels) old ≡ (Ok body, new) → HasMembers body new
+    members_read : (body : Body) (new : Reading) → body_behind levels head old ≡ (Ok body, new) → HasMembers body new
     members_read body new e =
         let outer = viewed_back (members_body list) (viewed members_of (repeated found.count (geometry_at inner) mid)) body new
         (sym (behind_list inner head.ids old mid list listed found.count is_found.count) ∙ sym as_collection ∙ e) in
@@ -189,7 +193,7 @@ module _ (head : Head) (levels inner : ℕ) (old : Reading) (frame : Option Fram
 
 -- ---- the body of a shape
 module _ (head : Head) (levels : ℕ) (old : Reading) (frame : Option Frame) (full : head.empty ≡ false) (single : is_collection head.kind ≡ false) where
-  as_shape : body_at head.empty (is_collection head.kind) (of_head head) (members_under levels) old ≡ shape_at (is_multi head.kind) (of_head head) old
+  as_shape : body_behind levels head old ≡ shape_at (is_multi head.kind) (of_head head) old
   as_shape = shape_body (of_head head) (members_under levels) old full single
 
   -- the body of a shape is refuted if its list can't be read
@@ -201,7 +205,7 @@ module _ (head : Head) (levels : ℕ) (old : Reading) (frame : Option Frame) (fu
     abbrev reads_parts : ℕ → Answer (List PolygonValue)
     reads_parts axes = many_at found.count ring_sums (part_at head.kind axes) zeros mid
 
-    parts_read : (axes : ℕ) → axes ≡ axes_of (of_head head) → (body : Body) (new : Reading) → body_at head.empty (is_collection head.kind) (of_head head) (members_under levels) old ≡ (Ok body, new)
+    parts_read : (axes : ℕ) → axes ≡ axes_of (of_head head) → (body : Body) (new : Reading) → body_behind levels head old ≡ (Ok body, new)
         → (parts : List PolygonValue) × (reads_parts axes ≡ (Ok parts, new)) × (parts_body list parts ≡ body)
     parts_read axes axes_are body new e =
         viewed_back (parts_body list) (reads_parts axes) body new
@@ -278,7 +282,7 @@ module _ (head : Head) (depth : ℕ) (above : Option Frame) (r mid : Reading) (s
   abbrev made : Body → Reading → Geometry
   made body new = geometry_from ((value, mid.place - r.place), body) (new.place - r.place)
 
-  body_is : body_at head.empty (is_collection head.kind) (of_head head) (members_under (deepest - depth)) mid ≡ body_at at.header.empty (is_collection at.header.kind) at.header (members_under (deepest - depth)) mid
+  body_is : body_behind (deepest - depth) head mid ≡ body_at at.header.empty (is_collection at.header.kind) at.header (members_under (deepest - depth)) mid
   body_is = body_of_head head at.header _ _ _ _ at.fields (members_under (deepest - depth)) mid
 
   vertices_are : (body : Body) (new : Reading) → vertices_of (made body new) ≡ body_vertices (of_head head) body
@@ -378,7 +382,7 @@ body_refutes levels raw above frame mid under wrong body new e inside size box h
 pub size_refutes : (levels : ℕ) (head : Head) (above : Option Frame) (mid new : Reading) (vertices : ℕ) (f : ℕ × ℕ) → IsSureBehind levels head above mid new vertices → size_judged head.size new.place ≡ Some f
     → IsRefutedBehind levels head above mid
 size_refutes levels head above mid new vertices f sure is body stop e inside size box held =
-    let one = one_answer (body_at head.empty (is_collection head.kind) (of_head head) (members_under levels) mid) sure.body body new stop sure.read e in
+    let one = one_answer (body_behind levels head mid) sure.body body new stop sure.read e in
     some_not_none f (sym is ∙ ap (λ (s : Reading). size_judged head.size s.place) one.1 ∙ size)
 
 -- ---- doubts
@@ -405,11 +409,13 @@ no_header_refutes depth above r some deep sound none = go (head_at (deepest - de
         let moved : IsMoved r b = head_moved depth some deep r b sound (Ok head) is in
         absurd (none (record { header = at.header; front = passed r b; behind = rest b; parts = rest-passed r b moved; is = at.is; allowed = at.allowed }))
 
--- a geometry is refuted if the rest of its header can't be read
-pub rest_refutes : (m : Malformed) (depth : ℕ) (above : Option Frame) (r : Reading) → 1 ≤ depth → depth ≤ deepest → IsSound r → (IsOk {T = Fields} {E = Malformed} (Err m) ↔ StartsWithHeader depth (rest r))
-    → IsRefuted (deepest - depth) above r
-rest_refutes m depth above r some deep sound exact =
-    no_header_refutes depth above r some deep sound (λ starts. let bad : is_ok {T = Fields} {E = Malformed} (Err m) ≡ true = exact.1 starts in cc)
+-- a geometry is refuted if the rest of its header can't be read, and the bytes are unchanged
+pub rest_refutes : (m : Malformed) (depth : ℕ) (above : Option Frame) (r new : Reading) → 1 ≤ depth → depth ≤ deepest → IsSound r → ReadsHead depth r new (Err m)
+    → (IsOk {T = Fields} {E = Malformed} (Err m) ↔ StartsWithHeader depth (rest r)) → (new.bytes ≡ r.bytes) × IsRefuted (deepest - depth) above r
+rest_refutes m depth above r new some deep sound read exact = (
+  ap (λ (q : Reading). q.bytes) read.1,
+  no_header_refutes depth above r some deep sound (λ starts. let bad : is_ok {T = Fields} {E = Malformed} (Err m) ≡ true = exact.1 starts in cc),
+)
 
 -- ---- a geometry whose header was read in raw numbers
 module _ (raw : Fields) (depth : ℕ) (above : Option Frame) (r mid : Reading) (some : 1 ≤ depth) (deep : depth ≤ deepest) (sound : IsSound r) (at : IsHeadAt (head_said raw) depth r.place (passed r mid)) (moved : IsMoved r mid) where
@@ -417,10 +423,10 @@ module _ (raw : Fields) (depth : ℕ) (above : Option Frame) (r mid : Reading) (
   raw_allowed = subst (λ (h : Head). IsAllowedAt h.kind depth) (sym at.fields) at.allowed
 
   -- a doubt about the part after the header is a doubt about the geometry
-  pub behind_doubts : (d : Doubt) (new : Reading) → HasDoubt (IsRefutedBehind (deepest - depth) (head_said raw) above mid) (WantsIn (is_collection raw.kind) raw.empty depth raw.ids mid) mid d new
+  pub behind_doubts : (d : Doubt) (new : Reading) → HasDoubt (IsRefutedBehind (deepest - depth) (head_said raw) above mid) (WantsBehind depth (head_said raw) mid) mid d new
       → HasDoubt (IsRefuted (deepest - depth) above r) (HasLongList depth (rest r)) r d new
   behind_doubts d new s =
-      doubts_through (IsRefutedBehind (deepest - depth) (head_said raw) above mid) (IsRefuted (deepest - depth) above r) (WantsIn (is_collection raw.kind) raw.empty depth raw.ids mid) (HasLongList depth (rest r)) mid r d new moved.bytes
+      doubts_through (IsRefutedBehind (deepest - depth) (head_said raw) above mid) (IsRefuted (deepest - depth) above r) (WantsBehind depth (head_said raw) mid) (HasLongList depth (rest r)) mid r d new moved.bytes
       (behind_refutes (head_said raw) depth above r mid some deep sound at moved)
       (long_list_in (head_said raw) depth r mid some sound at moved (is_collection raw.kind) refl) s
 
@@ -445,13 +451,13 @@ module _ (raw : Fields) (depth : ℕ) (above : Option Frame) (r mid : Reading) (
       raw_under : IsFrameUnder above (boxless raw) (option_map (framed (boxless raw)) raw.bounds) frame
       raw_under = subst (λ (h : Head). IsFrameUnder above h (option_map (framed h) raw.bounds) frame) same under
 
-      pub body_doubts : (d : Doubt) → HasDoubt (IsRefutedBody (deepest - depth) plain frame mid) (WantsIn (is_collection plain.kind) plain.empty depth plain.ids mid) mid d new
+      pub body_doubts : (d : Doubt) → HasDoubt (IsRefutedBody (deepest - depth) plain frame mid) (WantsBehind depth plain mid) mid d new
           → HasDoubt (IsRefuted (deepest - depth) above r) (HasLongList depth (rest r)) r d new
       body_doubts d s =
-          let wants : Type 0 = WantsIn (is_collection raw.kind) raw.empty depth raw.ids mid in
+          let wants : Type 0 = WantsBehind depth (head_said raw) mid in
           behind_doubts d new (doubts_through (IsRefutedBody (deepest - depth) (boxless raw) frame mid) (IsRefutedBehind (deepest - depth) (head_said raw) above mid) wants wants mid mid d new refl
           (body_refutes (deepest - depth) raw above frame mid raw_under) (λ w. w)
-          (subst (λ (h : Head). HasDoubt (IsRefutedBody (deepest - depth) h frame mid) (WantsIn (is_collection h.kind) h.empty depth h.ids mid) mid d new) same s))
+          (subst (λ (h : Head). HasDoubt (IsRefutedBody (deepest - depth) h frame mid) (WantsBehind depth h mid) mid d new) same s))
 
       pub judged_certifies : (vertices : ℕ) (result : Result ℕ Doubt) → IsSureBody (deepest - depth) plain frame mid new vertices → IsJudged plain new.place vertices result → Certifies depth above r result new
       judged_certifies vertices result sure judged =
@@ -470,8 +476,14 @@ pub flat_ends : (plain : Head) (raw : Fields) (depth : ℕ) (r mid : Reading) �
 flat_ends plain raw depth r mid same at moved stop le = subst (λ (h : Head). IfSome h.size (λ size. size.after ≤ stop)) (sym same) (head_size r mid (head_said raw) depth at moved stop le)
 
 -- ---- a geometry that no frame can hold
+-- the precision of X and Y goes through eight bits unchanged
+plain_xy : (raw : Fields) (plain : Head) → IsPrecision raw.axes.xy → plain ≡ boxless raw → to_z w8 (of_z w8 plain.xy) ≡ plain.xy
+plain_xy raw plain precise same =
+    let p : IsPrecision plain.xy = subst (λ (h : Head). IsPrecision h.xy) (sym same) precise in
+    omega (arith, ints, p)
+
 -- the header of a geometry in X and Y, with or without a box
-pub apart_flat : (raw : Fields) (plain : Head) (xy : ℤ) → xy ≡ plain.xy → plain ≡ boxless raw → raw.axes.z ≡ None → raw.axes.m ≡ None → raw.empty ≡ false
+apart_flat : (raw : Fields) (plain : Head) (xy : ℤ) → xy ≡ plain.xy → plain ≡ boxless raw → raw.axes.z ≡ None → raw.axes.m ≡ None → raw.empty ≡ false
     → IsApart (head_said raw) plain.kind xy None None plain.ids (option_map (λ b. flat_box b.x b.y) raw.bounds)
 apart_flat raw plain xy xy_is same z m full = record {
   same = λ j. record { kind = ap (λ (h : Head). h.kind) (sym same) j; xy = (ap (λ (h : Head). h.xy) (sym same) ∙ sym xy_is) j; z = z j; m = m j; size = None; box = None; ids = ap (λ (h : Head). h.ids) (sym same) j; empty = full j };
@@ -483,16 +495,23 @@ apart_flat raw plain xy xy_is same z m full = record {
     go (Some b) = (λ j. Some (raw_bounds raw.axes.xy (z j) (m j) b)) ∙ ap (λ (h : Head). Some (raw_bounds h.xy None None b)) (sym same) ∙ ap (λ (p : ℤ). Some (raw_bounds p None None b)) (sym xy_is)
 
 -- a box in X and Y that is handed over by its two ranges
-pub apart_box : (o : Option RawBox) (x y : RawRange) → IfSome o (λ b. (x ≡ b.x) × (y ≡ b.y)) → IfSome (option_map (λ b. flat_box b.x b.y) o) (λ box. box ≡ flat_box x y)
+apart_box : (o : Option RawBox) (x y : RawRange) → IfSome o (λ b. (x ≡ b.x) × (y ≡ b.y)) → IfSome (option_map (λ b. flat_box b.x b.y) o) (λ box. box ≡ flat_box x y)
 apart_box None x y ranges = tt
 apart_box (Some b) x y (x_is, y_is) = λ j. flat_box (sym x_is j) (sym y_is j)
 
-pub apart_there : (o : Option RawBox) → is_some (option_map (λ b. flat_box b.x b.y) o) ≡ is_some o
+apart_there : (o : Option RawBox) → is_some (option_map (λ b. flat_box b.x b.y) o) ≡ is_some o
 apart_there None = refl
 apart_there (Some b) = refl
 
+-- the header of a geometry in X and Y, whose box is handed over by its two ranges
+pub flat_apart : (raw : Fields) (plain : Head) (has_box : Bool) (x y : RawRange) → IsPrecision raw.axes.xy → plain ≡ boxless raw → raw.axes.z ≡ None → raw.axes.m ≡ None → raw.empty ≡ false
+    → has_box ≡ is_some raw.bounds → IfSome raw.bounds (λ b. (x ≡ b.x) × (y ≡ b.y))
+    → (box : Option RawBox) × (is_some box ≡ has_box) × IfSome box (λ box. box ≡ flat_box x y) × IsApart (head_said raw) plain.kind (to_z w8 (of_z w8 plain.xy)) None None plain.ids box
+flat_apart raw plain has_box x y precise same z m full there ranges =
+    (option_map (λ b. flat_box b.x b.y) raw.bounds, apart_there raw.bounds ∙ sym there, apart_box raw.bounds x y ranges, apart_flat raw plain _ (plain_xy raw plain precise same) same z m full)
+
 -- the header of a geometry in any axes, with or without a box
-pub apart_any : (raw : Fields) (plain : Head) (xy : ℤ) → xy ≡ plain.xy → plain ≡ boxless raw → raw.empty ≡ false → IsApart (head_said raw) plain.kind xy plain.z plain.m plain.ids raw.bounds
+apart_any : (raw : Fields) (plain : Head) (xy : ℤ) → xy ≡ plain.xy → plain ≡ boxless raw → raw.empty ≡ false → IsApart (head_said raw) plain.kind xy plain.z plain.m plain.ids raw.bounds
 apart_any raw plain xy xy_is same full = record {
   same = (λ j. record { kind = raw.kind; xy = raw.axes.xy; z = raw.axes.z; m = raw.axes.m; size = None; box = None; ids = raw.ids; empty = full j })
       ∙ ap (λ (h : Head). record { kind = h.kind; xy = h.xy; z = h.z; m = h.m; size = None; box = None; ids = h.ids; empty = false }) (sym same)
@@ -504,6 +523,9 @@ apart_any raw plain xy xy_is same full = record {
     go None = refl
     go (Some b) = ap (λ (h : Head). Some (raw_bounds h.xy h.z h.m b)) (sym same) ∙ ap (λ (p : ℤ). Some (raw_bounds p plain.z plain.m b)) (sym xy_is)
 
+pub any_apart : (raw : Fields) (plain : Head) → IsPrecision raw.axes.xy → plain ≡ boxless raw → raw.empty ≡ false → IsApart (head_said raw) plain.kind (to_z w8 (of_z w8 plain.xy)) plain.z plain.m plain.ids raw.bounds
+any_apart raw plain precise same full = apart_any raw plain _ (plain_xy raw plain precise same) same full
+
 -- ---- what the first reading hands over
 pub some_of : {A : Type 0} (o : Option A) → is_some o ≡ true → (x : A) × (o ≡ Some x)
 some_of None e = absurd (cc (e))
@@ -514,7 +536,7 @@ none_of None e = refl
 none_of (Some x) e = absurd (cc (e))
 
 pub wants_members : (head : Head) (depth : ℕ) (old : Reading) → head.empty ≡ false → is_collection head.kind ≡ true → WantsInside depth (deepest - (depth + 1)) head.ids old
-    → WantsIn (is_collection head.kind) head.empty depth head.ids old
+    → WantsBehind depth head old
 wants_members head depth old full many wants = subst (λ (b : Bool). WantsIn b head.empty depth head.ids old) (sym many) (full, wants)
 
 pub shape_certifies : (depth : ℕ) (head : Head) (frame : Option Frame) (old new : Reading) (result : Result ℕ Doubt) → is_collection head.kind ≡ false → CertifiesShape (deepest - depth) head frame old result new

@@ -28,15 +28,15 @@ use Rattle.twkb_body.specs.declared.trail.Trail.{Trail}
 use Rattle.twkb_body.specs.declared.inside.Inside.{Inside}
 use Rattle.twkb_body.specs.Devices.Boxed.{is_in_range, is_in_axis, is_in_box, Held, held_then, held_with}
 use Rattle.twkb_body.specs.Devices.Body.{Body, ListHead, no_body, absolute, zeros, ring_sums, parts_body, members_body, members_of}
-use Rattle.twkb_body.specs.Devices.BodyReader.{part_at, list_at, count_at, body_at, members_under}
+use Rattle.twkb_body.specs.Devices.BodyReader.{part_at, list_at, count_at, members_under}
 use Rattle.twkb_body.specs.Extent.{Reach, reach_of, both}
 use Rattle.twkb_body.specs.Devices.Found.{box_judged, size_judged}
 use Rattle.twkb_body.specs.Geometry.{PointValue, PolygonValue, none, points_of, vertex_of, coordinate, vertices as vertices_of, member_vertices}
 use Rattle.twkb_body.specs.Devices.IdLists.{IsListFound}
-use Rattle.twkb_body.specs.Devices.Inside.{of_head, IsInside}
+use Rattle.twkb_body.specs.Devices.Inside.{of_head, IsInside, body_behind}
 use Rattle.twkb_body.specs.Devices.Pass.{first, false_at, is_within}
 use Rattle.twkb_body.specs.Devices.Ranges.{widened}
-use Rattle.twkb_body.specs.Devices.Sure.{LiesIn, LiesInAll, framed, faultless, unseen, frame_bounds, IsHeldBy, IsFrameUnder, body_vertices, IsSureBody, IsSureBehind, IsSure, IsFramed}
+use Rattle.twkb_body.specs.Devices.Sure.{HasReadTwo, LiesIn, LiesInAll, framed, faultless, unseen, frame_bounds, IsHeldBy, IsFrameUnder, body_vertices, IsSureBody, IsSureBehind, IsSure, IsFramed, IsFaultless}
 use Rattle.twkb_body.specs.Devices.Walk.{no_points, HaveAxes, IsWalked, lasts_from}
 use Rattle.twkb_body.proofs.BoxedRuns.{reaches_decides, both_true}
 use Rattle.twkb_body.proofs.Coordinates.{vertices_same}
@@ -48,6 +48,11 @@ use Rattle.twkb_body.proofs.Reaches.{reach_of-append}
 use Rattle.twkb_body.proofs.Scales.{times_le}
 use Rattle.twkb_body.proofs.ShapeSteps.{shape_of_parts}
 use Rattle.twkb_body.proofs.Sums.{points_absolute}
+use Rattle.twkb_head.proofs.HeadSteps.{two_back}
+
+-- after two bytes the place is two or more
+pub two_read : (first metadata : ℕ) (now : Reading) → (before : Reading) × HasReadTwo before first metadata now → 2 ≤ now.place
+two_read first metadata now (before, two) = omega (arith, two_back before now first metadata two.moved two.bytes)
 
 -- The parts of a body of this kind, with ids or none, were read, and their points, `vertices` in all, were added to a state.
 -- The ids, if there are any, are distinct.
@@ -242,8 +247,8 @@ module _ (levels : ℕ) (head plain : Head) (above frame : Option Frame) (mid ne
   pub sure_behind : IsSureBehind levels head above mid new vertices
   sure_behind = record {
     body = sure.body;
-    read = ap (λ (x : Head). body_at x.empty (is_collection x.kind) (of_head x) (members_under levels) mid) same ∙ sure.read;
-    inside = subst (λ (x : Head). IsInside false (of_head x) None sure.body mid.place new.place unseen unseen (record { found = faultless vertices; boxed = None; ids = None })) (sym same) sure.inside;
+    read = ap (λ (x : Head). body_behind levels x mid) same ∙ sure.read;
+    inside = subst (λ (x : Head). IsFaultless x sure.body mid new vertices) (sym same) sure.inside;
     boxed = box_held head.bounds box;
     held = above_holds (body_vertices (of_head head) sure.body) frame_held;
   }

@@ -75,7 +75,8 @@ pub fn enter_flat<V: Visit>(
 fn enter_line<V: Visit>(cursor: &mut Cursor, xy: i8, ids: bool, visitor: &mut V) -> u64
     requires xy { IsPrecision xy }
     requires behind { IsThere (IsBehind (V.passes (V.state visitor.old)) LineString (flat_axes xy) ids cursor.old) }
-    ensures { Enters V.step V.passes (IsBehind (V.passes (V.state visitor.old)) LineString (flat_axes xy) ids cursor.old)
+    ensures { Enters V.step V.passes
+        (IsBehind (V.passes (V.state visitor.old)) LineString (flat_axes xy) ids cursor.old)
         (V.state visitor.old) (V.state visitor.new) cursor.new result }
 {
     enter_body(cursor, Kind::LineString, Axes::flat(xy), ids, visitor)

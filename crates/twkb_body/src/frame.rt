@@ -1,10 +1,9 @@
 //! The box that the vertices of a geometry have to lie in: its own, or the box of a geometry above.
-ghost use Rattle.std.specs.Prelude.{◌≡◌, ◌≤◌, IfSome, IsTrue, not, option_map};
-ghost use Rattle.twkb_num.specs.Units.{IsPrecision};
+ghost use Rattle.std.specs.Prelude.{◌≡◌, IfSome, IsTrue, not, option_map};
 ghost use Rattle.twkb_head.specs.Raw.{raw_bounds};
 ghost use Rattle.twkb_body.specs.Devices.Boxed.{IsNearRange};
 ghost use Rattle.twkb_body.specs.Devices.Sure.{framed, has_further, IsNear, IsNearFrame, IsFrameUnder, LiesIn, LiesInAll};
-ghost use Rattle.twkb_body.specs.Devices.Walk.{HasPrecisions};
+ghost use Rattle.twkb_body.specs.Devices.Walk.{ArePrecisions, HasPrecisions};
 
 use crate::boxed::is_near_range;
 use twkb_head::{Axes, Bounds, Head, RawBox, RawRange};
@@ -68,9 +67,7 @@ impl Frame {
 
     /// The box in units.
     pub fn in_units(&self) -> Bounds
-        requires xy { IsPrecision self.now.xy }
-        requires z_high { IfSome self.now.z (λ p. p ≤ 7) }
-        requires m_high { IfSome self.now.m (λ p. p ≤ 7) }
+        requires precisions { ArePrecisions self.now.xy self.now.z self.now.m }
         ensures { result ≡ raw_bounds self.now.xy self.now.z self.now.m self.now.bounds }
     {
         self.bounds.in_units(Axes {

@@ -1,5 +1,5 @@
 //! Certified blobs whose headers are handed back, each read once.
-ghost use Rattle.std.specs.Prelude.{◌≡◌, ℕ, ◌+◌, ◌≤◌, fold};
+ghost use Rattle.std.specs.Prelude.{◌≡◌, ◌+◌, ◌≤◌, fold};
 ghost use Rattle.twkb_num.specs.Cursor.{Reading, added};
 ghost use Rattle.twkb_num.specs.Units.{IsPrecision};
 ghost use Rattle.twkb_head.specs.Raw.{HavePrecisions, head_said};

@@ -1,12 +1,12 @@
 //! Ranges of the box of a certified geometry, which are known to be at the place.
-ghost use Rattle.std.specs.Prelude.{◌≡◌, ◌≢◌, ◌+ℤ◌, Ok, Err, true};
+ghost use Rattle.std.specs.Prelude.{◌≡◌, ◌≢◌, Ok, Err, true};
 ghost use Rattle.twkb_num.specs.Cursor.{Reading};
 ghost use Rattle.twkb_head.specs.Raw.{ends_of, IsNear};
 ghost use Rattle.twkb_head.specs.declared.raw.RawRange.{RawRange};
 ghost use Rattle.twkb_head.specs.declared.refusal.Malformed.{Malformed};
 ghost use Rattle.twkb_head.specs.Shared.Reader.{range_from};
 
-use crate::fields::take_signed;
+use crate::varints::take_signed;
 use twkb_head::RawRange;
 use twkb_num::Cursor;
 

@@ -6,10 +6,10 @@ ghost use Rattle.twkb_body.specs.Devices.LaneTrail.{FitsLane, FitsLanes, StandsI
 ghost use Rattle.twkb_body.specs.Devices.Quads.{lanes_at, IsInLane, IsLaneExtent, IsFarStep};
 ghost use Rattle.twkb_body.specs.Devices.Walk.{no_points};
 
-use crate::fields::take_signed;
 use crate::point_reader::PointReader;
 use crate::positions::{Reached, distances_in, is_in_lane, is_lane_extent, lanes_of};
 use crate::quads::next_points;
+use crate::varints::take_signed;
 use std::simd::prelude::*;
 use twkb_head::{Malformed, RawBox, RawRange};
 use twkb_num::Cursor;

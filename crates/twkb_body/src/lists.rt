@@ -1,16 +1,14 @@
 //! Reading the count and the ids of a list: an audit judges the ids, and a skim passes them.
-ghost use Rattle.std.specs.Prelude.{◌≡◌, ◌↔◌, ◌≢◌, ◌+◌, ◌≤◌, ◌<ℤ◌, ℕ, ℤ, List as ListOf, IsTrue, AllPairs, OnSome, Ok};
-ghost use Rattle.twkb_num.specs.Cursor.{rest};
+ghost use Rattle.std.specs.Prelude.{◌≡◌, Ok};
 ghost use Rattle.twkb_head.specs.Shared.Reader.{signeds_at, Reads};
-ghost use Rattle.twkb_body.specs.Devices.Stops.{ReadsOrStops, ReadsList};
+ghost use Rattle.twkb_body.specs.Devices.Stops.{ReadsList};
 ghost use Rattle.twkb_body.specs.Devices.BodyReader.{list_at};
-ghost use Rattle.twkb_body.specs.Devices.IdLists.{HasManyIds};
 
 use crate::answers::Claim;
-use crate::fields::{take_number, take_signed};
 use crate::found::{FalseClaim, claimed};
 use crate::rooms::IdRoom;
 use crate::stopped::Stopped;
+use crate::varints::{take_number, take_signed};
 use twkb_head::Malformed;
 use twkb_num::Cursor;
 

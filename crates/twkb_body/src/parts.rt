@@ -7,8 +7,8 @@ ghost use Rattle.twkb_body.specs.Devices.BodyReader.{ring_at, polygon_at, part_a
 ghost use Rattle.twkb_body.specs.Geometry.{points_of};
 ghost use Rattle.twkb_body.specs.Devices.PointReader.{Stage, IsReady, HasRead, EndsEarly};
 
-use crate::fields::take_number;
 use crate::point_reader::PointReader;
+use crate::varints::take_number;
 use twkb_head::Kind;
 use twkb_num::Cursor;
 

@@ -1,7 +1,4 @@
 //! [`Passer`], the visitor that looks at nothing.
-ghost use Rattle.std.specs.Prelude.{◌≡◌};
-ghost use Rattle.twkb_num.specs.Units.{IsPrecision};
-ghost use Rattle.twkb_head.specs.Raw.{HavePrecisions};
 
 use crate::visit::Visit;
 use twkb_head::{Axes, Bounds, RawBox, RawRange, Vertex};

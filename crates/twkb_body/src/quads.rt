@@ -1,6 +1,6 @@
 //! Points of X and Y read up to four at once, and compared with a box.
-ghost use Rattle.std.specs.Prelude.{◌≡◌, ◌≤◌, ℤ, true};
-ghost use Rattle.twkb_body.specs.Devices.Quads.{lanes_at, IsInLane, IsLaneExtent, IsQuadStep};
+ghost use Rattle.std.specs.Prelude.{◌≡◌, ◌≤◌, true};
+ghost use Rattle.twkb_body.specs.Devices.Quads.{StepsInLanes};
 
 use crate::positions::{Reached, four_more, one_more, two_more};
 use std::simd::prelude::*;
@@ -36,8 +36,7 @@ pub fn next_points(cursor: &mut Cursor, left: u64, at: u32x4, extent: u32x4) -> 
     ensures few { result.points ≤ left }
     ensures none { result.points ≡ 0 → cursor.new ≡ cursor.old }
     ensures bytes { cursor.new.bytes ≡ cursor.old.bytes }
-    ensures step { (x y w h : ℤ) → at ≡ lanes_at x y → extent ≡ lanes_at w h → IsInLane x → IsInLane y → IsLaneExtent w → IsLaneExtent h
-        → IsQuadStep w h x y cursor.old cursor.new result.points result.reached.at result.reached.inside }
+    ensures step { StepsInLanes at extent cursor.old cursor.new result }
 {
     if 4 <= left {
         let step = next_four(cursor, at, extent);
@@ -60,8 +59,7 @@ fn next_four(cursor: &mut Cursor, at: u32x4, extent: u32x4) -> Step
     ensures few { result.points ≤ 4 }
     ensures none { result.points ≡ 0 → cursor.new ≡ cursor.old }
     ensures bytes { cursor.new.bytes ≡ cursor.old.bytes }
-    ensures step { (x y w h : ℤ) → at ≡ lanes_at x y → extent ≡ lanes_at w h → IsInLane x → IsInLane y → IsLaneExtent w → IsLaneExtent h
-        → IsQuadStep w h x y cursor.old cursor.new result.points result.reached.at result.reached.inside }
+    ensures step { StepsInLanes at extent cursor.old cursor.new result }
 {
     let differences = cursor.svarint_eight();
     if !differences.is_read {
@@ -79,8 +77,7 @@ fn next_two(cursor: &mut Cursor, at: u32x4, extent: u32x4) -> Step
     ensures few { result.points ≤ 2 }
     ensures none { result.points ≡ 0 → cursor.new ≡ cursor.old }
     ensures bytes { cursor.new.bytes ≡ cursor.old.bytes }
-    ensures step { (x y w h : ℤ) → at ≡ lanes_at x y → extent ≡ lanes_at w h → IsInLane x → IsInLane y → IsLaneExtent w → IsLaneExtent h
-        → IsQuadStep w h x y cursor.old cursor.new result.points result.reached.at result.reached.inside }
+    ensures step { StepsInLanes at extent cursor.old cursor.new result }
 {
     let differences = cursor.svarint_four();
     if !differences.is_read {
@@ -98,8 +95,7 @@ fn next_one(cursor: &mut Cursor, at: u32x4, extent: u32x4) -> Step
     ensures few { result.points ≤ 1 }
     ensures none { result.points ≡ 0 → cursor.new ≡ cursor.old }
     ensures bytes { cursor.new.bytes ≡ cursor.old.bytes }
-    ensures step { (x y w h : ℤ) → at ≡ lanes_at x y → extent ≡ lanes_at w h → IsInLane x → IsInLane y → IsLaneExtent w → IsLaneExtent h
-        → IsQuadStep w h x y cursor.old cursor.new result.points result.reached.at result.reached.inside }
+    ensures step { StepsInLanes at extent cursor.old cursor.new result }
 {
     match cursor.svarint_pair() {
         Some((x, y)) => Step {

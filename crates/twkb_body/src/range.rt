@@ -8,6 +8,7 @@ ghost use Rattle.twkb_num.specs.Units.{IsPrecision};
 ghost use Rattle.twkb_body.specs.Extent.{joined, span_of, reach_of};
 ghost use Rattle.twkb_body.specs.Geometry.{coordinate};
 ghost use Rattle.twkb_body.specs.Devices.Ranges.{scaled, scaled_if, reach_in_units};
+ghost use Rattle.twkb_body.specs.Devices.Walk.{ArePrecisions};
 
 use crate::extent::Extent;
 use crate::points::Points;
@@ -132,9 +133,7 @@ impl Ranges {
     /// The ranges of all axes in units, by the precisions of the header.
     #[inline(always)]
     pub fn in_units(&self, xy: i8, z: Option<u8>, m: Option<u8>) -> Extent
-        requires xy { IsPrecision xy }
-        requires z_high { IfSome z (λ p. p ≤ 7) }
-        requires m_high { IfSome m (λ p. p ≤ 7) }
+        requires precisions { ArePrecisions xy z m }
         ensures { result ≡ reach_in_units xy z m self.now }
     {
         Extent::from_spans(

@@ -2,9 +2,9 @@
 ghost use Rattle.std.specs.Prelude.{◌≤◌, ◌<ℤ◌, length, IsTrue};
 ghost use Rattle.twkb_body.specs.Devices.Stops.{ReadsIds};
 
-use crate::fields::take_signed;
 use crate::ids::{are_distinct, slice_distinct};
 use crate::stopped::Stopped;
+use crate::varints::take_signed;
 use smallvec::SmallVec;
 use std::alloc::Allocator;
 use twkb_num::Cursor;

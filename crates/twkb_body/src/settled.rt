@@ -6,7 +6,7 @@ ghost use Rattle.twkb_body.specs.Devices.Body.{add};
 ghost use Rattle.twkb_body.specs.Devices.BodyReader.{point_at, NumbersLead};
 ghost use Rattle.twkb_body.specs.Geometry.{PointValue};
 
-use crate::fields::take_signed;
+use crate::varints::take_signed;
 use twkb_num::Cursor;
 
 /// Moves past `count` points, by words of eight bytes. A number whose end they don't show is passed by itself.

@@ -3,20 +3,20 @@
 //!
 //! `lost` says that the trail isn't kept up any more, because points were passed. This only happens when no point can change the
 //! visitor's state.
-ghost use Rattle.std.specs.Prelude.{◌≡◌, ◌<◌, ◌≤◌, [], ◌∷◌, List, Ok, flat_map};
+ghost use Rattle.std.specs.Prelude.{◌≡◌, ◌<◌, ◌≤◌, [], ◌∷◌, List, Ok};
 ghost use Rattle.twkb_num.specs.Cursor.{Reading};
 ghost use Rattle.twkb_head.specs.Shared.Reader.{many_at};
-ghost use Rattle.twkb_body.specs.Devices.Body.{add, ring_sums};
+ghost use Rattle.twkb_body.specs.Devices.Body.{add, ring_sums, part_points};
 ghost use Rattle.twkb_body.specs.Devices.BodyReader.{point_at, ring_at, polygon_at, part_at};
 ghost use Rattle.twkb_body.specs.Devices.Inside.{of_head};
 ghost use Rattle.twkb_body.specs.Devices.Walk.{IsWalk, IsRun, IsStill, HasPrecisions, StandsThere, ShowsIt, shown};
-ghost use Rattle.twkb_body.specs.Geometry.{PointValue, Ring, PolygonValue, points_of};
+ghost use Rattle.twkb_body.specs.Geometry.{PointValue, points_of};
 ghost use Rattle.twkb_head.specs.Header.{axes_with};
 
-use crate::fields::take_number;
 use crate::points::Points;
 use crate::settled::{pass_known, pass_point};
 use crate::trail::{Trail, take_point};
+use crate::varints::take_number;
 use crate::visit::Visit;
 use twkb_head::{Head, Kind};
 use twkb_num::Cursor;
@@ -66,9 +66,10 @@ pub fn show_parts<V: Visit>(
 )
     requires precisions { HasPrecisions head.now }
     requires axes { axes ≡ axes_with head.now.z head.now.m }
-    requires known { StandsThere (many_at count ring_sums (part_at head.now.kind axes)) (shown V.step (of_head head.now))
-        lost.old trail.old (V.state visitor.old) cursor.old }
-    ensures { ShowsIt (many_at count ring_sums (part_at head.now.kind axes)) (points_of) (shown V.step (of_head head.now)) axes
+    requires known { StandsThere (many_at count ring_sums (part_at head.now.kind axes))
+        (shown V.step (of_head head.now)) lost.old trail.old (V.state visitor.old) cursor.old }
+    ensures { ShowsIt (many_at count ring_sums (part_at head.now.kind axes)) points_of
+        (shown V.step (of_head head.now)) axes
         lost.old lost.new trail.old trail.new (V.state visitor.old) (V.state visitor.new) cursor.old cursor.new }
 {
     for _ in 0..count {
@@ -90,7 +91,7 @@ fn show_part<V: Visit>(
     requires axes { axes ≡ axes_with head.now.z head.now.m }
     requires known { StandsThere (part_at head.now.kind axes) (shown V.step (of_head head.now))
         lost.old trail.old (V.state visitor.old) cursor.old }
-    ensures { ShowsIt (part_at head.now.kind axes) (λ part. flat_map (λ ring. ring) part) (shown V.step (of_head head.now)) axes
+    ensures { ShowsIt (part_at head.now.kind axes) part_points (shown V.step (of_head head.now)) axes
         lost.old lost.new trail.old trail.new (V.state visitor.old) (V.state visitor.new) cursor.old cursor.new }
 {
     match head.kind {
@@ -120,7 +121,7 @@ fn show_polygon<V: Visit>(
     requires axes { axes ≡ axes_with head.now.z head.now.m }
     requires known { StandsThere (polygon_at axes) (shown V.step (of_head head.now))
         lost.old trail.old (V.state visitor.old) cursor.old }
-    ensures { ShowsIt (polygon_at axes) (λ polygon. flat_map (λ ring. ring) polygon) (shown V.step (of_head head.now)) axes
+    ensures { ShowsIt (polygon_at axes) part_points (shown V.step (of_head head.now)) axes
         lost.old lost.new trail.old trail.new (V.state visitor.old) (V.state visitor.new) cursor.old cursor.new }
 {
     let Ok(count) = take_number(cursor) else {

@@ -8,8 +8,8 @@ ghost use Rattle.twkb_head.specs.Raw.{HavePrecisions, head_said, flat_box, raw_b
 ghost use Rattle.twkb_body.specs.Standing.{StandsAt};
 
 use crate::body::{enter_deep_body, enter_flat, enter_point};
-use crate::fields::take_number;
 use crate::known::{known_range, pass_range};
+use crate::varints::take_number;
 use crate::visit::Visit;
 use twkb_head::{Axes, Begun, Fields, Kind, RawBox, RawRange, begin_head, take_rest};
 use twkb_num::Cursor;
@@ -58,7 +58,8 @@ fn enter_apart<V: Visit>(
 ) -> u64
     requires xy { IsPrecision xy }
     requires come { IsThere (HasCome (record { kind = kind; xy = xy; metadata = metadata; start = start }) cursor.old) }
-    ensures { Enters V.step V.passes (HasCome (record { kind = kind; xy = xy; metadata = metadata; start = start }) cursor.old)
+    ensures { Enters V.step V.passes
+        (HasCome (record { kind = kind; xy = xy; metadata = metadata; start = start }) cursor.old)
         (V.state visitor.old) (V.state visitor.new) cursor.new result }
 {
     let begun = Begun {
@@ -75,7 +76,8 @@ fn enter_apart<V: Visit>(
 fn enter_begun<V: Visit>(cursor: &mut Cursor, begun: Begun, visitor: &mut V) -> u64
     requires xy { IsPrecision begun.xy }
     requires come { IsThere (HasCome begun cursor.old) }
-    ensures { Enters V.step V.passes (HasCome begun cursor.old) (V.state visitor.old) (V.state visitor.new) cursor.new result }
+    ensures { Enters V.step V.passes (HasCome begun cursor.old)
+        (V.state visitor.old) (V.state visitor.new) cursor.new result }
 {
     let Ok(raw) = take_rest(cursor, begun) else {
         unreachable!()
@@ -90,7 +92,8 @@ fn enter_sized_point<V: Visit>(cursor: &mut Cursor, begun: Begun, visitor: &mut 
     requires kind { begun.kind ≡ Point }
     requires sized { begun.metadata ≡ 2 }
     requires come { IsThere (HasCome begun cursor.old) }
-    ensures { Enters V.step V.passes (HasCome begun cursor.old) (V.state visitor.old) (V.state visitor.new) cursor.new result }
+    ensures { Enters V.step V.passes (HasCome begun cursor.old)
+        (V.state visitor.old) (V.state visitor.new) cursor.new result }
 {
     let Ok(_size) = take_number(cursor) else {
         unreachable!()
@@ -103,7 +106,8 @@ fn enter_sized_point<V: Visit>(cursor: &mut Cursor, begun: Begun, visitor: &mut 
 pub fn enter_headed<V: Visit>(cursor: &mut Cursor, raw: Fields, visitor: &mut V) -> u64
     requires axes { HavePrecisions raw.axes }
     requires come { IsThere (HasRead raw cursor.old) }
-    ensures { Enters V.step V.passes (HasRead raw cursor.old) (V.state visitor.old) (V.state visitor.new) cursor.new result }
+    ensures { Enters V.step V.passes (HasRead raw cursor.old)
+        (V.state visitor.old) (V.state visitor.new) cursor.new result }
 {
     if let Some(stop) = hop(&raw, visitor) {
         cursor.go_to(stop);
@@ -156,7 +160,8 @@ fn enter_boxed<V: Visit>(cursor: &mut Cursor, begun: Begun, visitor: &mut V) -> 
     requires xy { IsPrecision begun.xy }
     requires boxed { begun.metadata ≡ 3 }
     requires come { IsThere (HasCome begun cursor.old) }
-    ensures { Enters V.step V.passes (HasCome begun cursor.old) (V.state visitor.old) (V.state visitor.new) cursor.new result }
+    ensures { Enters V.step V.passes (HasCome begun cursor.old)
+        (V.state visitor.old) (V.state visitor.new) cursor.new result }
 {
     let Ok(size) = take_number(cursor) else {
         unreachable!()

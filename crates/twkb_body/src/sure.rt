@@ -1,7 +1,7 @@
 //! The first reading of a blob, which certifies it or ends in a doubt. It hands down the innermost box, and hands up the number of
 //! vertices.
-ghost use Rattle.std.specs.Prelude.{◌≡◌, ◌≤◌, ◌+◌, ◌-◌, ℕ, [], ◌∷◌, true, false, Option, None, Some, option_map, IfSome, OnSome, IfOk, Ok};
-ghost use Rattle.twkb_num.specs.Cursor.{Reading, passed, IsMoved, IsSound};
+ghost use Rattle.std.specs.Prelude.{◌≡◌, ◌≤◌, ◌+◌, ◌-◌, true, false, Option, None, Some, option_map, IfSome, OnSome, IfOk, Ok};
+ghost use Rattle.twkb_num.specs.Cursor.{Reading, IsSound};
 ghost use Rattle.twkb_num.specs.Units.{IsPrecision};
 ghost use Rattle.twkb_head.specs.BegunHeader.{deepest, is_collection, IsAllowedAt};
 ghost use Rattle.twkb_head.specs.Header.{has_bit};
@@ -10,7 +10,7 @@ ghost use Rattle.twkb_head.specs.declared.header.Head.{Head as HeadOf};
 ghost use Rattle.twkb_head.specs.declared.kinds.Kind.TheVariants.{Point, LineString};
 ghost use Rattle.twkb_body.specs.declared.doubt.Doubt.TheVariants.{Refused};
 ghost use Rattle.twkb_body.specs.declared.frame.Frame.{Frame as FrameOf};
-ghost use Rattle.twkb_body.specs.Devices.Sure.{counted_in, framed, has_further, IsFramed, IsNearFrame, IsFrameUnder, IsJudged, Certifies, CertifiesBody, CertifiesShape};
+ghost use Rattle.twkb_body.specs.Devices.Sure.{counted_in, framed, has_further, IsFramed, IsNearFrame, IsFrameUnder, IsJudged, HasReadTwo, Certifies, CertifiesAfterTwo, CertifiesBody};
 ghost use Rattle.twkb_body.specs.Devices.Walk.{HasPrecisions};
 
 mod apart;
@@ -75,13 +75,9 @@ fn take_sure<R: IdRoom>(
 ) -> Result<usize, Doubt>
     requires shallowest { 1 ≤ depth }
     requires deepest { depth ≤ deepest }
-    requires read { 2 ≤ cursor.old.place }
-    requires before { (before : Reading) × IsSound before × IsMoved before cursor.old
-        × (passed before cursor.old ≡ first ∷ metadata ∷ []) }
+    requires before { (before : Reading) × HasReadTwo before first metadata cursor.old }
     requires near { IfSome above.now IsNearFrame }
-    ensures { (before : Reading) → IsSound before → IsMoved before cursor.old
-        → passed before cursor.old ≡ first ∷ metadata ∷ []
-        → Certifies depth above.now before result cursor.new }
+    ensures { CertifiesAfterTwo depth above.now first metadata cursor.old result cursor.new }
 {
     // Both read any geometry: `take_with_box` is faster if a box in X and Y follows, and `take_flat` if not.
     if metadata & FLAT_BOX_BITS == BOX {
@@ -111,13 +107,9 @@ fn take_flat<R: IdRoom>(
 ) -> Result<usize, Doubt>
     requires shallowest { 1 ≤ depth }
     requires deepest { depth ≤ deepest }
-    requires read { 2 ≤ cursor.old.place }
-    requires before { (before : Reading) × IsSound before × IsMoved before cursor.old
-        × (passed before cursor.old ≡ first ∷ metadata ∷ []) }
+    requires before { (before : Reading) × HasReadTwo before first metadata cursor.old }
     requires near { IfSome above.now IsNearFrame }
-    ensures { (before : Reading) → IsSound before → IsMoved before cursor.old
-        → passed before cursor.old ≡ first ∷ metadata ∷ []
-        → Certifies depth above.now before result cursor.new }
+    ensures { CertifiesAfterTwo depth above.now first metadata cursor.old result cursor.new }
 {
     let Some(begun) = begun_by(cursor, depth, first, metadata) else {
         return Err(Doubt::Refused);
@@ -144,13 +136,9 @@ fn take_with_box<R: IdRoom>(
 ) -> Result<usize, Doubt>
     requires shallowest { 1 ≤ depth }
     requires deepest { depth ≤ deepest }
-    requires read { 2 ≤ cursor.old.place }
-    requires before { (before : Reading) × IsSound before × IsMoved before cursor.old
-        × (passed before cursor.old ≡ first ∷ metadata ∷ []) }
+    requires before { (before : Reading) × HasReadTwo before first metadata cursor.old }
     requires near { IfSome above.now IsNearFrame }
-    ensures { (before : Reading) → IsSound before → IsMoved before cursor.old
-        → passed before cursor.old ≡ first ∷ metadata ∷ []
-        → Certifies depth above.now before result cursor.new }
+    ensures { CertifiesAfterTwo depth above.now first metadata cursor.old result cursor.new }
 {
     let Some(begun) = begun_by(cursor, depth, first, metadata) else {
         return Err(Doubt::Refused);
@@ -220,13 +208,9 @@ fn take_further<R: IdRoom>(
 ) -> Result<usize, Doubt>
     requires shallowest { 1 ≤ depth }
     requires deepest { depth ≤ deepest }
-    requires read { 2 ≤ cursor.old.place }
-    requires before { (before : Reading) × IsSound before × IsMoved before cursor.old
-        × (passed before cursor.old ≡ first ∷ metadata ∷ []) }
+    requires before { (before : Reading) × HasReadTwo before first metadata cursor.old }
     requires near { IfSome above.now IsNearFrame }
-    ensures { (before : Reading) → IsSound before → IsMoved before cursor.old
-        → passed before cursor.old ≡ first ∷ metadata ∷ []
-        → Certifies depth above.now before result cursor.new }
+    ensures { CertifiesAfterTwo depth above.now first metadata cursor.old result cursor.new }
 {
     let Some(begun) = begun_by(cursor, depth, first, metadata) else {
         return Err(Doubt::Refused);
@@ -260,13 +244,9 @@ fn take_further<R: IdRoom>(
 fn take_empty(cursor: &mut Cursor, depth: u8, first: u8, metadata: u8) -> Result<usize, Doubt>
     requires shallowest { 1 ≤ depth }
     requires deepest { depth ≤ deepest }
-    requires read { 2 ≤ cursor.old.place }
-    requires before { (before : Reading) × IsSound before × IsMoved before cursor.old
-        × (passed before cursor.old ≡ first ∷ metadata ∷ []) }
+    requires before { (before : Reading) × HasReadTwo before first metadata cursor.old }
     requires empty { has_bit metadata 16 ≡ true }
-    ensures { (above : Option FrameOf) (before : Reading) → IsSound before → IsMoved before cursor.old
-        → passed before cursor.old ≡ first ∷ metadata ∷ []
-        → Certifies depth above before result cursor.new }
+    ensures { (above : Option FrameOf) → CertifiesAfterTwo depth above first metadata cursor.old result cursor.new }
 {
     let Some(begun) = begun_by(cursor, depth, first, metadata) else {
         return Err(Doubt::Refused);
@@ -317,7 +297,6 @@ fn take_flat_body<R: IdRoom>(
 ) -> Result<usize, Doubt>
     requires shallowest { 1 ≤ depth }
     requires allowed { IsAllowedAt head.now.kind depth }
-    requires precisions { HasPrecisions head.now }
     requires full { head.now.empty ≡ false }
     requires frame { IfSome frame.now (IsFramed head.now) }
     requires z { head.now.z ≡ None }
@@ -343,7 +322,6 @@ fn take_further_body<R: IdRoom>(
 ) -> Result<usize, Doubt>
     requires shallowest { 1 ≤ depth }
     requires allowed { IsAllowedAt head.now.kind depth }
-    requires precisions { HasPrecisions head.now }
     requires full { head.now.empty ≡ false }
     requires frame { IfSome frame.now (IsFramed head.now) }
     requires further { has_further head.now.z head.now.m ≡ true }

@@ -1,11 +1,11 @@
 //! The points under one header as vertices, each shown to a visitor.
-ghost use Rattle.std.specs.Prelude.{◌≡◌, ◌≤◌, ◌≤ℤ◌, ◌+◌, ◌*◌, ◌^◌, ◌∷◌, IfNone, IfSome, IsTrue, ◌↔◌, pos, neg_ℤ, option_map};
+ghost use Rattle.std.specs.Prelude.{◌≡◌, ◌≤◌, ◌≤ℤ◌, ◌+◌, ◌^◌, ◌∷◌, IfSome, IsTrue, ◌↔◌, pos, neg_ℤ, option_map};
 ghost use Rattle.twkb_num.specs.Units.{IsPrecision, units_of};
 ghost use Rattle.twkb_head.specs.Header.{axes_with};
 ghost use Rattle.twkb_head.specs.Raw.{HavePrecisions};
 ghost use Rattle.twkb_body.specs.Geometry.{PointValue, vertex_at};
 ghost use Rattle.twkb_body.specs.Devices.Inside.{of_head};
-ghost use Rattle.twkb_body.specs.Devices.Walk.{HasPrecisions, IsRun, shown};
+ghost use Rattle.twkb_body.specs.Devices.Walk.{IsRun, shown};
 
 use crate::points::Points;
 use crate::trail::Trail;

@@ -1,8 +1,8 @@
 -- Devices of proofs: nothing public names them.
 -- The body of a geometry as it is read: the sums of its numbers, and the geometry that they make.
-use Rattle.std.specs.Prelude.{ℕ, ◌+◌, List, [], ◌∷◌, ℤ, pos, ◌+ℤ◌, Option, None}
+use Rattle.std.specs.Prelude.{ℕ, ◌+◌, List, [], ◌∷◌, ℤ, pos, ◌+ℤ◌, Option, None, flat_map}
 use Rattle.twkb_head.specs.Shared.HeadPlan.{HeadValue}
-use Rattle.twkb_body.specs.Geometry.{Geometry, Members, geometry, none, more, PointValue, PolygonValue}
+use Rattle.twkb_body.specs.Geometry.{Geometry, Lengths, Members, geometry, none, more, PointValue, PolygonValue}
 
 -- the first coordinate
 abbrev pub first_of : PointValue → ℤ
@@ -29,6 +29,10 @@ sums s (p ∷ ps) = sums (add s p) ps
 abbrev pub ring_sums : PointValue → PolygonValue → PointValue
 ring_sums s [] = s
 ring_sums s (ring ∷ rings) = ring_sums (sums s ring) rings
+
+-- the points of a part, ring after ring
+abbrev pub part_points : PolygonValue → List PointValue
+part_points part = flat_map (λ ring. ring) part
 
 -- differences start from zero in each of the four axes
 abbrev pub zeros : PointValue
@@ -60,13 +64,23 @@ pub record Body : Type 0 where
 abbrev pub ListHead : Type 0
 ListHead = (ℕ × ℕ) × (Option (List ℤ) × ℕ)
 
+-- the body of a list, of parts or of members
+abbrev pub listed_body : ListHead → List PolygonValue → Members → Body
+listed_body list polygons members = record {
+  ids = (list.1).0;
+  polygons = polygons;
+  members = members;
+  count = (list.0).1;
+  list = (list.0).1 + (list.1).1;
+}
+
 -- the body of a list of parts
 abbrev pub parts_body : ListHead → List PolygonValue → Body
-parts_body list parts = record { ids = (list.1).0; polygons = absolute parts; members = none; count = (list.0).1; list = (list.0).1 + (list.1).1 }
+parts_body list parts = listed_body list (absolute parts) none
 
 -- the body of a collection
 abbrev pub members_body : ListHead → Members → Body
-members_body list gs = record { ids = (list.1).0; polygons = []; members = gs; count = (list.0).1; list = (list.0).1 + (list.1).1 }
+members_body list gs = listed_body list [] gs
 
 -- the body of a part alone
 abbrev pub part_body : PolygonValue → Body
@@ -81,9 +95,15 @@ abbrev pub geometry_from : (HeadValue × ℕ) × Body → ℕ → Geometry
 geometry_from parts whole =
     let head = (parts.0).0 in
     let body = parts.1 in
-    geometry head.header
-    (record { before = head.before; size = head.size; header = (parts.0).1; count = body.count; list = body.list; whole = whole })
-    body.ids body.polygons body.members
+    let lengths : Lengths = record {
+      before = head.before;
+      size = head.size;
+      header = (parts.0).1;
+      count = body.count;
+      list = body.list;
+      whole = whole;
+    } in
+    geometry head.header lengths body.ids body.polygons body.members
 
 -- members from a list
 abbrev pub members_of : List Geometry → Members

@@ -1,6 +1,6 @@
 -- Devices of proofs: nothing public names them.
 -- Reading a geometry from a cursor as code does it: what its plan reads, one step after another.
-use Rattle.std.specs.Prelude.{◌≡◌, ℕ, zero, suc, ◌-◌, Bool, true, false, [], ◌∷◌, None, ℤ, pos, Ok, Err}
+use Rattle.std.specs.Prelude.{◌≡◌, ℕ, zero, suc, ◌-◌, Bool, true, false, [], ◌∷◌, None, ℤ, pos, Ok, Err, List}
 use Rattle.twkb_num.specs.Cursor.{Reading}
 use Rattle.twkb_head.specs.declared.kinds.Kind.{Kind}
 use Rattle.twkb_head.specs.declared.kinds.Kind.TheVariants.{Point, LineString, Polygon, MultiPoint, MultiLineString, MultiPolygon, GeometryCollection}
@@ -45,7 +45,8 @@ spanned r (Err m, a) = (Err m, a)
 
 -- a count, and the ids where they are announced
 unfoldable pub list_at : Bool → Reader ListHead
-list_at ids r = spanned r (number_at r) >>= λ n a. viewed (λ list. (n, list)) (spanned a (optional_at ids (signeds_at n.0) a))
+list_at ids r = spanned r (number_at r) >>= λ n a.
+    viewed (λ list. (n, list)) (spanned a (optional_at ids (signeds_at n.0) a))
 
 -- a count and ids, for a kind that has a list of parts; otherwise one part, with no ids
 abbrev pub count_at : Bool → Bool → Reader ListHead
@@ -55,7 +56,8 @@ count_at true ids r = list_at ids r
 -- the body of a kind that is no collection
 unfoldable pub shape_at : Bool → Header → Reader Body
 shape_at false h r = viewed part_body (part_at h.kind (axes_of h) zeros r)
-shape_at true h r = list_at h.ids r >>= λ list a. viewed (parts_body list) (many_at (list.0).0 ring_sums (part_at h.kind (axes_of h)) zeros a)
+shape_at true h r = list_at h.ids r >>= λ list a.
+    viewed (parts_body list) (many_at (list.0).0 ring_sums (part_at h.kind (axes_of h)) zeros a)
 
 -- the body that a header announces
 unfoldable pub body_at : Bool → Bool → Header → (ℕ → Reader Members) → Reader Body
@@ -67,11 +69,16 @@ body_at false false h members r = shape_at (is_multi h.kind) h r
 unfoldable pub parts_at : ℕ → (ℕ → Reader Members) → Reader ((HeadValue × ℕ) × Body)
 parts_at levels members r =
     spanned r (read (head_plan levels) r) >>= λ head a.
-    viewed (λ body. (head, body)) (body_at (head.0).header.empty (is_collection (head.0).header.kind) (head.0).header members a)
+    let h = (head.0).header in
+    viewed (λ body. (head, body)) (body_at h.empty (is_collection h.kind) h members a)
+
+-- this many geometries, each read by a reader
+abbrev pub geometries_at : Reader Geometry → ℕ → Reader (List Geometry)
+geometries_at each n = many_at n (λ (s : ℤ) (g : Geometry). s) (λ s. each) (pos 0)
 
 -- the members of a collection, each read by a reader
 abbrev pub members_at : Reader Geometry → ℕ → Reader Members
-members_at each n r = viewed members_of (many_at n (λ (s : ℤ) (g : Geometry). s) (λ s. each) (pos 0) r)
+members_at each n r = viewed members_of (geometries_at each n r)
 
 -- the body of a collection, over the reader of a member
 abbrev pub collection_at : Reader Geometry → Bool → Reader Body

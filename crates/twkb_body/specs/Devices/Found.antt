@@ -28,7 +28,8 @@ size_judged (Some size) stop = false_at (size.value == stop - size.after) size.o
 abbrev pub box_judged : Bool → Header → Option BoxField → Reach → Refused
 box_judged tight h None reach = None
 box_judged tight h (Some field) reach =
-    first (false_at (is_within reach field.bounds) field.offset 7) (cond tight (false_at (is_tight h.xy h.z h.m field.bounds reach) field.offset 9) None)
+    first (false_at (is_within reach field.bounds) field.offset 7)
+    (cond tight (false_at (is_tight h.xy h.z h.m field.bounds reach) field.offset 9) None)
 
 -- this was found of the geometry between two places, and it has no more vertices than bytes
 pub record IsFound (tight : Bool) (g : Geometry) (start stop : ℕ) (f : Found) : Type 0 where

@@ -11,12 +11,15 @@ use Rattle.twkb_body.specs.Devices.Found.{named}
 
 -- there are this many ids, and the bytes begin with seventeen of them
 abbrev pub HasManyIds : ℕ → List ℕ → Type 0
-HasManyIds count bytes = (17 ≤ count) × ((ids : List ℤ) × (front : List ℕ) × (behind : List ℕ) × (bytes ≡ front ++ behind) × Times 17 IsSigned ids front)
+HasManyIds count bytes = (17 ≤ count)
+    × ((ids : List ℤ) × (front : List ℕ) × (behind : List ℕ) × (bytes ≡ front ++ behind) × Times 17 IsSigned ids front)
 
 -- ids are announced, and the bytes begin with a count and seventeen ids
 abbrev pub HasManyIdsAfterCount : Bool → List ℕ → Type 0
 HasManyIdsAfterCount has_ids bytes =
-    (has_ids ≡ true) × ((n : ℕ) × (count : List ℕ) × (behind : List ℕ) × (bytes ≡ count ++ behind) × Spells count n × HasManyIds n behind)
+    (has_ids ≡ true)
+    × ((n : ℕ) × (count : List ℕ) × (behind : List ℕ)
+    × (bytes ≡ count ++ behind) × Spells count n × HasManyIds n behind)
 
 -- the code found this of the count and the ids between two readings
 pub record IsListFound (old new : Reading) (head : ListHead) (list : ListFound) : Type 0 where

@@ -2,6 +2,7 @@
 -- What was found in the body of a geometry.
 use Rattle.std.specs.Prelude.{◌≡◌, ℕ, ◌+◌, ◌≤◌, Bool, length, map, fold, Option, None}
 use Rattle.twkb_head.specs.declared.header.Head.{Head}
+use Rattle.twkb_head.specs.BegunHeader.{is_collection}
 use Rattle.twkb_head.specs.declared.header.BoxField.{BoxField}
 use Rattle.twkb_head.specs.declared.boxes.Vertex.{Vertex}
 use Rattle.twkb_head.specs.Header.{Header, is_multi}
@@ -9,20 +10,37 @@ use Rattle.twkb_head.specs.Shared.Reader.{Reader}
 use Rattle.twkb_body.specs.declared.inside.Inside.{Inside}
 use Rattle.twkb_body.specs.declared.seen.Seen.{Seen}
 use Rattle.twkb_body.specs.Geometry.{vertex_of, points_of}
-use Rattle.twkb_body.specs.Extent.{reach_of, both}
+use Rattle.twkb_body.specs.Extent.{reach_of, both, Reach}
 use Rattle.twkb_body.specs.Devices.Body.{Body}
-use Rattle.twkb_body.specs.Devices.BodyReader.{shape_at}
+use Rattle.twkb_body.specs.Devices.BodyReader.{shape_at, body_at, members_under}
 use Rattle.twkb_body.specs.Devices.Pass.{Summary, MemberSums, ids_refused}
 use Rattle.twkb_body.specs.Devices.Found.{named, box_judged}
 use Rattle.twkb_body.specs.Devices.Seen.{HasSeen}
 
 -- the header of a head, without its size and its box, on which the body doesn't depend
 abbrev pub of_head : Head → Header
-of_head head = record { kind = head.kind; xy = head.xy; z = head.z; m = head.m; size = None; box = None; ids = head.ids; empty = head.empty }
+of_head head = record {
+  kind = head.kind;
+  xy = head.xy;
+  z = head.z;
+  m = head.m;
+  size = None;
+  box = None;
+  ids = head.ids;
+  empty = head.empty;
+}
 
 -- the body after a header whose kind is no collection
 abbrev pub shape_behind : Head → Reader Body
 shape_behind head = shape_at (is_multi head.kind) (of_head head)
+
+-- the body after a header with this many levels below it
+abbrev pub body_behind : ℕ → Head → Reader Body
+body_behind levels head = body_at head.empty (is_collection head.kind) (of_head head) (members_under levels)
+
+-- the ranges of the points of a body and of other vertices, together
+abbrev pub reach_with : Header → Body → Reach → Reach
+reach_with h body below = both (reach_of (map (vertex_of h) (points_of body.polygons))) below
 
 -- the state after the points of a body are shown as vertices, one after another
 abbrev pub shown_all : {S : Type 0} → (S → Vertex → S) → Head → Body → S → S
@@ -30,12 +48,13 @@ shown_all step head body state = fold step state (map (vertex_of (of_head head))
 
 -- This was found of the body between two places: the vertices of its own points and of its members, and the claims of the
 -- members. The box is judged by all these vertices, the boxes above see them, and there are no more of them than bytes.
-pub record IsInside (tight : Bool) (h : Header) (bounds : Option BoxField) (body : Body) (start stop : ℕ) (above after : Seen) (inside : Inside) : Type 0 where
+pub record IsInside (tight : Bool) (h : Header) (bounds : Option BoxField) (body : Body) (start stop : ℕ)
+    (above after : Seen) (inside : Inside) : Type 0 where
   pub below : Summary
   pub members : MemberSums tight body.members (start + body.list) below
   pub vertices : inside.found.vertices ≡ length (points_of body.polygons) + below.count
-  pub boxed : named inside.boxed ≡ box_judged tight h bounds (both (reach_of (map (vertex_of h) (points_of body.polygons))) below.reach)
-  pub seen : HasSeen above after (both (reach_of (map (vertex_of h) (points_of body.polygons))) below.reach)
+  pub boxed : named inside.boxed ≡ box_judged tight h bounds (reach_with h body below.reach)
+  pub seen : HasSeen above after (reach_with h body below.reach)
   pub refused : named inside.found.refused ≡ below.refused
   pub ids : named inside.ids ≡ ids_refused (start + body.count) body.ids
   pub few : inside.found.vertices + start ≤ stop

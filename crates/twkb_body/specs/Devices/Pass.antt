@@ -59,7 +59,8 @@ covers (Some span) (Some range) = int_le span.lo range.lo && int_le range.hi spa
 
 -- whether a box holds the reach
 abbrev pub is_within : Reach → Bounds → Bool
-is_within reach box = covers (Some box.x) reach.x && (covers (Some box.y) reach.y && (covers box.z reach.z && covers box.m reach.m))
+is_within reach box =
+    covers (Some box.x) reach.x && (covers (Some box.y) reach.y && (covers box.z reach.z && covers box.m reach.m))
 
 -- whether neither end of a span is a step or more beyond the range, if there is one
 abbrev pub hugs : Span → ℤ → Option Span → Bool

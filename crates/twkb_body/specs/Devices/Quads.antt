@@ -5,6 +5,7 @@ use Rattle.std.specs.Int.{w32, cast_unsigned}
 use Rattle.twkb_num.specs.Cursor.{Reading, passed, IsMoved}
 use Rattle.twkb_num.specs.Varint.{SpellsTwoSigned, IsShort}
 use Rattle.twkb_head.specs.Shared.Reader.{signed_at}
+use Rattle.twkb_body.specs.declared.quads.Step.{Step}
 use Rattle.twkb_body.specs.Devices.Boxed.{reaches}
 
 -- two distances in lanes, in two's complement, twice
@@ -42,7 +43,8 @@ pub record HaveReached (w h x y : ℤ) (differences : List (ℤ × ℤ)) (at : L
 -- These differences were read, one pair after another, and each is short.
 abbrev pub ReadsPairs : List (ℤ × ℤ) → Reading → Reading → Type 0
 ReadsPairs [] old new = new ≡ old
-ReadsPairs (d ∷ ds) old new = (middle : Reading) × SpellsTwoSigned (passed old middle) d.0 d.1 × IsMoved old middle × IsShort d.0 × IsShort d.1 × ReadsPairs ds middle new
+ReadsPairs (d ∷ ds) old new = (middle : Reading) × SpellsTwoSigned (passed old middle) d.0 d.1 × IsMoved old middle
+    × IsShort d.0 × IsShort d.1 × ReadsPairs ds middle new
 
 -- This many points were read, four at most, from these distances on.
 pub record IsQuadStep (w h x y : ℤ) (old new : Reading) (points : ℕ) (at : List ℕ) (inside : Bool) : Type 0 where
@@ -52,9 +54,17 @@ pub record IsQuadStep (w h x y : ℤ) (old new : Reading) (points : ℕ) (at : L
   pub read : ReadsPairs differences old new
   pub reached : HaveReached w h x y differences at inside
 
+-- From whatever distances and extents these lanes hold, some points were read (`IsQuadStep`).
+abbrev pub StepsInLanes : List ℕ → List ℕ → Reading → Reading → Step → Type 0
+StepsInLanes at extent old new step = (x y w h : ℤ) → at ≡ lanes_at x y → extent ≡ lanes_at w h
+    → IsInLane x → IsInLane y → IsLaneExtent w → IsLaneExtent h
+    → IsQuadStep w h x y old new step.points step.reached.at step.reached.inside
+
 -- Two numbers lead from a distance to lanes, and the extents hold the point; or, if two numbers can be read there, they don't.
 abbrev pub IsFarStep : ℤ → ℤ → ℤ → ℤ → Reading → Reading → List ℕ → Bool → Type 0
-IsFarStep w h x y old new at true = (a b : ℤ) × (middle : Reading) × (signed_at old ≡ (Ok a, middle)) × (signed_at middle ≡ (Ok b, new))
+IsFarStep w h x y old new at true = (a b : ℤ) × (middle : Reading)
+    × (signed_at old ≡ (Ok a, middle)) × (signed_at middle ≡ (Ok b, new))
     × (at ≡ lanes_at (x +ℤ a) (y +ℤ b)) × ((reaches w (x +ℤ a) && reaches h (y +ℤ b)) ≡ true)
 IsFarStep w h x y old new at false = (new.bytes ≡ old.bytes)
-    × ((a b : ℤ) (middle stop : Reading) → signed_at old ≡ (Ok a, middle) → signed_at middle ≡ (Ok b, stop) → (reaches w (x +ℤ a) && reaches h (y +ℤ b)) ≡ false)
+    × ((a b : ℤ) (middle stop : Reading) → signed_at old ≡ (Ok a, middle) → signed_at middle ≡ (Ok b, stop)
+    → (reaches w (x +ℤ a) && reaches h (y +ℤ b)) ≡ false)

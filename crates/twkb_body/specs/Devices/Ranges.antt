@@ -43,4 +43,5 @@ widened h reach point = both reach (reach_of (raw_of h point ∷ []))
 
 -- a reach of raw coordinates in units, by the precisions of a header
 abbrev pub reach_in_units : ℤ → Option ℕ → Option ℕ → Reach → Reach
-reach_in_units xy z m raw = record { x = scaled xy raw.x; y = scaled xy raw.y; z = scaled_if z raw.z; m = scaled_if m raw.m }
+reach_in_units xy z m raw =
+    record { x = scaled xy raw.x; y = scaled xy raw.y; z = scaled_if z raw.z; m = scaled_if m raw.m }

@@ -47,7 +47,8 @@ hop_of skips (Some size) None = None
 hop_of skips (Some size) (Some box) = cond (skips box.bounds) (Some (size.after + size.value)) None
 
 -- One step was made into a geometry: only the members `below` are left of it.
-pub record Entered {S : Type 0} (step : S → Vertex → S) (skips : S → Bounds → Bool) (g : Geometry) (depth : ℕ) (old new : Config S) (members : ℕ) : Type 0 where
+pub record Entered {S : Type 0} (step : S → Vertex → S) (skips : S → Bounds → Bool) (g : Geometry) (depth : ℕ)
+    (old new : Config S) (members : ℕ) : Type 0 where
   pub below : Members
   pub count : members ≡ member_count below
   pub deep : 0 < members → suc depth ≤ deepest
@@ -76,11 +77,22 @@ flat_axes xy = record { xy = xy; z = None; m = None }
 
 -- a header of a geometry that isn't empty
 abbrev pub full_head : Kind → Axes → Bool → Option SizeField → Option BoxField → ℕ → ℕ → Head
-full_head kind axes ids size bounds start stop =
-    record { kind = kind; xy = axes.xy; z = axes.z; m = axes.m; size = size; bounds = bounds; ids = ids; empty = false; start = start; stop = stop }
+full_head kind axes ids size bounds start stop = record {
+  kind = kind;
+  xy = axes.xy;
+  z = axes.z;
+  m = axes.m;
+  size = size;
+  bounds = bounds;
+  ids = ids;
+  empty = false;
+  start = start;
+  stop = stop;
+}
 
 -- The header of a certified geometry at the place of `before` was read, and the geometry is neither skipped nor empty.
-pub record IsBehind (skips : Bounds → Bool) (kind : Kind) (axes : Axes) (ids : Bool) (now : Reading) (g : Geometry) (depth : ℕ) (before : Reading) : Type 0 where
+pub record IsBehind (skips : Bounds → Bool) (kind : Kind) (axes : Axes) (ids : Bool) (now : Reading)
+    (g : Geometry) (depth : ℕ) (before : Reading) : Type 0 where
   pub size : Option SizeField
   pub bounds : Option BoxField
   pub start : ℕ
@@ -96,6 +108,8 @@ abbrev pub IsThere : (Geometry → ℕ → Reading → Type 0) → Type 0
 IsThere Stands = (g : Geometry) × (depth : ℕ) × (before : Reading) × Stands g depth before
 
 -- one step was made into each certified geometry of which Stands holds
-abbrev pub Enters : {S : Type 0} → (S → Vertex → S) → (S → Bounds → Bool) → (Geometry → ℕ → Reading → Type 0) → S → S → Reading → ℕ → Type 0
-Enters step skips Stands state state' new members = (g : Geometry) (depth : ℕ) (before : Reading) → Stands g depth before
-    → Entered step skips g depth (record { reading = before; state = state }) (record { reading = new; state = state' }) members
+abbrev pub Enters : {S : Type 0} → (S → Vertex → S) → (S → Bounds → Bool) → (Geometry → ℕ → Reading → Type 0)
+    → S → S → Reading → ℕ → Type 0
+Enters step skips Stands state state' new members =
+    (g : Geometry) (depth : ℕ) (before : Reading) → Stands g depth before → Entered step skips g depth
+    (record { reading = before; state = state }) (record { reading = new; state = state' }) members

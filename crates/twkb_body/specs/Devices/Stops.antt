@@ -1,15 +1,15 @@
 -- Devices of proofs: nothing public names them.
 -- The answers of code that reads and may want memory, by the answers of the readers.
-use Rattle.std.specs.Prelude.{◌≡◌, ◌≢◌, ◌↔◌, ℕ, ◌+◌, ◌-◌, ◌<◌, Bool, true, false, IsTrue, ℤ, pos, List, AllPairs, Result, Ok, Err}
+use Rattle.std.specs.Prelude.{◌≡◌, ◌≢◌, ◌↔◌, ℕ, ◌+◌, ◌-◌, ◌<◌, Bool, true, false, IsTrue, List, AllPairs, Result, Ok, Err}
 use Rattle.twkb_num.specs.Cursor.{Reading, rest}
 use Rattle.twkb_head.specs.declared.header.Head.{Head}
-use Rattle.twkb_head.specs.BegunHeader.{deepest}
-use Rattle.twkb_head.specs.Shared.Reader.{Answer, Fails, many_at, signeds_at}
+use Rattle.twkb_head.specs.BegunHeader.{deepest, is_collection}
+use Rattle.twkb_head.specs.Shared.Reader.{Answer, Fails, signeds_at}
 use Rattle.twkb_body.specs.Geometry.{Geometry, vertices}
 use Rattle.twkb_body.specs.Audited.{HasLongList}
 use Rattle.twkb_body.specs.Extent.{reach_of}
 use Rattle.twkb_body.specs.Devices.Body.{ListHead, Body}
-use Rattle.twkb_body.specs.Devices.BodyReader.{list_at, geometry_at}
+use Rattle.twkb_body.specs.Devices.BodyReader.{list_at, geometries_at, geometry_at}
 use Rattle.twkb_body.specs.Devices.Found.{IsFound}
 use Rattle.twkb_body.specs.Devices.Seen.{HasSeen}
 use Rattle.twkb_body.specs.Devices.Inside.{of_head, IsInside}
@@ -27,25 +27,29 @@ HasStopped answer Wants old (BadField m) new = Fails answer m new
 HasStopped answer Wants old Memory new = (new.bytes ≡ old.bytes) × Wants
 
 -- on Ok the reader gives a value, and Gives relates it to the value of the code; on Err the code stopped
-abbrev pub ReadsOrStops : {A B : Type 0} → Answer A → (A → B → Type 0) → Type 0 → Reading → Result B Stopped → Reading → Type 0
+abbrev pub ReadsOrStops : {A B : Type 0} → Answer A → (A → B → Type 0) → Type 0
+    → Reading → Result B Stopped → Reading → Type 0
 ReadsOrStops {A} answer Gives Wants old (Ok y) new = (x : A) × (answer ≡ (Ok x, new)) × Gives x y
 ReadsOrStops answer Gives Wants old (Err e) new = HasStopped answer Wants old e new
 
 -- `ReadsOrStops` for this many ids, of which the code says whether no two are equal
 abbrev pub ReadsIds : ℕ → Reading → Result Bool Stopped → Reading → Type 0
 ReadsIds count old result new =
-    ReadsOrStops (signeds_at count old) (λ ids distinct. IsTrue distinct ↔ AllPairs (λ a b. a ≢ b) ids) (HasManyIds count (rest old)) old result new
+    ReadsOrStops (signeds_at count old) (λ ids distinct. IsTrue distinct ↔ AllPairs (λ a b. a ≢ b) ids)
+    (HasManyIds count (rest old)) old result new
 
 -- `ReadsOrStops` for a list: its count, and its ids if they are announced
 abbrev pub ReadsList : Answer ListHead → Bool → Reading → Result ListFound Stopped → Reading → Type 0
 ReadsList answer has_ids old result new =
-    ReadsOrStops answer (λ head list. IsListFound old new head list) (HasManyIdsAfterCount has_ids (rest old)) old result new
+    ReadsOrStops answer (IsListFound old new) (HasManyIdsAfterCount has_ids (rest old)) old result new
 
 -- `ReadsOrStops` for a body, of which the code says what was found inside
-abbrev pub ReadsInside : Bool → Head → Answer Body → Type 0 → Seen → Seen → Reading → Result Inside Stopped → Reading → Type 0
+abbrev pub ReadsInside : Bool → Head → Answer Body → Type 0 → Seen → Seen
+    → Reading → Result Inside Stopped → Reading → Type 0
 ReadsInside tight head answer Wants above after old result new =
     ReadsOrStops answer
-    (λ body inside. IsInside tight (of_head head) head.bounds body old.place new.place above after inside) Wants old result new
+    (λ body inside. IsInside tight (of_head head) head.bounds body old.place new.place above after inside)
+    Wants old result new
 
 -- `ReadsOrStops` for a whole geometry at a depth
 abbrev pub ReadsGeometry : Bool → ℕ → Seen → Seen → Reading → Result Found Stopped → Reading → Type 0
@@ -58,10 +62,16 @@ ReadsGeometry tight depth above after old result new =
 -- or for the ids of a list in a member, after the members that were read.
 pub data WantsInside (depth levels : ℕ) (ids : Bool) (r : Reading) : Type 0 where
   own_ids : HasManyIdsAfterCount ids (rest r) → WantsInside depth levels ids r
-  member_ids : (list : ListHead) (mid new : Reading) (i : ℕ) (gs : List Geometry) → list_at ids r ≡ (Ok list, mid) → i < (list.0).0
-      → many_at i (λ (s : ℤ) (g : Geometry). s) (λ s. geometry_at levels) (pos 0) mid ≡ (Ok gs, new) → HasLongList (depth + 1) (rest new) → WantsInside depth levels ids r
+  member_ids : (list : ListHead) (mid new : Reading) (i : ℕ) (gs : List Geometry)
+      → list_at ids r ≡ (Ok list, mid) → i < (list.0).0
+      → geometries_at (geometry_at levels) i mid ≡ (Ok gs, new) → HasLongList (depth + 1) (rest new)
+      → WantsInside depth levels ids r
 
 -- why memory was wanted in a body: of another kind, for its ids; of a collection, for its ids or in a member
 abbrev pub WantsIn : Bool → Bool → ℕ → Bool → Reading → Type 0
 WantsIn false empty depth ids old = HasManyIdsAfterCount ids (rest old)
 WantsIn true empty depth ids old = (empty ≡ false) × WantsInside depth (deepest - (depth + 1)) ids old
+
+-- why memory was wanted in the body after a header at a depth
+abbrev pub WantsBehind : ℕ → Head → Reading → Type 0
+WantsBehind depth head old = WantsIn (is_collection head.kind) head.empty depth head.ids old

@@ -1,8 +1,7 @@
 -- Devices of proofs: nothing public names them.
 -- The first reading: what it certifies, and what it refuses.
-use Rattle.std.specs.Prelude.{◌≡◌, ◌≢◌, ℕ, ◌+◌, ◌-◌, ◌≤◌, ◌+ℤ◌, ◌≤ℤ◌, Bool, false, List, [], ◌++◌, map, Option, Some, None, Result, Ok, Err, All, AllPairs, IfSome, true, ⊤, is_some, ◌||◌, ◌⊎◌, option_map, ℤ}
-use Rattle.twkb_num.specs.Cursor.{Reading, rest}
-use Rattle.twkb_num.specs.Units.{IsPrecision}
+use Rattle.std.specs.Prelude.{◌≡◌, ◌≢◌, ℕ, ◌+◌, ◌-◌, ◌+ℤ◌, ◌≤ℤ◌, Bool, false, List, [], ◌∷◌, ◌++◌, map, Option, Some, None, Result, Ok, Err, All, AllPairs, IfSome, true, ⊤, is_some, ◌||◌, ◌⊎◌, option_map, ℤ}
+use Rattle.twkb_num.specs.Cursor.{Reading, rest, passed, IsMoved, IsSound}
 use Rattle.twkb_head.specs.declared.header.Head.{Head}
 use Rattle.twkb_head.specs.declared.kinds.Kind.{Kind}
 use Rattle.twkb_head.specs.declared.boxes.Bounds.{Bounds}
@@ -28,15 +27,15 @@ use Rattle.twkb_body.specs.declared.doubt.Doubt.{Doubt}
 use Rattle.twkb_body.specs.declared.doubt.Doubt.TheVariants.{Refused, Memory}
 use Rattle.twkb_body.specs.Devices.Boxed.{Held, held_then, IsNearRange, IsNearBox}
 use Rattle.twkb_body.specs.Devices.Body.{Body, ListHead, ring_sums, zeros}
-use Rattle.twkb_body.specs.Devices.BodyReader.{part_at, count_at, body_at, geometry_at, members_under}
+use Rattle.twkb_body.specs.Devices.BodyReader.{part_at, count_at, geometry_at}
 use Rattle.twkb_body.specs.Extent.{reach_of}
 use Rattle.twkb_body.specs.Devices.Found.{size_judged, IsFound}
 use Rattle.twkb_body.specs.declared.stopped.Stopped.{Stopped}
 use Rattle.twkb_body.specs.declared.stopped.Stopped.TheVariants.{Malformed as BadField, Memory as NoMemory}
 use Rattle.twkb_body.specs.Devices.IdLists.{IsListFound, HasManyIdsAfterCount}
-use Rattle.twkb_body.specs.Devices.Inside.{of_head, IsInside}
-use Rattle.twkb_body.specs.Devices.Stops.{WantsIn}
-use Rattle.twkb_body.specs.Devices.Walk.{no_points, IsWalked}
+use Rattle.twkb_body.specs.Devices.Inside.{of_head, IsInside, body_behind}
+use Rattle.twkb_body.specs.Devices.Stops.{WantsBehind}
+use Rattle.twkb_body.specs.Devices.Walk.{ArePrecisions, no_points, IsWalked}
 
 -- this many vertices were found, and no false claim
 abbrev pub faultless : ℕ → Found
@@ -47,7 +46,8 @@ abbrev pub unseen : Seen
 unseen = record { asked = false; extent = reach_of [] }
 
 -- `count` parts of this kind were read, and their points, `vertices` in all, were added to a state.
-pub record ReadParts {S : Type 0} (step : S → PointValue → S) (kind : Kind) (axes count : ℕ) (old new : Reading) (state state' : S) (vertices : ℕ) : Type 0 where
+pub record ReadParts {S : Type 0} (step : S → PointValue → S) (kind : Kind) (axes count : ℕ)
+    (old new : Reading) (state state' : S) (vertices : ℕ) : Type 0 where
   pub parts : List PolygonValue
   pub after : Trail
   pub read : many_at count ring_sums (part_at kind axes) zeros old ≡ (Ok parts, new)
@@ -56,12 +56,15 @@ pub record ReadParts {S : Type 0} (step : S → PointValue → S) (kind : Kind) 
 
 -- the parts can't be read
 abbrev pub AreMalformed : Kind → ℕ → ℕ → Reading → Reading → Type 0
-AreMalformed kind axes count old new = (m : Malformed) × Fails (many_at count ring_sums (part_at kind axes) zeros old) m new
+AreMalformed kind axes count old new =
+    (m : Malformed) × Fails (many_at count ring_sums (part_at kind axes) zeros old) m new
 
 -- The parts were read. The box holds all their points if `all` is true, and not all if it is false.
 abbrev pub AreHeld : Bool → Kind → ℕ → ℕ → RawBox → Reading → Reading → ℕ → Type 0
 AreHeld all kind axes count box old new vertices =
-    (held : Held) × ReadParts (held_then axes) kind axes count old new (record { box = box; inside = true }) held vertices × (held.inside ≡ all)
+    (held : Held)
+    × ReadParts (held_then axes) kind axes count old new (record { box = box; inside = true }) held vertices
+    × (held.inside ≡ all)
 
 abbrev pub frame_bounds : Frame → Bounds
 frame_bounds frame = raw_bounds frame.xy frame.z frame.m frame.bounds
@@ -95,13 +98,14 @@ framed head box = record { xy = head.xy; z = head.z; m = head.m; bounds = box }
 abbrev pub has_further : Option ℕ → Option ℕ → Bool
 has_further z m = is_some z || is_some m
 
--- the numbers of a frame are near, in the axes that there are
+-- the numbers of a box are near, in the axes that there are
 pub record IsNear (z m : Option ℕ) (box : RawBox) : Type 0 where
   pub flat : IsNearBox box
   pub further : has_further z m ≡ true → IsNearRange box.third × IsNearRange box.fourth
 
+-- the numbers of a frame are near, in the axes that there are, and its precisions lie in their ranges
 abbrev pub IsNearFrame : Frame → Type 0
-IsNearFrame frame = IsNear frame.z frame.m frame.bounds × (IsPrecision frame.xy × IfSome frame.z (λ p. p ≤ 7) × IfSome frame.m (λ p. p ≤ 7))
+IsNearFrame frame = IsNear frame.z frame.m frame.bounds × ArePrecisions frame.xy frame.z frame.m
 
 -- the frame is near (`IsNearFrame`) and has the precisions of a header
 abbrev pub IsFramed : Head → Frame → Type 0
@@ -119,11 +123,18 @@ pub record IsFrameUnder (above : Option Frame) (head : Head) (own frame : Option
 abbrev pub body_vertices : Header → Body → List Vertex
 body_vertices h body = map (vertex_of h) (points_of body.polygons) ++ member_vertices body.members
 
+-- The body between two readings has this many vertices, and no claim inside is false.
+abbrev pub IsFaultless : Head → Body → Reading → Reading → ℕ → Type 0
+IsFaultless head body old new vertices =
+    IsInside false (of_head head) None body old.place new.place unseen unseen
+    (record { found = faultless vertices; boxed = None; ids = None })
+
 -- After a header with this many levels below it a body was read that has no false claim, and whose vertices the frame holds.
-pub record IsSureBody (levels : ℕ) (head : Head) (frame : Option Frame) (old new : Reading) (vertices : ℕ) : Type 0 where
+pub record IsSureBody (levels : ℕ) (head : Head) (frame : Option Frame) (old new : Reading) (vertices : ℕ)
+    : Type 0 where
   pub body : Body
-  pub read : body_at head.empty (is_collection head.kind) (of_head head) (members_under levels) old ≡ (Ok body, new)
-  pub inside : IsInside false (of_head head) None body old.place new.place unseen unseen (record { found = faultless vertices; boxed = None; ids = None })
+  pub read : body_behind levels head old ≡ (Ok body, new)
+  pub inside : IsFaultless head body old new vertices
   pub held : IsHeldBy frame (body_vertices (of_head head) body)
 
 -- A geometry with this many levels below it was read that has no false claim, and whose vertices the frame above holds.
@@ -136,18 +147,19 @@ pub record IsSure (levels : ℕ) (above : Option Frame) (old new : Reading) (ver
 -- ---- where it isn't sure
 -- the claims inside a body that begins at start are true: the claim of its ids, and the claims of its members
 abbrev pub IsTrueInside : Body → ℕ → Type 0
-IsTrueInside body start = IfSome body.ids (λ ids. AllPairs (λ a b. a ≢ b) ids) × All IsTrueClaim (member_claims body.members (start + body.list))
+IsTrueInside body start = IfSome body.ids (λ ids. AllPairs (λ a b. a ≢ b) ids)
+    × All IsTrueClaim (member_claims body.members (start + body.list))
 
 -- If a body can be read there at all, a claim inside is false, or the frame doesn't hold a vertex.
 abbrev pub IsRefutedBody : ℕ → Head → Option Frame → Reading → Type 0
 IsRefutedBody levels head frame old = (body : Body) (new : Reading)
-    → body_at head.empty (is_collection head.kind) (of_head head) (members_under levels) old ≡ (Ok body, new)
+    → body_behind levels head old ≡ (Ok body, new)
     → IsTrueInside body old.place → IsHeldBy frame (body_vertices (of_head head) body) → ⊥
 
 -- If a body can be read after a header, a claim inside, the size or the box is false, or the frame above doesn't hold a vertex.
 abbrev pub IsRefutedBehind : ℕ → Head → Option Frame → Reading → Type 0
 IsRefutedBehind levels head above old = (body : Body) (new : Reading)
-    → body_at head.empty (is_collection head.kind) (of_head head) (members_under levels) old ≡ (Ok body, new)
+    → body_behind levels head old ≡ (Ok body, new)
     → IsTrueInside body old.place → size_judged head.size new.place ≡ None
     → IfSome head.bounds (λ field. All (Holds field.bounds) (body_vertices (of_head head) body))
     → IsHeldBy above (body_vertices (of_head head) body) → ⊥
@@ -175,12 +187,25 @@ IsSureOr Sure Refuted Wants old (Err doubt) new = HasDoubt Refuted Wants old dou
 -- on Ok a body after a header at a depth is sure; on Err there is the doubt
 abbrev pub CertifiesBody : ℕ → Head → Option Frame → Reading → Result ℕ Doubt → Reading → Type 0
 CertifiesBody depth head frame old result new =
-    IsSureOr (IsSureBody (deepest - depth) head frame old new) (IsRefutedBody (deepest - depth) head frame old) (WantsIn (is_collection head.kind) head.empty depth head.ids old) old result new
+    IsSureOr (IsSureBody (deepest - depth) head frame old new) (IsRefutedBody (deepest - depth) head frame old)
+    (WantsBehind depth head old) old result new
 
 -- on Ok a whole geometry at a depth is sure; on Err there is the doubt
 abbrev pub Certifies : ℕ → Option Frame → Reading → Result ℕ Doubt → Reading → Type 0
 Certifies depth above old result new =
-    IsSureOr (IsSure (deepest - depth) above old new) (IsRefuted (deepest - depth) above old) (HasLongList depth (rest old)) old result new
+    IsSureOr (IsSure (deepest - depth) above old new) (IsRefuted (deepest - depth) above old)
+    (HasLongList depth (rest old)) old result new
+
+-- Two bytes were read, the second of them for metadata, from where a reading was sound.
+pub record HasReadTwo (before : Reading) (first metadata : ℕ) (now : Reading) : Type 0 where
+  pub sound : IsSound before
+  pub moved : IsMoved before now
+  pub bytes : passed before now ≡ first ∷ metadata ∷ []
+
+-- `Certifies`, of a geometry whose first two bytes were read before
+abbrev pub CertifiesAfterTwo : ℕ → Option Frame → ℕ → ℕ → Reading → Result ℕ Doubt → Reading → Type 0
+CertifiesAfterTwo depth above first metadata now result new =
+    (before : Reading) → HasReadTwo before first metadata now → Certifies depth above before result new
 
 -- on Ok the size is true of a geometry that ends at stop; on Err the size is false
 abbrev pub IsJudged : Head → ℕ → ℕ → Result ℕ Doubt → Type 0
@@ -188,38 +213,54 @@ IsJudged head stop vertices (Ok counted) = (counted ≡ vertices) × (size_judge
 IsJudged head stop vertices (Err doubt) = (doubt ≡ Refused) × ((f : ℕ × ℕ) × (size_judged head.size stop ≡ Some f))
 
 -- After a header a body was read that has no false claim, and whose vertices the header's box and the frame above hold.
-pub record IsSureBehind (levels : ℕ) (head : Head) (above : Option Frame) (old new : Reading) (vertices : ℕ) : Type 0 where
+pub record IsSureBehind (levels : ℕ) (head : Head) (above : Option Frame) (old new : Reading) (vertices : ℕ)
+    : Type 0 where
   pub body : Body
-  pub read : body_at head.empty (is_collection head.kind) (of_head head) (members_under levels) old ≡ (Ok body, new)
-  pub inside : IsInside false (of_head head) None body old.place new.place unseen unseen (record { found = faultless vertices; boxed = None; ids = None })
+  pub read : body_behind levels head old ≡ (Ok body, new)
+  pub inside : IsFaultless head body old new vertices
   pub boxed : IfSome head.bounds (λ field. All (Holds field.bounds) (body_vertices (of_head head) body))
   pub held : IsHeldBy above (body_vertices (of_head head) body)
 
 -- on Ok a body after a header at a depth is sure, with the header's box; on Err there is the doubt
 abbrev pub CertifiesBehind : ℕ → Head → Option Frame → Reading → Result ℕ Doubt → Reading → Type 0
 CertifiesBehind depth head above old result new =
-    IsSureOr (IsSureBehind (deepest - depth) head above old new) (IsRefutedBehind (deepest - depth) head above old) (WantsIn (is_collection head.kind) head.empty depth head.ids old) old result new
+    IsSureOr (IsSureBehind (deepest - depth) head above old new) (IsRefutedBehind (deepest - depth) head above old)
+    (WantsBehind depth head old) old result new
 
 -- the count of parts can't be read, or its ids aren't distinct
 abbrev pub IsWrongCount : Bool → Bool → Reading → Reading → Type 0
 IsWrongCount multi ids old new = ((m : Malformed) × Fails (count_at multi ids old) m new)
-    ⊎ ((list : ListHead) × (found : ListFound) × (f : FalseClaim) × (count_at multi ids old ≡ (Ok list, new)) × IsListFound old new list found × (found.ids ≡ Some f))
+    ⊎ ((list : ListHead) × (found : ListFound) × (f : FalseClaim)
+    × (count_at multi ids old ≡ (Ok list, new)) × IsListFound old new list found × (found.ids ≡ Some f))
 
 -- the count of parts was read, and the ids are distinct
 abbrev pub IsCounted : Bool → Bool → Reading → Reading → ℕ → Type 0
-IsCounted multi ids old new count = (list : ListHead) × (count_at multi ids old ≡ (Ok list, new)) × IsListFound old new list (record { count = count; ids = None })
+IsCounted multi ids old new count = (list : ListHead)
+    × (count_at multi ids old ≡ (Ok list, new)) × IsListFound old new list (record { count = count; ids = None })
 
+-- on Ok the count of parts was read; on Err there is the doubt
 abbrev pub CountsParts : Bool → Bool → Reading → Result ℕ Doubt → Reading → Type 0
-CountsParts multi ids old result new = IsSureOr (IsCounted multi ids old new) (IsWrongCount multi ids old new) (HasManyIdsAfterCount ids (rest old)) old result new
+CountsParts multi ids old result new =
+    IsSureOr (IsCounted multi ids old new) (IsWrongCount multi ids old new)
+    (HasManyIdsAfterCount ids (rest old)) old result new
+
+-- The header is of a geometry that has a body and is no collection, and the frame, if there is one, has its precisions.
+pub record IsShapeHead (head : Head) (frame : Option Frame) : Type 0 where
+  pub full : head.empty ≡ false
+  pub kind : is_collection head.kind ≡ false
+  pub framed : IfSome frame (IsFramed head)
 
 -- on Ok a body that is no collection's is sure; on Err there is the doubt
 abbrev pub CertifiesShape : ℕ → Head → Option Frame → Reading → Result ℕ Doubt → Reading → Type 0
 CertifiesShape levels head frame old result new =
-    IsSureOr (IsSureBody levels head frame old new) (IsRefutedBody levels head frame old) (HasManyIdsAfterCount head.ids (rest old)) old result new
+    IsSureOr (IsSureBody levels head frame old new) (IsRefutedBody levels head frame old)
+    (HasManyIdsAfterCount head.ids (rest old)) old result new
 
 -- a header that isn't empty says this, apart from its size, and its box is these raw numbers in units
-pub record IsApart (head : Head) (kind : Kind) (xy : ℤ) (z m : Option ℕ) (ids : Bool) (box : Option RawBox) : Type 0 where
-  pub same : of_head head ≡ record { kind = kind; xy = xy; z = z; m = m; size = None; box = None; ids = ids; empty = false }
+pub record IsApart (head : Head) (kind : Kind) (xy : ℤ) (z m : Option ℕ) (ids : Bool) (box : Option RawBox)
+    : Type 0 where
+  pub same : of_head head
+      ≡ record { kind = kind; xy = xy; z = z; m = m; size = None; box = None; ids = ids; empty = false }
   pub bounds : option_map (λ field. field.bounds) head.bounds ≡ option_map (raw_bounds xy z m) box
 
 -- of a number of vertices and an end, the number of vertices

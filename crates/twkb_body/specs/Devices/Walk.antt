@@ -1,21 +1,23 @@
 -- Devices of proofs: nothing public names them.
 -- How reading points changes the sums under one header, and the state that the points are added to.
-use Rattle.std.specs.Prelude.{◌≡◌, ℕ, ◌+◌, ◌≤◌, Bool, true, false, List, [], ◌∷◌, length, fold, IfSome, Result, Ok}
+use Rattle.std.specs.Prelude.{◌≡◌, ℕ, ◌+◌, ◌≤◌, Bool, true, false, List, [], ◌∷◌, length, fold, ℤ, Option, Ok}
 use Rattle.twkb_num.specs.Cursor.{Reading}
-use Rattle.twkb_num.specs.Units.{IsPrecision}
 use Rattle.twkb_head.specs.declared.boxes.Vertex.{Vertex}
 use Rattle.twkb_head.specs.declared.header.Head.{Head}
 use Rattle.twkb_head.specs.Header.{Header, axes_with}
-use Rattle.twkb_head.specs.declared.refusal.Malformed.{Malformed}
-use Rattle.twkb_head.specs.Shared.Reader.{Reader, Reads, many_at}
+use Rattle.twkb_head.specs.Shared.Reader.{Reader, many_at}
 use Rattle.twkb_body.specs.declared.trail.Trail.{Trail}
-use Rattle.twkb_body.specs.Geometry.{PointValue, vertex_of}
+use Rattle.twkb_body.specs.Geometry.{PointValue, HavePrecisions, vertex_of}
 use Rattle.twkb_body.specs.Devices.Body.{add, sums, zeros, map_from}
 use Rattle.twkb_body.specs.Devices.BodyReader.{point_at}
 
+-- precisions of X and Y, and of Z and M where there are these, that lie in their ranges
+abbrev pub ArePrecisions : ℤ → Option ℕ → Option ℕ → Type 0
+ArePrecisions xy z m = HavePrecisions (record { xy = xy; z = z; m = m })
+
 -- the precisions of a header lie in their ranges
 abbrev pub HasPrecisions : Head → Type 0
-HasPrecisions head = IsPrecision head.xy × IfSome head.z (λ p. p ≤ 7) × IfSome head.m (λ p. p ≤ 7)
+HasPrecisions head = ArePrecisions head.xy head.z head.m
 
 -- What a pass over the points under a header carries: how many axes they have, and no more points than bytes.
 abbrev pub IsWalk : Head → ℕ → Trail → Reading → Type 0
@@ -40,22 +42,17 @@ shown step h s point = step s (vertex_of h point)
 
 -- From one trail to another these numbers were read, between two places, with at least a byte for each point; and the points
 -- were added, one after another.
-pub record IsWalked {S : Type 0} (step : S → PointValue → S) (axes : ℕ) (old new : Trail) (state state' : S) (start stop : ℕ) (numbers : List PointValue) : Type 0 where
+pub record IsWalked {S : Type 0} (step : S → PointValue → S) (axes : ℕ) (old new : Trail) (state state' : S)
+    (start stop : ℕ) (numbers : List PointValue) : Type 0 where
   pub last : new.last ≡ sums old.last numbers
   pub points : new.points ≡ old.points + length numbers
   pub added : state' ≡ fold step state (lasts_from old.last numbers)
   pub have : HaveAxes axes numbers
   pub ahead : length numbers + start ≤ stop
 
--- From a trail on the reader gives a value, or its fault, and the points in the value were added to a state.
-abbrev pub ReadsPoints : {A B S : Type 0} → (PointValue → Reader A) → (A → List PointValue) → (S → PointValue → S) → ℕ
-    → Trail → Trail → S → S → Reading → Result B Malformed → Reading → Type 0
-ReadsPoints each points_in step axes old new state state' from result to =
-    Reads (each old.last from)
-    (λ x done. IsWalked step axes old new state state' from.place to.place (points_in x)) result to
-
 -- This many points were read, one after another, and added.
-pub record IsRun {S : Type 0} (step : S → PointValue → S) (axes : ℕ) (old new : Trail) (state state' : S) (from to : Reading) (count : ℕ) : Type 0 where
+pub record IsRun {S : Type 0} (step : S → PointValue → S) (axes : ℕ) (old new : Trail) (state state' : S)
+    (from to : Reading) (count : ℕ) : Type 0 where
   pub numbers : List PointValue
   pub many : length numbers ≡ count
   pub read : many_at count add (point_at axes) old.last from ≡ (Ok numbers, to)
@@ -71,21 +68,29 @@ pub record Follows {S : Type 0} (step : S → PointValue → S) (lost : Bool) (t
   pub still : lost ≡ true → IsStill step s
 
 -- The reader gives this value at the reading, from the trail t; it is known without reading.
-pub record IsKnown {A S : Type 0} (each : PointValue → Reader A) (step : S → PointValue → S) (lost : Bool) (trail : Trail) (s : S) (r : Reading) (t : Trail) (x : A) (stop : Reading) : Type 0 where
+pub record IsKnown {A S : Type 0} (each : PointValue → Reader A) (step : S → PointValue → S) (lost : Bool)
+    (trail : Trail) (s : S) (r : Reading) (t : Trail) (x : A) (stop : Reading) : Type 0 where
   pub read : each t.last r ≡ (Ok x, stop)
   pub follows : Follows step lost trail t s
   pub counted : t.points ≤ r.place
 
 -- The points of a value that is known (`IsKnown`) were shown, and the place is after it.
-pub record AreShown {A S : Type 0} (points_in : A → List PointValue) (step : S → PointValue → S) (axes : ℕ) (lost : Bool) (trail : Trail) (s s' : S) (r new : Reading) (t : Trail) (x : A) (stop : Reading) : Type 0 where
+pub record AreShown {A S : Type 0} (points_in : A → List PointValue) (step : S → PointValue → S) (axes : ℕ)
+    (lost : Bool) (trail : Trail) (s s' : S) (r new : Reading) (t : Trail) (x : A) (stop : Reading) : Type 0 where
   pub there : new ≡ stop
   pub after : Trail
   pub walked : IsWalked step axes t after s s' r.place new.place (points_in x)
   pub follows : Follows step lost trail after s'
 
-abbrev pub StandsThere : {A S : Type 0} → (PointValue → Reader A) → (S → PointValue → S) → Bool → Trail → S → Reading → Type 0
-StandsThere {A} each step lost trail s r = (t : Trail) × (x : A) × (stop : Reading) × IsKnown each step lost trail s r t x stop
+-- the reader gives a value that is known (`IsKnown`)
+abbrev pub StandsThere : {A S : Type 0} → (PointValue → Reader A) → (S → PointValue → S)
+    → Bool → Trail → S → Reading → Type 0
+StandsThere {A} each step lost trail s r =
+    (t : Trail) × (x : A) × (stop : Reading) × IsKnown each step lost trail s r t x stop
 
-abbrev pub ShowsIt : {A S : Type 0} → (PointValue → Reader A) → (A → List PointValue) → (S → PointValue → S) → ℕ → Bool → Bool → Trail → Trail → S → S → Reading → Reading → Type 0
+-- the points of each value that is known (`IsKnown`) were shown
+abbrev pub ShowsIt : {A S : Type 0} → (PointValue → Reader A) → (A → List PointValue) → (S → PointValue → S) → ℕ
+    → Bool → Bool → Trail → Trail → S → S → Reading → Reading → Type 0
 ShowsIt {A} each points_in step axes lost lost' trail trail' s s' r new =
-    (t : Trail) (x : A) (stop : Reading) → IsKnown each step lost trail s r t x stop → AreShown points_in step axes lost' trail' s s' r new t x stop
+    (t : Trail) (x : A) (stop : Reading) → IsKnown each step lost trail s r t x stop
+    → AreShown points_in step axes lost' trail' s s' r new t x stop

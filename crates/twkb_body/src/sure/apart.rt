@@ -7,6 +7,7 @@ ghost use Rattle.twkb_head.specs.declared.header.Head.{Head as HeadOf};
 ghost use Rattle.twkb_head.specs.declared.raw.RawBox.{RawBox as BoxOf};
 ghost use Rattle.twkb_body.specs.declared.doubt.Doubt.TheVariants.{Refused};
 ghost use Rattle.twkb_body.specs.Devices.Sure.{IsNearFrame, IsApart, CertifiesBehind};
+ghost use Rattle.twkb_body.specs.Devices.Walk.{ArePrecisions};
 
 use crate::doubt::Doubt;
 use crate::frame::Frame;
@@ -67,7 +68,7 @@ pub fn take_apart_flat<R: IdRoom>(
 }
 
 /// Reads the body of a geometry whose frame can't be told, as the exact audit does, with its extent. The frame above has to hold
-/// this extent. The caller judges the size. Only the exact audit names places of claims, so the header has zeros for them.
+/// this extent. The caller judges the size.
 #[inline(never)]
 pub fn take_apart<R: IdRoom>(
     room: &mut R,
@@ -83,32 +84,12 @@ pub fn take_apart<R: IdRoom>(
 ) -> Result<usize, Doubt>
     requires shallowest { 1 ≤ depth }
     requires allowed { IsAllowedAt kind depth }
-    requires xy { IsPrecision xy }
-    requires z_high { IfSome z (λ p. p ≤ 7) }
-    requires m_high { IfSome m (λ p. p ≤ 7) }
+    requires precisions { ArePrecisions xy z m }
     requires near { IfSome above.now IsNearFrame }
     ensures { (head : HeadOf) → IsApart head kind xy z m ids bounds.now
         → CertifiesBehind depth head above.now cursor.old result cursor.new }
 {
-    let bounds = match bounds {
-        Some(bounds) => Some(BoxField {
-            bounds: bounds.in_units(Axes { xy, z, m }),
-            offset: 0,
-        }),
-        None => None,
-    };
-    let head = Head {
-        kind,
-        xy,
-        z,
-        m,
-        size: None,
-        bounds,
-        ids,
-        empty: false,
-        start: 0,
-        stop: 0,
-    };
+    let head = head_apart(kind, xy, z, m, ids, bounds);
     let mut seen = Seen::unasked().for_members(above.is_some());
     let inside = take_inside::<R, false>(room, cursor, depth, &head, &mut seen)?;
     if inside.boxed.is_some() || inside.ids.is_some() || inside.found.refused.is_some() {
@@ -120,4 +101,39 @@ pub fn take_apart<R: IdRoom>(
         }
     }
     Ok(inside.found.vertices)
+}
+
+/// The header of a geometry that is read apart. Its size is judged elsewhere, so it has none. Only the exact audit names places of
+/// claims, so it has zeros for them.
+#[inline(always)]
+fn head_apart(
+    kind: Kind,
+    xy: i8,
+    z: Option<u8>,
+    m: Option<u8>,
+    ids: bool,
+    bounds: &Option<RawBox>,
+) -> Head
+    requires precisions { ArePrecisions xy z m }
+    ensures { IsApart result kind xy z m ids bounds.now }
+{
+    let bounds = match bounds {
+        Some(bounds) => Some(BoxField {
+            bounds: bounds.in_units(Axes { xy, z, m }),
+            offset: 0,
+        }),
+        None => None,
+    };
+    Head {
+        kind,
+        xy,
+        z,
+        m,
+        size: None,
+        bounds,
+        ids,
+        empty: false,
+        start: 0,
+        stop: 0,
+    }
 }

@@ -1,8 +1,6 @@
 //! The bodies of geometries that are no collections, in the first reading.
-ghost use Rattle.std.specs.Prelude.{◌≡◌, ℕ, false, true, None, IfSome};
-ghost use Rattle.twkb_head.specs.BegunHeader.{is_collection};
-ghost use Rattle.twkb_body.specs.Devices.Sure.{has_further, IsFramed, CertifiesShape};
-ghost use Rattle.twkb_body.specs.Devices.Walk.{HasPrecisions};
+ghost use Rattle.std.specs.Prelude.{◌≡◌, ℕ, true, None};
+ghost use Rattle.twkb_body.specs.Devices.Sure.{has_further, IsShapeHead, CertifiesShape};
 
 use super::parts::{take_boxed, take_count, take_flat_boxed};
 use super::unboxed::take_unboxed;
@@ -20,10 +18,7 @@ pub fn take_flat_shape<R: IdRoom>(
     head: &Head,
     frame: &Option<Frame>,
 ) -> Result<usize, Doubt>
-    requires precisions { HasPrecisions head.now }
-    requires full { head.now.empty ≡ false }
-    requires kind { is_collection head.now.kind ≡ false }
-    requires frame { IfSome frame.now (IsFramed head.now) }
+    requires shape { IsShapeHead head.now frame.now }
     requires z { head.now.z ≡ None }
     requires m { head.now.m ≡ None }
     ensures { (levels : ℕ) → CertifiesShape levels head.now frame.now cursor.old result cursor.new }
@@ -43,10 +38,7 @@ pub fn take_further_shape<R: IdRoom>(
     head: &Head,
     frame: &Option<Frame>,
 ) -> Result<usize, Doubt>
-    requires precisions { HasPrecisions head.now }
-    requires full { head.now.empty ≡ false }
-    requires kind { is_collection head.now.kind ≡ false }
-    requires frame { IfSome frame.now (IsFramed head.now) }
+    requires shape { IsShapeHead head.now frame.now }
     requires further { has_further head.now.z head.now.m ≡ true }
     ensures { (levels : ℕ) → CertifiesShape levels head.now frame.now cursor.old result cursor.new }
 {

@@ -7,12 +7,12 @@ use Rattle.twkb_head.specs.BegunHeader.{deepest, is_collection, IsAllowedAt}
 use Rattle.twkb_head.specs.Header.{is_multi}
 use Rattle.twkb_head.proofs.HeadBack.{head_value, head_fails}
 use Rattle.twkb_body.specs.Devices.Body.{no_body, members_body, members_of}
-use Rattle.twkb_body.specs.Devices.BodyReader.{list_at, shape_at, body_at, collection_at, geometry_at, members_under}
+use Rattle.twkb_body.specs.Devices.BodyReader.{list_at, shape_at, collection_at, geometry_at, members_under}
 use Rattle.twkb_body.specs.Devices.IdLists.{HasManyIdsAfterCount}
 use Rattle.twkb_body.specs.Devices.Found.{box_judged}
-use Rattle.twkb_body.specs.Devices.Inside.{of_head}
+use Rattle.twkb_body.specs.Devices.Inside.{of_head, body_behind}
 use Rattle.twkb_body.specs.Audited.{HasLongList}
-use Rattle.twkb_body.specs.Devices.Stops.{WantsIn, WantsInside, own_ids, member_ids}
+use Rattle.twkb_body.specs.Devices.Stops.{WantsIn, WantsInside, own_ids, member_ids, WantsBehind}
 use Rattle.twkb_body.proofs.HeadFacts.{head_size}
 use Rattle.twkb_body.proofs.GeometrySteps.{header_fails, body_gives, body_fails, body_of_head, empty_body, shape_body, nothing_inside, geometry_found}
 use Rattle.twkb_body.proofs.MemberSteps.{collection_below, collection_body, long_list_in, members_begin, members_go_on, members_fail, members_end, no_list, no_member, collection_gives, members_inside, member_bytes}
@@ -38,8 +38,8 @@ take_geometry-returns-in_err-inside g t c =
     let ok = c.in_ok-head.ensures in
     let headed = head_value c.args.depth c.requires.shallowest c.requires.deepest _ _ c.in_ok-head.head c.place_is_within.ensures ok.ok ok.moved in
     let body = body_of_head c.in_ok-head.head ok.ok.header _ _ _ _ ok.ok.fields (members_under (deepest - c.args.depth)) c.read_head.new.cursor in
-    rw (p.1, p.2) (stops_outside (body_at c.in_ok-head.head.empty (is_collection c.in_ok-head.head.kind) (of_head c.in_ok-head.head) (members_under (deepest - c.args.depth)) c.read_head.new.cursor) (geometry_at (deepest - c.args.depth) c.args.cursor.now)
-    (WantsIn (is_collection c.in_ok-head.head.kind) c.in_ok-head.head.empty c.args.depth c.in_ok-head.head.ids c.read_head.new.cursor) (HasLongList c.args.depth (rest c.args.cursor.now)) c.read_head.new.cursor c.args.cursor.now _ c.take_inside.new.cursor
+    rw (p.1, p.2) (stops_outside (body_behind (deepest - c.args.depth) c.in_ok-head.head c.read_head.new.cursor) (geometry_at (deepest - c.args.depth) c.args.cursor.now)
+    (WantsBehind c.args.depth c.in_ok-head.head c.read_head.new.cursor) (HasLongList c.args.depth (rest c.args.cursor.now)) c.read_head.new.cursor c.args.cursor.now _ c.take_inside.new.cursor
     (λ m f. body_fails (deepest - c.args.depth) c.args.cursor.now _ _ headed m _ (record { left = f.left; is = sym body ∙ f.is; bytes = f.bytes }))
     (λ bytes wants. (bytes ∙ ok.moved.bytes, long_list_in c.in_ok-head.head c.args.depth _ _ c.requires.shallowest c.place_is_within.ensures ok.ok ok.moved _ refl wants))
     c.in_err-inside.ensures)
@@ -76,8 +76,8 @@ take_inside-returns-then-not-is_collection g t c =
     let head = c.args.head.now in
     let a = c.args.cursor.now in
     let single : is_collection head.kind ≡ false = sym c.is_collection.ensures ∙ c.if-not-is_collection.true in
-    reads_through (not (g.row.TIGHT == 0)) head (shape_at (is_multi head.kind) (of_head head) a) (body_at head.empty (is_collection head.kind) (of_head head) (members_under (deepest - c.args.depth)) a)
-    (HasManyIdsAfterCount head.ids (rest a)) (WantsIn (is_collection head.kind) head.empty c.args.depth head.ids a) c.args.seen.now c.take_shape.new.seen a c.take_shape.new.cursor c.take_shape.result
+    reads_through (not (g.row.TIGHT == 0)) head (shape_at (is_multi head.kind) (of_head head) a) (body_behind (deepest - c.args.depth) head a)
+    (HasManyIdsAfterCount head.ids (rest a)) (WantsBehind c.args.depth head a) c.args.seen.now c.take_shape.new.seen a c.take_shape.new.cursor c.take_shape.result
     (shape_body (of_head head) (members_under (deepest - c.args.depth)) a c.if-head.false single)
     (λ wants. subst (λ (b : Bool). WantsIn b head.empty c.args.depth head.ids a) (sym single) wants) c.take_shape.ensures
 
@@ -94,8 +94,8 @@ take_inside-returns g t c =
     let many : is_collection head.kind ≡ true = sym c.is_collection.ensures ∙ c.if-not-is_collection.false in
     let below = collection_below head.kind c.args.depth c.requires.allowed many in
     let under : deepest - c.args.depth ≡ suc inner = omega (arith, below) in
-    reads_through (not (g.row.TIGHT == 0)) head (collection_at (geometry_at inner) head.ids a) (body_at head.empty (is_collection head.kind) (of_head head) (members_under (deepest - c.args.depth)) a)
-    (WantsInside c.args.depth inner head.ids a) (WantsIn (is_collection head.kind) head.empty c.args.depth head.ids a) c.args.seen.now c.take_members.new.seen a c.take_members.new.cursor c.take_members.result
+    reads_through (not (g.row.TIGHT == 0)) head (collection_at (geometry_at inner) head.ids a) (body_behind (deepest - c.args.depth) head a)
+    (WantsInside c.args.depth inner head.ids a) (WantsBehind c.args.depth head a) c.args.seen.now c.take_members.new.seen a c.take_members.new.cursor c.take_members.result
     (collection_body (deepest - c.args.depth) inner (of_head head) a under c.if-head.false many)
     (λ wants. subst (λ (b : Bool). WantsIn b head.empty c.args.depth head.ids a) (sym many) (c.if-head.false, wants)) c.take_members.ensures
 

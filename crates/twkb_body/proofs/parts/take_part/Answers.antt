@@ -6,12 +6,12 @@ use Rattle.twkb_head.specs.declared.kinds.Kind.{Kind}
 use Rattle.twkb_head.specs.declared.kinds.Kind.TheVariants.{Point, MultiPoint}
 use Rattle.twkb_head.specs.Shared.Reader.{Reader, viewed, many_at}
 use Rattle.twkb_body.specs.Geometry.{PointValue, PolygonValue}
-use Rattle.twkb_body.specs.Devices.Body.{add}
+use Rattle.twkb_body.specs.Devices.Body.{add, part_points}
 use Rattle.twkb_body.specs.Devices.BodyReader.{point_at, ring_at, part_at}
 use Rattle.twkb_body.specs.Devices.PointReader.{HasRead, EndsEarly}
 use Rattle.twkb_body.proofs.PointReads.{made_read, made_ends, ring_alone, point_alone}
 use Rattle.twkb_body.proofs.Showing.{is_points, is_lines, is_polygons}
-use Rattle.twkb_body.proofs.Walks.{ring_points, part_points, walked_none}
+use Rattle.twkb_body.proofs.Walks.{ring_points, walked_none}
 use Rattle.twkb_body.proofs.parts.take_part.Goals as goal
 
 -- a point is a line of one point

@@ -1,12 +1,11 @@
 -- One more part is read at each turn.
 use Rattle.std.proofs.Common.{refl, ◌∙◌, arith}
 use Rattle.std.proofs.lemmas.Result.{err_from_is_err_and}
-use Rattle.twkb_body.specs.Devices.Body.{ring_sums}
+use Rattle.twkb_body.specs.Devices.Body.{ring_sums, part_points}
 use Rattle.twkb_body.specs.Devices.BodyReader.{part_at}
 use Rattle.twkb_body.specs.Devices.PointReader.{on}
 use Rattle.twkb_body.proofs.PointReads.{some_begin, some_ready, some_go_on, some_end, some_fail}
 use Rattle.twkb_body.proofs.Sums.{rings_sums_flat}
-use Rattle.twkb_body.proofs.Walks.{part_points}
 use Rattle.twkb_body.proofs.parts.take_parts.Goals as goal
 
 pub loop-init : goal.loop-init

@@ -1,11 +1,10 @@
 -- The parts so far were read.
 use Rattle.std.proofs.Common.{◌≡◌}
-use Rattle.twkb_body.specs.Devices.Body.{ring_sums}
+use Rattle.twkb_body.specs.Devices.Body.{ring_sums, part_points}
 use Rattle.twkb_body.specs.Devices.BodyReader.{part_at}
 use Rattle.twkb_body.specs.Devices.PointReader.{Stage}
 use Rattle.twkb_body.proofs.PointReads.{HasReadSome}
 use Rattle.twkb_body.proofs.Sums.{rings_sums_flat}
-use Rattle.twkb_body.proofs.Walks.{part_points}
 use Rattle.twkb_body.proofs.parts.take_parts.Given as goal
 
 abbrev pub invariant-loop : goal.invariant-loop

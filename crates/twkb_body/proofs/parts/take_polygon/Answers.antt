@@ -2,12 +2,12 @@
 use Rattle.std.proofs.Common.{ℕ, sym, ap, ◌∙◌, arith}
 use Rattle.std.proofs.lemmas.Result.{err_from_is_err_and}
 use Rattle.twkb_head.specs.Shared.Reader.{Answer}
-use Rattle.twkb_body.specs.Devices.Body.{sums}
+use Rattle.twkb_body.specs.Devices.Body.{sums, part_points}
 use Rattle.twkb_body.specs.Devices.BodyReader.{ring_at}
 use Rattle.twkb_body.specs.Devices.PointReader.{on}
 use Rattle.twkb_body.proofs.Keeping.{keeps_number}
 use Rattle.twkb_body.proofs.PointReads.{counted_read, counted_ends, some_begin, some_ready, some_go_on, some_end, some_fail}
-use Rattle.twkb_body.proofs.Walks.{number_ahead, ring_points, rings_are_sums, part_points}
+use Rattle.twkb_body.proofs.Walks.{number_ahead, ring_points, rings_are_sums}
 use Rattle.twkb_body.proofs.parts.take_polygon.Goals as goal
 
 pub returns-in-Err-clause-bytes : goal.returns-in-Err-clause-bytes

@@ -6,8 +6,8 @@ use Rattle.twkb_body.specs.Geometry.{PointValue, Ring, PolygonValue}
 use Rattle.twkb_body.specs.Devices.BodyReader.{point_at, ring_at}
 use Rattle.twkb_body.specs.Devices.Inside.{of_head}
 use Rattle.twkb_body.specs.Devices.Walk.{StandsThere, ShowsIt, shown}
+use Rattle.twkb_body.specs.Devices.Body.{part_points}
 use Rattle.twkb_body.proofs.Showing.{dressed_stands, dressed_shown, is_points, is_lines, is_polygons}
-use Rattle.twkb_body.proofs.Walks.{part_points}
 use Rattle.twkb_body.proofs.shown.show_part.Goals as goal
 
 pub show_point-requires-clause-known : goal.show_point-requires-clause-known

@@ -1,12 +1,11 @@
 -- Each turn of the loop shows one more part.
 use Rattle.std.proofs.Common.{arith}
-use Rattle.twkb_body.specs.Devices.Body.{ring_sums}
+use Rattle.twkb_body.specs.Devices.Body.{ring_sums, part_points}
 use Rattle.twkb_body.specs.Devices.BodyReader.{part_at}
 use Rattle.twkb_body.specs.Devices.Inside.{of_head}
 use Rattle.twkb_body.specs.Devices.Walk.{shown}
 use Rattle.twkb_body.proofs.Showing.{showing_begins, showing_next, showing_goes_on, showing_ends}
 use Rattle.twkb_body.proofs.Sums.{rings_sums_flat}
-use Rattle.twkb_body.proofs.Walks.{part_points}
 use Rattle.twkb_body.proofs.shown.show_parts.Goals as goal
 
 pub loop-init : goal.loop-init

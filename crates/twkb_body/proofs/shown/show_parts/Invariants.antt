@@ -1,11 +1,10 @@
 -- The parts before the index were shown.
-use Rattle.twkb_body.specs.Devices.Body.{ring_sums}
+use Rattle.twkb_body.specs.Devices.Body.{ring_sums, part_points}
 use Rattle.twkb_body.specs.Devices.BodyReader.{part_at}
 use Rattle.twkb_body.specs.Devices.Inside.{of_head}
 use Rattle.twkb_body.specs.Devices.Walk.{shown}
 use Rattle.twkb_body.proofs.Showing.{IsShowing}
 use Rattle.twkb_body.proofs.Sums.{rings_sums_flat}
-use Rattle.twkb_body.proofs.Walks.{part_points}
 use Rattle.twkb_body.proofs.shown.show_parts.Given as goal
 
 abbrev pub invariant-loop : goal.invariant-loop

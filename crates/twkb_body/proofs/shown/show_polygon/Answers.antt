@@ -2,12 +2,12 @@
 use Rattle.std.proofs.Common.{ℕ, arith}
 use Rattle.twkb_head.specs.Shared.Reader.{many_at}
 use Rattle.twkb_body.specs.Geometry.{PointValue}
-use Rattle.twkb_body.specs.Devices.Body.{sums}
+use Rattle.twkb_body.specs.Devices.Body.{sums, part_points}
 use Rattle.twkb_body.specs.Devices.BodyReader.{ring_at}
 use Rattle.twkb_body.specs.Devices.Inside.{of_head}
 use Rattle.twkb_body.specs.Devices.Walk.{shown}
 use Rattle.twkb_body.proofs.Showing.{showing_begins, showing_next, showing_goes_on, showing_ends, count_reads, counted_stands, counted_shown}
-use Rattle.twkb_body.proofs.Walks.{ring_points, rings_are_sums, part_points}
+use Rattle.twkb_body.proofs.Walks.{ring_points, rings_are_sums}
 use Rattle.twkb_body.proofs.shown.show_polygon.Goals as goal
 
 pub unreachable-requires : goal.unreachable-requires

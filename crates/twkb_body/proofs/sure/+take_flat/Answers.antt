@@ -1,49 +1,39 @@
 -- The first reading of a geometry and of members, each by the other: what it certifies, and what it refutes.
-use Rattle.std.proofs.Common.{rules, ◌≡◌, ◌≤◌, ◌+◌, ◌-◌, ℕ, suc, Bool, false, [], ◌∷◌, Option, None, option_map, is_some, Ok, refl, sym, ap, subst, ◌∙◌, arith}
-use Rattle.std.proofs.lemmas.Int.{ints}
-use Rattle.std.specs.Prelude.{◌%◌, IfSome}
+use Rattle.std.proofs.Common.{rules, ◌≡◌, ◌+◌, ◌-◌, ℕ, suc, Bool, false, None, Ok, refl, sym, ap, subst, ◌∙◌, arith}
+use Rattle.std.specs.Prelude.{◌%◌}
 use Rattle.std.proofs.lemmas.Result.{err_from_is_err_and}
-use Rattle.std.specs.Int.{w8}
-use mir.Val.{to_z, of_z}
-use Rattle.twkb_num.specs.Units.{IsPrecision}
-use Rattle.twkb_num.specs.Cursor.{Reading, rest, passed, IsMoved, IsSound}
+use Rattle.twkb_num.specs.Cursor.{Reading, rest}
 use Rattle.twkb_head.proofs.HeadLaws.{header_two}
-use Rattle.twkb_head.proofs.HeadSteps.{two_back}
-use Rattle.twkb_head.specs.BegunHeader.{deepest, is_collection, IsAllowedAt}
+use Rattle.twkb_head.specs.BegunHeader.{deepest, IsAllowedAt}
 use Rattle.twkb_head.specs.Shared.Reader.{Fails}
 use Rattle.twkb_head.specs.Header.{has_bit}
-use Rattle.twkb_head.specs.Raw.{head_said, flat_box, BeginsHead}
+use Rattle.twkb_head.specs.Raw.{head_said, BeginsHead}
 use Rattle.twkb_head.specs.declared.read.Begun.{Begun}
 use Rattle.twkb_body.proofs.Beginning.{announced_same}
 use Rattle.twkb_head.specs.declared.header.Head.{Head}
-use Rattle.twkb_head.specs.declared.raw.RawBox.{RawBox}
 use Rattle.twkb_body.specs.Audited.{HasLongList}
 use Rattle.twkb_body.specs.Devices.BodyReader.{list_at}
 use Rattle.twkb_body.specs.Devices.Found.{named}
 use Rattle.twkb_body.specs.Devices.IdLists.{HasManyIdsAfterCount}
-use Rattle.twkb_body.specs.Devices.Stops.{WantsIn, own_ids, member_ids}
-use Rattle.twkb_body.specs.Devices.Sure.{IsJudged, IsRefuted, IsRefutedBody}
-use Rattle.twkb_body.specs.Devices.Walk.{HasPrecisions}
+use Rattle.twkb_body.specs.Devices.Stops.{own_ids, member_ids, WantsBehind}
+use Rattle.twkb_body.specs.Devices.Sure.{HasReadTwo, IsJudged, IsRefuted, IsRefutedBody}
 use Rattle.twkb_body.proofs.Keeping.{keeps_list, read_keeps}
 use Rattle.twkb_body.proofs.MemberSteps.{member_bytes}
-use Rattle.twkb_body.proofs.SureSteps.{sure_begins, sure_goes_on, members_sure}
-use Rattle.twkb_body.proofs.Refuting.{some_of, none_of, wants_members, shape_certifies, no_header_refutes, rest_refutes, list_refutes, ids_refute, members_refute, doubts_outside, doubts_through, raw_allowed, behind_doubts, apart_certifies, body_doubts, judged_certifies, bit_unset, apart_flat, apart_box, apart_there, apart_any, flat_ends}
+use Rattle.twkb_body.proofs.SureSteps.{two_read, sure_begins, sure_goes_on, members_sure}
+use Rattle.twkb_body.proofs.Refuting.{some_of, none_of, wants_members, shape_certifies, no_header_refutes, rest_refutes, list_refutes, ids_refute, members_refute, doubts_outside, doubts_through, raw_allowed, behind_doubts, apart_certifies, body_doubts, judged_certifies, bit_unset, flat_apart, any_apart, flat_ends}
 use Rattle.twkb_body.proofs.sure.+take_flat.Goals as goal
 
--- an axis that isn't there has no precision
-none_high : (o : Option ℕ) → o ≡ None → IfSome o (λ p. p ≤ 7)
-none_high o e = subst (λ (q : Option ℕ). IfSome q (λ p. p ≤ 7)) (sym e) tt
-
 pub take_flat-returns-in_default-take_rest : goal.take_flat-returns-in_default-take_rest
-take_flat-returns-in_default-take_rest g t c = λ before sound moved two.
-    let begins = c.in-Some.ensures.some before sound moved two in (
-      ap (λ (r : Reading). r.bytes) (c.in_default-take_rest.ensures.read c.args.depth before sound begins).1,
-      rest_refutes c.in_default-take_rest.field-0 c.args.depth c.args.above.now before c.requires.shallowest c.requires.deepest sound (c.in_default-take_rest.ensures.exact c.args.depth before sound begins),
-    )
+take_flat-returns-in_default-take_rest g t c = λ before two.
+    let begins = c.in-Some.ensures.some before two.sound two.moved two.bytes in
+    rest_refutes c.in_default-take_rest.field-0 c.args.depth c.args.above.now before _ c.requires.shallowest c.requires.deepest two.sound (c.in_default-take_rest.ensures.read c.args.depth before two.sound begins) (c.in_default-take_rest.ensures.exact c.args.depth before two.sound begins)
+
+pub take_flat-begun_by-requires-clause-read : goal.take_flat-begun_by-requires-clause-read
+take_flat-begun_by-requires-clause-read g t c = two_read _ _ _ c.requires.before
 
 pub take_flat-returns-in_default : goal.take_flat-returns-in_default
-take_flat-returns-in_default g t c = λ before sound moved two.
-    (moved.bytes, no_header_refutes c.args.depth c.args.above.now before c.requires.shallowest c.requires.deepest sound (λ starts. cc (c.in_default.ensures.none before sound moved two starts)))
+take_flat-returns-in_default g t c = λ before two.
+    (two.moved.bytes, no_header_refutes c.args.depth c.args.above.now before c.requires.shallowest c.requires.deepest two.sound (λ starts. cc (c.in_default.ensures.none before two.sound two.moved two.bytes starts)))
 
 pub take_flat_behind-take_flat_body-requires : goal.take_flat_behind-take_flat_body-requires
 take_flat_behind-take_flat_body-requires g t c κs within =
@@ -51,7 +41,6 @@ take_flat_behind-take_flat_body-requires g t c κs within =
     let s = b.2 in
     let same = c.boxless-head.ensures in
     let allowed : IsAllowedAt c.boxless-head.result.kind c.args.depth = subst (λ (h : Head). IsAllowedAt h.kind c.args.depth) (sym same) (raw_allowed c.args.raw c.args.depth c.args.above.now b.0 c.args.cursor.now c.requires.shallowest c.requires.deepest b.1 s.0 s.1) in
-    let precisions : HasPrecisions c.boxless-head.result = subst HasPrecisions (sym same) (c.requires.xy, none_high c.args.raw.axes.z c.requires.z, none_high c.args.raw.axes.m c.requires.m) in
     let has_body : c.boxless-head.result.empty ≡ false = ap (λ (h : Head). h.empty) same ∙ c.requires.full in
     let z : c.boxless-head.result.z ≡ None = ap (λ (h : Head). h.z) same ∙ c.requires.z in
     let m : c.boxless-head.result.m ≡ None = ap (λ (h : Head). h.m) same ∙ c.requires.m in
@@ -60,9 +49,8 @@ take_flat_behind-take_flat_body-requires g t c κs within =
 
 pub take_flat_behind-returns-in_err-vertices-2 : goal.take_flat_behind-returns-in_err-vertices-2
 take_flat_behind-returns-in_err-vertices-2 g t c = λ before sound read.
-    let s = read in
     let p = err_from_is_err_and c.from_residual-in_err-vertices-2.result c.from_residual-in_err-vertices-2.ensures.1 in
-    rw (p.1, p.2) (body_doubts c.args.raw c.args.depth c.args.above.now before c.args.cursor.now c.requires.shallowest c.requires.deepest sound s.0 s.1 c.boxless-head.result c.boxless-head.ensures c.in-Some.frame c.in-Some.ensures c.take_flat_body.new.cursor _ c.in_err-vertices-2.ensures)
+    rw (p.1, p.2) (body_doubts c.args.raw c.args.depth c.args.above.now before c.args.cursor.now c.requires.shallowest c.requires.deepest sound read.0 read.1 c.boxless-head.result c.boxless-head.ensures c.in-Some.frame c.in-Some.ensures c.take_flat_body.new.cursor _ c.in_err-vertices-2.ensures)
 
 pub take_flat_behind-judged-requires-2 : goal.take_flat_behind-judged-requires-2
 take_flat_behind-judged-requires-2 g t c =
@@ -72,28 +60,27 @@ take_flat_behind-judged-requires-2 g t c =
 
 pub take_flat_behind-returns : goal.take_flat_behind-returns
 take_flat_behind-returns g t c = λ before sound read.
-    let s = read in
-    judged_certifies c.args.raw c.args.depth c.args.above.now before c.args.cursor.now c.requires.shallowest c.requires.deepest sound s.0 s.1 c.boxless-head.result c.boxless-head.ensures c.in-Some.frame c.in-Some.ensures c.take_flat_body.new.cursor
+    judged_certifies c.args.raw c.args.depth c.args.above.now before c.args.cursor.now c.requires.shallowest c.requires.deepest sound read.0 read.1 c.boxless-head.result c.boxless-head.ensures c.in-Some.frame c.in-Some.ensures c.take_flat_body.new.cursor
     c.in_ok-vertices-2.vertices c.judged-2.result c.in_ok-vertices-2.ensures (subst (λ (stop : ℕ). IsJudged c.boxless-head.result stop c.in_ok-vertices-2.vertices c.judged-2.result) c.place-2.ensures.value c.judged-2.ensures)
 
 pub take_further-returns-in_default-take_rest : goal.take_further-returns-in_default-take_rest
-take_further-returns-in_default-take_rest g t c = λ before sound moved two.
-    let begins = c.in-Some.ensures.some before sound moved two in (
-      ap (λ (r : Reading). r.bytes) (c.in_default-take_rest.ensures.read c.args.depth before sound begins).1,
-      rest_refutes c.in_default-take_rest.field-0 c.args.depth c.args.above.now before c.requires.shallowest c.requires.deepest sound (c.in_default-take_rest.ensures.exact c.args.depth before sound begins),
-    )
+take_further-returns-in_default-take_rest g t c = λ before two.
+    let begins = c.in-Some.ensures.some before two.sound two.moved two.bytes in
+    rest_refutes c.in_default-take_rest.field-0 c.args.depth c.args.above.now before _ c.requires.shallowest c.requires.deepest two.sound (c.in_default-take_rest.ensures.read c.args.depth before two.sound begins) (c.in_default-take_rest.ensures.exact c.args.depth before two.sound begins)
+
+pub take_further-begun_by-requires-clause-read : goal.take_further-begun_by-requires-clause-read
+take_further-begun_by-requires-clause-read g t c = two_read _ _ _ c.requires.before
 
 pub take_further-returns-in_default : goal.take_further-returns-in_default
-take_further-returns-in_default g t c = λ before sound moved two.
-    (moved.bytes, no_header_refutes c.args.depth c.args.above.now before c.requires.shallowest c.requires.deepest sound (λ starts. cc (c.in_default.ensures.none before sound moved two starts)))
+take_further-returns-in_default g t c = λ before two.
+    (two.moved.bytes, no_header_refutes c.args.depth c.args.above.now before c.requires.shallowest c.requires.deepest two.sound (λ starts. cc (c.in_default.ensures.none before two.sound two.moved two.bytes starts)))
 
 pub take_further-take_further_body-requires : goal.take_further-take_further_body-requires
 take_further-take_further_body-requires g t c κs within =
     let b = c.requires.before in
-    let s = c.in-Ok.ensures.read c.args.depth b.0 b.1 (c.in-Some.ensures.some b.0 b.1 b.2 b.3) in
+    let s = c.in-Ok.ensures.read c.args.depth b.0 b.1.sound (c.in-Some.ensures.some b.0 b.1.sound b.1.moved b.1.bytes) in
     let same = c.boxless-head.ensures in
-    let allowed : IsAllowedAt c.boxless-head.result.kind c.args.depth = subst (λ (h : Head). IsAllowedAt h.kind c.args.depth) (sym same) (raw_allowed c.in-Ok.raw c.args.depth c.args.above.now b.0 c.take_rest.new.cursor c.requires.shallowest c.requires.deepest b.1 s.0 s.1) in
-    let precisions : HasPrecisions c.boxless-head.result = subst HasPrecisions (sym same) (c.in-Ok.ensures.xy, c.in-Ok.ensures.z_high, c.in-Ok.ensures.m_high) in
+    let allowed : IsAllowedAt c.boxless-head.result.kind c.args.depth = subst (λ (h : Head). IsAllowedAt h.kind c.args.depth) (sym same) (raw_allowed c.in-Ok.raw c.args.depth c.args.above.now b.0 c.take_rest.new.cursor c.requires.shallowest c.requires.deepest b.1.sound s.0 s.1) in
     let full : c.in-Ok.raw.empty ≡ false = c.in-Ok.ensures.empty ∙ sym c.is_empty.ensures ∙ c.if-is_empty.false in
     let has_body : c.boxless-head.result.empty ≡ false = ap (λ (h : Head). h.empty) same ∙ full in
     let further = c.in-Some-further_frame.ensures.further in
@@ -101,23 +88,23 @@ take_further-take_further_body-requires g t c κs within =
     search rules
 
 pub take_further-returns-in_err-vertices-2 : goal.take_further-returns-in_err-vertices-2
-take_further-returns-in_err-vertices-2 g t c = λ before sound moved two.
-    let begins = c.in-Some.ensures.some before sound moved two in
-    let s = c.in-Ok.ensures.read c.args.depth before sound begins in
+take_further-returns-in_err-vertices-2 g t c = λ before two.
+    let begins = c.in-Some.ensures.some before two.sound two.moved two.bytes in
+    let s = c.in-Ok.ensures.read c.args.depth before two.sound begins in
     let p = err_from_is_err_and c.from_residual-in_err-vertices-2.result c.from_residual-in_err-vertices-2.ensures.1 in
-    rw (p.1, p.2) (body_doubts c.in-Ok.raw c.args.depth c.args.above.now before c.take_rest.new.cursor c.requires.shallowest c.requires.deepest sound s.0 s.1 c.boxless-head.result c.boxless-head.ensures c.in-Some-further_frame.frame c.in-Some-further_frame.ensures.frame c.take_further_body.new.cursor _ c.in_err-vertices-2.ensures)
+    rw (p.1, p.2) (body_doubts c.in-Ok.raw c.args.depth c.args.above.now before c.take_rest.new.cursor c.requires.shallowest c.requires.deepest two.sound s.0 s.1 c.boxless-head.result c.boxless-head.ensures c.in-Some-further_frame.frame c.in-Some-further_frame.ensures.frame c.take_further_body.new.cursor _ c.in_err-vertices-2.ensures)
 
 pub take_further-judged-requires-2 : goal.take_further-judged-requires-2
 take_further-judged-requires-2 g t c =
     let b = c.requires.before in
-    let s = c.in-Ok.ensures.read c.args.depth b.0 b.1 (c.in-Some.ensures.some b.0 b.1 b.2 b.3) in
+    let s = c.in-Ok.ensures.read c.args.depth b.0 b.1.sound (c.in-Some.ensures.some b.0 b.1.sound b.1.moved b.1.bytes) in
     flat_ends c.boxless-head.result c.in-Ok.raw c.args.depth b.0 c.take_rest.new.cursor c.boxless-head.ensures s.0 s.1 _ (omega (arith, c.in_ok-vertices-2.ensures.inside.few, c.place-2.ensures.value))
 
 pub take_further-returns : goal.take_further-returns
-take_further-returns g t c = λ before sound moved two.
-    let begins = c.in-Some.ensures.some before sound moved two in
-    let s = c.in-Ok.ensures.read c.args.depth before sound begins in
-    judged_certifies c.in-Ok.raw c.args.depth c.args.above.now before c.take_rest.new.cursor c.requires.shallowest c.requires.deepest sound s.0 s.1 c.boxless-head.result c.boxless-head.ensures c.in-Some-further_frame.frame c.in-Some-further_frame.ensures.frame c.take_further_body.new.cursor
+take_further-returns g t c = λ before two.
+    let begins = c.in-Some.ensures.some before two.sound two.moved two.bytes in
+    let s = c.in-Ok.ensures.read c.args.depth before two.sound begins in
+    judged_certifies c.in-Ok.raw c.args.depth c.args.above.now before c.take_rest.new.cursor c.requires.shallowest c.requires.deepest two.sound s.0 s.1 c.boxless-head.result c.boxless-head.ensures c.in-Some-further_frame.frame c.in-Some-further_frame.ensures.frame c.take_further_body.new.cursor
     c.in_ok-vertices-2.vertices c.judged-2.result c.in_ok-vertices-2.ensures (subst (λ (stop : ℕ). IsJudged c.boxless-head.result stop c.in_ok-vertices-2.vertices c.judged-2.result) c.place-2.ensures.value c.judged-2.ensures)
 
 pub take_flat_body-returns-else-is_collection : goal.take_flat_body-returns-else-is_collection
@@ -136,7 +123,7 @@ take_members-returns-in_err-list g t c =
     let inner = deepest - (c.args.depth + 1) in
     let under : deepest - c.args.depth ≡ suc inner = omega (arith, c.requires.below) in
     rw (p.1, p.2) (doubts_outside (list_at c.args.has_ids) (IsRefutedBody (deepest - c.args.depth) head c.args.frame.now c.args.cursor.now) (HasManyIdsAfterCount c.args.has_ids (rest c.args.cursor.now))
-    (WantsIn (is_collection head.kind) head.empty c.args.depth head.ids c.args.cursor.now) c.args.cursor.now c.args.cursor.now _ c.take_list.new.cursor (keeps_list c.args.has_ids) refl
+    (WantsBehind c.args.depth head c.args.cursor.now) c.args.cursor.now c.args.cursor.now _ c.take_list.new.cursor (keeps_list c.args.has_ids) refl
     (λ m f. list_refutes head (deepest - c.args.depth) inner c.args.cursor.now c.args.frame.now under full many m _ (subst (λ (b : Bool). Fails (list_at b c.args.cursor.now) m c.take_list.new.cursor) (sym ids) f))
     (λ wants. wants_members head c.args.depth c.args.cursor.now full many (own_ids (subst (λ (b : Bool). HasManyIdsAfterCount b (rest c.args.cursor.now)) (sym ids) wants))) c.in_err-list.ensures)
 
@@ -156,12 +143,12 @@ take_members-loop-init g t c =
 
 pub take_members-overflow_add-vertices : goal.take_members-overflow_add-vertices
 take_members-overflow_add-vertices g t c =
-    let one = c.in_ok-member.ensures c.loop.cursor c.place_is_within-in-loop.ensures c.in-Some.ensures.moved c.in-Some.ensures.some in
+    let one = c.in_ok-member.ensures c.loop.cursor (record { sound = c.place_is_within-in-loop.ensures; moved = c.in-Some.ensures.moved; bytes = c.in-Some.ensures.some }) in
     omega (arith, c.loop.invariant.loop.few, one.found.few, c.place_is_within-in-loop-2.ensures.within, c.place_is_within-in-loop-2.ensures.length_fits)
 
 pub take_members-loop-preserved : goal.take_members-loop-preserved
 take_members-loop-preserved g t c =
-    let one = c.in_ok-member.ensures c.loop.cursor c.place_is_within-in-loop.ensures c.in-Some.ensures.moved c.in-Some.ensures.some in
+    let one = c.in_ok-member.ensures c.loop.cursor (record { sound = c.place_is_within-in-loop.ensures; moved = c.in-Some.ensures.moved; bytes = c.in-Some.ensures.some }) in
     sure_goes_on _ _ _ _ c.loop.counter c.loop.vertices c.in_ok-member.member _ c.loop.cursor c.take_sure.new.cursor c.loop-test.true one refl c.loop.invariant
 
 pub take_members-returns : goal.take_members-returns
@@ -189,9 +176,8 @@ take_members-returns-in_default g t c =
 
 pub take_members-take_sure-requires : goal.take_members-take_sure-requires
 take_members-take_sure-requires g t c κs within =
-    let before : (before : Reading) × IsSound before × IsMoved before c.two_bytes.new.self × (passed before c.two_bytes.new.self ≡ c.in-Some.first ∷ c.in-Some.metadata ∷ []) =
-    (c.loop.cursor, c.place_is_within-in-loop.ensures, c.in-Some.ensures.moved, c.in-Some.ensures.some) in
-    let read : 2 ≤ c.two_bytes.new.self.place = omega (arith, two_back c.loop.cursor c.two_bytes.new.self _ _ c.in-Some.ensures.moved c.in-Some.ensures.some) in
+    let before : (before : Reading) × HasReadTwo before c.in-Some.first c.in-Some.metadata c.two_bytes.new.self =
+    (c.loop.cursor, record { sound = c.place_is_within-in-loop.ensures; moved = c.in-Some.ensures.moved; bytes = c.in-Some.ensures.some }) in
     let near = c.requires.near in
     let below = c.requires.below in
     search rules
@@ -204,84 +190,61 @@ take_members-returns-in_err-member g t c =
     let list = c.in_ok-list.ensures in
     let listed : list_at head.ids c.args.cursor.now ≡ (Ok list.0, c.take_list.new.cursor) = ap (λ (b : Bool). list_at b c.args.cursor.now) ids ∙ list.1 in
     let p = err_from_is_err_and c.from_residual-in_err-member.result c.from_residual-in_err-member.ensures.1 in
-    let one = c.in_err-member.ensures c.loop.cursor c.place_is_within-in-loop.ensures c.in-Some.ensures.moved c.in-Some.ensures.some in
+    let one = c.in_err-member.ensures c.loop.cursor (record { sound = c.place_is_within-in-loop.ensures; moved = c.in-Some.ensures.moved; bytes = c.in-Some.ensures.some }) in
     let l = c.loop.invariant in
     rw (p.1, p.2) (doubts_through (IsRefuted inner c.args.frame.now c.loop.cursor) (IsRefutedBody (deepest - c.args.depth) head c.args.frame.now c.args.cursor.now) (HasLongList (c.args.depth + 1) (rest c.loop.cursor))
-    (WantsIn (is_collection head.kind) head.empty c.args.depth head.ids c.args.cursor.now) c.loop.cursor c.args.cursor.now _ c.take_sure.new.cursor
+    (WantsBehind c.args.depth head c.args.cursor.now) c.loop.cursor c.args.cursor.now _ c.take_sure.new.cursor
     (member_bytes inner head.ids c.args.cursor.now c.take_list.new.cursor c.loop.cursor list.0 c.loop.counter l.loop.front c.place_is_within.ensures listed l.loop.so_far)
     (λ wrong. members_refute head (deepest - c.args.depth) inner c.args.cursor.now c.args.frame.now under full many c.take_list.new.cursor list.0 c.in_ok-list.list listed list.2 c.loop.counter c.loop.vertices c.loop.cursor c.loop-test.true l wrong)
     (λ wants. wants_members head c.args.depth c.args.cursor.now full many (member_ids list.0 c.take_list.new.cursor c.loop.cursor c.loop.counter l.loop.front listed (omega (arith, c.loop-test.true, list.2.count)) l.loop.so_far wants)) one)
 
 pub take_flat_behind-returns-in_err-vertices : goal.take_flat_behind-returns-in_err-vertices
 take_flat_behind-returns-in_err-vertices g t c = λ before sound read.
-    let s = read in
-    let precise : IsPrecision c.boxless-head.result.xy = subst (λ (h : Head). IsPrecision h.xy) (sym c.boxless-head.ensures) c.requires.xy in
-    let xy : to_z w8 (of_z w8 c.boxless-head.result.xy) ≡ c.boxless-head.result.xy = omega (arith, ints, precise) in
-    let apart = apart_flat c.args.raw c.boxless-head.result _ xy c.boxless-head.ensures c.requires.z c.requires.m c.requires.full in
-    let box : Option RawBox = option_map (λ b. flat_box b.x b.y) c.args.raw.bounds in
-    let there : is_some box ≡ c.is_some.result = apart_there c.args.raw.bounds ∙ sym c.is_some.ensures in
-    let ranges = apart_box c.args.raw.bounds c.flat_ranges.result.0 c.flat_ranges.result.1 c.flat_ranges.ensures in
+    let (box, there, ranges, apart) = flat_apart c.args.raw c.boxless-head.result c.is_some.result c.flat_ranges.result.0 c.flat_ranges.result.1 c.requires.xy c.boxless-head.ensures c.requires.z c.requires.m c.requires.full c.is_some.ensures c.flat_ranges.ensures in
     let p = err_from_is_err_and c.from_residual.result c.from_residual.ensures.1 in
-    rw (p.1, p.2) (behind_doubts c.args.raw c.args.depth c.args.above.now before c.args.cursor.now c.requires.shallowest c.requires.deepest sound s.0 s.1 _ c.take_apart_flat.new.cursor (c.in_err-vertices.ensures (head_said c.args.raw) box there ranges apart))
+    rw (p.1, p.2) (behind_doubts c.args.raw c.args.depth c.args.above.now before c.args.cursor.now c.requires.shallowest c.requires.deepest sound read.0 read.1 _ c.take_apart_flat.new.cursor (c.in_err-vertices.ensures (head_said c.args.raw) box there ranges apart))
 
 pub take_flat_behind-judged-requires : goal.take_flat_behind-judged-requires
 take_flat_behind-judged-requires g t c =
     let b = c.requires.read in
     let s = b.2 in
-    let precise : IsPrecision c.boxless-head.result.xy = subst (λ (h : Head). IsPrecision h.xy) (sym c.boxless-head.ensures) c.requires.xy in
-    let xy : to_z w8 (of_z w8 c.boxless-head.result.xy) ≡ c.boxless-head.result.xy = omega (arith, ints, precise) in
-    let apart = apart_flat c.args.raw c.boxless-head.result _ xy c.boxless-head.ensures c.requires.z c.requires.m c.requires.full in
-    let box : Option RawBox = option_map (λ b. flat_box b.x b.y) c.args.raw.bounds in
-    let there : is_some box ≡ c.is_some.result = apart_there c.args.raw.bounds ∙ sym c.is_some.ensures in
-    let ranges = apart_box c.args.raw.bounds c.flat_ranges.result.0 c.flat_ranges.result.1 c.flat_ranges.ensures in
+    let (box, there, ranges, apart) = flat_apart c.args.raw c.boxless-head.result c.is_some.result c.flat_ranges.result.0 c.flat_ranges.result.1 c.requires.xy c.boxless-head.ensures c.requires.z c.requires.m c.requires.full c.is_some.ensures c.flat_ranges.ensures in
     let sure = c.in_ok-vertices.ensures (head_said c.args.raw) box there ranges apart in
     flat_ends c.boxless-head.result c.args.raw c.args.depth b.0 c.args.cursor.now c.boxless-head.ensures s.0 s.1 _ (omega (arith, sure.inside.few, c.place.ensures.value))
 
 pub take_flat_behind-returns-in_default : goal.take_flat_behind-returns-in_default
 take_flat_behind-returns-in_default g t c = λ before sound read.
-    let s = read in
-    let precise : IsPrecision c.boxless-head.result.xy = subst (λ (h : Head). IsPrecision h.xy) (sym c.boxless-head.ensures) c.requires.xy in
-    let xy : to_z w8 (of_z w8 c.boxless-head.result.xy) ≡ c.boxless-head.result.xy = omega (arith, ints, precise) in
-    let apart = apart_flat c.args.raw c.boxless-head.result _ xy c.boxless-head.ensures c.requires.z c.requires.m c.requires.full in
-    let box : Option RawBox = option_map (λ b. flat_box b.x b.y) c.args.raw.bounds in
-    let there : is_some box ≡ c.is_some.result = apart_there c.args.raw.bounds ∙ sym c.is_some.ensures in
-    let ranges = apart_box c.args.raw.bounds c.flat_ranges.result.0 c.flat_ranges.result.1 c.flat_ranges.ensures in
+    let (box, there, ranges, apart) = flat_apart c.args.raw c.boxless-head.result c.is_some.result c.flat_ranges.result.0 c.flat_ranges.result.1 c.requires.xy c.boxless-head.ensures c.requires.z c.requires.m c.requires.full c.is_some.ensures c.flat_ranges.ensures in
     let sure = c.in_ok-vertices.ensures (head_said c.args.raw) box there ranges apart in
-    apart_certifies c.args.raw c.args.depth c.args.above.now before c.args.cursor.now c.requires.shallowest c.requires.deepest sound s.0 s.1 c.boxless-head.result c.boxless-head.ensures c.take_apart_flat.new.cursor c.in_ok-vertices.vertices c.judged.result sure
+    apart_certifies c.args.raw c.args.depth c.args.above.now before c.args.cursor.now c.requires.shallowest c.requires.deepest sound read.0 read.1 c.boxless-head.result c.boxless-head.ensures c.take_apart_flat.new.cursor c.in_ok-vertices.vertices c.judged.result sure
     (subst (λ (stop : ℕ). IsJudged c.boxless-head.result stop c.in_ok-vertices.vertices c.judged.result) c.place.ensures.value c.judged.ensures)
 
 pub take_further-returns-in_err-vertices : goal.take_further-returns-in_err-vertices
-take_further-returns-in_err-vertices g t c = λ before sound moved two.
-    let begins = c.in-Some.ensures.some before sound moved two in
-    let s = c.in-Ok.ensures.read c.args.depth before sound begins in
+take_further-returns-in_err-vertices g t c = λ before two.
+    let begins = c.in-Some.ensures.some before two.sound two.moved two.bytes in
+    let s = c.in-Ok.ensures.read c.args.depth before two.sound begins in
     let full : c.in-Ok.raw.empty ≡ false = c.in-Ok.ensures.empty ∙ sym c.is_empty.ensures ∙ c.if-is_empty.false in
-    let precise : IsPrecision c.boxless-head.result.xy = subst (λ (h : Head). IsPrecision h.xy) (sym c.boxless-head.ensures) c.in-Ok.ensures.xy in
-    let xy : to_z w8 (of_z w8 c.boxless-head.result.xy) ≡ c.boxless-head.result.xy = omega (arith, ints, precise) in
-    let apart = apart_any c.in-Ok.raw c.boxless-head.result _ xy c.boxless-head.ensures full in
+    let apart = any_apart c.in-Ok.raw c.boxless-head.result c.in-Ok.ensures.xy c.boxless-head.ensures full in
     let p = err_from_is_err_and c.from_residual.result c.from_residual.ensures.1 in
-    rw (p.1, p.2) (behind_doubts c.in-Ok.raw c.args.depth c.args.above.now before c.take_rest.new.cursor c.requires.shallowest c.requires.deepest sound s.0 s.1 _ c.take_apart.new.cursor (c.in_err-vertices.ensures (head_said c.in-Ok.raw) apart))
+    rw (p.1, p.2) (behind_doubts c.in-Ok.raw c.args.depth c.args.above.now before c.take_rest.new.cursor c.requires.shallowest c.requires.deepest two.sound s.0 s.1 _ c.take_apart.new.cursor (c.in_err-vertices.ensures (head_said c.in-Ok.raw) apart))
 
 pub take_further-judged-requires : goal.take_further-judged-requires
 take_further-judged-requires g t c =
     let b = c.requires.before in
-    let s = c.in-Ok.ensures.read c.args.depth b.0 b.1 (c.in-Some.ensures.some b.0 b.1 b.2 b.3) in
+    let s = c.in-Ok.ensures.read c.args.depth b.0 b.1.sound (c.in-Some.ensures.some b.0 b.1.sound b.1.moved b.1.bytes) in
     let full : c.in-Ok.raw.empty ≡ false = c.in-Ok.ensures.empty ∙ sym c.is_empty.ensures ∙ c.if-is_empty.false in
-    let precise : IsPrecision c.boxless-head.result.xy = subst (λ (h : Head). IsPrecision h.xy) (sym c.boxless-head.ensures) c.in-Ok.ensures.xy in
-    let xy : to_z w8 (of_z w8 c.boxless-head.result.xy) ≡ c.boxless-head.result.xy = omega (arith, ints, precise) in
-    let apart = apart_any c.in-Ok.raw c.boxless-head.result _ xy c.boxless-head.ensures full in
+    let apart = any_apart c.in-Ok.raw c.boxless-head.result c.in-Ok.ensures.xy c.boxless-head.ensures full in
     let sure = c.in_ok-vertices.ensures (head_said c.in-Ok.raw) apart in
     flat_ends c.boxless-head.result c.in-Ok.raw c.args.depth b.0 c.take_rest.new.cursor c.boxless-head.ensures s.0 s.1 _ (omega (arith, sure.inside.few, c.place.ensures.value))
 
 pub take_further-returns-in_default-further_frame : goal.take_further-returns-in_default-further_frame
-take_further-returns-in_default-further_frame g t c = λ before sound moved two.
-    let begins = c.in-Some.ensures.some before sound moved two in
-    let s = c.in-Ok.ensures.read c.args.depth before sound begins in
+take_further-returns-in_default-further_frame g t c = λ before two.
+    let begins = c.in-Some.ensures.some before two.sound two.moved two.bytes in
+    let s = c.in-Ok.ensures.read c.args.depth before two.sound begins in
     let full : c.in-Ok.raw.empty ≡ false = c.in-Ok.ensures.empty ∙ sym c.is_empty.ensures ∙ c.if-is_empty.false in
-    let precise : IsPrecision c.boxless-head.result.xy = subst (λ (h : Head). IsPrecision h.xy) (sym c.boxless-head.ensures) c.in-Ok.ensures.xy in
-    let xy : to_z w8 (of_z w8 c.boxless-head.result.xy) ≡ c.boxless-head.result.xy = omega (arith, ints, precise) in
-    let apart = apart_any c.in-Ok.raw c.boxless-head.result _ xy c.boxless-head.ensures full in
+    let apart = any_apart c.in-Ok.raw c.boxless-head.result c.in-Ok.ensures.xy c.boxless-head.ensures full in
     let sure = c.in_ok-vertices.ensures (head_said c.in-Ok.raw) apart in
-    apart_certifies c.in-Ok.raw c.args.depth c.args.above.now before c.take_rest.new.cursor c.requires.shallowest c.requires.deepest sound s.0 s.1 c.boxless-head.result c.boxless-head.ensures c.take_apart.new.cursor c.in_ok-vertices.vertices c.judged.result sure
+    apart_certifies c.in-Ok.raw c.args.depth c.args.above.now before c.take_rest.new.cursor c.requires.shallowest c.requires.deepest two.sound s.0 s.1 c.boxless-head.result c.boxless-head.ensures c.take_apart.new.cursor c.in_ok-vertices.vertices c.judged.result sure
     (subst (λ (stop : ℕ). IsJudged c.boxless-head.result stop c.in_ok-vertices.vertices c.judged.result) c.place.ensures.value c.judged.ensures)
 
 pub take_flat_behind-take_apart_flat-requires-clause-allowed : goal.take_flat_behind-take_apart_flat-requires-clause-allowed
@@ -293,44 +256,45 @@ take_flat_behind-take_apart_flat-requires-clause-allowed g t c =
 pub take_further-take_apart-requires-clause-allowed : goal.take_further-take_apart-requires-clause-allowed
 take_further-take_apart-requires-clause-allowed g t c =
     let b = c.requires.before in
-    let s = c.in-Ok.ensures.read c.args.depth b.0 b.1 (c.in-Some.ensures.some b.0 b.1 b.2 b.3) in
-    subst (λ (h : Head). IsAllowedAt h.kind c.args.depth) (sym c.boxless-head.ensures) (raw_allowed c.in-Ok.raw c.args.depth c.args.above.now b.0 c.take_rest.new.cursor c.requires.shallowest c.requires.deepest b.1 s.0 s.1)
+    let s = c.in-Ok.ensures.read c.args.depth b.0 b.1.sound (c.in-Some.ensures.some b.0 b.1.sound b.1.moved b.1.bytes) in
+    subst (λ (h : Head). IsAllowedAt h.kind c.args.depth) (sym c.boxless-head.ensures) (raw_allowed c.in-Ok.raw c.args.depth c.args.above.now b.0 c.take_rest.new.cursor c.requires.shallowest c.requires.deepest b.1.sound s.0 s.1)
 
 pub take_flat-take_flat_behind-requires : goal.take_flat-take_flat_behind-requires
 take_flat-take_flat_behind-requires g t c κs within =
     let b = c.requires.before in
-    let s = c.in-Ok.ensures.read c.args.depth b.0 b.1 (c.in-Some.ensures.some b.0 b.1 b.2 b.3) in
+    let s = c.in-Ok.ensures.read c.args.depth b.0 b.1.sound (c.in-Some.ensures.some b.0 b.1.sound b.1.moved b.1.bytes) in
     let full : c.in-Ok.raw.empty ≡ false = c.in-Ok.ensures.empty ∙ sym c.is_empty.ensures ∙ c.if-is_empty.false in
     let flat = c.in-Ok.ensures.flat (bit_unset c.is_flat.result (has_bit c.in-Some.begun.metadata 8) c.is_flat.ensures c.if-not-is_flat.false) in
     search rules
 
 pub take_flat-returns : goal.take_flat-returns
-take_flat-returns g t c = λ before sound moved two.
-    c.take_flat_behind.ensures before sound (c.in-Ok.ensures.read c.args.depth before sound (c.in-Some.ensures.some before sound moved two))
+take_flat-returns g t c = λ before two.
+    c.take_flat_behind.ensures before two.sound (c.in-Ok.ensures.read c.args.depth before two.sound (c.in-Some.ensures.some before two.sound two.moved two.bytes))
 
 -- the header that begins with two bytes, with the other bits of the second left out
 boxed_begins : (begun boxed : Begun) (depth : ℕ) (before now : Reading) → boxed ≡ record begun { metadata = begun.metadata % 32 } → BeginsHead begun depth before now → BeginsHead boxed depth before now
 boxed_begins begun boxed depth before now is begins = announced_same begun boxed depth (begun.metadata % 32) before now refl is begins
 
+pub take_with_box-begun_by-requires-clause-read : goal.take_with_box-begun_by-requires-clause-read
+take_with_box-begun_by-requires-clause-read g t c = two_read _ _ _ c.requires.before
+
 pub take_with_box-returns-in_default : goal.take_with_box-returns-in_default
-take_with_box-returns-in_default g t c = λ before sound moved two.
-    (moved.bytes, no_header_refutes c.args.depth c.args.above.now before c.requires.shallowest c.requires.deepest sound (λ starts. cc (c.in_default.ensures.none before sound moved two starts)))
+take_with_box-returns-in_default g t c = λ before two.
+    (two.moved.bytes, no_header_refutes c.args.depth c.args.above.now before c.requires.shallowest c.requires.deepest two.sound (λ starts. cc (c.in_default.ensures.none before two.sound two.moved two.bytes starts)))
 
 pub take_with_box-returns-in_default-take_boxed_rest : goal.take_with_box-returns-in_default-take_boxed_rest
-take_with_box-returns-in_default-take_boxed_rest g t c = λ before sound moved two.
-    let begins = boxed_begins c.in-Some.begun c.in-Some-flat_boxed.boxed c.args.depth before c.args.cursor.now c.in-Some-flat_boxed.ensures.announcing (c.in-Some.ensures.some before sound moved two) in (
-      ap (λ (r : Reading). r.bytes) (c.in_default-take_boxed_rest.ensures.read c.args.depth before sound begins).1,
-      rest_refutes c.in_default-take_boxed_rest.field-0 c.args.depth c.args.above.now before c.requires.shallowest c.requires.deepest sound (c.in_default-take_boxed_rest.ensures.exact c.args.depth before sound begins),
-    )
+take_with_box-returns-in_default-take_boxed_rest g t c = λ before two.
+    let begins = boxed_begins c.in-Some.begun c.in-Some-flat_boxed.boxed c.args.depth before c.args.cursor.now c.in-Some-flat_boxed.ensures.announcing (c.in-Some.ensures.some before two.sound two.moved two.bytes) in
+    rest_refutes c.in_default-take_boxed_rest.field-0 c.args.depth c.args.above.now before _ c.requires.shallowest c.requires.deepest two.sound (c.in_default-take_boxed_rest.ensures.read c.args.depth before two.sound begins) (c.in_default-take_boxed_rest.ensures.exact c.args.depth before two.sound begins)
 
 pub take_with_box-take_flat_behind-requires : goal.take_with_box-take_flat_behind-requires
 take_with_box-take_flat_behind-requires g t c κs within =
     let b = c.requires.before in
-    let s = c.in-Ok.ensures.read c.args.depth b.0 b.1 (boxed_begins c.in-Some.begun c.in-Some-flat_boxed.boxed c.args.depth b.0 c.args.cursor.now c.in-Some-flat_boxed.ensures.announcing (c.in-Some.ensures.some b.0 b.1 b.2 b.3)) in
+    let s = c.in-Ok.ensures.read c.args.depth b.0 b.1.sound (boxed_begins c.in-Some.begun c.in-Some-flat_boxed.boxed c.args.depth b.0 c.args.cursor.now c.in-Some-flat_boxed.ensures.announcing (c.in-Some.ensures.some b.0 b.1.sound b.1.moved b.1.bytes)) in
     let full : c.in-Ok.raw.empty ≡ false = c.in-Ok.ensures.empty ∙ c.in-Some-flat_boxed.ensures.full in
     let flat = c.in-Ok.ensures.flat c.in-Some-flat_boxed.ensures.flat in
     search rules
 
 pub take_with_box-returns : goal.take_with_box-returns
-take_with_box-returns g t c = λ before sound moved two.
-    c.take_flat_behind.ensures before sound (c.in-Ok.ensures.read c.args.depth before sound (boxed_begins c.in-Some.begun c.in-Some-flat_boxed.boxed c.args.depth before c.args.cursor.now c.in-Some-flat_boxed.ensures.announcing (c.in-Some.ensures.some before sound moved two)))
+take_with_box-returns g t c = λ before two.
+    c.take_flat_behind.ensures before two.sound (c.in-Ok.ensures.read c.args.depth before two.sound (boxed_begins c.in-Some.begun c.in-Some-flat_boxed.boxed c.args.depth before c.args.cursor.now c.in-Some-flat_boxed.ensures.announcing (c.in-Some.ensures.some before two.sound two.moved two.bytes)))

@@ -2,7 +2,6 @@
 use Rattle.std.proofs.Common.{None, refl, ap, arith}
 use Rattle.twkb_num.specs.Cursor.{Reading, rest}
 use Rattle.twkb_head.proofs.HeadLaws.{header_two}
-use Rattle.twkb_head.proofs.HeadSteps.{two_back}
 use Rattle.twkb_body.proofs.Refuting.{no_header_refutes}
 use Rattle.twkb_body.proofs.sure.take_blob.Goals as goal
 
@@ -11,6 +10,3 @@ returns-in_default-clause-certified g c = (
   ap (λ (r : Reading). r.bytes) c.in_default.ensures.none,
   no_header_refutes 1 None c.args.cursor.now (omega arith) (omega arith) c.place_is_within.ensures (λ starts. absurd (omega (arith, c.in_default.ensures.end.0 refl, header_two 1 (rest c.args.cursor.now) starts))),
 )
-
-pub take_sure-requires-clause-read : goal.take_sure-requires-clause-read
-take_sure-requires-clause-read g c = omega (arith, two_back c.args.cursor.now c.two_bytes.new.self _ _ c.in-Some.ensures.moved c.in-Some.ensures.some)

@@ -1,38 +1,38 @@
 -- Only the size of an empty geometry can be false: its box has no vertices to hold.
 use Rattle.std.proofs.Common.{◌≡◌, ◌-◌, ℕ, true, ap, subst, ◌∙◌, arith}
-use Rattle.twkb_num.specs.Cursor.{Reading}
 use Rattle.twkb_head.specs.BegunHeader.{deepest}
 use Rattle.twkb_head.specs.Header.{has_bit}
 use Rattle.twkb_head.specs.Raw.{head_said}
 use Rattle.twkb_body.specs.Devices.Sure.{IsJudged}
 use Rattle.twkb_body.proofs.Refuting.{no_header_refutes, rest_refutes, flat_ends, apart_certifies}
-use Rattle.twkb_body.proofs.SureSteps.{empty_sure}
+use Rattle.twkb_body.proofs.SureSteps.{two_read, empty_sure}
 use Rattle.twkb_body.proofs.sure.take_empty.Goals as goal
 
+pub begun_by-requires-clause-read : goal.begun_by-requires-clause-read
+begun_by-requires-clause-read c = two_read _ _ _ c.requires.before
+
 pub returns-in_default : goal.returns-in_default
-returns-in_default c = λ above before sound moved two.
-    (moved.bytes, no_header_refutes c.args.depth above before c.requires.shallowest c.requires.deepest sound (λ starts. cc (c.in_default.ensures.none before sound moved two starts)))
+returns-in_default c = λ above before two.
+    (two.moved.bytes, no_header_refutes c.args.depth above before c.requires.shallowest c.requires.deepest two.sound (λ starts. cc (c.in_default.ensures.none before two.sound two.moved two.bytes starts)))
 
 pub returns-in_default-take_rest : goal.returns-in_default-take_rest
-returns-in_default-take_rest c = λ above before sound moved two.
-    let begins = c.in-Some.ensures.some before sound moved two in (
-      ap (λ (r : Reading). r.bytes) (c.in_default-take_rest.ensures.read c.args.depth before sound begins).1,
-      rest_refutes c.in_default-take_rest.field-0 c.args.depth above before c.requires.shallowest c.requires.deepest sound (c.in_default-take_rest.ensures.exact c.args.depth before sound begins),
-    )
+returns-in_default-take_rest c = λ above before two.
+    let begins = c.in-Some.ensures.some before two.sound two.moved two.bytes in
+    rest_refutes c.in_default-take_rest.field-0 c.args.depth above before _ c.requires.shallowest c.requires.deepest two.sound (c.in_default-take_rest.ensures.read c.args.depth before two.sound begins) (c.in_default-take_rest.ensures.exact c.args.depth before two.sound begins)
 
 pub judged-requires : goal.judged-requires
 judged-requires c =
     let b = c.requires.before in
-    let s = c.in-Ok.ensures.read c.args.depth b.0 b.1 (c.in-Some.ensures.some b.0 b.1 b.2 b.3) in
+    let s = c.in-Ok.ensures.read c.args.depth b.0 b.1.sound (c.in-Some.ensures.some b.0 b.1.sound b.1.moved b.1.bytes) in
     flat_ends c.boxless-head.result c.in-Ok.raw c.args.depth b.0 c.take_rest.new.cursor c.boxless-head.ensures s.0 s.1 _ (omega (arith, c.place.ensures.value))
 
 pub returns : goal.returns
-returns c = λ above before sound moved two.
-    let begins = c.in-Some.ensures.some before sound moved two in
-    let s = c.in-Ok.ensures.read c.args.depth before sound begins in
+returns c = λ above before two.
+    let begins = c.in-Some.ensures.some before two.sound two.moved two.bytes in
+    let s = c.in-Ok.ensures.read c.args.depth before two.sound begins in
     let raw = c.in-Ok.raw in
     let mid = c.take_rest.new.cursor in
     let empty : raw.empty ≡ true = c.in-Ok.ensures.empty ∙ ap (λ (n : ℕ). has_bit n 16) c.in-Some.ensures.metadata ∙ c.requires.empty in
-    apart_certifies raw c.args.depth above before mid c.requires.shallowest c.requires.deepest sound s.0 s.1 c.boxless-head.result c.boxless-head.ensures mid 0 c.judged.result
+    apart_certifies raw c.args.depth above before mid c.requires.shallowest c.requires.deepest two.sound s.0 s.1 c.boxless-head.result c.boxless-head.ensures mid 0 c.judged.result
     (empty_sure (deepest - c.args.depth) (head_said raw) above mid empty)
     (subst (λ (stop : ℕ). IsJudged c.boxless-head.result stop 0 c.judged.result) c.place.ensures.value c.judged.ensures)

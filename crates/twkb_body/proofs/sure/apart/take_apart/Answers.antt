@@ -1,47 +1,29 @@
 -- The result of the exact audit decides whether a body is sure.
-use Rattle.std.proofs.Common.{◌≡◌, ◌-◌, Option, option_map, w8, to_z, of_z, refl, sym, subst, ◌∙◌}
+use Rattle.std.proofs.Common.{◌-◌, Option, w8, refl, sym, subst, ◌∙◌}
 use Rattle.std.proofs.lemmas.Int.{to_z-of_z}
 use Rattle.std.proofs.lemmas.Result.{err_from_is_err_and}
 use Rattle.twkb_head.specs.BegunHeader.{deepest}
-use Rattle.twkb_head.specs.Raw.{raw_bounds}
-use Rattle.twkb_head.specs.declared.header.BoxField.{BoxField}
 use Rattle.twkb_body.specs.declared.frame.Frame.{Frame}
 use Rattle.twkb_body.specs.Devices.Inside.{of_head}
 use Rattle.twkb_body.specs.Devices.Sure.{IsHeldBy, body_vertices}
-use Rattle.twkb_body.proofs.Apart.{made_head, some_box, no_box, same_head, same_box, asked_for, frame_holds, frame_within, there_not, seen_is, apart_doubts, found_sure, found_refutes, outside_refutes}
+use Rattle.twkb_body.proofs.Apart.{same_apart, asked_for, frame_holds, frame_within, there_not, seen_is, apart_doubts, found_sure, found_refutes, outside_refutes}
 use Rattle.twkb_body.proofs.Refuting.{none_of}
-use Rattle.twkb_body.proofs.sure.apart.take_apart.Goals.{in-Some, in-None, then-is_some-via-then-is_some, then-is_some-via-else-is_some+then-is_some-2, then-is_some-via-else-is_some+else-is_some-2+then-is_some-3}
+use Rattle.twkb_body.proofs.sure.apart.take_apart.Goals.{then-is_some-via-then-is_some, then-is_some-via-else-is_some+then-is_some-2, then-is_some-via-else-is_some+else-is_some-2+then-is_some-3}
 use Rattle.twkb_body.proofs.sure.apart.take_apart.Goals as goal
 
 pub returns-in_err-inside : goal.returns-in_err-inside
 returns-in_err-inside g c = λ head apart.
     let p = err_from_is_err_and c.from_residual.result c.from_residual.ensures.1 in
-    let xy = to_z w8 (of_z w8 c.args.xy) in
-    let same_xy : xy ≡ c.args.xy = to_z-of_z w8 c.args.xy c.ranges.xy in
-    let made = c.match-bounds.bounds in
-    let box : option_map (λ (f : BoxField). f.bounds) made ≡ option_map (raw_bounds xy c.args.z c.args.m) c.args.bounds.now =
-    elim c.match-bounds.branch [
-      | in-Some w ↦ some_box xy c.args.z c.args.m made c.args.bounds.now _ w.in-Some.bounds w.bounds-is w.in-Some.is w.in_units.ensures
-      | in-None w ↦ no_box xy c.args.z c.args.m made c.args.bounds.now w.bounds-is w.in-None.is
-    ] in
-    rw (p.1, p.2) (apart_doubts (deepest - c.args.depth) head (made_head c.args.kind xy c.args.z c.args.m c.args.ids made) c.args.above.now c.args.cursor.now c.take_inside.new.cursor
-    (same_head head c.args.kind c.args.xy xy c.args.z c.args.m c.args.ids c.args.bounds.now made apart same_xy box) (same_box head c.args.kind c.args.xy xy c.args.z c.args.m c.args.ids c.args.bounds.now made apart same_xy box)
-    c.args.depth _ c.in_err-inside.ensures)
+    let made = c.head_apart-head.result in
+    let (same, bounds) = same_apart head made c.args.kind c.args.xy _ c.args.z c.args.m c.args.ids c.args.bounds.now (to_z-of_z w8 c.args.xy c.ranges.xy) apart c.head_apart-head.ensures in
+    rw (p.1, p.2) (apart_doubts (deepest - c.args.depth) head made c.args.above.now c.args.cursor.now c.take_inside.new.cursor same bounds c.args.depth _ c.in_err-inside.ensures)
 
 pub returns-then-is_some : goal.returns-then-is_some
 returns-then-is_some g c = λ head apart.
     let s = c.in_ok-inside.ensures in
-    let xy = to_z w8 (of_z w8 c.args.xy) in
-    let same_xy : xy ≡ c.args.xy = to_z-of_z w8 c.args.xy c.ranges.xy in
-    let made = c.match-bounds.bounds in
-    let box : option_map (λ (f : BoxField). f.bounds) made ≡ option_map (raw_bounds xy c.args.z c.args.m) c.args.bounds.now =
-    elim c.match-bounds.branch [
-      | in-Some w ↦ some_box xy c.args.z c.args.m made c.args.bounds.now _ w.in-Some.bounds w.bounds-is w.in-Some.is w.in_units.ensures
-      | in-None w ↦ no_box xy c.args.z c.args.m made c.args.bounds.now w.bounds-is w.in-None.is
-    ] in
-    let h = made_head c.args.kind xy c.args.z c.args.m c.args.ids made in
-    found_refutes (deepest - c.args.depth) head h c.args.above.now c.args.cursor.now c.take_inside.new.cursor
-    (same_head head c.args.kind c.args.xy xy c.args.z c.args.m c.args.ids c.args.bounds.now made apart same_xy box) (same_box head c.args.kind c.args.xy xy c.args.z c.args.m c.args.ids c.args.bounds.now made apart same_xy box)
+    let made = c.head_apart-head.result in
+    let (same, bounds) = same_apart head made c.args.kind c.args.xy _ c.args.z c.args.m c.args.ids c.args.bounds.now (to_z-of_z w8 c.args.xy c.ranges.xy) apart c.head_apart-head.ensures in
+    found_refutes (deepest - c.args.depth) head made c.args.above.now c.args.cursor.now c.take_inside.new.cursor same bounds
     c.for_members-seen.result c.take_inside.new.seen c.in_ok-inside.inside s.0 s.1 s.2
     (λ none. elim c.then-is_some.branch [
       | then-is_some-via-then-is_some w ↦ there_not c.in_ok-inside.inside.boxed _ c.is_some-2.ensures w.if-is_some.true none.0
@@ -52,61 +34,35 @@ returns-then-is_some g c = λ head apart.
 pub returns-then-not-within : goal.returns-then-not-within
 returns-then-not-within g c = λ head apart.
     let s = c.in_ok-inside.ensures in
-    let xy = to_z w8 (of_z w8 c.args.xy) in
-    let same_xy : xy ≡ c.args.xy = to_z-of_z w8 c.args.xy c.ranges.xy in
-    let made = c.match-bounds.bounds in
-    let box : option_map (λ (f : BoxField). f.bounds) made ≡ option_map (raw_bounds xy c.args.z c.args.m) c.args.bounds.now =
-    elim c.match-bounds.branch [
-      | in-Some w ↦ some_box xy c.args.z c.args.m made c.args.bounds.now _ w.in-Some.bounds w.bounds-is w.in-Some.is w.in_units.ensures
-      | in-None w ↦ no_box xy c.args.z c.args.m made c.args.bounds.now w.bounds-is w.in-None.is
-    ] in
-    let h = made_head c.args.kind xy c.args.z c.args.m c.args.ids made in
-    let same = same_head head c.args.kind c.args.xy xy c.args.z c.args.m c.args.ids c.args.bounds.now made apart same_xy box in
-    let bounds = same_box head c.args.kind c.args.xy xy c.args.z c.args.m c.args.ids c.args.bounds.now made apart same_xy box in
-    let frame = c.in-Some-above.frame in
-    let seen = seen_is (deepest - c.args.depth) head h c.args.above.now c.args.cursor.now c.take_inside.new.cursor same bounds c.for_members-seen.result c.take_inside.new.seen c.in_ok-inside.inside s.0 s.1 s.2
-    (asked_for c.for_members-seen.result.asked c.unasked.result.asked c.is_some.result c.args.above.now frame c.for_members-seen.ensures.asked c.is_some.ensures c.in-Some-above.is) c.for_members-seen.ensures.extent in
-    outside_refutes (deepest - c.args.depth) head h c.args.above.now c.args.cursor.now c.take_inside.new.cursor same bounds c.for_members-seen.result c.take_inside.new.seen c.in_ok-inside.inside s.0 s.1 s.2
+    let made = c.head_apart-head.result in
+    let (same, bounds) = same_apart head made c.args.kind c.args.xy _ c.args.z c.args.m c.args.ids c.args.bounds.now (to_z-of_z w8 c.args.xy c.ranges.xy) apart c.head_apart-head.ensures in
+    let frame = c.in-Some.frame in
+    let seen = seen_is (deepest - c.args.depth) head made c.args.above.now c.args.cursor.now c.take_inside.new.cursor same bounds c.for_members-seen.result c.take_inside.new.seen c.in_ok-inside.inside s.0 s.1 s.2
+    (asked_for c.for_members-seen.result.asked c.unasked.result.asked c.is_some.result c.args.above.now frame c.for_members-seen.ensures.asked c.is_some.ensures c.in-Some.is) c.for_members-seen.ensures.extent in
+    outside_refutes (deepest - c.args.depth) head made c.args.above.now c.args.cursor.now c.take_inside.new.cursor same bounds c.for_members-seen.result c.take_inside.new.seen c.in_ok-inside.inside s.0 s.1 s.2
     (λ held.
-    let no = c.if-not-within.ensures.1 (frame_within c.args.above.now frame (body_vertices (of_head head) s.0) c.take_inside.new.seen.extent c.in_units-in-Some-above.result c.in-Some-above.is c.in_units-in-Some-above.ensures seen held) in
+    let no = c.if-not-within.ensures.1 (frame_within c.args.above.now frame (body_vertices (of_head head) s.0) c.take_inside.new.seen.extent c.in_units.result c.in-Some.is c.in_units.ensures seen held) in
     cc (no))
 
 pub returns-else-not-within : goal.returns-else-not-within
 returns-else-not-within g c = λ head apart.
     let s = c.in_ok-inside.ensures in
-    let xy = to_z w8 (of_z w8 c.args.xy) in
-    let same_xy : xy ≡ c.args.xy = to_z-of_z w8 c.args.xy c.ranges.xy in
-    let made = c.match-bounds.bounds in
-    let box : option_map (λ (f : BoxField). f.bounds) made ≡ option_map (raw_bounds xy c.args.z c.args.m) c.args.bounds.now =
-    elim c.match-bounds.branch [
-      | in-Some w ↦ some_box xy c.args.z c.args.m made c.args.bounds.now _ w.in-Some.bounds w.bounds-is w.in-Some.is w.in_units.ensures
-      | in-None w ↦ no_box xy c.args.z c.args.m made c.args.bounds.now w.bounds-is w.in-None.is
-    ] in
-    let h = made_head c.args.kind xy c.args.z c.args.m c.args.ids made in
-    let same = same_head head c.args.kind c.args.xy xy c.args.z c.args.m c.args.ids c.args.bounds.now made apart same_xy box in
-    let bounds = same_box head c.args.kind c.args.xy xy c.args.z c.args.m c.args.ids c.args.bounds.now made apart same_xy box in
-    let frame = c.in-Some-above.frame in
-    let seen = seen_is (deepest - c.args.depth) head h c.args.above.now c.args.cursor.now c.take_inside.new.cursor same bounds c.for_members-seen.result c.take_inside.new.seen c.in_ok-inside.inside s.0 s.1 s.2
-    (asked_for c.for_members-seen.result.asked c.unasked.result.asked c.is_some.result c.args.above.now frame c.for_members-seen.ensures.asked c.is_some.ensures c.in-Some-above.is) c.for_members-seen.ensures.extent in
-    found_sure (deepest - c.args.depth) head h c.args.above.now c.args.cursor.now c.take_inside.new.cursor same bounds c.for_members-seen.result c.take_inside.new.seen c.in_ok-inside.inside s.0 s.1 s.2
+    let made = c.head_apart-head.result in
+    let (same, bounds) = same_apart head made c.args.kind c.args.xy _ c.args.z c.args.m c.args.ids c.args.bounds.now (to_z-of_z w8 c.args.xy c.ranges.xy) apart c.head_apart-head.ensures in
+    let frame = c.in-Some.frame in
+    let seen = seen_is (deepest - c.args.depth) head made c.args.above.now c.args.cursor.now c.take_inside.new.cursor same bounds c.for_members-seen.result c.take_inside.new.seen c.in_ok-inside.inside s.0 s.1 s.2
+    (asked_for c.for_members-seen.result.asked c.unasked.result.asked c.is_some.result c.args.above.now frame c.for_members-seen.ensures.asked c.is_some.ensures c.in-Some.is) c.for_members-seen.ensures.extent in
+    found_sure (deepest - c.args.depth) head made c.args.above.now c.args.cursor.now c.take_inside.new.cursor same bounds c.for_members-seen.result c.take_inside.new.seen c.in_ok-inside.inside s.0 s.1 s.2
     (none_of c.in_ok-inside.inside.boxed (sym c.is_some-2.ensures ∙ c.if-is_some.false)) (none_of c.in_ok-inside.inside.ids (sym c.is_some-else-is_some.ensures ∙ c.if-is_some-2.false))
     (none_of c.in_ok-inside.inside.found.refused (sym c.is_some-else-is_some-2.ensures ∙ c.if-is_some-3.false))
-    (frame_holds c.args.above.now frame (body_vertices (of_head head) s.0) c.take_inside.new.seen.extent c.in_units-in-Some-above.result c.in-Some-above.is c.in_units-in-Some-above.ensures seen (c.if-not-within.ensures.0 refl))
+    (frame_holds c.args.above.now frame (body_vertices (of_head head) s.0) c.take_inside.new.seen.extent c.in_units.result c.in-Some.is c.in_units.ensures seen (c.if-not-within.ensures.0 refl))
 
 pub returns-in_default : goal.returns-in_default
 returns-in_default g c = λ head apart.
     let s = c.in_ok-inside.ensures in
-    let xy = to_z w8 (of_z w8 c.args.xy) in
-    let same_xy : xy ≡ c.args.xy = to_z-of_z w8 c.args.xy c.ranges.xy in
-    let made = c.match-bounds.bounds in
-    let box : option_map (λ (f : BoxField). f.bounds) made ≡ option_map (raw_bounds xy c.args.z c.args.m) c.args.bounds.now =
-    elim c.match-bounds.branch [
-      | in-Some w ↦ some_box xy c.args.z c.args.m made c.args.bounds.now _ w.in-Some.bounds w.bounds-is w.in-Some.is w.in_units.ensures
-      | in-None w ↦ no_box xy c.args.z c.args.m made c.args.bounds.now w.bounds-is w.in-None.is
-    ] in
-    let h = made_head c.args.kind xy c.args.z c.args.m c.args.ids made in
-    found_sure (deepest - c.args.depth) head h c.args.above.now c.args.cursor.now c.take_inside.new.cursor
-    (same_head head c.args.kind c.args.xy xy c.args.z c.args.m c.args.ids c.args.bounds.now made apart same_xy box) (same_box head c.args.kind c.args.xy xy c.args.z c.args.m c.args.ids c.args.bounds.now made apart same_xy box)
+    let made = c.head_apart-head.result in
+    let (same, bounds) = same_apart head made c.args.kind c.args.xy _ c.args.z c.args.m c.args.ids c.args.bounds.now (to_z-of_z w8 c.args.xy c.ranges.xy) apart c.head_apart-head.ensures in
+    found_sure (deepest - c.args.depth) head made c.args.above.now c.args.cursor.now c.take_inside.new.cursor same bounds
     c.for_members-seen.result c.take_inside.new.seen c.in_ok-inside.inside s.0 s.1 s.2
     (none_of c.in_ok-inside.inside.boxed (sym c.is_some-2.ensures ∙ c.if-is_some.false)) (none_of c.in_ok-inside.inside.ids (sym c.is_some-else-is_some.ensures ∙ c.if-is_some-2.false))
     (none_of c.in_ok-inside.inside.found.refused (sym c.is_some-else-is_some-2.ensures ∙ c.if-is_some-3.false))

@@ -1,7 +1,6 @@
 -- The header of the line announces no box, so only its part and its size, if it has one, decide.
-use Rattle.std.proofs.Common.{ℕ, None, refl, ap, subst, ◌∙◌, arith}
+use Rattle.std.proofs.Common.{ℕ, None, refl, subst, ◌∙◌, arith}
 use Rattle.std.proofs.lemmas.Result.{err_from_is_err_and}
-use Rattle.twkb_num.specs.Cursor.{Reading}
 use Rattle.twkb_head.specs.declared.kinds.Kind.TheVariants.{LineString}
 use Rattle.twkb_body.specs.Devices.Sure.{IsJudged}
 use Rattle.twkb_body.proofs.Refuting.{rest_refutes, flat_ends}
@@ -9,10 +8,8 @@ use Rattle.twkb_body.proofs.FirstReading.{bare_certifies, bare_doubts}
 use Rattle.twkb_body.proofs.sure.plain.take_plain_line.Goals as goal
 
 pub returns-in_default : goal.returns-in_default
-returns-in_default c = λ before sound begins. (
-  ap (λ (r : Reading). r.bytes) (c.in_default.ensures.read 1 before sound begins).1,
-  rest_refutes c.in_default.field-0 1 None before (omega arith) (omega arith) sound (c.in_default.ensures.exact 1 before sound begins),
-)
+returns-in_default c = λ before sound begins.
+    rest_refutes c.in_default.field-0 1 None before _ (omega arith) (omega arith) sound (c.in_default.ensures.read 1 before sound begins) (c.in_default.ensures.exact 1 before sound begins)
 
 pub returns-in_err-vertices : goal.returns-in_err-vertices
 returns-in_err-vertices c = λ before sound begins.

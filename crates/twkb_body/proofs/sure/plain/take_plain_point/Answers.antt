@@ -1,7 +1,6 @@
 -- The header of the point announces no box, so only its part and its size, if it has one, decide.
-use Rattle.std.proofs.Common.{◌≡◌, ℕ, None, Ok, Err, refl, sym, ap, subst, ◌∙◌, arith}
+use Rattle.std.proofs.Common.{◌≡◌, ℕ, None, Ok, Err, refl, sym, subst, ◌∙◌, arith}
 use Rattle.std.proofs.lemmas.Result.{err_from_is_err_and}
-use Rattle.twkb_num.specs.Cursor.{Reading}
 use Rattle.twkb_head.specs.Raw.{head_said, boxless}
 use Rattle.twkb_head.specs.declared.kinds.Kind.TheVariants.{Point}
 use Rattle.twkb_body.specs.Devices.Found.{size_judged}
@@ -12,10 +11,8 @@ use Rattle.twkb_body.proofs.FirstReading.{bare_certifies, bare_doubts}
 use Rattle.twkb_body.proofs.sure.plain.take_plain_point.Goals as goal
 
 pub returns-in_default-clause-certified : goal.returns-in_default-clause-certified
-returns-in_default-clause-certified c = λ before sound begins. (
-  ap (λ (r : Reading). r.bytes) (c.in_default.ensures.read 1 before sound begins).1,
-  rest_refutes c.in_default.field-0 1 None before (omega arith) (omega arith) sound (c.in_default.ensures.exact 1 before sound begins),
-)
+returns-in_default-clause-certified c = λ before sound begins.
+    rest_refutes c.in_default.field-0 1 None before _ (omega arith) (omega arith) sound (c.in_default.ensures.read 1 before sound begins) (c.in_default.ensures.exact 1 before sound begins)
 
 pub returns-in_err-vertices-clause-certified : goal.returns-in_err-vertices-clause-certified
 returns-in_err-vertices-clause-certified c = λ before sound begins.

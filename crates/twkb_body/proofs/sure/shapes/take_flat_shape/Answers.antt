@@ -10,19 +10,19 @@ use Rattle.twkb_body.proofs.sure.shapes.take_flat_shape.Goals as goal
 pub returns-in_err-count : goal.returns-in_err-count
 returns-in_err-count g c = λ levels.
     let p = err_from_is_err_and c.from_residual.result c.from_residual.ensures.1 in
-    rw (p.1, p.2) (shape_count_doubts c.args.head.now levels c.args.frame.now c.args.cursor.now c.take_count.new.cursor _ c.requires.full c.requires.kind c.in_err-count.ensures)
+    rw (p.1, p.2) (shape_count_doubts c.args.head.now levels c.args.frame.now c.args.cursor.now c.take_count.new.cursor _ c.requires.shape.full c.requires.shape.kind c.in_err-count.ensures)
 
 pub returns-in-Some : goal.returns-in-Some
 returns-in-Some g c = λ levels.
     let head = c.args.head.now in
     let two : 2 ≡ axes_of (of_head head) = sym (ap₂ axes_with c.requires.z c.requires.m) in
-    let framed = rw c.in-Some.is at c.requires.frame in
-    rw c.in-Some.is (flat_certifies head levels c.in_ok-count.count c.args.cursor.now c.take_count.new.cursor c.take_flat_boxed.new.cursor c.requires.full c.requires.kind two c.in_ok-count.ensures c.in-Some.frame framed.0 c.take_flat_boxed.result
+    let framed = rw c.in-Some.is at c.requires.shape.framed in
+    rw c.in-Some.is (flat_certifies head levels c.in_ok-count.count c.args.cursor.now c.take_count.new.cursor c.take_flat_boxed.new.cursor c.requires.shape.full c.requires.shape.kind two c.in_ok-count.ensures c.in-Some.frame framed.0 c.take_flat_boxed.result
     c.take_flat_boxed.ensures.ok c.take_flat_boxed.ensures.leave c.take_flat_boxed.ensures.bytes c.take_flat_boxed.ensures.refused)
 
 pub returns-in-None : goal.returns-in-None
 returns-in-None g c = λ levels.
     let head = c.args.head.now in
     let two : 2 ≡ axes_of (of_head head) = sym (ap₂ axes_with c.requires.z c.requires.m) in
-    rw c.in-None.is (unboxed_certifies head levels 2 c.in_ok-count.count c.args.cursor.now c.take_count.new.cursor c.take_unboxed.new.cursor c.requires.full c.requires.kind two c.in_ok-count.ensures c.take_unboxed.result
+    rw c.in-None.is (unboxed_certifies head levels 2 c.in_ok-count.count c.args.cursor.now c.take_count.new.cursor c.take_unboxed.new.cursor c.requires.shape.full c.requires.shape.kind two c.in_ok-count.ensures c.take_unboxed.result
     c.take_unboxed.ensures.ok c.take_unboxed.ensures.malformed c.take_unboxed.ensures.refused)

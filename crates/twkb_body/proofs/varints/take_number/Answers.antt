@@ -1,7 +1,7 @@
 -- The number that was read, or its fault, is what the reader answers.
 use Rattle.std.proofs.Common.{refl}
 use Rattle.twkb_head.proofs.Steps.{read_number, read_no_number}
-use Rattle.twkb_body.proofs.fields.take_number.Goals as goal
+use Rattle.twkb_body.proofs.varints.take_number.Goals as goal
 
 pub returns-in-Ok : goal.returns-in-Ok
 returns-in-Ok c = read_number _ _ _ c.in-Ok.ensures.ok c.in-Ok.ensures.moved

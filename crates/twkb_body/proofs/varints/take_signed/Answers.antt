@@ -4,7 +4,7 @@ use Rattle.std.proofs.lemmas.Int.{to_z-of_z}
 use mir.Val.{SFits}
 use Rattle.std.specs.Int.{w64}
 use Rattle.twkb_head.proofs.Steps.{read_signed, read_no_signed}
-use Rattle.twkb_body.proofs.fields.take_signed.Goals as goal
+use Rattle.twkb_body.proofs.varints.take_signed.Goals as goal
 
 pub returns-in-Ok : goal.returns-in-Ok
 returns-in-Ok c =
