@@ -125,11 +125,11 @@ pub fn two_further(differences: u16x8, at: u32x4, extent: u32x4) -> Reached
         → HaveGone e apart (d1 ∷ d2 ∷ []) result.at result.inside }
 {
     let sums = biased(with_half_before(differences));
-    let first = unbiased_sum(first_half(sums), at);
-    let second = unbiased_sum(second_half(sums), at);
+    let near = unbiased_sum(first_half(sums), at);
+    let far = unbiased_sum(second_half(sums), at);
     Reached {
-        at: second,
-        inside: are_within(greater(first, second), extent),
+        at: far,
+        inside: are_within(greater(near, far), extent),
     }
 }
 
@@ -140,10 +140,10 @@ pub fn one_further(more: &Numbers, at: u32x4, extent: u32x4) -> Reached
     ensures { (apart e : NumbersOf) → at ≡ four_lanes apart → extent ≡ four_lanes e → Each IsInLane apart → Each IsLaneExtent e
         → HaveGone e apart (more.now ∷ []) result.at result.inside }
 {
-    let point = summed(four_lanes_of(more), at);
+    let place = summed(four_lanes_of(more), at);
     Reached {
-        at: point,
-        inside: are_within(point, extent),
+        at: place,
+        inside: are_within(place, extent),
     }
 }
 

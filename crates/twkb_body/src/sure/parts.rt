@@ -125,13 +125,31 @@ fn take_boxed_by<const AXES: usize>(
     ensures bytes { cursor.new.bytes ≡ cursor.old.bytes }
     ensures refused { IfErr result (λ doubt. doubt ≡ Refused) }
 {
-    if fits_further::<AXES>(bounds) {
-        let mut trail = FurtherTrail::<AXES>::new(bounds);
-        return match take_parts(cursor, kind, count, &mut trail) {
-            Ok(()) => Ok(trail.points),
-            Err(_) => Err(Doubt::Refused),
-        };
+    if !fits_further::<AXES>(bounds) {
+        return take_further_wide::<AXES>(cursor, kind, count, bounds);
     }
+    let mut lanes = FurtherTrail::<AXES>::new(bounds);
+    let Ok(()) = take_parts(cursor, kind, count, &mut lanes) else {
+        return Err(Doubt::Refused);
+    };
+    Ok(lanes.points)
+}
+
+/// Reads a body as [`take_boxed`] does, of a box that is too wide for lanes or too far from zero.
+#[inline(never)]
+fn take_further_wide<const AXES: usize>(
+    cursor: &mut Cursor,
+    kind: Kind,
+    count: u64,
+    bounds: &RawBox,
+) -> Result<usize, Doubt>
+    requires further { (AXES ≡ 3) ⊎ (AXES ≡ 4) }
+    requires near { IsNearBox bounds.now }
+    ensures ok { IfOk result (AreHeld true kind AXES count bounds.now cursor.old cursor.new) }
+    ensures leave { OnErr result (LeaveBox kind AXES count bounds.now cursor.old) }
+    ensures bytes { cursor.new.bytes ≡ cursor.old.bytes }
+    ensures refused { IfErr result (λ doubt. doubt ≡ Refused) }
+{
     let head = head_of(kind, AXES);
     let boxed = Boxed::new(bounds);
     let walk = take_walk(cursor, &head, AXES, count, Further::<AXES> { boxed })?;
