@@ -3,13 +3,12 @@ use Rattle.std.proofs.Common.{◌≡◌, ℕ, ◌+◌, Bool, true, false, ◌&&�
 use Rattle.std.proofs.lemmas.Int.{ints}
 use Rattle.twkb_num.specs.Cursor.{Reading}
 use Rattle.twkb_num.specs.Varint.{IsShort}
-use Rattle.twkb_head.specs.Header.{Header, axes_of}
 use Rattle.twkb_head.specs.declared.raw.RawBox.{RawBox}
 use Rattle.twkb_head.specs.declared.raw.RawRange.{RawRange}
 use Rattle.twkb_body.specs.declared.numbers.Numbers.{Numbers}
 use Rattle.twkb_body.specs.declared.trail.Trail.{Trail}
 use Rattle.twkb_body.specs.Devices.Body.{add}
-use Rattle.twkb_body.specs.Devices.Boxed.{reaches, reach_all, is_in_box, Held, held_with, IsClose, IsMet, IsNearRange, IsNearBox}
+use Rattle.twkb_body.specs.Devices.Boxed.{reaches, reach_all, is_in_box, Held, held_then, IsClose, IsMet, IsNearRange, IsNearBox}
 use Rattle.twkb_body.specs.Devices.Numbers.{listed, Each, plus, placed_at, IsIn64, axes_by, AreDifferences}
 use Rattle.twkb_body.specs.Devices.Walk.{IsWalked, IsRun}
 use Rattle.twkb_body.proofs.BoxedRuns.{reached, met, from_minimum, both_true}
@@ -57,20 +56,20 @@ fourth_close : (has_fourth : Bool) (box : RawBox) (apart more : Numbers) → IsN
 fourth_close true box apart more near close absent e = reached box.fourth _ near (both_true _ _ (both_true _ _ e).0).1
 fourth_close false box apart more near close absent e = let none = absent refl in (omega (arith, ints, none, close.0), omega (arith, ints, none, close.1))
 
-module _ (h : Header) (start : Trail) (state : Held) (from : Reading) (box : RawBox) (has_fourth : Bool) where
+module _ (start : Trail) (state : Held) (from : Reading) (box : RawBox) (has_fourth : Bool) where
   abbrev pub trail_at : Numbers → ℕ → Trail
   trail_at apart i = record { last = listed (placed_at box apart); points = start.points + i }
 
   -- i points were read, and the last one is at these distances from the minima of the box
   pub record IsFurtherRun (apart : Numbers) (inside : Bool) (r : Reading) (i : ℕ) : Type 0 where
-    pub run : IsRun (held_with h) (axes_by has_fourth) start (trail_at apart i) state (record { box = box; inside = inside }) from r i
+    pub run : IsRun (held_then (axes_by has_fourth)) (axes_by has_fourth) start (trail_at apart i) state (record { box = box; inside = inside }) from r i
     pub met : Each IsMet apart
     pub close : inside ≡ true → Each IsClose apart
 
   pub further_begins : (apart : Numbers) (inside : Bool) → start.last ≡ listed (placed_at box apart) → Each IsClose apart → state ≡ record { box = box; inside = inside } → IsFurtherRun apart inside from 0
   further_begins apart inside is close state_is = record {
-    run = subst (λ (t : Trail). IsRun (held_with h) (axes_by has_fourth) start t state (record { box = box; inside = inside }) from from 0) same
-        (subst (λ (u : Held). IsRun (held_with h) (axes_by has_fourth) start start state u from from 0) state_is (run_none (held_with h) (axes_by has_fourth) start state from));
+    run = subst (λ (t : Trail). IsRun (held_then (axes_by has_fourth)) (axes_by has_fourth) start t state (record { box = box; inside = inside }) from from 0) same
+        (subst (λ (u : Held). IsRun (held_then (axes_by has_fourth)) (axes_by has_fourth) start start state u from from 0) state_is (run_none (held_then (axes_by has_fourth)) (axes_by has_fourth) start state from));
     met = record { x = close_met _ close.x; y = close_met _ close.y; third = close_met _ close.third; fourth = close_met _ close.fourth };
     close = λ e. close;
   }
@@ -81,14 +80,14 @@ module _ (h : Header) (start : Trail) (state : Held) (from : Reading) (box : Raw
       same : start ≡ trail_at apart 0
       same = λ j. record { last = is j; points = points j }
 
-  module _ (apart more : Numbers) (inside : Bool) (r new : Reading) (i : ℕ) (axes : axes_of h ≡ axes_by has_fourth) (so : inside ≡ true) (near : IsNearBox box) (near_third : IsNearRange box.third) (near_fourth : IsNearRange box.fourth)
+  module _ (apart more : Numbers) (inside : Bool) (r new : Reading) (i : ℕ) (so : inside ≡ true) (near : IsNearBox box) (near_third : IsNearRange box.third) (near_fourth : IsNearRange box.fourth)
       (d : AreDifferences has_fourth more r new) (l : IsFurtherRun apart inside r i) where
     close : Each IsClose apart
     close = l.close so
 
     went_on : IsFurtherRun (plus apart more) (reach_all box has_fourth (plus apart more)) new (i + 1)
     went_on = record {
-      run = run_goes_on (held_with h) (axes_by has_fourth) start (trail_at apart i) (trail_at (plus apart more) (i + 1)) state (record { box = box; inside = inside }) (record { box = box; inside = reach_all box has_fourth (plus apart more) })
+      run = run_goes_on (held_then (axes_by has_fourth)) (axes_by has_fourth) start (trail_at apart i) (trail_at (plus apart more) (i + 1)) state (record { box = box; inside = inside }) (record { box = box; inside = reach_all box has_fourth (plus apart more) })
           from r new i (take (axes_by has_fourth) (listed more)) (d.read (placed_at box apart) fit) walked l.run;
       met = record { x = met _ _ close.x d.short.x; y = met _ _ close.y d.short.y; third = met _ _ close.third d.short.third; fourth = met _ _ close.fourth d.short.fourth };
       close = λ e.
@@ -110,12 +109,11 @@ module _ (h : Header) (start : Trail) (state : Held) (from : Reading) (box : Raw
           fourth = at_in_64 box.fourth apart.fourth more.fourth near_fourth close.fourth d.short.fourth;
         }
 
-        judged : reach_all box has_fourth (plus apart more) ≡ (inside && is_in_box (axes_of h) box (add (listed (placed_at box apart)) (take (axes_by has_fourth) (listed more))))
+        judged : reach_all box has_fourth (plus apart more) ≡ (inside && is_in_box (axes_by has_fourth) box (add (listed (placed_at box apart)) (take (axes_by has_fourth) (listed more))))
         judged = reached_is_in has_fourth box (plus apart more) ∙ ap (is_in_box (axes_by has_fourth) box) (moved_on has_fourth box apart more d.absent)
-            ∙ ap (λ (n : ℕ). is_in_box n box (add (listed (placed_at box apart)) (take (axes_by has_fourth) (listed more)))) (sym axes)
-            ∙ ap (λ (b : Bool). b && is_in_box (axes_of h) box (add (listed (placed_at box apart)) (take (axes_by has_fourth) (listed more)))) (sym so)
+            ∙ ap (λ (b : Bool). b && is_in_box (axes_by has_fourth) box (add (listed (placed_at box apart)) (take (axes_by has_fourth) (listed more)))) (sym so)
 
-        walked : IsWalked (held_with h) (axes_by has_fourth) (trail_at apart i) (trail_at (plus apart more) (i + 1)) (record { box = box; inside = inside }) (record { box = box; inside = reach_all box has_fourth (plus apart more) }) r.place new.place
+        walked : IsWalked (held_then (axes_by has_fourth)) (axes_by has_fourth) (trail_at apart i) (trail_at (plus apart more) (i + 1)) (record { box = box; inside = inside }) (record { box = box; inside = reach_all box has_fourth (plus apart more) }) r.place new.place
             (take (axes_by has_fourth) (listed more) ∷ [])
         walked = record {
           last = moved_on has_fourth box apart more d.absent;
@@ -125,8 +123,8 @@ module _ (h : Header) (start : Trail) (state : Held) (from : Reading) (box : Raw
           ahead = omega (arith, d.ahead);
         }
 
-  pub further_goes_on : (apart more next : Numbers) (inside inside_next : Bool) (r new : Reading) (i : ℕ) → axes_of h ≡ axes_by has_fourth → inside ≡ true → IsNearBox box → IsNearRange box.third → IsNearRange box.fourth → AreDifferences has_fourth more r new
+  pub further_goes_on : (apart more next : Numbers) (inside inside_next : Bool) (r new : Reading) (i : ℕ) → inside ≡ true → IsNearBox box → IsNearRange box.third → IsNearRange box.fourth → AreDifferences has_fourth more r new
       → next ≡ plus apart more → inside_next ≡ reach_all box has_fourth next → IsFurtherRun apart inside r i → IsFurtherRun next inside_next new (i + 1)
-  further_goes_on apart more next inside inside_next r new i axes so near third fourth d next_is inside_is l =
+  further_goes_on apart more next inside inside_next r new i so near third fourth d next_is inside_is l =
       subst (λ (b : Bool). IsFurtherRun next b new (i + 1)) (sym inside_is)
-      (subst (λ (n : Numbers). IsFurtherRun n (reach_all box has_fourth n) new (i + 1)) (sym next_is) (went_on apart more inside r new i axes so near third fourth d l))
+      (subst (λ (n : Numbers). IsFurtherRun n (reach_all box has_fourth n) new (i + 1)) (sym next_is) (went_on apart more inside r new i so near third fourth d l))

@@ -82,8 +82,14 @@ from_there : (low distance more : ℤ) → ((low +ℤ distance) +ℤ more) -ℤ 
 from_there low distance more = omega (arith, ints)
 
 -- once a point is outside, no point changes that
-stays_outside : (held : Held) (point : PointValue) → IsOutside held → IsOutside (held_then 2 held point)
-stays_outside held point out = ap (λ (inside : Bool). inside && is_in_box 2 held.box point) out
+pub stays_outside : (axes : ℕ) (held : Held) (point : PointValue) → IsOutside held → IsOutside (held_then axes held point)
+stays_outside axes held point out = ap (λ (inside : Bool). inside && is_in_box axes held.box point) out
+
+-- a run is a loop over some of the points
+pub run_loop : (axes : ℕ) (start : Trail) (state : Held) (from : Reading) (count k : ℕ) (now : Trail) (held : Held) (r : Reading) → k ≤ count → IsRun (held_then axes) axes start now state held from r k → IsRingLoop (held_then axes) axes count start state from k now held r
+run_loop axes start state from count k now held r le run =
+    subst (λ (n : ℕ). IsRingLoop (held_then axes) axes count start state from n now held r) (omega arith)
+    (ring_goes_far (held_then axes) axes count start state from 0 k start now state held from r (omega (arith, le)) run (walk_begins (held_then axes) axes add (point_at axes) one_point add_is_sums count start state from))
 
 module _ (box : RawBox) (start : Trail) (from : Reading) where
   -- a trail in lanes begins a run
@@ -99,12 +105,6 @@ module _ (box : RawBox) (start : Trail) (from : Reading) where
   }
 
   module _ (count : ℕ) where
-    -- a run is a loop over some of the points
-    as_loop : (k : ℕ) (now : Trail) (held : Held) (r : Reading) → k ≤ count → IsRun (held_then 2) 2 start now (holding box) held from r k → IsRingLoop (held_then 2) 2 count start (holding box) from k now held r
-    as_loop k now held r le run =
-        subst (λ (n : ℕ). IsRingLoop (held_then 2) 2 count start (holding box) from n now held r) (omega arith)
-        (ring_goes_far (held_then 2) 2 count start (holding box) from 0 k start now (holding box) held from r (omega (arith, le)) run (walk_begins (held_then 2) 2 add (point_at 2) one_point add_is_sums count start (holding box) from))
-
     abbrev LeaveFrom : Type 0
     LeaveFrom = LeavesBox 2 (many_at count add (point_at 2)) (λ points. points) box start.last from
 
@@ -115,13 +115,13 @@ module _ (box : RawBox) (start : Trail) (from : Reading) where
     pub run_leaves : (across up : ℤ) (r : Reading) (k : ℕ) → k ≤ count → IsRunAt start from box across up false r k → LeaveFrom
     run_leaves across up r k le run =
         as_points (loop_leads (held_then 2) (holding_at box start) add (point_at 2) one_point add_is_sums count from k (flat_trail start (box.x.minimum +ℤ across) (box.y.minimum +ℤ up) k) (record { box = box; inside = false }) r
-        (as_loop k _ _ r le run) IsOutside stays_outside refl)
+        (run_loop 2 start (holding box) from count k _ _ r le run) IsOutside (stays_outside 2) refl)
 
     -- a run whose next point can't be read, or is outside
     pub far_leaves : (at next : List ℕ) (inside : Bool) (r new : Reading) (i : ℕ) (l : IsLaneRun start from box at r i) → i < count → inside ≡ false → IsFarStep box.x.extent box.y.extent l.across l.up r new next inside → LeaveFrom
     far_leaves at next inside r new i l lt so step =
         as_points (next_leads (held_then 2) (holding_at box start) add (point_at 2) one_point add_is_sums count from i (flat_trail start (box.x.minimum +ℤ l.across) (box.y.minimum +ℤ l.up) i) (holding box) r
-        (as_loop i _ _ r (omega (arith, lt)) l.run) IsOutside stays_outside lt (outside (subst (λ (b : Bool). IsFarStep box.x.extent box.y.extent l.across l.up r new next b) so step)))
+        (run_loop 2 start (holding box) from count i _ _ r (omega (arith, lt)) l.run) IsOutside (stays_outside 2) lt (outside (subst (λ (b : Bool). IsFarStep box.x.extent box.y.extent l.across l.up r new next b) so step)))
       where
         outside : IsFarStep box.x.extent box.y.extent l.across l.up r new next false
             → LeavesBox 2 (point_at 2) one_point box ((box.x.minimum +ℤ l.across) ∷ (box.y.minimum +ℤ l.up) ∷ drop 2 start.last) r

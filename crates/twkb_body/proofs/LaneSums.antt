@@ -16,6 +16,10 @@ use Rattle.twkb_body.proofs.BoxedRuns.{reaches_decides, both_true}
 abbrev pub IsMetInLane : ℤ → Type 0
 IsMetInLane z = (neg_ℤ (pos (2 ^ 31 + 2 ^ 29)) ≤ℤ z) × (z <ℤ pos (2 ^ 31 + 2 ^ 29))
 
+pub and_true_right : (a : Bool) → a ≡ a && true
+and_true_right false = refl
+and_true_right true = refl
+
 pub same_truth : (a b : Bool) → (a ≡ true → b ≡ true) → (b ≡ true → a ≡ true) → a ≡ b
 same_truth true b to from = sym (to refl)
 same_truth false true to from = from refl
@@ -80,6 +84,19 @@ fourth_lane a b c d x one two three four l =
     let all : (cast_unsigned w16 (d +ℤ c) + cast_unsigned w16 (b +ℤ a)) % 65536 ≡ cast_unsigned w16 ((d +ℤ c) +ℤ (b +ℤ a)) = omega (arith, ints, one.0, one.1, two.0, two.1, three.0, three.1, four.0, four.1) in
     ap (λ (s : ℕ). ((s + 32768) % 65536 + (cast_unsigned w32 x + (4294967296 - 32768)) % 4294967296) % 4294967296) (ap₂ (λ (s t : ℕ). (s + t) % 65536) back front ∙ all)
     ∙ lane_sum ((d +ℤ c) +ℤ (b +ℤ a)) x ((((x +ℤ a) +ℤ b) +ℤ c) +ℤ d) (omega (arith, ints, one.0, two.0, three.0, four.0)) (omega (arith, ints, one.1, two.1, three.1, four.1)) l (omega (arith, ints))
+
+-- the lanes of two points of four axes, from the first to the last
+pub first_of_two : (a x : ℤ) → IsBrief a → IsInLane x → (((cast_unsigned w16 a + 0) % 65536 + 32768) % 65536 + (cast_unsigned w32 x + (4294967296 - 32768)) % 4294967296) % 4294967296 ≡ cast_unsigned w32 (x +ℤ a)
+first_of_two a x brief l =
+    let none = none_16 a (omega (arith, ints, brief.0)) (omega (arith, ints, brief.1)) in
+    ap (λ (s : ℕ). ((s + 32768) % 65536 + (cast_unsigned w32 x + (4294967296 - 32768)) % 4294967296) % 4294967296) none
+    ∙ lane_sum a x (x +ℤ a) (omega (arith, ints, brief.0)) (omega (arith, ints, brief.1)) l refl
+
+pub second_of_two : (a b x : ℤ) → IsBrief a → IsBrief b → IsInLane x → (((cast_unsigned w16 b + cast_unsigned w16 a) % 65536 + 32768) % 65536 + (cast_unsigned w32 x + (4294967296 - 32768)) % 4294967296) % 4294967296 ≡ cast_unsigned w32 ((x +ℤ a) +ℤ b)
+second_of_two a b x one two l =
+    let both = sum_16 b a (omega (arith, ints, two.0)) (omega (arith, ints, two.1)) (omega (arith, ints, one.0)) (omega (arith, ints, one.1)) in
+    ap (λ (s : ℕ). ((s + 32768) % 65536 + (cast_unsigned w32 x + (4294967296 - 32768)) % 4294967296) % 4294967296) both
+    ∙ lane_sum (b +ℤ a) x ((x +ℤ a) +ℤ b) (omega (arith, ints, one.0, two.0)) (omega (arith, ints, one.1, two.1)) l (omega (arith, ints))
 
 -- the lanes of one point
 pub one_lane : (a x : ℤ) → IsShort a → IsInLane x → (cast_unsigned w32 a + cast_unsigned w32 x) % 4294967296 ≡ cast_unsigned w32 (x +ℤ a)
@@ -153,6 +170,30 @@ each_of_four x1 y1 x2 y2 x3 y3 x4 y4 =
     let d = both_true x4 y4 (both_true (x4 && y4) true three.1).0 in
     and_true ((x1 && x3) && (y1 && y3)) ((x2 && x4) && (y2 && y4)) (and_true (x1 && x3) (y1 && y3) (and_true x1 x3 a.0 c.0) (and_true y1 y3 a.1 c.1))
     (and_true (x2 && x4) (y2 && y4) (and_true x2 x4 b.0 d.0) (and_true y2 y4 b.1 d.1)))
+
+-- two points of four axes that are compared axis by axis
+pub each_of_two : (x y z m u v w n : Bool) → ((x && u) && (y && v)) && ((z && w) && (m && n)) ≡ ((x && y) && (z && m)) && (((u && v) && (w && n)) && true)
+each_of_two x y z m u v w n =
+    same_truth (((x && u) && (y && v)) && ((z && w) && (m && n))) (((x && y) && (z && m)) && (((u && v) && (w && n)) && true))
+    (λ e.
+    let two = both_true ((x && u) && (y && v)) ((z && w) && (m && n)) e in
+    let flat = both_true (x && u) (y && v) two.0 in
+    let further = both_true (z && w) (m && n) two.1 in
+    let in_x = both_true x u flat.0 in
+    let in_y = both_true y v flat.1 in
+    let in_z = both_true z w further.0 in
+    let in_m = both_true m n further.1 in
+    and_true ((x && y) && (z && m)) (((u && v) && (w && n)) && true) (and_true (x && y) (z && m) (and_true x y in_x.0 in_y.0) (and_true z m in_z.0 in_m.0))
+    (and_true ((u && v) && (w && n)) true (and_true (u && v) (w && n) (and_true u v in_x.1 in_y.1) (and_true w n in_z.1 in_m.1)) refl))
+    (λ e.
+    let two = both_true ((x && y) && (z && m)) (((u && v) && (w && n)) && true) e in
+    let one = both_true (x && y) (z && m) two.0 in
+    let other = both_true (u && v) (w && n) (both_true ((u && v) && (w && n)) true two.1).0 in
+    let a = both_true x y one.0 in
+    let b = both_true z m one.1 in
+    let c = both_true u v other.0 in
+    let d = both_true w n other.1 in
+    and_true ((x && u) && (y && v)) ((z && w) && (m && n)) (and_true (x && u) (y && v) (and_true x u a.0 c.0) (and_true y v a.1 c.1)) (and_true (z && w) (m && n) (and_true z w b.0 d.0) (and_true m n b.1 d.1)))
 
 pub four_set : (p q r s : Bool) → nat_eq (mask_l (p ∷ q ∷ r ∷ s ∷ []) % 18446744073709551616) 15 ≡ (p && q) && (r && s)
 four_set true true true true = refl

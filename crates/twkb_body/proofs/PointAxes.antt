@@ -33,7 +33,7 @@ module _ {A S : Type 0} (after : S → A → S) (each : S → Reader A) where
           subst (P (suc n)) b.2 (more n s r mid x b.0 one (others x mid b.0 b.1))
 
 -- a point has a coordinate for each axis
-point_has : (axes : ℕ) (s : PointValue) (r stop : Reading) (p : PointValue) → point_at axes s r ≡ (Ok p, stop) → length p ≡ axes
+pub point_has : (axes : ℕ) (s : PointValue) (r stop : Reading) (p : PointValue) → point_at axes s r ≡ (Ok p, stop) → length p ≡ axes
 point_has axes s r stop p e =
     all_read (λ (s : PointValue) (z : ℤ). behind s) (λ s. coordinate_at (first_of s)) (λ n p. length p ≡ n) refl (λ n s r stop x xs one l. ap suc l) axes s r stop p e
 

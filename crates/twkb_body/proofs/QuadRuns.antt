@@ -14,6 +14,7 @@ use Rattle.twkb_body.specs.Devices.LaneTrail.{FitsLane, FitsLanes, holding}
 use Rattle.twkb_body.specs.Devices.Quads.{lanes_at, x_after, y_after, all_reach, ReadsPairs, IsInLane, IsLaneExtent, IsQuadStep, IsFarStep}
 use Rattle.twkb_body.proofs.BoxedRuns.{from_minimum, both_true, reaches_decides}
 use Rattle.twkb_body.proofs.FlatRuns.{has_64_bits, IsFlatRun, flat_adds, flat_goes_on}
+use Rattle.twkb_body.proofs.LaneSums.{and_true_right}
 
 -- a distance after this many short differences from one that is in a lane
 pub record IsWithin (k : ℕ) (z : ℤ) : Type 0 where
@@ -31,26 +32,29 @@ coordinate_fits : (range : RawRange) (k : ℕ) (z d : ℤ) → k ≤ 4 → IsNea
 coordinate_fits range k z d few near w short =
     has_64_bits ((range.minimum +ℤ z) +ℤ d) (omega (arith, ints, few, near.low, w.low, short.0)) (omega (arith, ints, few, near.high, w.high, short.1))
 
+-- a range that fits a lane is near
+pub near_range : (range : RawRange) → FitsLane range → IsNearRange range
+near_range range fits = record {
+  low = omega (arith, ints, fits.low.0, fits.low.1);
+  high = omega (arith, ints, fits.low.0, fits.low.1);
+  some = fits.wide.0;
+  few = omega (arith, ints, fits.wide.1);
+  top = omega (arith, ints, fits.low.0, fits.low.1, fits.wide.1);
+}
+
 -- a box that fits lanes is near
 pub near_box : (box : RawBox) → FitsLanes box → IsNearBox box
-near_box box fits = (near box.x fits.0, near box.y fits.1)
-  where
-    near : (range : RawRange) → FitsLane range → IsNearRange range
-    near range fits = record {
-      low = omega (arith, ints, fits.low.0, fits.low.1);
-      high = omega (arith, ints, fits.low.0, fits.low.1);
-      some = fits.wide.0;
-      few = omega (arith, ints, fits.wide.1);
-      top = omega (arith, ints, fits.low.0, fits.low.1, fits.wide.1);
-    }
+near_box box fits = (near_range box.x fits.0, near_range box.y fits.1)
+
+-- a distance within an extent is in a lane
+pub reached_lane : (extent z : ℤ) → IsLaneExtent extent → reaches extent z ≡ true → IsInLane z
+reached_lane extent z fits e =
+    let there = (reaches_decides extent z).0 e in
+    (omega (arith, ints, there.0), omega (arith, ints, there.1, fits.1))
 
 and_assoc : (a b c : Bool) → (a && b) && c ≡ a && (b && c)
 and_assoc false b c = refl
 and_assoc true b c = refl
-
-and_true_right : (a : Bool) → a ≡ a && true
-and_true_right false = refl
-and_true_right true = refl
 
 module _ (start : Trail) (from : Reading) (box : RawBox) where
   -- i points were read, and the last one is at these distances from the minima of the box
@@ -94,12 +98,6 @@ module _ (start : Trail) (from : Reading) (box : RawBox) where
     pub run : IsRunAt across up true r i
     pub in_x : IsInLane across
     pub in_y : IsInLane up
-
-  -- a distance within an extent is in a lane
-  reached_lane : (extent z : ℤ) → IsLaneExtent extent → reaches extent z ≡ true → IsInLane z
-  reached_lane extent z fits e =
-      let there = (reaches_decides extent z).0 e in
-      (omega (arith, ints, there.0), omega (arith, ints, there.1, fits.1))
 
   -- if extents hold all points, the last one's distances stay in lanes
   last_reached : (w h : ℤ) (differences : List (ℤ × ℤ)) (x y : ℤ) → IsLaneExtent w → IsLaneExtent h → IsInLane x → IsInLane y → all_reach w h x y differences ≡ true

@@ -604,24 +604,6 @@ module _ (head : Head) (levels axes count : ℕ) (old mid new : Reading) (full :
         body_held levels head old new vertices axes (sym axes_are) full single frame precisions
         (held, adds_parts (held_then axes) head.kind head.ids axes count old mid new (record { box = frame.bounds; inside = true }) held vertices counted parts, inside)
 
-    pub outside_refutes : (vertices : ℕ) → AreHeld false head.kind axes count frame.bounds mid new vertices → IsRefutedBody levels head (Some frame) old
-    outside_refutes vertices are =
-        points_refute head levels old frame full single precisions mid counted.0 (record { count = count; ids = None }) counted.1 counted.2 axes axes_are
-        (outside_leaves head.kind axes count frame.bounds mid new vertices are) (outside_have head.kind axes count frame.bounds mid new vertices are)
-
-    pub boxed_certifies : (result : Result ℕ Doubt) → IfOk result (AreHeld true head.kind axes count frame.bounds mid new)
-        → OnErr result (AreMalformed head.kind axes count mid new ⊎ ((vertices : ℕ) × AreHeld false head.kind axes count frame.bounds mid new vertices)) → IfErr result (λ d. d ≡ Refused) → CertifiesShape levels head (Some frame) old result new
-    boxed_certifies (Ok vertices) are bad refused = held_sure vertices are
-    boxed_certifies (Err d) are bad refused = refused_for (IsRefutedBody levels head (Some frame) old) (HasManyIdsAfterCount head.ids (rest old)) old d new refused (kept bad) (either bad)
-      where
-        either : AreMalformed head.kind axes count mid new ⊎ ((vertices : ℕ) × AreHeld false head.kind axes count frame.bounds mid new vertices) → IsRefutedBody levels head (Some frame) old
-        either (inl bad) = malformed_refutes (Some frame) bad
-        either (inr (vertices, are)) = outside_refutes vertices are
-
-        kept : AreMalformed head.kind axes count mid new ⊎ ((vertices : ℕ) × AreHeld false head.kind axes count frame.bounds mid new vertices) → new.bytes ≡ old.bytes
-        kept (inl bad) = malformed_keeps bad
-        kept (inr (vertices, are)) = held_keeps false frame.bounds vertices are
-
 -- points with Z or M have three or four axes
 pub three_or_four : (z m : Option ℕ) (axes : ℕ) → axes ≡ axes_with z m → has_further z m ≡ true → (axes ≡ 3) ⊎ (axes ≡ 4)
 three_or_four None None axes is further = absurd (cc (further))

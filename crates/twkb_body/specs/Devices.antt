@@ -7,8 +7,9 @@ pub mod Walk
 pub mod Boxed
 pub mod Quads
 pub mod PointReader
-pub mod LaneTrail
 pub mod Numbers
+pub mod LaneTrail
+pub mod FurtherTrail
 pub mod Found
 pub mod Seen
 pub mod Inside

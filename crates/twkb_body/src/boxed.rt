@@ -190,7 +190,7 @@ fn are_near(bounds: &RawBox, point: &Numbers) -> bool
 
 /// How far the coordinates of a point are from the minima of a box.
 #[inline(always)]
-fn distances(bounds: &RawBox, point: &Numbers) -> Numbers
+pub fn distances(bounds: &RawBox, point: &Numbers) -> Numbers
     requires bounds { IsNearBox bounds.now }
     requires near { AreNear bounds.now point.now }
     ensures placed { point.now ≡ placed_at bounds.now result }
@@ -206,7 +206,7 @@ fn distances(bounds: &RawBox, point: &Numbers) -> Numbers
 
 /// The coordinates at these distances from the minima of a box.
 #[inline(always)]
-fn placed(bounds: &RawBox, distances: &Numbers) -> [i64; 4]
+pub fn placed(bounds: &RawBox, distances: &Numbers) -> [i64; 4]
     requires bounds { IsNearBox bounds.now }
     requires third { IsNearRange bounds.now.third }
     requires fourth { IsNearRange bounds.now.fourth }

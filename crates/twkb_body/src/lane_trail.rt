@@ -35,7 +35,7 @@ pub fn fits_lanes(bounds: &RawBox) -> bool
 
 /// Whether lanes hold the distances of points from the minimum of a range.
 #[inline(always)]
-fn fits_lane(range: &RawRange) -> bool
+pub fn fits_lane(range: &RawRange) -> bool
     ensures { IsTrue result → FitsLane range.now }
 {
     is_lane_extent(range.extent) && is_in_lane(range.minimum.wrapping_neg())

@@ -2,11 +2,15 @@
 //!
 //! A lane holds a point's distance from the minimum of the box. So one comparison without signs tells whether the point is in the
 //! box: a distance below zero is a great number then.
-ghost use Rattle.std.specs.Prelude.{◌≡◌, ◌+◌, ◌-◌, ◌%◌, ◌&&◌, ℕ, ℤ, map, [], ◌∷◌, nat_le, nat_lt, if◌then◌else◌, All, IsTrue};
-ghost use Rattle.std.specs.Int.{w16, w32, cast_signed};
+ghost use Rattle.std.specs.Prelude.{◌≡◌, ◌+◌, ◌-◌, ◌%◌, ◌&&◌, ℕ, ℤ, map, [], ◌∷◌, ◌++◌, nat_le, nat_lt, if◌then◌else◌, All, IsTrue};
+ghost use Rattle.std.specs.Int.{w16, w32, cast_signed, cast_unsigned};
 ghost use Rattle.twkb_num.specs.Varint.{IsBrief, IsShort};
+ghost use Rattle.twkb_body.specs.declared.numbers.Numbers.{Numbers as NumbersOf};
+ghost use Rattle.twkb_body.specs.Devices.FurtherTrail.{four_lanes, HaveGone};
+ghost use Rattle.twkb_body.specs.Devices.Numbers.{Each, listed};
 ghost use Rattle.twkb_body.specs.Devices.Quads.{lanes_at, IsInLane, IsLaneExtent, HaveReached};
 
+use crate::numbers::Numbers;
 use std::simd::prelude::*;
 
 /// A lane holds distances from -2^31 on and below 2^31.
@@ -18,7 +22,7 @@ const WIDEST: i64 = 1 << 30;
 /// The last of some points, and whether a box holds them all.
 #[derive(Clone, Copy)]
 pub struct Reached {
-    /// The point's distances from the minima of the box, twice.
+    /// The point's distances from the minima of the box. Those in X and Y stand twice if there are no others.
     pub at: u32x4,
     pub inside: bool,
 }
@@ -78,7 +82,7 @@ pub fn four_more(differences: u16x8, at: u32x4, extent: u32x4) -> Reached
     let second = unbiased_sum(second_half(sums), at);
     Reached {
         at: last_twice(second),
-        inside: are_both_within(greater(first, second), extent),
+        inside: are_within(greater(first, second), extent),
     }
 }
 
@@ -93,7 +97,7 @@ pub fn two_more(differences: u32x4, at: u32x4, extent: u32x4) -> Reached
     let points = two_points(differences, at);
     Reached {
         at: last_twice(points),
-        inside: are_both_within(points, extent),
+        inside: are_within(points, extent),
     }
 }
 
@@ -108,8 +112,86 @@ pub fn one_more(x_more: i64, y_more: i64, at: u32x4, extent: u32x4) -> Reached
     let point = summed(lanes_of(x_more, y_more), at);
     Reached {
         at: point,
-        inside: are_both_within(point, extent),
+        inside: are_within(point, extent),
     }
+}
+
+/// Two points of four axes more, by differences of at most two bytes.
+#[inline(always)]
+pub fn two_further(differences: u16x8, at: u32x4, extent: u32x4) -> Reached
+    ensures { (apart e d1 d2 : NumbersOf) → at ≡ four_lanes apart → extent ≡ four_lanes e
+        → map (cast_signed w16) differences ≡ listed d1 ++ listed d2 → All IsBrief (map (cast_signed w16) differences)
+        → Each IsInLane apart → Each IsLaneExtent e
+        → HaveGone e apart (d1 ∷ d2 ∷ []) result.at result.inside }
+{
+    let sums = biased(with_half_before(differences));
+    let near = unbiased_sum(first_half(sums), at);
+    let far = unbiased_sum(second_half(sums), at);
+    Reached {
+        at: far,
+        inside: are_within(greater(near, far), extent),
+    }
+}
+
+/// One point of three axes or four more, by differences of at most four bytes.
+#[inline(always)]
+pub fn one_further(more: &Numbers, at: u32x4, extent: u32x4) -> Reached
+    requires { Each IsShort more.now }
+    ensures { (apart e : NumbersOf) → at ≡ four_lanes apart → extent ≡ four_lanes e → Each IsInLane apart → Each IsLaneExtent e
+        → HaveGone e apart (more.now ∷ []) result.at result.inside }
+{
+    let place = summed(four_lanes_of(more), at);
+    Reached {
+        at: place,
+        inside: are_within(place, extent),
+    }
+}
+
+/// A number for each axis, in lanes.
+#[inline(always)]
+pub fn four_lanes_of(n: &Numbers) -> u32x4
+    requires { Each IsInLane n.now }
+    ensures { result ≡ four_lanes n.now }
+{
+    u32x4::from_array([
+        lane_of(n.x),
+        lane_of(n.y),
+        lane_of(n.third),
+        lane_of(n.fourth),
+    ])
+}
+
+/// A number, in a lane.
+#[inline(always)]
+fn lane_of(number: i64) -> u32
+    requires { IsInLane number }
+    ensures { result ≡ cast_unsigned w32 number }
+{
+    (number.cast_unsigned() % (1 << 32)) as u32
+}
+
+/// The number of each axis, in lanes.
+#[inline(always)]
+pub fn numbers_in(at: u32x4) -> Numbers
+    ensures all { (apart : NumbersOf) → at ≡ four_lanes apart → Each IsInLane apart → result ≡ apart }
+    ensures in_lanes { Each IsInLane result }
+{
+    let lanes = at.to_array();
+    Numbers {
+        x: number_in(lanes[0]),
+        y: number_in(lanes[1]),
+        third: number_in(lanes[2]),
+        fourth: number_in(lanes[3]),
+    }
+}
+
+/// The number in a lane.
+#[inline(always)]
+fn number_in(lane: u32) -> i64
+    ensures number { (z : ℤ) → lane ≡ cast_unsigned w32 z → IsInLane z → result ≡ z }
+    ensures in_lane { IsInLane result }
+{
+    i64::from(lane.cast_signed())
 }
 
 /// The sums of lanes.
@@ -185,9 +267,9 @@ fn greater(first: u32x4, second: u32x4) -> u32x4
 
 /// Whether no lane is greater than the extent in its axis.
 #[inline(always)]
-fn are_both_within(points: u32x4, extent: u32x4) -> bool
-    ensures { (a b c d w x : ℕ) → points ≡ a ∷ b ∷ c ∷ d ∷ [] → extent ≡ w ∷ x ∷ w ∷ x ∷ []
-        → result ≡ (nat_le a w && nat_le b x) && (nat_le c w && nat_le d x) }
+fn are_within(points: u32x4, extent: u32x4) -> bool
+    ensures { (a b c d w x y z : ℕ) → points ≡ a ∷ b ∷ c ∷ d ∷ [] → extent ≡ w ∷ x ∷ y ∷ z ∷ []
+        → result ≡ (nat_le a w && nat_le b x) && (nat_le c y && nat_le d z) }
 {
     points.simd_le(extent).to_bitmask() == 15
 }

@@ -16,7 +16,7 @@ pub struct Step {
 impl Step {
     /// No point.
     #[inline(always)]
-    fn none(at: u32x4) -> Step
+    pub fn none(at: u32x4) -> Step
         ensures points { result.points ≡ 0 }
         ensures at { result.reached.at ≡ at }
         ensures inside { result.reached.inside ≡ true }

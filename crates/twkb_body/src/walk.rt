@@ -1,5 +1,6 @@
 //! [`Walk`], which reads points one after another, sums up their coordinates, and adds them to something.
-ghost use Rattle.std.specs.Prelude.{◌≡◌, ◌≤◌};
+ghost use Rattle.std.specs.Prelude.{◌≡◌, ◌≤◌, IfSome};
+ghost use Rattle.twkb_num.specs.Units.{IsPrecision};
 ghost use Rattle.twkb_head.specs.Header.{Header, axes_with};
 ghost use Rattle.twkb_body.specs.Devices.Inside.{of_head};
 ghost use Rattle.twkb_body.specs.Devices.PointReader.{IsWalking};
@@ -8,7 +9,7 @@ ghost use Rattle.twkb_body.specs.Devices.Walk.{HasPrecisions, no_points};
 use crate::point_reader::PointReader;
 use crate::points::Points;
 use crate::trail::{Trail, take_point};
-use twkb_head::{Head, Malformed};
+use twkb_head::{Head, Kind, Malformed};
 use twkb_num::Cursor;
 
 /// Points under one header, which are added to `points`, and how far they have come.
@@ -90,5 +91,30 @@ impl<'h, P: Points> PointReader for Walk<'h, P> {
         ensures { result ≡ malformed }
     {
         malformed
+    }
+}
+
+/// A header with this kind and this number of axes, and nothing else.
+#[inline(always)]
+pub fn head_of(kind: Kind, axes: usize) -> Head
+    requires some { 2 ≤ axes }
+    requires few { axes ≤ 4 }
+    ensures kind { result.kind ≡ kind }
+    ensures axes { axes ≡ axes_with result.z result.m }
+    ensures xy { IsPrecision result.xy }
+    ensures z_high { IfSome result.z (λ p. p ≤ 7) }
+    ensures m_high { IfSome result.m (λ p. p ≤ 7) }
+{
+    Head {
+        kind,
+        xy: 0,
+        z: if 2 < axes { Some(0) } else { None },
+        m: if 3 < axes { Some(0) } else { None },
+        size: None,
+        bounds: None,
+        ids: false,
+        empty: false,
+        start: 0,
+        stop: 0,
     }
 }

@@ -12,12 +12,13 @@ ghost use Rattle.twkb_body.specs.Devices.Walk.{HasPrecisions};
 use crate::boxed::Boxed;
 use crate::doubt::Doubt;
 use crate::further::Further;
+use crate::further_trail::{FurtherTrail, fits_further};
 use crate::lane_trail::{LaneTrail, fits_lanes};
 use crate::lists::take_list;
 use crate::parts::take_parts;
 use crate::points::Points;
 use crate::rooms::IdRoom;
-use crate::walk::Walk;
+use crate::walk::{Walk, head_of};
 use twkb_head::{Head, Kind, RawBox};
 use twkb_num::Cursor;
 
@@ -39,31 +40,6 @@ pub fn take_count<R: IdRoom>(
         Ok(list.count)
     } else {
         Ok(1)
-    }
-}
-
-/// A header with this kind and this number of axes, and nothing else.
-#[inline(always)]
-pub fn head_of(kind: Kind, axes: usize) -> Head
-    requires some { 2 ≤ axes }
-    requires few { axes ≤ 4 }
-    ensures kind { result.kind ≡ kind }
-    ensures axes { axes ≡ axes_with result.z result.m }
-    ensures xy { IsPrecision result.xy }
-    ensures z_high { IfSome result.z (λ p. p ≤ 7) }
-    ensures m_high { IfSome result.m (λ p. p ≤ 7) }
-{
-    Head {
-        kind,
-        xy: 0,
-        z: if 2 < axes { Some(0) } else { None },
-        m: if 3 < axes { Some(0) } else { None },
-        size: None,
-        bounds: None,
-        ids: false,
-        empty: false,
-        start: 0,
-        stop: 0,
     }
 }
 
@@ -122,8 +98,8 @@ pub fn take_boxed(
     requires further { (axes ≡ 3) ⊎ (axes ≡ 4) }
     requires near { IsNearBox bounds.now }
     ensures ok { IfOk result (AreHeld true kind axes count bounds.now cursor.old cursor.new) }
-    ensures doubt { OnErr result (AreMalformed kind axes count cursor.old cursor.new
-        ⊎ ((vertices : ℕ) × AreHeld false kind axes count bounds.now cursor.old cursor.new vertices)) }
+    ensures leave { OnErr result (LeaveBox kind axes count bounds.now cursor.old) }
+    ensures bytes { cursor.new.bytes ≡ cursor.old.bytes }
     ensures refused { IfErr result (λ doubt. doubt ≡ Refused) }
 {
     if axes == 4 {
@@ -145,8 +121,33 @@ fn take_boxed_by<const AXES: usize>(
     requires further { (AXES ≡ 3) ⊎ (AXES ≡ 4) }
     requires near { IsNearBox bounds.now }
     ensures ok { IfOk result (AreHeld true kind AXES count bounds.now cursor.old cursor.new) }
-    ensures doubt { OnErr result (AreMalformed kind AXES count cursor.old cursor.new
-        ⊎ ((vertices : ℕ) × AreHeld false kind AXES count bounds.now cursor.old cursor.new vertices)) }
+    ensures leave { OnErr result (LeaveBox kind AXES count bounds.now cursor.old) }
+    ensures bytes { cursor.new.bytes ≡ cursor.old.bytes }
+    ensures refused { IfErr result (λ doubt. doubt ≡ Refused) }
+{
+    if !fits_further::<AXES>(bounds) {
+        return take_further_wide::<AXES>(cursor, kind, count, bounds);
+    }
+    let mut lanes = FurtherTrail::<AXES>::new(bounds);
+    let Ok(()) = take_parts(cursor, kind, count, &mut lanes) else {
+        return Err(Doubt::Refused);
+    };
+    Ok(lanes.points)
+}
+
+/// Reads a body as [`take_boxed`] does, of a box that is too wide for lanes or too far from zero.
+#[inline(never)]
+fn take_further_wide<const AXES: usize>(
+    cursor: &mut Cursor,
+    kind: Kind,
+    count: u64,
+    bounds: &RawBox,
+) -> Result<usize, Doubt>
+    requires further { (AXES ≡ 3) ⊎ (AXES ≡ 4) }
+    requires near { IsNearBox bounds.now }
+    ensures ok { IfOk result (AreHeld true kind AXES count bounds.now cursor.old cursor.new) }
+    ensures leave { OnErr result (LeaveBox kind AXES count bounds.now cursor.old) }
+    ensures bytes { cursor.new.bytes ≡ cursor.old.bytes }
     ensures refused { IfErr result (λ doubt. doubt ≡ Refused) }
 {
     let head = head_of(kind, AXES);

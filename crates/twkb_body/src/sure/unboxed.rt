@@ -6,9 +6,10 @@ ghost use Rattle.twkb_body.specs.Devices.Bare.{unchanged};
 ghost use Rattle.twkb_body.specs.Devices.Sure.{ReadParts, AreMalformed};
 ghost use Rattle.twkb_body.specs.declared.doubt.Doubt.TheVariants.{Refused};
 
-use super::parts::{head_of, take_walk};
+use super::parts::take_walk;
 use crate::doubt::Doubt;
 use crate::summed::Summed;
+use crate::walk::head_of;
 use twkb_head::Kind;
 use twkb_num::Cursor;
 

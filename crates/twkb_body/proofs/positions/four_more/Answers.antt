@@ -54,7 +54,7 @@ returns k x y w h a1 b1 a2 b2 a3 b3 a4 b4 at extent means short x_in y_in w_fits
     let gv = greater_within (cast_unsigned w32 ((y +ℤ b1) +ℤ b2)) (cast_unsigned w32 ((((y +ℤ b1) +ℤ b2) +ℤ b3) +ℤ b4)) (cast_unsigned w32 h) in
     record {
       at_is = k.last_twice.ensures _ _ _ _ second;
-      inside_is = k.are_both_within.ensures _ _ _ _ _ _ (k.greater.ensures _ _ _ _ _ _ _ _ first second) extent
+      inside_is = k.are_within.ensures _ _ _ _ _ _ _ _ (k.greater.ensures _ _ _ _ _ _ _ _ first second) extent
           ∙ (λ j. (gx j && gy j) && (gu j && gv j))
           ∙ (λ j. ((rx1 j && rx3 j) && (ry1 j && ry3 j)) && ((rx2 j && rx4 j) && (ry2 j && ry4 j)))
           ∙ each_of_four (reaches w (x +ℤ a1)) (reaches h (y +ℤ b1)) (reaches w ((x +ℤ a1) +ℤ a2)) (reaches h ((y +ℤ b1) +ℤ b2)) (reaches w (((x +ℤ a1) +ℤ a2) +ℤ a3)) (reaches h (((y +ℤ b1) +ℤ b2) +ℤ b3))

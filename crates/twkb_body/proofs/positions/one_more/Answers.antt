@@ -31,5 +31,5 @@ returns k x y w h at extent x_in y_in w_fits h_fits =
     let ry = lane_reaches h (y +ℤ b) h_fits y_met in
     record {
       at_is = there;
-      inside_is = k.are_both_within.ensures _ _ _ _ _ _ there extent ∙ (λ j. (rx j && ry j) && (rx j && ry j)) ∙ twice (reaches w (x +ℤ a)) (reaches h (y +ℤ b));
+      inside_is = k.are_within.ensures _ _ _ _ _ _ _ _ there extent ∙ (λ j. (rx j && ry j) && (rx j && ry j)) ∙ twice (reaches w (x +ℤ a)) (reaches h (y +ℤ b));
     }

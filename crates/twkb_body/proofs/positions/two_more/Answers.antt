@@ -32,6 +32,6 @@ returns k x y w h a1 b1 a2 b2 at extent means short x_in y_in w_fits h_fits =
     let ry2 = lane_reaches h ((y +ℤ b1) +ℤ b2) h_fits y2_met in
     record {
       at_is = k.last_twice.ensures _ _ _ _ there;
-      inside_is = k.are_both_within.ensures _ _ _ _ _ _ there extent ∙ (λ j. (rx1 j && ry1 j) && (rx2 j && ry2 j))
+      inside_is = k.are_within.ensures _ _ _ _ _ _ _ _ there extent ∙ (λ j. (rx1 j && ry1 j) && (rx2 j && ry2 j))
           ∙ one_by_one (reaches w (x +ℤ a1)) (reaches h (y +ℤ b1)) (reaches w ((x +ℤ a1) +ℤ a2)) (reaches h ((y +ℤ b1) +ℤ b2));
     }

@@ -1,9 +1,8 @@
 -- Distances of three axes or four are the distances of the points: numbers near zero lose nothing in 64 bits.
-use Rattle.std.proofs.Common.{◌≡◌, ◌+◌, refl, sym, ap, ◌∙◌, subst, arith}
+use Rattle.std.proofs.Common.{◌≡◌, ℕ, ◌+◌, refl, sym, ap, ◌∙◌, subst, arith}
 use Rattle.twkb_num.specs.Cursor.{Reading}
 use Rattle.twkb_body.specs.declared.trail.Trail.{Trail}
-use Rattle.twkb_body.specs.Devices.Boxed.{held_with}
-use Rattle.twkb_body.specs.Devices.Inside.{of_head}
+use Rattle.twkb_body.specs.Devices.Boxed.{held_then}
 use Rattle.twkb_body.specs.Devices.Numbers.{listed, is_four, axes_by}
 use Rattle.twkb_body.specs.Devices.Walk.{IsRun}
 use Rattle.twkb_body.proofs.FurtherRuns.{further_begins, further_goes_on}
@@ -12,7 +11,7 @@ use Rattle.twkb_body.proofs.boxed.Boxed.take_further_run.Goals.{then-loop-is_ins
 
 pub loop-is_inside-init : goal.loop-is_inside-init
 loop-is_inside-init g c = record {
-  run = further_begins (of_head c.args._head.now) c.args.trail.now c.args.self.now c.args.cursor.now c.self.inside.bounds (is_four g.row.AXES) c.distances-apart.result c.self.inside.inside
+  run = further_begins c.args.trail.now c.args.self.now c.args.cursor.now c.self.inside.bounds (is_four g.row.AXES) c.distances-apart.result c.self.inside.inside
       (c.of-last.ensures ∙ ap listed c.distances-apart.ensures.placed) c.distances-apart.ensures.close (sym c.self.view_is);
   few = omega arith;
 }
@@ -21,8 +20,8 @@ pub loop-is_inside-preserved : goal.loop-is_inside-preserved
 loop-is_inside-preserved g c =
     let near = c.if-not-are_near.ensures refl in
     record {
-      run = further_goes_on (of_head c.args._head.now) c.args.trail.now c.args.self.now c.args.cursor.now c.self.inside.bounds (is_four g.row.AXES) c.loop-is_inside.apart c.in-Some.more _ _ _ _ _ c.loop-is_inside.taken
-          c.requires.further c.loop-is_inside-test.true c.self.invariant near.third near.fourth c.in-Some.ensures.some c.plus-apart.ensures c.reach_all-is_inside.ensures c.loop-is_inside.invariant.run;
+      run = further_goes_on c.args.trail.now c.args.self.now c.args.cursor.now c.self.inside.bounds (is_four g.row.AXES) c.loop-is_inside.apart c.in-Some.more _ _ _ _ _ c.loop-is_inside.taken
+          c.loop-is_inside-test.true c.self.invariant near.third near.fourth c.in-Some.ensures.some c.plus-apart.ensures c.reach_all-is_inside.ensures c.loop-is_inside.invariant.run;
       few = omega (arith, c.if-taken-most.true);
     }
 
@@ -33,9 +32,10 @@ returns-clause-run g c =
       | else-loop-is_inside-test w ↦ sym w.cursor-is
       | then-loop-is_inside-test+then-taken-most+in_default w ↦ sym w.in_default.ensures.none ∙ sym w.cursor-is
     ] in
-    let step = held_with (of_head c.args._head.now) in
+    let step = held_then (axes_by (is_four g.row.AXES)) in
     let axes = axes_by (is_four g.row.AXES) in
     let after : Trail = record { last = c.placed-trail.result; points = c.args.trail.now.points + c.loop-is_inside.taken } in
-    subst (λ (q : Reading). IsRun step axes c.args.trail.now after c.args.self.now (record { box = c.self.inside.bounds; inside = c.loop-is_inside.is_inside }) c.args.cursor.now q c.loop-is_inside.taken) stop
+    subst (λ (n : ℕ). IsRun (held_then n) axes c.args.trail.now after c.args.self.now (record { box = c.self.inside.bounds; inside = c.loop-is_inside.is_inside }) c.args.cursor.now c.loop-is_inside-test.cursor c.loop-is_inside.taken) (sym c.requires.further)
+    (subst (λ (q : Reading). IsRun step axes c.args.trail.now after c.args.self.now (record { box = c.self.inside.bounds; inside = c.loop-is_inside.is_inside }) c.args.cursor.now q c.loop-is_inside.taken) stop
     (subst (λ (t : Trail). IsRun step axes c.args.trail.now t c.args.self.now (record { box = c.self.inside.bounds; inside = c.loop-is_inside.is_inside }) c.args.cursor.now c.loop-is_inside.cursor c.loop-is_inside.taken)
-    (λ j. record { last = sym c.placed-trail.ensures j; points = c.args.trail.now.points + c.loop-is_inside.taken }) c.loop-is_inside.invariant.run.run)
+    (λ j. record { last = sym c.placed-trail.ensures j; points = c.args.trail.now.points + c.loop-is_inside.taken }) c.loop-is_inside.invariant.run.run))

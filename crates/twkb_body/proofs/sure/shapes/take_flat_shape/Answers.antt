@@ -3,7 +3,7 @@ use Rattle.std.proofs.Common.{◌≡◌, sym, ap₂}
 use Rattle.std.proofs.lemmas.Result.{err_from_is_err_and}
 use Rattle.twkb_head.specs.Header.{axes_with, axes_of}
 use Rattle.twkb_body.specs.Devices.Inside.{of_head}
-use Rattle.twkb_body.proofs.FlatBodies.{flat_certifies}
+use Rattle.twkb_body.proofs.HeldBodies.{boxed_certifies}
 use Rattle.twkb_body.proofs.Refuting.{shape_count_doubts, unboxed_certifies}
 use Rattle.twkb_body.proofs.sure.shapes.take_flat_shape.Goals as goal
 
@@ -17,7 +17,7 @@ returns-in-Some g c = λ levels.
     let head = c.args.head.now in
     let two : 2 ≡ axes_of (of_head head) = sym (ap₂ axes_with c.requires.z c.requires.m) in
     let framed = rw c.in-Some.is at c.requires.shape.framed in
-    rw c.in-Some.is (flat_certifies head levels c.in_ok-count.count c.args.cursor.now c.take_count.new.cursor c.take_flat_boxed.new.cursor c.requires.shape.full c.requires.shape.kind two c.in_ok-count.ensures c.in-Some.frame framed.0 c.take_flat_boxed.result
+    rw c.in-Some.is (boxed_certifies head levels 2 c.in_ok-count.count c.args.cursor.now c.take_count.new.cursor c.take_flat_boxed.new.cursor c.requires.shape.full c.requires.shape.kind two c.in_ok-count.ensures c.in-Some.frame framed.0 c.take_flat_boxed.result
     c.take_flat_boxed.ensures.ok c.take_flat_boxed.ensures.leave c.take_flat_boxed.ensures.bytes c.take_flat_boxed.ensures.refused)
 
 pub returns-in-None : goal.returns-in-None

@@ -1,6 +1,7 @@
 -- The points lie in the frame, or the body is refuted.
 use Rattle.std.proofs.lemmas.Result.{err_from_is_err_and}
-use Rattle.twkb_body.proofs.Refuting.{three_or_four, shape_count_doubts, boxed_certifies, unboxed_certifies}
+use Rattle.twkb_body.proofs.HeldBodies.{boxed_certifies}
+use Rattle.twkb_body.proofs.Refuting.{three_or_four, shape_count_doubts, unboxed_certifies}
 use Rattle.twkb_body.proofs.sure.shapes.take_further_shape.Goals as goal
 
 pub returns-in_err-count : goal.returns-in_err-count
@@ -15,7 +16,7 @@ pub returns-in-Some : goal.returns-in-Some
 returns-in-Some g c = λ levels.
     let framed = rw c.in-Some.is at c.requires.shape.framed in
     rw c.in-Some.is (boxed_certifies c.args.head.now levels c.axes.result c.in_ok-count.count c.args.cursor.now c.take_count.new.cursor c.take_boxed.new.cursor c.requires.shape.full c.requires.shape.kind c.axes.ensures.value c.in_ok-count.ensures c.in-Some.frame framed.0
-    c.take_boxed.result c.take_boxed.ensures.ok c.take_boxed.ensures.doubt c.take_boxed.ensures.refused)
+    c.take_boxed.result c.take_boxed.ensures.ok c.take_boxed.ensures.leave c.take_boxed.ensures.bytes c.take_boxed.ensures.refused)
 
 pub returns-in-None : goal.returns-in-None
 returns-in-None g c = λ levels.

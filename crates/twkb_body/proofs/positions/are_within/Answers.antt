@@ -3,10 +3,10 @@ use Rattle.std.specs.Prelude.{nat_le}
 use Rattle.std.proofs.lemmas.Simd.{tops_compared}
 use lib.Lanes.{mask_l, zip2}
 use Rattle.twkb_body.proofs.LaneSums.{four_set}
-use Rattle.twkb_body.proofs.positions.are_both_within.Goals as goal
+use Rattle.twkb_body.proofs.positions.are_within.Goals as goal
 
 pub returns : goal.returns
-returns k a b c d w x is extent_is =
+returns k a b c d w x y z is extent_is =
     ap (λ (bits : List Bool). nat_eq (mask_l bits % 18446744073709551616) 15) (tops_compared w32 nat_le k.args.points k.args.extent)
     ∙ ap₂ (λ (points extent : List ℕ). nat_eq (mask_l (zip2 nat_le points extent) % 18446744073709551616) 15) is extent_is
-    ∙ four_set (nat_le a w) (nat_le b x) (nat_le c w) (nat_le d x)
+    ∙ four_set (nat_le a w) (nat_le b x) (nat_le c y) (nat_le d z)

@@ -1,0 +1,356 @@
+-- Points of three axes or four that a box has to hold, read in lanes.
+use Rattle.std.proofs.Common.{◌≡◌, ℕ, ◌+◌, ◌<◌, ◌≤◌, Bool, true, false, ◌&&◌, List, ◌∷◌, [], length, fold, flat_map, slice_index_or, ℤ, pos, ◌+ℤ◌, ◌-ℤ◌, Ok, inr, refl, sym, ap, subst, ◌∙◌, arith}
+use Rattle.std.proofs.lemmas.Int.{ints}
+use Rattle.twkb_num.specs.Cursor.{Reading}
+use Rattle.twkb_num.specs.Varint.{IsShort}
+use Rattle.twkb_head.specs.declared.raw.RawBox.{RawBox}
+use Rattle.twkb_head.specs.declared.raw.RawRange.{RawRange}
+use Rattle.twkb_head.specs.declared.refusal.Malformed.{Malformed}
+use Rattle.twkb_head.specs.Shared.Reader.{many_at}
+use Rattle.twkb_body.specs.declared.numbers.Numbers.{Numbers}
+use Rattle.twkb_body.specs.declared.trail.Trail.{Trail}
+use Rattle.twkb_body.specs.Geometry.{PointValue}
+use Rattle.twkb_body.specs.Devices.Body.{add, zeros}
+use Rattle.twkb_body.specs.Devices.BodyReader.{point_at}
+use Rattle.twkb_body.specs.Devices.Boxed.{reaches, reach_all, is_in_range, is_in_box, Held, held_then, IsClose, IsMet, IsNearZero, AreNear}
+use Rattle.twkb_body.specs.Devices.FurtherTrail.{four_lanes, extents, FitsFurther, all_within, after, all_on_the_way, HaveGone, ReadsPoints, IsFurtherStep, IsFarPoint, LeavesByPoint, StandsFurther}
+use Rattle.twkb_body.specs.Devices.LaneTrail.{FitsLane, holding, IsOutside}
+use Rattle.twkb_body.specs.Devices.Numbers.{listed, Each, plus, placed_at, IsIn64, axes_by, AreDifferences}
+use Rattle.twkb_body.specs.Devices.PointReader.{Stage, HasRead, Leads, EndsEarly}
+use Rattle.twkb_body.specs.Devices.Quads.{ReadsPairs, IsInLane, IsLaneExtent}
+use Rattle.twkb_body.specs.Devices.Walk.{lasts_from, IsWalked}
+use Rattle.twkb_body.proofs.BoxedRuns.{reaches_decides, both_true}
+use Rattle.twkb_body.proofs.FurtherRuns.{trail_at, IsFurtherRun, further_begins, further_goes_on}
+use Rattle.twkb_body.proofs.Keeping.{keeps_point, read_keeps}
+use Rattle.twkb_body.proofs.LaneRuns.{stays_outside, run_loop}
+use Rattle.twkb_body.proofs.LaneSums.{and_true_right}
+use Rattle.twkb_body.proofs.NumberSteps.{four_read}
+use Rattle.twkb_body.proofs.PartPlans.{flat_single}
+use Rattle.twkb_body.proofs.PointAxes.{point_has}
+use Rattle.twkb_body.proofs.PointReads.{loop_leads, next_leads}
+use Rattle.twkb_body.proofs.QuadRuns.{near_range, reached_lane}
+use Rattle.twkb_body.proofs.Runs.{run_goes_on}
+use Rattle.twkb_body.proofs.Walks.{one_point, add_is_sums}
+
+-- four pairs are two points of four axes
+pub two_points_read : (a b c d e f g h : ℤ) (old new : Reading) → ReadsPairs ((a, b) ∷ (c, d) ∷ (e, f) ∷ (g, h) ∷ []) old new
+    → ReadsPoints true (record { x = a; y = b; third = c; fourth = d } ∷ record { x = e; y = f; third = g; fourth = h } ∷ []) old new
+two_points_read a b c d e f g h old new one =
+    let two = one.5 in
+    let three = two.5 in
+    let four = three.5 in (
+      two.0,
+      four_read a b c d old one.0 two.0 one.1 (one.3, one.4) one.2 two.1 (two.3, two.4) two.2,
+      (four.0, four_read e f g h two.0 three.0 four.0 three.1 (three.3, three.4) three.2 four.1 (four.3, four.4) four.2, four.5),
+    )
+
+-- reading a point leaves the bytes unchanged
+pub differences_keep : (has_fourth : Bool) (more : Numbers) (old new : Reading) → AreDifferences has_fourth more old new → new.bytes ≡ old.bytes
+differences_keep has_fourth more old new d = read_keeps (point_at (axes_by has_fourth) zeros) old new _ (keeps_point (axes_by has_fourth) zeros) (d.read none fit)
+  where
+    none : Numbers
+    none = record { x = pos 0; y = pos 0; third = pos 0; fourth = pos 0 }
+
+    from_zero : (z : ℤ) → IsShort z → IsIn64 (pos 0 +ℤ z)
+    from_zero z short = (omega (arith, ints, short.0), omega (arith, ints, short.1))
+
+    fit : Each IsIn64 (plus none more)
+    fit = record { x = from_zero _ d.short.x; y = from_zero _ d.short.y; third = from_zero _ d.short.third; fourth = from_zero _ d.short.fourth }
+
+-- one point is a step
+pub one_step : (has_fourth : Bool) (more : Numbers) (at extent next : List ℕ) (r new : Reading) (inside : Bool) → AreDifferences has_fourth more r new
+    → ((apart e : Numbers) → at ≡ four_lanes apart → extent ≡ four_lanes e → Each IsInLane apart → Each IsLaneExtent e → HaveGone e apart (more ∷ []) next inside) → IsFurtherStep has_fourth at extent r new 1 next inside
+one_step has_fourth more at extent next r new inside d gone apart e at_is extent_is in_lanes wide = (more ∷ [], refl, (new, d, refl), gone apart e at_is extent_is in_lanes wide)
+
+-- no point is a step to where it began
+pub no_step : (has_fourth : Bool) (at extent next : List ℕ) (r new : Reading) (points : ℕ) (inside : Bool) → points ≡ 0 → next ≡ at → inside ≡ true → new ≡ r → IsFurtherStep has_fourth at extent r new points next inside
+no_step has_fourth at extent next r new points inside none at_is inside_is same apart e at_lanes extent_lanes in_lanes wide =
+    ([], sym none, same, record { at_is = at_is ∙ at_lanes; inside_is = inside_is })
+
+swapped : (a b : Bool) → a && b ≡ b && a
+swapped true b = and_true_right b
+swapped false true = refl
+swapped false false = refl
+
+-- all extents hold the distances exactly if those of the axes that are there do
+pub within_is : (has_fourth : Bool) (box : RawBox) (apart : Numbers) → FitsFurther has_fourth box → (has_fourth ≡ false → apart.fourth ≡ pos 0) → all_within (extents box) apart ≡ reach_all box has_fourth apart
+within_is true box apart fits absent =
+    swapped (reaches box.x.extent apart.x && reaches box.y.extent apart.y) (reaches box.third.extent apart.third && reaches box.fourth.extent apart.fourth)
+within_is false box apart fits absent =
+    let none = absent refl in
+    let there : reaches box.fourth.extent apart.fourth ≡ true = (reaches_decides box.fourth.extent apart.fourth).1 (omega (arith, ints, none), omega (arith, ints, none, fits.fourth.wide.0)) in
+    ap (λ (b : Bool). (reaches box.x.extent apart.x && reaches box.y.extent apart.y) && (reaches box.third.extent apart.third && b)) there
+    ∙ swapped (reaches box.x.extent apart.x && reaches box.y.extent apart.y) (reaches box.third.extent apart.third && true)
+
+three_of : (p : PointValue) → length p ≡ 3 → (a b c : ℤ) × (p ≡ a ∷ b ∷ c ∷ [])
+three_of [] e = absurd (omega (arith, e))
+three_of (a ∷ []) e = absurd (omega (arith, e))
+three_of (a ∷ b ∷ []) e = absurd (omega (arith, e))
+three_of (a ∷ b ∷ c ∷ []) e = (a, b, c, refl)
+three_of (a ∷ b ∷ c ∷ d ∷ p) e = absurd (omega (arith, e))
+
+in_lane_close : (z : ℤ) → IsInLane z → IsClose z
+in_lane_close z l = (omega (arith, ints, l.0), omega (arith, ints, l.1))
+
+module _ (box : RawBox) (has_fourth : Bool) (fits : FitsFurther has_fourth box) (start : Trail) (from : Reading) where
+  abbrev axes : ℕ
+  axes = axes_by has_fourth
+
+  -- i points were read that the box holds, and these are the last one's distances from its minima
+  pub record IsAt (apart : Numbers) (r : Reading) (i : ℕ) : Type 0 where
+    pub run : IsFurtherRun start (holding box) from box has_fourth apart true r i
+    pub in_lanes : Each IsInLane apart
+    pub absent : has_fourth ≡ false → apart.fourth ≡ pos 0
+
+  -- the distances are in lanes
+  pub record IsAtLanes (at : List ℕ) (r : Reading) (i : ℕ) : Type 0 where
+    pub apart : Numbers
+    pub at_is : at ≡ four_lanes apart
+    pub there : IsAt apart r i
+
+  pub begins : (apart : Numbers) → start.last ≡ listed (placed_at box apart) → Each IsInLane apart → (has_fourth ≡ false → apart.fourth ≡ pos 0) → IsAt apart from 0
+  begins apart last in_lanes absent = record {
+    run = further_begins start (holding box) from box has_fourth apart true last
+        (record { x = in_lane_close _ in_lanes.x; y = in_lane_close _ in_lanes.y; third = in_lane_close _ in_lanes.third; fourth = in_lane_close _ in_lanes.fourth }) refl;
+    in_lanes = in_lanes;
+    absent = absent;
+  }
+
+  -- one more point
+  next_absent : (apart more : Numbers) (r new : Reading) → AreDifferences has_fourth more r new → (has_fourth ≡ false → apart.fourth ≡ pos 0) → has_fourth ≡ false → apart.fourth +ℤ more.fourth ≡ pos 0
+  next_absent apart more r new d absent e = let before = absent e in let none = d.absent e in omega (arith, ints, before, none)
+
+  one_on : (apart more : Numbers) (inside : Bool) (r new : Reading) (i : ℕ) → AreDifferences has_fourth more r new → inside ≡ all_within (extents box) (plus apart more) → IsAt apart r i
+      → IsFurtherRun start (holding box) from box has_fourth (plus apart more) inside new (i + 1)
+  one_on apart more inside r new i d is at =
+      further_goes_on start (holding box) from box has_fourth apart more (plus apart more) true inside r new i refl (near_range box.x fits.x, near_range box.y fits.y) (near_range box.third fits.third) (near_range box.fourth fits.fourth) d refl
+      (is ∙ within_is has_fourth box (plus apart more) fits (next_absent apart more r new d at.absent)) at.run
+
+  one_inside : (apart more : Numbers) (r new : Reading) (i : ℕ) → AreDifferences has_fourth more r new → all_within (extents box) (plus apart more) ≡ true → IsAt apart r i → IsAt (plus apart more) new (i + 1)
+  one_inside apart more r new i d e at =
+      let both = both_true (reaches box.x.extent (apart.x +ℤ more.x) && reaches box.y.extent (apart.y +ℤ more.y)) (reaches box.third.extent (apart.third +ℤ more.third) && reaches box.fourth.extent (apart.fourth +ℤ more.fourth)) e in
+      let flat = both_true (reaches box.x.extent (apart.x +ℤ more.x)) (reaches box.y.extent (apart.y +ℤ more.y)) both.0 in
+      let further = both_true (reaches box.third.extent (apart.third +ℤ more.third)) (reaches box.fourth.extent (apart.fourth +ℤ more.fourth)) both.1 in
+      record {
+        run = one_on apart more true r new i d (sym e) at;
+        in_lanes = record { x = reached_lane _ _ fits.x.wide flat.0; y = reached_lane _ _ fits.y.wide flat.1; third = reached_lane _ _ fits.third.wide further.0; fourth = reached_lane _ _ fits.fourth.wide further.1 };
+        absent = next_absent apart more r new d at.absent;
+      }
+
+  -- points that the box holds
+  pub all_inside : (differences : List Numbers) (apart : Numbers) (r new : Reading) (i : ℕ) → ReadsPoints has_fourth differences r new → all_on_the_way (extents box) apart differences ≡ true → IsAt apart r i → IsAt (after apart differences) new (i + length differences)
+  all_inside [] apart r new i read e at = subst (λ (q : Reading). IsAt apart q (i + 0)) (sym read) (subst (λ (n : ℕ). IsAt apart r n) (omega arith) at)
+  all_inside (d ∷ ds) apart r new i (middle, one, others) e at =
+      let both = both_true (all_within (extents box) (plus apart d)) (all_on_the_way (extents box) (plus apart d) ds) e in
+      subst (λ (n : ℕ). IsAt (after apart (d ∷ ds)) new n) (omega arith) (all_inside ds (plus apart d) middle new (i + 1) others both.1 (one_inside apart d r middle i one both.0 at))
+
+  module _ (count : ℕ) where
+    abbrev pub LeadsOut : Type 0
+    LeadsOut = Leads (many_at count add (point_at axes)) (λ points. points) (held_then axes) IsOutside start.last (holding box) from
+
+    as_points : Leads (many_at count add (point_at axes)) (λ xs. flat_map one_point xs) (held_then axes) IsOutside start.last (holding box) from → LeadsOut
+    as_points l xs stop e = subst (λ (ps : List PointValue). IsOutside (fold (held_then axes) (holding box) (lasts_from start.last ps))) (flat_single xs) (l xs stop e)
+
+    abbrev stage : Stage Held
+    stage = record { axes = axes; trail = start; state = holding box }
+
+    -- points of which the box doesn't hold one
+    pub some_outside : (differences : List Numbers) (apart : Numbers) (r new : Reading) (i : ℕ) → i + length differences ≤ count → ReadsPoints has_fourth differences r new → all_on_the_way (extents box) apart differences ≡ false → IsAt apart r i → LeadsOut
+    some_outside [] apart r new i le read e at = absurd (cc (e))
+    some_outside (d ∷ ds) apart r new i le (middle, one, others) e at =
+        go (all_within (extents box) (plus apart d)) refl
+        (λ is rest. some_outside ds (plus apart d) middle new (i + 1) (omega (arith, le)) others rest (one_inside apart d r middle i one is at))
+      where
+        go : (b : Bool) → all_within (extents box) (plus apart d) ≡ b → (all_within (extents box) (plus apart d) ≡ true → all_on_the_way (extents box) (plus apart d) ds ≡ false → LeadsOut) → LeadsOut
+        go true is further = further is (ap (λ (b : Bool). b && all_on_the_way (extents box) (plus apart d) ds) (sym is) ∙ e)
+        go false is further =
+            let run = one_on apart d false r middle i one (sym is) at in
+            as_points (loop_leads (held_then axes) stage add (point_at axes) one_point add_is_sums count from (i + 1) _ (record { box = box; inside = false }) middle
+            (run_loop axes start (holding box) from count (i + 1) _ _ middle (omega (arith, le)) run.run) IsOutside (stays_outside axes) refl)
+
+    -- a point that is malformed, or that the box doesn't hold
+    pub far_outside : (apart : Numbers) (r : Reading) (i : ℕ) → i < count → LeavesByPoint has_fourth box apart r → IsAt apart r i → LeadsOut
+    far_outside apart r i lt leaves at =
+        as_points (next_leads (held_then axes) stage add (point_at axes) one_point add_is_sums count from i _ (holding box) r
+        (run_loop axes start (holding box) from count i _ _ r (omega (arith, lt)) at.run.run) IsOutside (stays_outside axes) lt (λ p stop e. leaves p stop e))
+
+  -- a point of any differences that the box holds
+  pub far_inside : (apart : Numbers) (r new : Reading) (next : List ℕ) (i : ℕ) → (far : IsFarPoint has_fourth box apart r new next) → IsAt apart r i → IsAt far.there new (i + 1)
+  far_inside apart r new next i far at = record {
+    run = record {
+      run = run_goes_on (held_then axes) axes start (trail_at start (holding box) from box has_fourth apart i) (trail_at start (holding box) from box has_fourth far.there (i + 1)) (holding box) (holding box) (holding box) from r new i far.point far.read walked at.run.run;
+      met = record { x = met _ far.in_lanes.x; y = met _ far.in_lanes.y; third = met _ far.in_lanes.third; fourth = met _ far.in_lanes.fourth };
+      close = λ e. record { x = in_lane_close _ far.in_lanes.x; y = in_lane_close _ far.in_lanes.y; third = in_lane_close _ far.in_lanes.third; fourth = in_lane_close _ far.in_lanes.fourth };
+    };
+    in_lanes = far.in_lanes;
+    absent = λ e. absent e;
+  }
+    where
+      met : (z : ℤ) → IsInLane z → IsMet z
+      met z l = (omega (arith, ints, l.0), omega (arith, ints, l.1))
+
+      many : length far.point ≡ axes
+      many = point_has axes (listed (placed_at box apart)) r new far.point far.read
+
+      held : true ≡ is_in_box axes box (add (listed (placed_at box apart)) far.point)
+      held = sym far.held ∙ ap (is_in_box axes box) far.placed
+
+      walked : IsWalked (held_then axes) axes (trail_at start (holding box) from box has_fourth apart i) (trail_at start (holding box) from box has_fourth far.there (i + 1)) (holding box) (holding box) r.place new.place (far.point ∷ [])
+      walked = record {
+        last = far.placed;
+        points = omega arith;
+        added = ap (λ (b : Bool). record { box = box; inside = b }) held;
+        have = (many, tt);
+        ahead = omega (arith, far.ahead);
+      }
+
+      absent : has_fourth ≡ false → far.there.fourth ≡ pos 0
+      absent e =
+          let three = three_of far.point (many ∙ ap axes_by e) in
+          let same : box.fourth.minimum +ℤ far.there.fourth ≡ box.fourth.minimum +ℤ apart.fourth =
+          ap (λ (p : PointValue). slice_index_or p 3 (pos 0)) (far.placed ∙ ap (add (listed (placed_at box apart))) three.3) in
+          let none = at.absent e in
+          omega (arith, ints, same, none)
+
+-- ---- a point that is read with its coordinates
+in_range_near : (range : RawRange) (c : ℤ) → FitsLane range → is_in_range range c ≡ true → IsNearZero c
+in_range_near range c fits e =
+    let there = (reaches_decides range.extent (c -ℤ range.minimum)).0 e in
+    (omega (arith, ints, fits.low.0, fits.low.1, there.0), omega (arith, ints, fits.low.0, fits.low.1, fits.wide.1, there.1))
+
+in_range_lane : (range : RawRange) (c z : ℤ) → FitsLane range → is_in_range range c ≡ true → c ≡ range.minimum +ℤ z → IsInLane z
+in_range_lane range c z fits e is =
+    let there = (reaches_decides range.extent (c -ℤ range.minimum)).0 e in
+    (omega (arith, ints, is, there.0), omega (arith, ints, is, there.1, fits.wide.1))
+
+-- what a box that holds a point says of each axis
+record Axes (has_fourth : Bool) (box : RawBox) (point : Numbers) : Type 0 where
+  pub x : is_in_range box.x point.x ≡ true
+  pub y : is_in_range box.y point.y ≡ true
+  pub third : is_in_range box.third point.third ≡ true
+  pub fourth : has_fourth ≡ true → is_in_range box.fourth point.fourth ≡ true
+
+each_axis : (has_fourth : Bool) (box : RawBox) (point : Numbers) → is_in_box (axes_by has_fourth) box (listed point) ≡ true → Axes has_fourth box point
+each_axis true box point e =
+    let both = both_true (is_in_range box.third point.third && is_in_range box.fourth point.fourth) (is_in_range box.x point.x && is_in_range box.y point.y) e in
+    let further = both_true (is_in_range box.third point.third) (is_in_range box.fourth point.fourth) both.0 in
+    let flat = both_true (is_in_range box.x point.x) (is_in_range box.y point.y) both.1 in
+    record { x = flat.0; y = flat.1; third = further.0; fourth = λ there. further.1 }
+each_axis false box point e =
+    let both = both_true (is_in_range box.third point.third && true) (is_in_range box.x point.x && is_in_range box.y point.y) e in
+    let flat = both_true (is_in_range box.x point.x) (is_in_range box.y point.y) both.1 in
+    record { x = flat.0; y = flat.1; third = (both_true (is_in_range box.third point.third) true both.0).0; fourth = λ there. absurd (cc (there)) }
+
+-- a point that was read from these distances on, and that the box holds
+pub record IsHeldPoint (box : RawBox) (has_fourth : Bool) (apart point : Numbers) (p : PointValue) (r new : Reading) : Type 0 where
+  pub read : point_at (axes_by has_fourth) (listed (placed_at box apart)) r ≡ (Ok p, new)
+  pub is : listed point ≡ add (listed (placed_at box apart)) p
+  pub held : is_in_box (axes_by has_fourth) box (listed point) ≡ true
+  pub ahead : r.place < new.place
+
+pub held_point : (box : RawBox) (has_fourth : Bool) (apart point : Numbers) (p : PointValue) (r new : Reading) (m n : ℕ) (old next : Trail) (first held : Held) → m ≡ axes_by has_fourth → n ≡ axes_by has_fourth → old.last ≡ listed (placed_at box apart) → first ≡ holding box
+    → point_at m old.last r ≡ (Ok p, new) → IsWalked (held_then n) m old next first held r.place new.place (p ∷ []) → next.last ≡ listed point → held.inside ≡ true → IsHeldPoint box has_fourth apart point p r new
+held_point box has_fourth apart point p r new m n old next first held m_is n_is last first_is read walked next_is inside =
+    let there : listed point ≡ add (listed (placed_at box apart)) p = sym next_is ∙ walked.last ∙ ap (λ (s : PointValue). add s p) last in
+    record {
+      read = (λ j. point_at (sym m_is j) (sym last j) r) ∙ read;
+      is = there;
+      held = (λ j. is_in_box (sym n_is j) box (there j)) ∙ ap (λ (s : PointValue). is_in_box n box (add s p)) (sym last)
+          ∙ ap (λ (h : Held). h.inside && is_in_box n h.box (add old.last p)) (sym first_is) ∙ sym (ap (λ (h : Held). h.inside) walked.added) ∙ inside;
+      ahead = omega (arith, walked.ahead);
+    }
+
+module _ (box : RawBox) (has_fourth : Bool) (fits : FitsFurther has_fourth box) (apart point : Numbers) (p : PointValue) (r new : Reading) (in_lanes : Each IsInLane apart) (h : IsHeldPoint box has_fourth apart point p r new) where
+  -- the coordinate in an axis that isn't there stays as it was
+  kept : has_fourth ≡ false → point.fourth ≡ box.fourth.minimum +ℤ apart.fourth
+  kept e =
+      let three = three_of p (point_has (axes_by has_fourth) (listed (placed_at box apart)) r new p h.read ∙ ap axes_by e) in
+      ap (λ (p : PointValue). slice_index_or p 3 (pos 0)) (h.is ∙ ap (add (listed (placed_at box apart))) three.3)
+
+  in_axes : Axes has_fourth box point
+  in_axes = each_axis has_fourth box point h.held
+
+  pub point_near : AreNear box point
+  point_near = record {
+    third = near_range box.third fits.third;
+    fourth = near_range box.fourth fits.fourth;
+    all = record { x = in_range_near box.x point.x fits.x in_axes.x; y = in_range_near box.y point.y fits.y in_axes.y; third = in_range_near box.third point.third fits.third in_axes.third; fourth = fourth_near has_fourth refl };
+  }
+    where
+      fourth_near : (b : Bool) → has_fourth ≡ b → IsNearZero point.fourth
+      fourth_near true e = in_range_near box.fourth point.fourth fits.fourth (in_axes.fourth e)
+      fourth_near false e = let k = kept e in (omega (arith, ints, k, fits.fourth.low.0, fits.fourth.low.1, in_lanes.fourth.0), omega (arith, ints, k, fits.fourth.low.0, fits.fourth.low.1, in_lanes.fourth.1))
+
+  pub point_in_lanes : (there : Numbers) → point ≡ placed_at box there → Each IsInLane there
+  point_in_lanes there e = record {
+    x = in_range_lane box.x point.x there.x fits.x in_axes.x (ap (λ (n : Numbers). n.x) e);
+    y = in_range_lane box.y point.y there.y fits.y in_axes.y (ap (λ (n : Numbers). n.y) e);
+    third = in_range_lane box.third point.third there.third fits.third in_axes.third (ap (λ (n : Numbers). n.third) e);
+    fourth = fourth_lane has_fourth refl;
+  }
+    where
+      fourth_lane : (b : Bool) → has_fourth ≡ b → IsInLane there.fourth
+      fourth_lane true is_there = in_range_lane box.fourth point.fourth there.fourth fits.fourth (in_axes.fourth is_there) (ap (λ (n : Numbers). n.fourth) e)
+      fourth_lane false is_there =
+          let k = kept is_there in
+          let same = ap (λ (n : Numbers). n.fourth) e in
+          (omega (arith, ints, k, same, in_lanes.fourth.0), omega (arith, ints, k, same, in_lanes.fourth.1))
+
+  -- the distances of the point, in lanes
+  pub far_point_is : (next : List ℕ) (there : Numbers) → point ≡ placed_at box there → next ≡ four_lanes there → IsFarPoint has_fourth box apart r new next
+  far_point_is next there e lanes = record {
+    point = p;
+    there = there;
+    read = h.read;
+    placed = ap listed (sym e) ∙ h.is;
+    held = ap (λ (n : Numbers). is_in_box (axes_by has_fourth) box (listed n)) (sym e) ∙ h.held;
+    lanes_are = lanes;
+    in_lanes = point_in_lanes there e;
+    ahead = h.ahead;
+  }
+
+-- the trail whose last point is at these distances from the minima of a box
+abbrev pub start_of : RawBox → Numbers → ℕ → Trail
+start_of box apart points = record { last = listed (placed_at box apart); points = points }
+
+module _ (box : RawBox) (has_fourth : Bool) (lanes extent : List ℕ) (points : ℕ) (at : Stage Held) (s : StandsFurther has_fourth box lanes extent points at) (from to : Reading) (count : ℕ) where
+  abbrev start : Trail
+  start = start_of box s.apart points
+
+  -- no more points than bytes
+  pub further_counted : (place : ℕ) → at.trail.points ≤ place → points ≤ place
+  further_counted place few = let there = ap (λ (at : Stage Held). at.trail.points) s.at_is in omega (arith, there, few)
+
+  -- the wide extents
+  pub extents_wide : Each IsLaneExtent (extents box)
+  extents_wide = record { x = s.fits.x.wide; y = s.fits.y.wide; third = s.fits.third.wide; fourth = s.fits.fourth.wide }
+
+  pub stands_begin : IsAtLanes box has_fourth s.fits start from lanes from 0
+  stands_begin = record { apart = s.apart; at_is = s.lanes_are; there = begins box has_fourth s.fits start from s.apart refl s.in_lanes s.absent }
+
+  -- all points were read
+  pub stands_read : (next : List ℕ) (i : ℕ) → i ≡ count → IsAtLanes box has_fourth s.fits start from next to i
+      → HasRead (many_at count add (point_at at.axes)) (λ points. points) (held_then (axes_by has_fourth)) (StandsFurther has_fourth box next extent (points + count)) at from to
+  stands_read next i end l =
+      subst (λ (at : Stage Held). HasRead (many_at count add (point_at at.axes)) (λ points. points) (held_then (axes_by has_fourth)) (StandsFurther has_fourth box next extent (points + count)) at from to) (sym s.at_is)
+      (record {
+        value = l.there.run.run.numbers;
+        read = ap (λ (n : ℕ). many_at n add (point_at (axes_by has_fourth)) start.last from) (sym end) ∙ l.there.run.run.read;
+        trail = trail_at start (holding box) from box has_fourth l.apart i;
+        state = holding box;
+        there = record {
+          apart = l.apart;
+          at_is = ap (λ (n : ℕ). record { axes = axes_by has_fourth; trail = record { last = listed (placed_at box l.apart); points = points + n }; state = holding box }) end;
+          lanes_are = l.at_is;
+          extent_is = s.extent_is;
+          in_lanes = l.there.in_lanes;
+          absent = l.there.absent;
+          fits = s.fits;
+        };
+        walked = l.there.run.run.walked;
+      })
+
+  -- the box doesn't hold all points
+  pub stands_ended : (tells : Malformed → Type 0) → LeadsOut box has_fourth s.fits start from count → EndsEarly (many_at count add (point_at at.axes)) (λ points. points) (held_then (axes_by has_fourth)) IsOutside tells at from to
+  stands_ended tells leads =
+      subst (λ (at : Stage Held). EndsEarly (many_at count add (point_at at.axes)) (λ points. points) (held_then (axes_by has_fourth)) IsOutside tells at from to) (sym s.at_is) (inr ((record { box = box; inside = false }, refl), leads))

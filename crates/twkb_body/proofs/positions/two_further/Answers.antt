@@ -1,0 +1,62 @@
+-- The sums are the points' distances, and one comparison without signs tells whether the extents hold both.
+use Rattle.std.proofs.Common.{◌≡◌, ◌&&◌, ◌++◌, [], ◌∷◌, ◌∙◌, subst, arith, pos, w16, w32}
+use Rattle.std.proofs.lemmas.Int.{ints}
+use Rattle.std.specs.Int.{cast_unsigned}
+use Rattle.std.specs.Prelude.{ℤ, ◌+ℤ◌, All}
+use Rattle.twkb_num.specs.Varint.{IsBrief}
+use Rattle.twkb_body.specs.Devices.Boxed.{reaches}
+use Rattle.twkb_body.specs.Devices.FurtherTrail.{four_lanes}
+use Rattle.twkb_body.specs.Devices.Numbers.{listed, plus}
+use Rattle.twkb_body.specs.Devices.Quads.{IsInLane}
+use Rattle.twkb_body.proofs.LaneSums.{IsMetInLane, lanes_are, first_of_two, second_of_two, lane_reaches, greater_within, each_of_two}
+use Rattle.twkb_body.proofs.positions.two_further.Goals as goal
+
+one_met : (x a : ℤ) → IsInLane x → IsBrief a → IsMetInLane (x +ℤ a)
+one_met x a l brief = (omega (arith, ints, l.0, brief.0), omega (arith, ints, l.1, brief.1))
+
+both_met : (x a b : ℤ) → IsInLane x → IsBrief a → IsBrief b → IsMetInLane ((x +ℤ a) +ℤ b)
+both_met x a b l one two = (omega (arith, ints, l.0, one.0, two.0), omega (arith, ints, l.1, one.1, two.1))
+
+pub returns : goal.returns
+returns c apart e p q at extent means brief in_lanes wide =
+    let all = subst (All IsBrief) means brief in
+    let px : IsBrief p.x = all 0 (pos 0) (omega arith) in
+    let py : IsBrief p.y = all 1 (pos 0) (omega arith) in
+    let pz : IsBrief p.third = all 2 (pos 0) (omega arith) in
+    let pm : IsBrief p.fourth = all 3 (pos 0) (omega arith) in
+    let qx : IsBrief q.x = all 4 (pos 0) (omega arith) in
+    let qy : IsBrief q.y = all 5 (pos 0) (omega arith) in
+    let qz : IsBrief q.third = all 6 (pos 0) (omega arith) in
+    let qm : IsBrief q.fourth = all 7 (pos 0) (omega arith) in
+    let more = lanes_are w16 c.args.differences (listed p ++ listed q) c.fits-differences.1 means in
+    let sums = c.biased-sums.ensures _ _ _ _ _ _ _ _ (c.with_half_before.ensures _ _ _ _ _ _ _ _ more) in
+    let x1 = first_of_two p.x apart.x px in_lanes.x in
+    let y1 = first_of_two p.y apart.y py in_lanes.y in
+    let z1 = first_of_two p.third apart.third pz in_lanes.third in
+    let m1 = first_of_two p.fourth apart.fourth pm in_lanes.fourth in
+    let x2 = second_of_two p.x q.x apart.x px qx in_lanes.x in
+    let y2 = second_of_two p.y q.y apart.y py qy in_lanes.y in
+    let z2 = second_of_two p.third q.third apart.third pz qz in_lanes.third in
+    let m2 = second_of_two p.fourth q.fourth apart.fourth pm qm in_lanes.fourth in
+    let first : c.unbiased_sum-near.result ≡ four_lanes (plus apart p) = c.unbiased_sum-near.ensures _ _ _ _ _ _ _ _ (c.first_half.ensures _ _ _ _ _ _ _ _ sums) at ∙ (λ j. x1 j ∷ y1 j ∷ z1 j ∷ m1 j ∷ []) in
+    let second : c.unbiased_sum-far.result ≡ four_lanes (plus (plus apart p) q) = c.unbiased_sum-far.ensures _ _ _ _ _ _ _ _ (c.second_half.ensures _ _ _ _ _ _ _ _ sums) at ∙ (λ j. x2 j ∷ y2 j ∷ z2 j ∷ m2 j ∷ []) in
+    let rx1 = lane_reaches e.x (apart.x +ℤ p.x) wide.x (one_met apart.x p.x in_lanes.x px) in
+    let ry1 = lane_reaches e.y (apart.y +ℤ p.y) wide.y (one_met apart.y p.y in_lanes.y py) in
+    let rz1 = lane_reaches e.third (apart.third +ℤ p.third) wide.third (one_met apart.third p.third in_lanes.third pz) in
+    let rm1 = lane_reaches e.fourth (apart.fourth +ℤ p.fourth) wide.fourth (one_met apart.fourth p.fourth in_lanes.fourth pm) in
+    let rx2 = lane_reaches e.x ((apart.x +ℤ p.x) +ℤ q.x) wide.x (both_met apart.x p.x q.x in_lanes.x px qx) in
+    let ry2 = lane_reaches e.y ((apart.y +ℤ p.y) +ℤ q.y) wide.y (both_met apart.y p.y q.y in_lanes.y py qy) in
+    let rz2 = lane_reaches e.third ((apart.third +ℤ p.third) +ℤ q.third) wide.third (both_met apart.third p.third q.third in_lanes.third pz qz) in
+    let rm2 = lane_reaches e.fourth ((apart.fourth +ℤ p.fourth) +ℤ q.fourth) wide.fourth (both_met apart.fourth p.fourth q.fourth in_lanes.fourth pm qm) in
+    let gx = greater_within (cast_unsigned w32 (apart.x +ℤ p.x)) (cast_unsigned w32 ((apart.x +ℤ p.x) +ℤ q.x)) (cast_unsigned w32 e.x) in
+    let gy = greater_within (cast_unsigned w32 (apart.y +ℤ p.y)) (cast_unsigned w32 ((apart.y +ℤ p.y) +ℤ q.y)) (cast_unsigned w32 e.y) in
+    let gz = greater_within (cast_unsigned w32 (apart.third +ℤ p.third)) (cast_unsigned w32 ((apart.third +ℤ p.third) +ℤ q.third)) (cast_unsigned w32 e.third) in
+    let gm = greater_within (cast_unsigned w32 (apart.fourth +ℤ p.fourth)) (cast_unsigned w32 ((apart.fourth +ℤ p.fourth) +ℤ q.fourth)) (cast_unsigned w32 e.fourth) in
+    record {
+      at_is = second;
+      inside_is = c.are_within.ensures _ _ _ _ _ _ _ _ (c.greater.ensures _ _ _ _ _ _ _ _ first second) extent
+          ∙ (λ j. (gx j && gy j) && (gz j && gm j))
+          ∙ (λ j. ((rx1 j && rx2 j) && (ry1 j && ry2 j)) && ((rz1 j && rz2 j) && (rm1 j && rm2 j)))
+          ∙ each_of_two (reaches e.x (apart.x +ℤ p.x)) (reaches e.y (apart.y +ℤ p.y)) (reaches e.third (apart.third +ℤ p.third)) (reaches e.fourth (apart.fourth +ℤ p.fourth))
+          (reaches e.x ((apart.x +ℤ p.x) +ℤ q.x)) (reaches e.y ((apart.y +ℤ p.y) +ℤ q.y)) (reaches e.third ((apart.third +ℤ p.third) +ℤ q.third)) (reaches e.fourth ((apart.fourth +ℤ p.fourth) +ℤ q.fourth));
+    }

@@ -1,0 +1,88 @@
+-- Devices of proofs: nothing public names them.
+-- Points of three axes or four that a box has to hold, where the last one's distances from its minima are in lanes.
+use Rattle.std.specs.Prelude.{◌≡◌, ℕ, ◌<◌, Bool, true, false, ◌&&◌, List, [], ◌∷◌, length, pos, Ok}
+use Rattle.std.specs.Int.{w32, cast_unsigned}
+use Rattle.twkb_num.specs.Cursor.{Reading}
+use Rattle.twkb_head.specs.declared.raw.RawBox.{RawBox}
+use Rattle.twkb_body.specs.declared.numbers.Numbers.{Numbers}
+use Rattle.twkb_body.specs.Geometry.{PointValue}
+use Rattle.twkb_body.specs.Devices.Body.{add}
+use Rattle.twkb_body.specs.Devices.BodyReader.{point_at}
+use Rattle.twkb_body.specs.Devices.Boxed.{Held, reaches, is_in_box}
+use Rattle.twkb_body.specs.Devices.LaneTrail.{FitsLane, holding}
+use Rattle.twkb_body.specs.Devices.Numbers.{listed, Each, plus, placed_at, axes_by, AreDifferences}
+use Rattle.twkb_body.specs.Devices.PointReader.{Stage}
+use Rattle.twkb_body.specs.Devices.Quads.{IsInLane, IsLaneExtent}
+
+-- a number for each axis in lanes, in two's complement
+abbrev pub four_lanes : Numbers → List ℕ
+four_lanes n = cast_unsigned w32 n.x ∷ cast_unsigned w32 n.y ∷ cast_unsigned w32 n.third ∷ cast_unsigned w32 n.fourth ∷ []
+
+-- the extents of a box
+abbrev pub extents : RawBox → Numbers
+extents box = record { x = box.x.extent; y = box.y.extent; third = box.third.extent; fourth = box.fourth.extent }
+
+-- a box, distances from whose minima lanes hold in each axis; an axis that isn't there has its minimum at zero
+pub record FitsFurther (has_fourth : Bool) (box : RawBox) : Type 0 where
+  pub x : FitsLane box.x
+  pub y : FitsLane box.y
+  pub third : FitsLane box.third
+  pub fourth : FitsLane box.fourth
+  pub absent : has_fourth ≡ false → box.fourth.minimum ≡ pos 0
+
+-- the distances of a point lie within the extents in all axes
+abbrev pub all_within : Numbers → Numbers → Bool
+all_within e apart = (reaches e.x apart.x && reaches e.y apart.y) && (reaches e.third apart.third && reaches e.fourth apart.fourth)
+
+-- the distances after these differences, each of a point
+abbrev pub after : Numbers → List Numbers → Numbers
+after apart [] = apart
+after apart (d ∷ ds) = after (plus apart d) ds
+
+-- the distances of each point on the way lie within the extents
+abbrev pub all_on_the_way : Numbers → Numbers → List Numbers → Bool
+all_on_the_way e apart [] = true
+all_on_the_way e apart (d ∷ ds) = all_within e (plus apart d) && all_on_the_way e (plus apart d) ds
+
+-- the differences lead to these lanes, and the extents hold all points on the way, or not
+pub record HaveGone (e apart : Numbers) (differences : List Numbers) (at : List ℕ) (inside : Bool) : Type 0 where
+  pub at_is : at ≡ four_lanes (after apart differences)
+  pub inside_is : inside ≡ all_on_the_way e apart differences
+
+-- these differences were read, point after point
+abbrev pub ReadsPoints : Bool → List Numbers → Reading → Reading → Type 0
+ReadsPoints has_fourth [] old new = new ≡ old
+ReadsPoints has_fourth (d ∷ ds) old new = (middle : Reading) × AreDifferences has_fourth d old middle × ReadsPoints has_fourth ds middle new
+
+-- this many points were read, from the distances in lanes on
+abbrev pub IsFurtherStep : Bool → List ℕ → List ℕ → Reading → Reading → ℕ → List ℕ → Bool → Type 0
+IsFurtherStep has_fourth at extent old new points next inside =
+    (apart e : Numbers) → at ≡ four_lanes apart → extent ≡ four_lanes e → Each IsInLane apart → Each IsLaneExtent e
+    → (differences : List Numbers) × (length differences ≡ points) × ReadsPoints has_fourth differences old new × HaveGone e apart differences next inside
+
+-- a point was read from these distances on, which the box holds, and its distances are in these lanes
+pub record IsFarPoint (has_fourth : Bool) (box : RawBox) (apart : Numbers) (old new : Reading) (next : List ℕ) : Type 0 where
+  pub point : PointValue
+  pub there : Numbers
+  pub read : point_at (axes_by has_fourth) (listed (placed_at box apart)) old ≡ (Ok point, new)
+  pub placed : listed (placed_at box there) ≡ add (listed (placed_at box apart)) point
+  pub held : is_in_box (axes_by has_fourth) box (listed (placed_at box there)) ≡ true
+  pub lanes_are : next ≡ four_lanes there
+  pub in_lanes : Each IsInLane there
+  pub ahead : old.place < new.place
+
+-- if a point can be read from these distances on, the box doesn't hold it
+abbrev pub LeavesByPoint : Bool → RawBox → Numbers → Reading → Type 0
+LeavesByPoint has_fourth box apart old =
+    (point : PointValue) (stop : Reading) → point_at (axes_by has_fourth) (listed (placed_at box apart)) old ≡ (Ok point, stop)
+    → is_in_box (axes_by has_fourth) box (add (listed (placed_at box apart)) point) ≡ false
+
+-- the lanes are those of a box, which holds all points so far, and of the trail of a stage
+pub record StandsFurther (has_fourth : Bool) (box : RawBox) (lanes extent : List ℕ) (points : ℕ) (at : Stage Held) : Type 0 where
+  pub apart : Numbers
+  pub at_is : at ≡ record { axes = axes_by has_fourth; trail = record { last = listed (placed_at box apart); points = points }; state = holding box }
+  pub lanes_are : lanes ≡ four_lanes apart
+  pub extent_is : extent ≡ four_lanes (extents box)
+  pub in_lanes : Each IsInLane apart
+  pub absent : has_fourth ≡ false → apart.fourth ≡ pos 0
+  pub fits : FitsFurther has_fourth box
