@@ -132,12 +132,7 @@ impl<const AXES: usize> PointReader for FurtherTrail<AXES> {
 /// Reads two points at the place, or one, by their distances from the minima of a box, in lanes. It reads none if a difference of
 /// the first takes more than four bytes, or if few bytes are left.
 #[inline(always)]
-fn next_further<const AXES: usize>(
-    cursor: &mut Cursor,
-    left: u64,
-    at: u32x4,
-    extent: u32x4,
-) -> Step
+fn next_further<const AXES: usize>(cursor: &mut Cursor, left: u64, at: u32x4, extent: u32x4) -> Step
     requires { 1 ≤ left }
     ensures few { result.points ≤ left }
     ensures none { result.points ≡ 0 → cursor.new ≡ cursor.old }

@@ -7,7 +7,8 @@ use Rattle.twkb_head.specs.declared.header.Head.{Head}
 use Rattle.twkb_head.specs.Header.{Header, axes_with}
 use Rattle.twkb_head.specs.Shared.Reader.{Reader, many_at}
 use Rattle.twkb_body.specs.declared.trail.Trail.{Trail}
-use Rattle.twkb_body.specs.Geometry.{PointValue, HavePrecisions, vertex_of}
+use Rattle.twkb_body.specs.Geometry.{PointValue, vertex_of}
+use Rattle.twkb_head.specs.Raw.{HavePrecisions}
 use Rattle.twkb_body.specs.Devices.Body.{add, sums, zeros, map_from}
 use Rattle.twkb_body.specs.Devices.BodyReader.{point_at}
 
