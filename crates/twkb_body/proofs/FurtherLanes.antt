@@ -12,14 +12,14 @@ use Rattle.twkb_body.specs.declared.trail.Trail.{Trail}
 use Rattle.twkb_body.specs.Geometry.{PointValue}
 use Rattle.twkb_body.specs.Devices.Body.{add, zeros}
 use Rattle.twkb_body.specs.Devices.BodyReader.{point_at}
-use Rattle.twkb_body.specs.Devices.Boxed.{reaches, reach_all, is_in_range, is_in_box, Held, held_then, IsClose, IsMet, IsNearZero, AreNear}
+use Rattle.twkb_body.specs.Devices.BoxTest.{reaches, reach_all, is_in_range, is_in_box, Held, held_then, IsClose, IsMet, IsNearZero, AreNear}
 use Rattle.twkb_body.specs.Devices.FurtherTrail.{four_lanes, extents, FitsFurther, all_within, after, all_on_the_way, HaveGone, ReadsPoints, IsFurtherStep, IsFarPoint, LeavesByPoint, StandsFurther}
 use Rattle.twkb_body.specs.Devices.LaneTrail.{FitsLane, holding, IsOutside}
 use Rattle.twkb_body.specs.Devices.Numbers.{listed, Each, plus, placed_at, IsIn64, axes_by, AreDifferences}
 use Rattle.twkb_body.specs.Devices.PointReader.{Stage, HasRead, Leads, EndsEarly}
 use Rattle.twkb_body.specs.Devices.Quads.{ReadsPairs, IsInLane, IsLaneExtent}
 use Rattle.twkb_body.specs.Devices.Walk.{lasts_from, IsWalked}
-use Rattle.twkb_body.proofs.BoxedRuns.{reaches_decides, both_true}
+use Rattle.twkb_body.proofs.BoxRuns.{reaches_decides, both_true}
 use Rattle.twkb_body.proofs.FurtherRuns.{trail_at, IsFurtherRun, further_begins, further_goes_on}
 use Rattle.twkb_body.proofs.Keeping.{keeps_point, read_keeps}
 use Rattle.twkb_body.proofs.LaneRuns.{stays_outside, run_loop}

@@ -8,10 +8,10 @@ use Rattle.twkb_head.specs.declared.raw.RawRange.{RawRange}
 use Rattle.twkb_body.specs.declared.numbers.Numbers.{Numbers}
 use Rattle.twkb_body.specs.declared.trail.Trail.{Trail}
 use Rattle.twkb_body.specs.Devices.Body.{add}
-use Rattle.twkb_body.specs.Devices.Boxed.{reaches, reach_all, is_in_box, Held, held_then, IsClose, IsMet, IsNearRange, IsNearBox}
+use Rattle.twkb_body.specs.Devices.BoxTest.{reaches, reach_all, is_in_box, Held, held_then, IsClose, IsMet, IsNearRange, IsNearBox}
 use Rattle.twkb_body.specs.Devices.Numbers.{listed, Each, plus, placed_at, IsIn64, axes_by, AreDifferences}
 use Rattle.twkb_body.specs.Devices.Walk.{IsWalked, IsRun}
-use Rattle.twkb_body.proofs.BoxedRuns.{reached, met, from_minimum, both_true}
+use Rattle.twkb_body.proofs.BoxRuns.{reached, met, from_minimum, both_true}
 use Rattle.twkb_body.proofs.Runs.{run_none, run_goes_on}
 
 -- a coordinate at a distance, plus a short difference, fits 64 bits

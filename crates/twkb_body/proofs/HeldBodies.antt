@@ -15,7 +15,7 @@ use Rattle.twkb_body.specs.declared.frame.Frame.{Frame}
 use Rattle.twkb_body.specs.declared.lane_trail.LaneTrail.{LaneTrail}
 use Rattle.twkb_body.specs.declared.trail.Trail.{Trail}
 use Rattle.twkb_body.specs.Geometry.{PointValue, PolygonValue, points_of}
-use Rattle.twkb_body.specs.Devices.Boxed.{Held, held_then}
+use Rattle.twkb_body.specs.Devices.BoxTest.{Held, held_then}
 use Rattle.twkb_body.specs.Devices.Body.{ring_sums, zeros}
 use Rattle.twkb_body.specs.Devices.BodyReader.{part_at}
 use Rattle.twkb_body.specs.Devices.IdLists.{HasManyIdsAfterCount}

@@ -14,7 +14,7 @@ use Rattle.twkb_body.specs.declared.trail.Trail.{Trail}
 use Rattle.twkb_body.specs.Geometry.{PointValue}
 use Rattle.twkb_body.specs.Devices.Body.{first_of, behind, add}
 use Rattle.twkb_body.specs.Devices.BodyReader.{point_at}
-use Rattle.twkb_body.specs.Devices.Boxed.{reaches, Held, held_then, is_in_box}
+use Rattle.twkb_body.specs.Devices.BoxTest.{reaches, Held, held_then, is_in_box}
 use Rattle.twkb_body.specs.Devices.LaneTrail.{holding, holding_at, trail_at, IsLaneTrail, StandsInLanes, IsOutside, LeavesBox}
 use Rattle.twkb_body.specs.Devices.PointReader.{Stage, HasRead, EndsEarly}
 use Rattle.twkb_body.specs.Devices.Quads.{IsFarStep}

@@ -8,9 +8,9 @@ use Rattle.std.proofs.lemmas.Bool.Decides.{leb_tells}
 use Rattle.std.specs.Prelude.{if◌then◌else◌, nat_lt, ◌≤◌, ◌⊎◌}
 use lib.Lanes.{Each1, mask_l}
 use Rattle.twkb_num.specs.Varint.{IsBrief, IsShort}
-use Rattle.twkb_body.specs.Devices.Boxed.{reaches}
+use Rattle.twkb_body.specs.Devices.BoxTest.{reaches}
 use Rattle.twkb_body.specs.Devices.Quads.{IsInLane, IsLaneExtent}
-use Rattle.twkb_body.proofs.BoxedRuns.{reaches_decides, both_true}
+use Rattle.twkb_body.proofs.BoxRuns.{reaches_decides, both_true}
 
 -- a distance to which at most four short differences lead from one that a lane holds
 abbrev pub IsMetInLane : ℤ → Type 0

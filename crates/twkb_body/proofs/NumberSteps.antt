@@ -10,7 +10,7 @@ use Rattle.twkb_head.specs.Shared.Reader.{Answer, ◌>>=◌, viewed, many_at, co
 use Rattle.twkb_head.proofs.Steps.{read_signed, coordinate_ok, fits_true}
 use Rattle.twkb_body.specs.Devices.Body.{first_of, behind}
 use Rattle.twkb_body.specs.Devices.BodyReader.{point_at}
-use Rattle.twkb_body.specs.Devices.Boxed.{IsNearZero, IsNearRange, IsMet, IsClose}
+use Rattle.twkb_body.specs.Devices.BoxTest.{IsNearZero, IsNearRange, IsMet, IsClose}
 use Rattle.twkb_body.specs.Geometry.{PointValue}
 use Rattle.twkb_body.specs.Devices.Numbers.{IsIn64, AreDifferences}
 use Rattle.twkb_body.proofs.Coordinates.{coordinate_ahead}

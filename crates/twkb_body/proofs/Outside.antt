@@ -12,8 +12,8 @@ use Rattle.twkb_head.specs.Header.{Header, axes_of, axes_with}
 use Rattle.twkb_head.specs.Holds.{IsWithin, Holds}
 use Rattle.twkb_head.specs.Raw.{ends_of, ranges_in, raw_bounds}
 use Rattle.twkb_body.specs.Geometry.{PointValue, coordinate, vertex_of}
-use Rattle.twkb_body.specs.Devices.Boxed.{is_in_range, is_in_axis, is_in_box, Held, held_with}
-use Rattle.twkb_body.proofs.BoxedRuns.{reaches_decides}
+use Rattle.twkb_body.specs.Devices.BoxTest.{is_in_range, is_in_axis, is_in_box, Held, held_with}
+use Rattle.twkb_body.proofs.BoxRuns.{reaches_decides}
 use Rattle.twkb_body.proofs.Judging.{le_decides}
 use Rattle.twkb_body.proofs.Scales.{times_le}
 

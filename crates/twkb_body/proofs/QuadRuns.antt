@@ -9,10 +9,10 @@ use Rattle.twkb_head.proofs.Steps.{coordinate_ok, fits_true}
 use Rattle.twkb_head.specs.declared.raw.RawBox.{RawBox}
 use Rattle.twkb_head.specs.declared.raw.RawRange.{RawRange}
 use Rattle.twkb_body.specs.declared.trail.Trail.{Trail}
-use Rattle.twkb_body.specs.Devices.Boxed.{reaches, is_in_box, held_then, IsNearRange, IsNearBox}
+use Rattle.twkb_body.specs.Devices.BoxTest.{reaches, is_in_box, held_then, IsNearRange, IsNearBox}
 use Rattle.twkb_body.specs.Devices.LaneTrail.{FitsLane, FitsLanes, holding}
 use Rattle.twkb_body.specs.Devices.Quads.{lanes_at, x_after, y_after, all_reach, ReadsPairs, IsInLane, IsLaneExtent, IsQuadStep, IsFarStep}
-use Rattle.twkb_body.proofs.BoxedRuns.{from_minimum, both_true, reaches_decides}
+use Rattle.twkb_body.proofs.BoxRuns.{from_minimum, both_true, reaches_decides}
 use Rattle.twkb_body.proofs.FlatRuns.{has_64_bits, IsFlatRun, flat_adds, flat_goes_on}
 use Rattle.twkb_body.proofs.LaneSums.{and_true_right}
 

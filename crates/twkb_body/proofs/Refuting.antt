@@ -47,7 +47,7 @@ use Rattle.twkb_body.specs.declared.stopped.Stopped.TheVariants.{Malformed as Ba
 use Rattle.twkb_body.specs.Devices.Stops.{HasStopped, WantsIn, WantsInside, WantsBehind}
 use Rattle.twkb_body.specs.Devices.Body.{Body, ListHead, absolute, zeros, ring_sums, parts_body, members_body, members_of, geometry_from}
 use Rattle.twkb_body.specs.Devices.BodyReader.{list_at, count_at, part_at, shape_at, body_at, collection_at, geometry_at, members_under}
-use Rattle.twkb_body.specs.Devices.Boxed.{Held, held_then, held_with}
+use Rattle.twkb_body.specs.Devices.BoxTest.{Held, held_then, held_with}
 use Rattle.twkb_body.specs.Devices.Found.{named, size_judged}
 use Rattle.twkb_body.specs.Devices.IdLists.{IsListFound, HasManyIdsAfterCount}
 use Rattle.twkb_body.specs.Devices.Inside.{of_head, body_behind}

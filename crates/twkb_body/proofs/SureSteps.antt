@@ -26,7 +26,7 @@ use Rattle.twkb_head.proofs.HeadBack.{head_value}
 use Rattle.twkb_body.specs.declared.frame.Frame.{Frame}
 use Rattle.twkb_body.specs.declared.trail.Trail.{Trail}
 use Rattle.twkb_body.specs.declared.inside.Inside.{Inside}
-use Rattle.twkb_body.specs.Devices.Boxed.{is_in_range, is_in_axis, is_in_box, Held, held_then, held_with}
+use Rattle.twkb_body.specs.Devices.BoxTest.{is_in_range, is_in_axis, is_in_box, Held, held_then, held_with}
 use Rattle.twkb_body.specs.Devices.Body.{Body, ListHead, no_body, absolute, zeros, ring_sums, parts_body, members_body, members_of}
 use Rattle.twkb_body.specs.Devices.BodyReader.{part_at, list_at, count_at, members_under}
 use Rattle.twkb_body.specs.Extent.{Reach, reach_of, both}
@@ -38,7 +38,7 @@ use Rattle.twkb_body.specs.Devices.Pass.{first, false_at, is_within}
 use Rattle.twkb_body.specs.Devices.Ranges.{widened}
 use Rattle.twkb_body.specs.Devices.Sure.{HasReadTwo, LiesIn, LiesInAll, framed, faultless, unseen, frame_bounds, IsHeldBy, IsFrameUnder, body_vertices, IsSureBody, IsSureBehind, IsSure, IsFramed, IsFaultless}
 use Rattle.twkb_body.specs.Devices.Walk.{no_points, HaveAxes, IsWalked, lasts_from}
-use Rattle.twkb_body.proofs.BoxedRuns.{reaches_decides, both_true}
+use Rattle.twkb_body.proofs.BoxRuns.{reaches_decides, both_true}
 use Rattle.twkb_body.proofs.Coordinates.{vertices_same}
 use Rattle.twkb_body.proofs.GeometrySteps.{body_gives, empty_body, shape_body, body_of_head, nothing_inside, geometry_found}
 use Rattle.twkb_body.proofs.MemberSteps.{members_of-push, IsMemberLoop, members_begin, members_go_on, members_end, collection_body, collection_gives, members_inside}

@@ -4,7 +4,7 @@ pub mod BodyReader
 pub mod Pass
 pub mod Ranges
 pub mod Walk
-pub mod Boxed
+pub mod BoxTest
 pub mod Quads
 pub mod PointReader
 pub mod Numbers

@@ -1,11 +1,11 @@
 //! The box that the vertices of a geometry have to lie in: its own, or the box of a geometry above.
 ghost use Rattle.std.specs.Prelude.{◌≡◌, IfSome, IsTrue, not, option_map};
 ghost use Rattle.twkb_head.specs.Raw.{raw_bounds};
-ghost use Rattle.twkb_body.specs.Devices.Boxed.{IsNearRange};
+ghost use Rattle.twkb_body.specs.Devices.BoxTest.{IsNearRange};
 ghost use Rattle.twkb_body.specs.Devices.Sure.{framed, has_further, IsNear, IsNearFrame, IsFrameUnder, LiesIn, LiesInAll};
 ghost use Rattle.twkb_body.specs.Devices.Walk.{ArePrecisions, HasPrecisions};
 
-use crate::boxed::is_near_range;
+use crate::box_test::is_near_range;
 use twkb_head::{Axes, Bounds, Head, RawBox, RawRange};
 
 /// A box of raw numbers, and the precision of each axis that there is.

@@ -1,7 +1,7 @@
 //! Whether a box holds points of three axes or four. What is compiled for one number of axes has no code for the other.
 ghost use Rattle.std.specs.Prelude.{◌≡◌};
 
-use crate::boxed::Boxed;
+use crate::box_test::BoxTest;
 use crate::points::Points;
 use crate::trail::Trail;
 use twkb_head::Head;
@@ -10,11 +10,11 @@ use twkb_num::Cursor;
 /// A box, and whether it holds points of `AXES` axes, three or four.
 #[derive(Drop)]
 pub struct Further<const AXES: usize> {
-    pub boxed: Boxed,
+    pub boxed: BoxTest,
 }
 
 impl<const AXES: usize> Points for Further<AXES> {
-    ghost use Rattle.twkb_body.specs.Devices.Boxed.{Held, held_with};
+    ghost use Rattle.twkb_body.specs.Devices.BoxTest.{Held, held_with};
 
     ghost State = { Held };
 

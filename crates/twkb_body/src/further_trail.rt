@@ -8,7 +8,7 @@ ghost use Rattle.twkb_body.specs.Devices.PointReader.{Stage};
 ghost use Rattle.twkb_body.specs.Devices.Quads.{IsInLane};
 ghost use Rattle.twkb_body.specs.Devices.Walk.{no_points};
 
-use crate::boxed::{Boxed, distances, placed};
+use crate::box_test::{BoxTest, distances, placed};
 use crate::lane_trail::{NotHeld, fits_lane};
 use crate::numbers::{Numbers, take_differences};
 use crate::point_reader::PointReader;
@@ -73,7 +73,7 @@ impl<const AXES: usize> FurtherTrail<AXES> {
 
 impl<const AXES: usize> PointReader for FurtherTrail<AXES> {
     ghost use Rattle.std.specs.Prelude.{⊤, refl};
-    ghost use Rattle.twkb_body.specs.Devices.Boxed.{Held, held_then};
+    ghost use Rattle.twkb_body.specs.Devices.BoxTest.{Held, held_then};
     ghost use Rattle.twkb_body.specs.Devices.LaneTrail.{IsOutside};
     ghost use Rattle.twkb_body.specs.Devices.Numbers.{is_four, axes_by};
     ghost use Rattle.twkb_body.specs.Devices.FurtherTrail.{StandsFurther};
@@ -208,7 +208,7 @@ fn far_point<const AXES: usize>(cursor: &mut Cursor, bounds: &RawBox, at: u32x4)
         last: placed(bounds, &numbers_in(at)),
         points: 0,
     };
-    let mut boxed = Boxed::new(bounds);
+    let mut boxed = BoxTest::new(bounds);
     let Ok(()) = take_point(cursor, &head, axes, &mut trail, &mut boxed) else {
         return Reached { at, inside: false };
     };

@@ -1,7 +1,7 @@
 //! [`LaneTrail`], the last of the points that a box in X and Y has to hold, in lanes of 32 bits. With it the parts of a body are
 //! read, up to the first point that the box doesn't hold.
 ghost use Rattle.std.specs.Prelude.{◌≡◌, ◌≤◌, ◌&&◌, ◌^◌, ℤ, pos, ◌+ℤ◌, ◌<ℤ◌, IsTrue, IfSome, IfNone, OnSome, flat_map, false, true};
-ghost use Rattle.twkb_body.specs.Devices.Boxed.{reaches};
+ghost use Rattle.twkb_body.specs.Devices.BoxTest.{reaches};
 ghost use Rattle.twkb_body.specs.Devices.LaneTrail.{FitsLane, FitsLanes, StandsInLanes, holding_at};
 ghost use Rattle.twkb_body.specs.Devices.Quads.{lanes_at, IsInLane, IsLaneExtent, IsFarStep};
 ghost use Rattle.twkb_body.specs.Devices.Walk.{no_points};
@@ -58,7 +58,7 @@ impl LaneTrail {
 
 impl PointReader for LaneTrail {
     ghost use Rattle.std.specs.Prelude.{⊤, refl};
-    ghost use Rattle.twkb_body.specs.Devices.Boxed.{Held, held_then};
+    ghost use Rattle.twkb_body.specs.Devices.BoxTest.{Held, held_then};
     ghost use Rattle.twkb_body.specs.Devices.LaneTrail.{StandsInLanes, IsOutside};
 
     type Fault = NotHeld;

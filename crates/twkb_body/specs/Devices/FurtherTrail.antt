@@ -8,7 +8,7 @@ use Rattle.twkb_body.specs.declared.numbers.Numbers.{Numbers}
 use Rattle.twkb_body.specs.Geometry.{PointValue}
 use Rattle.twkb_body.specs.Devices.Body.{add}
 use Rattle.twkb_body.specs.Devices.BodyReader.{point_at}
-use Rattle.twkb_body.specs.Devices.Boxed.{Held, reaches, is_in_box}
+use Rattle.twkb_body.specs.Devices.BoxTest.{Held, reaches, is_in_box}
 use Rattle.twkb_body.specs.Devices.LaneTrail.{FitsLane, holding}
 use Rattle.twkb_body.specs.Devices.Numbers.{listed, Each, plus, placed_at, axes_by, AreDifferences}
 use Rattle.twkb_body.specs.Devices.PointReader.{Stage}

@@ -11,7 +11,7 @@ use Rattle.twkb_body.specs.declared.trail.Trail.{Trail}
 use Rattle.twkb_body.specs.Geometry.{PointValue, points_of}
 use Rattle.twkb_body.specs.Devices.Body.{ring_sums, zeros}
 use Rattle.twkb_body.specs.Devices.BodyReader.{part_at}
-use Rattle.twkb_body.specs.Devices.Boxed.{Held, held_then}
+use Rattle.twkb_body.specs.Devices.BoxTest.{Held, held_then}
 use Rattle.twkb_body.specs.Devices.PointReader.{Stage, Leads}
 use Rattle.twkb_body.specs.Devices.Quads.{lanes_at, IsInLane, IsLaneExtent}
 

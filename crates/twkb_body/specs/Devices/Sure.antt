@@ -25,7 +25,7 @@ use Rattle.twkb_body.specs.Claims.{IsTrueClaim, claims, member_claims}
 use Rattle.twkb_body.specs.Audited.{HasLongList}
 use Rattle.twkb_body.specs.declared.doubt.Doubt.{Doubt}
 use Rattle.twkb_body.specs.declared.doubt.Doubt.TheVariants.{Refused, Memory}
-use Rattle.twkb_body.specs.Devices.Boxed.{Held, held_then, IsNearRange, IsNearBox}
+use Rattle.twkb_body.specs.Devices.BoxTest.{Held, held_then, IsNearRange, IsNearBox}
 use Rattle.twkb_body.specs.Devices.Body.{Body, ListHead, ring_sums, zeros}
 use Rattle.twkb_body.specs.Devices.BodyReader.{part_at, count_at, geometry_at}
 use Rattle.twkb_body.specs.Extent.{reach_of}

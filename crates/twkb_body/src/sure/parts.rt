@@ -2,14 +2,14 @@
 ghost use Rattle.std.specs.Prelude.{◌≡◌, ◌≤◌, ◌⊎◌, ℕ, true, false, IfOk, IfErr, IfSome, OnErr};
 ghost use Rattle.twkb_num.specs.Units.{IsPrecision};
 ghost use Rattle.twkb_head.specs.Header.{axes_with, is_multi};
-ghost use Rattle.twkb_body.specs.Devices.Boxed.{IsNearBox};
+ghost use Rattle.twkb_body.specs.Devices.BoxTest.{IsNearBox};
 ghost use Rattle.twkb_body.specs.Devices.Inside.{of_head};
 ghost use Rattle.twkb_body.specs.Devices.LaneTrail.{LeaveBox};
 ghost use Rattle.twkb_body.specs.Devices.Sure.{ReadParts, AreMalformed, AreHeld, CountsParts};
 ghost use Rattle.twkb_body.specs.declared.doubt.Doubt.TheVariants.{Refused};
 ghost use Rattle.twkb_body.specs.Devices.Walk.{HasPrecisions};
 
-use crate::boxed::Boxed;
+use crate::box_test::BoxTest;
 use crate::doubt::Doubt;
 use crate::further::Further;
 use crate::further_trail::{FurtherTrail, fits_further};
@@ -79,7 +79,7 @@ fn take_wide(cursor: &mut Cursor, kind: Kind, count: u64, bounds: &RawBox) -> Re
     ensures refused { IfErr result (λ doubt. doubt ≡ Refused) }
 {
     let head = head_of(kind, 2);
-    let walk = take_walk(cursor, &head, 2, count, Boxed::new(bounds))?;
+    let walk = take_walk(cursor, &head, 2, count, BoxTest::new(bounds))?;
     if !walk.points.is_inside() {
         return Err(Doubt::Refused);
     }
@@ -151,7 +151,7 @@ fn take_further_wide<const AXES: usize>(
     ensures refused { IfErr result (λ doubt. doubt ≡ Refused) }
 {
     let head = head_of(kind, AXES);
-    let boxed = Boxed::new(bounds);
+    let boxed = BoxTest::new(bounds);
     let walk = take_walk(cursor, &head, AXES, count, Further::<AXES> { boxed })?;
     if !walk.points.boxed.is_inside() {
         return Err(Doubt::Refused);

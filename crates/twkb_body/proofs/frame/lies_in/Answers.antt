@@ -5,7 +5,7 @@ use Rattle.std.proofs.lemmas.Int.{ints, of_z-to_z, to_z-of_z, wrapping_sub_is}
 use Rattle.std.specs.Int.{int_wrap}
 use Rattle.std.specs.Int.RustNames.{FitsSigned}
 use Rattle.twkb_head.specs.declared.raw.RawRange.{RawRange}
-use Rattle.twkb_body.specs.Devices.Boxed.{IsNearRange}
+use Rattle.twkb_body.specs.Devices.BoxTest.{IsNearRange}
 use Rattle.twkb_body.specs.Devices.Sure.{LiesIn}
 use Rattle.twkb_body.proofs.frame.lies_in.Goals as goal
 

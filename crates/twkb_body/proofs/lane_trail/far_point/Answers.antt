@@ -6,7 +6,7 @@ use Rattle.std.specs.Int.{w64}
 use Rattle.twkb_num.specs.Cursor.{Reading}
 use Rattle.twkb_head.specs.Shared.Reader.{Answer, signed_at}
 use Rattle.twkb_head.proofs.Readings.{ok_not_err, one_answer}
-use Rattle.twkb_body.specs.Devices.Boxed.{reaches}
+use Rattle.twkb_body.specs.Devices.BoxTest.{reaches}
 use Rattle.twkb_body.specs.Devices.Quads.{lanes_at, IsFarStep}
 use Rattle.twkb_body.proofs.Keeping.{keeps_signed}
 use Rattle.twkb_body.proofs.lane_trail.far_point.Goals as goal

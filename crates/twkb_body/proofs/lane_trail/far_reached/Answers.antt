@@ -4,9 +4,9 @@ use Rattle.std.proofs.lemmas.Int.{ints}
 use mir.Val.{SFits, to_z, of_z}
 use Rattle.std.proofs.lemmas.Int.{to_z-of_z}
 use Rattle.std.specs.Int.{w64}
-use Rattle.twkb_body.specs.Devices.Boxed.{reaches}
+use Rattle.twkb_body.specs.Devices.BoxTest.{reaches}
 use Rattle.twkb_body.specs.Devices.Quads.{lanes_at, IsInLane, IsLaneExtent}
-use Rattle.twkb_body.proofs.BoxedRuns.{reaches_decides}
+use Rattle.twkb_body.proofs.BoxRuns.{reaches_decides}
 use Rattle.twkb_body.proofs.lane_trail.far_reached.Goals as goal
 
 -- a lane holds an extent

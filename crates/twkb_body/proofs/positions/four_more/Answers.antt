@@ -3,7 +3,7 @@ use Rattle.std.proofs.lemmas.Int.{ints}
 use Rattle.std.specs.Int.{cast_unsigned}
 use Rattle.std.specs.Prelude.{◌+ℤ◌, All}
 use Rattle.twkb_num.specs.Varint.{IsBrief}
-use Rattle.twkb_body.specs.Devices.Boxed.{reaches}
+use Rattle.twkb_body.specs.Devices.BoxTest.{reaches}
 use Rattle.twkb_body.proofs.LaneSums.{IsMetInLane, lanes_are, first_lane, second_lane, third_lane, fourth_lane, lane_reaches, greater_within, each_of_four}
 use Rattle.twkb_body.proofs.positions.four_more.Goals as goal
 

@@ -4,7 +4,7 @@ use Rattle.std.proofs.lemmas.Int.{ints}
 use mir.Val.{to_z, of_z}
 use Rattle.std.specs.Int.{w64}
 use Rattle.std.specs.Prelude.{◌+ℤ◌, Bool}
-use Rattle.twkb_body.specs.Devices.Boxed.{reaches}
+use Rattle.twkb_body.specs.Devices.BoxTest.{reaches}
 use Rattle.twkb_body.specs.Devices.Quads.{lanes_at}
 use Rattle.twkb_body.proofs.LaneSums.{IsMetInLane, one_lane, lane_reaches}
 use Rattle.twkb_body.proofs.positions.one_more.Goals as goal

@@ -4,7 +4,7 @@ use Rattle.std.proofs.lemmas.Int.{ints}
 use Rattle.std.specs.Int.{cast_unsigned}
 use Rattle.std.specs.Prelude.{ℤ, ◌+ℤ◌, All}
 use Rattle.twkb_num.specs.Varint.{IsBrief}
-use Rattle.twkb_body.specs.Devices.Boxed.{reaches}
+use Rattle.twkb_body.specs.Devices.BoxTest.{reaches}
 use Rattle.twkb_body.specs.Devices.FurtherTrail.{four_lanes}
 use Rattle.twkb_body.specs.Devices.Numbers.{listed, plus}
 use Rattle.twkb_body.specs.Devices.Quads.{IsInLane}

@@ -3,7 +3,7 @@ use Rattle.std.proofs.lemmas.Int.{ints}
 use Rattle.std.specs.Int.{cast_unsigned}
 use Rattle.std.specs.Prelude.{◌+ℤ◌, All}
 use Rattle.twkb_num.specs.Varint.{IsShort}
-use Rattle.twkb_body.specs.Devices.Boxed.{reaches}
+use Rattle.twkb_body.specs.Devices.BoxTest.{reaches}
 use Rattle.twkb_body.proofs.LaneSums.{IsMetInLane, lanes_are, first_wide, second_wide, lane_reaches, one_by_one}
 use Rattle.twkb_body.proofs.positions.two_more.Goals as goal
 

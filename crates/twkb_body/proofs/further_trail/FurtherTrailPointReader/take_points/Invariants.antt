@@ -1,6 +1,6 @@
 -- The box holds the points so far, and the lanes are the last one's distances from its minima.
 use Rattle.std.proofs.Common.{◌≡◌, ◌-◌, ◌≤◌}
-use Rattle.twkb_body.specs.Devices.Boxed.{Held}
+use Rattle.twkb_body.specs.Devices.BoxTest.{Held}
 use Rattle.twkb_body.specs.Devices.FurtherTrail.{StandsFurther}
 use Rattle.twkb_body.specs.Devices.Numbers.{is_four}
 use Rattle.twkb_body.specs.Devices.PointReader.{Stage}

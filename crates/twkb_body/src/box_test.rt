@@ -1,7 +1,7 @@
 //! Whether a box of raw numbers holds all points under one header, of which nothing else is asked.
 ghost use Rattle.std.specs.Prelude.{◌≡◌, ◌&&◌, ◌≤◌, ◌≤ℤ◌, ◌-ℤ◌, ◌^◌, pos, neg_ℤ, true, ◌↔◌, IsTrue};
 ghost use Rattle.twkb_head.specs.Header.{axes_with};
-ghost use Rattle.twkb_body.specs.Devices.Boxed.{reaches, reaches_if, reach_further, reach_all, is_in_range, is_in_axis, is_in_flat, is_in_further, is_in_box, held_with, IsNearZero, IsClose, IsMet, IsNearRange, IsNearBox, AreNear};
+ghost use Rattle.twkb_body.specs.Devices.BoxTest.{reaches, reaches_if, reach_further, reach_all, is_in_range, is_in_axis, is_in_flat, is_in_further, is_in_box, held_with, IsNearZero, IsClose, IsMet, IsNearRange, IsNearBox, AreNear};
 ghost use Rattle.twkb_body.specs.Devices.Inside.{of_head};
 ghost use Rattle.twkb_body.specs.Devices.Numbers.{listed, Each, is_four, axes_by, placed_at};
 ghost use Rattle.twkb_body.specs.Devices.Walk.{IsRun};
@@ -21,13 +21,13 @@ const NEAR: i64 = 1 << 61;
 
 /// A box of raw numbers, each near zero, and whether it holds the points so far.
 #[derive(Drop)]
-pub struct Boxed {
+pub struct BoxTest {
     bounds: RawBox,
     inside: bool,
 }
 
-impl Model for Boxed {
-    ghost use Rattle.twkb_body.specs.Devices.Boxed.{Held, IsNearBox};
+impl Model for BoxTest {
+    ghost use Rattle.twkb_body.specs.Devices.BoxTest.{Held, IsNearBox};
 
     ghost Value = { Held };
 
@@ -36,14 +36,14 @@ impl Model for Boxed {
     ghost invariant = { λ b. IsNearBox b.bounds };
 }
 
-impl Boxed {
+impl BoxTest {
     /// A box, and no point yet.
     #[inline(always)]
-    pub fn new(bounds: &RawBox) -> Boxed
+    pub fn new(bounds: &RawBox) -> BoxTest
         requires { IsNearBox bounds.now }
         ensures { result ≡ record { box = bounds.now; inside = true } }
     {
-        Boxed {
+        BoxTest {
             bounds: *bounds,
             inside: true,
         }
@@ -252,8 +252,8 @@ fn reach_all(bounds: &RawBox, has_fourth: bool, distances: &Numbers) -> bool
     reach_further(bounds, has_fourth, distances) && reach_both(bounds, distances.x, distances.y)
 }
 
-impl Points for Boxed {
-    ghost use Rattle.twkb_body.specs.Devices.Boxed.{Held, held_with};
+impl Points for BoxTest {
+    ghost use Rattle.twkb_body.specs.Devices.BoxTest.{Held, held_with};
 
     ghost State = { Held };
 

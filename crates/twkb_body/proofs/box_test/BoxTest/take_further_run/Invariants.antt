@@ -2,7 +2,7 @@
 use Rattle.std.proofs.Common.{◌-◌, ◌≤◌}
 use Rattle.twkb_body.specs.Devices.Numbers.{is_four}
 use Rattle.twkb_body.proofs.FurtherRuns.{IsFurtherRun}
-use Rattle.twkb_body.proofs.boxed.Boxed.take_further_run.Given as goal
+use Rattle.twkb_body.proofs.box_test.BoxTest.take_further_run.Given as goal
 
 abbrev pub invariant-loop-is_inside : goal.invariant-loop-is_inside
 invariant-loop-is_inside g l = record {

@@ -5,7 +5,7 @@ use Rattle.std.proofs.lemmas.Int.{ints}
 use mir.Val.{to_z, of_z}
 use mir.Syntax.{w128}
 use Rattle.twkb_body.proofs.Judging.{le_decides}
-use Rattle.twkb_body.proofs.boxed.holding.is_in_range.Goals as goal
+use Rattle.twkb_body.proofs.box_test.holding.is_in_range.Goals as goal
 
 pub returns-then-distance-ge0 : goal.returns-then-distance-ge0
 returns-then-distance-ge0 c =

@@ -12,7 +12,7 @@ use Rattle.twkb_head.specs.Header.{Header, axes_of}
 use Rattle.twkb_head.specs.declared.raw.RawBox.{RawBox}
 use Rattle.twkb_head.specs.declared.raw.RawRange.{RawRange}
 use Rattle.twkb_body.specs.declared.trail.Trail.{Trail}
-use Rattle.twkb_body.specs.Devices.Boxed.{reaches, is_in_box, Held, held_with, IsNearZero, IsClose, IsMet, IsNearRange, IsNearBox}
+use Rattle.twkb_body.specs.Devices.BoxTest.{reaches, is_in_box, Held, held_with, IsNearZero, IsClose, IsMet, IsNearRange, IsNearBox}
 use Rattle.twkb_body.specs.Geometry.{PointValue}
 use Rattle.twkb_body.proofs.FlatRuns.{has_64_bits, IsFlatRun, flat_begins, flat_goes_on}
 use Rattle.twkb_body.proofs.Judging.{le_decides}

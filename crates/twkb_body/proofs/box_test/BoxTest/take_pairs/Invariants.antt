@@ -1,8 +1,8 @@
 -- The points so far are a run that the box holds; the locals are the last one's distances from the minima.
 use Rattle.std.proofs.Common.{◌-◌, ◌≤◌}
 use Rattle.twkb_body.specs.Devices.Inside.{of_head}
-use Rattle.twkb_body.proofs.BoxedRuns.{IsBoxedRun}
-use Rattle.twkb_body.proofs.boxed.Boxed.take_pairs.Given as goal
+use Rattle.twkb_body.proofs.BoxRuns.{IsBoxedRun}
+use Rattle.twkb_body.proofs.box_test.BoxTest.take_pairs.Given as goal
 
 abbrev pub invariant-loop-inside : goal.invariant-loop-inside
 invariant-loop-inside l = record {

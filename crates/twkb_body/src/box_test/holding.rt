@@ -1,6 +1,6 @@
 //! Whether a box of raw numbers holds the coordinates of a point.
 ghost use Rattle.std.specs.Prelude.{◌≡◌};
-ghost use Rattle.twkb_body.specs.Devices.Boxed.{is_in_range, is_in_axis, is_in_flat, is_in_further, is_in_box};
+ghost use Rattle.twkb_body.specs.Devices.BoxTest.{is_in_range, is_in_axis, is_in_flat, is_in_further, is_in_box};
 
 use twkb_head::{RawBox, RawRange};
 

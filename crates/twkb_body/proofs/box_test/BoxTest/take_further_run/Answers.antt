@@ -2,12 +2,12 @@
 use Rattle.std.proofs.Common.{◌≡◌, ℕ, ◌+◌, refl, sym, ap, ◌∙◌, subst, arith}
 use Rattle.twkb_num.specs.Cursor.{Reading}
 use Rattle.twkb_body.specs.declared.trail.Trail.{Trail}
-use Rattle.twkb_body.specs.Devices.Boxed.{held_then}
+use Rattle.twkb_body.specs.Devices.BoxTest.{held_then}
 use Rattle.twkb_body.specs.Devices.Numbers.{listed, is_four, axes_by}
 use Rattle.twkb_body.specs.Devices.Walk.{IsRun}
 use Rattle.twkb_body.proofs.FurtherRuns.{further_begins, further_goes_on}
-use Rattle.twkb_body.proofs.boxed.Boxed.take_further_run.Goals as goal
-use Rattle.twkb_body.proofs.boxed.Boxed.take_further_run.Goals.{then-loop-is_inside-test+else-taken-most, else-loop-is_inside-test, then-loop-is_inside-test+then-taken-most+in_default}
+use Rattle.twkb_body.proofs.box_test.BoxTest.take_further_run.Goals as goal
+use Rattle.twkb_body.proofs.box_test.BoxTest.take_further_run.Goals.{then-loop-is_inside-test+else-taken-most, else-loop-is_inside-test, then-loop-is_inside-test+then-taken-most+in_default}
 
 pub loop-is_inside-init : goal.loop-is_inside-init
 loop-is_inside-init g c = record {

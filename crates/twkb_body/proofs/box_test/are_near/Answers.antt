@@ -3,8 +3,8 @@ use Rattle.std.proofs.Common.{◌≡◌, refl, subst, arith}
 use Rattle.std.proofs.lemmas.Int.{ints}
 use mir.Val.{to_z, of_z}
 use Rattle.std.specs.Int.{w64}
-use Rattle.twkb_body.specs.Devices.Boxed.{IsNearZero}
-use Rattle.twkb_body.proofs.boxed.are_near.Goals as goal
+use Rattle.twkb_body.specs.Devices.BoxTest.{IsNearZero}
+use Rattle.twkb_body.proofs.box_test.are_near.Goals as goal
 
 pub returns : goal.returns
 returns c = λ e.

@@ -4,13 +4,13 @@ use Rattle.std.proofs.lemmas.Int.{ints}
 use mir.Val.{to_z, of_z}
 use Rattle.std.specs.Int.{w64}
 use Rattle.twkb_num.specs.Cursor.{Reading}
-use Rattle.twkb_body.specs.Devices.Boxed.{held_with, IsNearZero}
+use Rattle.twkb_body.specs.Devices.BoxTest.{held_with, IsNearZero}
 use Rattle.twkb_body.specs.Devices.Inside.{of_head}
-use Rattle.twkb_body.proofs.BoxedRuns.{boxed_begins, boxed_goes_on}
+use Rattle.twkb_body.proofs.BoxRuns.{boxed_begins, boxed_goes_on}
 use Rattle.twkb_body.proofs.FlatRuns.{IsFlatRun, flat_ends}
 use Rattle.twkb_body.proofs.NumberSteps.{difference_fits, points_fit}
-use Rattle.twkb_body.proofs.boxed.Boxed.take_pairs.Goals as goal
-use Rattle.twkb_body.proofs.boxed.Boxed.take_pairs.Goals.{then-not-reach_both, else-not-reach_both, then-loop-inside-test+else-done-most, else-loop-inside-test, then-loop-inside-test+then-done-most+in_default}
+use Rattle.twkb_body.proofs.box_test.BoxTest.take_pairs.Goals as goal
+use Rattle.twkb_body.proofs.box_test.BoxTest.take_pairs.Goals.{then-not-reach_both, else-not-reach_both, then-loop-inside-test+else-done-most, else-loop-inside-test, then-loop-inside-test+then-done-most+in_default}
 
 pub loop-inside-init : goal.loop-inside-init
 loop-inside-init c =
