@@ -1,36 +1,30 @@
--- Points of three axes or four that a box has to hold, read in lanes.
-use Rattle.std.proofs.Common.{◌≡◌, ℕ, ◌+◌, ◌<◌, ◌≤◌, Bool, true, false, ◌&&◌, List, ◌∷◌, [], length, fold, flat_map, slice_index_or, ℤ, pos, ◌+ℤ◌, ◌-ℤ◌, Ok, inr, refl, sym, ap, subst, ◌∙◌, arith}
+-- Points of three axes or four that a box has to hold, read with a lane for each axis.
+use Rattle.std.proofs.Common.{◌≡◌, ℕ, ◌+◌, ◌<◌, ◌≤◌, Bool, true, false, ◌&&◌, List, ◌∷◌, [], length, slice_index_or, ℤ, pos, ◌+ℤ◌, ◌-ℤ◌, Ok, refl, sym, ap, subst, ◌∙◌, arith}
 use Rattle.std.proofs.lemmas.Int.{ints}
 use Rattle.twkb_num.specs.Cursor.{Reading}
 use Rattle.twkb_num.specs.Varint.{IsShort}
 use Rattle.twkb_head.specs.declared.raw.RawBox.{RawBox}
 use Rattle.twkb_head.specs.declared.raw.RawRange.{RawRange}
-use Rattle.twkb_head.specs.declared.refusal.Malformed.{Malformed}
-use Rattle.twkb_head.specs.Shared.Reader.{many_at}
 use Rattle.twkb_body.specs.declared.numbers.Numbers.{Numbers}
 use Rattle.twkb_body.specs.declared.trail.Trail.{Trail}
 use Rattle.twkb_body.specs.Geometry.{PointValue}
 use Rattle.twkb_body.specs.Devices.Body.{add, zeros}
 use Rattle.twkb_body.specs.Devices.BodyReader.{point_at}
 use Rattle.twkb_body.specs.Devices.BoxTest.{reaches, reach_all, is_in_range, is_in_box, Held, held_then, IsClose, IsMet, IsNearZero, AreNear}
-use Rattle.twkb_body.specs.Devices.FurtherTrail.{four_lanes, extents, FitsFurther, all_within, after, all_on_the_way, HaveGone, ReadsPoints, IsFurtherStep, IsFarPoint, LeavesByPoint, StandsFurther}
-use Rattle.twkb_body.specs.Devices.LaneTrail.{FitsLane, holding, IsOutside}
+use Rattle.twkb_body.specs.Devices.FurtherLanes.{four_lanes, extents, FitsFurther, all_within, after, all_on_the_way, HaveGone, ReadsPoints, IsFurtherStep, IsFarPoint, LeavesByPoint, IsFurtherPlace}
+use Rattle.twkb_body.specs.Devices.LaneTrail.{FitsLane, holding, PointsLeave, IsHeldRun}
 use Rattle.twkb_body.specs.Devices.Numbers.{listed, Each, plus, placed_at, IsIn64, axes_by, AreDifferences}
-use Rattle.twkb_body.specs.Devices.PointReader.{Stage, HasRead, Leads, EndsEarly}
 use Rattle.twkb_body.specs.Devices.Quads.{ReadsPairs, IsInLane, IsLaneExtent}
-use Rattle.twkb_body.specs.Devices.Walk.{lasts_from, IsWalked}
+use Rattle.twkb_body.specs.Devices.Walk.{IsWalked}
 use Rattle.twkb_body.proofs.BoxRuns.{reaches_decides, both_true}
 use Rattle.twkb_body.proofs.FurtherRuns.{trail_at, IsFurtherRun, further_begins, further_goes_on}
 use Rattle.twkb_body.proofs.Keeping.{keeps_point, read_keeps}
-use Rattle.twkb_body.proofs.LaneRuns.{stays_outside, run_loop}
+use Rattle.twkb_body.proofs.LaneRuns.{run_leaves, next_leaves}
 use Rattle.twkb_body.proofs.LaneSums.{and_true_right}
 use Rattle.twkb_body.proofs.NumberSteps.{four_read}
-use Rattle.twkb_body.proofs.PartPlans.{flat_single}
 use Rattle.twkb_body.proofs.PointAxes.{point_has}
-use Rattle.twkb_body.proofs.PointReads.{loop_leads, next_leads}
 use Rattle.twkb_body.proofs.QuadRuns.{near_range, reached_lane}
 use Rattle.twkb_body.proofs.Runs.{run_goes_on}
-use Rattle.twkb_body.proofs.Walks.{one_point, add_is_sums}
 
 -- four pairs are two points of four axes
 pub two_points_read : (a b c d e f g h : ℤ) (old new : Reading) → ReadsPairs ((a, b) ∷ (c, d) ∷ (e, f) ∷ (g, h) ∷ []) old new
@@ -97,18 +91,12 @@ module _ (box : RawBox) (has_fourth : Bool) (fits : FitsFurther has_fourth box) 
   axes = axes_by has_fourth
 
   -- i points were read that the box holds, and these are the last one's distances from its minima
-  pub record IsAt (apart : Numbers) (r : Reading) (i : ℕ) : Type 0 where
+  record IsAt (apart : Numbers) (r : Reading) (i : ℕ) : Type 0 where
     pub run : IsFurtherRun start (holding box) from box has_fourth apart true r i
     pub in_lanes : Each IsInLane apart
     pub absent : has_fourth ≡ false → apart.fourth ≡ pos 0
 
-  -- the distances are in lanes
-  pub record IsAtLanes (at : List ℕ) (r : Reading) (i : ℕ) : Type 0 where
-    pub apart : Numbers
-    pub at_is : at ≡ four_lanes apart
-    pub there : IsAt apart r i
-
-  pub begins : (apart : Numbers) → start.last ≡ listed (placed_at box apart) → Each IsInLane apart → (has_fourth ≡ false → apart.fourth ≡ pos 0) → IsAt apart from 0
+  begins : (apart : Numbers) → start.last ≡ listed (placed_at box apart) → Each IsInLane apart → (has_fourth ≡ false → apart.fourth ≡ pos 0) → IsAt apart from 0
   begins apart last in_lanes absent = record {
     run = further_begins start (holding box) from box has_fourth apart true last
         (record { x = in_lane_close _ in_lanes.x; y = in_lane_close _ in_lanes.y; third = in_lane_close _ in_lanes.third; fourth = in_lane_close _ in_lanes.fourth }) refl;
@@ -138,44 +126,25 @@ module _ (box : RawBox) (has_fourth : Bool) (fits : FitsFurther has_fourth box) 
       }
 
   -- points that the box holds
-  pub all_inside : (differences : List Numbers) (apart : Numbers) (r new : Reading) (i : ℕ) → ReadsPoints has_fourth differences r new → all_on_the_way (extents box) apart differences ≡ true → IsAt apart r i → IsAt (after apart differences) new (i + length differences)
+  all_inside : (differences : List Numbers) (apart : Numbers) (r new : Reading) (i : ℕ) → ReadsPoints has_fourth differences r new → all_on_the_way (extents box) apart differences ≡ true → IsAt apart r i → IsAt (after apart differences) new (i + length differences)
   all_inside [] apart r new i read e at = subst (λ (q : Reading). IsAt apart q (i + 0)) (sym read) (subst (λ (n : ℕ). IsAt apart r n) (omega arith) at)
   all_inside (d ∷ ds) apart r new i (middle, one, others) e at =
       let both = both_true (all_within (extents box) (plus apart d)) (all_on_the_way (extents box) (plus apart d) ds) e in
       subst (λ (n : ℕ). IsAt (after apart (d ∷ ds)) new n) (omega arith) (all_inside ds (plus apart d) middle new (i + 1) others both.1 (one_inside apart d r middle i one both.0 at))
 
-  module _ (count : ℕ) where
-    abbrev pub LeadsOut : Type 0
-    LeadsOut = Leads (many_at count add (point_at axes)) (λ points. points) (held_then axes) IsOutside start.last (holding box) from
-
-    as_points : Leads (many_at count add (point_at axes)) (λ xs. flat_map one_point xs) (held_then axes) IsOutside start.last (holding box) from → LeadsOut
-    as_points l xs stop e = subst (λ (ps : List PointValue). IsOutside (fold (held_then axes) (holding box) (lasts_from start.last ps))) (flat_single xs) (l xs stop e)
-
-    abbrev stage : Stage Held
-    stage = record { axes = axes; trail = start; state = holding box }
-
-    -- points of which the box doesn't hold one
-    pub some_outside : (differences : List Numbers) (apart : Numbers) (r new : Reading) (i : ℕ) → i + length differences ≤ count → ReadsPoints has_fourth differences r new → all_on_the_way (extents box) apart differences ≡ false → IsAt apart r i → LeadsOut
-    some_outside [] apart r new i le read e at = absurd (cc (e))
-    some_outside (d ∷ ds) apart r new i le (middle, one, others) e at =
-        go (all_within (extents box) (plus apart d)) refl
-        (λ is rest. some_outside ds (plus apart d) middle new (i + 1) (omega (arith, le)) others rest (one_inside apart d r middle i one is at))
-      where
-        go : (b : Bool) → all_within (extents box) (plus apart d) ≡ b → (all_within (extents box) (plus apart d) ≡ true → all_on_the_way (extents box) (plus apart d) ds ≡ false → LeadsOut) → LeadsOut
-        go true is further = further is (ap (λ (b : Bool). b && all_on_the_way (extents box) (plus apart d) ds) (sym is) ∙ e)
-        go false is further =
-            let run = one_on apart d false r middle i one (sym is) at in
-            as_points (loop_leads (held_then axes) stage add (point_at axes) one_point add_is_sums count from (i + 1) _ (record { box = box; inside = false }) middle
-            (run_loop axes start (holding box) from count (i + 1) _ _ middle (omega (arith, le)) run.run) IsOutside (stays_outside axes) refl)
-
-    -- a point that is malformed, or that the box doesn't hold
-    pub far_outside : (apart : Numbers) (r : Reading) (i : ℕ) → i < count → LeavesByPoint has_fourth box apart r → IsAt apart r i → LeadsOut
-    far_outside apart r i lt leaves at =
-        as_points (next_leads (held_then axes) stage add (point_at axes) one_point add_is_sums count from i _ (holding box) r
-        (run_loop axes start (holding box) from count i _ _ r (omega (arith, lt)) at.run.run) IsOutside (stays_outside axes) lt (λ p stop e. leaves p stop e))
+  -- points of which the box doesn't hold one
+  some_outside : (count : ℕ) (differences : List Numbers) (apart : Numbers) (r new : Reading) (i : ℕ) → i + length differences ≤ count → ReadsPoints has_fourth differences r new → all_on_the_way (extents box) apart differences ≡ false → IsAt apart r i → PointsLeave axes count box start.last from
+  some_outside count [] apart r new i le read e at = absurd (cc (e))
+  some_outside count (d ∷ ds) apart r new i le (middle, one, others) e at =
+      go (all_within (extents box) (plus apart d)) refl
+      (λ is rest. some_outside count ds (plus apart d) middle new (i + 1) (omega (arith, le)) others rest (one_inside apart d r middle i one is at))
+    where
+      go : (b : Bool) → all_within (extents box) (plus apart d) ≡ b → (all_within (extents box) (plus apart d) ≡ true → all_on_the_way (extents box) (plus apart d) ds ≡ false → PointsLeave axes count box start.last from) → PointsLeave axes count box start.last from
+      go true is further = further is (ap (λ (b : Bool). b && all_on_the_way (extents box) (plus apart d) ds) (sym is) ∙ e)
+      go false is further = run_leaves axes box start from count (i + 1) _ (record { box = box; inside = false }) middle (omega (arith, le)) (one_on apart d false r middle i one (sym is) at).run refl
 
   -- a point of any differences that the box holds
-  pub far_inside : (apart : Numbers) (r new : Reading) (next : List ℕ) (i : ℕ) → (far : IsFarPoint has_fourth box apart r new next) → IsAt apart r i → IsAt far.there new (i + 1)
+  far_inside : (apart : Numbers) (r new : Reading) (next : List ℕ) (i : ℕ) → (far : IsFarPoint has_fourth box apart r new next) → IsAt apart r i → IsAt far.there new (i + 1)
   far_inside apart r new next i far at = record {
     run = record {
       run = run_goes_on (held_then axes) axes start (trail_at start (holding box) from box has_fourth apart i) (trail_at start (holding box) from box has_fourth far.there (i + 1)) (holding box) (holding box) (holding box) from r new i far.point far.read walked at.run.run;
@@ -309,48 +278,39 @@ module _ (box : RawBox) (has_fourth : Bool) (fits : FitsFurther has_fourth box) 
     ahead = h.ahead;
   }
 
--- the trail whose last point is at these distances from the minima of a box
-abbrev pub start_of : RawBox → Numbers → ℕ → Trail
-start_of box apart points = record { last = listed (placed_at box apart); points = points }
+module _ (has_fourth : Bool) (bounds box : RawBox) (lanes extent : List ℕ) (from : Reading) where
+  module _ (start : Trail) (place : IsFurtherPlace has_fourth bounds box lanes extent start.last) where
+    begun : IsAt box has_fourth place.fits start from place.apart from 0
+    begun = begins box has_fourth place.fits start from place.apart place.is place.in_lanes place.absent
 
-module _ (box : RawBox) (has_fourth : Bool) (lanes extent : List ℕ) (points : ℕ) (at : Stage Held) (s : StandsFurther has_fourth box lanes extent points at) (from to : Reading) (count : ℕ) where
-  abbrev start : Trail
-  start = start_of box s.apart points
+    -- points in the box end at a place
+    at_held : (apart : Numbers) (next : List ℕ) (new : Reading) (points : ℕ) → next ≡ four_lanes apart → IsAt box has_fourth place.fits start from apart new points → IsHeldRun (axes_by has_fourth) (IsFurtherPlace has_fourth bounds box next extent) box start from new points
+    at_held apart next new points next_is at = record {
+      after = _;
+      run = at.run.run;
+      there = record { apart = apart; box_is = place.box_is; is = refl; lanes_are = next_is; extent_is = place.extent_is; in_lanes = at.in_lanes; absent = at.absent; fits = place.fits };
+    }
 
-  -- no more points than bytes
-  pub further_counted : (place : ℕ) → at.trail.points ≤ place → points ≤ place
-  further_counted place few = let there = ap (λ (at : Stage Held). at.trail.points) s.at_is in omega (arith, there, few)
+    wide : Each IsLaneExtent (extents box)
+    wide = record { x = place.fits.x.wide; y = place.fits.y.wide; third = place.fits.third.wide; fourth = place.fits.fourth.wide }
 
-  -- the wide extents
-  pub extents_wide : Each IsLaneExtent (extents box)
-  extents_wide = record { x = s.fits.x.wide; y = s.fits.y.wide; third = s.fits.third.wide; fourth = s.fits.fourth.wide }
+    -- points that the box holds
+    pub further_held : (next : List ℕ) (inside : Bool) (new : Reading) (points : ℕ) → inside ≡ true → IsFurtherStep has_fourth lanes extent from new points next inside → IsHeldRun (axes_by has_fourth) (IsFurtherPlace has_fourth bounds box next extent) box start from new points
+    further_held next inside new points so steps =
+        let step = steps place.apart (extents box) place.lanes_are place.extent_is place.in_lanes wide in
+        at_held (after place.apart step.0) next new points step.3.at_is (subst (IsAt box has_fourth place.fits start from (after place.apart step.0) new) (omega (arith, step.1)) (all_inside box has_fourth place.fits start from step.0 place.apart from new 0 step.2 (sym step.3.inside_is ∙ so) begun))
 
-  pub stands_begin : IsAtLanes box has_fourth s.fits start from lanes from 0
-  stands_begin = record { apart = s.apart; at_is = s.lanes_are; there = begins box has_fourth s.fits start from s.apart refl s.in_lanes s.absent }
+    -- a point of any differences that the box holds
+    pub far_further_held : (next : List ℕ) (new : Reading) → IsFarPoint has_fourth box place.apart from new next → IsHeldRun (axes_by has_fourth) (IsFurtherPlace has_fourth bounds box next extent) box start from new 1
+    far_further_held next new far = at_held far.there next new 1 far.lanes_are (far_inside box has_fourth place.fits start from place.apart from new next 0 far begun)
 
-  -- all points were read
-  pub stands_read : (next : List ℕ) (i : ℕ) → i ≡ count → IsAtLanes box has_fourth s.fits start from next to i
-      → HasRead (many_at count add (point_at at.axes)) (λ points. points) (held_then (axes_by has_fourth)) (StandsFurther has_fourth box next extent (points + count)) at from to
-  stands_read next i end l =
-      subst (λ (at : Stage Held). HasRead (many_at count add (point_at at.axes)) (λ points. points) (held_then (axes_by has_fourth)) (StandsFurther has_fourth box next extent (points + count)) at from to) (sym s.at_is)
-      (record {
-        value = l.there.run.run.numbers;
-        read = ap (λ (n : ℕ). many_at n add (point_at (axes_by has_fourth)) start.last from) (sym end) ∙ l.there.run.run.read;
-        trail = trail_at start (holding box) from box has_fourth l.apart i;
-        state = holding box;
-        there = record {
-          apart = l.apart;
-          at_is = ap (λ (n : ℕ). record { axes = axes_by has_fourth; trail = record { last = listed (placed_at box l.apart); points = points + n }; state = holding box }) end;
-          lanes_are = l.at_is;
-          extent_is = s.extent_is;
-          in_lanes = l.there.in_lanes;
-          absent = l.there.absent;
-          fits = s.fits;
-        };
-        walked = l.there.run.run.walked;
-      })
+    -- points of which the box doesn't hold one
+    pub further_leave : (count : ℕ) (next : List ℕ) (inside : Bool) (new : Reading) (points : ℕ) → points ≤ count → inside ≡ false → IsFurtherStep has_fourth lanes extent from new points next inside → PointsLeave (axes_by has_fourth) count box start.last from
+    further_leave count next inside new points le so steps =
+        let step = steps place.apart (extents box) place.lanes_are place.extent_is place.in_lanes wide in
+        some_outside box has_fourth place.fits start from count step.0 place.apart from new 0 (omega (arith, step.1, le)) step.2 (sym step.3.inside_is ∙ so) begun
 
-  -- the box doesn't hold all points
-  pub stands_ended : (tells : Malformed → Type 0) → LeadsOut box has_fourth s.fits start from count → EndsEarly (many_at count add (point_at at.axes)) (λ points. points) (held_then (axes_by has_fourth)) IsOutside tells at from to
-  stands_ended tells leads =
-      subst (λ (at : Stage Held). EndsEarly (many_at count add (point_at at.axes)) (λ points. points) (held_then (axes_by has_fourth)) IsOutside tells at from to) (sym s.at_is) (inr ((record { box = box; inside = false }, refl), leads))
+    -- a point that is malformed, or that the box doesn't hold
+    pub far_further_leaves : (count : ℕ) → 1 ≤ count → LeavesByPoint has_fourth box place.apart from → PointsLeave (axes_by has_fourth) count box start.last from
+    far_further_leaves count le leaves =
+        next_leaves (axes_by has_fourth) box start from count le (λ p stop e. ap (λ (s : PointValue). is_in_box (axes_by has_fourth) box (add s p)) place.is ∙ leaves p stop (ap (λ (s : PointValue). point_at (axes_by has_fourth) s from) (sym place.is) ∙ e))

@@ -1,33 +1,28 @@
 -- Bodies that a box has to hold.
-use Rattle.std.proofs.Common.{◌≡◌, ℕ, List, Bool, true, false, None, Some, Result, Ok, Err, inl, inr, sym, ap, ◌∙◌}
-use Rattle.std.specs.Prelude.{IfOk, IfErr, OnErr, ◌⊎◌}
+use Rattle.std.proofs.Common.{◌≡◌, ℕ, List, true, false, None, Some, Result, Ok, Err, inl, inr, sym, ap, ◌∙◌}
+use Rattle.std.specs.Prelude.{◌⊎◌}
 use Rattle.twkb_num.specs.Cursor.{Reading, rest}
 use Rattle.twkb_head.specs.declared.header.Head.{Head}
 use Rattle.twkb_head.specs.declared.kinds.Kind.{Kind}
-use Rattle.twkb_head.specs.declared.refusal.Malformed.{Malformed}
 use Rattle.twkb_head.specs.declared.raw.RawBox.{RawBox}
 use Rattle.twkb_head.specs.BegunHeader.{is_collection}
 use Rattle.twkb_head.specs.Header.{axes_of, is_multi}
 use Rattle.twkb_head.specs.Shared.Reader.{Reader, many_at}
 use Rattle.twkb_body.specs.declared.doubt.Doubt.{Doubt}
-use Rattle.twkb_body.specs.declared.doubt.Doubt.TheVariants.{Refused}
 use Rattle.twkb_body.specs.declared.frame.Frame.{Frame}
-use Rattle.twkb_body.specs.declared.lane_trail.LaneTrail.{LaneTrail}
-use Rattle.twkb_body.specs.declared.trail.Trail.{Trail}
 use Rattle.twkb_body.specs.Geometry.{PointValue, PolygonValue, points_of}
 use Rattle.twkb_body.specs.Devices.BoxTest.{Held, held_then}
 use Rattle.twkb_body.specs.Devices.Body.{ring_sums, zeros}
 use Rattle.twkb_body.specs.Devices.BodyReader.{part_at}
 use Rattle.twkb_body.specs.Devices.IdLists.{HasManyIdsAfterCount}
 use Rattle.twkb_body.specs.Devices.Inside.{of_head}
-use Rattle.twkb_body.specs.Devices.FurtherTrail.{StandsFurther}
-use Rattle.twkb_body.specs.Devices.LaneTrail.{holding, StandsInLanes, IsOutside, LeaveBox}
+use Rattle.twkb_body.specs.Devices.LaneTrail.{holding, StandsInLanes, LeaveBox}
 use Rattle.twkb_body.specs.Devices.Numbers.{is_four, axes_by}
-use Rattle.twkb_body.specs.Devices.PointReader.{Stage, HasRead, EndsEarly}
+use Rattle.twkb_body.specs.Devices.PointReader.{Stage, HasRead}
 use Rattle.twkb_body.specs.Devices.Walk.{no_points}
-use Rattle.twkb_body.specs.Devices.Sure.{framed, IsCounted, AreHeld, IsRefutedBody, CertifiesShape}
+use Rattle.twkb_body.specs.Devices.Sure.{framed, IsCounted, AreHeld, HoldsOrLeaves, IsRefutedBody, CertifiesShape}
 use Rattle.twkb_body.proofs.PointAxes.{parts_have}
-use Rattle.twkb_body.proofs.Refuting.{counted_keeps, held_sure, malformed_leave, points_refute, refused_for}
+use Rattle.twkb_body.proofs.Refuting.{counted_keeps, held_sure, points_refute, refused_for}
 
 module _ (kind : Kind) (axes count : ℕ) (box : RawBox) (old new : Reading) where
   abbrev start : Stage Held
@@ -43,17 +38,14 @@ module _ (kind : Kind) (axes count : ℕ) (box : RawBox) (old new : Reading) whe
       let there = told _ read.there in
       (read.state, record { parts = read.value; after = read.trail; read = read.read; walked = read.walked; vertices_are = sym there.0 }, there.1)
 
-  -- parts whose reading in lanes ended early leave the box
-  pub parts_leave : (tells : Malformed → Type 0) → EndsEarly parts_at points_of (held_then axes) IsOutside tells start old new → LeaveBox kind axes count box old
-  parts_leave tells (inl (m, fails, told)) = malformed_leave kind axes count box old new (m, fails)
-  parts_leave tells (inr (some, leads)) = leads
+module _ (axes : ℕ) (place : RawBox → PointValue → Type 0) (points : ℕ) where
+  -- lanes begin before the first point
+  pub lanes_begin : (box : RawBox) → points ≡ 0 → place box zeros → StandsInLanes axes place points (record { axes = axes; trail = no_points; state = holding box })
+  lanes_begin box none there = record { box = box; last = zeros; at_is = ap (λ (n : ℕ). record { axes = axes; trail = record { last = zeros; points = n }; state = holding box }) (sym none); there = there }
 
--- lanes tell how many points there were, all of them in the box
-pub lanes_tell : (lanes : LaneTrail) (at : Stage Held) → StandsInLanes lanes at → (at.trail.points ≡ lanes.points) × (at.state.inside ≡ true)
-lanes_tell lanes at s = (ap (λ (at : Stage Held). at.trail.points) s.at_is ∙ ap (λ (t : Trail). t.points) s.lanes_are.is, ap (λ (at : Stage Held). at.state.inside) s.at_is)
-
-pub further_lanes_tell : (has_fourth : Bool) (box : RawBox) (lanes extent : List ℕ) (points : ℕ) (at : Stage Held) → StandsFurther has_fourth box lanes extent points at → (at.trail.points ≡ points) × (at.state.inside ≡ true)
-further_lanes_tell has_fourth box lanes extent points at s = (ap (λ (at : Stage Held). at.trail.points) s.at_is, ap (λ (at : Stage Held). at.state.inside) s.at_is)
+  -- lanes tell how many points there were, all of them in the box
+  pub lanes_tell : (at : Stage Held) → StandsInLanes axes place points at → (at.trail.points ≡ points) × (at.state.inside ≡ true)
+  lanes_tell at s = (ap (λ (at : Stage Held). at.trail.points) s.at_is, ap (λ (at : Stage Held). at.state.inside) s.at_is)
 
 -- three axes or four, by whether there is a fourth
 pub axes_are_by : (axes : ℕ) → (axes ≡ 3) ⊎ (axes ≡ 4) → axes_by (is_four axes) ≡ axes
@@ -66,8 +58,7 @@ module _ (head : Head) (levels axes count : ℕ) (old mid new : Reading) (full :
   leave_refute : LeaveBox head.kind axes count frame.bounds mid → IsRefutedBody levels head (Some frame) old
   leave_refute leave = points_refute head levels old frame full single precisions mid counted.0 (record { count = count; ids = None }) counted.1 counted.2 axes axes_are leave (λ parts stop e. parts_have head.kind axes count zeros mid stop parts e)
 
-  pub boxed_certifies : (result : Result ℕ Doubt) → IfOk result (AreHeld true head.kind axes count frame.bounds mid new) → OnErr result (LeaveBox head.kind axes count frame.bounds mid) → new.bytes ≡ mid.bytes → IfErr result (λ d. d ≡ Refused)
-      → CertifiesShape levels head (Some frame) old result new
-  boxed_certifies (Ok vertices) are leave bytes refused = held_sure head levels axes count old mid new full single axes_are counted frame precisions vertices are
-  boxed_certifies (Err d) are leave bytes refused =
-      refused_for (IsRefutedBody levels head (Some frame) old) (HasManyIdsAfterCount head.ids (rest old)) old d new refused (bytes ∙ counted_keeps head levels axes count old mid new full single axes_are counted) (leave_refute leave)
+  pub boxed_certifies : (result : Result ℕ Doubt) → HoldsOrLeaves head.kind axes count frame.bounds mid new result → CertifiesShape levels head (Some frame) old result new
+  boxed_certifies (Ok vertices) body = held_sure head levels axes count old mid new full single axes_are counted frame precisions vertices body.held
+  boxed_certifies (Err d) body =
+      refused_for (IsRefutedBody levels head (Some frame) old) (HasManyIdsAfterCount head.ids (rest old)) old d new body.refused (body.bytes ∙ counted_keeps head levels axes count old mid new full single axes_are counted) (leave_refute body.leave)

@@ -1,8 +1,9 @@
 -- What readers of points read: counts, rings, polygons and parts, from what they read of each part.
-use Rattle.std.proofs.Common.{◌≡◌, ℕ, suc, ◌+◌, ◌-◌, ◌<◌, ◌≤◌, List, [], ◌∷◌, ◌++◌, fold, flat_map, Ok, Err, inl, inr, refl, sym, ap, subst, ◌∙◌, arith}
+use Rattle.std.proofs.Common.{◌≡◌, ℕ, suc, ◌+◌, ◌-◌, ◌<◌, ◌≤◌, List, [], ◌∷◌, ◌++◌, fold, flat_map, Ok, Err, Option, Some, None, refl, sym, ap, subst, ◌∙◌, arith}
 use Rattle.std.proofs.lemmas.Grind.{flat_map-append}
 use Rattle.std.proofs.lemmas.List.{append-nil}
 use Rattle.std.proofs.lemmas.List.Sums.{fold-append}
+use Rattle.std.specs.Prelude.{IfSome}
 use Rattle.twkb_num.specs.Cursor.{Reading}
 use Rattle.twkb_head.specs.declared.refusal.Malformed.{Malformed}
 use Rattle.twkb_head.specs.Shared.Reader.{Answer, Reader, ◌>>=◌, viewed, number_at, many_at, Fails}
@@ -63,28 +64,30 @@ module _ {S : Type 0} (step : S → PointValue → S) (at : Stage S) where
     }
 
   -- ---- early ends
-  module _ (ends : S → Type 0) (tells : Malformed → Type 0) where
-    pub counted_ends : {A : Type 0} (after : PointValue → A → PointValue) (each : PointValue → Reader A) (points_in : List A → List PointValue) (old from to : Reading) (count : ℕ) → number_at old ≡ (Ok count, from)
-        → EndsEarly (many_at count after each) points_in step ends tells at from to → EndsEarly (counted_at after each) points_in step ends tells at old to
-    counted_ends after each points_in old from to count counted (inl (m, fails, told)) = inl (m, then_fails (number_at old) (λ n. many_at n after each at.trail.last) count from m to counted fails, told)
-    counted_ends after each points_in old from to count counted (inr (some, leads)) =
-        inr (some, λ xs stop e. leads xs stop (sym (ap (λ (a : Answer ℕ). a >>= λ n. many_at n after each at.trail.last) counted) ∙ e))
+  module _ (ends : S → Type 0) where
+    pub counted_ends : {A : Type 0} (told : Option Malformed) (after : PointValue → A → PointValue) (each : PointValue → Reader A) (points_in : List A → List PointValue) (old from to : Reading) (count : ℕ) → number_at old ≡ (Ok count, from)
+        → EndsEarly (many_at count after each) points_in step ends told at from to → EndsEarly (counted_at after each) points_in step ends told at old to
+    counted_ends (Some m) after each points_in old from to count counted fails = then_fails (number_at old) (λ n. many_at n after each at.trail.last) count from m to counted fails
+    counted_ends None after each points_in old from to count counted leads = λ xs stop e. leads xs stop (sym (ap (λ (a : Answer ℕ). a >>= λ n. many_at n after each at.trail.last) counted) ∙ e)
 
-    pub uncounted_ends : {A : Type 0} (after : PointValue → A → PointValue) (each : PointValue → Reader A) (points_in : List A → List PointValue) (old from : Reading) (m : Malformed) → number_at old ≡ (Err m, from) → tells m
-        → EndsEarly (counted_at after each) points_in step ends tells at old from
-    uncounted_ends after each points_in old from m failed told =
-        inl (m, first_fails (number_at old) (λ n. many_at n after each at.trail.last) m from (record { left = from; is = failed; bytes = refl }), told)
-
-    pub made_ends : {A B : Type 0} (f : A → B) (each : PointValue → Reader A) (points_in : A → List PointValue) (points_in_f : B → List PointValue) → ((x : A) → points_in x ≡ points_in_f (f x)) → (from to : Reading)
-        → EndsEarly each points_in step ends tells at from to → EndsEarly (λ s r. viewed f (each s r)) points_in_f step ends tells at from to
-    made_ends f each points_in points_in_f same from to (inl (m, fails, told)) = inl (m, viewed_fails f (each at.trail.last from) m to fails, told)
-    made_ends {A} {B} f each points_in points_in_f same from to (inr (some, leads)) = inr (some, all)
+    pub uncounted_ends : {A : Type 0} (told : Option Malformed) (after : PointValue → A → PointValue) (each : PointValue → Reader A) (points_in : List A → List PointValue) (old from : Reading) (m : Malformed) → number_at old ≡ (Err m, from) → IfSome told (λ t. t ≡ m)
+        → EndsEarly (counted_at after each) points_in step ends told at old from
+    uncounted_ends told after each points_in old from m failed same = go told same
       where
-        all : Leads (λ s r. viewed f (each s r)) points_in_f step ends at.trail.last at.state from
-        all y stop e =
-            let x = viewed_back f (each at.trail.last from) y stop e in
-            subst (λ (y : B). ends (fold step at.state (lasts_from at.trail.last (points_in_f y)))) x.2
-            (subst (λ (ps : List PointValue). ends (fold step at.state (lasts_from at.trail.last ps))) (same x.0) (leads x.0 stop x.1))
+        fails : Fails (counted_at after each at.trail.last old) m from
+        fails = first_fails (number_at old) (λ n. many_at n after each at.trail.last) m from (record { left = from; is = failed; bytes = refl })
+
+        go : (told : Option Malformed) → IfSome told (λ t. t ≡ m) → EndsEarly (counted_at after each) points_in step ends told at old from
+        go (Some t) same = subst (λ (m : Malformed). Fails (counted_at after each at.trail.last old) m from) (sym same) fails
+        go None same = λ xs stop e. absurd (ok_not_err xs m stop fails.left (sym e ∙ fails.is))
+
+    pub made_ends : {A B : Type 0} (told : Option Malformed) (f : A → B) (each : PointValue → Reader A) (points_in : A → List PointValue) (points_in_f : B → List PointValue) → ((x : A) → points_in x ≡ points_in_f (f x)) → (from to : Reading)
+        → EndsEarly each points_in step ends told at from to → EndsEarly (λ s r. viewed f (each s r)) points_in_f step ends told at from to
+    made_ends (Some m) f each points_in points_in_f same from to fails = viewed_fails f (each at.trail.last from) m to fails
+    made_ends {A} {B} None f each points_in points_in_f same from to leads = λ y stop e.
+        let x = viewed_back f (each at.trail.last from) y stop e in
+        subst (λ (y : B). ends (fold step at.state (lasts_from at.trail.last (points_in_f y)))) x.2
+        (subst (λ (ps : List PointValue). ends (fold step at.state (lasts_from at.trail.last ps))) (same x.0) (leads x.0 stop x.1))
 
   -- ---- loops
   module _ {A : Type 0} (after : PointValue → A → PointValue) (each : PointValue → Reader A) (points_in : A → List PointValue)
@@ -142,6 +145,12 @@ module _ {S : Type 0} (step : S → PointValue → S) (at : Stage S) where
                 ∙ (λ j. fold step (sym l.walked.added j) (lasts_from (sym l.walked.last j) (flat_map points_in ys))),
           )
 
+      -- if these lead to an end, all do
+      pub rest_leads : (ends : S → Type 0) → Leads (many_at (count - i) after each) all_points step ends now.last t r → Leads (many_at count after each) all_points step ends at.trail.last at.state from
+      rest_leads ends leads xs stop e =
+          let o = others xs stop e in
+          subst ends (sym o.2) (leads o.0 stop o.1)
+
       module _ (ends : S → Type 0) (lasts : (s : S) (p : PointValue) → ends s → ends (step s p)) where
         ends_on : (s : S) (points : List PointValue) → ends s → ends (fold step s points)
         ends_on s [] end = end
@@ -174,8 +183,7 @@ module _ {S : Type 0} (step : S → PointValue → S) (at : Stage S) where
                 subst (λ (zs : List A). ends (all_from t now.last zs)) b.2 (first x mid one b.0)
 
     -- if the next value ends early, all do
-    pub some_fail : (ends : S → Type 0) (lasts : (s : S) (p : PointValue) → ends s → ends (step s p)) (tells : Malformed → Type 0) (stands : Stage S → Type 0) (i : ℕ) (r new : Reading) → i < count → (h : HasReadSome stands i r)
-        → EndsEarly each points_in step ends tells (on at h.trail h.state) r new → EndsEarly (many_at count after each) all_points step ends tells at from new
-    some_fail ends lasts tells stands i r new lt h (inl (m, fails, told)) =
-        inl (m, walk_fails step at.axes after each points_in after_is count at.trail at.state from i h.trail h.state r new m lt fails h.loop, told)
-    some_fail ends lasts tells stands i r new lt h (inr (some, leads)) = inr (some, next_leads i h.trail h.state r h.loop ends lasts lt leads)
+    pub some_fail : (told : Option Malformed) (ends : S → Type 0) (lasts : (s : S) (p : PointValue) → ends s → ends (step s p)) (stands : Stage S → Type 0) (i : ℕ) (r new : Reading) → i < count → (h : HasReadSome stands i r)
+        → EndsEarly each points_in step ends told (on at h.trail h.state) r new → EndsEarly (many_at count after each) all_points step ends told at from new
+    some_fail (Some m) ends lasts stands i r new lt h fails = walk_fails step at.axes after each points_in after_is count at.trail at.state from i h.trail h.state r new m lt fails h.loop
+    some_fail None ends lasts stands i r new lt h leads = next_leads i h.trail h.state r h.loop ends lasts lt leads

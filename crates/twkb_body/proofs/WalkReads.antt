@@ -1,5 +1,5 @@
 -- Points that are read one after another and added to something: a loop that reaches the end, and one that fails.
-use Rattle.std.proofs.Common.{◌≡◌, ℕ, ◌<◌, ◌≤◌, List, [], ◌∷◌, fold, Ok, inl, inr, refl, sym, ap, subst, ◌∙◌, arith}
+use Rattle.std.proofs.Common.{◌≡◌, ℕ, ◌<◌, ◌≤◌, List, [], ◌∷◌, fold, Ok, Some, refl, sym, ap, subst, ◌∙◌, arith}
 use Rattle.twkb_num.specs.Cursor.{Reading}
 use Rattle.twkb_head.specs.declared.header.Head.{Head}
 use Rattle.twkb_head.specs.declared.refusal.Malformed.{Malformed}
@@ -14,12 +14,6 @@ use Rattle.twkb_body.specs.Devices.PointReader.{Stage, HasRead, EndsEarly, IsWal
 use Rattle.twkb_body.specs.Devices.Walk.{HasPrecisions, lasts_from, IsWalk, IsWalked}
 use Rattle.twkb_body.proofs.PartPlans.{flat_single}
 use Rattle.twkb_body.proofs.Walks.{IsRingLoop, walk_fails, walk_ends, one_point, add_is_sums}
-
--- a walk ends early only at a malformed field
-pub only_malformed : {A S : Type 0} (each : PointValue → Reader A) (points_in : A → List PointValue) (step : S → PointValue → S) (tells : Malformed → Type 0) (at : Stage S) (from to : Reading)
-    → EndsEarly each points_in step (λ s. ⊥) tells at from to → (m : Malformed) × Fails (each at.trail.last from) m to × tells m
-only_malformed each points_in step tells at from to (inl malformed) = malformed
-only_malformed each points_in step tells at from to (inr (some, leads)) = absurd some.1
 
 module _ {S : Type 0} (step : Header → S → PointValue → S) where
   -- a step by a header that is kept beside the state
@@ -82,9 +76,9 @@ module _ {S : Type 0} (step : Header → S → PointValue → S) where
 
     -- the next point fails
     pub loop_ended : (now : Head) (many : ℕ) (new : Trail) (t : S) (i : ℕ) (r stop : Reading) (m : Malformed) → now ≡ head → many ≡ axes → i < count → Loop now many i new t r → Fails (point_at many new.last r) m stop → (at : Stage (Header × S)) → IsWalking head axes old s at
-        → EndsEarly (many_at count add (point_at at.axes)) (λ points. points) beside (λ s. ⊥) (λ told. m ≡ told) at from stop
+        → EndsEarly (many_at count add (point_at at.axes)) (λ points. points) beside (λ s. ⊥) (Some m) at from stop
     loop_ended now many new t i r stop m same axes_same lt loop fails at w =
         let l : Loop head axes i new t r = subst (λ (n : ℕ). Loop head n i new t r) axes_same (subst (λ (h : Head). Loop h many i new t r) same loop) in
         let f : Fails (point_at axes new.last r) m stop = subst (λ (n : ℕ). Fails (point_at n new.last r) m stop) axes_same fails in
-        subst (λ (at : Stage (Header × S)). EndsEarly (many_at count add (point_at at.axes)) (λ points. points) beside (λ s. ⊥) (λ told. m ≡ told) at from stop) (sym w.at_is)
-        (inl (m, walk_fails (step (of_head head)) axes add (point_at axes) one_point add_is_sums count old s from i new t r stop m lt f l, refl))
+        subst (λ (at : Stage (Header × S)). EndsEarly (many_at count add (point_at at.axes)) (λ points. points) beside (λ s. ⊥) (Some m) at from stop) (sym w.at_is)
+        (walk_fails (step (of_head head)) axes add (point_at axes) one_point add_is_sums count old s from i new t r stop m lt f l)

@@ -9,7 +9,7 @@ pub mod Quads
 pub mod PointReader
 pub mod Numbers
 pub mod LaneTrail
-pub mod FurtherTrail
+pub mod FurtherLanes
 pub mod Found
 pub mod Seen
 pub mod Inside

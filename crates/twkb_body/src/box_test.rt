@@ -1,7 +1,7 @@
 //! Whether a box of raw numbers holds all points under one header, of which nothing else is asked.
-ghost use Rattle.std.specs.Prelude.{◌≡◌, ◌&&◌, ◌≤◌, ◌≤ℤ◌, ◌-ℤ◌, ◌^◌, pos, neg_ℤ, true, ◌↔◌, IsTrue};
+ghost use Rattle.std.specs.Prelude.{◌≡◌, ◌&&◌, ◌≤◌, ◌≤ℤ◌, ◌^◌, pos, neg_ℤ, true, ◌↔◌, IsTrue};
 ghost use Rattle.twkb_head.specs.Header.{axes_with};
-ghost use Rattle.twkb_body.specs.Devices.BoxTest.{reaches, reaches_if, reach_further, reach_all, is_in_range, is_in_axis, is_in_flat, is_in_further, is_in_box, held_with, IsNearZero, IsClose, IsMet, IsNearRange, IsNearBox, AreNear};
+ghost use Rattle.twkb_body.specs.Devices.BoxTest.{reaches, reaches_if, reach_further, reach_all, is_in_box, held_with, IsClose, IsMet, IsNearRange, IsNearBox, AreNear};
 ghost use Rattle.twkb_body.specs.Devices.Inside.{of_head};
 ghost use Rattle.twkb_body.specs.Devices.Numbers.{listed, Each, is_four, axes_by, placed_at};
 ghost use Rattle.twkb_body.specs.Devices.Walk.{IsRun};
@@ -91,7 +91,7 @@ impl BoxTest {
 
     /// A run of points of three axes or four, one after another.
     #[inline(always)]
-    pub fn take_further_run<const AXES: usize>(
+    fn take_further_run<const AXES: usize>(
         &mut self,
         cursor: &mut Cursor,
         _head: &Head,
@@ -275,10 +275,11 @@ impl Points for BoxTest {
         most: u64,
         trail: &mut Trail,
     ) -> u64 {
-        if axes == 2 {
-            self.take_pairs(cursor, head, most, trail)
-        } else {
-            0
+        match axes {
+            2 => self.take_pairs(cursor, head, most, trail),
+            3 => self.take_further_run::<3>(cursor, head, most, trail),
+            4 => self.take_further_run::<4>(cursor, head, most, trail),
+            _ => 0,
         }
     }
 }

@@ -1,5 +1,5 @@
-//! Reading the parts of a body that is no collection's: points, lines and polygons. The first reading and the exact audit both
-//! read them here, and differ in what reads the points.
+//! The parts of a body: points, lines and polygons. The first reading and the exact audit both read them here, each with its own
+//! [`PointReader`].
 ghost use Rattle.std.specs.Prelude.{◌≡◌, IfOk, IfErr, flat_map};
 ghost use Rattle.twkb_head.specs.Shared.Reader.{many_at};
 ghost use Rattle.twkb_body.specs.Devices.Body.{ring_sums};
@@ -13,7 +13,7 @@ use twkb_head::Kind;
 use twkb_num::Cursor;
 
 /// Reads `count` parts of a kind.
-// Out of line, as polygons are: the compiler inlines no function that would grow very large.
+// Out of line: the compiler inlines nothing into a function that would grow very large.
 #[inline(never)]
 pub fn take_parts<R: PointReader>(
     cursor: &mut Cursor,
@@ -57,7 +57,7 @@ fn take_part<R: PointReader>(
 }
 
 /// Reads the rings of a polygon.
-// Out of line: the compiler inlines no function that would grow very large.
+// Out of line, for the reason given at `take_parts`.
 #[inline(never)]
 fn take_polygon<R: PointReader>(cursor: &mut Cursor, reader: &mut R) -> Result<(), R::Fault>
     requires ready { IsReady (R.stands reader.old) cursor.old }

@@ -1,5 +1,8 @@
-//! [`PointReader`], the trait of what reads the points of a body: in lanes, or one after another with their coordinates.
-ghost use Rattle.std.specs.Prelude.{◌≡◌, List, IfOk, IfErr};
+//! [`PointReader`], a trait for what reads the points of a body.
+//!
+//! There are two implementations: [`Walk`](crate::walk::Walk) adds up the coordinates of every point, and
+//! [`LaneTrail`](crate::lane_trail::LaneTrail) stops at the first point outside a box.
+ghost use Rattle.std.specs.Prelude.{◌≡◌, Option, IfOk, IfErr, IfSome};
 ghost use Rattle.twkb_head.specs.Shared.Reader.{many_at};
 ghost use Rattle.twkb_head.specs.declared.refusal.Malformed.{Malformed as MalformedOf};
 ghost use Rattle.twkb_body.specs.Geometry.{PointValue};
@@ -10,9 +13,9 @@ ghost use Rattle.twkb_body.specs.Devices.PointReader.{Stage, IsReady, HasRead, E
 use twkb_head::Malformed;
 use twkb_num::Cursor;
 
-/// What reads the points of a body, one part after another, and how far it has come.
+/// Reads the points of a body, ring after ring, and keeps how far it has come.
 pub trait PointReader {
-    /// Why it ends before all points are read.
+    /// Why reading ends before the last point.
     type Fault;
 
     /// The type of the state that points change.
@@ -21,17 +24,17 @@ pub trait PointReader {
     /// The state after a point.
     ghost step: { State → PointValue → State };
 
-    /// A reader has come this far.
+    /// A reader has come as far as a stage says.
     ghost stands: { Self → Stage State → Type 0 };
 
-    /// States at which it ends, whatever follows.
+    /// At these states reading ends.
     ghost ends: { State → Type 0 };
 
-    /// Once it ends at a state, no point changes that.
+    /// Points after an end lead to ends alone.
     ghost lasts: { (s : State) (point : PointValue) → ends s → ends (step s point) };
 
-    /// A fault tells of a malformed field.
-    ghost tells: { Self.Fault → MalformedOf → Type 0 };
+    /// The malformed field of a fault. A fault without one says that the points lead to an end, unless a field is malformed.
+    ghost tells: { Self.Fault → Option MalformedOf };
 
     /// Reads `count` points.
     fn take_points(&mut self, cursor: &mut Cursor, count: u64) -> Result<(), Self::Fault>
@@ -44,5 +47,5 @@ pub trait PointReader {
 
     /// The fault for a malformed field.
     fn fault_of(malformed: Malformed) -> Self::Fault
-        ensures { tells result malformed };
+        ensures { IfSome (tells result) (λ m. m ≡ malformed) };
 }

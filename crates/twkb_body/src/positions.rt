@@ -1,12 +1,12 @@
-//! Where points of X and Y are, in lanes of 32 bits, and whether a box holds them.
+//! Where points are, in lanes of 32 bits, and whether a box holds them.
 //!
-//! A lane holds a point's distance from the minimum of the box. So one comparison without signs tells whether the point is in the
-//! box: a distance below zero is a great number then.
-ghost use Rattle.std.specs.Prelude.{◌≡◌, ◌+◌, ◌-◌, ◌%◌, ◌&&◌, ℕ, ℤ, map, [], ◌∷◌, ◌++◌, nat_le, nat_lt, if◌then◌else◌, All, IsTrue};
+//! A lane holds a point's distance in one axis from the minimum of the box. One comparison without signs tells whether the point is
+//! in the box, since a distance below zero is a great number then. Points of X and Y alone have each distance in two lanes.
+ghost use Rattle.std.specs.Prelude.{◌≡◌, true, ◌+◌, ◌-◌, ◌%◌, ◌&&◌, ℕ, ℤ, map, [], ◌∷◌, ◌++◌, nat_le, nat_lt, if◌then◌else◌, All, IsTrue};
 ghost use Rattle.std.specs.Int.{w16, w32, cast_signed, cast_unsigned};
 ghost use Rattle.twkb_num.specs.Varint.{IsBrief, IsShort};
 ghost use Rattle.twkb_body.specs.declared.numbers.Numbers.{Numbers as NumbersOf};
-ghost use Rattle.twkb_body.specs.Devices.FurtherTrail.{four_lanes, HaveGone};
+ghost use Rattle.twkb_body.specs.Devices.FurtherLanes.{four_lanes, HaveGone};
 ghost use Rattle.twkb_body.specs.Devices.Numbers.{Each, listed};
 ghost use Rattle.twkb_body.specs.Devices.Quads.{lanes_at, IsInLane, IsLaneExtent, HaveReached};
 
@@ -16,15 +16,38 @@ use std::simd::prelude::*;
 /// A lane holds distances from -2^31 on and below 2^31.
 const IN_LANE: i64 = 1 << 31;
 
-/// Four short differences lead at most 2^29 further, where lanes wrap around. Then a lane below this is no point outside.
+/// An extent below this is told from every point outside, also where lanes wrap around: four short differences lead at most 2^29
+/// further.
 const WIDEST: i64 = 1 << 30;
 
 /// The last of some points, and whether a box holds them all.
 #[derive(Clone, Copy)]
 pub struct Reached {
-    /// The point's distances from the minima of the box. Those in X and Y stand twice if there are no others.
+    /// The point's distances from the minima of the box. Without other axes those in X and Y are there twice.
     pub at: u32x4,
     pub inside: bool,
+}
+
+/// How many points were read, where the last one is, and whether a box holds them all.
+#[derive(Clone, Copy)]
+pub struct Step {
+    pub points: u64,
+    pub reached: Reached,
+}
+
+impl Step {
+    /// No point.
+    #[inline(always)]
+    pub fn none(at: u32x4) -> Step
+        ensures points { result.points ≡ 0 }
+        ensures at { result.reached.at ≡ at }
+        ensures inside { result.reached.inside ≡ true }
+    {
+        Step {
+            points: 0,
+            reached: Reached { at, inside: true },
+        }
+    }
 }
 
 /// Whether a lane holds a distance.
@@ -94,7 +117,7 @@ pub fn two_more(differences: u32x4, at: u32x4, extent: u32x4) -> Reached
         → All IsShort (map (cast_signed w32) differences) → IsInLane x → IsInLane y → IsLaneExtent w → IsLaneExtent h
         → HaveReached w h x y ((a1, b1) ∷ (a2, b2) ∷ []) result.at result.inside }
 {
-    let points = two_points(differences, at);
+    let points = two_places(differences, at);
     Reached {
         at: last_twice(points),
         inside: are_within(points, extent),
@@ -284,7 +307,7 @@ fn last_twice(points: u32x4) -> u32x4
 
 /// The places of two points, by their differences.
 #[inline(always)]
-fn two_points(more: u32x4, at: u32x4) -> u32x4
+fn two_places(more: u32x4, at: u32x4) -> u32x4
     ensures { (a b c d x y : ℕ) → more ≡ a ∷ b ∷ c ∷ d ∷ [] → at ≡ x ∷ y ∷ x ∷ y ∷ []
         → result ≡ (((a + 0) % 4294967296 + x) % 4294967296) ∷ (((b + 0) % 4294967296 + y) % 4294967296) ∷ (((c + a) % 4294967296 + x) % 4294967296) ∷ (((d + b) % 4294967296 + y) % 4294967296) ∷ [] }
 {

@@ -1,32 +1,10 @@
 //! Points of X and Y read up to four at once, and compared with a box.
-ghost use Rattle.std.specs.Prelude.{◌≡◌, ◌≤◌, true};
+ghost use Rattle.std.specs.Prelude.{◌≡◌, ◌≤◌};
 ghost use Rattle.twkb_body.specs.Devices.Quads.{StepsInLanes};
 
-use crate::positions::{Reached, four_more, one_more, two_more};
+use crate::positions::{Step, four_more, one_more, two_more};
 use std::simd::prelude::*;
 use twkb_num::Cursor;
-
-/// How many points were read, where the last one is, and whether the box holds them all.
-#[derive(Clone, Copy)]
-pub struct Step {
-    pub points: u64,
-    pub reached: Reached,
-}
-
-impl Step {
-    /// No point.
-    #[inline(always)]
-    pub fn none(at: u32x4) -> Step
-        ensures points { result.points ≡ 0 }
-        ensures at { result.reached.at ≡ at }
-        ensures inside { result.reached.inside ≡ true }
-    {
-        Step {
-            points: 0,
-            reached: Reached { at, inside: true },
-        }
-    }
-}
 
 /// Reads four points at the place, or two, or one, by their distances from the minima of a box, in lanes. It reads none if a
 /// difference of the first takes more than four bytes, or if fewer than eight bytes are left.

@@ -1,6 +1,5 @@
-//! [`Walk`], which reads points one after another, sums up their coordinates, and adds them to something.
-ghost use Rattle.std.specs.Prelude.{◌≡◌, ◌≤◌, IfSome};
-ghost use Rattle.twkb_num.specs.Units.{IsPrecision};
+//! [`Walk`], which reads points one after another, adds up their differences, and shows each point to a [`Points`].
+ghost use Rattle.std.specs.Prelude.{◌≡◌, ◌≤◌, None, false};
 ghost use Rattle.twkb_head.specs.Header.{Header, axes_with};
 ghost use Rattle.twkb_body.specs.Devices.Inside.{of_head};
 ghost use Rattle.twkb_body.specs.Devices.PointReader.{IsWalking};
@@ -12,7 +11,7 @@ use crate::trail::{Trail, take_point};
 use twkb_head::{Head, Kind, Malformed};
 use twkb_num::Cursor;
 
-/// Points under one header, which are added to `points`, and how far they have come.
+/// Points under one header, each added to `points`, and how far reading has come.
 #[derive(Drop)]
 pub struct Walk<'h, P> {
     head: &'h Head,
@@ -42,7 +41,7 @@ impl<'h, P: Points> Walk<'h, P> {
 }
 
 impl<'h, P: Points> PointReader for Walk<'h, P> {
-    ghost use Rattle.std.specs.Prelude.{◌≡◌};
+    ghost use Rattle.std.specs.Prelude.{◌≡◌, Some};
     ghost use Rattle.twkb_head.specs.Header.{Header};
     ghost use Rattle.twkb_body.specs.Devices.PointReader.{IsWalking};
 
@@ -58,7 +57,7 @@ impl<'h, P: Points> PointReader for Walk<'h, P> {
 
     ghost lasts = { λ s point ended. ended };
 
-    ghost tells = { λ fault m. fault ≡ m };
+    ghost tells = { λ fault. Some fault };
 
     /// Reads the points in runs, and one by one where a run ends early.
     #[inline(always)]
@@ -94,16 +93,15 @@ impl<'h, P: Points> PointReader for Walk<'h, P> {
     }
 }
 
-/// A header with this kind and this number of axes, and nothing else.
+/// A header with this kind and number of axes and nothing else, at precision 0: for calls that need no more of a header.
 #[inline(always)]
-pub fn head_of(kind: Kind, axes: usize) -> Head
+pub fn bare_head(kind: Kind, axes: usize) -> Head
     requires some { 2 ≤ axes }
     requires few { axes ≤ 4 }
     ensures kind { result.kind ≡ kind }
     ensures axes { axes ≡ axes_with result.z result.m }
-    ensures xy { IsPrecision result.xy }
-    ensures z_high { IfSome result.z (λ p. p ≤ 7) }
-    ensures m_high { IfSome result.m (λ p. p ≤ 7) }
+    ensures precisions { HasPrecisions result }
+    ensures nothing { (result.size ≡ None) × (result.bounds ≡ None) × (result.ids ≡ false) × (result.empty ≡ false) }
 {
     Head {
         kind,

@@ -1,6 +1,6 @@
 -- Devices of proofs: nothing public names them.
 -- What readers of points have read: a value of the grammar, whose points changed a state. Or they ended early.
-use Rattle.std.specs.Prelude.{◌≡◌, ℕ, ◌≤◌, ◌⊎◌, List, fold, Ok}
+use Rattle.std.specs.Prelude.{◌≡◌, ℕ, ◌≤◌, List, fold, Ok, Option, Some, None}
 use Rattle.twkb_num.specs.Cursor.{Reading}
 use Rattle.twkb_head.specs.declared.header.Head.{Head}
 use Rattle.twkb_head.specs.declared.refusal.Malformed.{Malformed}
@@ -11,7 +11,7 @@ use Rattle.twkb_body.specs.Geometry.{PointValue}
 use Rattle.twkb_body.specs.Devices.Inside.{of_head}
 use Rattle.twkb_body.specs.Devices.Walk.{HasPrecisions, lasts_from, IsWalked}
 
--- how far a reader has come: how many axes points have, the sums and the number of the points so far, and a state
+-- how far a reader has come: how many axes the points have, the last point and the number of points so far, and a state
 pub record Stage (S : Type 0) : Type 0 where
   pub axes : ℕ
   pub trail : Trail
@@ -40,12 +40,12 @@ abbrev pub Leads : {A S : Type 0} → (PointValue → Reader A) → (A → List 
 Leads {A} each points_in step ends last state from =
     (x : A) (stop : Reading) → each last from ≡ (Ok x, stop) → ends (fold step state (lasts_from last (points_in x)))
 
--- Reading ended early: a field is malformed, and the fault tells which; or reading leads to an end, of which there are some.
-abbrev pub EndsEarly : {A S : Type 0} → (PointValue → Reader A) → (A → List PointValue) → (S → PointValue → S) → (S → Type 0) → (Malformed → Type 0)
+-- Reading ended early: at a malformed field, if the fault tells of one. If it tells of none, the value's points lead to an end, if it
+-- can be read.
+abbrev pub EndsEarly : {A S : Type 0} → (PointValue → Reader A) → (A → List PointValue) → (S → PointValue → S) → (S → Type 0) → Option Malformed
     → Stage S → Reading → Reading → Type 0
-EndsEarly {A} {S} each points_in step ends tells at from to =
-    ((m : Malformed) × Fails (each at.trail.last from) m to × tells m)
-    ⊎ (((s : S) × ends s) × Leads each points_in step ends at.trail.last at.state from)
+EndsEarly each points_in step ends (Some m) at from to = Fails (each at.trail.last from) m to
+EndsEarly each points_in step ends None at from to = Leads each points_in step ends at.trail.last at.state from
 
 -- the stage of a walk: its trail, and its header beside the state of what the points are added to
 pub record IsWalking {S : Type 0} (head : Head) (axes : ℕ) (trail : Trail) (state : S) (at : Stage (Header × S)) : Type 0 where

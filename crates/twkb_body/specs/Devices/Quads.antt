@@ -5,7 +5,7 @@ use Rattle.std.specs.Int.{w32, cast_unsigned}
 use Rattle.twkb_num.specs.Cursor.{Reading, passed, IsMoved}
 use Rattle.twkb_num.specs.Varint.{SpellsTwoSigned, IsShort}
 use Rattle.twkb_head.specs.Shared.Reader.{signed_at}
-use Rattle.twkb_body.specs.declared.quads.Step.{Step}
+use Rattle.twkb_body.specs.declared.positions.Step.{Step}
 use Rattle.twkb_body.specs.Devices.BoxTest.{reaches}
 
 -- two distances in lanes, in two's complement, twice

@@ -1,6 +1,6 @@
 -- Devices of proofs: nothing public names them.
 -- The first reading: what it certifies, and what it refuses.
-use Rattle.std.specs.Prelude.{◌≡◌, ◌≢◌, ℕ, ◌+◌, ◌-◌, ◌+ℤ◌, ◌≤ℤ◌, Bool, false, List, [], ◌∷◌, ◌++◌, map, Option, Some, None, Result, Ok, Err, All, AllPairs, IfSome, true, ⊤, is_some, ◌||◌, ◌⊎◌, option_map, ℤ}
+use Rattle.std.specs.Prelude.{◌≡◌, ◌≢◌, ℕ, ◌+◌, ◌-◌, ◌+ℤ◌, ◌≤ℤ◌, Bool, false, List, [], ◌∷◌, ◌++◌, map, Option, Some, None, Result, Ok, Err, All, AllPairs, IfSome, IfOk, IfErr, OnErr, true, ⊤, is_some, ◌||◌, ◌⊎◌, option_map, ℤ}
 use Rattle.twkb_num.specs.Cursor.{Reading, rest, passed, IsMoved, IsSound}
 use Rattle.twkb_head.specs.declared.header.Head.{Head}
 use Rattle.twkb_head.specs.declared.kinds.Kind.{Kind}
@@ -34,6 +34,7 @@ use Rattle.twkb_body.specs.declared.stopped.Stopped.{Stopped}
 use Rattle.twkb_body.specs.declared.stopped.Stopped.TheVariants.{Malformed as BadField, Memory as NoMemory}
 use Rattle.twkb_body.specs.Devices.IdLists.{IsListFound, HasManyIdsAfterCount}
 use Rattle.twkb_body.specs.Devices.Inside.{of_head, IsInside, body_behind}
+use Rattle.twkb_body.specs.Devices.LaneTrail.{LeaveBox}
 use Rattle.twkb_body.specs.Devices.Stops.{WantsBehind}
 use Rattle.twkb_body.specs.Devices.Walk.{ArePrecisions, no_points, IsWalked}
 
@@ -65,6 +66,13 @@ AreHeld all kind axes count box old new vertices =
     (held : Held)
     × ReadParts (held_then axes) kind axes count old new (record { box = box; inside = true }) held vertices
     × (held.inside ≡ all)
+
+-- A body was read whose points the box holds, and the result is how many points there are; or else its parts leave the box.
+pub record HoldsOrLeaves (kind : Kind) (axes count : ℕ) (box : RawBox) (old new : Reading) (result : Result ℕ Doubt) : Type 0 where
+  pub held : IfOk result (AreHeld true kind axes count box old new)
+  pub leave : OnErr result (LeaveBox kind axes count box old)
+  pub bytes : new.bytes ≡ old.bytes
+  pub refused : IfErr result (λ doubt. doubt ≡ Refused)
 
 abbrev pub frame_bounds : Frame → Bounds
 frame_bounds frame = raw_bounds frame.xy frame.z frame.m frame.bounds

@@ -1,24 +1,24 @@
 //! The parts of a body in the first reading: their count, and whether a box holds their points.
-ghost use Rattle.std.specs.Prelude.{◌≡◌, ◌≤◌, ◌⊎◌, ℕ, true, false, IfOk, IfErr, IfSome, OnErr};
-ghost use Rattle.twkb_num.specs.Units.{IsPrecision};
+ghost use Rattle.std.specs.Prelude.{◌≡◌, ◌≤◌, ◌⊎◌, IfOk, IfErr, OnErr};
 ghost use Rattle.twkb_head.specs.Header.{axes_with, is_multi};
 ghost use Rattle.twkb_body.specs.Devices.BoxTest.{IsNearBox};
 ghost use Rattle.twkb_body.specs.Devices.Inside.{of_head};
-ghost use Rattle.twkb_body.specs.Devices.LaneTrail.{LeaveBox};
-ghost use Rattle.twkb_body.specs.Devices.Sure.{ReadParts, AreMalformed, AreHeld, CountsParts};
+ghost use Rattle.twkb_body.specs.Devices.Body.{zeros};
+ghost use Rattle.twkb_body.specs.Devices.Sure.{ReadParts, AreMalformed, HoldsOrLeaves, CountsParts};
+ghost use Rattle.twkb_head.specs.declared.raw.RawBox.{RawBox as RawBoxOf};
 ghost use Rattle.twkb_body.specs.declared.doubt.Doubt.TheVariants.{Refused};
 ghost use Rattle.twkb_body.specs.Devices.Walk.{HasPrecisions};
 
 use crate::box_test::BoxTest;
 use crate::doubt::Doubt;
-use crate::further::Further;
-use crate::further_trail::{FurtherTrail, fits_further};
-use crate::lane_trail::{LaneTrail, fits_lanes};
+use crate::flat_lanes::{FlatLanes, fits_lanes};
+use crate::further_lanes::{FurtherLanes, fits_further};
+use crate::lane_trail::{LaneReader, LaneTrail};
 use crate::lists::take_list;
 use crate::parts::take_parts;
 use crate::points::Points;
 use crate::rooms::IdRoom;
-use crate::walk::{Walk, head_of};
+use crate::walk::{Walk, bare_head};
 use twkb_head::{Head, Kind, RawBox};
 use twkb_num::Cursor;
 
@@ -51,39 +51,16 @@ pub fn take_flat_boxed(
     count: u64,
     bounds: &RawBox,
 ) -> Result<usize, Doubt>
-    requires near { IsNearBox bounds.now }
-    ensures ok { IfOk result (AreHeld true kind 2 count bounds.now cursor.old cursor.new) }
-    ensures leave { OnErr result (LeaveBox kind 2 count bounds.now cursor.old) }
-    ensures bytes { cursor.new.bytes ≡ cursor.old.bytes }
-    ensures refused { IfErr result (λ doubt. doubt ≡ Refused) }
+    requires { IsNearBox bounds.now }
+    ensures { HoldsOrLeaves kind 2 count bounds.now cursor.old cursor.new result }
 {
-    if !fits_lanes(bounds) {
+    if fits_lanes(bounds) {
+        take_by_lanes(cursor, kind, count, FlatLanes::trail(bounds))
+    } else {
         // A copy, so that the box stays in registers elsewhere.
         let bounds = *bounds;
-        return take_wide(cursor, kind, count, &bounds);
+        take_by_box(cursor, kind, 2, count, &bounds)
     }
-    let mut trail = LaneTrail::new(bounds);
-    match take_parts(cursor, kind, count, &mut trail) {
-        Ok(()) => Ok(trail.points),
-        Err(_) => Err(Doubt::Refused),
-    }
-}
-
-/// Reads a body as [`take_flat_boxed`] does, of a box that is too wide for lanes or too far from zero.
-#[inline(never)]
-fn take_wide(cursor: &mut Cursor, kind: Kind, count: u64, bounds: &RawBox) -> Result<usize, Doubt>
-    requires near { IsNearBox bounds.now }
-    ensures ok { IfOk result (AreHeld true kind 2 count bounds.now cursor.old cursor.new) }
-    ensures leave { OnErr result (LeaveBox kind 2 count bounds.now cursor.old) }
-    ensures bytes { cursor.new.bytes ≡ cursor.old.bytes }
-    ensures refused { IfErr result (λ doubt. doubt ≡ Refused) }
-{
-    let head = head_of(kind, 2);
-    let walk = take_walk(cursor, &head, 2, count, BoxTest::new(bounds))?;
-    if !walk.points.is_inside() {
-        return Err(Doubt::Refused);
-    }
-    Ok(walk.trail.points)
 }
 
 /// Reads a body of three axes or four, whose points the box has to hold.
@@ -97,22 +74,19 @@ pub fn take_boxed(
 ) -> Result<usize, Doubt>
     requires further { (axes ≡ 3) ⊎ (axes ≡ 4) }
     requires near { IsNearBox bounds.now }
-    ensures ok { IfOk result (AreHeld true kind axes count bounds.now cursor.old cursor.new) }
-    ensures leave { OnErr result (LeaveBox kind axes count bounds.now cursor.old) }
-    ensures bytes { cursor.new.bytes ≡ cursor.old.bytes }
-    ensures refused { IfErr result (λ doubt. doubt ≡ Refused) }
+    ensures { HoldsOrLeaves kind axes count bounds.now cursor.old cursor.new result }
 {
     if axes == 4 {
-        take_boxed_by::<4>(cursor, kind, count, bounds)
+        take_further_boxed::<4>(cursor, kind, count, bounds)
     } else {
-        take_boxed_by::<3>(cursor, kind, count, bounds)
+        take_further_boxed::<3>(cursor, kind, count, bounds)
     }
 }
 
 /// Reads a body of `AXES` axes, whose points the box has to hold.
-// It isn't inlined, since a function that would grow very large has nothing inlined.
+// Out of line: the compiler inlines nothing into a function that would grow very large.
 #[inline(never)]
-fn take_boxed_by<const AXES: usize>(
+fn take_further_boxed<const AXES: usize>(
     cursor: &mut Cursor,
     kind: Kind,
     count: u64,
@@ -120,43 +94,55 @@ fn take_boxed_by<const AXES: usize>(
 ) -> Result<usize, Doubt>
     requires further { (AXES ≡ 3) ⊎ (AXES ≡ 4) }
     requires near { IsNearBox bounds.now }
-    ensures ok { IfOk result (AreHeld true kind AXES count bounds.now cursor.old cursor.new) }
-    ensures leave { OnErr result (LeaveBox kind AXES count bounds.now cursor.old) }
-    ensures bytes { cursor.new.bytes ≡ cursor.old.bytes }
-    ensures refused { IfErr result (λ doubt. doubt ≡ Refused) }
+    ensures { HoldsOrLeaves kind AXES count bounds.now cursor.old cursor.new result }
 {
-    if !fits_further::<AXES>(bounds) {
-        return take_further_wide::<AXES>(cursor, kind, count, bounds);
+    if fits_further::<AXES>(bounds) {
+        take_by_lanes(cursor, kind, count, FurtherLanes::<AXES>::trail(bounds))
+    } else {
+        take_by_box(cursor, kind, AXES, count, bounds)
     }
-    let mut lanes = FurtherTrail::<AXES>::new(bounds);
-    let Ok(()) = take_parts(cursor, kind, count, &mut lanes) else {
-        return Err(Doubt::Refused);
-    };
-    Ok(lanes.points)
 }
 
-/// Reads a body as [`take_boxed`] does, of a box that is too wide for lanes or too far from zero.
-#[inline(never)]
-fn take_further_wide<const AXES: usize>(
+/// Reads a body whose points a box has to hold, by a trail of no points yet.
+#[inline(always)]
+fn take_by_lanes<L: LaneReader + Drop>(
     cursor: &mut Cursor,
     kind: Kind,
     count: u64,
+    mut trail: LaneTrail<L>,
+) -> Result<usize, Doubt>
+    requires points { trail.points ≡ 0 }
+    requires place { (box : RawBoxOf) × L.place trail.reader box trail.at trail.extent zeros }
+    ensures { (box : RawBoxOf) → L.place trail.reader box trail.at trail.extent zeros
+        → HoldsOrLeaves kind L.axes count box cursor.old cursor.new result }
+{
+    match take_parts(cursor, kind, count, &mut trail) {
+        Ok(()) => Ok(trail.points),
+        Err(_) => Err(Doubt::Refused),
+    }
+}
+
+/// Reads a body whose points a box has to hold, where the box is too wide for lanes or too far from zero.
+#[inline(never)]
+fn take_by_box(
+    cursor: &mut Cursor,
+    kind: Kind,
+    axes: usize,
+    count: u64,
     bounds: &RawBox,
 ) -> Result<usize, Doubt>
-    requires further { (AXES ≡ 3) ⊎ (AXES ≡ 4) }
+    requires some { 2 ≤ axes }
+    requires few { axes ≤ 4 }
     requires near { IsNearBox bounds.now }
-    ensures ok { IfOk result (AreHeld true kind AXES count bounds.now cursor.old cursor.new) }
-    ensures leave { OnErr result (LeaveBox kind AXES count bounds.now cursor.old) }
-    ensures bytes { cursor.new.bytes ≡ cursor.old.bytes }
-    ensures refused { IfErr result (λ doubt. doubt ≡ Refused) }
+    ensures { HoldsOrLeaves kind axes count bounds.now cursor.old cursor.new result }
 {
-    let head = head_of(kind, AXES);
-    let boxed = BoxTest::new(bounds);
-    let walk = take_walk(cursor, &head, AXES, count, Further::<AXES> { boxed })?;
-    if !walk.points.boxed.is_inside() {
-        return Err(Doubt::Refused);
+    let head = bare_head(kind, axes);
+    let walk = take_walk(cursor, &head, axes, count, BoxTest::new(bounds))?;
+    if walk.points.is_inside() {
+        Ok(walk.trail.points)
+    } else {
+        Err(Doubt::Refused)
     }
-    Ok(walk.trail.points)
 }
 
 /// Reads `count` parts whose points have `axes` numbers, and adds their points.

@@ -9,7 +9,7 @@ ghost use Rattle.twkb_body.specs.declared.doubt.Doubt.TheVariants.{Refused};
 use super::parts::take_walk;
 use crate::doubt::Doubt;
 use crate::summed::Summed;
-use crate::walk::head_of;
+use crate::walk::bare_head;
 use twkb_head::Kind;
 use twkb_num::Cursor;
 
@@ -116,7 +116,7 @@ fn take_summed(cursor: &mut Cursor, kind: Kind, axes: usize, count: u64) -> Resu
     ensures malformed { OnErr result (AreMalformed kind axes count cursor.old cursor.new) }
     ensures refused { IfErr result (λ doubt. doubt ≡ Refused) }
 {
-    let head = head_of(kind, axes);
+    let head = bare_head(kind, axes);
     let walk = take_walk(cursor, &head, axes, count, Summed)?;
     Ok(walk.trail.points)
 }

@@ -25,7 +25,7 @@ returns-in_err-take_part-clause-ended g c =
     let p = err_from_is_err_and c.from_residual.result c.from_residual.ensures.1 in
     rw (p.1, p.2) (λ at there.
     let h = c.loop.invariant.read at there in
-    some_fail g.R.PointReader.step at ring_sums (part_at c.args.kind at.axes) part_points rings_sums_flat c.args.count c.args.cursor.now g.R.PointReader.ends g.R.PointReader.lasts (g.R.PointReader.tells c.in_err-take_part.field-0.0) (g.R.PointReader.stands c.loop.reader) c.loop.counter c.loop.cursor c.take_part.new.cursor
+    some_fail g.R.PointReader.step at ring_sums (part_at c.args.kind at.axes) part_points rings_sums_flat c.args.count c.args.cursor.now (g.R.PointReader.tells c.in_err-take_part.field-0.0) g.R.PointReader.ends g.R.PointReader.lasts (g.R.PointReader.stands c.loop.reader) c.loop.counter c.loop.cursor c.take_part.new.cursor
     c.loop-test.true h (c.in_err-take_part.ensures.ended (on at h.trail h.state) h.there))
 
 pub loop-preserved : goal.loop-preserved

@@ -32,7 +32,7 @@ returns-in_err-take_ring-clause-ended g c =
     rw (p.1, p.2) (λ at there.
     let h = c.loop.invariant.read at there in
     counted_ends g.R.PointReader.step at g.R.PointReader.ends (g.R.PointReader.tells c.in_err-take_ring.field-0.0) sums (ring_at at.axes) part_points c.args.cursor.now c.take_number.new.cursor c.take_ring.new.cursor c.in-Ok.count c.in-Ok.ensures
-    (some_fail g.R.PointReader.step at sums (ring_at at.axes) ring_points rings_are_sums c.in-Ok.count c.take_number.new.cursor g.R.PointReader.ends g.R.PointReader.lasts (g.R.PointReader.tells c.in_err-take_ring.field-0.0) (g.R.PointReader.stands c.loop.reader) c.loop.counter c.loop.cursor c.take_ring.new.cursor
+    (some_fail g.R.PointReader.step at sums (ring_at at.axes) ring_points rings_are_sums c.in-Ok.count c.take_number.new.cursor (g.R.PointReader.tells c.in_err-take_ring.field-0.0) g.R.PointReader.ends g.R.PointReader.lasts (g.R.PointReader.stands c.loop.reader) c.loop.counter c.loop.cursor c.take_ring.new.cursor
     c.loop-test.true h (c.in_err-take_ring.ensures.ended (on at h.trail h.state) h.there)))
 
 pub loop-preserved : goal.loop-preserved

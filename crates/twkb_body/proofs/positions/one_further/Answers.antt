@@ -3,7 +3,7 @@ use Rattle.std.proofs.Common.{◌≡◌, ◌&&◌, [], ◌∷◌, ◌∙◌, ari
 use Rattle.std.proofs.lemmas.Int.{ints}
 use Rattle.std.specs.Prelude.{ℤ, ◌+ℤ◌}
 use Rattle.twkb_num.specs.Varint.{IsShort}
-use Rattle.twkb_body.specs.Devices.FurtherTrail.{four_lanes, all_within}
+use Rattle.twkb_body.specs.Devices.FurtherLanes.{four_lanes, all_within}
 use Rattle.twkb_body.specs.Devices.Numbers.{plus}
 use Rattle.twkb_body.specs.Devices.Quads.{IsInLane}
 use Rattle.twkb_body.proofs.LaneSums.{IsMetInLane, one_lane, lane_reaches, and_true_right}

@@ -5,7 +5,7 @@ use Rattle.std.specs.Int.{cast_unsigned}
 use Rattle.std.specs.Prelude.{ℤ, ◌+ℤ◌, All}
 use Rattle.twkb_num.specs.Varint.{IsBrief}
 use Rattle.twkb_body.specs.Devices.BoxTest.{reaches}
-use Rattle.twkb_body.specs.Devices.FurtherTrail.{four_lanes}
+use Rattle.twkb_body.specs.Devices.FurtherLanes.{four_lanes}
 use Rattle.twkb_body.specs.Devices.Numbers.{listed, plus}
 use Rattle.twkb_body.specs.Devices.Quads.{IsInLane}
 use Rattle.twkb_body.proofs.LaneSums.{IsMetInLane, lanes_are, first_of_two, second_of_two, lane_reaches, greater_within, each_of_two}

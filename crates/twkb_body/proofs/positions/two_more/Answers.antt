@@ -15,12 +15,12 @@ returns k x y w h a1 b1 a2 b2 at extent means short x_in y_in w_fits h_fits =
     let a2_short : IsShort a2 = all 2 (pos 0) (omega arith) in
     let b2_short : IsShort b2 = all 3 (pos 0) (omega arith) in
     let more = lanes_are w32 k.args.differences (a1 ∷ b1 ∷ a2 ∷ b2 ∷ []) k.fits-differences.1 means in
-    let points = k.two_points-points.ensures _ _ _ _ _ _ more at in
+    let points = k.two_places-points.ensures _ _ _ _ _ _ more at in
     let x1 = first_wide a1 x a1_short x_in in
     let y1 = first_wide b1 y b1_short y_in in
     let x2 = second_wide a1 a2 x a1_short a2_short x_in in
     let y2 = second_wide b1 b2 y b1_short b2_short y_in in
-    let there : k.two_points-points.result ≡ cast_unsigned w32 (x +ℤ a1) ∷ cast_unsigned w32 (y +ℤ b1) ∷ cast_unsigned w32 ((x +ℤ a1) +ℤ a2) ∷ cast_unsigned w32 ((y +ℤ b1) +ℤ b2) ∷ []
+    let there : k.two_places-points.result ≡ cast_unsigned w32 (x +ℤ a1) ∷ cast_unsigned w32 (y +ℤ b1) ∷ cast_unsigned w32 ((x +ℤ a1) +ℤ a2) ∷ cast_unsigned w32 ((y +ℤ b1) +ℤ b2) ∷ []
     = points ∙ (λ j. x1 j ∷ y1 j ∷ x2 j ∷ y2 j ∷ []) in
     let x1_met : IsMetInLane (x +ℤ a1) = (omega (arith, ints, x_in.0, a1_short.0), omega (arith, ints, x_in.1, a1_short.1)) in
     let y1_met : IsMetInLane (y +ℤ b1) = (omega (arith, ints, y_in.0, b1_short.0), omega (arith, ints, y_in.1, b1_short.1)) in

@@ -1,12 +1,11 @@
 -- A count, its ids and the parts are a body; a malformed field or want of memory stops it.
-use Rattle.std.proofs.Common.{refl, sym, subst}
+use Rattle.std.proofs.Common.{refl}
 use Rattle.std.proofs.lemmas.Result.{err_from_is_err_and}
 use Rattle.twkb_num.specs.Cursor.{rest}
 use Rattle.twkb_head.specs.Header.{is_multi}
-use Rattle.twkb_head.specs.declared.refusal.Malformed.{Malformed}
-use Rattle.twkb_head.specs.Shared.Reader.{many_at, Fails}
+use Rattle.twkb_head.specs.Shared.Reader.{many_at}
 use Rattle.twkb_body.specs.Geometry.{points_of}
-use Rattle.twkb_body.specs.Devices.Body.{ring_sums, zeros}
+use Rattle.twkb_body.specs.Devices.Body.{ring_sums}
 use Rattle.twkb_body.specs.Devices.BodyReader.{part_at, count_at, shape_at}
 use Rattle.twkb_body.specs.Devices.Ranges.{widened}
 use Rattle.twkb_body.specs.Devices.Walk.{no_points}
@@ -14,7 +13,7 @@ use Rattle.twkb_body.specs.Devices.IdLists.{HasManyIdsAfterCount}
 use Rattle.twkb_body.specs.Devices.Inside.{of_head}
 use Rattle.twkb_body.proofs.ShapeSteps.{no_count, no_parts, shape_of_parts}
 use Rattle.twkb_body.proofs.Stopping.{stops_outside}
-use Rattle.twkb_body.proofs.WalkReads.{beside, value_read, only_malformed}
+use Rattle.twkb_body.proofs.WalkReads.{value_read}
 use Rattle.twkb_body.proofs.shape.take_shape.Goals as goal
 
 pub returns-in_err-list : goal.returns-in_err-list
@@ -29,9 +28,7 @@ returns-in_err-take_parts g c =
     let p = err_from_is_err_and c.from_residual-in_err-take_parts.result c.from_residual-in_err-take_parts.ensures.1 in
     let h = of_head c.args.head.now in
     let list = c.in_ok-list.ensures in
-    let bad = only_malformed (many_at c.in_ok-list.list.count ring_sums (part_at h.kind c.axes.result)) points_of (beside widened) _ (record { axes = c.axes.result; trail = no_points; state = (h, c.empty.result) }) c.take_count.new.cursor c.take_parts.new.cursor
-    (c.in_err-take_parts.ensures.ended _ c.new-walk.ensures.stands) in
-    let fails = subst (λ (m : Malformed). Fails (many_at c.in_ok-list.list.count ring_sums (part_at h.kind c.axes.result) zeros c.take_count.new.cursor) m c.take_parts.new.cursor) (sym bad.2) bad.1 in
+    let fails = c.in_err-take_parts.ensures.ended _ c.new-walk.ensures.stands in
     rw (p.1, p.2) (no_parts h _ _ _ list.0 c.in_ok-list.list.count no_points c.axes.ensures.value refl list.1 list.2.count _ _ fails)
 
 pub returns : goal.returns

@@ -1,17 +1,17 @@
--- The box holds the points so far, and the lanes are the last one's distances from its minima.
+-- The box holds the points so far, and the lanes hold the last one's distances from its minima.
 use Rattle.std.proofs.Common.{◌≡◌, ◌-◌, ◌≤◌}
-use Rattle.twkb_head.specs.declared.raw.RawBox.{RawBox}
-use Rattle.twkb_body.specs.declared.trail.Trail.{Trail}
-use Rattle.twkb_body.specs.Devices.LaneTrail.{IsLaneTrail}
-use Rattle.twkb_body.proofs.QuadRuns.{IsLaneRun}
+use Rattle.twkb_body.specs.Devices.BoxTest.{Held}
+use Rattle.twkb_body.specs.Devices.LaneTrail.{StandsInLanes, IsHeldRun}
+use Rattle.twkb_body.specs.Devices.PointReader.{Stage}
 use Rattle.twkb_body.proofs.lane_trail.LaneTrailPointReader.take_points.Given as goal
 
 abbrev pub invariant-loop-done : goal.invariant-loop-done
-invariant-loop-done l = record {
+invariant-loop-done g l = record {
   few : l.done ≤ l.count;
   bytes : l.cursor.bytes ≡ l.fn.cursor.bytes;
-  run : (box : RawBox) (trail : Trail) → IsLaneTrail box l.fn.self trail → IsLaneRun trail l.fn.cursor box l.at l.cursor l.done;
+  read : (at : Stage Held) (s : StandsInLanes g.L.LaneReader.axes (λ box. g.L.LaneReader.place l.fn.self.reader box l.fn.self.at l.fn.self.extent) l.fn.self.points at)
+      → IsHeldRun g.L.LaneReader.axes (g.L.LaneReader.place l.fn.self.reader s.box l.at l.fn.self.extent) s.box (record { last = s.last; points = l.fn.self.points }) l.fn.cursor l.cursor l.done;
 }
 
 abbrev pub decreases-loop-done : goal.decreases-loop-done
-decreases-loop-done l = l.count - l.done
+decreases-loop-done g l = l.count - l.done

@@ -1,14 +1,13 @@
 -- The axes are four, or three.
 use Rattle.std.proofs.Common.{◌≡◌, ℕ, sym, subst, arith}
-use Rattle.std.specs.Prelude.{OnErr}
-use Rattle.twkb_body.specs.Devices.LaneTrail.{LeaveBox}
+use Rattle.twkb_body.specs.Devices.Sure.{HoldsOrLeaves}
 use Rattle.twkb_body.proofs.sure.parts.take_boxed.Goals as goal
 
-pub returns-then-axes-eq4-clause-leave : goal.returns-then-axes-eq4-clause-leave
-returns-then-axes-eq4-clause-leave c =
-    subst (λ (n : ℕ). OnErr c.take_boxed_by.result (LeaveBox c.args.kind n c.args.count c.args.bounds.now c.args.cursor.now)) (sym c.if-axes-eq4.true) c.take_boxed_by.ensures.leave
+pub returns-then-axes-eq4 : goal.returns-then-axes-eq4
+returns-then-axes-eq4 c =
+    subst (λ (n : ℕ). HoldsOrLeaves c.args.kind n c.args.count c.args.bounds.now c.args.cursor.now c.take_further_boxed.new.cursor c.take_further_boxed.result) (sym c.if-axes-eq4.true) c.take_further_boxed.ensures
 
-pub returns-else-axes-eq4-clause-leave : goal.returns-else-axes-eq4-clause-leave
-returns-else-axes-eq4-clause-leave c =
+pub returns-else-axes-eq4 : goal.returns-else-axes-eq4
+returns-else-axes-eq4 c =
     let three : 3 ≡ c.args.axes = omega (arith, c.requires.further, c.if-axes-eq4.false) in
-    subst (λ (n : ℕ). OnErr c.take_boxed_by-else-axes-eq4.result (LeaveBox c.args.kind n c.args.count c.args.bounds.now c.args.cursor.now)) three c.take_boxed_by-else-axes-eq4.ensures.leave
+    subst (λ (n : ℕ). HoldsOrLeaves c.args.kind n c.args.count c.args.bounds.now c.args.cursor.now c.take_further_boxed-else-axes-eq4.new.cursor c.take_further_boxed-else-axes-eq4.result) three c.take_further_boxed-else-axes-eq4.ensures

@@ -6,15 +6,12 @@ use Rattle.twkb_body.specs.Devices.Body.{ring_sums}
 use Rattle.twkb_body.specs.Devices.BodyReader.{part_at}
 use Rattle.twkb_body.specs.Devices.Inside.{of_head}
 use Rattle.twkb_body.specs.Devices.Walk.{no_points}
-use Rattle.twkb_body.proofs.WalkReads.{beside, value_read, only_malformed}
+use Rattle.twkb_body.proofs.WalkReads.{value_read}
 use Rattle.twkb_body.proofs.sure.parts.take_walk.Goals as goal
 
 pub returns-in_default-clause-malformed : goal.returns-in_default-clause-malformed
 returns-in_default-clause-malformed g c =
-    let head = c.args.head.now in
-    let bad = only_malformed (many_at c.args.count ring_sums (part_at head.kind c.args.axes)) points_of (beside g.P.Points.step) _ (record { axes = c.args.axes; trail = no_points; state = (of_head head, g.P.Points.state c.args.points) }) c.args.cursor.now c.take_parts.new.cursor
-    (c.in_default.ensures.ended _ c.new-walk.ensures.stands) in
-    (bad.0, bad.1)
+    (_, c.in_default.ensures.ended _ c.new-walk.ensures.stands)
 
 pub returns-clause-ok : goal.returns-clause-ok
 returns-clause-ok g c =

@@ -18,7 +18,7 @@ returns-in-Some g c = λ levels.
     let two : 2 ≡ axes_of (of_head head) = sym (ap₂ axes_with c.requires.z c.requires.m) in
     let framed = rw c.in-Some.is at c.requires.shape.framed in
     rw c.in-Some.is (boxed_certifies head levels 2 c.in_ok-count.count c.args.cursor.now c.take_count.new.cursor c.take_flat_boxed.new.cursor c.requires.shape.full c.requires.shape.kind two c.in_ok-count.ensures c.in-Some.frame framed.0 c.take_flat_boxed.result
-    c.take_flat_boxed.ensures.ok c.take_flat_boxed.ensures.leave c.take_flat_boxed.ensures.bytes c.take_flat_boxed.ensures.refused)
+    c.take_flat_boxed.ensures)
 
 pub returns-in-None : goal.returns-in-None
 returns-in-None g c = λ levels.

@@ -16,7 +16,7 @@ pub returns-in-Some : goal.returns-in-Some
 returns-in-Some g c = λ levels.
     let framed = rw c.in-Some.is at c.requires.shape.framed in
     rw c.in-Some.is (boxed_certifies c.args.head.now levels c.axes.result c.in_ok-count.count c.args.cursor.now c.take_count.new.cursor c.take_boxed.new.cursor c.requires.shape.full c.requires.shape.kind c.axes.ensures.value c.in_ok-count.ensures c.in-Some.frame framed.0
-    c.take_boxed.result c.take_boxed.ensures.ok c.take_boxed.ensures.leave c.take_boxed.ensures.bytes c.take_boxed.ensures.refused)
+    c.take_boxed.result c.take_boxed.ensures)
 
 pub returns-in-None : goal.returns-in-None
 returns-in-None g c = λ levels.

@@ -1,59 +1,39 @@
-//! [`FurtherTrail`], the last of the points of three axes or four that a box has to hold, in lanes of 32 bits.
-ghost use Rattle.std.specs.Prelude.{◌≡◌, ◌≤◌, ⊤, true, false, IsTrue};
+//! [`FurtherLanes`], which reads points of three axes or four in lanes.
+ghost use Rattle.std.specs.Prelude.{◌≡◌, ◌≤◌, true, false, IsTrue};
 ghost use Rattle.twkb_body.specs.declared.numbers.Numbers.{Numbers as NumbersOf};
-ghost use Rattle.twkb_body.specs.Devices.FurtherTrail.{FitsFurther, IsFurtherStep, IsFarPoint, LeavesByPoint, StandsFurther, four_lanes, extents};
-ghost use Rattle.twkb_body.specs.Devices.LaneTrail.{holding};
+ghost use Rattle.twkb_body.specs.Devices.Body.{zeros};
+ghost use Rattle.twkb_body.specs.Devices.FurtherLanes.{FitsFurther, IsFurtherStep, IsFarPoint, LeavesByPoint, IsFurtherPlace, four_lanes};
 ghost use Rattle.twkb_body.specs.Devices.Numbers.{Each, is_four, axes_by};
-ghost use Rattle.twkb_body.specs.Devices.PointReader.{Stage};
 ghost use Rattle.twkb_body.specs.Devices.Quads.{IsInLane};
-ghost use Rattle.twkb_body.specs.Devices.Walk.{no_points};
 
 use crate::box_test::{BoxTest, distances, placed};
-use crate::lane_trail::{NotHeld, fits_lane};
+use crate::flat_lanes::fits_lane;
+use crate::lane_trail::{LaneReader, LaneTrail};
 use crate::numbers::{Numbers, take_differences};
-use crate::point_reader::PointReader;
-use crate::positions::{Reached, four_lanes_of, numbers_in, one_further, two_further};
-use crate::quads::Step;
+use crate::positions::{Reached, Step, four_lanes_of, numbers_in, one_further, two_further};
 use crate::trail::{Trail, take_point};
-use crate::walk::head_of;
+use crate::walk::bare_head;
 use std::simd::prelude::*;
-use twkb_head::{Kind, Malformed, RawBox};
+use twkb_head::{Kind, RawBox};
 use twkb_num::Cursor;
 
-/// How far a pass has come among points of `AXES` axes, three or four, that a box has to hold.
-#[derive(Clone, Copy)]
-pub struct FurtherTrail<const AXES: usize> {
+/// Reads points of `AXES` axes, three or four, with a lane for each axis.
+#[derive(Drop)]
+pub struct FurtherLanes<const AXES: usize> {
+    /// The box from whose minima the distances are.
     bounds: RawBox,
-    /// The last point's distances from the minima of the box.
-    at: u32x4,
-    /// The extents of the box.
-    extent: u32x4,
-    /// How many points there were.
-    pub points: usize,
 }
 
-/// Whether lanes hold the distances of points of three axes or four from the minima of a box.
-#[inline(always)]
-pub fn fits_further<const AXES: usize>(bounds: &RawBox) -> bool
-    ensures { IsTrue result → FitsFurther (is_four AXES) bounds.now }
-{
-    fits_lane(&bounds.x)
-        && fits_lane(&bounds.y)
-        && fits_lane(&bounds.third)
-        && fits_lane(&bounds.fourth)
-        && (AXES == 4 || bounds.fourth.minimum == 0)
-}
-
-impl<const AXES: usize> FurtherTrail<AXES> {
-    /// No point yet.
+impl<const AXES: usize> FurtherLanes<AXES> {
+    /// A trail of no points yet.
     #[inline(always)]
-    pub fn new(bounds: &RawBox) -> FurtherTrail<AXES>
+    pub fn trail(bounds: &RawBox) -> LaneTrail<FurtherLanes<AXES>>
         requires { FitsFurther (is_four AXES) bounds.now }
-        ensures { StandsFurther (is_four AXES) result.bounds result.at result.extent result.points
-            (record { axes = axes_by (is_four AXES); trail = no_points; state = holding bounds.now }) }
+        ensures points { result.points ≡ 0 }
+        ensures place { IsFurtherPlace (is_four AXES) result.reader.bounds bounds.now result.at result.extent zeros }
     {
-        FurtherTrail {
-            bounds: *bounds,
+        LaneTrail {
+            reader: FurtherLanes { bounds: *bounds },
             at: four_lanes_of(&Numbers {
                 x: -bounds.x.minimum,
                 y: -bounds.y.minimum,
@@ -71,62 +51,38 @@ impl<const AXES: usize> FurtherTrail<AXES> {
     }
 }
 
-impl<const AXES: usize> PointReader for FurtherTrail<AXES> {
-    ghost use Rattle.std.specs.Prelude.{⊤, refl};
-    ghost use Rattle.twkb_body.specs.Devices.BoxTest.{Held, held_then};
-    ghost use Rattle.twkb_body.specs.Devices.LaneTrail.{IsOutside};
+impl<const AXES: usize> LaneReader for FurtherLanes<AXES> {
+    ghost use Rattle.twkb_body.specs.Devices.FurtherLanes.{IsFurtherPlace};
     ghost use Rattle.twkb_body.specs.Devices.Numbers.{is_four, axes_by};
-    ghost use Rattle.twkb_body.specs.Devices.FurtherTrail.{StandsFurther};
 
-    type Fault = NotHeld;
+    ghost axes = { axes_by (is_four AXES) };
 
-    ghost State = { Held };
+    ghost place = { λ reader. IsFurtherPlace (is_four AXES) reader.bounds };
 
-    ghost step = { held_then (axes_by (is_four AXES)) };
-
-    ghost stands = { λ trail at. StandsFurther (is_four AXES) trail.bounds trail.at trail.extent trail.points at };
-
-    ghost ends = { IsOutside };
-
-    ghost lasts = { λ held point out. rw out refl };
-
-    ghost tells = { λ fault malformed. ⊤ };
-
-    /// Reads the points up to two at once.
+    /// Reads up to two points at once.
     #[inline(always)]
-    fn take_points(&mut self, cursor: &mut Cursor, count: u64) -> Result<(), NotHeld> {
-        let mut at = self.at;
-        let mut done = 0;
-        while done < count {
-            let step = next_further::<AXES>(cursor, count - done, at, self.extent);
-            if step.points == 0 {
-                let reached = far_point::<AXES>(cursor, &self.bounds, at);
-                if !reached.inside {
-                    return Err(NotHeld);
-                }
-                at = reached.at;
-                done += 1;
-            } else {
-                if !step.reached.inside {
-                    return Err(NotHeld);
-                }
-                at = step.reached.at;
-                done += step.points;
-            }
+    fn take_some(&self, cursor: &mut Cursor, left: u64, at: u32x4, extent: u32x4) -> Step {
+        let step = next_further::<AXES>(cursor, left, at, extent);
+        if step.points != 0 {
+            return step;
         }
-        // The proof knows from here that the place fits its type, and so does the number of points.
-        let _stop = cursor.place();
-        self.at = at;
-        self.points += count as usize;
-        Ok(())
+        Step {
+            points: 1,
+            reached: far_point::<AXES>(cursor, &self.bounds, at),
+        }
     }
+}
 
-    #[inline(always)]
-    fn fault_of(_malformed: Malformed) -> NotHeld
-        ensures { ⊤ }
-    {
-        NotHeld
-    }
+/// Whether lanes hold the distances of points of three axes or four from the minima of a box.
+#[inline(always)]
+pub fn fits_further<const AXES: usize>(bounds: &RawBox) -> bool
+    ensures { IsTrue result → FitsFurther (is_four AXES) bounds.now }
+{
+    fits_lane(&bounds.x)
+        && fits_lane(&bounds.y)
+        && fits_lane(&bounds.third)
+        && fits_lane(&bounds.fourth)
+        && (AXES == 4 || bounds.fourth.minimum == 0)
 }
 
 /// Reads two points at the place, or one, by their distances from the minima of a box, in lanes. It reads none if a difference of
@@ -203,16 +159,16 @@ fn far_point<const AXES: usize>(cursor: &mut Cursor, bounds: &RawBox, at: u32x4)
         → LeavesByPoint (is_four AXES) bounds.now apart cursor.old }
 {
     let axes = axes::<AXES>();
-    let head = head_of(Kind::Point, axes);
+    let head = bare_head(Kind::Point, axes);
     let mut trail = Trail {
         last: placed(bounds, &numbers_in(at)),
         points: 0,
     };
-    let mut boxed = BoxTest::new(bounds);
-    let Ok(()) = take_point(cursor, &head, axes, &mut trail, &mut boxed) else {
+    let mut test = BoxTest::new(bounds);
+    let Ok(()) = take_point(cursor, &head, axes, &mut trail, &mut test) else {
         return Reached { at, inside: false };
     };
-    if !boxed.is_inside() {
+    if !test.is_inside() {
         return Reached { at, inside: false };
     }
     let next = distances(bounds, &Numbers::of(&trail.last));

@@ -9,7 +9,7 @@ use Rattle.twkb_head.proofs.Readings.{ok_not_err, one_answer}
 use Rattle.twkb_body.specs.Devices.BoxTest.{reaches}
 use Rattle.twkb_body.specs.Devices.Quads.{lanes_at, IsFarStep}
 use Rattle.twkb_body.proofs.Keeping.{keeps_signed}
-use Rattle.twkb_body.proofs.lane_trail.far_point.Goals as goal
+use Rattle.twkb_body.proofs.flat_lanes.far_point.Goals as goal
 
 pub returns-in_default-clause-step : goal.returns-in_default-clause-step
 returns-in_default-clause-step c x y w h at extent x_in y_in w_fits h_fits = (

@@ -1,14 +1,13 @@
 -- The first distances are those of the origin, from which the first differences go.
-use Rattle.std.proofs.Common.{◌≡◌, ◌∷◌, [], pos, neg_ℤ, ◌+ℤ◌, ◌-ℤ◌, ap, ◌∙◌, arith, w64}
+use Rattle.std.proofs.Common.{◌≡◌, ◌∷◌, [], pos, neg_ℤ, ◌+ℤ◌, ◌-ℤ◌, refl, ap, ◌∙◌, arith, w64}
 use Rattle.std.proofs.lemmas.Int.{ints}
 use mir.Val.{to_z, of_z}
 use Rattle.std.specs.Prelude.{ℤ}
 use Rattle.twkb_head.specs.declared.raw.RawRange.{RawRange}
 use Rattle.twkb_body.specs.declared.numbers.Numbers.{Numbers}
-use Rattle.twkb_body.specs.Devices.FurtherTrail.{four_lanes}
-use Rattle.twkb_body.specs.Devices.LaneTrail.{FitsLane, holding}
-use Rattle.twkb_body.specs.Devices.Numbers.{is_four, axes_by}
-use Rattle.twkb_body.proofs.further_trail.FurtherTrail.new.Goals as goal
+use Rattle.twkb_body.specs.Devices.FurtherLanes.{four_lanes}
+use Rattle.twkb_body.specs.Devices.LaneTrail.{FitsLane}
+use Rattle.twkb_body.proofs.further_lanes.FurtherLanes.trail.Goals as goal
 
 negated : (range : RawRange) → FitsLane range → to_z w64 (of_z w64 (pos 0 -ℤ to_z w64 (of_z w64 range.minimum))) ≡ neg_ℤ range.minimum
 negated range fits = omega (arith, ints, fits.low.0, fits.low.1)
@@ -19,18 +18,15 @@ wide range fits = omega (arith, ints, fits.wide.0, fits.wide.1)
 from_origin : (z : ℤ) → pos 0 ≡ z +ℤ neg_ℤ z
 from_origin z = omega (arith, ints)
 
-pub returns : goal.returns
-returns g c =
+pub returns-clause-place : goal.returns-clause-place
+returns-clause-place g c =
     let box = c.args.bounds.now in
     let fits = c.requires in
     let apart : Numbers = record { x = neg_ℤ box.x.minimum; y = neg_ℤ box.y.minimum; third = neg_ℤ box.third.minimum; fourth = neg_ℤ box.fourth.minimum } in
     record {
       apart = apart;
-      at_is = λ j. record {
-        axes = axes_by (is_four g.row.AXES);
-        trail = record { last = from_origin box.x.minimum j ∷ from_origin box.y.minimum j ∷ from_origin box.third.minimum j ∷ from_origin box.fourth.minimum j ∷ []; points = 0 };
-        state = holding box;
-      };
+      box_is = refl;
+      is = λ j. from_origin box.x.minimum j ∷ from_origin box.y.minimum j ∷ from_origin box.third.minimum j ∷ from_origin box.fourth.minimum j ∷ [];
       lanes_are = c.four_lanes_of.ensures ∙ (λ j. four_lanes (record { x = negated box.x fits.x j; y = negated box.y fits.y j; third = negated box.third fits.third j; fourth = negated box.fourth fits.fourth j }));
       extent_is = c.four_lanes_of-2.ensures ∙ (λ j. four_lanes (record { x = wide box.x fits.x j; y = wide box.y fits.y j; third = wide box.third fits.third j; fourth = wide box.fourth fits.fourth j }));
       in_lanes = record { x = fits.x.low; y = fits.y.low; third = fits.third.low; fourth = fits.fourth.low };

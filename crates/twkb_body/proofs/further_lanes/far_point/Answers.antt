@@ -2,18 +2,18 @@
 use Rattle.std.proofs.Common.{◌∙◌, sym, subst}
 use Rattle.twkb_body.specs.declared.numbers.Numbers.{Numbers}
 use Rattle.twkb_body.specs.Devices.BodyReader.{point_at}
-use Rattle.twkb_body.specs.Devices.FurtherTrail.{IsFarPoint}
+use Rattle.twkb_body.specs.Devices.FurtherLanes.{IsFarPoint}
 use Rattle.twkb_body.specs.Devices.Numbers.{is_four}
 use Rattle.twkb_body.proofs.FurtherLanes.{held_point, point_near, point_in_lanes, far_point_is}
 use Rattle.twkb_body.proofs.Keeping.{keeps_point, read_keeps, failure_keeps}
 use Rattle.twkb_body.proofs.QuadRuns.{near_range}
-use Rattle.twkb_body.proofs.further_trail.far_point.Goals as goal
+use Rattle.twkb_body.proofs.further_lanes.far_point.Goals as goal
 
 pub placed-requires-clause-bounds : goal.placed-requires-clause-bounds
 placed-requires-clause-bounds g c = (near_range _ c.requires.x, near_range _ c.requires.y)
 
-pub new-boxed-requires : goal.new-boxed-requires
-new-boxed-requires g c = (near_range _ c.requires.x, near_range _ c.requires.y)
+pub new-test-requires : goal.new-test-requires
+new-test-requires g c = (near_range _ c.requires.x, near_range _ c.requires.y)
 
 pub returns-in_default-clause-bytes : goal.returns-in_default-clause-bytes
 returns-in_default-clause-bytes g c = failure_keeps (point_at c.axes-axes.result c.placed.result) c.args.cursor.now c.take_point.new.cursor _ (keeps_point c.axes-axes.result c.placed.result) c.in_default.ensures
@@ -27,14 +27,14 @@ pub distances-next-requires-clause-near : goal.distances-next-requires-clause-ne
 distances-next-requires-clause-near g c =
     let read = c.in-Ok.ensures in
     point_near c.args.bounds.now (is_four g.row.AXES) c.requires c.numbers_in.result c.of.result read.0 c.args.cursor.now c.take_point.new.cursor c.numbers_in.ensures.in_lanes
-    (held_point c.args.bounds.now (is_four g.row.AXES) c.numbers_in.result c.of.result read.0 c.args.cursor.now c.take_point.new.cursor c.axes-axes.result _ _ _ _ _ c.axes-axes.ensures (sym c.head_of-head.ensures.axes ∙ c.axes-axes.ensures) c.placed.ensures c.new-boxed.ensures
+    (held_point c.args.bounds.now (is_four g.row.AXES) c.numbers_in.result c.of.result read.0 c.args.cursor.now c.take_point.new.cursor c.axes-axes.result _ _ _ _ _ c.axes-axes.ensures (sym c.bare_head-head.ensures.axes ∙ c.axes-axes.ensures) c.placed.ensures c.new-test.ensures
     read.1 read.2 c.of.ensures (sym c.is_inside.ensures ∙ c.if-not-is_inside.false))
 
 pub four_lanes_of-requires : goal.four_lanes_of-requires
 four_lanes_of-requires g c =
     let read = c.in-Ok.ensures in
     point_in_lanes c.args.bounds.now (is_four g.row.AXES) c.requires c.numbers_in.result c.of.result read.0 c.args.cursor.now c.take_point.new.cursor c.numbers_in.ensures.in_lanes
-    (held_point c.args.bounds.now (is_four g.row.AXES) c.numbers_in.result c.of.result read.0 c.args.cursor.now c.take_point.new.cursor c.axes-axes.result _ _ _ _ _ c.axes-axes.ensures (sym c.head_of-head.ensures.axes ∙ c.axes-axes.ensures) c.placed.ensures c.new-boxed.ensures
+    (held_point c.args.bounds.now (is_four g.row.AXES) c.numbers_in.result c.of.result read.0 c.args.cursor.now c.take_point.new.cursor c.axes-axes.result _ _ _ _ _ c.axes-axes.ensures (sym c.bare_head-head.ensures.axes ∙ c.axes-axes.ensures) c.placed.ensures c.new-test.ensures
     read.1 read.2 c.of.ensures (sym c.is_inside.ensures ∙ c.if-not-is_inside.false))
     c.distances-next.result c.distances-next.ensures.placed
 
@@ -47,7 +47,7 @@ pub returns-clause-inside : goal.returns-clause-inside
 returns-clause-inside g c so apart at in_lanes =
     let read = c.in-Ok.ensures in
     let far = far_point_is c.args.bounds.now (is_four g.row.AXES) c.requires c.numbers_in.result c.of.result read.0 c.args.cursor.now c.take_point.new.cursor c.numbers_in.ensures.in_lanes
-    (held_point c.args.bounds.now (is_four g.row.AXES) c.numbers_in.result c.of.result read.0 c.args.cursor.now c.take_point.new.cursor c.axes-axes.result _ _ _ _ _ c.axes-axes.ensures (sym c.head_of-head.ensures.axes ∙ c.axes-axes.ensures) c.placed.ensures c.new-boxed.ensures
+    (held_point c.args.bounds.now (is_four g.row.AXES) c.numbers_in.result c.of.result read.0 c.args.cursor.now c.take_point.new.cursor c.axes-axes.result _ _ _ _ _ c.axes-axes.ensures (sym c.bare_head-head.ensures.axes ∙ c.axes-axes.ensures) c.placed.ensures c.new-test.ensures
     read.1 read.2 c.of.ensures (sym c.is_inside.ensures ∙ c.if-not-is_inside.false))
     c.four_lanes_of.result c.distances-next.result c.distances-next.ensures.placed c.four_lanes_of.ensures in
     subst (λ (n : Numbers). IsFarPoint (is_four g.row.AXES) c.args.bounds.now n c.args.cursor.now c.take_point.new.cursor c.four_lanes_of.result) (c.numbers_in.ensures.all apart at in_lanes) far

@@ -7,7 +7,7 @@ use Rattle.std.specs.Int.{w64}
 use Rattle.twkb_body.specs.Devices.BoxTest.{reaches}
 use Rattle.twkb_body.specs.Devices.Quads.{lanes_at, IsInLane, IsLaneExtent}
 use Rattle.twkb_body.proofs.BoxRuns.{reaches_decides}
-use Rattle.twkb_body.proofs.lane_trail.far_reached.Goals as goal
+use Rattle.twkb_body.proofs.flat_lanes.far_reached.Goals as goal
 
 -- a lane holds an extent
 extent_lane : (w : ℤ) → IsLaneExtent w → IsInLane w

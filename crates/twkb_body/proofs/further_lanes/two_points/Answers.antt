@@ -8,7 +8,7 @@ use Rattle.twkb_num.specs.Varint.{SpellsAllSigned, IsBrief}
 use Rattle.twkb_body.specs.declared.numbers.Numbers.{Numbers}
 use Rattle.twkb_body.proofs.FurtherLanes.{two_points_read}
 use Rattle.twkb_body.proofs.QuadReads.{not_false, eight_of, four_pairs_read}
-use Rattle.twkb_body.proofs.further_trail.two_points.Goals as goal
+use Rattle.twkb_body.proofs.further_lanes.two_points.Goals as goal
 
 pub returns-clause-step : goal.returns-clause-step
 returns-clause-step c apart extents at extent in_lanes wide =

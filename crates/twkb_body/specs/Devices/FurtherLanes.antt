@@ -1,5 +1,5 @@
 -- Devices of proofs: nothing public names them.
--- Points of three axes or four that a box has to hold, where the last one's distances from its minima are in lanes.
+-- Points of three axes or four in lanes, with a lane for each axis.
 use Rattle.std.specs.Prelude.{◌≡◌, ℕ, ◌<◌, Bool, true, false, ◌&&◌, List, [], ◌∷◌, length, pos, Ok}
 use Rattle.std.specs.Int.{w32, cast_unsigned}
 use Rattle.twkb_num.specs.Cursor.{Reading}
@@ -8,10 +8,9 @@ use Rattle.twkb_body.specs.declared.numbers.Numbers.{Numbers}
 use Rattle.twkb_body.specs.Geometry.{PointValue}
 use Rattle.twkb_body.specs.Devices.Body.{add}
 use Rattle.twkb_body.specs.Devices.BodyReader.{point_at}
-use Rattle.twkb_body.specs.Devices.BoxTest.{Held, reaches, is_in_box}
-use Rattle.twkb_body.specs.Devices.LaneTrail.{FitsLane, holding}
+use Rattle.twkb_body.specs.Devices.BoxTest.{reaches, is_in_box}
+use Rattle.twkb_body.specs.Devices.LaneTrail.{FitsLane}
 use Rattle.twkb_body.specs.Devices.Numbers.{listed, Each, plus, placed_at, axes_by, AreDifferences}
-use Rattle.twkb_body.specs.Devices.PointReader.{Stage}
 use Rattle.twkb_body.specs.Devices.Quads.{IsInLane, IsLaneExtent}
 
 -- a number for each axis in lanes, in two's complement
@@ -77,10 +76,11 @@ LeavesByPoint has_fourth box apart old =
     (point : PointValue) (stop : Reading) → point_at (axes_by has_fourth) (listed (placed_at box apart)) old ≡ (Ok point, stop)
     → is_in_box (axes_by has_fourth) box (add (listed (placed_at box apart)) point) ≡ false
 
--- the lanes are those of a box, which holds all points so far, and of the trail of a stage
-pub record StandsFurther (has_fourth : Bool) (box : RawBox) (lanes extent : List ℕ) (points : ℕ) (at : Stage Held) : Type 0 where
+-- lanes hold the distances of a point from the minima of a box, and the extents of the box, with a lane for each axis
+pub record IsFurtherPlace (has_fourth : Bool) (bounds box : RawBox) (lanes extent : List ℕ) (point : PointValue) : Type 0 where
   pub apart : Numbers
-  pub at_is : at ≡ record { axes = axes_by has_fourth; trail = record { last = listed (placed_at box apart); points = points }; state = holding box }
+  pub box_is : bounds ≡ box
+  pub is : point ≡ listed (placed_at box apart)
   pub lanes_are : lanes ≡ four_lanes apart
   pub extent_is : extent ≡ four_lanes (extents box)
   pub in_lanes : Each IsInLane apart

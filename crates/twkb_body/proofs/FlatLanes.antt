@@ -1,0 +1,137 @@
+-- Points of X and Y that a box has to hold, read in lanes.
+use Rattle.std.proofs.Common.{◌≡◌, ℕ, ◌+◌, ◌≤◌, Bool, true, false, ◌&&◌, List, [], ◌∷◌, length, drop, slice_index_or, fold, ℤ, pos, ◌+ℤ◌, ◌-ℤ◌, Ok, Err, refl, sym, ap, ap₂, subst, ◌∙◌, arith}
+use Rattle.std.proofs.lemmas.Int.{ints}
+use Rattle.twkb_num.specs.Cursor.{Reading}
+use Rattle.twkb_head.specs.declared.raw.RawBox.{RawBox}
+use Rattle.twkb_head.specs.declared.refusal.Why.TheVariants.{Range}
+use Rattle.twkb_head.specs.Shared.Plan.{fits}
+use Rattle.twkb_head.specs.Shared.Reader.{Answer, ◌>>=◌, viewed, signed_at, coordinate_at, many_at}
+use Rattle.twkb_head.proofs.Readings.{ok_not_err, one_answer}
+use Rattle.twkb_head.proofs.Steps.{coordinate_no_signed, coordinate_ok, coordinate_refused}
+use Rattle.twkb_body.specs.declared.trail.Trail.{Trail}
+use Rattle.twkb_body.specs.Geometry.{PointValue}
+use Rattle.twkb_body.specs.Devices.Body.{first_of, behind}
+use Rattle.twkb_body.specs.Devices.BodyReader.{point_at}
+use Rattle.twkb_body.specs.Devices.BoxTest.{reaches, held_then}
+use Rattle.twkb_body.specs.Devices.LaneTrail.{holding, LeavesBox, PointsLeave, IsHeldRun, IsFlatPlace}
+use Rattle.twkb_body.specs.Devices.Quads.{IsQuadStep, IsFarStep}
+use Rattle.twkb_body.specs.Devices.Walk.{lasts_from}
+use Rattle.twkb_body.proofs.FlatRuns.{flat_begins}
+use Rattle.twkb_body.proofs.LaneRuns.{run_leaves, next_leaves}
+use Rattle.twkb_body.proofs.QuadRuns.{IsLaneRun, step_inside, step_outside, far_inside}
+use Rattle.twkb_body.proofs.Refuting.{viewed_back}
+use Rattle.twkb_body.proofs.Walks.{one_point}
+
+-- a coordinate that is read is a signed number that is read
+signed_back : (before : ℤ) (r stop : Reading) (z : ℤ) → coordinate_at before r ≡ (Ok z, stop) → signed_at r ≡ (Ok z, stop)
+signed_back before r stop z e = go (signed_at r) refl
+  where
+    fitting : (n : ℤ) (q : Reading) → signed_at r ≡ (Ok n, q) → (f : Bool) → fits (before +ℤ n) ≡ f → signed_at r ≡ (Ok z, stop)
+    fitting n q is true fit =
+        let same = one_answer (coordinate_at before r) n z q stop (coordinate_ok before r q n fit is) e in
+        is ∙ ap₂ (λ (m : ℤ) (s : Reading). (Ok m, s)) same.0 same.1
+    fitting n q is false fit = absurd (ok_not_err z _ stop _ (sym e ∙ coordinate_refused before r q n (record { offset = r.place; why = Range }) (record q { place = r.place }) fit refl refl refl is))
+
+    go : (a : Answer ℤ) → signed_at r ≡ a → signed_at r ≡ (Ok z, stop)
+    go (Err m, q) is = absurd (ok_not_err z m stop q (sym e ∙ coordinate_no_signed before r q m is))
+    go (Ok n, q) is = fitting n q is (fits (before +ℤ n)) refl
+
+-- a point of two axes that is read is two signed numbers that are read
+record IsPair (x y : ℤ) (r stop : Reading) (p : PointValue) : Type 0 where
+  pub a : ℤ
+  pub b : ℤ
+  pub middle : Reading
+  pub first : signed_at r ≡ (Ok a, middle)
+  pub second : signed_at middle ≡ (Ok b, stop)
+  pub is : a ∷ b ∷ [] ≡ p
+
+pair_back : (x y : ℤ) (others : PointValue) (r stop : Reading) (p : PointValue) → point_at 2 (x ∷ y ∷ others) r ≡ (Ok p, stop) → IsPair x y r stop p
+pair_back x y others r stop p e = go (coordinate_at x r) refl e
+  where
+    second : (a : ℤ) (middle : Reading) → coordinate_at x r ≡ (Ok a, middle) → (c : Answer ℤ) → coordinate_at y middle ≡ c → (ys : PointValue)
+        → (c >>= λ b q. viewed (λ zs. b ∷ zs) (many_at 0 (λ (s : PointValue) (z : ℤ). behind s) (λ s. coordinate_at (first_of s)) others q)) ≡ (Ok ys, stop) → a ∷ ys ≡ p → IsPair x y r stop p
+    second a middle one (Err m, q) two ys e is = absurd (ok_not_err ys m stop q (sym e))
+    second a middle one (Ok b, q) two ys e is = record {
+      a = a;
+      b = b;
+      middle = middle;
+      first = signed_back x r middle a one;
+      second = signed_back y middle stop b (two ∙ ap (λ (s : Reading). (Ok b, s)) (ap (λ (z : Answer PointValue). z.1) e));
+      is = ap (λ (zs : PointValue). a ∷ zs) (ap values e) ∙ is;
+    }
+      where
+        values : Answer PointValue → PointValue
+        values (Ok zs, s) = zs
+        values (Err m, s) = []
+
+    go : (c : Answer ℤ) → coordinate_at x r ≡ c
+        → (c >>= λ a q. viewed (λ ys. a ∷ ys) (coordinate_at y q >>= λ b q. viewed (λ zs. b ∷ zs) (many_at 0 (λ (s : PointValue) (z : ℤ). behind s) (λ s. coordinate_at (first_of s)) others q))) ≡ (Ok p, stop)
+        → IsPair x y r stop p
+    go (Err m, q) one e = absurd (ok_not_err p m stop q (sym e))
+    go (Ok a, middle) one e =
+        let b = viewed_back (λ ys. a ∷ ys) (coordinate_at y middle >>= λ b q. viewed (λ zs. b ∷ zs) (many_at 0 (λ (s : PointValue) (z : ℤ). behind s) (λ s. coordinate_at (first_of s)) others q)) p stop e in
+        second a middle one (coordinate_at y middle) refl b.0 b.1 b.2
+
+-- a distance from a minimum is known from the distance before it
+from_there : (low distance more : ℤ) → ((low +ℤ distance) +ℤ more) -ℤ low ≡ distance +ℤ more
+from_there low distance more = omega (arith, ints)
+
+module _ (box : RawBox) (lanes extent : List ℕ) (from : Reading) where
+  module _ (start : Trail) (place : IsFlatPlace box lanes extent start.last) where
+    -- the run of no points from a place
+    abbrev begun : IsLaneRun start from box lanes from 0
+    begun = record {
+      across = place.across;
+      up = place.up;
+      at_is = place.lanes_are;
+      run = flat_begins (held_then 2) start (holding box) from (box.x.minimum +ℤ place.across) (box.y.minimum +ℤ place.up) (ap length place.is)
+          (sym (ap (λ (s : PointValue). slice_index_or s 0 (pos 0)) place.is)) (sym (ap (λ (s : PointValue). slice_index_or s 1 (pos 0)) place.is));
+      in_x = place.in_x;
+      in_y = place.in_y;
+    }
+
+    -- a run in the box ends at a place
+    run_held : (next : List ℕ) (new : Reading) (points : ℕ) → IsLaneRun start from box next new points → IsHeldRun 2 (IsFlatPlace box next extent) box start from new points
+    run_held next new points l = record {
+      after = _;
+      run = l.run;
+      there = record {
+        across = l.across;
+        up = l.up;
+        is = ap (λ (s : PointValue). (box.x.minimum +ℤ l.across) ∷ (box.y.minimum +ℤ l.up) ∷ drop 2 s) place.is;
+        lanes_are = l.at_is;
+        extent_is = place.extent_is;
+        in_x = l.in_x;
+        in_y = l.in_y;
+        fits = place.fits;
+      };
+    }
+
+    -- up to four points that the box holds
+    pub some_held : (next : List ℕ) (inside : Bool) (new : Reading) (points : ℕ) → inside ≡ true → IsQuadStep box.x.extent box.y.extent place.across place.up from new points next inside → IsHeldRun 2 (IsFlatPlace box next extent) box start from new points
+    some_held next inside new points so step = run_held next new points (subst (IsLaneRun start from box next new) (omega arith) (step_inside start from box place.fits lanes from 0 begun next inside new points so step))
+
+    -- a point of any differences that the box holds
+    pub far_held : (next : List ℕ) (inside : Bool) (new : Reading) → inside ≡ true → IsFarStep box.x.extent box.y.extent place.across place.up from new next inside → IsHeldRun 2 (IsFlatPlace box next extent) box start from new 1
+    far_held next inside new so step = run_held next new 1 (far_inside start from box place.fits lanes from 0 begun next inside new so step)
+
+  module _ (last : PointValue) (place : IsFlatPlace box lanes extent last) (count : ℕ) where
+    abbrev alone : Trail
+    alone = record { last = last; points = 0 }
+
+    -- up to four points of which the box doesn't hold one
+    pub some_leave : (next : List ℕ) (inside : Bool) (new : Reading) (points : ℕ) → points ≤ count → inside ≡ false → IsQuadStep box.x.extent box.y.extent place.across place.up from new points next inside → PointsLeave 2 count box last from
+    some_leave next inside new points le so step =
+        let out = step_outside alone from box place.fits lanes from 0 (begun alone place) next inside new points so step in
+        run_leaves 2 box alone from count (0 + points) _ (record { box = box; inside = false }) new (omega (arith, le)) out.2 refl
+
+    -- a point that is malformed, or that the box doesn't hold
+    pub far_leaves : (next : List ℕ) (inside : Bool) (new : Reading) → 1 ≤ count → inside ≡ false → IsFarStep box.x.extent box.y.extent place.across place.up from new next inside → PointsLeave 2 count box last from
+    far_leaves next inside new le so step = next_leaves 2 box alone from count le (outside (subst (λ (b : Bool). IsFarStep box.x.extent box.y.extent place.across place.up from new next b) so step))
+      where
+        outside : IsFarStep box.x.extent box.y.extent place.across place.up from new next false → LeavesBox 2 (point_at 2) one_point box last from
+        outside (bytes, refuted) p stop e =
+            let two = pair_back (box.x.minimum +ℤ place.across) (box.y.minimum +ℤ place.up) (pos 0 ∷ pos 0 ∷ []) from stop p (ap (λ (s : PointValue). point_at 2 s from) (sym place.is) ∙ e) in
+            ap₂ (λ (s p : PointValue). (fold (held_then 2) (holding box) (lasts_from s (p ∷ []))).inside) place.is (sym two.is)
+            ∙ ap₂ (λ (c d : ℤ). reaches box.x.extent c && reaches box.y.extent d) (from_there box.x.minimum place.across two.a) (from_there box.y.minimum place.up two.b)
+            ∙ refuted two.a two.b two.middle stop two.first two.second

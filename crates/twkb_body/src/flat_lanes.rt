@@ -1,0 +1,127 @@
+//! [`FlatLanes`], which reads points of X and Y in lanes.
+ghost use Rattle.std.specs.Prelude.{◌≡◌, ◌&&◌, ◌^◌, ℤ, pos, ◌+ℤ◌, ◌<ℤ◌, IsTrue, IfSome, IfNone, false, true};
+ghost use Rattle.twkb_body.specs.Devices.BoxTest.{reaches};
+ghost use Rattle.twkb_body.specs.Devices.LaneTrail.{FitsLane, FitsLanes, IsFlatPlace};
+ghost use Rattle.twkb_body.specs.Devices.Quads.{lanes_at, IsInLane, IsLaneExtent, IsFarStep};
+ghost use Rattle.twkb_body.specs.Devices.Body.{zeros};
+
+use crate::lane_trail::{LaneReader, LaneTrail};
+use crate::positions::{Reached, Step, distances_in, is_in_lane, is_lane_extent, lanes_of};
+use crate::quads::next_points;
+use crate::varints::take_signed;
+use std::simd::prelude::*;
+use twkb_head::{RawBox, RawRange};
+use twkb_num::Cursor;
+
+/// Reads points of X and Y alone, whose distances are in lanes twice.
+#[derive(Drop)]
+pub struct FlatLanes;
+
+impl FlatLanes {
+    /// A trail of no points yet.
+    #[inline(always)]
+    pub fn trail(bounds: &RawBox) -> LaneTrail<FlatLanes>
+        requires { FitsLanes bounds.now }
+        ensures points { result.points ≡ 0 }
+        ensures place { IsFlatPlace bounds.now result.at result.extent zeros }
+    {
+        LaneTrail {
+            reader: FlatLanes,
+            at: lanes_of(-bounds.x.minimum, -bounds.y.minimum),
+            extent: lanes_of(bounds.x.extent, bounds.y.extent),
+            points: 0,
+        }
+    }
+}
+
+impl LaneReader for FlatLanes {
+    ghost use Rattle.twkb_body.specs.Devices.LaneTrail.{IsFlatPlace};
+
+    ghost axes = { 2 };
+
+    ghost place = { λ reader. IsFlatPlace };
+
+    /// Reads up to four points at once.
+    #[inline(always)]
+    fn take_some(&self, cursor: &mut Cursor, left: u64, at: u32x4, extent: u32x4) -> Step {
+        let step = next_points(cursor, left, at, extent);
+        if step.points != 0 {
+            return step;
+        }
+        Step {
+            points: 1,
+            reached: far_point(cursor, at, extent),
+        }
+    }
+}
+
+/// Whether lanes hold the distances of points from the minima of a box.
+#[inline(always)]
+pub fn fits_lanes(bounds: &RawBox) -> bool
+    ensures { IsTrue result → FitsLanes bounds.now }
+{
+    fits_lane(&bounds.x) && fits_lane(&bounds.y)
+}
+
+/// Whether lanes hold the distances of points from the minimum of a range.
+#[inline(always)]
+pub fn fits_lane(range: &RawRange) -> bool
+    ensures { IsTrue result → FitsLane range.now }
+{
+    is_lane_extent(range.extent) && is_in_lane(range.minimum.wrapping_neg())
+}
+
+/// Reads one point, whose differences may take more than four bytes. `inside` is false if it is malformed, too.
+// Out of line: most points are read by vectors.
+#[inline(never)]
+fn far_point(cursor: &mut Cursor, at: u32x4, extent: u32x4) -> Reached
+    ensures bytes { cursor.new.bytes ≡ cursor.old.bytes }
+    ensures step { (x y w h : ℤ) → at ≡ lanes_at x y → extent ≡ lanes_at w h → IsInLane x → IsInLane y → IsLaneExtent w → IsLaneExtent h
+        → IsFarStep w h x y cursor.old cursor.new result.at result.inside }
+{
+    let Ok(x_more) = take_signed(cursor) else {
+        return Reached { at, inside: false };
+    };
+    let Ok(y_more) = take_signed(cursor) else {
+        return Reached { at, inside: false };
+    };
+    far_reached(at, extent, x_more, y_more)
+}
+
+/// Where a point is, by differences of any length. If it isn't inside, `at` says nothing.
+#[inline(always)]
+fn far_reached(at: u32x4, extent: u32x4, x_more: i64, y_more: i64) -> Reached
+    ensures inside { (x y w h : ℤ) → at ≡ lanes_at x y → extent ≡ lanes_at w h → IsInLane x → IsInLane y → IsLaneExtent w → IsLaneExtent h
+        → result.inside ≡ (reaches w (x +ℤ x_more) && reaches h (y +ℤ y_more)) }
+    ensures at { (x y w h : ℤ) → at ≡ lanes_at x y → extent ≡ lanes_at w h → IsInLane x → IsInLane y → IsLaneExtent w → IsLaneExtent h
+        → result.inside ≡ true → result.at ≡ lanes_at (x +ℤ x_more) (y +ℤ y_more) }
+{
+    let (x, y) = distances_in(at);
+    let (width, height) = distances_in(extent);
+    let Some(x) = moved_within(x, x_more, width) else {
+        return Reached { at, inside: false };
+    };
+    let Some(y) = moved_within(y, y_more, height) else {
+        return Reached { at, inside: false };
+    };
+    Reached {
+        at: lanes_of(x, y),
+        inside: true,
+    }
+}
+
+/// A distance and a difference added up, if the sum lies within an extent.
+#[inline(always)]
+fn moved_within(distance: i64, more: i64, extent: i64) -> Option<i64>
+    requires distance { IsInLane distance }
+    requires extent { extent <ℤ pos (2 ^ 31) }
+    ensures some { IfSome result (λ sum. (sum ≡ distance +ℤ more) × (reaches extent sum ≡ true)) }
+    ensures none { IfNone result (reaches extent (distance +ℤ more) ≡ false) }
+{
+    let sum = distance.checked_add(more)?;
+    if 0 <= sum && sum <= extent {
+        Some(sum)
+    } else {
+        None
+    }
+}
