@@ -1,5 +1,7 @@
 -- Numbers that a vector holds, as pairs of differences that were read one after another.
-use Rattle.std.proofs.Common.{◌≡◌, List, [], ◌∷◌, length, ℤ, pos, refl, ap, arith, Bool, true, false}
+use Rattle.std.proofs.Common.{◌≡◌, ℕ, List, [], ◌∷◌, length, map, ℤ, pos, refl, ap, subst, ◌∙◌, arith, Bool, true, false, w16}
+use Rattle.std.proofs.lemmas.List.{length-map}
+use Rattle.std.specs.Int.{cast_signed}
 use Rattle.std.proofs.lemmas.Int.{ints}
 use Rattle.std.specs.Prelude.{All, not}
 use Rattle.twkb_num.specs.Cursor.{Reading, passed, IsMoved}
@@ -70,3 +72,10 @@ eight_of (a ∷ b ∷ c ∷ []) is = absurd (omega (arith, is))
 eight_of (a ∷ b ∷ c ∷ d ∷ zs) is =
     let four = four_of zs (omega (arith, is)) in
     (a, b, c, d, four.0, four.1, four.2, four.3, ap (λ (ys : List ℤ). a ∷ b ∷ c ∷ d ∷ ys) four.4)
+
+-- eight numbers in lanes that were read are four pairs
+pub eight_pairs : (lanes : List ℕ) (old new : Reading) → length lanes ≡ 8 → SpellsAllSigned (passed old new) (map (cast_signed w16) lanes) → IsMoved old new → All IsBrief (map (cast_signed w16) lanes)
+    → (a b c d e f g h : ℤ) × (map (cast_signed w16) lanes ≡ a ∷ b ∷ c ∷ d ∷ e ∷ f ∷ g ∷ h ∷ []) × ReadsPairs ((a, b) ∷ (c, d) ∷ (e, f) ∷ (g, h) ∷ []) old new
+eight_pairs lanes old new long all moved brief =
+    let e = eight_of (map (cast_signed w16) lanes) (length-map lanes (cast_signed w16) ∙ long) in
+    (e.0, e.1, e.2, e.3, e.4, e.5, e.6, e.7, e.8, four_pairs_read e.0 e.1 e.2 e.3 e.4 e.5 e.6 e.7 old new (subst (λ (zs : List ℤ). SpellsAllSigned (passed old new) zs) e.8 all) moved (subst (All IsBrief) e.8 brief))

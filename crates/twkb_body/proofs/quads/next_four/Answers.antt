@@ -1,27 +1,18 @@
 -- Eight numbers are four points.
-use Rattle.std.proofs.Common.{rules, ◌≡◌, ◌∙◌, [], ◌∷◌, length, map, subst, refl, arith, w16}
-use Rattle.std.proofs.lemmas.List.{length-map}
-use Rattle.std.specs.Int.{cast_signed}
-use Rattle.std.specs.Prelude.{ℤ, List, All}
-use Rattle.twkb_num.specs.Cursor.{passed}
-use Rattle.twkb_num.specs.Varint.{SpellsAllSigned, IsBrief}
-use Rattle.twkb_body.proofs.QuadReads.{not_false, eight_of, four_pairs_read}
+use Rattle.std.proofs.Common.{rules, ◌≡◌, [], ◌∷◌, length, refl, arith}
+use Rattle.twkb_body.proofs.QuadReads.{not_false, eight_pairs}
 use Rattle.twkb_body.proofs.quads.next_four.Goals as goal
 
 pub returns-clause-step : goal.returns-clause-step
 returns-clause-step c x y w h at extent x_in y_in w_fits h_fits =
-    let old = c.args.cursor.now in
-    let new = c.svarint_eight-differences.new.self in
     let read = c.svarint_eight-differences in
     let so = not_false read.result.is_read c.if-not-differences.false in
     let long : length read.result.lanes ≡ 8 = search rules in
-    let zs : List ℤ = map (cast_signed w16) read.result.lanes in
-    let e = eight_of zs (length-map read.result.lanes (cast_signed w16) ∙ long) in
-    let all = subst (λ (ys : List ℤ). SpellsAllSigned (passed old new) ys) e.8 (read.ensures.some so) in
+    let e = eight_pairs read.result.lanes c.args.cursor.now read.new.self long (read.ensures.some so) (read.ensures.moved so) read.ensures.brief in
     record {
       differences = (e.0, e.1) ∷ (e.2, e.3) ∷ (e.4, e.5) ∷ (e.6, e.7) ∷ [];
       many = refl;
       few = omega arith;
-      read = four_pairs_read e.0 e.1 e.2 e.3 e.4 e.5 e.6 e.7 old new all (read.ensures.moved so) (subst (All IsBrief) e.8 read.ensures.brief);
+      read = e.9;
       reached = c.four_more.ensures x y w h e.0 e.1 e.2 e.3 e.4 e.5 e.6 e.7 at extent e.8 read.ensures.brief x_in y_in w_fits h_fits;
     }
