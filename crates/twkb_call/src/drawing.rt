@@ -23,6 +23,7 @@ const SIZE: usize = std::mem::size_of::<Point>();
 const _: () = prove!(SIZE == 32);
 
 impl Point {
+    /// A vertex without Z and M.
     fn of(v: &Vertex) -> Point
         ensures { result ≡ point_of v.now }
     {

@@ -44,6 +44,7 @@ const _: () = prove!(SIZE == 136);
 const BASE: i128 = 1 << 64;
 
 impl Units {
+    /// A number of units as two words.
     pub(crate) fn of(value: i128) -> Units
         ensures value { value_of result ≡ value }
         ensures words { result ≡ words_of value }
@@ -54,6 +55,7 @@ impl Units {
         }
     }
 
+    /// The number of units that the two words are.
     fn value(&self) -> i128
         ensures { result ≡ value_of self.now }
     {
@@ -62,12 +64,13 @@ impl Units {
 }
 
 impl Range {
-    /// It says nothing.
+    /// Filled in where a range is missing.
     const NONE: Range = Range {
         lo: Units { low: 0, high: 0 },
         hi: Units { low: 0, high: 0 },
     };
 
+    /// A range in units as two pairs of words.
     fn of(span: &Span) -> Range
         ensures { span_from result ≡ span.now }
     {
@@ -77,6 +80,7 @@ impl Range {
         }
     }
 
+    /// The range in units.
     fn span(&self) -> Span
         ensures { result ≡ span_from self.now }
     {
@@ -103,7 +107,7 @@ impl Window {
         }
     }
 
-    /// The window that it means.
+    /// The window in units. An axis without a flag has no range.
     pub(crate) fn checked(&self) -> twkb_layer::Window
         ensures { result ≡ ranges_of self.now }
     {

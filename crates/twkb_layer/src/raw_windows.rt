@@ -203,6 +203,7 @@ impl<'w> RawWindows<'w> {
         self.misses_in_z_or_m_in_units(axes, b)
     }
 
+    /// As `misses_in_z_or_m`, by ranges converted to units.
     #[inline(never)]
     fn misses_in_z_or_m_in_units(&self, axes: Axes, b: RawBox) -> bool
         requires { HavePrecisions axes }

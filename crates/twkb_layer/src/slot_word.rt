@@ -31,6 +31,7 @@ impl Word {
         }
     }
 
+    /// The lowest four bits: the code of a precision.
     #[inline(always)]
     pub fn code(&self) -> usize
         ensures value { result ≡ (unpacked self.now.bits).code }
@@ -39,6 +40,7 @@ impl Word {
         (self.bits % 16) as usize
     }
 
+    /// What the slot keeps: [`ENDS`], [`WIDTHS`], [`UNBOXED`] or [`BEYOND`].
     #[inline(always)]
     pub fn form(&self) -> u64
         ensures { result ≡ (unpacked self.now.bits).form }
@@ -54,6 +56,7 @@ impl Word {
         self.bits / 64 % 2 == 1
     }
 
+    /// The highest 57 bits: the blob's offset, except in a slot of the form [`BEYOND`].
     #[inline(always)]
     pub fn rest(&self) -> u64
         ensures value { result ≡ (unpacked self.now.bits).rest }

@@ -60,6 +60,7 @@ impl Model for Slot {
 }
 
 impl SlotRange {
+    /// The range from the first number to the second.
     #[inline(always)]
     fn of(numbers: (i64, i64)) -> SlotRange
         ensures { (result.low, result.high) ≡ numbers }
@@ -70,6 +71,7 @@ impl SlotRange {
         }
     }
 
+    /// The least and the greatest number of the range.
     #[inline(always)]
     fn numbers(self) -> (i64, i64)
         ensures { result ≡ (self.low, self.high) }

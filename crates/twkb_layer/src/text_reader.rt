@@ -24,12 +24,14 @@ impl<'t> Model for TextReader<'t> {
 }
 
 impl<'t> TextReader<'t> {
+    /// A reader at the start of a text.
     pub fn new(text: &'t [u8]) -> TextReader<'t>
         ensures { result ≡ text.now }
     {
         TextReader { rest: text }
     }
 
+    /// Whether the whole text was read.
     pub fn is_empty(&self) -> bool
         ensures empty { OnTrue result (self.now ≡ []) }
         ensures more { self.now ≡ [] → result ≡ true }

@@ -54,6 +54,7 @@ fn push_list<'a, A: Allocator>(
     push_rows(out, rows.as_slice())
 }
 
+/// Pushes a line for each row.
 fn push_rows<A: Allocator>(out: &mut Vec<u8, A>, rows: &[Row]) -> Result<(), AllocError>
     ensures { OnOk result (out.new.items ≡ out.old.items ++ flat_map row_line rows.now) }
 {
@@ -179,6 +180,7 @@ fn push_found<A: Allocator>(
     push_end_line(out, found, read, len)
 }
 
+/// Pushes a line for each hit.
 fn push_hits<A: Allocator>(out: &mut Vec<u8, A>, hits: &[Hit]) -> Result<(), AllocError>
     ensures { OnOk result (out.new.items ≡ out.old.items ++ flat_map hit_line hits.now) }
 {

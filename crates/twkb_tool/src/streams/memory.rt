@@ -16,6 +16,7 @@ struct Calls {
 }
 
 impl Calls {
+    /// No call yet; the call of the number `fail_at` is to fail.
     fn new(fail_at: Option<usize>) -> Calls
         ensures { result ≡ record { next = Some 1; fail_at = fail_at } }
     {

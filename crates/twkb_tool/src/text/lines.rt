@@ -118,6 +118,7 @@ fn name_of(kind: Kind) -> &'static str
     }
 }
 
+/// `yes` or `no`.
 #[tactic(auto, unfolding(crate::specs::Output::yes_no))]
 fn yes_no(is: bool) -> &'static str
     ensures { result.now ≡ yes_no is }
@@ -147,6 +148,7 @@ fn push_word<A: Allocator>(out: &mut Vec<u8, A>, name: &str, word: &str) -> Resu
     push_text(out, word)
 }
 
+/// Pushes a piece of text.
 fn push_text<A: Allocator>(out: &mut Vec<u8, A>, piece: &str) -> Result<(), AllocError>
     ensures { OnOk result (out.new.items ≡ out.old.items ++ piece.now) }
 {

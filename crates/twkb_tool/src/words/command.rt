@@ -22,6 +22,7 @@ pub fn tool_command<'a>(alloc: Global) -> Result<Command<'a>, AllocError>
         .subcommand(scan_command(alloc)?)
 }
 
+/// The command line without its subcommands.
 fn bare_command<'a>(alloc: Global) -> Command<'a>
     ensures app { app_of result ≡ bare_app }
     ensures local { (out-Command result).has_globals ≡ false }
@@ -39,6 +40,7 @@ fn file_command<'a>(alloc: Global, name: &'a str, about: &'a str) -> Result<Comm
     Command::new(alloc, name).about(about).arg(file_arg(alloc))
 }
 
+/// The subcommand `check`.
 fn check_command<'a>(alloc: Global) -> Result<Command<'a>, AllocError>
     ensures app { IfOk result (λ c. app_of c ≡ check_app) }
     ensures local { IfOk result (λ c. (out-Command c).has_globals ≡ false) }
@@ -47,6 +49,7 @@ fn check_command<'a>(alloc: Global) -> Result<Command<'a>, AllocError>
     file_command(alloc, "check", about)?.arg(tight_arg(alloc))
 }
 
+/// The subcommand `scan`.
 fn scan_command<'a>(alloc: Global) -> Result<Command<'a>, AllocError>
     ensures app { IfOk result (λ c. app_of c ≡ scan_app) }
     ensures local { IfOk result (λ c. (out-Command c).has_globals ≡ false) }
@@ -55,6 +58,7 @@ fn scan_command<'a>(alloc: Global) -> Result<Command<'a>, AllocError>
     file_command(alloc, "scan", about)?.arg(window_arg(alloc))
 }
 
+/// The argument for the file.
 fn file_arg<'a>(alloc: Global) -> Arg<'a>
     ensures rule { rule_of result ≡ file_rule }
     ensures local { result.global ≡ false }
@@ -64,6 +68,7 @@ fn file_arg<'a>(alloc: Global) -> Arg<'a>
         .help("A file of TWKB geometries, one after another")
 }
 
+/// The option `--tight`.
 fn tight_arg<'a>(alloc: Global) -> Arg<'a>
     ensures rule { rule_of result ≡ tight_rule }
     ensures local { result.global ≡ false }
