@@ -13,7 +13,7 @@ pub struct Seen {
 }
 
 impl Seen {
-    /// Nothing seen yet, for a blob, which has no box above it.
+    /// No vertex seen yet. No box above asks for the extent, since a blob has none above it.
     #[inline(always)]
     pub fn unasked() -> Seen
         ensures { result.asked ≡ false }

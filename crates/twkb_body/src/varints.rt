@@ -8,7 +8,7 @@ use twkb_num::Cursor;
 /// Reads the unsigned number at the place, or returns where and why it is malformed.
 ///
 /// On `Ok` the cursor is after the number. On `Err` the place is unchanged, and is the offset of the refusal. Its reason is `Cut`
-/// or `Varint`, and the bytes looked at are counted.
+/// or `Varint`, and the cursor counts the bytes that it looked at.
 #[inline(always)]
 pub fn take_number(cursor: &mut Cursor) -> Result<u64, Malformed>
     ensures { number_at cursor.old ≡ (result, cursor.new) }

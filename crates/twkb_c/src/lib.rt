@@ -27,7 +27,8 @@ ghost use Rattle.twkb_call.specs.Window.{ranges_of, span_from};
 use std::alloc::Global;
 use twkb_call::{Hit, Layer, Name, Range, Row, Scanned, Slot, Verdict, Window};
 
-/// Certifies the bytes as a layer.
+/// Certifies the bytes as a layer. The verdict's answer is 0 if they are a layer, 1 if they aren't, with the first fault, or 2 if
+/// memory ran out.
 #[unsafe(no_mangle)]
 pub extern "C" fn twkb_certify(alloc: Global, bytes: &[u8]) -> Verdict
     ensures says { Says IsTrueClaim result bytes.now }
@@ -36,7 +37,7 @@ pub extern "C" fn twkb_certify(alloc: Global, bytes: &[u8]) -> Verdict
     twkb_call::certify(&alloc, bytes)
 }
 
-/// Certifies the bytes as a layer without a loose box.
+/// Certifies the bytes as a layer without a loose box. The answers are those of `twkb_certify`.
 #[unsafe(no_mangle)]
 pub extern "C" fn twkb_certify_tight(alloc: Global, bytes: &[u8]) -> Verdict
     ensures says { Says IsTightlyTrue result bytes.now }

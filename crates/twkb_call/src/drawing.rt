@@ -61,6 +61,7 @@ impl<'a> Visit for Pen<'a> {
 
     ghost sound = { never_skips };
 
+    /// Draws a vertex, if there is room for it.
     #[inline(always)]
     fn point(&mut self, v: &Vertex) {
         if self.drawn < self.room.len() {

@@ -71,12 +71,12 @@ impl RawEnds {
         }
     }
 
-    /// Whether the range between two numbers has no number in common with the range between these ends.
+    /// Whether a range, from its first number to its second, has no number in common with the window's.
     #[inline(always)]
-    pub fn misses(&self, ends: (i64, i64)) -> bool
-        ensures { result ≡ raw_range_misses self.now ends }
+    pub fn misses(&self, range: (i64, i64)) -> bool
+        ensures { result ≡ raw_range_misses self.now range }
     {
-        ends.1 < self.least || self.greatest < ends.0
+        range.1 < self.least || self.greatest < range.0
     }
 }
 

@@ -24,7 +24,7 @@ pub fn push_no_line<A: Allocator>(
     push_text(out, "\n")
 }
 
-/// Pushes the line for a certified layer that is only checked.
+/// Pushes the line that `check` prints for a certified layer.
 #[tactic(auto, unfolding(crate::specs::Output::ok_line))]
 pub fn push_ok_line<A: Allocator>(
     out: &mut Vec<u8, A>,
