@@ -101,7 +101,8 @@ impl BoxTest {
         requires further { axes_with _head.now.z _head.now.m ≡ axes_by (is_four AXES) }
         requires counted { trail.old.points ≤ cursor.old.place }
         ensures few { result ≤ most }
-        ensures run { IsRun (held_with (of_head _head.now)) (axes_by (is_four AXES)) trail.old trail.new self.old self.new
+        ensures run { IsRun (held_with (of_head _head.now)) (axes_by (is_four AXES)) trail.old trail.new self.old
+            self.new
             cursor.old cursor.new result }
     {
         let bounds = self.bounds;

@@ -2,7 +2,7 @@
 ghost use Rattle.std.specs.Prelude.{◌≡◌, ◌&&◌, ◌^◌, ℤ, pos, ◌+ℤ◌, ◌<ℤ◌, IsTrue, IfSome, IfNone, false, true};
 ghost use Rattle.twkb_body.specs.Devices.BoxTest.{reaches};
 ghost use Rattle.twkb_body.specs.Devices.LaneTrail.{FitsLane, FitsLanes, IsFlatPlace};
-ghost use Rattle.twkb_body.specs.Devices.Quads.{lanes_at, IsInLane, IsLaneExtent, IsFarStep};
+ghost use Rattle.twkb_body.specs.Devices.Quads.{lanes_at, FromLanes, IsInLane, IsFarStep};
 ghost use Rattle.twkb_body.specs.Devices.Body.{zeros};
 
 use crate::lane_trail::{LaneReader, LaneTrail};
@@ -76,8 +76,7 @@ pub fn fits_lane(range: &RawRange) -> bool
 #[inline(never)]
 fn far_point(cursor: &mut Cursor, at: u32x4, extent: u32x4) -> Reached
     ensures bytes { cursor.new.bytes ≡ cursor.old.bytes }
-    ensures step { (x y w h : ℤ) → at ≡ lanes_at x y → extent ≡ lanes_at w h → IsInLane x → IsInLane y → IsLaneExtent w → IsLaneExtent h
-        → IsFarStep w h x y cursor.old cursor.new result.at result.inside }
+    ensures step { FromLanes at extent (λ x y w h. IsFarStep w h x y cursor.old cursor.new result.at result.inside) }
 {
     let Ok(x_more) = take_signed(cursor) else {
         return Reached { at, inside: false };
@@ -91,10 +90,10 @@ fn far_point(cursor: &mut Cursor, at: u32x4, extent: u32x4) -> Reached
 /// Where a point is, by differences of any length. If it isn't inside, `at` says nothing.
 #[inline(always)]
 fn far_reached(at: u32x4, extent: u32x4, x_more: i64, y_more: i64) -> Reached
-    ensures inside { (x y w h : ℤ) → at ≡ lanes_at x y → extent ≡ lanes_at w h → IsInLane x → IsInLane y → IsLaneExtent w → IsLaneExtent h
-        → result.inside ≡ (reaches w (x +ℤ x_more) && reaches h (y +ℤ y_more)) }
-    ensures at { (x y w h : ℤ) → at ≡ lanes_at x y → extent ≡ lanes_at w h → IsInLane x → IsInLane y → IsLaneExtent w → IsLaneExtent h
-        → result.inside ≡ true → result.at ≡ lanes_at (x +ℤ x_more) (y +ℤ y_more) }
+    ensures inside { FromLanes at extent (λ x y w h. result.inside ≡ (reaches w (x +ℤ x_more) && reaches h (y +ℤ
+        y_more))) }
+    ensures at { FromLanes at extent (λ x y w h. result.inside ≡ true
+        → result.at ≡ lanes_at (x +ℤ x_more) (y +ℤ y_more)) }
 {
     let (x, y) = distances_in(at);
     let (width, height) = distances_in(extent);

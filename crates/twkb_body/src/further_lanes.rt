@@ -93,7 +93,8 @@ fn next_further<const AXES: usize>(cursor: &mut Cursor, left: u64, at: u32x4, ex
     ensures few { result.points ≤ left }
     ensures none { result.points ≡ 0 → cursor.new ≡ cursor.old }
     ensures bytes { cursor.new.bytes ≡ cursor.old.bytes }
-    ensures step { IsFurtherStep (is_four AXES) at extent cursor.old cursor.new result.points result.reached.at result.reached.inside }
+    ensures step { IsFurtherStep (is_four AXES) at extent cursor.old cursor.new result.points result.reached.at
+        result.reached.inside }
 {
     if AXES == 4 && 2 <= left {
         let step = two_points(cursor, at, extent);
@@ -110,7 +111,8 @@ fn one_point<const AXES: usize>(cursor: &mut Cursor, at: u32x4, extent: u32x4) -
     ensures few { result.points ≤ 1 }
     ensures none { result.points ≡ 0 → cursor.new ≡ cursor.old }
     ensures bytes { cursor.new.bytes ≡ cursor.old.bytes }
-    ensures step { IsFurtherStep (is_four AXES) at extent cursor.old cursor.new result.points result.reached.at result.reached.inside }
+    ensures step { IsFurtherStep (is_four AXES) at extent cursor.old cursor.new result.points result.reached.at
+        result.reached.inside }
 {
     match take_differences::<AXES>(cursor) {
         Some(more) => Step {
@@ -127,7 +129,8 @@ fn two_points(cursor: &mut Cursor, at: u32x4, extent: u32x4) -> Step
     ensures few { result.points ≤ 2 }
     ensures none { result.points ≡ 0 → cursor.new ≡ cursor.old }
     ensures bytes { cursor.new.bytes ≡ cursor.old.bytes }
-    ensures step { IsFurtherStep true at extent cursor.old cursor.new result.points result.reached.at result.reached.inside }
+    ensures step { IsFurtherStep true at extent cursor.old cursor.new result.points result.reached.at
+        result.reached.inside }
 {
     let differences = cursor.svarint_eight();
     if !differences.is_read {

@@ -29,9 +29,12 @@ pub trait LaneReader {
         ensures some { 1 ≤ result.points }
         ensures few { result.points ≤ left }
         ensures bytes { cursor.new.bytes ≡ cursor.old.bytes }
-        ensures inside { result.reached.inside ≡ true → (box : RawBox) (trail : Trail) → place self.now box at extent trail.last
-            → IsHeldRun axes (place self.now box result.reached.at extent) box trail cursor.old cursor.new result.points }
-        ensures outside { result.reached.inside ≡ false → (box : RawBox) (last : PointValue) → place self.now box at extent last
+        ensures inside { result.reached.inside ≡ true → (box : RawBox) (trail : Trail)
+            → place self.now box at extent trail.last
+            → IsHeldRun axes (place self.now box result.reached.at extent) box trail cursor.old cursor.new
+            result.points }
+        ensures outside { result.reached.inside ≡ false → (box : RawBox) (last : PointValue)
+            → place self.now box at extent last
             → PointsLeave axes left box last cursor.old };
 }
 
@@ -59,7 +62,8 @@ impl<L: LaneReader> PointReader for LaneTrail<L> {
 
     ghost step = { held_then L.axes };
 
-    ghost stands = { λ trail. StandsInLanes L.axes (λ box. L.place trail.reader box trail.at trail.extent) trail.points };
+    ghost stands = { λ trail. StandsInLanes L.axes (λ box. L.place trail.reader box trail.at trail.extent)
+        trail.points };
 
     ghost ends = { IsOutside };
 

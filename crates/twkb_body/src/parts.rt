@@ -23,9 +23,11 @@ pub fn take_parts<R: PointReader>(
 ) -> Result<(), R::Fault>
     requires ready { IsReady (R.stands reader.old) cursor.old }
     ensures read { IfOk result (λ done. (at : Stage R.State) → R.stands reader.old at
-        → HasRead (many_at count ring_sums (part_at kind at.axes)) points_of R.step (R.stands reader.new) at cursor.old cursor.new) }
+        → HasRead (many_at count ring_sums (part_at kind at.axes)) points_of R.step (R.stands reader.new) at
+        cursor.old cursor.new) }
     ensures ended { IfErr result (λ fault. (at : Stage R.State) → R.stands reader.old at
-        → EndsEarly (many_at count ring_sums (part_at kind at.axes)) points_of R.step R.ends (R.tells fault) at cursor.old cursor.new) }
+        → EndsEarly (many_at count ring_sums (part_at kind at.axes)) points_of R.step R.ends (R.tells fault) at
+        cursor.old cursor.new) }
     ensures bytes { cursor.new.bytes ≡ cursor.old.bytes }
 {
     for _ in 0..count {
@@ -43,9 +45,11 @@ fn take_part<R: PointReader>(
 ) -> Result<(), R::Fault>
     requires ready { IsReady (R.stands reader.old) cursor.old }
     ensures read { IfOk result (λ done. (at : Stage R.State) → R.stands reader.old at
-        → HasRead (part_at kind at.axes) (λ part. flat_map (λ ring. ring) part) R.step (R.stands reader.new) at cursor.old cursor.new) }
+        → HasRead (part_at kind at.axes) (λ part. flat_map (λ ring. ring) part) R.step (R.stands reader.new) at
+        cursor.old cursor.new) }
     ensures ended { IfErr result (λ fault. (at : Stage R.State) → R.stands reader.old at
-        → EndsEarly (part_at kind at.axes) (λ part. flat_map (λ ring. ring) part) R.step R.ends (R.tells fault) at cursor.old cursor.new) }
+        → EndsEarly (part_at kind at.axes) (λ part. flat_map (λ ring. ring) part) R.step R.ends (R.tells fault) at
+        cursor.old cursor.new) }
     ensures bytes { cursor.new.bytes ≡ cursor.old.bytes }
 {
     match kind {
@@ -62,9 +66,11 @@ fn take_part<R: PointReader>(
 fn take_polygon<R: PointReader>(cursor: &mut Cursor, reader: &mut R) -> Result<(), R::Fault>
     requires ready { IsReady (R.stands reader.old) cursor.old }
     ensures read { IfOk result (λ done. (at : Stage R.State) → R.stands reader.old at
-        → HasRead (polygon_at at.axes) (λ polygon. flat_map (λ ring. ring) polygon) R.step (R.stands reader.new) at cursor.old cursor.new) }
+        → HasRead (polygon_at at.axes) (λ polygon. flat_map (λ ring. ring) polygon) R.step (R.stands reader.new) at
+        cursor.old cursor.new) }
     ensures ended { IfErr result (λ fault. (at : Stage R.State) → R.stands reader.old at
-        → EndsEarly (polygon_at at.axes) (λ polygon. flat_map (λ ring. ring) polygon) R.step R.ends (R.tells fault) at cursor.old cursor.new) }
+        → EndsEarly (polygon_at at.axes) (λ polygon. flat_map (λ ring. ring) polygon) R.step R.ends (R.tells fault)
+        at cursor.old cursor.new) }
     ensures bytes { cursor.new.bytes ≡ cursor.old.bytes }
 {
     let count = match take_number(cursor) {

@@ -40,9 +40,11 @@ pub trait PointReader {
     fn take_points(&mut self, cursor: &mut Cursor, count: u64) -> Result<(), Self::Fault>
         requires ready { IsReady (stands self.old) cursor.old }
         ensures read { IfOk result (λ done. (at : Stage State) → stands self.old at
-            → HasRead (many_at count add (point_at at.axes)) (λ points. points) step (stands self.new) at cursor.old cursor.new) }
+            → HasRead (many_at count add (point_at at.axes)) (λ points. points) step (stands self.new) at cursor.old
+            cursor.new) }
         ensures ended { IfErr result (λ fault. (at : Stage State) → stands self.old at
-            → EndsEarly (many_at count add (point_at at.axes)) (λ points. points) step ends (tells fault) at cursor.old cursor.new) }
+            → EndsEarly (many_at count add (point_at at.axes)) (λ points. points) step ends (tells fault) at
+            cursor.old cursor.new) }
         ensures bytes { cursor.new.bytes ≡ cursor.old.bytes };
 
     /// The fault for a malformed field.

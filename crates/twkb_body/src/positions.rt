@@ -8,7 +8,7 @@ ghost use Rattle.twkb_num.specs.Varint.{IsBrief, IsShort};
 ghost use Rattle.twkb_body.specs.declared.numbers.Numbers.{Numbers as NumbersOf};
 ghost use Rattle.twkb_body.specs.Devices.FurtherLanes.{four_lanes, HaveGone};
 ghost use Rattle.twkb_body.specs.Devices.Numbers.{Each, listed};
-ghost use Rattle.twkb_body.specs.Devices.Quads.{lanes_at, IsInLane, IsLaneExtent, HaveReached};
+ghost use Rattle.twkb_body.specs.Devices.Quads.{lanes_at, FromLanes, IsInLane, IsLaneExtent, HaveReached};
 
 use crate::numbers::Numbers;
 use std::simd::prelude::*;
@@ -129,8 +129,7 @@ pub fn two_more(differences: u32x4, at: u32x4, extent: u32x4) -> Reached
 pub fn one_more(x_more: i64, y_more: i64, at: u32x4, extent: u32x4) -> Reached
     requires x { IsShort x_more }
     requires y { IsShort y_more }
-    ensures { (x y w h : ℤ) → at ≡ lanes_at x y → extent ≡ lanes_at w h → IsInLane x → IsInLane y → IsLaneExtent w → IsLaneExtent h
-        → HaveReached w h x y ((x_more, y_more) ∷ []) result.at result.inside }
+    ensures { FromLanes at extent (λ x y w h. HaveReached w h x y ((x_more, y_more) ∷ []) result.at result.inside) }
 {
     let point = summed(lanes_of(x_more, y_more), at);
     Reached {
@@ -160,7 +159,8 @@ pub fn two_further(differences: u16x8, at: u32x4, extent: u32x4) -> Reached
 #[inline(always)]
 pub fn one_further(more: &Numbers, at: u32x4, extent: u32x4) -> Reached
     requires { Each IsShort more.now }
-    ensures { (apart e : NumbersOf) → at ≡ four_lanes apart → extent ≡ four_lanes e → Each IsInLane apart → Each IsLaneExtent e
+    ensures { (apart e : NumbersOf) → at ≡ four_lanes apart → extent ≡ four_lanes e → Each IsInLane apart
+        → Each IsLaneExtent e
         → HaveGone e apart (more.now ∷ []) result.at result.inside }
 {
     let place = summed(four_lanes_of(more), at);
@@ -221,7 +221,8 @@ fn number_in(lane: u32) -> i64
 #[inline(always)]
 fn summed(more: u32x4, at: u32x4) -> u32x4
     ensures { (a b c d w x y z : ℕ) → more ≡ a ∷ b ∷ c ∷ d ∷ [] → at ≡ w ∷ x ∷ y ∷ z ∷ []
-        → result ≡ ((a + w) % 4294967296) ∷ ((b + x) % 4294967296) ∷ ((c + y) % 4294967296) ∷ ((d + z) % 4294967296) ∷ [] }
+        → result ≡ ((a + w) % 4294967296) ∷ ((b + x) % 4294967296) ∷ ((c + y) % 4294967296) ∷ ((d + z) % 4294967296)
+        ∷ [] }
 {
     more + at
 }
@@ -230,7 +231,8 @@ fn summed(more: u32x4, at: u32x4) -> u32x4
 #[inline(always)]
 fn with_pair_before(d: u16x8) -> u16x8
     ensures { (a b c d' e f g h : ℕ) → d ≡ a ∷ b ∷ c ∷ d' ∷ e ∷ f ∷ g ∷ h ∷ []
-        → result ≡ ((a + 0) % 65536) ∷ ((b + 0) % 65536) ∷ ((c + a) % 65536) ∷ ((d' + b) % 65536) ∷ ((e + c) % 65536) ∷ ((f + d') % 65536) ∷ ((g + e) % 65536) ∷ ((h + f) % 65536) ∷ [] }
+        → result ≡ ((a + 0) % 65536) ∷ ((b + 0) % 65536) ∷ ((c + a) % 65536) ∷ ((d' + b) % 65536) ∷ ((e + c) % 65536)
+        ∷ ((f + d') % 65536) ∷ ((g + e) % 65536) ∷ ((h + f) % 65536) ∷ [] }
 {
     d + d.shuffle(u16x8::splat(0), [8, 9, 0, 1, 2, 3, 4, 5])
 }
@@ -239,7 +241,8 @@ fn with_pair_before(d: u16x8) -> u16x8
 #[inline(always)]
 fn with_half_before(d: u16x8) -> u16x8
     ensures { (a b c d' e f g h : ℕ) → d ≡ a ∷ b ∷ c ∷ d' ∷ e ∷ f ∷ g ∷ h ∷ []
-        → result ≡ ((a + 0) % 65536) ∷ ((b + 0) % 65536) ∷ ((c + 0) % 65536) ∷ ((d' + 0) % 65536) ∷ ((e + a) % 65536) ∷ ((f + b) % 65536) ∷ ((g + c) % 65536) ∷ ((h + d') % 65536) ∷ [] }
+        → result ≡ ((a + 0) % 65536) ∷ ((b + 0) % 65536) ∷ ((c + 0) % 65536) ∷ ((d' + 0) % 65536) ∷ ((e + a) % 65536)
+        ∷ ((f + b) % 65536) ∷ ((g + c) % 65536) ∷ ((h + d') % 65536) ∷ [] }
 {
     d + d.shuffle(u16x8::splat(0), [8, 9, 10, 11, 0, 1, 2, 3])
 }
@@ -248,7 +251,8 @@ fn with_half_before(d: u16x8) -> u16x8
 #[inline(always)]
 fn biased(d: u16x8) -> u16x8
     ensures { (a b c d' e f g h : ℕ) → d ≡ a ∷ b ∷ c ∷ d' ∷ e ∷ f ∷ g ∷ h ∷ []
-        → result ≡ ((a + 32768) % 65536) ∷ ((b + 32768) % 65536) ∷ ((c + 32768) % 65536) ∷ ((d' + 32768) % 65536) ∷ ((e + 32768) % 65536) ∷ ((f + 32768) % 65536) ∷ ((g + 32768) % 65536) ∷ ((h + 32768) % 65536) ∷ [] }
+        → result ≡ ((a + 32768) % 65536) ∷ ((b + 32768) % 65536) ∷ ((c + 32768) % 65536) ∷ ((d' + 32768) % 65536)
+        ∷ ((e + 32768) % 65536) ∷ ((f + 32768) % 65536) ∷ ((g + 32768) % 65536) ∷ ((h + 32768) % 65536) ∷ [] }
 {
     d + u16x8::splat(0x8000)
 }
@@ -273,8 +277,10 @@ fn second_half(d: u16x8) -> u32x4
 #[inline(always)]
 fn unbiased_sum(d: u32x4, at: u32x4) -> u32x4
     ensures { (a b c d' w x y z : ℕ) → d ≡ a ∷ b ∷ c ∷ d' ∷ [] → at ≡ w ∷ x ∷ y ∷ z ∷ []
-        → result ≡ ((a + (w + (4294967296 - 32768)) % 4294967296) % 4294967296) ∷ ((b + (x + (4294967296 - 32768)) % 4294967296) % 4294967296)
-        ∷ ((c + (y + (4294967296 - 32768)) % 4294967296) % 4294967296) ∷ ((d' + (z + (4294967296 - 32768)) % 4294967296) % 4294967296) ∷ [] }
+        → result ≡ ((a + (w + (4294967296 - 32768)) % 4294967296) % 4294967296)
+        ∷ ((b + (x + (4294967296 - 32768)) % 4294967296) % 4294967296)
+        ∷ ((c + (y + (4294967296 - 32768)) % 4294967296) % 4294967296)
+        ∷ ((d' + (z + (4294967296 - 32768)) % 4294967296) % 4294967296) ∷ [] }
 {
     d + (at - u32x4::splat(0x8000))
 }
@@ -283,7 +289,8 @@ fn unbiased_sum(d: u32x4, at: u32x4) -> u32x4
 #[inline(always)]
 fn greater(first: u32x4, second: u32x4) -> u32x4
     ensures { (a b c d e f g h : ℕ) → first ≡ a ∷ b ∷ c ∷ d ∷ [] → second ≡ e ∷ f ∷ g ∷ h ∷ []
-        → result ≡ (if nat_lt a e then e else a) ∷ (if nat_lt b f then f else b) ∷ (if nat_lt c g then g else c) ∷ (if nat_lt d h then h else d) ∷ [] }
+        → result ≡ (if nat_lt a e then e else a) ∷ (if nat_lt b f then f else b) ∷ (if nat_lt c g then g else c)
+        ∷ (if nat_lt d h then h else d) ∷ [] }
 {
     first.simd_max(second)
 }
@@ -309,7 +316,8 @@ fn last_twice(points: u32x4) -> u32x4
 #[inline(always)]
 fn two_places(more: u32x4, at: u32x4) -> u32x4
     ensures { (a b c d x y : ℕ) → more ≡ a ∷ b ∷ c ∷ d ∷ [] → at ≡ x ∷ y ∷ x ∷ y ∷ []
-        → result ≡ (((a + 0) % 4294967296 + x) % 4294967296) ∷ (((b + 0) % 4294967296 + y) % 4294967296) ∷ (((c + a) % 4294967296 + x) % 4294967296) ∷ (((d + b) % 4294967296 + y) % 4294967296) ∷ [] }
+        → result ≡ (((a + 0) % 4294967296 + x) % 4294967296) ∷ (((b + 0) % 4294967296 + y) % 4294967296)
+        ∷ (((c + a) % 4294967296 + x) % 4294967296) ∷ (((d + b) % 4294967296 + y) % 4294967296) ∷ [] }
 {
     more + more.shuffle(u32x4::splat(0), [4, 5, 0, 1]) + at
 }

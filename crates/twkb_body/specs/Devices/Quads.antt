@@ -54,11 +54,15 @@ pub record IsQuadStep (w h x y : ℤ) (old new : Reading) (points : ℕ) (at : L
   pub read : ReadsPairs differences old new
   pub reached : HaveReached w h x y differences at inside
 
--- From whatever distances and extents these lanes hold, some points were read (`IsQuadStep`).
+-- this holds of the two distances and the two extents in these lanes
+abbrev pub FromLanes : List ℕ → List ℕ → (ℤ → ℤ → ℤ → ℤ → Type 0) → Type 0
+FromLanes at extent follows = (x y w h : ℤ) → at ≡ lanes_at x y → extent ≡ lanes_at w h
+    → IsInLane x → IsInLane y → IsLaneExtent w → IsLaneExtent h → follows x y w h
+
+-- from the distances in these lanes on, some points were read (`IsQuadStep`)
 abbrev pub StepsInLanes : List ℕ → List ℕ → Reading → Reading → Step → Type 0
-StepsInLanes at extent old new step = (x y w h : ℤ) → at ≡ lanes_at x y → extent ≡ lanes_at w h
-    → IsInLane x → IsInLane y → IsLaneExtent w → IsLaneExtent h
-    → IsQuadStep w h x y old new step.points step.reached.at step.reached.inside
+StepsInLanes at extent old new step =
+    FromLanes at extent (λ x y w h. IsQuadStep w h x y old new step.points step.reached.at step.reached.inside)
 
 -- Two numbers lead from a distance to lanes, and the extents hold the point; or, if two numbers can be read there, they don't.
 abbrev pub IsFarStep : ℤ → ℤ → ℤ → ℤ → Reading → Reading → List ℕ → Bool → Type 0

@@ -156,7 +156,8 @@ pub fn take_walk<'h, P: Points + Drop>(
 ) -> Result<Walk<'h, P>, Doubt>
     requires precisions { HasPrecisions head.now }
     requires axes { axes ≡ axes_with head.now.z head.now.m }
-    ensures ok { IfOk result (λ walk. ReadParts (P.step (of_head head.now)) head.now.kind axes count cursor.old cursor.new
+    ensures ok { IfOk result (λ walk. ReadParts (P.step (of_head head.now)) head.now.kind axes count cursor.old
+        cursor.new
         (P.state points) (P.state walk.points) walk.trail.points) }
     ensures malformed { OnErr result (AreMalformed head.now.kind axes count cursor.old cursor.new) }
     ensures refused { IfErr result (λ doubt. doubt ≡ Refused) }
