@@ -14,7 +14,8 @@ use Rattle.twkb_body.specs.declared.trail.Trail.{Trail}
 use Rattle.twkb_body.specs.Geometry.{PointValue}
 use Rattle.twkb_body.specs.Devices.Body.{first_of, behind, add, sums}
 use Rattle.twkb_body.specs.Devices.BodyReader.{point_at, NumbersLead}
-use Rattle.twkb_body.specs.Devices.Walk.{HaveAxes, lasts_from, IsWalked, IsRun, IsStill, AreShown}
+use Rattle.twkb_body.specs.Devices.Walk.{HaveAxes, lasts_from, IsWalked, IsRun, IsStill}
+use Rattle.twkb_body.specs.Devices.Showing.{Progress, at, Showing, Knows, IsShown, Shows}
 use Rattle.twkb_body.proofs.BareRuns.{peel, moved_none}
 use Rattle.twkb_body.proofs.Coordinates.{coordinate_ahead}
 use Rattle.twkb_body.proofs.Runs.{afters, sums_are, values_of, goes_far}
@@ -249,9 +250,13 @@ module _ {S : Type 0} (step : S → PointValue → S) (axes : ℕ) where
   stays s [] still = refl
   stays s (p ∷ ps) still = ap (λ (u : S). fold step u ps) (still p) ∙ stays s ps still
 
+  -- the trail after points
+  abbrev pub after_points : Trail → List PointValue → Trail
+  after_points t ps = record { last = sums t.last ps; points = t.points + length ps }
+
   -- if no point changes the state, points that are passed count as shown
   pub still_walked : (count : ℕ) (t : Trail) (s : S) (r stop : Reading) (ps : List PointValue) → 1 ≤ axes → many_at count add (point_at axes) t.last r ≡ (Ok ps, stop) → IsStill step s
-      → IsWalked step axes t (record { last = sums t.last ps; points = t.points + length ps }) s s r.place stop.place ps
+      → IsWalked step axes t (after_points t ps) s s r.place stop.place ps
   still_walked count t s r stop ps some read still =
       let are = points_are axes count t.last r stop ps some read in
       record { last = refl; points = refl; added = sym (stays s (lasts_from t.last ps) still); have = are.have; ahead = are.ahead }
@@ -286,52 +291,65 @@ module _ {S : Type 0} (step : S → PointValue → S) (axes : ℕ) where
         walked = walked_then step axes start now next s t u from.place r.place new.place run.numbers more.numbers run.walked more.walked;
       }
 
+  -- points are shown, one after another
+  abbrev pub run_of : ℕ → Showing (List PointValue) S
+  run_of count = record { each = many_at count add (point_at axes); points_in = λ points. points; step = step; axes = axes }
+
+  -- points that are known are read from the trail, if it isn't lost
+  pub run_read : (count : ℕ) (now : Progress S) → now.lost ≡ false → (k : Knows (run_of count) now) → many_at count add (point_at axes) now.trail.last now.reading ≡ (Ok k.value, k.stop)
+  run_read count now kept k = subst (λ (u : Trail). many_at count add (point_at axes) u.last now.reading ≡ (Ok k.value, k.stop)) (sym (k.follows.kept kept)) k.read
+
   -- if a run is all of the points, they were shown
-  pub run_whole : (count : ℕ) (start now : Trail) (s t : S) (from r stop : Reading) (i : ℕ) (ps : List PointValue) → many_at count add (point_at axes) start.last from ≡ (Ok ps, stop) → i ≡ count
-      → IsRun step axes start now s t from r i → AreShown (λ (points : List PointValue). points) step axes false now s t from r start ps stop
-  run_whole count start now s t from r stop i ps e end run =
-      let same = one_answer (many_at count add (point_at axes) start.last from) run.numbers ps r stop (ap (λ (n : ℕ). many_at n add (point_at axes) start.last from) (sym end) ∙ run.read) e in
+  pub run_whole : (count i : ℕ) (before after : Progress S) → before.lost ≡ false → after.lost ≡ false → i ≡ count → IsRun step axes before.trail after.trail before.state after.state before.reading after.reading i
+      → Shows (run_of count) before after
+  run_whole count i before after kept keeps end run k =
+      let first = many_at count add (point_at axes) before.trail.last before.reading in
+      let same = one_answer first run.numbers k.value after.reading k.stop (ap (λ (n : ℕ). many_at n add (point_at axes) before.trail.last before.reading) (sym end) ∙ run.read) (run_read count before kept k) in
       record {
         there = same.1;
-        after = now;
-        walked = subst (IsWalked step axes start now s t from.place r.place) same.0 run.walked;
-        follows = record { kept = λ keeps. refl; still = λ lost. absurd (cc (lost)) };
+        trail = after.trail;
+        walked = subst (λ (u : Trail). IsWalked step axes u after.trail before.state after.state before.reading.place after.reading.place k.value) (k.follows.kept kept)
+            (subst (IsWalked step axes before.trail after.trail before.state after.state before.reading.place after.reading.place) same.0 run.walked);
+        follows = record { kept = λ is. refl; still = λ lost. absurd (cc (keeps, lost)) };
       }
 
   -- the points that are left after a run are read
-  pub run_rest : (count : ℕ) (start now : Trail) (s t : S) (from r stop : Reading) (i : ℕ) (ps : List PointValue) → many_at count add (point_at axes) start.last from ≡ (Ok ps, stop) → i ≤ count
-      → (run : IsRun step axes start now s t from r i) → (ys : List PointValue) × (many_at (count - i) add (point_at axes) now.last r ≡ (Ok ys, stop)) × (run.numbers ++ ys ≡ ps)
-  run_rest count start now s t from r stop i ps e le run =
-      rest_read add (point_at axes) count (many_at count add (point_at axes) start.last from) run.numbers i now.last r stop ps e (run_loop count start now s t from r i le run)
+  pub run_rest : (count i : ℕ) (before now : Progress S) → before.lost ≡ false → i ≤ count → (k : Knows (run_of count) before) → (run : IsRun step axes before.trail now.trail before.state now.state before.reading now.reading i)
+      → (ys : List PointValue) × (many_at (count - i) add (point_at axes) now.trail.last now.reading ≡ (Ok ys, k.stop)) × (run.numbers ++ ys ≡ k.value)
+  run_rest count i before now kept le k run =
+      rest_read add (point_at axes) count (many_at count add (point_at axes) before.trail.last before.reading) run.numbers i now.trail.last now.reading k.stop k.value (run_read count before kept k)
+      (run_loop count before.trail now.trail before.state now.state before.reading now.reading i le run)
+
+  -- the place is after this many points, whatever they are
+  abbrev pub ArePassed : ℕ → Reading → Reading → Type 0
+  ArePassed count from new = (s : PointValue) (points : List PointValue) (stop : Reading) → many_at count add (point_at axes) s from ≡ (Ok points, stop) → new ≡ stop
 
   -- if a run was shown and the points after it were passed, all count as shown
-  pub run_passed : (count : ℕ) (start now trail : Trail) (s t : S) (from r new stop : Reading) (i : ℕ) (ps : List PointValue) → 1 ≤ axes → many_at count add (point_at axes) start.last from ≡ (Ok ps, stop) → i ≤ count → IsStill step t
-      → ((p : PointValue) (points : List PointValue) (end : Reading) → many_at (count - i) add (point_at axes) p r ≡ (Ok points, end) → new ≡ end)
-      → IsRun step axes start now s t from r i → AreShown (λ (points : List PointValue). points) step axes true trail s t from new start ps stop
-  run_passed count start now trail s t from r new stop i ps some e le still passes run =
-      let (ys, left, whole) = run_rest count start now s t from r stop i ps e le run in
-      let there = passes now.last ys stop left in
-      let after : Trail = record { last = sums now.last ys; points = now.points + length ys } in
-      let joined = walked_then step axes start now after s t t from.place r.place stop.place run.numbers ys run.walked (still_walked (count - i) now t r stop ys some left still) in
+  pub run_passed : (count i : ℕ) (before now : Progress S) (new : Reading) → 1 ≤ axes → before.lost ≡ false → i ≤ count → IsStill step now.state → ArePassed (count - i) now.reading new
+      → IsRun step axes before.trail now.trail before.state now.state before.reading now.reading i → Shows (run_of count) before (at true now.trail now.state new)
+  run_passed count i before now new some kept le still passes run k =
+      let (ys, left, whole) = run_rest count i before now kept le k run in
+      let there = passes now.trail.last ys k.stop left in
+      let after = after_points now.trail ys in
+      let joined = walked_then step axes before.trail now.trail after before.state now.state now.state before.reading.place now.reading.place k.stop.place run.numbers ys run.walked (still_walked (count - i) now.trail now.state now.reading k.stop ys some left still) in
       record {
         there = there;
-        after = after;
-        walked = subst (λ (q : Reading). IsWalked step axes start after s t from.place q.place ps) (sym there) (subst (IsWalked step axes start after s t from.place stop.place) whole joined);
+        trail = after;
+        walked = subst (λ (u : Trail). IsWalked step axes u after before.state now.state before.reading.place new.place k.value) (k.follows.kept kept)
+            (subst (λ (q : Reading). IsWalked step axes before.trail after before.state now.state before.reading.place q.place k.value) (sym there) (subst (IsWalked step axes before.trail after before.state now.state before.reading.place k.stop.place) whole joined));
         follows = record { kept = λ keeps. absurd (cc (keeps)); still = λ lost. still };
       }
 
-  -- if all points were passed, all count as shown
-  pub all_there : (count : ℕ) (start trail : Trail) (s : S) (from new stop : Reading) (ps : List PointValue) → 1 ≤ axes → many_at count add (point_at axes) start.last from ≡ (Ok ps, stop) → IsStill step s → new ≡ stop
-      → AreShown (λ (points : List PointValue). points) step axes true trail s s from new start ps stop
-  all_there count start trail s from new stop ps some e still there =
-      record {
-        there = there;
-        after = record { last = sums start.last ps; points = start.points + length ps };
-        walked = subst (λ (q : Reading). IsWalked step axes start (record { last = sums start.last ps; points = start.points + length ps }) s s from.place q.place ps) (sym there) (still_walked count start s from stop ps some e still);
-        follows = record { kept = λ keeps. absurd (cc (keeps)); still = λ lost. still };
-      }
+  -- if all points were passed, they count as shown
+  pub all_there : (count : ℕ) (now : Progress S) (lost : Bool) (new : Reading) → 1 ≤ axes → lost ≡ true → IsStill step now.state → (k : Knows (run_of count) now) → new ≡ k.stop
+      → IsShown (run_of count) now (at lost now.trail now.state new) k
+  all_there count now lost new some gone still k there = record {
+    there = there;
+    trail = after_points k.from k.value;
+    walked = subst (λ (q : Reading). IsWalked step axes k.from (after_points k.from k.value) now.state now.state now.reading.place q.place k.value) (sym there)
+        (still_walked count k.from now.state now.reading k.stop k.value some k.read still);
+    follows = record { kept = λ keeps. absurd (cc (keeps, gone)); still = λ is. still };
+  }
 
-  pub all_passed : (count : ℕ) (start trail : Trail) (s : S) (from new stop : Reading) (ps : List PointValue) → 1 ≤ axes → many_at count add (point_at axes) start.last from ≡ (Ok ps, stop) → IsStill step s
-      → ((p : PointValue) (points : List PointValue) (end : Reading) → many_at count add (point_at axes) p from ≡ (Ok points, end) → new ≡ end)
-      → AreShown (λ (points : List PointValue). points) step axes true trail s s from new start ps stop
-  all_passed count start trail s from new stop ps some e still passes = all_there count start trail s from new stop ps some e still (passes start.last ps stop e)
+  pub all_passed : (count : ℕ) (now : Progress S) (lost : Bool) (new : Reading) → 1 ≤ axes → lost ≡ true → IsStill step now.state → ArePassed count now.reading new → Shows (run_of count) now (at lost now.trail now.state new)
+  all_passed count now lost new some gone still passes k = all_there count now lost new some gone still k (passes k.from.last k.value k.stop k.read)

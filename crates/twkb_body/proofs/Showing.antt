@@ -1,6 +1,8 @@
 -- Showing known values one after another: points until a visitor is settled, and from there on they are passed.
-use Rattle.std.proofs.Common.{◌≡◌, ℕ, Option, Some, None, ◌+◌, ◌<◌, ◌≤◌, Bool, true, List, [], ◌∷◌, flat_map, Ok, Err, ◌⊎◌, inl, inr, refl, ap, sym, subst, ◌∙◌, arith}
+use Rattle.std.proofs.Common.{◌≡◌, ℕ, Option, Some, None, ◌+◌, ◌<◌, ◌≤◌, Bool, true, false, List, [], ◌∷◌, flat_map, Ok, Err, ◌⊎◌, inl, inr, refl, ap, sym, subst, ◌∙◌, arith}
 use Rattle.twkb_num.specs.Cursor.{Reading}
+use Rattle.twkb_head.specs.declared.boxes.Vertex.{Vertex}
+use Rattle.twkb_head.specs.declared.header.Head.{Head}
 use Rattle.twkb_head.specs.Header.{axes_with}
 use Rattle.twkb_head.specs.declared.refusal.Malformed.{Malformed}
 use Rattle.twkb_head.specs.Shared.Reader.{Answer, Reader, ◌>>=◌, viewed, many_at, number_at}
@@ -11,109 +13,132 @@ use Rattle.twkb_body.specs.Devices.Body.{add, sums}
 use Rattle.twkb_head.specs.declared.kinds.Kind.{Kind}
 use Rattle.twkb_head.specs.declared.kinds.Kind.TheVariants.{Point, LineString, Polygon, MultiPoint, MultiLineString, MultiPolygon}
 use Rattle.twkb_body.specs.Devices.BodyReader.{point_at, ring_at, polygon_at, part_at}
-use Rattle.twkb_body.specs.Devices.Walk.{IsWalked, IsStill, Follows, IsKnown, AreShown, StandsThere, ShowsIt}
-use Rattle.twkb_body.proofs.Settling.{next_read, all_there}
+use Rattle.twkb_body.specs.Devices.Inside.{of_head}
+use Rattle.twkb_body.specs.Devices.Walk.{IsWalked, IsStill, shown}
+use Rattle.twkb_body.specs.Devices.Showing.{Progress, at, Showing, Follows, Knows, IsShown, Shows, one_point, many}
+use Rattle.twkb_body.proofs.Settling.{next_read, run_of, all_there}
 use Rattle.twkb_body.proofs.Walks.{number_ahead, walked_from, IsWalkLoop, walk_begins, walk_goes_on, walk_ends}
 
-module _ {A S : Type 0} (step : S → PointValue → S) (axes : ℕ) (after : PointValue → A → PointValue) (each : PointValue → Reader A) (points_in : A → List PointValue)
-    (after_is : (s : PointValue) (x : A) → after s x ≡ sums s (points_in x)) (count : ℕ) (lost : Bool) (trail : Trail) (state : S) (from : Reading) where
-  -- i parts were shown
-  abbrev pub IsShowing : ℕ → Bool → Trail → S → Reading → Type 0
-  IsShowing i lost' trail' s r = (t : Trail) (xs : List A) (stop : Reading) → IsKnown (λ (q : PointValue). many_at count after each q) step lost trail state from t xs stop
-      → (u : Trail) × IsWalkLoop step axes after each points_in after_is count t state from i u s r × Follows step lost' trail' u s
+module _ {A S : Type 0} (w : Showing A S) (after : PointValue → A → PointValue) (after_is : (s : PointValue) (x : A) → after s x ≡ sums s (w.points_in x)) (count : ℕ) (start : Progress S) where
+  -- i of the parts were shown, and the points of these lead to the trail u
+  pub record AreBefore (known : Knows (many count after w) start) (i : ℕ) (now : Progress S) : Type 0 where
+    pub trail : Trail
+    pub loop : IsWalkLoop w.step w.axes after w.each w.points_in after_is count known.from start.state start.reading i trail now.state now.reading
+    pub follows : Follows w.step now trail
 
-  pub showing_begins : IsShowing 0 lost trail state from
-  showing_begins t xs stop known = (t, walk_begins step axes after each points_in after_is count t state from, known.follows)
+  -- i of the parts were shown
+  abbrev pub IsShowing : ℕ → Progress S → Type 0
+  IsShowing i now = (known : Knows (many count after w) start) → AreBefore known i now
 
-  next_known : (t : Trail) (xs : List A) (stop : Reading) → IsKnown (λ (q : PointValue). many_at count after each q) step lost trail state from t xs stop → (i : ℕ) (lost' : Bool) (trail' u : Trail) (s : S) (r : Reading) → i < count
-      → IsWalkLoop step axes after each points_in after_is count t state from i u s r → Follows step lost' trail' u s → (x : A) × (mid : Reading) × IsKnown each step lost' trail' s r u x mid
-  next_known t xs stop known i lost' trail' u s r lt loop follows =
-      let n = next_read after each count (many_at count after each t.last from) loop.front i u.last r stop xs known.read lt loop.read in
-      (n.0, n.1, record { read = n.2; follows = follows; counted = omega (arith, known.counted, loop.walked.points, loop.walked.ahead) })
+  pub showing_begins : IsShowing 0 start
+  showing_begins known = record { trail = known.from; loop = walk_begins w.step w.axes after w.each w.points_in after_is count known.from start.state start.reading; follows = known.follows }
 
-  pub showing_next : (i : ℕ) (lost' : Bool) (trail' : Trail) (s : S) (r : Reading) → i < count → StandsThere (λ (q : PointValue). many_at count after each q) step lost trail state from → IsShowing i lost' trail' s r
-      → StandsThere each step lost' trail' s r
-  showing_next i lost' trail' s r lt (t, xs, stop, known) showing =
-      let (u, loop, follows) = showing t xs stop known in
-      let (x, mid, here) = next_known t xs stop known i lost' trail' u s r lt loop follows in
-      (u, x, mid, here)
+  next_known : (known : Knows (many count after w) start) (i : ℕ) (now : Progress S) → i < count → AreBefore known i now → Knows w now
+  next_known known i now lt b =
+      let n = next_read after w.each count (many_at count after w.each known.from.last start.reading) b.loop.front i b.trail.last now.reading known.stop known.value known.read lt b.loop.read in
+      record { from = b.trail; value = n.0; stop = n.1; read = n.2; follows = b.follows; counted = omega (arith, known.counted, b.loop.walked.points, b.loop.walked.ahead) }
 
-  pub showing_goes_on : (i : ℕ) (lost' lost'' : Bool) (trail' trail'' : Trail) (s s' : S) (r new : Reading) → i < count → ShowsIt each points_in step axes lost' lost'' trail' trail'' s s' r new → IsShowing i lost' trail' s r
-      → IsShowing (i + 1) lost'' trail'' s' new
-  showing_goes_on i lost' lost'' trail' trail'' s s' r new lt shows showing t xs stop known =
-      let (u, loop, follows) = showing t xs stop known in
-      let (x, mid, here) = next_known t xs stop known i lost' trail' u s r lt loop follows in
-      let a = shows u x mid here in
-      (a.after, walk_goes_on step axes after each points_in after_is count t state from i u a.after s s' r new x lt (here.read ∙ ap (λ (q : Reading). (Ok x, q)) (sym a.there)) a.walked loop, a.follows)
+  pub showing_next : (i : ℕ) (now : Progress S) → i < count → Knows (many count after w) start → IsShowing i now → Knows w now
+  showing_next i now lt known showing = next_known known i now lt (showing known)
 
-  pub showing_ends : (i : ℕ) (lost' : Bool) (trail' : Trail) (s : S) (r : Reading) → i ≡ count → IsShowing i lost' trail' s r
-      → ShowsIt (λ (q : PointValue). many_at count after each q) (λ (xs : List A). flat_map points_in xs) step axes lost lost' trail trail' state s from r
-  showing_ends i lost' trail' s r end showing t xs stop known =
-      let (u, loop, follows) = showing t xs stop known in
-      let (ys, read, walked) = walk_ends step axes after each points_in after_is count t state from i u s r end loop in
-      let same = one_answer (many_at count after each t.last from) ys xs r stop read known.read in
+  pub showing_goes_on : (i : ℕ) (now next : Progress S) → i < count → Shows w now next → IsShowing i now → IsShowing (i + 1) next
+  unfolding next_known
+  showing_goes_on i now next lt shows showing known =
+      let b = showing known in
+      let here = next_known known i now lt b in
+      let a = shows here in
       record {
-        there = same.1;
-        after = u;
-        walked = subst (λ (zs : List A). IsWalked step axes t u state s from.place r.place (flat_map points_in zs)) same.0 walked;
-        follows = follows;
+        trail = a.trail;
+        loop = walk_goes_on w.step w.axes after w.each w.points_in after_is count known.from start.state start.reading i b.trail a.trail now.state next.state now.reading next.reading here.value lt (here.read ∙ ap (λ (q : Reading). (Ok here.value, q)) (sym a.there)) a.walked b.loop;
+        follows = a.follows;
       }
 
+  pub showing_ends : (i : ℕ) (now : Progress S) → i ≡ count → IsShowing i now → Shows (many count after w) start now
+  showing_ends i now end showing known =
+      let b = showing known in
+      let (ys, read, walked) = walk_ends w.step w.axes after w.each w.points_in after_is count known.from start.state start.reading i b.trail now.state now.reading end b.loop in
+      let same = one_answer (many_at count after w.each known.from.last start.reading) ys known.value now.reading known.stop read known.read in
+      record {
+        there = same.1;
+        trail = b.trail;
+        walked = subst (λ (zs : List A). IsWalked w.step w.axes known.from b.trail start.state now.state start.reading.place now.reading.place (flat_map w.points_in zs)) same.0 walked;
+        follows = b.follows;
+      }
+
+-- the values, by another reader
+abbrev pub with_reader : {A S : Type 0} → (PointValue → Reader A) → Showing A S → Showing A S
+with_reader each w = record { each = each; points_in = w.points_in; step = w.step; axes = w.axes }
+
 -- ---- values after a count
-module _ {A S : Type 0} (step : S → PointValue → S) (axes count : ℕ) (more : ℕ → PointValue → Reader A) (points_in : A → List PointValue) (r mid : Reading) (counted : number_at r ≡ (Ok count, mid)) where
-  pub behind_count : (lost : Bool) (trail : Trail) (s : S) (t : Trail) (x : A) (stop : Reading) → IsKnown (λ (q : PointValue) (r : Reading). number_at r >>= λ n. more n q) step lost trail s r t x stop → IsKnown (more count) step lost trail s mid t x stop
-  behind_count lost trail s t x stop known = record {
-    read = sym (ap (λ (a : Answer ℕ). a >>= λ n. more n t.last) counted) ∙ known.read;
-    follows = known.follows;
-    counted = omega (arith, known.counted, number_ahead count r mid counted);
+-- values that are read after a count
+abbrev pub counting : {A S : Type 0} → (ℕ → PointValue → Reader A) → Showing A S → Showing A S
+counting more w = with_reader (λ q r. number_at r >>= λ n. more n q) w
+
+-- the values, once the count is known
+abbrev pub counted_as : {A S : Type 0} → ℕ → (ℕ → PointValue → Reader A) → Showing A S → Showing A S
+counted_as count more w = with_reader (more count) w
+
+module _ {A S : Type 0} (more : ℕ → PointValue → Reader A) (w : Showing A S) (count : ℕ) (before : Progress S) (mid : Reading) (counted : number_at before.reading ≡ (Ok count, mid)) where
+  -- the showing, after the count
+  abbrev pub past_count : Progress S
+  past_count = at before.lost before.trail before.state mid
+
+  pub counted_known : Knows (counting more w) before → Knows (counted_as count more w) past_count
+  counted_known known = record {
+    from = known.from;
+    value = known.value;
+    stop = known.stop;
+    read = sym (ap (λ (a : Answer ℕ). a >>= λ n. more n known.from.last) counted) ∙ known.read;
+    follows = record { kept = known.follows.kept; still = known.follows.still };
+    counted = omega (arith, known.counted, number_ahead count before.reading mid counted);
   }
 
-  pub counted_stands : (lost : Bool) (trail : Trail) (s : S) → StandsThere (λ (q : PointValue) (r : Reading). number_at r >>= λ n. more n q) step lost trail s r → StandsThere (more count) step lost trail s mid
-  counted_stands lost trail s (t, x, stop, known) = (t, x, stop, behind_count lost trail s t x stop known)
-
-  pub counted_shown : (lost lost' : Bool) (trail trail' : Trail) (s s' : S) (new : Reading) → ShowsIt (more count) points_in step axes lost lost' trail trail' s s' mid new
-      → ShowsIt (λ (q : PointValue) (r : Reading). number_at r >>= λ n. more n q) points_in step axes lost lost' trail trail' s s' r new
-  counted_shown lost lost' trail trail' s s' new shows t x stop known =
-      let a = shows t x stop (behind_count lost trail s t x stop known) in
+  pub counted_shown : (after : Progress S) → Shows (counted_as count more w) past_count after → Shows (counting more w) before after
+  unfolding counted_known
+  counted_shown after shows known =
+      let a = shows (counted_known known) in
       record {
         there = a.there;
-        after = a.after;
-        walked = walked_from step axes t a.after s s' mid.place new.place r.place (points_in x) (number_ahead count r mid counted) a.walked;
+        trail = a.trail;
+        walked = walked_from w.step w.axes known.from a.trail before.state after.state mid.place after.reading.place before.reading.place (w.points_in known.value) (number_ahead count before.reading mid counted) a.walked;
         follows = a.follows;
       }
 
 -- reading a count that is known doesn't fail
-pub count_reads : {A S : Type 0} (step : S → PointValue → S) (more : ℕ → PointValue → Reader A) (lost : Bool) (trail : Trail) (s : S) (r new : Reading) (m : Malformed)
-    → StandsThere (λ (q : PointValue) (r : Reading). number_at r >>= λ n. more n q) step lost trail s r → number_at r ≡ (Err m, new) → ⊥
-count_reads step more lost trail s r new m (t, x, stop, known) fault = ok_not_err x m stop new (sym known.read ∙ ap (λ (a : Answer ℕ). a >>= λ n. more n t.last) fault)
+pub count_reads : {A S : Type 0} (more : ℕ → PointValue → Reader A) (w : Showing A S) (now : Progress S) (new : Reading) (m : Malformed) → Knows (counting more w) now → number_at now.reading ≡ (Err m, new) → ⊥
+count_reads more w now new m known fault = ok_not_err known.value m known.stop new (sym known.read ∙ ap (λ (a : Answer ℕ). a >>= λ n. more n known.from.last) fault)
 
 -- ---- a value with f applied
-module _ {A B S : Type 0} (step : S → PointValue → S) (axes : ℕ) (f : A → B) (each : PointValue → Reader A) (points_in : A → List PointValue) (points_of : B → List PointValue) (same : (x : A) → points_in x ≡ points_of (f x)) (r : Reading) where
-  undressed : (t : Trail) (y : B) (stop : Reading) → viewed f (each t.last r) ≡ (Ok y, stop) → (x : A) × (each t.last r ≡ (Ok x, stop)) × (f x ≡ y)
-  undressed t y stop e = go (each t.last r) refl e
+-- values with f applied, in which these points are
+abbrev pub dressed : {A B S : Type 0} → (A → B) → (B → List PointValue) → Showing A S → Showing B S
+dressed f points_of w = record { each = λ q r. viewed f (w.each q r); points_in = points_of; step = w.step; axes = w.axes }
+
+module _ {A B S : Type 0} (f : A → B) (points_of : B → List PointValue) (w : Showing A S) (same : (x : A) → w.points_in x ≡ points_of (f x)) (before : Progress S) where
+  undressed : (t : Trail) (y : B) (stop : Reading) → viewed f (w.each t.last before.reading) ≡ (Ok y, stop) → (x : A) × (w.each t.last before.reading ≡ (Ok x, stop)) × (f x ≡ y)
+  undressed t y stop e = go (w.each t.last before.reading) refl e
     where
       value : B → Answer B → B
       value y (Ok x, q) = x
       value y (Err m, q) = y
 
-      go : (a : Answer A) → each t.last r ≡ a → viewed f a ≡ (Ok y, stop) → (x : A) × (each t.last r ≡ (Ok x, stop)) × (f x ≡ y)
+      go : (a : Answer A) → w.each t.last before.reading ≡ a → viewed f a ≡ (Ok y, stop) → (x : A) × (w.each t.last before.reading ≡ (Ok x, stop)) × (f x ≡ y)
       go (Err m, q) is e = absurd (ok_not_err y m stop q (sym e))
       go (Ok x, q) is e = (x, is ∙ ap (λ (z : Reading). (Ok x, z)) (ap (λ (a : Answer B). a.1) e), ap (value y) e)
 
-  pub dressed_stands : (lost : Bool) (trail : Trail) (s : S) → StandsThere (λ (q : PointValue) (r : Reading). viewed f (each q r)) step lost trail s r → StandsThere each step lost trail s r
-  dressed_stands lost trail s (t, y, stop, known) =
-      let (x, read, is) = undressed t y stop known.read in
-      (t, x, stop, record { read = read; follows = known.follows; counted = known.counted })
+  pub dressed_known : Knows (dressed f points_of w) before → Knows w before
+  dressed_known known =
+      let (x, read, is) = undressed known.from known.value known.stop known.read in
+      record { from = known.from; value = x; stop = known.stop; read = read; follows = known.follows; counted = known.counted }
 
-  pub dressed_shown : (lost lost' : Bool) (trail trail' : Trail) (s s' : S) (new : Reading) → ShowsIt each points_in step axes lost lost' trail trail' s s' r new
-      → ShowsIt (λ (q : PointValue) (r : Reading). viewed f (each q r)) points_of step axes lost lost' trail trail' s s' r new
-  dressed_shown lost lost' trail trail' s s' new shows t y stop known =
-      let (x, read, is) = undressed t y stop known.read in
-      let a = shows t x stop (record { read = read; follows = known.follows; counted = known.counted }) in
+  pub dressed_shown : (after : Progress S) → Shows w before after → Shows (dressed f points_of w) before after
+  unfolding dressed_known
+  dressed_shown after shows known =
+      let (x, read, is) = undressed known.from known.value known.stop known.read in
+      let a = shows (dressed_known known) in
       record {
         there = a.there;
-        after = a.after;
-        walked = subst (IsWalked step axes t a.after s s' r.place new.place) (same x ∙ ap points_of is) a.walked;
+        trail = a.trail;
+        walked = subst (IsWalked w.step w.axes known.from a.trail before.state after.state before.reading.place after.reading.place) (same x ∙ ap points_of is) a.walked;
         follows = a.follows;
       }
 
@@ -123,15 +148,21 @@ axes_some None (Some q) = omega arith
 axes_some (Some p) None = omega arith
 axes_some (Some p) (Some q) = omega arith
 
+-- a point that is known is read from the trail, if it isn't lost
+pub point_read : {S : Type 0} (step : S → Vertex → S) (head : Head) (axes : ℕ) (now : Progress S) → now.lost ≡ false → (k : Knows (one_point step head axes) now)
+    → point_at axes now.trail.last now.reading ≡ (Ok k.value, k.stop)
+point_read step head axes now kept k = subst (λ (u : Trail). point_at axes u.last now.reading ≡ (Ok k.value, k.stop)) (sym (k.follows.kept kept)) k.read
+
 -- a point is a list of one point
 one_known : (axes : ℕ) (s p : PointValue) (r stop : Reading) → point_at axes s r ≡ (Ok p, stop) → many_at 1 add (point_at axes) s r ≡ (Ok (p ∷ []), stop)
 one_known axes s p r stop e = ap (λ (a : Answer PointValue). a >>= λ x q. viewed (λ xs. x ∷ xs) (many_at 0 add (point_at axes) (add s x) q)) e
 
-pub point_passed : {S : Type 0} (step : S → PointValue → S) (axes : ℕ) (trail : Trail) (s : S) (from new : Reading) (t : Trail) (x : PointValue) (stop : Reading) → 1 ≤ axes → point_at axes t.last from ≡ (Ok x, stop) → IsStill step s → new ≡ stop
-    → AreShown (λ (p : PointValue). p ∷ []) step axes true trail s s from new t x stop
-point_passed step axes trail s from new t x stop some e still there =
-    let a = all_there step axes 1 t trail s from new stop (x ∷ []) some (one_known axes t.last x from stop e) still there in
-    record { there = a.there; after = a.after; walked = a.walked; follows = a.follows }
+pub point_passed : {S : Type 0} (step : S → Vertex → S) (head : Head) (axes : ℕ) (now : Progress S) (lost : Bool) (new : Reading) → 1 ≤ axes → lost ≡ true → IsStill (shown step (of_head head)) now.state
+    → (k : Knows (one_point step head axes) now) → new ≡ k.stop → IsShown (one_point step head axes) now (at lost now.trail now.state new) k
+point_passed step head axes now lost new some gone still k there =
+    let all : Knows (run_of (shown step (of_head head)) axes 1) now = record { from = k.from; value = k.value ∷ []; stop = k.stop; read = one_known axes k.from.last k.value now.reading k.stop k.read; follows = k.follows; counted = k.counted } in
+    let a = all_there (shown step (of_head head)) axes 1 now lost new some gone still all there in
+    record { there = a.there; trail = a.trail; walked = a.walked; follows = a.follows }
 
 -- ---- the parts of a kind
 pub is_points : (kind : Kind) (axes : ℕ) → (kind ≡ Point) ⊎ (kind ≡ MultiPoint) → part_at kind axes ≡ (λ (s : PointValue) (r : Reading). viewed (λ (p : PointValue). (p ∷ []) ∷ []) (point_at axes s r))

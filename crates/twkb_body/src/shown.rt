@@ -3,14 +3,15 @@
 //!
 //! `lost` says that the trail isn't kept up any more, because points were passed. This only happens when no point can change the
 //! visitor's state.
-ghost use Rattle.std.specs.Prelude.{◌≡◌, ◌<◌, ◌≤◌, [], ◌∷◌, List, Ok};
+ghost use Rattle.std.specs.Prelude.{◌≡◌, ◌<◌, ◌≤◌, List, Ok};
 ghost use Rattle.twkb_num.specs.Cursor.{Reading};
 ghost use Rattle.twkb_head.specs.Shared.Reader.{many_at};
-ghost use Rattle.twkb_body.specs.Devices.Body.{add, ring_sums, part_points};
-ghost use Rattle.twkb_body.specs.Devices.BodyReader.{point_at, ring_at, polygon_at, part_at};
+ghost use Rattle.twkb_body.specs.Devices.Body.{add};
+ghost use Rattle.twkb_body.specs.Devices.BodyReader.{point_at};
 ghost use Rattle.twkb_body.specs.Devices.Inside.{of_head};
-ghost use Rattle.twkb_body.specs.Devices.Walk.{IsWalk, IsRun, IsStill, HasPrecisions, StandsThere, ShowsIt, shown};
-ghost use Rattle.twkb_body.specs.Geometry.{PointValue, points_of};
+ghost use Rattle.twkb_body.specs.Devices.Walk.{IsWalk, IsRun, IsStill, HasPrecisions, shown};
+ghost use Rattle.twkb_body.specs.Devices.Showing.{Knows, Shows, at, one_point, one_ring, one_polygon, one_part, parts};
+ghost use Rattle.twkb_body.specs.Geometry.{PointValue};
 ghost use Rattle.twkb_head.specs.Header.{axes_with};
 
 use crate::points::Points;
@@ -66,11 +67,9 @@ pub fn show_parts<V: Visit>(
 )
     requires precisions { HasPrecisions head.now }
     requires axes { axes ≡ axes_with head.now.z head.now.m }
-    requires known { StandsThere (many_at count ring_sums (part_at head.now.kind axes))
-        (shown V.step (of_head head.now)) lost.old trail.old (V.state visitor.old) cursor.old }
-    ensures { ShowsIt (many_at count ring_sums (part_at head.now.kind axes)) points_of
-        (shown V.step (of_head head.now)) axes
-        lost.old lost.new trail.old trail.new (V.state visitor.old) (V.state visitor.new) cursor.old cursor.new }
+    requires known { Knows (parts V.step head.now axes count) (at lost.old trail.old (V.state visitor.old) cursor.old) }
+    ensures { Shows (parts V.step head.now axes count) (at lost.old trail.old (V.state visitor.old) cursor.old)
+        (at lost.new trail.new (V.state visitor.new) cursor.new) }
 {
     for _ in 0..count {
         show_part(cursor, head, axes, lost, trail, visitor);
@@ -89,10 +88,9 @@ fn show_part<V: Visit>(
 )
     requires precisions { HasPrecisions head.now }
     requires axes { axes ≡ axes_with head.now.z head.now.m }
-    requires known { StandsThere (part_at head.now.kind axes) (shown V.step (of_head head.now))
-        lost.old trail.old (V.state visitor.old) cursor.old }
-    ensures { ShowsIt (part_at head.now.kind axes) part_points (shown V.step (of_head head.now)) axes
-        lost.old lost.new trail.old trail.new (V.state visitor.old) (V.state visitor.new) cursor.old cursor.new }
+    requires known { Knows (one_part V.step head.now axes) (at lost.old trail.old (V.state visitor.old) cursor.old) }
+    ensures { Shows (one_part V.step head.now axes) (at lost.old trail.old (V.state visitor.old) cursor.old)
+        (at lost.new trail.new (V.state visitor.new) cursor.new) }
 {
     match head.kind {
         Kind::Point | Kind::MultiPoint => show_point(cursor, head, axes, lost, trail, visitor),
@@ -119,10 +117,9 @@ fn show_polygon<V: Visit>(
 )
     requires precisions { HasPrecisions head.now }
     requires axes { axes ≡ axes_with head.now.z head.now.m }
-    requires known { StandsThere (polygon_at axes) (shown V.step (of_head head.now))
-        lost.old trail.old (V.state visitor.old) cursor.old }
-    ensures { ShowsIt (polygon_at axes) part_points (shown V.step (of_head head.now)) axes
-        lost.old lost.new trail.old trail.new (V.state visitor.old) (V.state visitor.new) cursor.old cursor.new }
+    requires known { Knows (one_polygon V.step head.now axes) (at lost.old trail.old (V.state visitor.old) cursor.old) }
+    ensures { Shows (one_polygon V.step head.now axes) (at lost.old trail.old (V.state visitor.old) cursor.old)
+        (at lost.new trail.new (V.state visitor.new) cursor.new) }
 {
     let Ok(count) = take_number(cursor) else {
         unreachable!()
@@ -144,10 +141,9 @@ fn show_ring<V: Visit>(
 )
     requires precisions { HasPrecisions head.now }
     requires axes { axes ≡ axes_with head.now.z head.now.m }
-    requires known { StandsThere (ring_at axes) (shown V.step (of_head head.now))
-        lost.old trail.old (V.state visitor.old) cursor.old }
-    ensures { ShowsIt (ring_at axes) (λ ring. ring) (shown V.step (of_head head.now)) axes
-        lost.old lost.new trail.old trail.new (V.state visitor.old) (V.state visitor.new) cursor.old cursor.new }
+    requires known { Knows (one_ring V.step head.now axes) (at lost.old trail.old (V.state visitor.old) cursor.old) }
+    ensures { Shows (one_ring V.step head.now axes) (at lost.old trail.old (V.state visitor.old) cursor.old)
+        (at lost.new trail.new (V.state visitor.new) cursor.new) }
 {
     let Ok(count) = take_number(cursor) else {
         unreachable!()
@@ -174,10 +170,9 @@ fn show_point<V: Visit>(
 )
     requires precisions { HasPrecisions head.now }
     requires axes { axes ≡ axes_with head.now.z head.now.m }
-    requires known { StandsThere (point_at axes) (shown V.step (of_head head.now))
-        lost.old trail.old (V.state visitor.old) cursor.old }
-    ensures { ShowsIt (point_at axes) (λ point. point ∷ []) (shown V.step (of_head head.now)) axes
-        lost.old lost.new trail.old trail.new (V.state visitor.old) (V.state visitor.new) cursor.old cursor.new }
+    requires known { Knows (one_point V.step head.now axes) (at lost.old trail.old (V.state visitor.old) cursor.old) }
+    ensures { Shows (one_point V.step head.now axes) (at lost.old trail.old (V.state visitor.old) cursor.old)
+        (at lost.new trail.new (V.state visitor.new) cursor.new) }
 {
     if *lost {
         return pass_point(cursor, axes);

@@ -1,11 +1,11 @@
 -- Devices of proofs: nothing public names them.
 -- How reading points changes the sums under one header, and the state that the points are added to.
-use Rattle.std.specs.Prelude.{◌≡◌, ℕ, ◌+◌, ◌≤◌, Bool, true, false, List, [], ◌∷◌, length, fold, ℤ, Option, Ok}
+use Rattle.std.specs.Prelude.{◌≡◌, ℕ, ◌+◌, ◌≤◌, List, [], ◌∷◌, length, fold, ℤ, Option, Ok}
 use Rattle.twkb_num.specs.Cursor.{Reading}
 use Rattle.twkb_head.specs.declared.boxes.Vertex.{Vertex}
 use Rattle.twkb_head.specs.declared.header.Head.{Head}
 use Rattle.twkb_head.specs.Header.{Header, axes_with}
-use Rattle.twkb_head.specs.Shared.Reader.{Reader, many_at}
+use Rattle.twkb_head.specs.Shared.Reader.{many_at}
 use Rattle.twkb_body.specs.declared.trail.Trail.{Trail}
 use Rattle.twkb_body.specs.Geometry.{PointValue, vertex_of}
 use Rattle.twkb_head.specs.Raw.{HavePrecisions}
@@ -62,36 +62,3 @@ pub record IsRun {S : Type 0} (step : S → PointValue → S) (axes : ℕ) (old 
 -- no point changes the state
 abbrev pub IsStill : {S : Type 0} → (S → PointValue → S) → S → Type 0
 IsStill step s = (point : PointValue) → step s point ≡ s
-
--- The trail is t, to which the points lead; or it is lost, and no point changes the state.
-pub record Follows {S : Type 0} (step : S → PointValue → S) (lost : Bool) (trail t : Trail) (s : S) : Type 0 where
-  pub kept : lost ≡ false → trail ≡ t
-  pub still : lost ≡ true → IsStill step s
-
--- The reader gives this value at the reading, from the trail t; it is known without reading.
-pub record IsKnown {A S : Type 0} (each : PointValue → Reader A) (step : S → PointValue → S) (lost : Bool)
-    (trail : Trail) (s : S) (r : Reading) (t : Trail) (x : A) (stop : Reading) : Type 0 where
-  pub read : each t.last r ≡ (Ok x, stop)
-  pub follows : Follows step lost trail t s
-  pub counted : t.points ≤ r.place
-
--- The points of a value that is known (`IsKnown`) were shown, and the place is after it.
-pub record AreShown {A S : Type 0} (points_in : A → List PointValue) (step : S → PointValue → S) (axes : ℕ)
-    (lost : Bool) (trail : Trail) (s s' : S) (r new : Reading) (t : Trail) (x : A) (stop : Reading) : Type 0 where
-  pub there : new ≡ stop
-  pub after : Trail
-  pub walked : IsWalked step axes t after s s' r.place new.place (points_in x)
-  pub follows : Follows step lost trail after s'
-
--- the reader gives a value that is known (`IsKnown`)
-abbrev pub StandsThere : {A S : Type 0} → (PointValue → Reader A) → (S → PointValue → S)
-    → Bool → Trail → S → Reading → Type 0
-StandsThere {A} each step lost trail s r =
-    (t : Trail) × (x : A) × (stop : Reading) × IsKnown each step lost trail s r t x stop
-
--- the points of each value that is known (`IsKnown`) were shown
-abbrev pub ShowsIt : {A S : Type 0} → (PointValue → Reader A) → (A → List PointValue) → (S → PointValue → S) → ℕ
-    → Bool → Bool → Trail → Trail → S → S → Reading → Reading → Type 0
-ShowsIt {A} each points_in step axes lost lost' trail trail' s s' r new =
-    (t : Trail) (x : A) (stop : Reading) → IsKnown each step lost trail s r t x stop
-    → AreShown points_in step axes lost' trail' s s' r new t x stop
