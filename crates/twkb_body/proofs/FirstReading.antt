@@ -25,7 +25,9 @@ use Rattle.twkb_body.specs.Devices.Sure.{framed, IsCounted, ReadParts, AreMalfor
 use Rattle.twkb_body.proofs.AuditFacts.{blob_stands, is_malformed}
 use Rattle.twkb_body.proofs.BlobLaws.{blob_once}
 use Rattle.twkb_body.proofs.ClaimPlaces.{claims_move_by}
-use Rattle.twkb_body.proofs.Refuting.{adds_parts, parts_refute, malformed_keeps, body_doubts, judged_certifies}
+use Rattle.twkb_body.proofs.RefutedBodies.{parts_refute}
+use Rattle.twkb_body.proofs.RawGeometries.{body_doubts, judged_certifies}
+use Rattle.twkb_body.proofs.CertifiedBodies.{adds_parts, malformed_keeps}
 use Rattle.twkb_body.proofs.ShapeSteps.{one_alone}
 use Rattle.twkb_body.proofs.SureSteps.{body_unboxed, frame_alone}
 

@@ -19,7 +19,7 @@ use Rattle.twkb_body.specs.Devices.Walk.{lasts_from}
 use Rattle.twkb_body.proofs.FlatRuns.{flat_begins}
 use Rattle.twkb_body.proofs.LaneRuns.{run_leaves, next_leaves}
 use Rattle.twkb_body.proofs.QuadRuns.{IsLaneRun, step_inside, step_outside, far_inside}
-use Rattle.twkb_body.proofs.Refuting.{viewed_back}
+use Rattle.twkb_body.proofs.RefutedBodies.{viewed_back}
 use Rattle.twkb_body.proofs.Walks.{one_point}
 
 -- a coordinate that is read is a signed number that is read

@@ -22,7 +22,9 @@ use Rattle.twkb_body.specs.Devices.PointReader.{Stage, HasRead}
 use Rattle.twkb_body.specs.Devices.Walk.{no_points}
 use Rattle.twkb_body.specs.Devices.Sure.{framed, IsCounted, AreHeld, HoldsOrLeaves, IsRefutedBody, CertifiesShape}
 use Rattle.twkb_body.proofs.PointAxes.{parts_have}
-use Rattle.twkb_body.proofs.Refuting.{counted_keeps, held_sure, points_refute, refused_for}
+use Rattle.twkb_body.proofs.CertifiedBodies.{counted_keeps, held_sure}
+use Rattle.twkb_body.proofs.RefutedBodies.{points_refute}
+use Rattle.twkb_body.proofs.Refuting.{refused_for}
 
 module _ (kind : Kind) (axes count : ℕ) (box : RawBox) (old new : Reading) where
   abbrev start : Stage Held

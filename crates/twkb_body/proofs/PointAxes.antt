@@ -10,7 +10,7 @@ use Rattle.twkb_body.specs.Devices.Body.{first_of, behind, add, sums, ring_sums,
 use Rattle.twkb_body.specs.Devices.BodyReader.{point_at, ring_at, polygon_at, part_at}
 use Rattle.twkb_body.specs.Devices.Walk.{HaveAxes}
 use Rattle.twkb_body.proofs.PartPlans.{flat_single}
-use Rattle.twkb_body.proofs.Refuting.{viewed_back}
+use Rattle.twkb_body.proofs.RefutedBodies.{viewed_back}
 use Rattle.twkb_body.proofs.Runs.{values_of}
 use Rattle.twkb_body.proofs.Walks.{HaveAxes-append, one_point, ring_points}
 

@@ -15,7 +15,7 @@ use Rattle.twkb_body.specs.Devices.Body.{add, sums}
 use Rattle.twkb_body.specs.Devices.BodyReader.{point_at}
 use Rattle.twkb_body.specs.Devices.PointReader.{Stage, on, IsReady, HasRead, Leads, EndsEarly}
 use Rattle.twkb_body.specs.Devices.Walk.{lasts_from, IsWalked}
-use Rattle.twkb_body.proofs.Refuting.{viewed_back}
+use Rattle.twkb_body.proofs.RefutedBodies.{viewed_back}
 use Rattle.twkb_body.proofs.Walks.{number_ahead, walked_from, IsWalkLoop, walk_begins, walk_goes_on, walk_fails, walk_ends, lasts_from-append}
 
 -- values whose number is read before them

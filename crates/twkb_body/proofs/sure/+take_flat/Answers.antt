@@ -20,7 +20,10 @@ use Rattle.twkb_body.specs.Devices.Sure.{HasReadTwo, IsJudged, IsRefuted, IsRefu
 use Rattle.twkb_body.proofs.Keeping.{keeps_list, read_keeps}
 use Rattle.twkb_body.proofs.MemberSteps.{member_bytes}
 use Rattle.twkb_body.proofs.SureSteps.{two_read, sure_begins, sure_goes_on, members_sure}
-use Rattle.twkb_body.proofs.Refuting.{some_of, none_of, wants_members, shape_certifies, no_header_refutes, rest_refutes, list_refutes, ids_refute, members_refute, doubts_outside, doubts_through, raw_allowed, behind_doubts, apart_certifies, body_doubts, judged_certifies, bit_unset, flat_apart, any_apart, flat_ends}
+use Rattle.twkb_body.proofs.RefutedBodies.{list_refutes, ids_refute, members_refute}
+use Rattle.twkb_body.proofs.Refuting.{no_header_refutes, rest_refutes, doubts_outside, doubts_through}
+use Rattle.twkb_body.proofs.RawGeometries.{raw_allowed, behind_doubts, apart_certifies, body_doubts, judged_certifies, flat_apart, any_apart, flat_ends}
+use Rattle.twkb_body.proofs.CertifiedBodies.{some_of, none_of, wants_members, shape_certifies, bit_unset}
 use Rattle.twkb_body.proofs.sure.+take_flat.Goals as goal
 
 pub take_flat-returns-in_default-take_rest : goal.take_flat-returns-in_default-take_rest

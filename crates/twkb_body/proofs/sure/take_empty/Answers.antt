@@ -4,7 +4,8 @@ use Rattle.twkb_head.specs.BegunHeader.{deepest}
 use Rattle.twkb_head.specs.Header.{has_bit}
 use Rattle.twkb_head.specs.Raw.{head_said}
 use Rattle.twkb_body.specs.Devices.Sure.{IsJudged}
-use Rattle.twkb_body.proofs.Refuting.{no_header_refutes, rest_refutes, flat_ends, apart_certifies}
+use Rattle.twkb_body.proofs.Refuting.{no_header_refutes, rest_refutes}
+use Rattle.twkb_body.proofs.RawGeometries.{flat_ends, apart_certifies}
 use Rattle.twkb_body.proofs.SureSteps.{two_read, empty_sure}
 use Rattle.twkb_body.proofs.sure.take_empty.Goals as goal
 

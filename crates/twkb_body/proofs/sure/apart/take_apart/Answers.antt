@@ -7,7 +7,7 @@ use Rattle.twkb_body.specs.declared.frame.Frame.{Frame}
 use Rattle.twkb_body.specs.Devices.Inside.{of_head}
 use Rattle.twkb_body.specs.Devices.Sure.{IsHeldBy, body_vertices}
 use Rattle.twkb_body.proofs.Apart.{same_apart, asked_for, frame_holds, frame_within, there_not, seen_is, apart_doubts, found_sure, found_refutes, outside_refutes}
-use Rattle.twkb_body.proofs.Refuting.{none_of}
+use Rattle.twkb_body.proofs.CertifiedBodies.{none_of}
 use Rattle.twkb_body.proofs.sure.apart.take_apart.Goals.{then-is_some-via-then-is_some, then-is_some-via-else-is_some+then-is_some-2, then-is_some-via-else-is_some+else-is_some-2+then-is_some-3}
 use Rattle.twkb_body.proofs.sure.apart.take_apart.Goals as goal
 

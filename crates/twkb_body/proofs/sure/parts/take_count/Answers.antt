@@ -4,7 +4,7 @@ use Rattle.std.proofs.lemmas.Result.{err_from_is_err_and}
 use Rattle.twkb_head.specs.Header.{is_multi}
 use Rattle.twkb_body.specs.Devices.BodyReader.{list_at, count_at}
 use Rattle.twkb_body.proofs.Keeping.{keeps_list, read_keeps}
-use Rattle.twkb_body.proofs.Refuting.{some_of, count_doubts}
+use Rattle.twkb_body.proofs.CertifiedBodies.{some_of, count_doubts}
 use Rattle.twkb_body.proofs.ShapeSteps.{one_alone}
 use Rattle.twkb_body.proofs.sure.parts.take_count.Goals as goal
 

@@ -3,7 +3,8 @@ use Rattle.std.proofs.Common.{ℕ, None, refl, subst, ◌∙◌, arith}
 use Rattle.std.proofs.lemmas.Result.{err_from_is_err_and}
 use Rattle.twkb_head.specs.declared.kinds.Kind.TheVariants.{LineString}
 use Rattle.twkb_body.specs.Devices.Sure.{IsJudged}
-use Rattle.twkb_body.proofs.Refuting.{rest_refutes, flat_ends}
+use Rattle.twkb_body.proofs.Refuting.{rest_refutes}
+use Rattle.twkb_body.proofs.RawGeometries.{flat_ends}
 use Rattle.twkb_body.proofs.FirstReading.{bare_certifies, bare_doubts}
 use Rattle.twkb_body.proofs.sure.plain.take_plain_line.Goals as goal
 

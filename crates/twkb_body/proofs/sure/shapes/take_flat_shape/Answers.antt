@@ -4,7 +4,7 @@ use Rattle.std.proofs.lemmas.Result.{err_from_is_err_and}
 use Rattle.twkb_head.specs.Header.{axes_with, axes_of}
 use Rattle.twkb_body.specs.Devices.Inside.{of_head}
 use Rattle.twkb_body.proofs.HeldBodies.{boxed_certifies}
-use Rattle.twkb_body.proofs.Refuting.{shape_count_doubts, unboxed_certifies}
+use Rattle.twkb_body.proofs.CertifiedBodies.{shape_count_doubts, unboxed_certifies}
 use Rattle.twkb_body.proofs.sure.shapes.take_flat_shape.Goals as goal
 
 pub returns-in_err-count : goal.returns-in_err-count

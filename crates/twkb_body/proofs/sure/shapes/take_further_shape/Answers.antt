@@ -1,7 +1,7 @@
 -- The points lie in the frame, or the body is refuted.
 use Rattle.std.proofs.lemmas.Result.{err_from_is_err_and}
 use Rattle.twkb_body.proofs.HeldBodies.{boxed_certifies}
-use Rattle.twkb_body.proofs.Refuting.{three_or_four, shape_count_doubts, unboxed_certifies}
+use Rattle.twkb_body.proofs.CertifiedBodies.{three_or_four, shape_count_doubts, unboxed_certifies}
 use Rattle.twkb_body.proofs.sure.shapes.take_further_shape.Goals as goal
 
 pub returns-in_err-count : goal.returns-in_err-count

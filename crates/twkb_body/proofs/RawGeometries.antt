@@ -1,0 +1,129 @@
+-- A geometry whose header was read in raw numbers: what its body says of it, and how its header is handed over.
+use Rattle.std.proofs.Common.{◌≡◌, ℕ, ◌-◌, ◌≤◌, Bool, false, ℤ, Option, Some, None, is_some, option_map, IfSome, Result, Ok, Err, refl, sym, ap, subst, ◌∙◌, arith}
+use Rattle.std.proofs.lemmas.Int.{ints}
+use mir.Val.{to_z, of_z}
+use Rattle.std.specs.Int.{w8}
+use Rattle.twkb_num.specs.Cursor.{Reading, rest, passed, IsMoved, IsSound}
+use Rattle.twkb_num.specs.Units.{IsPrecision}
+use Rattle.twkb_head.specs.declared.header.Head.{Head}
+use Rattle.twkb_head.specs.declared.raw.RawBox.{RawBox}
+use Rattle.twkb_head.specs.declared.raw.RawRange.{RawRange}
+use Rattle.twkb_head.specs.declared.raw.Fields.{Fields}
+use Rattle.twkb_head.specs.BegunHeader.{deepest, is_collection, IsAllowedAt}
+use Rattle.twkb_head.specs.Head.{IsHeadAt}
+use Rattle.twkb_head.specs.Raw.{raw_bounds, flat_box, fields_box, head_said, boxless}
+use Rattle.twkb_body.specs.declared.frame.Frame.{Frame}
+use Rattle.twkb_body.specs.Audited.{HasLongList}
+use Rattle.twkb_body.specs.declared.doubt.Doubt.{Doubt}
+use Rattle.twkb_body.specs.Devices.Stops.{WantsBehind}
+use Rattle.twkb_body.specs.Devices.BodyReader.{body_at, members_under}
+use Rattle.twkb_body.specs.Devices.Inside.{of_head}
+use Rattle.twkb_body.specs.Devices.Sure.{framed, IsFrameUnder, IsSureBody, IsSureBehind, IsSure, IsJudged, IsApart, HasDoubt, Certifies, IsRefutedBody, IsRefutedBehind, IsRefuted}
+use Rattle.twkb_body.proofs.Keeping.{keeps_body_under, read_keeps}
+use Rattle.twkb_body.proofs.MemberSteps.{long_list_in}
+use Rattle.twkb_body.proofs.HeadFacts.{head_size}
+use Rattle.twkb_body.proofs.SureSteps.{sure_behind, geometry_sure, own_box}
+use Rattle.twkb_body.proofs.Refuting.{behind_refutes, body_refutes, size_refutes, doubts_through, refused_for}
+
+module _ (raw : Fields) (depth : ℕ) (above : Option Frame) (r mid : Reading) (some : 1 ≤ depth) (deep : depth ≤ deepest) (sound : IsSound r) (at : IsHeadAt (head_said raw) depth r.place (passed r mid)) (moved : IsMoved r mid) where
+  pub raw_allowed : IsAllowedAt raw.kind depth
+  raw_allowed = subst (λ (h : Head). IsAllowedAt h.kind depth) (sym at.fields) at.allowed
+
+  -- a doubt about the part after the header is a doubt about the geometry
+  pub behind_doubts : (d : Doubt) (new : Reading) → HasDoubt (IsRefutedBehind (deepest - depth) (head_said raw) above mid) (WantsBehind depth (head_said raw) mid) mid d new
+      → HasDoubt (IsRefuted (deepest - depth) above r) (HasLongList depth (rest r)) r d new
+  behind_doubts d new s =
+      doubts_through (IsRefutedBehind (deepest - depth) (head_said raw) above mid) (IsRefuted (deepest - depth) above r) (WantsBehind depth (head_said raw) mid) (HasLongList depth (rest r)) mid r d new moved.bytes
+      (behind_refutes (head_said raw) depth above r mid some deep sound at moved)
+      (long_list_in (head_said raw) depth r mid some sound at moved (is_collection raw.kind) refl) s
+
+  -- if the part after the header is sure, the size decides about the geometry
+  pub behind_certifies : (new : Reading) (vertices : ℕ) (result : Result ℕ Doubt) → IsSureBehind (deepest - depth) (head_said raw) above mid new vertices → IsJudged (boxless raw) new.place vertices result
+      → Certifies depth above r result new
+  behind_certifies new vertices (Ok counted) sure (same, true_size) =
+      subst (IsSure (deepest - depth) above r new) (sym same) (geometry_sure (head_said raw) depth above r mid new vertices some deep sound at moved sure (sym true_size))
+  behind_certifies new vertices (Err d) sure (is, (f, false_size)) =
+      refused_for (IsRefuted (deepest - depth) above r) (HasLongList depth (rest r)) r d new is
+      (read_keeps (body_at raw.empty (is_collection raw.kind) (of_head (head_said raw)) (members_under (deepest - depth))) mid new sure.body (keeps_body_under (deepest - depth) raw.empty (is_collection raw.kind) (of_head (head_said raw))) sure.read ∙ moved.bytes)
+      (behind_refutes (head_said raw) depth above r mid some deep sound at moved (size_refutes (deepest - depth) (head_said raw) above mid new vertices f sure false_size))
+
+  -- the header without its box, as the code has it
+  module _ (plain : Head) (same : plain ≡ boxless raw) where
+    pub apart_certifies : (new : Reading) (vertices : ℕ) (result : Result ℕ Doubt) → IsSureBehind (deepest - depth) (head_said raw) above mid new vertices → IsJudged plain new.place vertices result
+        → Certifies depth above r result new
+    apart_certifies new vertices result sure judged = behind_certifies new vertices result sure (subst (λ (h : Head). IsJudged h new.place vertices result) same judged)
+
+    -- doubt and certainty of a body under a frame are doubt and certainty of the geometry
+    module _ (frame : Option Frame) (under : IsFrameUnder above plain (option_map (framed plain) raw.bounds) frame) (new : Reading) where
+      raw_under : IsFrameUnder above (boxless raw) (option_map (framed (boxless raw)) raw.bounds) frame
+      raw_under = subst (λ (h : Head). IsFrameUnder above h (option_map (framed h) raw.bounds) frame) same under
+
+      pub body_doubts : (d : Doubt) → HasDoubt (IsRefutedBody (deepest - depth) plain frame mid) (WantsBehind depth plain mid) mid d new
+          → HasDoubt (IsRefuted (deepest - depth) above r) (HasLongList depth (rest r)) r d new
+      body_doubts d s =
+          let wants : Type 0 = WantsBehind depth (head_said raw) mid in
+          behind_doubts d new (doubts_through (IsRefutedBody (deepest - depth) (boxless raw) frame mid) (IsRefutedBehind (deepest - depth) (head_said raw) above mid) wants wants mid mid d new refl
+          (body_refutes (deepest - depth) raw above frame mid raw_under) (λ w. w)
+          (subst (λ (h : Head). HasDoubt (IsRefutedBody (deepest - depth) h frame mid) (WantsBehind depth h mid) mid d new) same s))
+
+      pub judged_certifies : (vertices : ℕ) (result : Result ℕ Doubt) → IsSureBody (deepest - depth) plain frame mid new vertices → IsJudged plain new.place vertices result → Certifies depth above r result new
+      judged_certifies vertices result sure judged =
+          apart_certifies new vertices result
+          (sure_behind (deepest - depth) (head_said raw) (boxless raw) above frame mid new vertices refl (own_box raw above frame raw_under) raw_under.above_holds
+          (subst (λ (h : Head). IsSureBody (deepest - depth) h frame mid new vertices) same sure)) judged
+
+-- the size field is before the body
+pub flat_ends : (plain : Head) (raw : Fields) (depth : ℕ) (r mid : Reading) → plain ≡ boxless raw → IsHeadAt (head_said raw) depth r.place (passed r mid) → IsMoved r mid → (stop : ℕ) → mid.place ≤ stop
+    → IfSome plain.size (λ size. size.after ≤ stop)
+flat_ends plain raw depth r mid same at moved stop le = subst (λ (h : Head). IfSome h.size (λ size. size.after ≤ stop)) (sym same) (head_size r mid (head_said raw) depth at moved stop le)
+
+-- ---- a geometry that no frame can hold
+-- the precision of X and Y goes through eight bits unchanged
+plain_xy : (raw : Fields) (plain : Head) → IsPrecision raw.axes.xy → plain ≡ boxless raw → to_z w8 (of_z w8 plain.xy) ≡ plain.xy
+plain_xy raw plain precise same =
+    let p : IsPrecision plain.xy = subst (λ (h : Head). IsPrecision h.xy) (sym same) precise in
+    omega (arith, ints, p)
+
+-- the header of a geometry in X and Y, with or without a box
+apart_flat : (raw : Fields) (plain : Head) (xy : ℤ) → xy ≡ plain.xy → plain ≡ boxless raw → raw.axes.z ≡ None → raw.axes.m ≡ None → raw.empty ≡ false
+    → IsApart (head_said raw) plain.kind xy None None plain.ids (option_map (λ b. flat_box b.x b.y) raw.bounds)
+apart_flat raw plain xy xy_is same z m full = record {
+  same = λ j. record { kind = ap (λ (h : Head). h.kind) (sym same) j; xy = (ap (λ (h : Head). h.xy) (sym same) ∙ sym xy_is) j; z = z j; m = m j; size = None; box = None; ids = ap (λ (h : Head). h.ids) (sym same) j; empty = full j };
+  bounds = go raw.bounds;
+}
+  where
+    go : (o : Option RawBox) → option_map (λ field. field.bounds) (option_map (fields_box raw) o) ≡ option_map (raw_bounds xy None None) (option_map (λ b. flat_box b.x b.y) o)
+    go None = refl
+    go (Some b) = (λ j. Some (raw_bounds raw.axes.xy (z j) (m j) b)) ∙ ap (λ (h : Head). Some (raw_bounds h.xy None None b)) (sym same) ∙ ap (λ (p : ℤ). Some (raw_bounds p None None b)) (sym xy_is)
+
+-- a box in X and Y that is handed over by its two ranges
+apart_box : (o : Option RawBox) (x y : RawRange) → IfSome o (λ b. (x ≡ b.x) × (y ≡ b.y)) → IfSome (option_map (λ b. flat_box b.x b.y) o) (λ box. box ≡ flat_box x y)
+apart_box None x y ranges = tt
+apart_box (Some b) x y (x_is, y_is) = λ j. flat_box (sym x_is j) (sym y_is j)
+
+apart_there : (o : Option RawBox) → is_some (option_map (λ b. flat_box b.x b.y) o) ≡ is_some o
+apart_there None = refl
+apart_there (Some b) = refl
+
+-- the header of a geometry in X and Y, whose box is handed over by its two ranges
+pub flat_apart : (raw : Fields) (plain : Head) (has_box : Bool) (x y : RawRange) → IsPrecision raw.axes.xy → plain ≡ boxless raw → raw.axes.z ≡ None → raw.axes.m ≡ None → raw.empty ≡ false
+    → has_box ≡ is_some raw.bounds → IfSome raw.bounds (λ b. (x ≡ b.x) × (y ≡ b.y))
+    → (box : Option RawBox) × (is_some box ≡ has_box) × IfSome box (λ box. box ≡ flat_box x y) × IsApart (head_said raw) plain.kind (to_z w8 (of_z w8 plain.xy)) None None plain.ids box
+flat_apart raw plain has_box x y precise same z m full there ranges =
+    (option_map (λ b. flat_box b.x b.y) raw.bounds, apart_there raw.bounds ∙ sym there, apart_box raw.bounds x y ranges, apart_flat raw plain _ (plain_xy raw plain precise same) same z m full)
+
+-- the header of a geometry in any axes, with or without a box
+apart_any : (raw : Fields) (plain : Head) (xy : ℤ) → xy ≡ plain.xy → plain ≡ boxless raw → raw.empty ≡ false → IsApart (head_said raw) plain.kind xy plain.z plain.m plain.ids raw.bounds
+apart_any raw plain xy xy_is same full = record {
+  same = (λ j. record { kind = raw.kind; xy = raw.axes.xy; z = raw.axes.z; m = raw.axes.m; size = None; box = None; ids = raw.ids; empty = full j })
+      ∙ ap (λ (h : Head). record { kind = h.kind; xy = h.xy; z = h.z; m = h.m; size = None; box = None; ids = h.ids; empty = false }) (sym same)
+      ∙ ap (λ (p : ℤ). record { kind = plain.kind; xy = p; z = plain.z; m = plain.m; size = None; box = None; ids = plain.ids; empty = false }) (sym xy_is);
+  bounds = go raw.bounds;
+}
+  where
+    go : (o : Option RawBox) → option_map (λ field. field.bounds) (option_map (fields_box raw) o) ≡ option_map (raw_bounds xy plain.z plain.m) o
+    go None = refl
+    go (Some b) = ap (λ (h : Head). Some (raw_bounds h.xy h.z h.m b)) (sym same) ∙ ap (λ (p : ℤ). Some (raw_bounds p plain.z plain.m b)) (sym xy_is)
+
+pub any_apart : (raw : Fields) (plain : Head) → IsPrecision raw.axes.xy → plain ≡ boxless raw → raw.empty ≡ false → IsApart (head_said raw) plain.kind (to_z w8 (of_z w8 plain.xy)) plain.z plain.m plain.ids raw.bounds
+any_apart raw plain precise same full = apart_any raw plain _ (plain_xy raw plain precise same) same full
