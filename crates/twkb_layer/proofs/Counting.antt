@@ -17,7 +17,8 @@ use Rattle.twkb_body.proofs.Tightness.{tight_both, both_tight}
 use Rattle.twkb_layer.specs.Layer.{IsLayer, IsCertifiedLayer, IsCounted, vertex_count}
 use Rattle.twkb_layer.specs.Refusal.{Begins, IsRefusedFor}
 use Rattle.twkb_layer.specs.Devices.Refusal.{refusal_of}
-use Rattle.twkb_layer.specs.Devices.Tight.{IsTrueBy, IsTightlyCounted, IsLayerBy, IsCountedBy}
+use Rattle.twkb_body.specs.Shared.Tight.{IsTrueBy}
+use Rattle.twkb_layer.specs.Devices.Tight.{IsTightlyCounted, IsLayerBy, IsCountedBy}
 use Rattle.twkb_layer.proofs.Layers.{blob_some, layer_grows, layer_once, layer_short}
 use Rattle.twkb_layer.proofs.VertexCounts.{layer_few}
 

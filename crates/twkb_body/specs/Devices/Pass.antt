@@ -10,7 +10,7 @@ use Rattle.twkb_body.specs.Geometry.{Geometry, Members, vertices, member_vertice
 use Rattle.twkb_body.specs.Extent.{Reach, reach_of}
 use Rattle.twkb_body.specs.Claims.{Claim, IsFirstFalse, offset_of, claims, member_claims}
 use Rattle.twkb_body.specs.Audited.{IsRefusedAs}
-use Rattle.twkb_body.specs.Devices.Tight.{IsTrueBy}
+use Rattle.twkb_body.specs.Shared.Tight.{IsTrueBy}
 
 -- offset and kind of a false claim, if there is one
 abbrev pub Refused : Type 0

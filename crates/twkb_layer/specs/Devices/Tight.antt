@@ -1,9 +1,7 @@
 -- Devices of proofs: nothing public names them.
 -- What the code that certifies layers says, by a flag for tight checking.
 use Rattle.std.specs.Prelude.{◌≡◌, ℕ, Bool, true, false, List, length}
-use Rattle.twkb_body.specs.Claims.{Claim, IsTrueClaim}
 use Rattle.twkb_body.specs.Geometry.{Geometry}
-use Rattle.twkb_body.specs.Tight.{IsTightlyTrue}
 use Rattle.twkb_layer.specs.Layer.{IsCertifiedLayer, IsCounted, vertex_count}
 use Rattle.twkb_layer.specs.Refusal.{NamesKind}
 use Rattle.twkb_layer.specs.declared.refusal.Refusal.{Refusal}
@@ -17,11 +15,6 @@ pub record IsTightlyCounted (bytes : List ℕ) (blobs vertices : ℕ) : Type 0 w
   pub vertices_are : vertices ≡ vertex_count trees
 
 -- ---- by the flag
--- whether a plain check or a tight one takes a claim for true
-abbrev pub IsTrueBy : Bool → Claim → Type 0
-IsTrueBy false = IsTrueClaim
-IsTrueBy true = IsTightlyTrue
-
 abbrev pub IsLayerBy : Bool → List Geometry → List ℕ → Type 0
 IsLayerBy false trees bytes = IsCertifiedLayer trees bytes
 IsLayerBy true trees bytes = IsTightLayer trees bytes
