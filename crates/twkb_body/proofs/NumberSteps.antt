@@ -70,6 +70,10 @@ then_coordinates n x y x_more y_more others mores r middle next new first second
     ∙ ap (λ (a : Answer ℤ). viewed (λ cs. x_more ∷ cs) (a >>= λ d q. viewed (λ cs. d ∷ cs) (point_at n others q))) second
     ∙ ap (λ (a : Answer PointValue). viewed (λ cs. x_more ∷ cs) (viewed (λ cs. y_more ∷ cs) a)) rest
 
+-- a short number added to zero is one of 64 bits
+from_zero : (z : ℤ) → IsShort z → IsIn64 (pos 0 +ℤ z)
+from_zero z short = (omega (arith, ints, short.0), omega (arith, ints, short.1))
+
 -- ---- the numbers of a point, from the varints that were read
 pub four_read : (x y third fourth : ℤ) (old middle new : Reading) → SpellsTwoSigned (passed old middle) x y → IsShort x × IsShort y → IsMoved old middle
     → SpellsTwoSigned (passed middle new) third fourth → IsShort third × IsShort fourth → IsMoved middle new → AreDifferences true (record { x = x; y = y; third = third; fourth = fourth }) old new
@@ -85,9 +89,6 @@ four_read x y third fourth old middle new first first_short first_moved second s
       let b = pair_read (pos 0) (pos 0) third fourth middle new second second_moved (fits_in_64 _ (from_zero third second_short.0)) (fits_in_64 _ (from_zero fourth second_short.1)) in
       omega (arith, coordinate_ahead _ _ _ _ a.1, coordinate_ahead _ _ _ _ a.2, coordinate_ahead _ _ _ _ b.1, coordinate_ahead _ _ _ _ b.2);
 }
-  where
-    from_zero : (z : ℤ) → IsShort z → IsIn64 (pos 0 +ℤ z)
-    from_zero z short = (omega (arith, ints, short.0), omega (arith, ints, short.1))
 
 pub three_read : (x y third : ℤ) (old middle new : Reading) → SpellsTwoSigned (passed old middle) x y → IsShort x × IsShort y → IsMoved old middle → IsSigned third (passed middle new) → IsShort third → IsMoved middle new
     → AreDifferences false (record { x = x; y = y; third = third; fourth = pos 0 }) old new
@@ -102,9 +103,6 @@ three_read x y third old middle new first first_short first_moved second second_
       omega (arith, coordinate_ahead _ _ _ _ a.1, coordinate_ahead _ _ _ _ a.2, coordinate_ahead _ _ _ _ (single (pos 0) (from_zero third second_short)));
 }
   where
-    from_zero : (z : ℤ) → IsShort z → IsIn64 (pos 0 +ℤ z)
-    from_zero z short = (omega (arith, ints, short.0), omega (arith, ints, short.1))
-
     single : (before : ℤ) → IsIn64 (before +ℤ third) → coordinate_at before middle ≡ (Ok third, new)
     single before fit = coordinate_ok before middle new third (fits_true (before +ℤ third) (fits_in_64 _ fit)) (read_signed middle new third second second_moved)
 

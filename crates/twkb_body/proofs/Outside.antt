@@ -1,6 +1,6 @@
 -- A point that is outside a box of raw numbers is a vertex that the box doesn't hold.
-use Rattle.std.proofs.Common.{◌≡◌, ℕ, zero, suc, ◌^◌, ◌≤◌, nat_lt, Bool, true, false, ◌&&◌, List, [], ◌∷◌, map, fold, ℤ, pos, ◌+ℤ◌, ◌-ℤ◌, ◌*ℤ◌, ◌≤ℤ◌, unsigned_abs, int_le, Option, Some, None, option_map, All, refl, ap, ◌∙◌, arith}
-use Rattle.std.proofs.Math.IntN.{suc_ℤ-*ℤ, *ℤ_comm, *ℤ-zero}
+use Rattle.std.proofs.Common.{◌≡◌, ℕ, zero, suc, ◌^◌, ◌≤◌, nat_lt, Bool, true, false, ◌&&◌, List, [], ◌∷◌, map, fold, ℤ, pos, ◌+ℤ◌, ◌-ℤ◌, ◌*ℤ◌, ◌≤ℤ◌, unsigned_abs, int_le, Option, Some, None, option_map, All, refl, arith}
+use Rattle.std.proofs.Math.IntN.{*ℤ-zero}
 use Rattle.std.proofs.lemmas.Int.{ints}
 use Rattle.std.proofs.lemmas.List.Elements.{All-head, All-tail}
 use Rattle.twkb_num.specs.Units.{units_of}
@@ -15,17 +15,14 @@ use Rattle.twkb_body.specs.Geometry.{PointValue, coordinate, vertex_of}
 use Rattle.twkb_body.specs.Devices.BoxTest.{is_in_range, is_in_axis, is_in_box, Held, held_with}
 use Rattle.twkb_body.proofs.BoxRuns.{reaches_decides}
 use Rattle.twkb_body.proofs.Judging.{le_decides}
-use Rattle.twkb_body.proofs.Scales.{times_le}
+use Rattle.twkb_body.proofs.Scales.{times_suc, times_le}
 
 -- ---- units that compare come from coordinates that compare
-times_suc : (a : ℤ) (k : ℕ) → a *ℤ pos (suc k) ≡ a *ℤ pos k +ℤ a
-times_suc a k = *ℤ_comm a (pos (suc k)) ∙ suc_ℤ-*ℤ (pos k) a ∙ ap (λ (z : ℤ). z +ℤ a) (*ℤ_comm (pos k) a)
-
 one_more : (b : ℤ) (k : ℕ) → (b +ℤ pos 1) *ℤ pos k ≡ b *ℤ pos k +ℤ pos k
 one_more b zero = rw (*ℤ-zero b, *ℤ-zero (b +ℤ pos 1)) refl
 one_more b (suc k) = rw (times_suc (b +ℤ pos 1) k, times_suc b k) (let less = one_more b k in omega (arith, ints))
 
-not_both : (x : Bool) → x ≡ true → x ≡ false → ⊥
+pub not_both : (x : Bool) → x ≡ true → x ≡ false → ⊥
 not_both x p q = cc (p, q)
 
 -- of two whole numbers the first is at most the second, or one more than it at most the first

@@ -32,7 +32,7 @@ use Rattle.twkb_body.specs.Devices.Pass.{false_at, ids_refused, are_distinct}
 use Rattle.twkb_body.specs.Devices.Sure.{framed, AreMalformed, IsHeldBy, frame_bounds, body_vertices, IsRefutedBody, IsRefuted}
 use Rattle.twkb_body.specs.Devices.Walk.{no_points, HaveAxes, lasts_from}
 use Rattle.twkb_body.proofs.Coordinates.{vertices_same}
-use Rattle.twkb_body.proofs.Outside.{all_inside}
+use Rattle.twkb_body.proofs.Outside.{not_both, all_inside}
 use Rattle.twkb_body.proofs.ShapeSteps.{no_count, behind_count}
 use Rattle.twkb_body.proofs.Sums.{points_absolute}
 use Rattle.twkb_body.proofs.GeometrySteps.{shape_body}
@@ -217,10 +217,7 @@ module _ (head : Head) (levels : ℕ) (old : Reading) (frame : Frame) (full : he
       let yes : (fold (held_with h) start (lasts_from zeros (points_of m.0))).inside ≡ true = all_inside h start (lasts_from zeros (points_of m.0)) refl holds in
       let no : (fold (held_with h) start (lasts_from zeros (points_of m.0))).inside ≡ false =
       ap (λ (k : ℕ). (fold (held_then k) start (lasts_from zeros (points_of m.0))).inside) (sym axes_are) ∙ leave m.0 stop m.1 in
-      true_not_false _ yes no
-    where
-      true_not_false : (b : Bool) → b ≡ true → b ≡ false → ⊥
-      true_not_false b p q = cc (p, q)
+      not_both _ yes no
 
 -- parts that can't be read leave any box
 pub malformed_leave : (kind : Kind) (axes count : ℕ) (box : RawBox) (mid new : Reading) → AreMalformed kind axes count mid new → LeaveBox kind axes count box mid

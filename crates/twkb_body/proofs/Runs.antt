@@ -4,24 +4,17 @@ use Rattle.std.proofs.lemmas.List.{append-nil}
 use Rattle.std.proofs.lemmas.Grind.{flat_map-append}
 use Rattle.twkb_num.specs.Cursor.{Reading}
 use Rattle.twkb_head.specs.Shared.Reader.{Answer, Reader, ◌>>=◌, viewed, many_at}
+use Rattle.twkb_head.proofs.Combinators.{after_all}
 use Rattle.twkb_head.proofs.Loops.{IsLoop, loop_begins, loop_goes_on, loop_ends}
 use Rattle.twkb_head.proofs.Readings.{ok_not_err}
 use Rattle.twkb_body.specs.declared.trail.Trail.{Trail}
 use Rattle.twkb_body.specs.Geometry.{PointValue}
-use Rattle.twkb_body.specs.Devices.Body.{add, sums}
+use Rattle.twkb_body.specs.Devices.Body.{add}
 use Rattle.twkb_body.specs.Devices.BodyReader.{point_at}
 use Rattle.twkb_body.specs.Devices.Walk.{IsWalked, IsRun}
 use Rattle.twkb_body.proofs.PartPlans.{flat_single}
+use Rattle.twkb_body.proofs.Sums.{after_points}
 use Rattle.twkb_body.proofs.Walks.{IsRingLoop, one_point, walked_none, walked_then}
-
--- the state after many values
-abbrev pub afters : {A S : Type 0} → (S → A → S) → S → List A → S
-afters after s [] = s
-afters after s (x ∷ xs) = afters after (after s x) xs
-
-pub sums_are : (s : PointValue) (ps : List PointValue) → afters add s ps ≡ sums s ps
-sums_are s [] = refl
-sums_are s (p ∷ ps) = sums_are (add s p) ps
 
 -- the values of an answer, if any
 abbrev pub values_of : {A : Type 0} → Answer (List A) → List A
@@ -32,7 +25,7 @@ module _ {A S : Type 0} (after : S → A → S) (read : S → Reader A) (count :
   -- a loop goes on by k values
   abbrev Far : ℕ → Type 0
   Far k = (front : List A) (i : ℕ) (s : S) (r new : Reading) (xs : List A) → i + k ≤ count → many_at k after read s r ≡ (Ok xs, new) → IsLoop after read count total front i s r
-      → IsLoop after read count total (front ++ xs) (i + k) (afters after s xs) new
+      → IsLoop after read count total (front ++ xs) (i + k) (after_all after s xs) new
 
   far_none : Far 0
   far_none front i s r new xs le e l =
@@ -40,28 +33,28 @@ module _ {A S : Type 0} (after : S → A → S) (read : S → Reader A) (count :
       let same : r ≡ new = ap (λ (a : Answer (List A)). a.1) e in
       let start : IsLoop after read count total (front ++ []) (i + 0) s r =
       subst (λ (zs : List A). IsLoop after read count total zs (i + 0) s r) (sym (append-nil front)) (subst (λ (n : ℕ). IsLoop after read count total front n s r) (omega arith) l) in
-      subst (λ (q : Reading). IsLoop after read count total (front ++ xs) (i + 0) (afters after s xs) q) same
-      (subst (λ (zs : List A). IsLoop after read count total (front ++ zs) (i + 0) (afters after s zs) r) none start)
+      subst (λ (q : Reading). IsLoop after read count total (front ++ xs) (i + 0) (after_all after s xs) q) same
+      (subst (λ (zs : List A). IsLoop after read count total (front ++ zs) (i + 0) (after_all after s zs) r) none start)
 
   far_more : (k : ℕ) → Far k → Far (suc k)
   far_more k far front i s r new xs le e l = go (read s r) refl e
     where
       others : (x : A) (mid : Reading) → read s r ≡ (Ok x, mid) → (b : Answer (List A)) → many_at k after read (after s x) mid ≡ b → viewed (λ ys. x ∷ ys) b ≡ (Ok xs, new)
-          → IsLoop after read count total (front ++ xs) (i + suc k) (afters after s xs) new
+          → IsLoop after read count total (front ++ xs) (i + suc k) (after_all after s xs) new
       others x mid one (Err m, q) many e = absurd (ok_not_err xs m new q (sym e))
       others x mid one (Ok ys, q) many e =
           let whole : x ∷ ys ≡ xs = ap values_of e in
           let same : q ≡ new = ap (λ (a : Answer (List A)). a.1) e in
           let more = far (front ++ x ∷ []) (i + 1) (after s x) mid q ys (omega (arith, le)) many (loop_goes_on after read count total front i s r mid x (omega (arith, le)) one l) in
-          let joined : IsLoop after read count total (front ++ (x ∷ ys)) (i + 1 + k) (afters after s (x ∷ ys)) q =
-          subst (λ (zs : List A). IsLoop after read count total zs (i + 1 + k) (afters after (after s x) ys) q) (append_assoc front (x ∷ []) ys) more in
-          let counted : IsLoop after read count total (front ++ (x ∷ ys)) (i + suc k) (afters after s (x ∷ ys)) q =
-          subst (λ (n : ℕ). IsLoop after read count total (front ++ (x ∷ ys)) n (afters after s (x ∷ ys)) q) (omega arith) joined in
-          subst (λ (z : Reading). IsLoop after read count total (front ++ xs) (i + suc k) (afters after s xs) z) same
-          (subst (λ (zs : List A). IsLoop after read count total (front ++ zs) (i + suc k) (afters after s zs) q) whole counted)
+          let joined : IsLoop after read count total (front ++ (x ∷ ys)) (i + 1 + k) (after_all after s (x ∷ ys)) q =
+          subst (λ (zs : List A). IsLoop after read count total zs (i + 1 + k) (after_all after (after s x) ys) q) (append_assoc front (x ∷ []) ys) more in
+          let counted : IsLoop after read count total (front ++ (x ∷ ys)) (i + suc k) (after_all after s (x ∷ ys)) q =
+          subst (λ (n : ℕ). IsLoop after read count total (front ++ (x ∷ ys)) n (after_all after s (x ∷ ys)) q) (omega arith) joined in
+          subst (λ (z : Reading). IsLoop after read count total (front ++ xs) (i + suc k) (after_all after s xs) z) same
+          (subst (λ (zs : List A). IsLoop after read count total (front ++ zs) (i + suc k) (after_all after s zs) q) whole counted)
 
       go : (a : Answer A) → read s r ≡ a → (a >>= λ x q. viewed (λ ys. x ∷ ys) (many_at k after read (after s x) q)) ≡ (Ok xs, new)
-          → IsLoop after read count total (front ++ xs) (i + suc k) (afters after s xs) new
+          → IsLoop after read count total (front ++ xs) (i + suc k) (after_all after s xs) new
       go (Err m, q) one e = absurd (ok_not_err xs m new q (sym e))
       go (Ok x, mid) one e = others x mid one (many_at k after read (after s x) mid) refl e
 
@@ -80,7 +73,7 @@ module _ {S : Type 0} (step : S → PointValue → S) (axes : ℕ) where
   ring_goes_far count start state from i k now next t u r new le run l = record {
     front = l.front ++ run.numbers;
     read = subst (λ (s : PointValue). IsLoop add (point_at axes) count (many_at count add (point_at axes) start.last from) (l.front ++ run.numbers) (i + k) s new)
-        (sums_are now.last run.numbers ∙ sym run.walked.last)
+        (after_points now.last run.numbers ∙ sym run.walked.last)
         (goes_far add (point_at axes) count (many_at count add (point_at axes) start.last from) k l.front i now.last r new run.numbers le run.read l.read);
     number = length-append l.front run.numbers ∙ omega (arith, l.number, run.many);
     walked = subst (IsWalked step axes start next state u from.place new.place)
@@ -94,10 +87,10 @@ module _ {S : Type 0} (step : S → PointValue → S) (axes : ℕ) where
   run_goes_on start now next s t u from r new i p one walked run =
       let total = many_at (i + 1) add (point_at axes) start.last from in
       let begun : IsLoop add (point_at axes) (i + 1) total [] 0 start.last from = loop_begins add (point_at axes) (i + 1) total start.last from refl in
-      let there : IsLoop add (point_at axes) (i + 1) total ([] ++ run.numbers) (0 + i) (afters add start.last run.numbers) r =
+      let there : IsLoop add (point_at axes) (i + 1) total ([] ++ run.numbers) (0 + i) (after_all add start.last run.numbers) r =
       goes_far add (point_at axes) (i + 1) total i [] 0 start.last from r run.numbers (omega arith) run.read begun in
       let here : IsLoop add (point_at axes) (i + 1) total ([] ++ run.numbers) (0 + i) now.last r =
-      subst (λ (s : PointValue). IsLoop add (point_at axes) (i + 1) total ([] ++ run.numbers) (0 + i) s r) (sums_are start.last run.numbers ∙ sym run.walked.last) there in
+      subst (λ (s : PointValue). IsLoop add (point_at axes) (i + 1) total ([] ++ run.numbers) (0 + i) s r) (after_points start.last run.numbers ∙ sym run.walked.last) there in
       record {
         numbers = run.numbers ++ p ∷ [];
         many = length-append run.numbers (p ∷ []) ∙ ap (λ (k : ℕ). k + 1) run.many;
@@ -111,16 +104,16 @@ module _ {S : Type 0} (step : S → PointValue → S) (axes : ℕ) where
   run_append start now next s t u from r new i k run more =
       let total = many_at (i + k) add (point_at axes) start.last from in
       let begun : IsLoop add (point_at axes) (i + k) total [] 0 start.last from = loop_begins add (point_at axes) (i + k) total start.last from refl in
-      let there : IsLoop add (point_at axes) (i + k) total ([] ++ run.numbers) (0 + i) (afters add start.last run.numbers) r =
+      let there : IsLoop add (point_at axes) (i + k) total ([] ++ run.numbers) (0 + i) (after_all add start.last run.numbers) r =
       goes_far add (point_at axes) (i + k) total i [] 0 start.last from r run.numbers (omega arith) run.read begun in
       let here : IsLoop add (point_at axes) (i + k) total run.numbers (0 + i) now.last r =
-      subst (λ (s : PointValue). IsLoop add (point_at axes) (i + k) total run.numbers (0 + i) s r) (sums_are start.last run.numbers ∙ sym run.walked.last) there in
-      let far : IsLoop add (point_at axes) (i + k) total (run.numbers ++ more.numbers) (0 + i + k) (afters add now.last more.numbers) new =
+      subst (λ (s : PointValue). IsLoop add (point_at axes) (i + k) total run.numbers (0 + i) s r) (after_points start.last run.numbers ∙ sym run.walked.last) there in
+      let far : IsLoop add (point_at axes) (i + k) total (run.numbers ++ more.numbers) (0 + i + k) (after_all add now.last more.numbers) new =
       goes_far add (point_at axes) (i + k) total k run.numbers (0 + i) now.last r new more.numbers (omega arith) more.read here in
       record {
         numbers = run.numbers ++ more.numbers;
         many = length-append run.numbers more.numbers ∙ ap₂ (λ (m n : ℕ). m + n) run.many more.many;
-        read = loop_ends add (point_at axes) (i + k) total (run.numbers ++ more.numbers) (0 + i + k) (afters add now.last more.numbers) new (omega arith) far;
+        read = loop_ends add (point_at axes) (i + k) total (run.numbers ++ more.numbers) (0 + i + k) (after_all add now.last more.numbers) new (omega arith) far;
         walked = walked_then step axes start now next s t u from.place r.place new.place run.numbers more.numbers run.walked more.walked;
       }
 

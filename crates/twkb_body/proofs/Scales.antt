@@ -14,7 +14,7 @@ use Rattle.twkb_body.specs.Extent.{Reach, reach_of, span_of, both}
 use Rattle.twkb_body.specs.Devices.Ranges.{scaled, scaled_if, raw_of, widened, reach_in_units}
 use Rattle.twkb_body.proofs.Reaches.{reach_of-append, both-assoc, both-none}
 
-times_suc : (a : ℤ) (k : ℕ) → a *ℤ pos (suc k) ≡ a *ℤ pos k +ℤ a
+pub times_suc : (a : ℤ) (k : ℕ) → a *ℤ pos (suc k) ≡ a *ℤ pos k +ℤ a
 times_suc a k = *ℤ_comm a (pos (suc k)) ∙ suc_ℤ-*ℤ (pos k) a ∙ ap (λ (z : ℤ). z +ℤ a) (*ℤ_comm (pos k) a)
 
 pub times_le : (k : ℕ) (a b : ℤ) → a ≤ℤ b → (a *ℤ pos k) ≤ℤ (b *ℤ pos k)

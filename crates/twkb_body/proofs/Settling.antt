@@ -7,6 +7,7 @@ use Rattle.twkb_head.specs.Shared.Plan.{fits}
 use Rattle.twkb_head.specs.Shared.Reader.{Answer, Reader, ◌>>=◌, viewed, many_at, coordinate_at, signed_at, Fails}
 use Rattle.twkb_head.specs.declared.refusal.Malformed.{Malformed}
 use Rattle.twkb_head.specs.declared.refusal.Why.TheVariants.{Range}
+use Rattle.twkb_head.proofs.Combinators.{after_all}
 use Rattle.twkb_head.proofs.Loops.{IsLoop, loop_begins, loop_fails, loop_ends, behind_front}
 use Rattle.twkb_head.proofs.Readings.{ok_not_err, one_answer, no_failure}
 use Rattle.twkb_head.proofs.Steps.{read_signed, signed_moved, coordinate_ok, coordinate_no_signed, coordinate_refused}
@@ -18,7 +19,8 @@ use Rattle.twkb_body.specs.Devices.Walk.{HaveAxes, lasts_from, IsWalked, IsRun, 
 use Rattle.twkb_body.specs.Devices.Showing.{Progress, at, Showing, Knows, IsShown, Shows}
 use Rattle.twkb_body.proofs.BareRuns.{peel, moved_none}
 use Rattle.twkb_body.proofs.Coordinates.{coordinate_ahead}
-use Rattle.twkb_body.proofs.Runs.{afters, sums_are, values_of, goes_far}
+use Rattle.twkb_body.proofs.Runs.{values_of, goes_far}
+use Rattle.twkb_body.proofs.Sums.{after_points}
 use Rattle.twkb_body.proofs.Walks.{walked_then}
 
 -- ---- numbers, one after another
@@ -251,12 +253,12 @@ module _ {S : Type 0} (step : S → PointValue → S) (axes : ℕ) where
   stays s (p ∷ ps) still = ap (λ (u : S). fold step u ps) (still p) ∙ stays s ps still
 
   -- the trail after points
-  abbrev pub after_points : Trail → List PointValue → Trail
-  after_points t ps = record { last = sums t.last ps; points = t.points + length ps }
+  abbrev pub trail_after : Trail → List PointValue → Trail
+  trail_after t ps = record { last = sums t.last ps; points = t.points + length ps }
 
   -- if no point changes the state, points that are passed count as shown
   pub still_walked : (count : ℕ) (t : Trail) (s : S) (r stop : Reading) (ps : List PointValue) → 1 ≤ axes → many_at count add (point_at axes) t.last r ≡ (Ok ps, stop) → IsStill step s
-      → IsWalked step axes t (after_points t ps) s s r.place stop.place ps
+      → IsWalked step axes t (trail_after t ps) s s r.place stop.place ps
   still_walked count t s r stop ps some read still =
       let are = points_are axes count t.last r stop ps some read in
       record { last = refl; points = refl; added = sym (stays s (lasts_from t.last ps) still); have = are.have; ahead = are.ahead }
@@ -268,8 +270,8 @@ module _ {S : Type 0} (step : S → PointValue → S) (axes : ℕ) where
       let total = many_at count add (point_at axes) start.last from in
       let far = goes_far add (point_at axes) count total i [] 0 start.last from r run.numbers (omega (arith, le)) run.read (loop_begins add (point_at axes) count total start.last from refl) in
       let zero : 0 + i ≡ i = omega arith in
-      subst (λ (p : PointValue). IsLoop add (point_at axes) count total run.numbers i p r) (sums_are start.last run.numbers ∙ sym run.walked.last)
-      (subst (λ (n : ℕ). IsLoop add (point_at axes) count total run.numbers n (afters add start.last run.numbers) r) zero far)
+      subst (λ (p : PointValue). IsLoop add (point_at axes) count total run.numbers i p r) (after_points start.last run.numbers ∙ sym run.walked.last)
+      (subst (λ (n : ℕ). IsLoop add (point_at axes) count total run.numbers n (after_all add start.last run.numbers) r) zero far)
 
   -- if all points are read, reading the point after a run doesn't fail
   pub run_next : (count : ℕ) (start now : Trail) (s t : S) (from r new stop : Reading) (i : ℕ) (ps : List PointValue) (m : Malformed) → many_at count add (point_at axes) start.last from ≡ (Ok ps, stop) → i < count
@@ -286,7 +288,7 @@ module _ {S : Type 0} (step : S → PointValue → S) (axes : ℕ) where
       record {
         numbers = run.numbers ++ more.numbers;
         many = length-append run.numbers more.numbers ∙ (λ j. run.many j + more.many j);
-        read = loop_ends add (point_at axes) (i + k) total (run.numbers ++ more.numbers) (i + k) (afters add now.last more.numbers) new (omega arith)
+        read = loop_ends add (point_at axes) (i + k) total (run.numbers ++ more.numbers) (i + k) (after_all add now.last more.numbers) new (omega arith)
             (goes_far add (point_at axes) (i + k) total k run.numbers i now.last r new more.numbers (omega arith) more.read here);
         walked = walked_then step axes start now next s t u from.place r.place new.place run.numbers more.numbers run.walked more.walked;
       }
@@ -330,7 +332,7 @@ module _ {S : Type 0} (step : S → PointValue → S) (axes : ℕ) where
   run_passed count i before now new some kept le still passes run k =
       let (ys, left, whole) = run_rest count i before now kept le k run in
       let there = passes now.trail.last ys k.stop left in
-      let after = after_points now.trail ys in
+      let after = trail_after now.trail ys in
       let joined = walked_then step axes before.trail now.trail after before.state now.state now.state before.reading.place now.reading.place k.stop.place run.numbers ys run.walked (still_walked (count - i) now.trail now.state now.reading k.stop ys some left still) in
       record {
         there = there;
@@ -345,8 +347,8 @@ module _ {S : Type 0} (step : S → PointValue → S) (axes : ℕ) where
       → IsShown (run_of count) now (at lost now.trail now.state new) k
   all_there count now lost new some gone still k there = record {
     there = there;
-    trail = after_points k.from k.value;
-    walked = subst (λ (q : Reading). IsWalked step axes k.from (after_points k.from k.value) now.state now.state now.reading.place q.place k.value) (sym there)
+    trail = trail_after k.from k.value;
+    walked = subst (λ (q : Reading). IsWalked step axes k.from (trail_after k.from k.value) now.state now.state now.reading.place q.place k.value) (sym there)
         (still_walked count k.from now.state now.reading k.stop k.value some k.read still);
     follows = record { kept = λ keeps. absurd (cc (keeps, gone)); still = λ is. still };
   }

@@ -1,6 +1,6 @@
 -- The steps of the first reading: if the box holds all points and no claim inside is false, the geometry is sure.
 use Rattle.std.proofs.Common.{◌≡◌, ℕ, suc, ◌+◌, ◌-◌, ◌^◌, ◌<◌, ◌≤◌, ◌==◌, nat_lt, Bool, true, false, not, List, [], ◌∷◌, ◌++◌, map, fold, ℤ, pos, ◌+ℤ◌, ◌-ℤ◌, unsigned_abs, Option, Some, None, option_map, IfSome, All, Ok, refl, sym, ap, subst, ◌∙◌, arith}
-use Rattle.std.proofs.lemmas.Bool.{eqb-true}
+use Rattle.std.proofs.lemmas.Bool.{eqb-true, not-false}
 use Rattle.std.proofs.lemmas.Int.{ints}
 use Rattle.std.specs.Option.{option_eq}
 use Rattle.std.proofs.lemmas.List.Elements.{All-nil, All-cons, All-head, All-tail, All-append}
@@ -335,11 +335,7 @@ option_same : (a b : Option ℕ) → false ≡ not (option_eq (λ (m n : ℕ). m
 option_same None None e = refl
 option_same None (Some n) e = absurd (cc (e))
 option_same (Some m) None e = absurd (cc (e))
-option_same (Some m) (Some n) e = ap Some (eqb-true m n (not_false (m == n) e))
-  where
-    not_false : (b : Bool) → false ≡ not b → b ≡ true
-    not_false true e = refl
-    not_false false e = absurd (cc (e))
+option_same (Some m) (Some n) e = ap Some (eqb-true m n (not-false (m == n) (sym e)))
 
 -- a frame whose precisions don't differ from a header's is at the header's precisions
 pub framed_same : (frame : Frame) (head : Head) → frame.xy ≡ head.xy → false ≡ not (option_eq (λ (m n : ℕ). m == n) frame.z head.z) → false ≡ not (option_eq (λ (m n : ℕ). m == n) frame.m head.m) → frame ≡ framed head frame.bounds

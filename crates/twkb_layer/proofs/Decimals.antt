@@ -5,6 +5,7 @@ use Rattle.std.specs.Char.{digit_value}
 use Rattle.std.specs.Str.Parse.{digits_value, AllDigits}
 use Rattle.std.proofs.lemmas.Int.Digits.{digits_value-lt, digits_value_more}
 use Rattle.std.proofs.lemmas.List.{take-append-drop}
+use Rattle.std.proofs.lemmas.Grind.{pow_more}
 use Rattle.std.proofs.lemmas.Nat.{pow-add, div-mul-add, div-add-mod'}
 use Rattle.std.proofs.lemmas.Str.{digit_value_digit}
 use Rattle.std.proofs.lemmas.Str.Parse.{digit_at}
@@ -19,9 +20,6 @@ use Rattle.twkb_layer.proofs.Texts.{digits_value_after-append, after_from, digit
 
 pub ten_some : (k : ℕ) → 0 < 10 ^ k
 ten_some k = let le = one-le-pow k 10 (omega arith) in omega (arith, le)
-
-pub ten_more : (k : ℕ) → 10 ^ (k + 1) ≡ 10 ^ k * 10
-ten_more k = pow-add 10 k 1
 
 -- ---- digits as lists
 pub digits_drop : (k : ℕ) (ds : List ℕ) → AllDigits 10 ds → AllDigits 10 (drop k ds)
@@ -72,7 +70,7 @@ no_digit ds k h le =
 pub zero_digit : (n z k : ℕ) → k < z → n * 10 ^ z / 10 ^ k % 10 ≡ 0
 zero_digit n z k lt =
     let one : z ≡ (z - k - 1) + 1 + k = omega (arith, lt) in
-    let powers : 10 ^ z ≡ 10 ^ (z - k - 1) * 10 * 10 ^ k = ap (λ (e : ℕ). 10 ^ e) one ∙ (pow-add 10 ((z - k - 1) + 1) k ∙ ap (λ (p : ℕ). p * 10 ^ k) (ten_more (z - k - 1))) in
+    let powers : 10 ^ z ≡ 10 ^ (z - k - 1) * 10 * 10 ^ k = ap (λ (e : ℕ). 10 ^ e) one ∙ (pow-add 10 ((z - k - 1) + 1) k ∙ ap (λ (p : ℕ). p * 10 ^ k) (pow_more 10 (z - k - 1))) in
     let whole : n * 10 ^ z ≡ n * 10 ^ (z - k - 1) * 10 * 10 ^ k + 0 = omega (arith, regroup n (10 ^ z) (10 ^ (z - k - 1)) (10 ^ k) powers) in
     ap (λ (x : ℕ). x / 10 ^ k % 10) whole ∙ (ap (λ (q : ℕ). q % 10) (div-mul-add (n * 10 ^ (z - k - 1) * 10) (10 ^ k) 0 (ten_some k)) ∙ mul-mod_left (n * 10 ^ (z - k - 1)) 10)
   where
@@ -88,7 +86,7 @@ shifted n z k le =
 pub in_fraction : (w f e k : ℕ) → k < e → (w * 10 ^ e + f) / 10 ^ k % 10 ≡ f / 10 ^ k % 10
 in_fraction w f e k lt =
     let one : e ≡ (e - k - 1) + 1 + k = omega (arith, lt) in
-    let powers : 10 ^ e ≡ 10 ^ (e - k - 1) * 10 * 10 ^ k = ap (λ (i : ℕ). 10 ^ i) one ∙ (pow-add 10 ((e - k - 1) + 1) k ∙ ap (λ (p : ℕ). p * 10 ^ k) (ten_more (e - k - 1))) in
+    let powers : 10 ^ e ≡ 10 ^ (e - k - 1) * 10 * 10 ^ k = ap (λ (i : ℕ). 10 ^ i) one ∙ (pow-add 10 ((e - k - 1) + 1) k ∙ ap (λ (p : ℕ). p * 10 ^ k) (pow_more 10 (e - k - 1))) in
     let whole : w * 10 ^ e + f ≡ f + w * 10 ^ (e - k - 1) * 10 * 10 ^ k = omega (arith, regroup w (10 ^ e) (10 ^ (e - k - 1)) (10 ^ k) powers) in
     ap (λ (x : ℕ). x / 10 ^ k % 10) whole ∙ (ap (λ (q : ℕ). q % 10) (add-mul-div_right f (w * 10 ^ (e - k - 1) * 10) (ten_some k)) ∙ last (f / 10 ^ k) (w * 10 ^ (e - k - 1)))
   where
@@ -121,7 +119,7 @@ digit_before whole fraction zeros behind digit h le ge is =
 -- ---- from digit to digit
 pub next_digit : (x k : ℕ) → x / 10 ^ k ≡ x / 10 ^ (k + 1) * 10 + x / 10 ^ k % 10
 next_digit x k =
-    let tens : x / 10 ^ k / 10 ≡ x / 10 ^ (k + 1) = div-div-eq-div-mul x (10 ^ k) 10 ∙ ap (λ (p : ℕ). x / p) (sym (ten_more k)) in
+    let tens : x / 10 ^ k / 10 ≡ x / 10 ^ (k + 1) = div-div-eq-div-mul x (10 ^ k) 10 ∙ ap (λ (p : ℕ). x / p) (sym (pow_more 10 k)) in
     sym (div-add-mod' (x / 10 ^ k) 10) ∙ ap (λ (q : ℕ). q * 10 + x / 10 ^ k % 10) tens
 
 -- before the first digit the quotient is 0
@@ -137,7 +135,7 @@ none_before whole fraction zeros top w f le =
 pub no_rest_yet : (x k : ℕ) → x % 10 ^ k ≡ 0 → x / 10 ^ k % 10 ≡ 0 → x % 10 ^ (k + 1) ≡ 0
 no_rest_yet x k none digit =
     let tens : x / 10 ^ k ≡ x / 10 ^ (k + 1) * 10 = next_digit x k ∙ omega (arith, digit) in
-    let whole : x ≡ x / 10 ^ (k + 1) * 10 ^ (k + 1) = sym (div-add-mod' x (10 ^ k)) ∙ omega (arith, none, regroup (x / 10 ^ k) (x / 10 ^ (k + 1)) (10 ^ k) (10 ^ (k + 1)) tens (ten_more k)) in
+    let whole : x ≡ x / 10 ^ (k + 1) * 10 ^ (k + 1) = sym (div-add-mod' x (10 ^ k)) ∙ omega (arith, none, regroup (x / 10 ^ k) (x / 10 ^ (k + 1)) (10 ^ k) (10 ^ (k + 1)) tens (pow_more 10 k)) in
     ap (λ (n : ℕ). n % 10 ^ (k + 1)) whole ∙ mul-mod_left (x / 10 ^ (k + 1)) (10 ^ (k + 1))
   where
     regroup : (a b p q : ℕ) → a ≡ b * 10 → q ≡ p * 10 → a * p ≡ b * q

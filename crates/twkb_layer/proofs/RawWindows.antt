@@ -1,6 +1,6 @@
 -- Raw integers against units: quotients rounded up and down, and boxes that miss a window.
 use Rattle.std.proofs.Common.{◌≡◌, ℕ, zero, suc, negsuc, ◌+◌, ◌*◌, ◌%◌, ◌^◌, ◌<◌, ◌≤◌, ◌-◌, ◌==◌, if◌then◌else◌, unsigned_abs, ◌⊎◌, inl, inr, true, false, ◌||◌, List, length, get_or, set, subst, ℤ, pos, ◌<ℤ◌, ◌≤ℤ◌, ◌+ℤ◌, ◌-ℤ◌, ◌*ℤ◌, neg_ℤ, int_lt, sym, ap, ◌∙◌, to_z, of_z, mul_assoc, arith}
-use Rattle.std.proofs.Math.IntN.{suc_ℤ-*ℤ, *ℤ_comm, *ℤ-zero, zero-*ℤ, pos-*ℤ-pos, negsuc-*ℤ-pos}
+use Rattle.std.proofs.Math.IntN.{*ℤ-zero, zero-*ℤ, pos-*ℤ-pos, negsuc-*ℤ-pos}
 use Rattle.std.proofs.lemmas.Nat.{pow-add}
 use Rattle.std.proofs.lemmas.Bool.{cases_eq}
 use Rattle.std.specs.Int.{w64, w128}
@@ -11,6 +11,7 @@ use Rattle.twkb_num.specs.Units.{units_of}
 use Rattle.twkb_head.specs.declared.boxes.Span.{Span}
 use Rattle.twkb_head.specs.declared.boxes.Bounds.{Bounds}
 use Rattle.twkb_head.specs.Head.{span_at}
+use Rattle.twkb_body.proofs.Scales.{times_suc, times_le}
 use Rattle.twkb_layer.specs.declared.raw_windows.RawEnds.{RawEnds}
 use Rattle.twkb_layer.specs.declared.raw_windows.RawWindow.{RawWindow}
 use Rattle.twkb_layer.specs.Devices.RawWindows.{IsRawEnds, IsRawWindow, IsExactEnds, IsExactWindow, raw_range_misses, raw_box_misses}
@@ -31,6 +32,10 @@ quotient_is a d q f g some h =
     ap (λ (z : ℤ). to_z w128 (of_z w128 z)) (h ∙ (λ i. int_div (to_z-of_z w128 a f i) (to_z-of_z w128 d g i)))
     ∙ to_z-of_z w128 (int_div a d) (quot_fits w128 a d f some)
 
+-- a number of 128 bits that has a place in 64, and was cast to them
+pub short_is : (a s : ℤ) → FitsSigned w128 a → FitsSigned w64 (to_z w128 (of_z w128 a)) → s ≡ to_z w128 (of_z w128 a) → to_z w64 (of_z w64 s) ≡ a
+short_is a s f fits e = to_z-of_z w64 s (subst (FitsSigned w64) (sym e) fits) ∙ (e ∙ to_z-of_z w128 a f)
+
 -- the remainder that a division answers is the exact remainder
 pub rest_is : (a d r : ℤ) → FitsSigned w128 a → FitsSigned w128 d → FitsSigned w128 r
     → r ≡ int_rem (to_z w128 (of_z w128 a)) (to_z w128 (of_z w128 d)) → int_rem a d ≡ to_z w128 (of_z w128 r)
@@ -43,13 +48,6 @@ same_answer a b c d less not =
     by_lt_z {P = int_lt a b ≡ int_lt c d} a b
     (λ h. is_less a b h ∙ sym (is_less c d (less h)))
     (λ h. is_not_less a b h ∙ sym (is_not_less c d (not h)))
-
-times_suc : (a : ℤ) (k : ℕ) → a *ℤ pos (suc k) ≡ a *ℤ pos k +ℤ a
-times_suc a k = *ℤ_comm a (pos (suc k)) ∙ suc_ℤ-*ℤ (pos k) a ∙ ap (λ (z : ℤ). z +ℤ a) (*ℤ_comm (pos k) a)
-
-times_le : (k : ℕ) (a b : ℤ) → a ≤ℤ b → (a *ℤ pos k) ≤ℤ (b *ℤ pos k)
-times_le zero a b h = rw (*ℤ-zero a, *ℤ-zero b) (omega (arith, ints))
-times_le (suc k) a b h = rw (times_suc a k, times_suc b k) (let less = times_le k a b h in omega (arith, ints))
 
 times_lt : (k : ℕ) (a b : ℤ) → a <ℤ b → (a *ℤ pos k +ℤ pos k) ≤ℤ (b *ℤ pos k)
 times_lt zero a b h = rw (*ℤ-zero a, *ℤ-zero b) (omega (arith, ints))

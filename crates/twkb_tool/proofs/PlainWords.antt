@@ -1,7 +1,7 @@
 -- Words of which only the subcommand's name means something to clap: they parse, and are found as they are written.
 use Rattle.std.proofs.Common.{◌≡◌, ◌∙◌, List, [], ◌∷◌, ◌++◌, Bool, true, false, refl, codes, Option, Some, None, ap, sym, append_assoc, append-nil, arith, length, ◌≤◌}
 use Rattle.std.proofs.Math.Dec.{eqb-suc-zero}
-use Rattle.std.proofs.lemmas.Bool.{le-ltb}
+use Rattle.std.proofs.lemmas.Bool.{le-ltb, not-true}
 use Rattle.std.specs.Prelude.{◌==◌, ◌&&◌, not, option_map, fold, is_some, nat_lt}
 use Rattle.std.specs.List.{list_all}
 use Rattle.clap.specs.Faults.{check_fault, defaults_fault, entered_fault, fault_of, level_fault, settle_fault, turn_fault, walk_fault}
@@ -16,10 +16,6 @@ use Rattle.clap.proofs.OnLiterals.{clap_on_literals}
 use Rattle.clap.proofs.WalkLemmas.{walk_stopped}
 use Rattle.twkb_tool.specs.Words.{scan_app, tool_app, is_value}
 
-not_true : (b : Bool) → not b ≡ true → b ≡ false
-not_true false h = refl
-not_true true h = cc
-
 -- ---- one file
 
 -- the name of the subcommand, its file, its flag and its windows
@@ -29,42 +25,42 @@ found = option_map (λ p. (p.0, first_of (codes "FILE") p.1, first_of (codes "ti
 pub check_parses : (program file : Text) → is_value file ≡ true → fault_of tool_app (program ∷ codes "check" ∷ file ∷ []) ≡ []
 unfolding clap_on_literals tool_app
 check_parses program [] h = refl
-check_parses program (c ∷ cs) h = let other : (c == 45) ≡ false = not_true _ h in simp other
+check_parses program (c ∷ cs) h = let other : (c == 45) ≡ false = not-true _ h in simp other
 
 pub check_finds : (program file : Text) → is_value file ≡ true → found (subcommand_of tool_app (program ∷ codes "check" ∷ file ∷ [])) ≡ Some (codes "check", Some file, Some (codes "false"), None)
 unfolding clap_on_literals tool_app
 check_finds program [] h = refl
-check_finds program (c ∷ cs) h = let other : (c == 45) ≡ false = not_true _ h in simp other
+check_finds program (c ∷ cs) h = let other : (c == 45) ≡ false = not-true _ h in simp other
 
 pub tight_parses : (program file : Text) → is_value file ≡ true → fault_of tool_app (program ∷ codes "check" ∷ codes "--tight" ∷ file ∷ []) ≡ []
 unfolding clap_on_literals tool_app
 tight_parses program [] h = refl
-tight_parses program (c ∷ cs) h = let other : (c == 45) ≡ false = not_true _ h in simp other
+tight_parses program (c ∷ cs) h = let other : (c == 45) ≡ false = not-true _ h in simp other
 
 pub tight_finds : (program file : Text) → is_value file ≡ true → found (subcommand_of tool_app (program ∷ codes "check" ∷ codes "--tight" ∷ file ∷ [])) ≡ Some (codes "check", Some file, Some (codes "true"), None)
 unfolding clap_on_literals tool_app
 tight_finds program [] h = refl
-tight_finds program (c ∷ cs) h = let other : (c == 45) ≡ false = not_true _ h in simp other
+tight_finds program (c ∷ cs) h = let other : (c == 45) ≡ false = not-true _ h in simp other
 
 pub tight_behind_parses : (program file : Text) → is_value file ≡ true → fault_of tool_app (program ∷ codes "check" ∷ file ∷ codes "--tight" ∷ []) ≡ []
 unfolding clap_on_literals tool_app
 tight_behind_parses program [] h = refl
-tight_behind_parses program (c ∷ cs) h = let other : (c == 45) ≡ false = not_true _ h in simp other
+tight_behind_parses program (c ∷ cs) h = let other : (c == 45) ≡ false = not-true _ h in simp other
 
 pub tight_behind_finds : (program file : Text) → is_value file ≡ true → found (subcommand_of tool_app (program ∷ codes "check" ∷ file ∷ codes "--tight" ∷ [])) ≡ Some (codes "check", Some file, Some (codes "true"), None)
 unfolding clap_on_literals tool_app
 tight_behind_finds program [] h = refl
-tight_behind_finds program (c ∷ cs) h = let other : (c == 45) ≡ false = not_true _ h in simp other
+tight_behind_finds program (c ∷ cs) h = let other : (c == 45) ≡ false = not-true _ h in simp other
 
 pub list_parses : (program file : Text) → is_value file ≡ true → fault_of tool_app (program ∷ codes "list" ∷ file ∷ []) ≡ []
 unfolding clap_on_literals tool_app
 list_parses program [] h = refl
-list_parses program (c ∷ cs) h = let other : (c == 45) ≡ false = not_true _ h in simp other
+list_parses program (c ∷ cs) h = let other : (c == 45) ≡ false = not-true _ h in simp other
 
 pub list_finds : (program file : Text) → is_value file ≡ true → found (subcommand_of tool_app (program ∷ codes "list" ∷ file ∷ [])) ≡ Some (codes "list", Some file, None, None)
 unfolding clap_on_literals tool_app
 list_finds program [] h = refl
-list_finds program (c ∷ cs) h = let other : (c == 45) ≡ false = not_true _ h in simp other
+list_finds program (c ∷ cs) h = let other : (c == 45) ≡ false = not-true _ h in simp other
 
 -- ---- a file, and windows after it
 
@@ -84,13 +80,13 @@ scanning rows windows = record {
 window_fault : (rows : List Row) (before : List Text) (window : Text) → is_value window ≡ true → turn_fault scan_shape [] (scanning rows before) window ≡ []
 unfolding clap_on_literals
 window_fault rows before [] h = refl
-window_fault rows before (c ∷ cs) h = let other : (c == 45) ≡ false = not_true _ h in simp other
+window_fault rows before (c ∷ cs) h = let other : (c == 45) ≡ false = not-true _ h in simp other
 
 window_walked : (rows : List Row) (before : List Text) (window : Text) → is_value window ≡ true
     → walked scan_shape.rules [] (scanning rows before) window ≡ scanning rows (before ++ window ∷ [])
 unfolding clap_on_literals
 window_walked rows before [] h = refl
-window_walked rows before (c ∷ cs) h = let other : (c == 45) ≡ false = not_true _ h in simp other
+window_walked rows before (c ∷ cs) h = let other : (c == 45) ≡ false = not-true _ h in simp other
 
 head_is : (a b : Bool) → (a && b) ≡ true → a ≡ true
 head_is true b h = refl
@@ -126,7 +122,7 @@ file_rows file = used_by_id (arg_by_index scan_shape.rules 1) (file ∷ []) []
 file_fault : (file : Text) → is_value file ≡ true → turn_fault scan_shape [] (walk_from nothing_held) file ≡ []
 unfolding clap_on_literals
 file_fault [] h = refl
-file_fault (c ∷ cs) h = let other : (c == 45) ≡ false = not_true _ h in simp other
+file_fault (c ∷ cs) h = let other : (c == 45) ≡ false = not-true _ h in simp other
 
 abbrev with_file : Text → Walk
 with_file file = record {
@@ -140,17 +136,17 @@ with_file file = record {
 file_walked : (file : Text) → is_value file ≡ true → walked scan_shape.rules [] (walk_from nothing_held) file ≡ with_file file
 unfolding clap_on_literals
 file_walked [] h = refl
-file_walked (c ∷ cs) h = let other : (c == 45) ≡ false = not_true _ h in simp other
+file_walked (c ∷ cs) h = let other : (c == 45) ≡ false = not-true _ h in simp other
 
 first_fault : (file window : Text) → is_value window ≡ true → turn_fault scan_shape [] (with_file file) window ≡ []
 unfolding clap_on_literals
 first_fault file [] h = refl
-first_fault file (c ∷ cs) h = let other : (c == 45) ≡ false = not_true _ h in simp other
+first_fault file (c ∷ cs) h = let other : (c == 45) ≡ false = not-true _ h in simp other
 
 first_walked : (file window : Text) → is_value window ≡ true → walked scan_shape.rules [] (with_file file) window ≡ scanning (file_rows file) (window ∷ [])
 unfolding clap_on_literals
 first_walked file [] h = refl
-first_walked file (c ∷ cs) h = let other : (c == 45) ≡ false = not_true _ h in simp other
+first_walked file (c ∷ cs) h = let other : (c == 45) ≡ false = not-true _ h in simp other
 
 -- the walk over a file and windows
 scan_walk : (file window : Text) (windows : List Text) → is_value file ≡ true → list_all is_value (window ∷ windows) ≡ true

@@ -1,13 +1,10 @@
 -- A division of 64 bits gives the answer of one of 128, if both numbers fit.
-use Rattle.std.proofs.Common.{◌≡◌, ℤ, pos, ◌<ℤ◌, FitsSigned, to_z, of_z, sym, subst, ◌∙◌, arith}
+use Rattle.std.proofs.Common.{◌≡◌, ℤ, pos, ◌<ℤ◌, FitsSigned, to_z, of_z, subst, ◌∙◌, arith}
 use Rattle.std.proofs.lemmas.Int.{ints, to_z-of_z, quot_fits, rem_below}
 use Rattle.std.specs.Int.{w64, w128}
 use Rattle.std.specs.Int.RustNames.{int_div, int_rem}
+use Rattle.twkb_layer.proofs.RawWindows.{short_is}
 use Rattle.twkb_layer.proofs.raw_windows.divided.Goals as goal
-
--- a number of 128 bits that has a place in 64, and was cast to them
-short_is : (a s : ℤ) → FitsSigned w128 a → FitsSigned w64 (to_z w128 (of_z w128 a)) → s ≡ to_z w128 (of_z w128 a) → to_z w64 (of_z w64 s) ≡ a
-short_is a s f fits e = to_z-of_z w64 s (subst (FitsSigned w64) (sym e) fits) ∙ (e ∙ to_z-of_z w128 a f)
 
 fits_short : (a : ℤ) → FitsSigned w128 a → FitsSigned w64 (to_z w128 (of_z w128 a)) → FitsSigned w64 a
 fits_short a f fits = subst (FitsSigned w64) (to_z-of_z w128 a f) fits

@@ -1,6 +1,7 @@
 -- Each turn makes the window of one more precision.
-use Rattle.std.proofs.Common.{◌≡◌, ◌-◌, ◌&&◌, not, Bool, true, false, ℤ, pos, ◌-ℤ◌, int_eq, refl, subst, sym, arith, ◌∙◌}
+use Rattle.std.proofs.Common.{◌≡◌, ◌-◌, ◌&&◌, not, false, ℤ, pos, ◌-ℤ◌, int_eq, subst, sym, arith, ◌∙◌}
 use Rattle.std.proofs.lemmas.Int.{ints}
+use Rattle.std.proofs.lemmas.Bool.{not-false}
 use Rattle.std.proofs.lemmas.Bool.Decides.{Decides-and, Decides-int_eq}
 use Rattle.std.proofs.Math.ListN.{length-set}
 use Rattle.twkb_head.specs.declared.boxes.Bounds.{Bounds}
@@ -10,16 +11,12 @@ use Rattle.twkb_layer.specs.declared.raw_windows.RawWindow.{RawWindow}
 use Rattle.twkb_layer.proofs.RawWindows.{raw_before, exact_raw}
 use Rattle.twkb_layer.proofs.raw_windows.fill_by_tenths.Goals as goal
 
-no_other : (a : Bool) → false ≡ not a → a ≡ true
-no_other true e = refl
-no_other false e = absurd (cc (e))
-
 -- windows are equal if a comparison of all ends says so
 equal_windows : (a b : RawWindow) → false ≡ not ((int_eq a.x.least b.x.least && int_eq a.x.greatest b.x.greatest) && (int_eq a.y.least b.y.least && int_eq a.y.greatest b.y.greatest)) → b ≡ a
 equal_windows a b e =
     let x = Decides-and _ _ (Decides-int_eq a.x.least b.x.least) (Decides-int_eq a.x.greatest b.x.greatest) in
     let y = Decides-and _ _ (Decides-int_eq a.y.least b.y.least) (Decides-int_eq a.y.greatest b.y.greatest) in
-    let equal = (Decides-and _ _ x y).0 (no_other _ e) in
+    let equal = (Decides-and _ _ x y).0 (not-false _ (sym e)) in
     sym (λ j. record { x = record { least = equal.0.0 j; greatest = equal.0.1 j }; y = record { least = equal.1.0 j; greatest = equal.1.1 j } })
 
 pub loop-code-init : goal.loop-code-init
