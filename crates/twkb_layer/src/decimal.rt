@@ -1,5 +1,5 @@
 //! Decimals of any length, as bounds of windows.
-ghost use Rattle.std.specs.Prelude.{◌≡◌, ◌+◌, ◌*◌, ◌/◌, ◌%◌, ◌^◌, ◌==◌, ◌&&◌, min, cond, not, pos, neg_ℤ, ◌+ℤ◌, ◌-ℤ◌, ◌*ℤ◌, ◌≤ℤ◌, if◌then◌else◌, Ok, Err, IfOk, Some, IfSome, true, false};
+ghost use Rattle.std.specs.Prelude.{◌≡◌, ◌+◌, ◌*◌, ◌/◌, ◌%◌, ◌^◌, ◌&&◌, min, cond, not, pos, neg_ℤ, ◌+ℤ◌, ◌-ℤ◌, ◌*ℤ◌, ◌≤ℤ◌, if◌then◌else◌, Ok, Err, IfOk, Some, IfSome, true, false};
 ghost use Rattle.std.specs.Str.Parse.{digits_value, AllDigits};
 ghost use Rattle.twkb_layer.specs.Devices.Decimals.{is_between_units, leaning, whole_units};
 ghost use Rattle.twkb_layer.specs.Decimals.{Decimal, IsDecimalText, is_less, rational_of, rounded_up, rounded_down, signed, farthest, span_of_decimals};
@@ -67,8 +67,8 @@ pub struct Decimal<'t> {
 }
 
 impl<'t> Model for Decimal<'t> {
-    ghost use Rattle.std.specs.Prelude.{◌+◌, ◌^◌, ◌<◌, ◌++◌, length};
-    ghost use Rattle.std.specs.Str.Parse.{digits_value, AllDigits};
+    ghost use Rattle.std.specs.Prelude.{◌+◌, ◌++◌, length};
+    ghost use Rattle.std.specs.Str.Parse.{digits_value};
     ghost use Rattle.twkb_layer.specs.Decimals.{Decimal};
     ghost use Rattle.twkb_layer.specs.Devices.Decimals.{AreDigits};
 

@@ -1,5 +1,5 @@
 //! [`Slot`], 40 bytes in which a directory keeps the offset and the box of a blob.
-ghost use Rattle.std.specs.Prelude.{◌≡◌, ◌+◌, ◌*◌, ◌/◌, ◌%◌, ◌^◌, ◌<◌, ◌≤◌, pos, ◌==◌, nat_le, ◌||◌, ◌&&◌, ◌++◌, ◌∷◌, [], true, false, Some, None, IfSome, is_some, option_map, option_and_then, vec_len, vec_capacity};
+ghost use Rattle.std.specs.Prelude.{◌≡◌, ◌+◌, ◌*◌, ◌/◌, ◌%◌, ◌^◌, ◌<◌, ◌≤◌, pos, ◌==◌, ◌||◌, ◌&&◌, true, false, Some, None, IfSome, is_some, option_map};
 ghost use Rattle.twkb_num.specs.Units.{IsPrecision};
 ghost use Rattle.twkb_head.specs.Head.{span_at};
 ghost use Rattle.twkb_head.specs.Raw.{ends_of};

@@ -1,5 +1,5 @@
 //! [`run`], a whole run from the bytes that come in to the text that goes out.
-ghost use Rattle.std.specs.Prelude.{◌≡◌, ℕ, ◌+◌, ◌<◌, ◌≤◌, List, [], ◌++◌, length, take, false, IfOk, IfErr, OnOk, IsTrue, vec_len};
+ghost use Rattle.std.specs.Prelude.{◌≡◌, ◌+◌, ◌<◌, ◌≤◌, [], take, false, IfOk, IfErr, OnOk, IsTrue, vec_len};
 ghost use Rattle.twkb_tool.specs.Ran.{GivesAll, StopsReading, PutsAll, Ran};
 ghost use Rattle.twkb_tool.specs.Devices.Ran.{AddsPiece, StopsPiece, StopsWriting};
 ghost use Rattle.twkb_tool.specs.Words.{HoldsWindows};
