@@ -41,7 +41,7 @@ use Rattle.twkb_body.specs.Devices.Walk.{no_points, HaveAxes, IsWalked, lasts_fr
 use Rattle.twkb_body.proofs.BoxRuns.{reaches_decides, both_true}
 use Rattle.twkb_body.proofs.Coordinates.{vertices_same}
 use Rattle.twkb_body.proofs.GeometrySteps.{body_gives, empty_body, shape_body, body_of_head, nothing_inside, geometry_found}
-use Rattle.twkb_body.proofs.MemberSteps.{members_of-push, IsMemberLoop, members_begin, members_go_on, members_end, collection_body, collection_gives, members_inside}
+use Rattle.twkb_body.proofs.MemberSteps.{members_of-push, IsMemberLoop, members_read, members_begin, members_go_on, members_end, collection_body, collection_gives, members_inside}
 use Rattle.twkb_body.proofs.Passes.{vertices_pushed}
 use Rattle.twkb_body.proofs.Judging.{box_decides}
 use Rattle.twkb_body.proofs.Reaches.{reach_of-append}
@@ -178,7 +178,7 @@ held_with_more (Some frame) vs ws a b = All-append (Holds (frame_bounds frame)) 
 module _ (levels count : ℕ) (from : Reading) (frame : Option Frame) where
   -- i members were read that have no false claim, and whose vertices the frame holds
   pub record IsSureLoop (i vertices : ℕ) (r : Reading) : Type 0 where
-    pub loop : IsMemberLoop false levels count from false i (faultless vertices) unseen r
+    pub loop : IsMemberLoop false levels count from false i (members_read (faultless vertices) unseen r)
     pub held : IsHeldBy frame (member_vertices (members_of loop.front))
 
   nothing_held : (frame : Option Frame) → IsHeldBy frame (member_vertices none)
@@ -191,7 +191,7 @@ module _ (levels count : ℕ) (from : Reading) (frame : Option Frame) where
 
   pub sure_goes_on : (i before vertices next : ℕ) (r new : Reading) → i < count → IsSure levels frame r new vertices → next ≡ before + vertices → IsSureLoop i before r → IsSureLoop (i + 1) next new
   sure_goes_on i before vertices next r new lt sure sum l = record {
-    loop = members_go_on false levels count from false i (faultless before) (faultless vertices) (faultless next) unseen unseen r new sure.whole lt sure.read
+    loop = members_go_on false levels count from false i (members_read (faultless before) unseen r) (members_read (faultless next) unseen new) (faultless vertices) sure.whole lt sure.read
         (sure.found, record { asked = refl; extent = λ e. absurd (cc (e)) }) sum refl l.loop;
     held = subst (IsHeldBy frame) (sym (ap member_vertices (members_of-push l.loop.front sure.whole) ∙ vertices_pushed (members_of l.loop.front) sure.whole))
         (held_with_more frame (member_vertices (members_of l.loop.front)) (vertices_of sure.whole) l.held sure.held);
@@ -202,11 +202,11 @@ pub members_sure : (head : Head) (depth inner : ℕ) (old middle new : Reading) 
     → IsSureBody (deepest - depth) head frame old new vertices
 unfolding member_vertices
 members_sure head depth inner old middle new frame list count vertices i under full many listed found end l =
-    let read = members_end false inner count middle false i (faultless vertices) unseen new end l.loop in
+    let read = members_end false inner count middle false i (members_read (faultless vertices) unseen new) end l.loop in
     record {
       body = members_body list (members_of l.loop.front);
       read = collection_body (deepest - depth) inner (of_head head) old under full many ∙ collection_gives inner head.ids old middle list listed count found.count l.loop.front new read;
-      inside = members_inside false (of_head head) None old middle new list (record { count = count; ids = None }) inner count i (record { found = faultless vertices; boxed = None; ids = None }) unseen unseen unseen false
+      inside = members_inside false inner count middle false i unseen new (of_head head) None old list (record { count = count; ids = None }) (record { found = faultless vertices; boxed = None; ids = None }) unseen unseen
           found refl refl refl (record { asked = refl; extent = λ e. absurd (cc (e)) }) l.loop;
       held = l.held;
     }

@@ -15,7 +15,7 @@ use Rattle.twkb_body.specs.Audited.{HasLongList}
 use Rattle.twkb_body.specs.Devices.Stops.{WantsIn, WantsInside, own_ids, member_ids, WantsBehind}
 use Rattle.twkb_body.proofs.HeadFacts.{head_size}
 use Rattle.twkb_body.proofs.GeometrySteps.{header_fails, body_gives, body_fails, body_of_head, empty_body, shape_body, nothing_inside, geometry_found}
-use Rattle.twkb_body.proofs.MemberSteps.{collection_below, collection_body, long_list_in, members_begin, members_go_on, members_fail, members_end, no_list, no_member, collection_gives, members_inside, member_bytes}
+use Rattle.twkb_body.proofs.MemberSteps.{collection_below, collection_body, long_list_in, members_read, members_begin, members_go_on, members_fail, members_end, no_list, no_member, collection_gives, members_inside, member_bytes}
 use Rattle.twkb_body.proofs.Stopping.{stops_outside, reads_through}
 use Rattle.twkb_body.proofs.geometry.+take_geometry.Goals as goal
 
@@ -120,7 +120,7 @@ take_members-returns-in_err-member g t c =
     rw (p.1, p.2) (stops_outside (geometry_at inner c.loop.cursor) (collection_at (geometry_at inner) c.args.head.now.ids c.args.cursor.now)
     (HasLongList (c.args.depth + 1) (rest c.loop.cursor)) (WantsInside c.args.depth inner c.args.head.now.ids c.args.cursor.now) c.loop.cursor c.args.cursor.now _ c.take_geometry.new.cursor
     (λ m f. no_member inner c.args.head.now.ids _ c.take_list.new.cursor list.0 list.1 c.in_ok-list.list.count list.2.count m _
-    (members_fail _ inner c.in_ok-list.list.count c.take_list.new.cursor c.for_members-below.result.asked c.loop.counter c.loop.found c.loop.below c.loop.cursor _ m c.loop-test.true f l))
+    (members_fail _ inner c.in_ok-list.list.count c.take_list.new.cursor c.for_members-below.result.asked c.loop.counter (members_read c.loop.found c.loop.below c.loop.cursor) _ m c.loop-test.true f l))
     (λ bytes wants. (
       bytes ∙ member_bytes inner c.args.head.now.ids _ c.take_list.new.cursor c.loop.cursor list.0 c.loop.counter l.front c.place_is_within.ensures list.1 l.so_far,
       member_ids list.0 c.take_list.new.cursor c.loop.cursor c.loop.counter l.front list.1 (omega (arith, c.loop-test.true, list.2.count)) l.so_far wants,
@@ -133,17 +133,17 @@ take_members-then-found-requires g t c = omega (arith, c.loop.invariant.few, c.i
 pub take_members-loop-preserved : goal.take_members-loop-preserved
 take_members-loop-preserved g t c =
     let m = c.in_ok-member.ensures in
-    members_go_on _ (deepest - (c.args.depth + 1)) c.in_ok-list.list.count c.take_list.new.cursor c.for_members-below.result.asked c.loop.counter c.loop.found c.in_ok-member.member c.then-found.result c.loop.below c.take_geometry.new.seen
-    c.loop.cursor c.take_geometry.new.cursor m.0 c.loop-test.true m.1 m.2 c.then-found.ensures.vertices c.then-found.ensures.refused c.loop.invariant
+    members_go_on _ (deepest - (c.args.depth + 1)) c.in_ok-list.list.count c.take_list.new.cursor c.for_members-below.result.asked c.loop.counter (members_read c.loop.found c.loop.below c.loop.cursor) (members_read c.then-found.result c.take_geometry.new.seen c.take_geometry.new.cursor)
+    c.in_ok-member.member m.0 c.loop-test.true m.1 m.2 c.then-found.ensures.vertices c.then-found.ensures.refused c.loop.invariant
 
 pub take_members-returns : goal.take_members-returns
 take_members-returns g t c =
     let inner = deepest - (c.args.depth + 1) in
     let list = c.in_ok-list.ensures in
     let l = c.loop.invariant in
-    let read = members_end _ inner c.in_ok-list.list.count c.take_list.new.cursor c.for_members-below.result.asked c.loop.counter c.loop.found c.loop.below c.loop.cursor (omega arith) l in (
+    let read = members_end _ inner c.in_ok-list.list.count c.take_list.new.cursor c.for_members-below.result.asked c.loop.counter (members_read c.loop.found c.loop.below c.loop.cursor) (omega arith) l in (
       members_body list.0 (members_of l.front),
       collection_gives inner c.args.head.now.ids _ c.take_list.new.cursor list.0 list.1 c.in_ok-list.list.count list.2.count l.front _ read,
-      members_inside _ (of_head c.args.head.now) c.args.head.now.bounds c.args.cursor.now c.take_list.new.cursor c.loop.cursor list.0 c.in_ok-list.list inner c.in_ok-list.list.count c.loop.counter
-          (record { found = c.loop.found; boxed = c.judge_box.result; ids = c.in_ok-list.list.ids }) _ _ c.loop.below c.for_members-below.result.asked list.2 refl (c.for_members-below.ensures.asked ∙ ap (λ (b : Bool). c.args.seen.now.asked || b) c.is_some.ensures) c.judge_box.ensures c.show.ensures l,
+      members_inside _ inner c.in_ok-list.list.count c.take_list.new.cursor c.for_members-below.result.asked c.loop.counter c.loop.below c.loop.cursor (of_head c.args.head.now) c.args.head.now.bounds c.args.cursor.now list.0 c.in_ok-list.list
+          (record { found = c.loop.found; boxed = c.judge_box.result; ids = c.in_ok-list.list.ids }) _ _ list.2 refl (c.for_members-below.ensures.asked ∙ ap (λ (b : Bool). c.args.seen.now.asked || b) c.is_some.ensures) c.judge_box.ensures c.show.ensures l,
     )
