@@ -2,6 +2,7 @@
 use Rattle.std.proofs.Common.{◌≡◌, ℕ, zero, suc, ◌^◌, ◌≤◌, nat_lt, Bool, true, false, ◌&&◌, List, [], ◌∷◌, map, fold, ℤ, pos, ◌+ℤ◌, ◌-ℤ◌, ◌*ℤ◌, ◌≤ℤ◌, unsigned_abs, int_le, Option, Some, None, option_map, All, refl, arith}
 use Rattle.std.proofs.Math.IntN.{*ℤ-zero}
 use Rattle.std.proofs.lemmas.Int.{ints}
+use Rattle.std.specs.Cmp.Derive.{both_true}
 use Rattle.std.proofs.lemmas.List.Elements.{All-head, All-tail}
 use Rattle.twkb_num.specs.Units.{units_of}
 use Rattle.twkb_head.specs.declared.raw.RawBox.{RawBox}
@@ -51,26 +52,21 @@ within_raw p range c (low, high) =
     pow_some zero = omega arith
     pow_some (suc k) = omega (arith, pow_some k)
 
-both_are : (a b : Bool) → a ≡ true → b ≡ true → (a && b) ≡ true
-both_are true true p q = refl
-both_are true false p q = absurd (cc (q))
-both_are false b p q = absurd (cc (p))
-
 z_raw : (z m : Option ℕ) (box : RawBox) (p : PointValue) → IsWithinBoth (option_map (λ q. span_at (pos q) (ends_of box.third)) z) (option_map (λ q. units_of (coordinate p 2) (pos q)) z)
     → IsWithinBoth (option_map (λ q. span_at (pos q) (range_of (ranges_in box) (m_axis z))) m) (option_map (λ q. units_of (coordinate p (m_axis z)) (pos q)) m)
     → is_in_axis (nat_lt 2 (axes_with z m)) box.third (coordinate p 2) && is_in_axis (nat_lt 3 (axes_with z m)) box.fourth (coordinate p 3) ≡ true
 z_raw None None box p z m = refl
-z_raw None (Some q) box p z m = both_are _ _ (within_raw (pos q) box.third (coordinate p 2) m) refl
-z_raw (Some r) None box p z m = both_are _ _ (within_raw (pos r) box.third (coordinate p 2) z) refl
-z_raw (Some r) (Some q) box p z m = both_are _ _ (within_raw (pos r) box.third (coordinate p 2) z) (within_raw (pos q) box.fourth (coordinate p 3) m)
+z_raw None (Some q) box p z m = both_true (within_raw (pos q) box.third (coordinate p 2) m) refl
+z_raw (Some r) None box p z m = both_true (within_raw (pos r) box.third (coordinate p 2) z) refl
+z_raw (Some r) (Some q) box p z m = both_true (within_raw (pos r) box.third (coordinate p 2) z) (within_raw (pos q) box.fourth (coordinate p 3) m)
 
 vertex_inside : (h : Header) (box : RawBox) (p : PointValue) → Holds (raw_bounds h.xy h.z h.m box) (vertex_of h p) → is_in_box (axes_of h) box p ≡ true
 vertex_inside h box p holds =
-    both_are _ _ (z_raw h.z h.m box p holds.z holds.m) (both_are _ _ (within_raw h.xy box.x (coordinate p 0) holds.x) (within_raw h.xy box.y (coordinate p 1) holds.y))
+    both_true (z_raw h.z h.m box p holds.z holds.m) (both_true (within_raw h.xy box.x (coordinate p 0) holds.x) (within_raw h.xy box.y (coordinate p 1) holds.y))
 
 -- a box that holds all vertices holds all points
 pub all_inside : (h : Header) (held : Held) (ps : List PointValue) → held.inside ≡ true → All (Holds (raw_bounds h.xy h.z h.m held.box)) (map (vertex_of h) ps) → (fold (held_with h) held ps).inside ≡ true
 all_inside h held [] inside all = inside
 all_inside h held (p ∷ ps) inside all =
     let one = vertex_inside h held.box p (All-head (Holds (raw_bounds h.xy h.z h.m held.box)) (vertex_of h p) (map (vertex_of h) ps) all) in
-    all_inside h (held_with h held p) ps (both_are _ _ inside one) (All-tail (Holds (raw_bounds h.xy h.z h.m held.box)) (vertex_of h p) (map (vertex_of h) ps) all)
+    all_inside h (held_with h held p) ps (both_true inside one) (All-tail (Holds (raw_bounds h.xy h.z h.m held.box)) (vertex_of h p) (map (vertex_of h) ps) all)
