@@ -26,18 +26,22 @@ use Rattle.twkb_body.proofs.RefutedBodies.{count_refutes, shape_ids_refute, part
 use Rattle.twkb_body.proofs.Refuting.{doubts_through, refused_for}
 
 -- ---- what the first reading hands over
+-- an option that is there has a value
 pub some_of : {A : Type 0} (o : Option A) → is_some o ≡ true → (x : A) × (o ≡ Some x)
 some_of None e = absurd (cc (e))
 some_of (Some x) e = (x, refl)
 
+-- an option that isn't there is none
 pub none_of : {A : Type 0} (o : Option A) → is_some o ≡ false → o ≡ None
 none_of None e = refl
 none_of (Some x) e = absurd (cc (e))
 
+-- if reading the list of a collection wants memory, reading its body does
 pub wants_members : (head : Head) (depth : ℕ) (old : Reading) → head.empty ≡ false → is_collection head.kind ≡ true → WantsInside depth (deepest - (depth + 1)) head.ids old
     → WantsBehind depth head old
 wants_members head depth old full many wants = subst (λ (b : Bool). WantsIn b head.empty depth head.ids old) (sym many) (full, wants)
 
+-- the answer for a shape's body is the answer for the body
 pub shape_certifies : (depth : ℕ) (head : Head) (frame : Option Frame) (old new : Reading) (result : Result ℕ Doubt) → is_collection head.kind ≡ false → CertifiesShape (deepest - depth) head frame old result new
     → CertifiesBody depth head frame old result new
 shape_certifies depth head frame old new (Ok vertices) single s = s
@@ -57,16 +61,19 @@ three_or_four (Some p) None axes is further = inl is
 three_or_four (Some p) (Some q) axes is further = inr is
 
 -- ---- the count of parts
+-- what stops the reading of a count puts it in doubt
 pub count_doubts : (multi ids : Bool) (old new : Reading) (e : Stopped) → multi ≡ true → HasStopped (list_at ids old) (HasManyIdsAfterCount ids (rest old)) old e new
     → HasDoubt (IsWrongCount multi ids old new) (HasManyIdsAfterCount ids (rest old)) old (doubt_of e) new
 count_doubts multi ids old new (BadField m) many s = (failure_keeps (list_at ids) old new m (keeps_list ids) s, inl (m, subst (λ (b : Bool). Fails (count_at b ids old) m new) (sym many) s))
 count_doubts multi ids old new NoMemory many s = s
 
+-- a body is refuted if its count can't be read, or its ids aren't distinct
 pub wrong_count_refutes : (head : Head) (levels : ℕ) (old : Reading) (frame : Option Frame) (new : Reading) → head.empty ≡ false → is_collection head.kind ≡ false → IsWrongCount (is_multi head.kind) head.ids old new
     → IsRefutedBody levels head frame old
 wrong_count_refutes head levels old frame new full single (inl (m, f)) = count_refutes head levels old frame full single m new f
 wrong_count_refutes head levels old frame new full single (inr (list, found, f, listed, is_found, is)) = shape_ids_refute head levels old frame full single new list found listed is_found f is
 
+-- a doubt about the count is a doubt about the body
 pub shape_count_doubts : (head : Head) (levels : ℕ) (frame : Option Frame) (old new : Reading) (d : Doubt) → head.empty ≡ false → is_collection head.kind ≡ false
     → HasDoubt (IsWrongCount (is_multi head.kind) head.ids old new) (HasManyIdsAfterCount head.ids (rest old)) old d new → HasDoubt (IsRefutedBody levels head frame old) (HasManyIdsAfterCount head.ids (rest old)) old d new
 shape_count_doubts head levels frame old new d full single s =
@@ -90,15 +97,19 @@ adds_parts step kind ids axes count old mid new s t vertices (list, listed, foun
 
 -- a body is certified by its parts
 module _ (head : Head) (levels axes count : ℕ) (old mid new : Reading) (full : head.empty ≡ false) (single : is_collection head.kind ≡ false) (axes_are : axes ≡ axes_of (of_head head)) (counted : IsCounted (is_multi head.kind) head.ids old mid count) where
+  -- reading the count leaves the bytes as they are
   pub counted_keeps : mid.bytes ≡ old.bytes
   counted_keeps = read_keeps (count_at (is_multi head.kind) head.ids) old mid counted.0 (keeps_count (is_multi head.kind) head.ids) counted.1
 
+  -- the bytes stay as they are if the parts can't be read
   pub malformed_keeps : AreMalformed head.kind axes count mid new → new.bytes ≡ old.bytes
   malformed_keeps bad = failure_keeps (many_at count ring_sums (part_at head.kind axes) zeros) mid new bad.0 (keeps_parts head.kind axes count zeros) bad.1 ∙ counted_keeps
 
+  -- a body is refuted if its parts can't be read
   malformed_refutes : (frame : Option Frame) → AreMalformed head.kind axes count mid new → IsRefutedBody levels head frame old
   malformed_refutes frame bad = parts_refute head levels old frame full single mid counted.0 (record { count = count; ids = None }) counted.1 counted.2 axes axes_are new bad
 
+  -- a body that no frame has to hold is certified or refused by its parts
   pub unboxed_certifies : (result : Result ℕ Doubt) → IfOk result (ReadParts (λ (s : Unit {0}) point. s) head.kind axes count mid new tt tt) → OnErr result (AreMalformed head.kind axes count mid new) → IfErr result (λ d. d ≡ Refused)
       → CertifiesShape levels head None old result new
   unboxed_certifies (Ok vertices) parts bad refused =

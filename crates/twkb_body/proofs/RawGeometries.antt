@@ -26,6 +26,7 @@ use Rattle.twkb_body.proofs.SureSteps.{sure_behind, geometry_sure, own_box}
 use Rattle.twkb_body.proofs.Refuting.{behind_refutes, body_refutes, size_refutes, doubts_through, refused_for}
 
 module _ (raw : Fields) (depth : ℕ) (above : Option Frame) (r mid : Reading) (some : 1 ≤ depth) (deep : depth ≤ deepest) (sound : IsSound r) (at : IsHeadAt (head_said raw) depth r.place (passed r mid)) (moved : IsMoved r mid) where
+  -- the kind is allowed at this depth
   pub raw_allowed : IsAllowedAt raw.kind depth
   raw_allowed = subst (λ (h : Head). IsAllowedAt h.kind depth) (sym at.fields) at.allowed
 
@@ -101,6 +102,7 @@ apart_box : (o : Option RawBox) (x y : RawRange) → IfSome o (λ b. (x ≡ b.x)
 apart_box None x y ranges = tt
 apart_box (Some b) x y (x_is, y_is) = λ j. flat_box (sym x_is j) (sym y_is j)
 
+-- whether there is a box stays as it is
 apart_there : (o : Option RawBox) → is_some (option_map (λ b. flat_box b.x b.y) o) ≡ is_some o
 apart_there None = refl
 apart_there (Some b) = refl
@@ -125,5 +127,6 @@ apart_any raw plain xy xy_is same full = record {
     go None = refl
     go (Some b) = ap (λ (h : Head). Some (raw_bounds h.xy h.z h.m b)) (sym same) ∙ ap (λ (p : ℤ). Some (raw_bounds p plain.z plain.m b)) (sym xy_is)
 
+-- the header of a geometry in any axes, as it is handed over
 pub any_apart : (raw : Fields) (plain : Head) → IsPrecision raw.axes.xy → plain ≡ boxless raw → raw.empty ≡ false → IsApart (head_said raw) plain.kind (to_z w8 (of_z w8 plain.xy)) plain.z plain.m plain.ids raw.bounds
 any_apart raw plain precise same full = apart_any raw plain _ (plain_xy raw plain precise same) same full

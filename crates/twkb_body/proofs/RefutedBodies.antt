@@ -70,6 +70,7 @@ module _ {A : Type 0} (f : Reader A) (front gs : List A) (new : Reading) where
       go (Err m, s) is e = absurd (ok_not_err gs m new s (sym e))
 
 -- ---- the claims and the vertices of one member
+-- the claims of members, about one of them and about those before and after it
 claims_around : (front : List Geometry) (g : Geometry) (behind : List Geometry) (start : ℕ)
     → member_claims (members_of (front ++ g ∷ behind)) start
     ≡ member_claims (members_of front) start ++ (claims g (start + member_total (members_of front)) ++ member_claims (members_of behind) (start + member_total (members_of front) + (lengths_of g).whole))
@@ -83,6 +84,7 @@ claims_around (f ∷ front) g behind start =
     ∙ ap (λ (n : ℕ). member_claims (members_of front) (start + (lengths_of f).whole) ++ (claims g n ++ member_claims (members_of behind) (n + (lengths_of g).whole))) at)
     ∙ sym (append_assoc (claims f start) (member_claims (members_of front) (start + (lengths_of f).whole)) _)
 
+-- the vertices of members, of one of them and of those before and after it
 vertices_around : (front : List Geometry) (g : Geometry) (behind : List Geometry)
     → member_vertices (members_of (front ++ g ∷ behind)) ≡ member_vertices (members_of front) ++ (vertices_of g ++ member_vertices (members_of behind))
 unfolding vertices_of
@@ -90,6 +92,7 @@ vertices_around [] g behind = refl
 vertices_around (f ∷ front) g behind =
     ap (λ (list : List Vertex). vertices_of f ++ list) (vertices_around front g behind) ∙ sym (append_assoc (vertices_of f) (member_vertices (members_of front)) _)
 
+-- a frame that holds all vertices holds those of one member
 held_inside : (frame : Option Frame) (a b c : List Vertex) → IsHeldBy frame (a ++ (b ++ c)) → IsHeldBy frame b
 held_inside None a b c h = tt
 held_inside (Some frame) a b c h = left_of (Holds (frame_bounds frame)) b c (right_of (Holds (frame_bounds frame)) a (b ++ c) h)

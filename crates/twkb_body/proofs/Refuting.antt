@@ -162,15 +162,18 @@ size_refutes levels head above mid new vertices f sure is body stop e inside siz
     some_not_none f (sym is ∙ ap (λ (s : Reading). size_judged head.size s.place) one.1 ∙ size)
 
 -- ---- doubts
+-- what stops the reading of a part puts the whole in doubt
 pub doubts_outside : {A : Type 0} (f : Reader A) (R W V : Type 0) (mid old : Reading) (e : Stopped) (new : Reading) → Keeps f → mid.bytes ≡ old.bytes → ((m : Malformed) → Fails (f mid) m new → R) → (W → V)
     → HasStopped (f mid) W mid e new → HasDoubt R V old (doubt_of e) new
 doubts_outside f R W V mid old (BadField m) new keeps same fails wants s = (failure_keeps f mid new m keeps s ∙ same, fails m s)
 doubts_outside f R W V mid old NoMemory new keeps same fails wants s = (s.0 ∙ same, wants s.1)
 
+-- a doubt about a part is a doubt about the whole
 pub doubts_through : (R Q W V : Type 0) (mid old : Reading) (d : Doubt) (new : Reading) → mid.bytes ≡ old.bytes → (R → Q) → (W → V) → HasDoubt R W mid d new → HasDoubt Q V old d new
 doubts_through R Q W V mid old Refused new same refutes wants s = (s.0 ∙ same, refutes s.1)
 doubts_through R Q W V mid old Memory new same refutes wants s = (s.0 ∙ same, wants s.1)
 
+-- what is refuted may be refused
 pub refused_for : (R V : Type 0) (old : Reading) (d : Doubt) (new : Reading) → d ≡ Refused → new.bytes ≡ old.bytes → R → HasDoubt R V old d new
 refused_for R V old d new is same r = subst (λ (e : Doubt). HasDoubt R V old e new) (sym is) (same, r)
 
