@@ -20,7 +20,7 @@ use Rattle.twkb_body.proofs.Settling.{next_read, run_of, all_there}
 use Rattle.twkb_body.proofs.Walks.{number_ahead, walked_from, IsWalkLoop, walk_begins, walk_goes_on, walk_ends}
 
 module _ {A S : Type 0} (w : Showing A S) (after : PointValue → A → PointValue) (after_is : (s : PointValue) (x : A) → after s x ≡ sums s (w.points_in x)) (count : ℕ) (start : Progress S) where
-  -- i of the parts were shown, and the points of these lead to the trail u
+  -- i of the parts were shown, and their points lead to the trail
   pub record AreBefore (known : Knows (many count after w) start) (i : ℕ) (now : Progress S) : Type 0 where
     pub trail : Trail
     pub loop : IsWalkLoop w.step w.axes after w.each w.points_in after_is count known.from start.state start.reading i trail now.state now.reading
