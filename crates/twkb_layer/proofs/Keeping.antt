@@ -1,5 +1,5 @@
 -- What a list keeps of each blob of a layer, and what is read of a blob.
-use Rattle.std.proofs.Common.{◌≡◌, ℕ, zero, suc, take, ℤ, ◌+◌, ◌-◌, ◌^◌, ◌<◌, ◌≤◌, Bool, List, [], ◌∷◌, ◌++◌, length, drop, fold, map, slice_set, Option, Some, None, option_map, is_some, refl, ap, sym, ◌∙◌, arith, length-append, length-drop, append_assoc}
+use Rattle.std.proofs.Common.{◌≡◌, ℕ, zero, suc, take, ℤ, ◌+◌, ◌-◌, ◌^◌, ◌<◌, ◌≤◌, List, [], ◌∷◌, ◌++◌, length, drop, fold, map, slice_set, Option, Some, None, option_map, is_some, refl, ap, sym, ◌∙◌, arith, length-append, length-drop, append_assoc}
 use Rattle.std.proofs.lemmas.List.{append-nil}
 use Rattle.std.proofs.Math.Seq.{take-nil}
 use Rattle.twkb_num.specs.Cursor.{Reading}
@@ -67,21 +67,32 @@ vertices_counted g bytes place at small =
     let room : length (drop place bytes) ≡ length at.front + length at.behind = ap length at.there ∙ length-append at.front at.behind in
     counts_all 0 (vertices g) (omega (arith, few, room, small, length-drop place bytes)) ∙ omega arith
 
-rows_equal : (blob : ℕ) (a b c d e f : ℕ) → a ≡ b → c ≡ d → e ≡ f → (raw : Fields) (g : Geometry) → SaysOf raw g → (sized boxed : Bool) → sized ≡ is_some raw.size → boxed ≡ is_some raw.bounds → (p : ℤ) → p ≡ raw.axes.xy
-    → ◌≡◌ {A = Row} (record { blob = blob; offset = a; bytes = c; vertices = e; kind = raw.kind; precision = p; has_size = sized; has_box = boxed })
-    (record { blob = blob; offset = b; bytes = d; vertices = f; kind = (header_of g).kind; precision = (header_of g).xy; has_size = is_some (header_of g).size; has_box = is_some (header_of g).box })
-rows_equal blob a b c d e f ab cd ef raw g says sized boxed s x p q =
-    (λ j. record { blob = blob; offset = ab j; bytes = cd j; vertices = ef j; kind = says.kind j; precision = (q ∙ says.precision) j; has_size = (s ∙ says.sized) j; has_box = (x ∙ says.boxed) j })
+-- A row has what the fields of a header say, between two places, and this many vertices.
+pub record IsRowRead (row : Row) (raw : Fields) (start stop many : ℕ) : Type 0 where
+  pub offset : row.offset ≡ start
+  pub bytes : row.bytes ≡ stop - start
+  pub vertices : row.vertices ≡ many
+  pub kind : row.kind ≡ raw.kind
+  pub precision : row.precision ≡ raw.axes.xy
+  pub sized : row.has_size ≡ is_some raw.size
+  pub boxed : row.has_box ≡ is_some raw.bounds
 
 -- the row that was read is the row of the definition
-pub row_says : (g : Geometry) (r : Reading) (raw : Fields) (blob offset stop s many : ℕ) (sized boxed : Bool) (p : ℤ) → length r.bytes < 2 ^ 64 → StandsAt g 1 r.bytes r.place → SaysOf raw g → offset ≡ r.place
-    → stop ≡ r.place + size_of g
-    → s ≡ 0 → many ≡ fold counts_on s (vertices g) → sized ≡ is_some raw.size → boxed ≡ is_some raw.bounds → p ≡ raw.axes.xy
-    → ◌≡◌ {A = Row} (record { blob = blob; offset = offset; bytes = stop - offset; vertices = many; kind = raw.kind; precision = p; has_size = sized; has_box = boxed }) (row_of blob r.place g)
-row_says g r raw blob offset stop s many sized boxed p small at says o ends none counted si bo pe =
-    let size : stop - offset ≡ size_of g = omega (arith, ends, o) in
-    let all : many ≡ length (vertices g) = counted ∙ (ap (λ (n : ℕ). fold counts_on n (vertices g)) none ∙ vertices_counted g r.bytes r.place at small) in
-    rows_equal blob offset r.place (stop - offset) (size_of g) many (length (vertices g)) o size all raw g says sized boxed si bo p pe
+pub row_says : (row : Row) (raw : Fields) (g : Geometry) (r : Reading) → length r.bytes < 2 ^ 64 → StandsAt g 1 r.bytes r.place → SaysOf raw g
+    → IsRowRead row raw r.place (r.place + size_of g) (fold counts_on 0 (vertices g)) → row ≡ row_of row.blob r.place g
+row_says row raw g r small at says is =
+    let size : row.bytes ≡ size_of g = omega (arith, is.bytes) in
+    let all = is.vertices ∙ vertices_counted g r.bytes r.place at small in
+    λ j. record {
+      blob = row.blob;
+      offset = is.offset j;
+      bytes = size j;
+      vertices = all j;
+      kind = (is.kind ∙ says.kind) j;
+      precision = (is.precision ∙ says.precision) j;
+      has_size = (is.sized ∙ says.sized) j;
+      has_box = (is.boxed ∙ says.boxed) j;
+    }
 
 -- ---- a layer
 pub adds_nothing : (most count : ℕ) → count < 2 ^ 64 → AddsAtMost most count count
