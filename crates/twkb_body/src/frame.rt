@@ -1,11 +1,10 @@
 //! The box that the vertices of a geometry have to lie in: its own, or the box of a geometry above.
-ghost use Rattle.std.specs.Prelude.{◌≡◌, IfSome, IsTrue, not, option_map};
+ghost use Rattle.std.specs.Prelude.{◌≡◌, ◌<◌, ◌^◌, ℕ, true, Option, IfSome, OnSome, IsTrue, not, option_map};
 ghost use Rattle.twkb_head.specs.Raw.{raw_bounds};
 ghost use Rattle.twkb_body.specs.Devices.BoxTest.{IsNearRange};
 ghost use Rattle.twkb_body.specs.Devices.Sure.{framed, has_further, IsNear, IsNearFrame, IsFrameUnder, LiesIn, LiesInAll};
 ghost use Rattle.twkb_body.specs.Devices.Walk.{ArePrecisions, HasPrecisions};
 
-use crate::box_test::is_near_range;
 use twkb_head::{Axes, Bounds, Head, RawBox, RawRange};
 
 /// A box of raw numbers, and the precision of each axis that there is.
@@ -30,7 +29,7 @@ impl Frame {
         match (above, own) {
             (None, None) => Some(None),
             (None, Some(bounds)) => {
-                if !is_near_box(head, bounds) {
+                if !is_near_box(bounds) {
                     return None;
                 }
                 Some(Some(Frame::of(head, bounds)))
@@ -78,14 +77,44 @@ impl Frame {
     }
 }
 
-/// Whether the ranges of a box are near, in each axis that the header has. The range of a missing axis is zeros.
+/// The frame of a geometry with Z or M. `None` if it can't be told, or if the extended dimensions byte announces neither.
+// Points of X and Y are read in one place, which is inlined into its caller.
 #[inline(always)]
-fn is_near_box(head: &Head, bounds: &RawBox) -> bool
-    ensures { IsTrue result → IsNear head.now.z head.now.m bounds.now }
+pub fn further_frame(
+    above: &Option<Frame>,
+    head: &Head,
+    own: &Option<RawBox>,
+) -> Option<Option<Frame>>
+    requires near { IfSome above.now IsNearFrame }
+    requires precisions { HasPrecisions head.now }
+    ensures further { OnSome result (has_further head.now.z head.now.m ≡ true) }
+    ensures frame { IfSome result (IsFrameUnder above.now head.now (option_map (framed head.now) own.now)) }
 {
-    is_near_range(&bounds.x)
-        && is_near_range(&bounds.y)
-        && (is_flat(head) || is_near_range(&bounds.third) && is_near_range(&bounds.fourth))
+    if head.z.is_none() && head.m.is_none() {
+        return None;
+    }
+    Frame::under(above, head, own)
+}
+
+/// Whether the ranges of a box are near, in all axes. The range of a missing axis is zeros.
+#[inline(always)]
+fn is_near_box(bounds: &RawBox) -> bool
+    ensures { IsTrue result → (z m : Option ℕ) → IsNear z m bounds.now }
+{
+    // One comparison for all numbers: if one of them is far from zero, there is a high bit.
+    let all = bits_of(&bounds.x)
+        | bits_of(&bounds.y)
+        | bits_of(&bounds.third)
+        | bits_of(&bounds.fourth);
+    all < 1 << 60
+}
+
+/// A number below 2^60 if a range isn't empty and its minimum and its extent are near zero.
+#[inline(always)]
+fn bits_of(range: &RawRange) -> u64
+    ensures { result < 2 ^ 60 → IsNearRange range.now }
+{
+    range.minimum.wrapping_add(1 << 59).cast_unsigned() | range.extent.cast_unsigned()
 }
 
 /// Whether one box lies in another, which is near, in each axis that the header has.

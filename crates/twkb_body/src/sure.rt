@@ -1,6 +1,6 @@
 //! The first reading of a blob, which certifies it or ends in a doubt. It hands down the innermost box, and hands up the number of
 //! vertices.
-ghost use Rattle.std.specs.Prelude.{◌≡◌, ◌≤◌, ◌+◌, ◌-◌, true, false, Option, None, Some, option_map, IfSome, OnSome, IfOk, Ok};
+ghost use Rattle.std.specs.Prelude.{◌≡◌, ◌≤◌, ◌+◌, ◌-◌, bit_and, true, false, Option, None, Some, option_map, IfSome, OnSome, IfOk, Ok};
 ghost use Rattle.twkb_num.specs.Cursor.{Reading, IsSound};
 ghost use Rattle.twkb_num.specs.Units.{IsPrecision};
 ghost use Rattle.twkb_head.specs.BegunHeader.{deepest, is_collection, IsAllowedAt};
@@ -13,21 +13,23 @@ ghost use Rattle.twkb_body.specs.declared.frame.Frame.{Frame as FrameOf};
 ghost use Rattle.twkb_body.specs.Devices.Sure.{counted_in, framed, has_further, IsFramed, IsNearFrame, IsFrameUnder, IsJudged, HasReadTwo, Certifies, CertifiesAfterTwo, CertifiesBody};
 ghost use Rattle.twkb_body.specs.Devices.Walk.{HasPrecisions};
 
+mod announced;
 mod apart;
 mod parts;
 mod plain;
 mod shapes;
 mod unboxed;
 
+use self::announced::{BOX, FLAT_BOX_BITS, FURTHER_BOX, NO_FIELD, SIZE_ALONE, with_bits};
 use self::apart::{flat_ranges, take_apart, take_apart_flat};
 use self::plain::{take_plain_line, take_plain_point};
 use self::shapes::{take_flat_shape, take_further_shape};
 use crate::doubt::Doubt;
 use crate::found::judge_size;
-use crate::frame::Frame;
+use crate::frame::{Frame, further_frame};
 use crate::lists::take_list;
 use crate::rooms::IdRoom;
-use twkb_head::{Fields, Head, Kind, RawBox, begun_as, begun_by, take_boxed_rest, take_rest};
+use twkb_head::{Fields, Head, Kind, begun_as, begun_by, take_boxed_rest, take_rest};
 use twkb_num::Cursor;
 
 /// Reads the blob at the place, and returns how many vertices it has and where it ends. A doubt says that it isn't certified,
@@ -55,14 +57,8 @@ pub fn take_blob<R: IdRoom>(room: &mut R, cursor: &mut Cursor) -> Result<(usize,
     Ok((vertices, cursor.place()))
 }
 
-/// The lowest five bits of a metadata byte that announces a size and no other field, of a geometry that isn't empty (TWKB
-/// specification, "Metadata Header").
-const SIZE_ALONE: u8 = 2;
-
-/// The lowest five bits of a metadata byte that announces no field, of a geometry that isn't empty.
-const NO_FIELD: u8 = 0;
-
 /// Reads a geometry at `depth` after its first two bytes. The frame above has to hold its points.
+// A function for each of the common sets of fields, so that the compiler knows which fields there can be.
 #[cycle(take_flat)]
 #[inline(always)]
 fn take_sure<R: IdRoom>(
@@ -79,22 +75,15 @@ fn take_sure<R: IdRoom>(
     requires near { IfSome above.now IsNearFrame }
     ensures { CertifiesAfterTwo depth above.now first metadata cursor.old result cursor.new }
 {
-    // Both read any geometry: `take_with_box` is faster if a box in X and Y follows, and `take_flat` if not.
-    if metadata & FLAT_BOX_BITS == BOX {
-        take_with_box(room, cursor, depth, above, first, metadata)
-    } else {
-        take_flat(room, cursor, depth, above, first, metadata)
+    match metadata & FLAT_BOX_BITS {
+        BOX => take_with_box(room, cursor, depth, above, first, metadata),
+        FURTHER_BOX => take_with_further_box(room, cursor, depth, above, first, metadata),
+        0 => take_flat(room, cursor, depth, above, first, metadata),
+        _ => take_further(room, cursor, depth, above, first, metadata),
     }
 }
 
-/// The bits of a metadata byte for a box, an extended dimensions byte and an empty geometry (TWKB specification, "Metadata
-/// Header").
-const FLAT_BOX_BITS: u8 = 0x19;
-
-/// Of these bits, the one of a box.
-const BOX: u8 = 1;
-
-/// Reads a geometry as [`take_sure`] does.
+/// Reads a geometry as [`take_sure`] does, which has neither a box nor an extended dimensions byte, and isn't empty.
 #[cycle(take_flat)]
 #[inline(never)]
 fn take_flat<R: IdRoom>(
@@ -107,6 +96,7 @@ fn take_flat<R: IdRoom>(
 ) -> Result<usize, Doubt>
     requires shallowest { 1 ≤ depth }
     requires deepest { depth ≤ deepest }
+    requires bits { bit_and metadata 25 ≡ 0 }
     requires before { (before : Reading) × HasReadTwo before first metadata cursor.old }
     requires near { IfSome above.now IsNearFrame }
     ensures { CertifiesAfterTwo depth above.now first metadata cursor.old result cursor.new }
@@ -114,16 +104,13 @@ fn take_flat<R: IdRoom>(
     let Some(begun) = begun_by(cursor, depth, first, metadata) else {
         return Err(Doubt::Refused);
     };
-    if !begun.is_flat() || begun.is_empty() {
-        return take_further(room, cursor, depth, above, first, metadata);
-    }
-    let Ok(raw) = take_rest(cursor, begun) else {
+    let Ok(raw) = take_rest(cursor, with_bits(begun, 0)) else {
         return Err(Doubt::Refused);
     };
     take_flat_behind(room, cursor, depth, above, raw)
 }
 
-/// Reads a geometry as [`take_flat`] does. The reader of a box in X and Y is inlined here.
+/// Reads a geometry as [`take_sure`] does, which has a box in X and Y, and isn't empty. The reader of the box is inlined here.
 #[cycle(take_flat)]
 #[inline(never)]
 fn take_with_box<R: IdRoom>(
@@ -136,6 +123,7 @@ fn take_with_box<R: IdRoom>(
 ) -> Result<usize, Doubt>
     requires shallowest { 1 ≤ depth }
     requires deepest { depth ≤ deepest }
+    requires bits { bit_and metadata 25 ≡ 1 }
     requires before { (before : Reading) × HasReadTwo before first metadata cursor.old }
     requires near { IfSome above.now IsNearFrame }
     ensures { CertifiesAfterTwo depth above.now first metadata cursor.old result cursor.new }
@@ -143,10 +131,7 @@ fn take_with_box<R: IdRoom>(
     let Some(begun) = begun_by(cursor, depth, first, metadata) else {
         return Err(Doubt::Refused);
     };
-    let Some(boxed) = begun.flat_boxed() else {
-        return take_flat(room, cursor, depth, above, first, metadata);
-    };
-    let Ok(raw) = take_boxed_rest(cursor, boxed) else {
+    let Ok(raw) = take_boxed_rest(cursor, with_bits(begun, BOX)) else {
         return Err(Doubt::Refused);
     };
     take_flat_behind(room, cursor, depth, above, raw)
@@ -195,7 +180,7 @@ fn take_flat_behind<R: IdRoom>(
     judged(&head, cursor.place(), vertices)
 }
 
-/// Reads a geometry as [`take_flat`] does, which has an extended dimensions byte or is empty.
+/// Reads a geometry as [`take_sure`] does, which has an extended dimensions byte or is empty.
 #[cycle(take_flat)]
 #[inline(never)]
 fn take_further<R: IdRoom>(
@@ -221,6 +206,58 @@ fn take_further<R: IdRoom>(
     let Ok(raw) = take_rest(cursor, begun) else {
         return Err(Doubt::Refused);
     };
+    take_further_behind(room, cursor, depth, above, raw)
+}
+
+/// Reads a geometry as [`take_sure`] does, which has a box and an extended dimensions byte, and isn't empty. The reader of the box
+/// is inlined here.
+#[cycle(take_flat)]
+#[inline(never)]
+fn take_with_further_box<R: IdRoom>(
+    room: &mut R,
+    cursor: &mut Cursor,
+    depth: u8,
+    above: &Option<Frame>,
+    first: u8,
+    metadata: u8,
+) -> Result<usize, Doubt>
+    requires shallowest { 1 ≤ depth }
+    requires deepest { depth ≤ deepest }
+    requires bits { bit_and metadata 25 ≡ 9 }
+    requires before { (before : Reading) × HasReadTwo before first metadata cursor.old }
+    requires near { IfSome above.now IsNearFrame }
+    ensures { CertifiesAfterTwo depth above.now first metadata cursor.old result cursor.new }
+{
+    let Some(begun) = begun_by(cursor, depth, first, metadata) else {
+        return Err(Doubt::Refused);
+    };
+    let Ok(raw) = take_boxed_rest(cursor, with_bits(begun, FURTHER_BOX)) else {
+        return Err(Doubt::Refused);
+    };
+    take_further_behind(room, cursor, depth, above, raw)
+}
+
+/// Reads a geometry after its header, which has an extended dimensions byte.
+#[cycle(take_flat)]
+#[inline(always)]
+fn take_further_behind<R: IdRoom>(
+    room: &mut R,
+    cursor: &mut Cursor,
+    depth: u8,
+    above: &Option<Frame>,
+    raw: Fields,
+) -> Result<usize, Doubt>
+    requires shallowest { 1 ≤ depth }
+    requires deepest { depth ≤ deepest }
+    requires near { IfSome above.now IsNearFrame }
+    requires xy { IsPrecision raw.axes.xy }
+    requires z_high { IfSome raw.axes.z (λ p. p ≤ 7) }
+    requires m_high { IfSome raw.axes.m (λ p. p ≤ 7) }
+    requires full { raw.empty ≡ false }
+    requires read { (before : Reading) × IsSound before × ReadsHead depth before cursor.old (Ok raw) }
+    ensures { (before : Reading) → IsSound before → ReadsHead depth before cursor.old (Ok raw)
+        → Certifies depth above.now before result cursor.new }
+{
     let head = raw.boxless();
     let Some(frame) = further_frame(above, &head, &raw.bounds) else {
         let bounds = raw.bounds;
@@ -256,21 +293,6 @@ fn take_empty(cursor: &mut Cursor, depth: u8, first: u8, metadata: u8) -> Result
     };
     let head = raw.boxless();
     judged(&head, cursor.place(), 0)
-}
-
-/// The frame of a geometry with Z or M. `None` if it can't be told, or if the extended dimensions byte announces neither.
-// Points of X and Y are read in one place, which is inlined into its caller.
-#[inline(always)]
-fn further_frame(above: &Option<Frame>, head: &Head, own: &Option<RawBox>) -> Option<Option<Frame>>
-    requires near { IfSome above.now IsNearFrame }
-    requires precisions { HasPrecisions head.now }
-    ensures further { OnSome result (has_further head.now.z head.now.m ≡ true) }
-    ensures frame { IfSome result (IsFrameUnder above.now head.now (option_map (framed head.now) own.now)) }
-{
-    if head.z.is_none() && head.m.is_none() {
-        return None;
-    }
-    Frame::under(above, head, own)
 }
 
 /// The number of vertices of a geometry that ends at `stop`, if its size is true.

@@ -17,7 +17,7 @@ use crate::bits::{BOX, EMPTY, EXTENDED, IDS, SIZE, has_bit, ids_of, m_of, precis
 use crate::field_readers::{take_byte, take_number, take_type};
 use crate::header::{Head, SizeField};
 use crate::kinds::{Kind, kind_at};
-use crate::ranges::{Called, FlatRanges, Inlined, take_box};
+use crate::ranges::{Called, Inlined, RangeReader, take_box};
 use crate::raw::{Axes, Fields};
 use crate::refusal::Malformed;
 use twkb_num::Cursor;
@@ -297,7 +297,7 @@ pub fn take_boxed_rest(cursor: &mut Cursor, begun: Begun) -> Result<Fields, Malf
 /// The fields after the first two bytes, in order.
 #[inline(always)]
 #[tactic(auto, unfolding(crate::specs::Devices::HeadReader::rest_at))]
-fn take_fields<R: FlatRanges>(cursor: &mut Cursor, begun: Begun) -> Result<Fields, Malformed>
+fn take_fields<R: RangeReader>(cursor: &mut Cursor, begun: Begun) -> Result<Fields, Malformed>
     requires xy { IsPrecision begun.xy }
     ensures read { rest_at begun.kind begun.xy begun.metadata begun.start cursor.old
         ≡ (head_result result, cursor.new) }

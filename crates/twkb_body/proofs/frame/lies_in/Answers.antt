@@ -1,27 +1,14 @@
 -- Distances are compared without sign: one below zero is then greater than the extent of any near range.
-use Rattle.std.proofs.Common.{◌≡◌, ℕ, ◌%◌, ◌-◌, ◌^◌, ◌<◌, ◌≤◌, ℤ, pos, negsuc, ◌-ℤ◌, w64, to_z, of_z, refl, ap, ◌∙◌, arith, rules}
+use Rattle.std.proofs.Common.{◌≡◌, ◌-◌, ◌^◌, ◌<◌, ◌≤◌, ℤ, pos, negsuc, ◌-ℤ◌, w64, of_z, refl, ap, ◌∙◌, arith, rules}
 use Rattle.std.proofs.lemmas.Bool.{leb-true}
-use Rattle.std.proofs.lemmas.Int.{ints, of_z-to_z, to_z-of_z, wrapping_sub_is}
+use Rattle.std.proofs.lemmas.Int.{ints, to_z-of_z, wrapping_sub_is}
 use Rattle.std.specs.Int.{int_wrap}
 use Rattle.std.specs.Int.RustNames.{FitsSigned}
 use Rattle.twkb_head.specs.declared.raw.RawRange.{RawRange}
 use Rattle.twkb_body.specs.Devices.BoxTest.{IsNearRange}
 use Rattle.twkb_body.specs.Devices.Sure.{LiesIn}
+use Rattle.twkb_body.proofs.UnsignedBits.{up_bits, down_bits}
 use Rattle.twkb_body.proofs.frame.lies_in.Goals as goal
-
--- a number of at least zero, taken as unsigned, is itself
-up_bits : (n : ℕ) → n < 2 ^ 64 → of_z w64 (int_wrap w64 (pos n)) ≡ n
-unfolding int_wrap
-up_bits n few =
-    let small : n % 2 ^ 64 ≡ n = omega arith in
-    ap (λ (k : ℕ). of_z w64 (to_z w64 k)) small ∙ of_z-to_z w64 n few
-
--- a number below zero, taken as unsigned
-down_bits : (n : ℕ) → n < 2 ^ 64 → of_z w64 (int_wrap w64 (negsuc n)) ≡ 2 ^ 64 - 1 - n
-unfolding int_wrap
-down_bits n few =
-    let small : n % 2 ^ 64 ≡ n = omega arith in
-    ap (λ (k : ℕ). of_z w64 (to_z w64 (2 ^ 64 - 1 - k))) small ∙ of_z-to_z w64 (2 ^ 64 - 1 - n) (omega arith)
 
 -- a range lies in another if it begins within the other's extent, and ends no later
 lies : (inner outer : RawRange) → FitsSigned w64 inner.minimum → FitsSigned w64 inner.extent → FitsSigned w64 outer.minimum → FitsSigned w64 outer.extent → IsNearRange outer → (d : ℤ) → d ≡ inner.minimum -ℤ outer.minimum

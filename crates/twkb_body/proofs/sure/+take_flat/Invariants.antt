@@ -12,14 +12,20 @@ decreases-take_sure g l = 8 * (deepest - l.depth) + 6
 abbrev pub decreases-take_with_box : goal.decreases-take_with_box
 decreases-take_with_box g l = 8 * (deepest - l.depth) + 5
 
+abbrev pub decreases-take_with_further_box : goal.decreases-take_with_further_box
+decreases-take_with_further_box g l = 8 * (deepest - l.depth) + 5
+
 abbrev pub decreases-take_flat : goal.decreases-take_flat
-decreases-take_flat g l = 8 * (deepest - l.depth) + 4
+decreases-take_flat g l = 8 * (deepest - l.depth) + 5
 
 abbrev pub decreases-take_further : goal.decreases-take_further
-decreases-take_further g l = 8 * (deepest - l.depth) + 3
+decreases-take_further g l = 8 * (deepest - l.depth) + 5
 
 abbrev pub decreases-take_flat_behind : goal.decreases-take_flat_behind
 decreases-take_flat_behind g l = 8 * (deepest - l.depth) + 3
+
+abbrev pub decreases-take_further_behind : goal.decreases-take_further_behind
+decreases-take_further_behind g l = 8 * (deepest - l.depth) + 3
 
 abbrev pub decreases-take_flat_body : goal.decreases-take_flat_body
 decreases-take_flat_body g l = 8 * (deepest - l.depth) + 2

@@ -1,0 +1,34 @@
+//! What the second byte of a header announces.
+ghost use Rattle.std.specs.Prelude.{◌≡◌, ◌%◌, bit_and};
+
+use twkb_head::Begun;
+
+/// The lowest five bits of a metadata byte that announces a size and no other field, of a geometry that isn't empty (TWKB
+/// specification, "Metadata Header").
+pub const SIZE_ALONE: u8 = 2;
+
+/// The lowest five bits of a metadata byte that announces no field, of a geometry that isn't empty.
+pub const NO_FIELD: u8 = 0;
+
+/// The bits of a metadata byte for a box, an extended dimensions byte and an empty geometry (TWKB specification, "Metadata
+/// Header").
+pub const FLAT_BOX_BITS: u8 = 0x19;
+
+/// Of these bits, the one of a box.
+pub const BOX: u8 = 1;
+
+/// Of these bits, those of a box and of an extended dimensions byte.
+pub const FURTHER_BOX: u8 = 9;
+
+/// The other two of the lowest five bits, for a size and ids.
+const SIZE_AND_IDS: u8 = 6;
+
+/// This header, whose metadata byte has these [`FLAT_BOX_BITS`]. If they are a constant, the compiler knows which fields there are.
+#[inline(always)]
+pub fn with_bits(begun: Begun, bits: u8) -> Begun
+    requires { bit_and begun.metadata 25 ≡ bits }
+    ensures announcing { result ≡ record begun { metadata = begun.metadata % 32 } }
+    ensures bits { bit_and result.metadata 25 ≡ bits }
+{
+    begun.announcing(bits + (begun.metadata & SIZE_AND_IDS))
+}
