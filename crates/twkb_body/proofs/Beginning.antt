@@ -24,6 +24,7 @@ use Rattle.twkb_head.proofs.HeadSteps.{begins_goes_on, flat_fields, number_stops
 use Rattle.twkb_body.specs.Geometry.{Geometry}
 use Rattle.twkb_body.specs.Visit.{SkipsSoundly}
 use Rattle.twkb_body.specs.Devices.Skimmed.{HasCome, HasRead, IsBehind, Entered, hop_of, flat_axes, full_head}
+use Rattle.twkb_body.proofs.Headers.{IsSizedEnd, sized_end}
 use Rattle.twkb_body.proofs.HeadStands.{header_starts, hop_fits, hop_within, enter_hops}
 
 -- a begun header with another metadata byte, which announces the same fields
@@ -127,6 +128,14 @@ sized_read begun n b d point two number = rw (point, two, number) refl
 module _ (begun : Begun) (g : Geometry) (depth : ℕ) (before now : Reading) (come : HasCome begun now g depth before) (two : begun.metadata ≡ 2) where
   pub sized_stands : (m : Malformed) (d : Reading) → number_at now ≡ (Err m, d) → ⊥
   sized_stands m d e = rest_stands begun g depth before now d come m (sized_stops begun now d m two e)
+
+  -- its size leads to its end
+  pub sized_leads : (n : ℕ) (d : Reading) → begun.kind ≡ Point → number_at now ≡ (Ok n, d) → IsSizedEnd g before d (record { value = n; offset = now.place; after = d.place })
+  sized_leads n d point number =
+      let size : SizeField = record { value = n; offset = now.place; after = d.place } in
+      let there = head_there begun g depth before now d come (full_head Point (flat_axes begun.xy) false (Some size) None begun.start d.place) (sized_read begun n now d point two number) in
+      let raw : Fields = record { kind = Point; axes = flat_axes begun.xy; size = Some size; bounds = None; box_place = d.place; ids = false; empty = false; start = begun.start; stop = d.place } in
+      sized_end g depth before d raw size (record { stands = come.stands; sound = come.sound; at = there.0; moved = there.1 }) refl
 
   pub sized_behind : (passes : Bounds → Bool) (n : ℕ) (d : Reading) (axes : Axes) → begun.kind ≡ Point → number_at now ≡ (Ok n, d) → axes ≡ flat_axes begun.xy → IsBehind passes Point axes false d g depth before
   sized_behind passes n d axes point number is =

@@ -1,6 +1,6 @@
 //! The body of a certified geometry that a step of a skim doesn't hop over: its points are shown, or its list of members is
 //! opened.
-ghost use Rattle.std.specs.Prelude.{◌≡◌, true, None};
+ghost use Rattle.std.specs.Prelude.{◌≡◌, true, false, None};
 ghost use Rattle.twkb_head.specs.declared.kinds.Kind.TheVariants.{Point, LineString};
 ghost use Rattle.twkb_head.specs.BegunHeader.{is_collection};
 ghost use Rattle.twkb_num.specs.Units.{IsPrecision};
@@ -13,17 +13,18 @@ use crate::visit::Visit;
 use twkb_head::{Axes, Head, Kind};
 use twkb_num::Cursor;
 
-/// Enters the body of a point of X and Y alone: both numbers are taken from one word of eight bytes where they are short.
+/// Enters the body of a point of X and Y alone: both numbers are read by a vector where they are short.
 #[inline(always)]
 pub fn enter_point<V: Visit>(cursor: &mut Cursor, axes: Axes, ids: bool, visitor: &mut V) -> u64
     requires axes { HavePrecisions axes }
     requires z { axes.z ≡ None }
     requires m { axes.m ≡ None }
     requires behind { IsThere (IsBehind (V.passes (V.state visitor.old)) Point axes ids cursor.old) }
-    ensures { Enters V.step V.passes (IsBehind (V.passes (V.state visitor.old)) Point axes ids cursor.old)
+    ensures entered { Enters V.step V.passes (IsBehind (V.passes (V.state visitor.old)) Point axes ids cursor.old)
         (V.state visitor.old) (V.state visitor.new) cursor.new result }
+    ensures none { result ≡ 0 }
 {
-    match cursor.svarint_pair() {
+    match cursor.svarint_lane_pair() {
         Some((x, y)) => {
             visitor.add_raw(axes, &[x, y, 0, 0]);
             0
@@ -110,8 +111,9 @@ pub fn enter_deep_body<V: Visit>(
 ) -> u64
     requires axes { HavePrecisions axes }
     requires behind { IsThere (IsBehind (V.passes (V.state visitor.old)) kind axes ids cursor.old) }
-    ensures { Enters V.step V.passes (IsBehind (V.passes (V.state visitor.old)) kind axes ids cursor.old)
+    ensures entered { Enters V.step V.passes (IsBehind (V.passes (V.state visitor.old)) kind axes ids cursor.old)
         (V.state visitor.old) (V.state visitor.new) cursor.new result }
+    ensures single { is_collection kind ≡ false → result ≡ 0 }
 {
     enter_body(cursor, kind, axes, ids, visitor)
 }
@@ -127,8 +129,9 @@ fn enter_body<V: Visit>(
 ) -> u64
     requires axes { HavePrecisions axes }
     requires behind { IsThere (IsBehind (V.passes (V.state visitor.old)) kind axes ids cursor.old) }
-    ensures { Enters V.step V.passes (IsBehind (V.passes (V.state visitor.old)) kind axes ids cursor.old)
+    ensures entered { Enters V.step V.passes (IsBehind (V.passes (V.state visitor.old)) kind axes ids cursor.old)
         (V.state visitor.old) (V.state visitor.new) cursor.new result }
+    ensures single { is_collection kind ≡ false → result ≡ 0 }
 {
     let head = Head {
         kind,

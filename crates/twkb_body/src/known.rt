@@ -1,5 +1,5 @@
 //! Ranges of the box of a certified geometry, which are known to be at the place.
-ghost use Rattle.std.specs.Prelude.{◌≡◌, ◌≢◌, Ok, Err, true};
+ghost use Rattle.std.specs.Prelude.{◌≡◌, ◌≢◌, Ok, Err, true, IfSome, IfNone};
 ghost use Rattle.twkb_num.specs.Cursor.{Reading};
 ghost use Rattle.twkb_head.specs.Raw.{ends_of, IsNear};
 ghost use Rattle.twkb_head.specs.declared.raw.RawRange.{RawRange};
@@ -25,6 +25,29 @@ pub fn known_range(cursor: &mut Cursor) -> (RawRange, bool)
             (range, range.is_near())
         }
     }
+}
+
+/// Reads the ranges of X and Y together, if their four numbers are short, and so near zero. Otherwise it returns `None`, and the
+/// cursor is as it was.
+#[inline(always)]
+pub fn short_ranges(cursor: &mut Cursor) -> Option<(RawRange, RawRange)>
+    ensures read { IfSome result (λ two. (middle : Reading) × (range_from cursor.old ≡ (Ok (ends_of two.0), middle))
+        × (range_from middle ≡ (Ok (ends_of two.1), cursor.new))) }
+    ensures x_near { IfSome result (λ two. IsNear two.0) }
+    ensures y_near { IfSome result (λ two. IsNear two.1) }
+    ensures none { IfNone result (cursor.new ≡ cursor.old) }
+{
+    let (x, y) = cursor.svarint_two_pairs()?;
+    Some((
+        RawRange {
+            minimum: x.0,
+            extent: x.1,
+        },
+        RawRange {
+            minimum: y.0,
+            extent: y.1,
+        },
+    ))
 }
 
 /// Moves past minimum and extent of an axis, by their ends if both end in the next eight bytes.

@@ -8,10 +8,10 @@ ghost use Rattle.twkb_head.specs.Raw.{HavePrecisions, head_said, flat_box, raw_b
 ghost use Rattle.twkb_body.specs.Standing.{StandsAt};
 
 use crate::body::{enter_deep_body, enter_flat, enter_point};
-use crate::known::{known_range, pass_range};
+use crate::known::{known_range, pass_range, short_ranges};
 use crate::varints::take_number;
 use crate::visit::Visit;
-use twkb_head::{Axes, Begun, Fields, Kind, RawBox, RawRange, begin_head, take_rest};
+use twkb_head::{Axes, Begun, Fields, Kind, RawBox, RawRange, begun_as, begun_by, take_rest};
 use twkb_num::Cursor;
 
 /// Reads a header and then the points after it, or the list of members up to the first, or jumps over all of them. It returns
@@ -25,15 +25,18 @@ pub fn enter<V: Visit>(cursor: &mut Cursor, visitor: &mut V) -> u64
 {
     cursor.place_is_within();
     // A certified geometry has an allowed depth, so its header may be read as one at depth 1, where each kind is allowed.
-    let Some(begun) = begin_head(cursor, 1) else {
+    let Some((first, metadata)) = cursor.two_bytes() else {
         unreachable!()
     };
-    // Most boxes and most points go through these two branches, which know the fields.
+    // Most points and most boxes go through these two branches, which know the fields.
+    if let Some(point) = begun_as(cursor, Kind::Point, 2, first, metadata) {
+        return enter_sized_point(cursor, point, visitor);
+    }
+    let Some(begun) = begun_by(cursor, 1, first, metadata) else {
+        unreachable!()
+    };
     if begun.is_flat_boxed() {
         return enter_boxed(cursor, begun.announcing(3), visitor);
-    }
-    if begun.is_sized_point() {
-        return enter_sized_point(cursor, begun.announcing(2), visitor);
     }
     enter_apart(
         cursor,
@@ -85,7 +88,8 @@ fn enter_begun<V: Visit>(cursor: &mut Cursor, begun: Begun, visitor: &mut V) -> 
     enter_headed(cursor, raw, visitor)
 }
 
-/// Enters a point that has a size, and no other field.
+/// Enters a point that has a size, and no other field. The next geometry begins where the size says, which is known before the
+/// numbers are read.
 #[inline(always)]
 fn enter_sized_point<V: Visit>(cursor: &mut Cursor, begun: Begun, visitor: &mut V) -> u64
     requires xy { IsPrecision begun.xy }
@@ -95,10 +99,13 @@ fn enter_sized_point<V: Visit>(cursor: &mut Cursor, begun: Begun, visitor: &mut 
     ensures { Enters V.step V.passes (HasCome begun cursor.old)
         (V.state visitor.old) (V.state visitor.new) cursor.new result }
 {
-    let Ok(_size) = take_number(cursor) else {
+    let Ok(size) = take_number(cursor) else {
         unreachable!()
     };
-    enter_point(cursor, Axes::flat(begun.xy), false, visitor)
+    let stop = cursor.place() + size as usize;
+    let members = enter_point(cursor, Axes::flat(begun.xy), false, visitor);
+    cursor.go_on_from(stop);
+    members
 }
 
 /// Enters a geometry whose header was read.
@@ -153,8 +160,8 @@ fn skips<V: Visit>(visitor: &V, axes: Axes, b: &RawBox) -> bool
     }
 }
 
-/// Enters a geometry that has a size and a box in X and Y, and no other field. If the range in X tells that it is skipped, the
-/// range in Y is passed by the ends of its numbers.
+/// Enters a geometry that has a size and a box in X and Y, and no other field. Both ranges are read together if their numbers are
+/// short. Otherwise, if the range in X tells that the geometry is skipped, the range in Y is passed by the ends of its numbers.
 #[inline(always)]
 fn enter_boxed<V: Visit>(cursor: &mut Cursor, begun: Begun, visitor: &mut V) -> u64
     requires xy { IsPrecision begun.xy }
@@ -167,6 +174,13 @@ fn enter_boxed<V: Visit>(cursor: &mut Cursor, begun: Begun, visitor: &mut V) -> 
         unreachable!()
     };
     let stop = cursor.place() + size as usize;
+    if let Some((x, y)) = short_ranges(cursor) {
+        if skips_flat(visitor, begun.xy, x, y, true) {
+            cursor.go_to(stop);
+            return 0;
+        }
+        return enter_flat(cursor, begun.kind, Axes::flat(begun.xy), false, visitor);
+    }
     let (x, x_near) = known_range(cursor);
     if x_near && visitor.skips_by_x(begun.xy, &x) {
         pass_range(cursor);

@@ -222,22 +222,33 @@ impl<'w> RawWindows<'w> {
         let x = point[0];
         let y = point[1];
         if !is_inner(x) || !is_inner(y) {
-            return self.holds_in_units(axes, x, y, point[2], point[3]);
+            return self.holds_in_units(axes.xy, axes.z, axes.m, x, y, point[2], point[3]);
         }
         let raw = self.at((axes.xy + 8) as usize);
         if raw.misses((x, x), (y, y)) {
             return false;
         }
-        self.window().is_flat() || self.holds_in_units(axes, x, y, point[2], point[3])
+        self.window().is_flat()
+            || self.holds_in_units(axes.xy, axes.z, axes.m, x, y, point[2], point[3])
     }
 
     /// Whether a vertex in raw numbers is inside, compared in units.
-    // It takes no array, so that a point that is compared in raw numbers stays in registers.
+    // It takes neither an array nor a struct, so that a point that is compared in raw numbers stays in registers.
     #[inline(never)]
-    fn holds_in_units(&self, axes: Axes, x: i64, y: i64, third: i64, fourth: i64) -> bool
-        requires { HavePrecisions axes }
-        ensures { result ≡ is_inside self.now (vertex_at axes (x ∷ y ∷ third ∷ fourth ∷ [])) }
+    fn holds_in_units(
+        &self,
+        xy: i8,
+        z: Option<u8>,
+        m: Option<u8>,
+        x: i64,
+        y: i64,
+        third: i64,
+        fourth: i64,
+    ) -> bool
+        requires { HavePrecisions (record { xy = xy; z = z; m = m }) }
+        ensures { result ≡ is_inside self.now (vertex_at (record { xy = xy; z = z; m = m }) (x ∷ y ∷ third ∷ fourth ∷ [])) }
     {
+        let axes = Axes { xy, z, m };
         self.window()
             .inside(&vertex_at(axes, &[x, y, third, fourth]))
     }

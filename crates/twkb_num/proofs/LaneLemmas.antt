@@ -137,7 +137,7 @@ narrow_lane : (a b : ℕ) → a < 256 → b < 256 → two_groups (a + 256 * (b +
 narrow_lane a b in_a in_b = omega (arith, in_a, in_b)
 
 -- four lanes of four bytes
-wide_lanes : (bytes : List ℕ) → length bytes ≡ 16 → ((i : ℕ) → i < 16 → get_or bytes i 0 < 256) → map four_groups (digits_l 4294967296 4 (number_l 256 bytes)) ≡ values 4 4 bytes 0
+pub wide_lanes : (bytes : List ℕ) → length bytes ≡ 16 → ((i : ℕ) → i < 16 → get_or bytes i 0 < 256) → map four_groups (digits_l 4294967296 4 (number_l 256 bytes)) ≡ values 4 4 bytes 0
 wide_lanes bytes long fit =
     let fits = Each1-from_get_or (λ x. x < 256) bytes 0 (λ i h. fit i (omega (arith, h, long))) in
     let listed = sym (pick_l_whole 0 bytes 16 long) in
@@ -147,6 +147,17 @@ wide_lanes bytes long fit =
     (cons_same _ _ _ _ (ap four_groups (lane 1 (omega arith)) ∙ wide_lane (g 4) (g 5) (g 6) (g 7) (fit 4 (omega arith)) (fit 5 (omega arith)) (fit 6 (omega arith)) (fit 7 (omega arith)))
     (cons_same _ _ _ _ (ap four_groups (lane 2 (omega arith)) ∙ wide_lane (g 8) (g 9) (g 10) (g 11) (fit 8 (omega arith)) (fit 9 (omega arith)) (fit 10 (omega arith)) (fit 11 (omega arith)))
     (cons_same _ _ _ _ (ap four_groups (lane 3 (omega arith)) ∙ wide_lane (g 12) (g 13) (g 14) (g 15) (fit 12 (omega arith)) (fit 13 (omega arith)) (fit 14 (omega arith)) (fit 15 (omega arith))) refl)))
+
+-- one row of numbers that fit their lanes spells what the first two lanes mean
+pub pair_spelled : (bytes v lanes : List ℕ) (len : ℕ) (zs others : List ℤ) (x y : ℤ) → v ≡ take 16 bytes → IsFlag len → len < 128 → SpellsAll (take len v) (values 4 2 lanes 0)
+    → zs ≡ map zigzag_value (values 4 4 lanes 0) → zs ≡ x ∷ y ∷ others → SpellsAllSigned (take len bytes) (x ∷ y ∷ [])
+pair_spelled bytes v lanes len zs others x y v_is flag short spelled means is =
+    let few = flag_short len flag short in
+    let both : x ∷ y ∷ others ≡ map zigzag_value (values 4 4 lanes 0) = sym is ∙ means in
+    let first : x ≡ zigzag_value (value_at 4 lanes 0) = cc (both) in
+    let second : y ≡ zigzag_value (value_at 4 lanes 4) = cc (both) in
+    let all = signed_all (take len bytes) (values 4 2 lanes 0) (at_front bytes v (values 4 2 lanes 0) len v_is (omega (arith, few)) spelled) in
+    subst (λ (p : ℤ × ℤ). SpellsAllSigned (take len bytes) (p.0 ∷ p.1 ∷ [])) (λ j. (sym first j, sym second j)) all
 
 -- eight lanes of two
 narrow_lanes : (bytes : List ℕ) → length bytes ≡ 16 → ((i : ℕ) → i < 16 → get_or bytes i 0 < 256) → map two_groups (digits_l 65536 8 (number_l 256 bytes)) ≡ values 2 8 bytes 0

@@ -64,5 +64,10 @@ long_of n bytes v w one two v_is w_is (inl low) (inr far) first second long = lo
 pub long_in_front : (n within many : ℕ) (bytes chunk : List ℕ) → chunk ≡ take many bytes → within ≤ many → HasLong n within chunk → HasLong n within bytes
 long_in_front n within many bytes chunk is few h = (h.0, h.1, λ k l. omega (arith, h.2 k l, ap (λ x. slice_index x (h.0 + k)) is ∙ get_or-take many bytes (h.0 + k) 0 (omega (arith, h.1, l, few))))
 
+-- a number of one row that is too long for its lane
+pub long_of_one : (n : ℕ) (bytes v : List ℕ) (len : ℕ) → v ≡ take 16 bytes → IsFlag len → (len ≡ 128 → HasLong n 8 v) → 128 ≤ len → HasLong n 8 bytes
+long_of_one n bytes v len v_is (inl low) long more = absurd (omega (arith, low, more))
+long_of_one n bytes v len v_is (inr far) long more = long_in_front n 8 16 bytes v v_is (omega arith) (long far)
+
 pub long_in_chunk : (n : ℕ) (bytes chunk : List ℕ) → chunk ≡ take 32 bytes → HasLong n 16 chunk → HasLong n 16 bytes
 long_in_chunk n bytes chunk is h = long_in_front n 16 32 bytes chunk is (omega arith) h

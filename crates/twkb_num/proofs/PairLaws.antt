@@ -37,21 +37,24 @@ pair_and_others a c x y zs all m =
     (way.0, subst (λ bytes. SpellsTwoSigned bytes x y) (sym way.3) two, way.1, subst (λ bytes. SpellsAllSigned bytes zs) (sym way.4) more.4, way.2)
 
 -- a list of just two numbers is a pair
-pub last_pair : (a c : Reading) (x y : ℤ) → SpellsAllSigned (passed a c) (x ∷ y ∷ []) → SpellsTwoSigned (passed a c) x y
-last_pair a c x y all =
+pub two_of_all : (bytes : List ℕ) (x y : ℤ) → SpellsAllSigned bytes (x ∷ y ∷ []) → SpellsTwoSigned bytes x y
+two_of_all bytes x y all =
     let more = all.4 in (
       all.3.0,
       more.3.0,
       record {
         front = all.0;
         behind = more.0;
-        whole = all.2 ∙ ap (λ bytes. all.0 ++ bytes) (more.2 ∙ ap (λ bytes. more.0 ++ bytes) more.4 ∙ append-nil more.0);
+        whole = all.2 ∙ ap (λ rest. all.0 ++ rest) (more.2 ∙ ap (λ rest. more.0 ++ rest) more.4 ∙ append-nil more.0);
         first = all.3.1;
         second = more.3.1;
       },
       all.3.2,
       more.3.2,
     )
+
+pub last_pair : (a c : Reading) (x y : ℤ) → SpellsAllSigned (passed a c) (x ∷ y ∷ []) → SpellsTwoSigned (passed a c) x y
+last_pair a c = two_of_all (passed a c)
 
 -- a number below 2^28 means a short one
 pub zigzag_short : (n : ℕ) (z : ℤ) → n < 2 ^ 28 → z ≡ zigzag_value n → IsShort z

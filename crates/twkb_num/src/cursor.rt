@@ -28,6 +28,7 @@ use std::marker::Model;
 /// - [`Cursor::pass_pair`]: fewer than eight bytes are left, or at most one of the next eight ends a varint (`told`).
 /// - [`Cursor::svarint_pair`] and [`Cursor::svarint_mixed_pair`]: fewer than eight bytes are left, or four in a row of the next
 ///   eight go on (`told`).
+/// - [`Cursor::svarint_lane_pair`]: fewer than sixteen bytes are left, or four in a row of the next eight go on (`told`).
 /// - [`Cursor::svarint_pair_and_one`]: fewer than twelve bytes are left, or four in a row of the next twelve go on (`told`).
 /// - [`Cursor::svarint_two_pairs`]: fewer than sixteen bytes are left, or four in a row of the next sixteen go on (`told`).
 /// - [`Cursor::svarint_four`]: fewer than 32 bytes are left, or four in a row of the next sixteen go on (`told`).

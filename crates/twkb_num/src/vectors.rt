@@ -1,5 +1,5 @@
 //! Varints from the next 32 bytes, read into the lanes of vectors.
-ghost use Rattle.std.specs.Prelude.{◌≡◌, ◌+◌, ◌<◌, ◌≤◌, ◌/◌, ◌%◌, ◌^◌, ℕ, map, slice_index, take, All};
+ghost use Rattle.std.specs.Prelude.{◌≡◌, ◌+◌, ◌<◌, ◌≤◌, ◌/◌, ◌%◌, ◌^◌, ℕ, ℤ, List, [], ◌∷◌, map, slice_index, take, All};
 ghost use Rattle.std.specs.Int.{w16, w32, cast_signed};
 ghost use Rattle.twkb_num.specs.Varint.{zigzag_value, SpellsAll, SpellsAllSigned, IsShort, IsBrief, HasLong};
 ghost use Rattle.twkb_num.specs.Devices.Lanes.{two_groups, four_groups, byte_or_zero, IsTops, IsFlag, values};
@@ -15,7 +15,7 @@ struct Unpacked {
     len: u32,
 }
 
-/// Four signed numbers, and the length of all spellings together. 128 or more: one is too long.
+/// Four signed numbers, or two in the first two lanes, and the length of all spellings together. 128 or more: one is too long.
 #[derive(Clone, Copy)]
 pub struct Wide {
     pub lanes: u32x4,
@@ -50,6 +50,23 @@ pub fn wide_four(bytes: &[u8; 32]) -> Wide
     Wide {
         lanes: unzigzag_wide(packed_wide(lanes)),
         len: first.len + second.len,
+    }
+}
+
+/// The two numbers that the front of the bytes spells, in the first two lanes, if each takes at most four bytes.
+#[inline(always)]
+pub fn wide_pair(bytes: &[u8; 16]) -> Wide
+    ensures few { result.len < 128 → result.len ≤ 16 }
+    ensures spelled { (x y : ℤ) (others : List ℤ) → map (cast_signed w32) result.lanes ≡ x ∷ y ∷ others → result.len < 128
+        → SpellsAllSigned (take result.len bytes.now) (x ∷ y ∷ []) }
+    ensures short { All IsShort (map (cast_signed w32) result.lanes) }
+    ensures long { 128 ≤ result.len → HasLong 4 8 bytes.now }
+{
+    let v = u8x16::from_slice(bytes);
+    let both = wide_two(v, (continuation_bits(v) % 256) as usize);
+    Wide {
+        lanes: meant_wide(both.lanes),
+        len: both.len,
     }
 }
 
@@ -158,6 +175,15 @@ fn packed_narrow(v: u16x8) -> u16x8
     ensures { result ≡ map two_groups v }
 {
     (v & u16x8::splat(0x7f)) + ((v & u16x8::splat(0x7f00)) >> u16x8::splat(1))
+}
+
+/// What the groups of each lane's four bytes mean by zigzag, in two's complement.
+#[inline(always)]
+fn meant_wide(row: u8x16) -> u32x4
+    ensures meaning { map (cast_signed w32) result ≡ map zigzag_value (values 4 4 row 0) }
+    ensures short { All IsShort (map (cast_signed w32) result) }
+{
+    unzigzag_wide(packed_wide(u32x4::from_le_bytes(row)))
 }
 
 /// What each lane means by zigzag, in two's complement.

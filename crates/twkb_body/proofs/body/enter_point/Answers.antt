@@ -1,4 +1,4 @@
--- Two short numbers that one word shows are the point.
+-- Two short numbers that a vector shows are the point.
 use Rattle.std.proofs.Common.{◌≡◌, ℤ, pos, ◌+ℤ◌, None, ℕ, [], ◌∷◌, fold, map, option_map, refl, ap, sym, subst, ◌∙◌, arith}
 use Rattle.std.proofs.lemmas.Int.{ints}
 use mir.Val.{to_z, of_z}
@@ -21,12 +21,12 @@ enter_deep_body-requires-clause-behind g c =
     let b = c.requires.behind in
     (b.0, b.1, b.2, subst (λ (r : Reading). IsBehind (g.V.Visit.passes (g.V.Visit.state c.args.visitor.now)) Point c.args.axes c.args.ids r b.0 b.1 b.2) (sym c.in-None.ensures.none) b.3)
 
-pub returns-in-None : goal.returns-in-None
-returns-in-None g c = λ t depth before b.
-    c.enter_deep_body.ensures t depth before (subst (λ (r : Reading). IsBehind (g.V.Visit.passes (g.V.Visit.state c.args.visitor.now)) Point c.args.axes c.args.ids r t depth before) (sym c.in-None.ensures.none) b)
+pub returns-in-None-clause-entered : goal.returns-in-None-clause-entered
+returns-in-None-clause-entered g c = λ t depth before b.
+    c.enter_deep_body.ensures.entered t depth before (subst (λ (r : Reading). IsBehind (g.V.Visit.passes (g.V.Visit.state c.args.visitor.now)) Point c.args.axes c.args.ids r t depth before) (sym c.in-None.ensures.none) b)
 
-pub returns-in-Some : goal.returns-in-Some
-returns-in-Some g c = λ t depth before b.
+pub returns-in-Some-clause-entered : goal.returns-in-Some-clause-entered
+returns-in-Some-clause-entered g c = λ t depth before b.
     let axes = c.args.axes in
     let h = full_head Point axes c.args.ids b.size b.bounds b.start b.stop in
     let x = c.in-Some.x in

@@ -56,7 +56,7 @@ enter_point-requires-clause-behind g c =
 
 pub returns-then-is_flat_point : goal.returns-then-is_flat_point
 returns-then-is_flat_point g c = λ t depth before come.
-    c.enter_point.ensures t depth before (behind _ c.args.raw c.args.cursor.now t depth before come c.in_default.ensures c.if-raw.false Point (c.is_flat_point.ensures.kind c.if-is_flat_point.true))
+    c.enter_point.ensures.entered t depth before (behind _ c.args.raw c.args.cursor.now t depth before come c.in_default.ensures c.if-raw.false Point (c.is_flat_point.ensures.kind c.if-is_flat_point.true))
 
 pub enter_flat-requires-clause-behind : goal.enter_flat-requires-clause-behind
 enter_flat-requires-clause-behind g c =
@@ -74,4 +74,4 @@ enter_deep_body-requires-clause-behind g c =
 
 pub returns : goal.returns
 returns g c = λ t depth before come.
-    c.enter_deep_body.ensures t depth before (behind _ c.args.raw c.args.cursor.now t depth before come c.in_default.ensures c.if-raw.false c.args.raw.kind refl)
+    c.enter_deep_body.ensures.entered t depth before (behind _ c.args.raw c.args.cursor.now t depth before come c.in_default.ensures c.if-raw.false c.args.raw.kind refl)

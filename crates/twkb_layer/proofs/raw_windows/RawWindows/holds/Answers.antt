@@ -1,6 +1,8 @@
 -- The comparison of raw integers gives the answer of units.
-use Rattle.std.proofs.Common.{pos, ◌&&◌, not, refl, ap, sym, ◌∙◌, arith}
+use Rattle.std.proofs.Common.{◌≡◌, pos, ◌&&◌, not, refl, ap, sym, ◌∙◌, arith}
 use Rattle.std.proofs.lemmas.Int.{ints}
+use mir.Val.{to_z, of_z}
+use Rattle.std.specs.Int.{w8}
 use Rattle.std.proofs.lemmas.Option.{unwrap_or-slice_get}
 use Rattle.twkb_body.specs.Geometry.{vertex_at}
 use Rattle.twkb_layer.specs.Window.{in_bound}
@@ -34,11 +36,13 @@ returns-then-is_flat c =
 pub returns-then-not-is_inner : goal.returns-then-not-is_inner
 returns-then-not-is_inner c =
     let point = c.args.point.now in
-    inside_by_four c.args.axes c.args.self.now point _ _ _ _ _ c.holds_in_units.ensures (omega (arith, ints, unwrap_or-slice_get point 0 (pos 0))) (omega (arith, ints, unwrap_or-slice_get point 1 (pos 0)))
+    let xy : to_z w8 (of_z w8 c.args.axes.xy) ≡ c.args.axes.xy = omega (arith, ints) in
+    inside_by_four c.args.axes c.args.self.now point _ _ _ _ _ (rw xy at c.holds_in_units.ensures) (omega (arith, ints, unwrap_or-slice_get point 0 (pos 0))) (omega (arith, ints, unwrap_or-slice_get point 1 (pos 0)))
     (omega (arith, ints, unwrap_or-slice_get point 2 (pos 0))) (omega (arith, ints, unwrap_or-slice_get point 3 (pos 0)))
 
 pub returns-else-is_flat : goal.returns-else-is_flat
 returns-else-is_flat c =
     let point = c.args.point.now in
-    inside_by_four c.args.axes c.args.self.now point _ _ _ _ _ c.holds_in_units-else-is_flat.ensures (omega (arith, ints, unwrap_or-slice_get point 0 (pos 0))) (omega (arith, ints, unwrap_or-slice_get point 1 (pos 0)))
+    let xy : to_z w8 (of_z w8 c.args.axes.xy) ≡ c.args.axes.xy = omega (arith, ints) in
+    inside_by_four c.args.axes c.args.self.now point _ _ _ _ _ (rw xy at c.holds_in_units-else-is_flat.ensures) (omega (arith, ints, unwrap_or-slice_get point 0 (pos 0))) (omega (arith, ints, unwrap_or-slice_get point 1 (pos 0)))
     (omega (arith, ints, unwrap_or-slice_get point 2 (pos 0))) (omega (arith, ints, unwrap_or-slice_get point 3 (pos 0)))

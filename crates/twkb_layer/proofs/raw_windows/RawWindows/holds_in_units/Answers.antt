@@ -2,7 +2,7 @@
 use Rattle.std.proofs.Common.{◌≡◌, ℤ, [], ◌∷◌, ap, ◌∙◌, arith}
 use Rattle.std.proofs.lemmas.Int.{ints}
 use mir.Val.{to_z, of_z}
-use Rattle.std.specs.Int.{w64}
+use Rattle.std.specs.Int.{w8, w64}
 use Rattle.twkb_body.specs.Geometry.{vertex_at}
 use Rattle.twkb_layer.specs.Window.{is_inside}
 use Rattle.twkb_layer.proofs.raw_windows.RawWindows.holds_in_units.Goals as goal
@@ -14,4 +14,5 @@ returns c =
     let y : bits c.args.y ≡ c.args.y = omega (arith, ints) in
     let third : bits c.args.third ≡ c.args.third = omega (arith, ints) in
     let fourth : bits c.args.fourth ≡ c.args.fourth = omega (arith, ints) in
-    rw c.window.ensures at c.inside.ensures ∙ ap (is_inside c.args.self.now) (c.vertex_at.ensures ∙ ap (vertex_at c.args.axes) (λ j. x j ∷ y j ∷ third j ∷ fourth j ∷ []))
+    let xy : to_z w8 (of_z w8 c.args.xy) ≡ c.args.xy = omega (arith, ints) in
+    rw c.window.ensures at c.inside.ensures ∙ ap (is_inside c.args.self.now) (c.vertex_at.ensures ∙ (λ j. vertex_at (record { xy = xy j; z = c.args.z; m = c.args.m }) (x j ∷ y j ∷ third j ∷ fourth j ∷ [])))
