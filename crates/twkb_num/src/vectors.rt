@@ -56,7 +56,7 @@ pub fn wide_four(bytes: &[u8; 32]) -> Wide
 /// The two numbers that the front of the bytes spells, in the first two lanes, if each takes at most four bytes.
 #[inline(always)]
 pub fn wide_pair(bytes: &[u8; 16]) -> Wide
-    ensures few { result.len < 128 → result.len ≤ 16 }
+    ensures few { result.len < 128 → result.len ≤ 8 }
     ensures spelled { (x y : ℤ) (others : List ℤ) → map (cast_signed w32) result.lanes ≡ x ∷ y ∷ others → result.len < 128
         → SpellsAllSigned (take result.len bytes.now) (x ∷ y ∷ []) }
     ensures short { All IsShort (map (cast_signed w32) result.lanes) }

@@ -1,5 +1,5 @@
 //! Signed numbers at a cursor's place, read together into the lanes of a vector.
-ghost use Rattle.std.specs.Prelude.{◌≡◌, ◌<◌, ◌⊎◌, length, [], ◌∷◌, false, map, replicate, All, IsTrue, IfSome, IfNone, OnSome};
+ghost use Rattle.std.specs.Prelude.{◌≡◌, ◌+◌, ◌<◌, ◌≤◌, ◌⊎◌, length, [], ◌∷◌, false, map, replicate, All, IsTrue, IfSome, IfNone, OnSome};
 ghost use Rattle.std.specs.Int.{w16, w32, cast_signed};
 ghost use Rattle.twkb_num.specs.Cursor.{passed, rest, IsMoved};
 ghost use Rattle.twkb_num.specs.Varint.{SpellsAllSigned, SpellsTwoSigned, IsShort, IsBrief, HasLong};
@@ -73,13 +73,13 @@ impl<'a> Cursor<'a> {
         }
     }
 
-    /// Reads two signed varints as [`Cursor::svarint_pair`] does, by a vector, if sixteen bytes are left. It is faster if the two are
-    /// of any lengths.
+    // The two signed varints at the place, if each takes at most four bytes and sixteen bytes are left.
     #[inline(always)]
-    pub fn svarint_lane_pair(&mut self) -> Option<(i64, i64)>
+    pub(super) fn lane_pair(&mut self) -> Option<(i64, i64)>
         ensures some { IfSome result (λ pair. SpellsTwoSigned (passed self.old self.new) pair.0 pair.1) }
         ensures short { IfSome result (λ pair. IsShort pair.0 × IsShort pair.1) }
         ensures told { IfNone result ((length (rest self.old) < 16) ⊎ HasLong 4 8 (rest self.old)) }
+        ensures within { OnSome result (self.new.place ≤ self.old.place + 8) }
         ensures moved { OnSome result (IsMoved self.old self.new) }
         ensures none { IfNone result (self.new ≡ self.old) }
     {

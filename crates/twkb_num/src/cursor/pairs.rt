@@ -25,9 +25,27 @@ impl<'a> Cursor<'a> {
         Some((pair.first, pair.second))
     }
 
-    /// Reads two signed varints as [`Cursor::svarint_pair`] does. It is faster if the two are rarely of equal length.
+    /// Reads two signed varints as [`Cursor::svarint_pair`] does. It is faster if the two are rarely of equal length: it reads them by
+    /// a vector, if sixteen bytes are left.
     #[inline(always)]
     pub fn svarint_mixed_pair(&mut self) -> Option<(i64, i64)>
+        ensures some { IfSome result (λ pair. SpellsTwoSigned (passed self.old self.new) pair.0 pair.1) }
+        ensures short { IfSome result (λ pair. IsShort pair.0 × IsShort pair.1) }
+        ensures told { IfNone result ((length (rest self.old) < 8) ⊎ HasLong 4 8 (rest self.old)) }
+        ensures within { OnSome result (self.new.place ≤ self.old.place + 8) }
+        ensures moved { OnSome result (IsMoved self.old self.new) }
+        ensures none { IfNone result (self.new ≡ self.old) }
+    {
+        if self.bytes.len() - self.place < 16 {
+            self.word_pair()
+        } else {
+            self.lane_pair()
+        }
+    }
+
+    // The two numbers from one word of eight bytes.
+    #[inline(always)]
+    fn word_pair(&mut self) -> Option<(i64, i64)>
         ensures some { IfSome result (λ pair. SpellsTwoSigned (passed self.old self.new) pair.0 pair.1) }
         ensures short { IfSome result (λ pair. IsShort pair.0 × IsShort pair.1) }
         ensures told { IfNone result ((length (rest self.old) < 8) ⊎ HasLong 4 8 (rest self.old)) }

@@ -6,7 +6,7 @@ use Rattle.twkb_num.proofs.CursorLemmas.{take-chunk}
 use Rattle.twkb_num.proofs.EndLemmas.{chunk_at}
 use Rattle.twkb_num.proofs.LongLemmas.{long_in_front}
 use Rattle.twkb_num.proofs.PairLaws.{two_of_all}
-use Rattle.twkb_num.proofs.cursor.Cursor.svarint_lane_pair.Goals as goal
+use Rattle.twkb_num.proofs.cursor.Cursor.lane_pair.Goals as goal
 
 pub returns-then-both-ge128-clause-told : goal.returns-then-both-ge128-clause-told
 returns-then-both-ge128-clause-told c =
@@ -20,7 +20,7 @@ returns-clause-some c =
     let both = c.wide_pair-both in
     let two = c.two_pairs.result.0 in
     let short : both.result.len ≤ 127 = omega (arith, c.if-both-ge128.false) in
-    let few : both.result.len ≤ 16 = both.ensures.few (omega (arith, short)) in
+    let few : both.result.len ≤ 16 = omega (arith, both.ensures.few (omega (arith, short))) in
     let is = take-chunk c.self.inside.bytes.now c.in_ok-first_chunk.field-0.now c.self.inside.place 16 both.result.len chunk.same chunk.enough few in
     let all = both.ensures.spelled two.0 two.1 _ c.two_pairs.ensures (omega (arith, short)) in
     rw (← c.self.view_is) (subst (λ bs. SpellsTwoSigned bs two.0 two.1) is (two_of_all _ two.0 two.1 all))

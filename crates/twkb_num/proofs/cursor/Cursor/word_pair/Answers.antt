@@ -3,7 +3,7 @@ use Rattle.twkb_num.proofs.CursorLemmas.{take-chunk}
 use Rattle.std.proofs.Common.{inr}
 use Rattle.twkb_num.proofs.ToldLemmas.{long_next}
 use Rattle.twkb_num.proofs.LastLemmas.{passed_two}
-use Rattle.twkb_num.proofs.cursor.Cursor.svarint_mixed_pair.Goals as goal
+use Rattle.twkb_num.proofs.cursor.Cursor.word_pair.Goals as goal
 
 pub returns-clause-some : goal.returns-clause-some
 returns-clause-some c =
