@@ -12,7 +12,7 @@ use crate::passer::Passer;
 use crate::skimming::skim_members;
 use crate::step::enter_headed;
 use crate::visit::Visit;
-use twkb_head::{Begun, Fields, begin_head, take_boxed_rest, take_rest};
+use twkb_head::{Begun, Fields, begin_head, take_rest};
 use twkb_num::Cursor;
 
 /// Shows the vertices of the certified blob at the place to a visitor, as [`skim`](crate::skim) does, and returns its header.
@@ -75,10 +75,7 @@ fn take_header(cursor: &mut Cursor) -> Fields
     };
     // Most headers are of these two kinds: here the compiler knows which fields there are.
     if begun.is_flat_boxed() {
-        let Ok(raw) = take_boxed_rest(cursor, begun.announcing(3)) else {
-            unreachable!()
-        };
-        return raw;
+        return finish_header(cursor, begun.announcing(3));
     }
     if begun.is_sized_point() {
         return finish_header(cursor, begun.announcing(2));

@@ -1,27 +1,22 @@
 -- A certified blob begins with a header, whose rest is read after its first two bytes.
-use Rattle.twkb_body.proofs.Beginning.{announced_same, rest_read}
+use Rattle.twkb_body.proofs.Beginning.{announced_same}
 use Rattle.twkb_body.proofs.HeadStands.{header_starts}
 use Rattle.twkb_body.proofs.headed.take_header.Goals as goal
 
 pub unreachable-requires : goal.unreachable-requires
 unreachable-requires c = let no = c.in_default.ensures.none (header_starts c.requires.0 1 c.args.cursor.now c.requires.1) in cc (no)
 
-pub unreachable-requires-in_default-take_boxed_rest : goal.unreachable-requires-in_default-take_boxed_rest
-unreachable-requires-in_default-take_boxed_rest c =
-    let begins = announced_same c.in-Some.begun c.announcing.result 1 3 c.args.cursor.now c.begin_head.new.cursor (c.is_flat_boxed.ensures c.if-is_flat_boxed.true) c.announcing.ensures c.in-Some.ensures.some in
-    let no = (c.in_default-take_boxed_rest.ensures.exact 1 c.args.cursor.now c.place_is_within.ensures begins).1 (header_starts c.requires.0 1 c.args.cursor.now c.requires.1) in
-    cc (no)
+pub finish_header-requires-clause-come : goal.finish_header-requires-clause-come
+finish_header-requires-clause-come c = (c.requires.0, c.args.cursor.now, record { stands = c.requires.1; sound = c.place_is_within.ensures; begins = announced_same c.in-Some.begun c.announcing.result 1 3 c.args.cursor.now c.begin_head.new.cursor (c.is_flat_boxed.ensures c.if-is_flat_boxed.true) c.announcing.ensures c.in-Some.ensures.some })
 
 pub returns-then-is_flat_boxed-clause-read : goal.returns-then-is_flat_boxed-clause-read
-returns-then-is_flat_boxed-clause-read c = λ g at.
-    let begins = announced_same c.in-Some.begun c.announcing.result 1 3 c.args.cursor.now c.begin_head.new.cursor (c.is_flat_boxed.ensures c.if-is_flat_boxed.true) c.announcing.ensures c.in-Some.ensures.some in
-    rest_read c.announcing.result g 1 c.args.cursor.now c.begin_head.new.cursor c.take_boxed_rest.new.cursor (record { stands = at; sound = c.place_is_within.ensures; begins = begins }) c.in-Ok.raw (c.in-Ok.ensures.read 1 c.args.cursor.now c.place_is_within.ensures begins)
+returns-then-is_flat_boxed-clause-read c = λ g at. c.finish_header.ensures.read g c.args.cursor.now (record { stands = at; sound = c.place_is_within.ensures; begins = announced_same c.in-Some.begun c.announcing.result 1 3 c.args.cursor.now c.begin_head.new.cursor (c.is_flat_boxed.ensures c.if-is_flat_boxed.true) c.announcing.ensures c.in-Some.ensures.some })
 
-pub finish_header-requires-clause-come : goal.finish_header-requires-clause-come
-finish_header-requires-clause-come c = (c.requires.0, c.args.cursor.now, record { stands = c.requires.1; sound = c.place_is_within.ensures; begins = announced_same c.in-Some.begun c.announcing-then-is_sized_point.result 1 2 c.args.cursor.now c.begin_head.new.cursor (c.is_sized_point.ensures.metadata c.if-is_sized_point.true) c.announcing-then-is_sized_point.ensures c.in-Some.ensures.some })
+pub finish_header-requires-then-is_sized_point-clause-come : goal.finish_header-requires-then-is_sized_point-clause-come
+finish_header-requires-then-is_sized_point-clause-come c = (c.requires.0, c.args.cursor.now, record { stands = c.requires.1; sound = c.place_is_within.ensures; begins = announced_same c.in-Some.begun c.announcing-then-is_sized_point.result 1 2 c.args.cursor.now c.begin_head.new.cursor (c.is_sized_point.ensures.metadata c.if-is_sized_point.true) c.announcing-then-is_sized_point.ensures c.in-Some.ensures.some })
 
 pub returns-then-is_sized_point-clause-read : goal.returns-then-is_sized_point-clause-read
-returns-then-is_sized_point-clause-read c = λ g at. c.finish_header.ensures.read g c.args.cursor.now (record { stands = at; sound = c.place_is_within.ensures; begins = announced_same c.in-Some.begun c.announcing-then-is_sized_point.result 1 2 c.args.cursor.now c.begin_head.new.cursor (c.is_sized_point.ensures.metadata c.if-is_sized_point.true) c.announcing-then-is_sized_point.ensures c.in-Some.ensures.some })
+returns-then-is_sized_point-clause-read c = λ g at. c.finish_header-then-is_sized_point.ensures.read g c.args.cursor.now (record { stands = at; sound = c.place_is_within.ensures; begins = announced_same c.in-Some.begun c.announcing-then-is_sized_point.result 1 2 c.args.cursor.now c.begin_head.new.cursor (c.is_sized_point.ensures.metadata c.if-is_sized_point.true) c.announcing-then-is_sized_point.ensures c.in-Some.ensures.some })
 
 pub finish_header-requires-2-clause-come : goal.finish_header-requires-2-clause-come
 finish_header-requires-2-clause-come c = (c.requires.0, c.args.cursor.now, record { stands = c.requires.1; sound = c.place_is_within.ensures; begins = c.in-Some.ensures.some })
