@@ -179,11 +179,11 @@ fn packed_narrow(v: u16x8) -> u16x8
 
 /// What the groups of each lane's four bytes mean by zigzag, in two's complement.
 #[inline(always)]
-fn meant_wide(row: u8x16) -> u32x4
-    ensures meaning { map (cast_signed w32) result ≡ map zigzag_value (values 4 4 row 0) }
+fn meant_wide(groups: u8x16) -> u32x4
+    ensures meaning { map (cast_signed w32) result ≡ map zigzag_value (values 4 4 groups 0) }
     ensures short { All IsShort (map (cast_signed w32) result) }
 {
-    unzigzag_wide(packed_wide(u32x4::from_le_bytes(row)))
+    unzigzag_wide(packed_wide(u32x4::from_le_bytes(groups)))
 }
 
 /// What each lane means by zigzag, in two's complement.

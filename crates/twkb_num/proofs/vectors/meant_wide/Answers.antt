@@ -10,9 +10,9 @@ use Rattle.twkb_num.proofs.vectors.meant_wide.Goals as goal
 
 pub returns-clause-meaning : goal.returns-clause-meaning
 returns-clause-meaning c =
-    let row = c.args.row in
-    let fit = λ (i : ℕ) (h : i < 16). Each1-get_or (λ x. x < 256) row i 0 (omega (arith, h, c.fits-row.0)) (below_from_Fits w8 row c.fits-row.1) in
-    c.unzigzag_wide.ensures ∙ ap (map zigzag_value) (c.packed_wide.ensures ∙ wide_lanes row c.fits-row.0 fit)
+    let groups = c.args.groups in
+    let fit = λ (i : ℕ) (h : i < 16). Each1-get_or (λ x. x < 256) groups i 0 (omega (arith, h, c.fits-groups.0)) (below_from_Fits w8 groups c.fits-groups.1) in
+    c.unzigzag_wide.ensures ∙ ap (map zigzag_value) (c.packed_wide.ensures ∙ wide_lanes groups c.fits-groups.0 fit)
 
 pub returns-clause-short : goal.returns-clause-short
-returns-clause-short c = subst (All IsShort) (sym (c.unzigzag_wide.ensures ∙ ap (map zigzag_value) c.packed_wide.ensures)) (all_short (digits_l 4294967296 4 (number_l 256 c.args.row)))
+returns-clause-short c = subst (All IsShort) (sym (c.unzigzag_wide.ensures ∙ ap (map zigzag_value) c.packed_wide.ensures)) (all_short (digits_l 4294967296 4 (number_l 256 c.args.groups)))
