@@ -1,5 +1,6 @@
 -- A geometry whose header was read in raw numbers: what its body says of it, and how its header is handed over.
-use Rattle.std.proofs.Common.{◌≡◌, ℕ, ◌-◌, ◌≤◌, Bool, false, ℤ, Option, Some, None, is_some, option_map, IfSome, Result, Ok, Err, refl, sym, ap, subst, ◌∙◌, arith}
+use Rattle.std.proofs.Common.{◌≡◌, ℕ, ◌-◌, ◌≤◌, ◌↔◌, Bool, false, [], ◌∷◌, ℤ, Option, Some, None, is_some, option_map, IfSome, Result, Ok, Err, refl, sym, ap, subst, ◌∙◌, arith}
+use Rattle.std.specs.Prelude.{◌%◌, IsOk, IsSome}
 use Rattle.std.proofs.lemmas.Int.{ints}
 use mir.Val.{to_z, of_z}
 use Rattle.std.specs.Int.{w8}
@@ -10,26 +11,26 @@ use Rattle.twkb_head.specs.declared.raw.RawBox.{RawBox}
 use Rattle.twkb_head.specs.declared.raw.RawRange.{RawRange}
 use Rattle.twkb_head.specs.declared.raw.Fields.{Fields}
 use Rattle.twkb_head.specs.BegunHeader.{deepest, is_collection, IsAllowedAt}
-use Rattle.twkb_head.specs.Head.{IsHeadAt}
-use Rattle.twkb_head.specs.Raw.{raw_bounds, flat_box, fields_box, head_said, boxless}
+use Rattle.twkb_head.specs.declared.read.Begun.{Begun}
+use Rattle.twkb_head.specs.declared.refusal.Malformed.{Malformed}
+use Rattle.twkb_head.specs.Head.{IsHeadAt, StartsWithHeader}
+use Rattle.twkb_head.specs.Raw.{raw_bounds, flat_box, fields_box, head_said, boxless, BeginsHead, ReadsHead}
 use Rattle.twkb_body.specs.declared.frame.Frame.{Frame}
 use Rattle.twkb_body.specs.Audited.{HasLongList}
 use Rattle.twkb_body.specs.declared.doubt.Doubt.{Doubt}
+use Rattle.twkb_body.specs.declared.doubt.Doubt.TheVariants.{Refused}
 use Rattle.twkb_body.specs.Devices.Stops.{WantsBehind}
 use Rattle.twkb_body.specs.Devices.BodyReader.{body_at, members_under}
 use Rattle.twkb_body.specs.Devices.Inside.{of_head}
-use Rattle.twkb_body.specs.Devices.Sure.{framed, IsFrameUnder, IsSureBody, IsSureBehind, IsSure, IsJudged, IsApart, HasDoubt, Certifies, IsRefutedBody, IsRefutedBehind, IsRefuted}
+use Rattle.twkb_body.specs.Devices.Sure.{framed, IsFrameUnder, IsSureBody, IsSureBehind, IsSure, IsJudged, IsApart, HasDoubt, HasReadTwo, HasBegun, HasHead, Certifies, CertifiesAfterTwo, CertifiesAfterHead, IsRefutedBody, IsRefutedBehind, IsRefuted}
+use Rattle.twkb_body.proofs.Beginning.{announced_same}
 use Rattle.twkb_body.proofs.Keeping.{keeps_body_under, read_keeps}
 use Rattle.twkb_body.proofs.MemberSteps.{long_list_in}
 use Rattle.twkb_body.proofs.HeadFacts.{head_size}
 use Rattle.twkb_body.proofs.SureSteps.{sure_behind, geometry_sure, own_box}
-use Rattle.twkb_body.proofs.Refuting.{behind_refutes, body_refutes, size_refutes, doubts_through, refused_for}
+use Rattle.twkb_body.proofs.Refuting.{behind_refutes, body_refutes, size_refutes, doubts_through, no_header_refutes, refused_for, rest_refutes}
 
 module _ (raw : Fields) (depth : ℕ) (above : Option Frame) (r mid : Reading) (some : 1 ≤ depth) (deep : depth ≤ deepest) (sound : IsSound r) (at : IsHeadAt (head_said raw) depth r.place (passed r mid)) (moved : IsMoved r mid) where
-  -- the kind is allowed at this depth
-  pub raw_allowed : IsAllowedAt raw.kind depth
-  raw_allowed = subst (λ (h : Head). IsAllowedAt h.kind depth) (sym at.fields) at.allowed
-
   -- a doubt about the part after the header is a doubt about the geometry
   pub behind_doubts : (d : Doubt) (new : Reading) → HasDoubt (IsRefutedBehind (deepest - depth) (head_said raw) above mid) (WantsBehind depth (head_said raw) mid) mid d new
       → HasDoubt (IsRefuted (deepest - depth) above r) (HasLongList depth (rest r)) r d new
@@ -77,6 +78,14 @@ module _ (raw : Fields) (depth : ℕ) (above : Option Frame) (r mid : Reading) (
 pub flat_ends : (plain : Head) (raw : Fields) (depth : ℕ) (r mid : Reading) → plain ≡ boxless raw → IsHeadAt (head_said raw) depth r.place (passed r mid) → IsMoved r mid → (stop : ℕ) → mid.place ≤ stop
     → IfSome plain.size (λ size. size.after ≤ stop)
 flat_ends plain raw depth r mid same at moved stop le = subst (λ (h : Head). IfSome h.size (λ size. size.after ≤ stop)) (sym same) (head_size r mid (head_said raw) depth at moved stop le)
+
+-- what the header that was read says of its kind and of its size field
+module _ {depth : ℕ} {above : Option Frame} {raw : Fields} {mid : Reading} (head : HasHead depth above raw mid) (plain : Head) (same : plain ≡ boxless raw) where
+  pub kind_allowed : IsAllowedAt plain.kind depth
+  kind_allowed = let at = head.read.2.0 in subst (λ (h : Head). IsAllowedAt h.kind depth) (sym (same ∙ ap (λ (h : Head). record h { bounds = None }) at.fields)) at.allowed
+
+  pub size_ahead : (stop : ℕ) → mid.place ≤ stop → IfSome plain.size (λ size. size.after ≤ stop)
+  size_ahead = flat_ends plain raw depth head.read.0 mid same head.read.2.0 head.read.2.1
 
 -- ---- a geometry that no frame can hold
 -- the precision of X and Y goes through eight bits unchanged
@@ -130,3 +139,39 @@ apart_any raw plain xy xy_is same full = record {
 -- the header of a geometry in any axes, as it is handed over
 pub any_apart : (raw : Fields) (plain : Head) → IsPrecision raw.axes.xy → plain ≡ boxless raw → raw.empty ≡ false → IsApart (head_said raw) plain.kind (to_z w8 (of_z w8 plain.xy)) plain.z plain.m plain.ids raw.bounds
 any_apart raw plain precise same full = apart_any raw plain _ (plain_xy raw plain precise same) same full
+
+-- ---- a geometry whose first two bytes were read
+-- the header that begins with two bytes, from wherever they were read
+abbrev pub BeginsAlways : ℕ → ℕ → ℕ → Reading → Begun → Type 0
+BeginsAlways depth first metadata now begun =
+    (before : Reading) → IsSound before → IsMoved before now → passed before now ≡ first ∷ metadata ∷ [] → BeginsHead begun depth before now
+
+-- the same, with only the bits of the second byte that announce fields
+pub bits_begin : (depth first metadata : ℕ) (now : Reading) (begun other : Begun) → other ≡ record begun { metadata = begun.metadata % 32 } → BeginsAlways depth first metadata now begun → BeginsAlways depth first metadata now other
+bits_begin depth first metadata now begun other is begins before sound moved bytes = announced_same begun other depth (begun.metadata % 32) before now refl is (begins before sound moved bytes)
+
+module _ (depth : ℕ) (above : Option Frame) (first metadata : ℕ) (now : Reading) (some : 1 ≤ depth) (deep : depth ≤ deepest) where
+  -- it is refuted if no header begins with them
+  pub none_begins : ((before : Reading) → IsSound before → IsMoved before now → passed before now ≡ first ∷ metadata ∷ [] → StartsWithHeader depth (rest before) → IsSome {T = Begun} None)
+      → CertifiesAfterTwo depth above first metadata now (Err Refused) now
+  none_begins none before two = (two.moved.bytes, no_header_refutes depth above before some deep two.sound (λ starts. cc (none before two.sound two.moved two.bytes starts)))
+
+  module _ (begun : Begun) (begins : BeginsAlways depth first metadata now begun) (new : Reading) where
+    -- it is refuted if the rest of its header can't be read
+    pub rest_unread : (m : Malformed) → ((depth : ℕ) (before : Reading) → IsSound before → BeginsHead begun depth before now → ReadsHead depth before new (Err m))
+        → ((depth : ℕ) (before : Reading) → IsSound before → BeginsHead begun depth before now → IsOk {T = Fields} {E = Malformed} (Err m) ↔ StartsWithHeader depth (rest before))
+        → CertifiesAfterTwo depth above first metadata now (Err Refused) new
+    rest_unread m read exact before two =
+        let b = begins before two.sound two.moved two.bytes in
+        rest_refutes m depth above before new some deep two.sound (read depth before two.sound b) (exact depth before two.sound b)
+
+    -- its header was read
+    module _ (raw : Fields) (read : (depth : ℕ) (before : Reading) → IsSound before → BeginsHead begun depth before now → ReadsHead depth before new (Ok raw)) where
+      read_from : (before : Reading) → HasReadTwo before first metadata now → ReadsHead depth before new (Ok raw)
+      read_from before two = read depth before two.sound (begins before two.sound two.moved two.bytes)
+
+      pub header_read : HasBegun depth above first metadata now → raw.empty ≡ false → HasHead depth above raw new
+      header_read before full = record { shallowest = some; deepest = deep; full = full; read = (before.before.0, before.before.1.sound, read_from before.before.0 before.before.1); near = before.near }
+
+      pub header_certifies : (result : Result ℕ Doubt) (stop : Reading) → CertifiesAfterHead depth above raw new result stop → CertifiesAfterTwo depth above first metadata now result stop
+      header_certifies result stop certifies before two = certifies before two.sound (read_from before two)

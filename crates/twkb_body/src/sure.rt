@@ -1,16 +1,15 @@
 //! The first reading of a blob, which certifies it or ends in a doubt. It hands down the innermost box, and hands up the number of
 //! vertices.
 ghost use Rattle.std.specs.Prelude.{◌≡◌, ◌≤◌, ◌+◌, ◌-◌, bit_and, true, false, Option, None, Some, option_map, IfSome, OnSome, IfOk, Ok};
-ghost use Rattle.twkb_num.specs.Cursor.{Reading, IsSound};
+ghost use Rattle.twkb_num.specs.Cursor.{Reading};
 ghost use Rattle.twkb_num.specs.Units.{IsPrecision};
 ghost use Rattle.twkb_head.specs.BegunHeader.{deepest, is_collection, IsAllowedAt};
 ghost use Rattle.twkb_head.specs.Header.{has_bit};
-ghost use Rattle.twkb_head.specs.Raw.{ReadsHead};
 ghost use Rattle.twkb_head.specs.declared.header.Head.{Head as HeadOf};
 ghost use Rattle.twkb_head.specs.declared.kinds.Kind.TheVariants.{Point, LineString};
 ghost use Rattle.twkb_body.specs.declared.doubt.Doubt.TheVariants.{Refused};
 ghost use Rattle.twkb_body.specs.declared.frame.Frame.{Frame as FrameOf};
-ghost use Rattle.twkb_body.specs.Devices.Sure.{counted_in, framed, has_further, IsFramed, IsNearFrame, IsFrameUnder, IsJudged, HasReadTwo, Certifies, CertifiesAfterTwo, CertifiesBody};
+ghost use Rattle.twkb_body.specs.Devices.Sure.{counted_in, framed, has_further, IsFramed, IsNearFrame, IsFrameUnder, IsJudged, HasReadTwo, HasBegun, HasHead, Certifies, CertifiesAfterTwo, CertifiesAfterHead, CertifiesBody};
 ghost use Rattle.twkb_body.specs.Devices.Walk.{HasPrecisions};
 
 mod announced;
@@ -69,10 +68,7 @@ fn take_sure<R: IdRoom>(
     first: u8,
     metadata: u8,
 ) -> Result<usize, Doubt>
-    requires shallowest { 1 ≤ depth }
-    requires deepest { depth ≤ deepest }
-    requires before { (before : Reading) × HasReadTwo before first metadata cursor.old }
-    requires near { IfSome above.now IsNearFrame }
+    requires { HasBegun depth above.now first metadata cursor.old }
     ensures { CertifiesAfterTwo depth above.now first metadata cursor.old result cursor.new }
 {
     match metadata & FLAT_BOX_BITS {
@@ -94,11 +90,8 @@ fn take_flat<R: IdRoom>(
     first: u8,
     metadata: u8,
 ) -> Result<usize, Doubt>
-    requires shallowest { 1 ≤ depth }
-    requires deepest { depth ≤ deepest }
+    requires begun { HasBegun depth above.now first metadata cursor.old }
     requires bits { bit_and metadata 25 ≡ 0 }
-    requires before { (before : Reading) × HasReadTwo before first metadata cursor.old }
-    requires near { IfSome above.now IsNearFrame }
     ensures { CertifiesAfterTwo depth above.now first metadata cursor.old result cursor.new }
 {
     let Some(begun) = begun_by(cursor, depth, first, metadata) else {
@@ -121,11 +114,8 @@ fn take_with_box<R: IdRoom>(
     first: u8,
     metadata: u8,
 ) -> Result<usize, Doubt>
-    requires shallowest { 1 ≤ depth }
-    requires deepest { depth ≤ deepest }
+    requires begun { HasBegun depth above.now first metadata cursor.old }
     requires bits { bit_and metadata 25 ≡ 1 }
-    requires before { (before : Reading) × HasReadTwo before first metadata cursor.old }
-    requires near { IfSome above.now IsNearFrame }
     ensures { CertifiesAfterTwo depth above.now first metadata cursor.old result cursor.new }
 {
     let Some(begun) = begun_by(cursor, depth, first, metadata) else {
@@ -147,16 +137,11 @@ fn take_flat_behind<R: IdRoom>(
     above: &Option<Frame>,
     raw: Fields,
 ) -> Result<usize, Doubt>
-    requires shallowest { 1 ≤ depth }
-    requires deepest { depth ≤ deepest }
-    requires near { IfSome above.now IsNearFrame }
+    requires head { HasHead depth above.now raw cursor.old }
     requires xy { IsPrecision raw.axes.xy }
     requires z { raw.axes.z ≡ None }
     requires m { raw.axes.m ≡ None }
-    requires full { raw.empty ≡ false }
-    requires read { (before : Reading) × IsSound before × ReadsHead depth before cursor.old (Ok raw) }
-    ensures { (before : Reading) → IsSound before → ReadsHead depth before cursor.old (Ok raw)
-        → Certifies depth above.now before result cursor.new }
+    ensures { CertifiesAfterHead depth above.now raw cursor.old result cursor.new }
 {
     let head = raw.boxless();
     let Some(frame) = Frame::under(above, &head, &raw.bounds) else {
@@ -191,10 +176,7 @@ fn take_further<R: IdRoom>(
     first: u8,
     metadata: u8,
 ) -> Result<usize, Doubt>
-    requires shallowest { 1 ≤ depth }
-    requires deepest { depth ≤ deepest }
-    requires before { (before : Reading) × HasReadTwo before first metadata cursor.old }
-    requires near { IfSome above.now IsNearFrame }
+    requires { HasBegun depth above.now first metadata cursor.old }
     ensures { CertifiesAfterTwo depth above.now first metadata cursor.old result cursor.new }
 {
     let Some(begun) = begun_by(cursor, depth, first, metadata) else {
@@ -221,11 +203,8 @@ fn take_with_further_box<R: IdRoom>(
     first: u8,
     metadata: u8,
 ) -> Result<usize, Doubt>
-    requires shallowest { 1 ≤ depth }
-    requires deepest { depth ≤ deepest }
+    requires begun { HasBegun depth above.now first metadata cursor.old }
     requires bits { bit_and metadata 25 ≡ 9 }
-    requires before { (before : Reading) × HasReadTwo before first metadata cursor.old }
-    requires near { IfSome above.now IsNearFrame }
     ensures { CertifiesAfterTwo depth above.now first metadata cursor.old result cursor.new }
 {
     let Some(begun) = begun_by(cursor, depth, first, metadata) else {
@@ -247,16 +226,11 @@ fn take_further_behind<R: IdRoom>(
     above: &Option<Frame>,
     raw: Fields,
 ) -> Result<usize, Doubt>
-    requires shallowest { 1 ≤ depth }
-    requires deepest { depth ≤ deepest }
-    requires near { IfSome above.now IsNearFrame }
+    requires head { HasHead depth above.now raw cursor.old }
     requires xy { IsPrecision raw.axes.xy }
     requires z_high { IfSome raw.axes.z (λ p. p ≤ 7) }
     requires m_high { IfSome raw.axes.m (λ p. p ≤ 7) }
-    requires full { raw.empty ≡ false }
-    requires read { (before : Reading) × IsSound before × ReadsHead depth before cursor.old (Ok raw) }
-    ensures { (before : Reading) → IsSound before → ReadsHead depth before cursor.old (Ok raw)
-        → Certifies depth above.now before result cursor.new }
+    ensures { CertifiesAfterHead depth above.now raw cursor.old result cursor.new }
 {
     let head = raw.boxless();
     let Some(frame) = further_frame(above, &head, &raw.bounds) else {

@@ -1,6 +1,6 @@
 -- Devices of proofs: nothing public names them.
 -- The first reading: what it certifies, and what it refuses.
-use Rattle.std.specs.Prelude.{◌≡◌, ◌≢◌, ℕ, ◌+◌, ◌-◌, ◌+ℤ◌, ◌≤ℤ◌, Bool, false, List, [], ◌∷◌, ◌++◌, map, Option, Some, None, Result, Ok, Err, All, AllPairs, IfSome, IfOk, IfErr, OnErr, true, ⊤, is_some, ◌||◌, ◌⊎◌, option_map, ℤ}
+use Rattle.std.specs.Prelude.{◌≡◌, ◌≢◌, ℕ, ◌+◌, ◌-◌, ◌≤◌, ◌+ℤ◌, ◌≤ℤ◌, Bool, false, List, [], ◌∷◌, ◌++◌, map, Option, Some, None, Result, Ok, Err, All, AllPairs, IfSome, IfOk, IfErr, OnErr, true, ⊤, is_some, ◌||◌, ◌⊎◌, option_map, ℤ}
 use Rattle.twkb_num.specs.Cursor.{Reading, rest, passed, IsMoved, IsSound}
 use Rattle.twkb_head.specs.declared.header.Head.{Head}
 use Rattle.twkb_head.specs.declared.kinds.Kind.{Kind}
@@ -9,7 +9,8 @@ use Rattle.twkb_head.specs.declared.boxes.Vertex.{Vertex}
 use Rattle.twkb_head.specs.declared.raw.RawBox.{RawBox}
 use Rattle.twkb_head.specs.declared.raw.RawRange.{RawRange}
 use Rattle.twkb_head.specs.BegunHeader.{deepest, is_collection}
-use Rattle.twkb_head.specs.Raw.{raw_bounds}
+use Rattle.twkb_head.specs.declared.raw.Fields.{Fields}
+use Rattle.twkb_head.specs.Raw.{raw_bounds, ReadsHead}
 use Rattle.twkb_head.specs.Header.{Header}
 use Rattle.twkb_head.specs.Holds.{Holds}
 use Rattle.twkb_head.specs.Shared.Reader.{many_at, Fails}
@@ -214,6 +215,26 @@ pub record HasReadTwo (before : Reading) (first metadata : ℕ) (now : Reading) 
 abbrev pub CertifiesAfterTwo : ℕ → Option Frame → ℕ → ℕ → Reading → Result ℕ Doubt → Reading → Type 0
 CertifiesAfterTwo depth above first metadata now result new =
     (before : Reading) → HasReadTwo before first metadata now → Certifies depth above before result new
+
+-- The first two bytes of a geometry at an allowed depth were read, and the frame above, if there is one, is near.
+pub record HasBegun (depth : ℕ) (above : Option Frame) (first metadata : ℕ) (now : Reading) : Type 0 where
+  pub shallowest : 1 ≤ depth
+  pub deepest : depth ≤ deepest
+  pub before : (before : Reading) × HasReadTwo before first metadata now
+  pub near : IfSome above IsNearFrame
+
+-- The header of a geometry with a body was read at an allowed depth, and the frame above, if there is one, is near.
+pub record HasHead (depth : ℕ) (above : Option Frame) (raw : Fields) (now : Reading) : Type 0 where
+  pub shallowest : 1 ≤ depth
+  pub deepest : depth ≤ deepest
+  pub full : raw.empty ≡ false
+  pub read : (before : Reading) × IsSound before × ReadsHead depth before now (Ok raw)
+  pub near : IfSome above IsNearFrame
+
+-- `Certifies`, of a geometry whose header was read before
+abbrev pub CertifiesAfterHead : ℕ → Option Frame → Fields → Reading → Result ℕ Doubt → Reading → Type 0
+CertifiesAfterHead depth above raw now result new =
+    (before : Reading) → IsSound before → ReadsHead depth before now (Ok raw) → Certifies depth above before result new
 
 -- on Ok the size is true of a geometry that ends at stop; on Err the size is false
 abbrev pub IsJudged : Head → ℕ → ℕ → Result ℕ Doubt → Type 0

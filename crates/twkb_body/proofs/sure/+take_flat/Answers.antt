@@ -1,16 +1,14 @@
 -- The first reading of a geometry and of members, each by the other: what it certifies, and what it refutes.
 use Rattle.std.proofs.Common.{rules, ◌≡◌, ◌+◌, ◌-◌, ℕ, suc, Bool, false, None, Ok, refl, sym, ap, subst, ◌∙◌, arith}
-use Rattle.std.specs.Prelude.{◌%◌, ◌<◌, bit_and}
+use Rattle.std.specs.Prelude.{◌<◌, bit_and}
 use Rattle.std.proofs.lemmas.Result.{err_from_is_err_and}
 use Rattle.twkb_num.specs.Cursor.{Reading, rest}
 use Rattle.twkb_head.proofs.HeadLaws.{header_two}
 use Rattle.twkb_head.proofs.HeadSteps.{box_bits, bits_same}
-use Rattle.twkb_head.specs.BegunHeader.{deepest, IsAllowedAt}
+use Rattle.twkb_head.specs.BegunHeader.{deepest}
 use Rattle.twkb_head.specs.Shared.Reader.{Fails}
 use Rattle.twkb_head.specs.Header.{has_bit}
-use Rattle.twkb_head.specs.Raw.{head_said, BeginsHead}
-use Rattle.twkb_head.specs.declared.read.Begun.{Begun}
-use Rattle.twkb_body.proofs.Beginning.{announced_same}
+use Rattle.twkb_head.specs.Raw.{head_said}
 use Rattle.twkb_head.specs.declared.header.Head.{Head}
 use Rattle.twkb_body.specs.Audited.{HasLongList}
 use Rattle.twkb_body.specs.Devices.BodyReader.{list_at}
@@ -21,15 +19,11 @@ use Rattle.twkb_body.specs.Devices.Sure.{HasReadTwo, IsJudged, IsRefuted, IsRefu
 use Rattle.twkb_body.proofs.Keeping.{keeps_list, read_keeps}
 use Rattle.twkb_body.proofs.MemberSteps.{member_bytes}
 use Rattle.twkb_body.proofs.SureSteps.{two_read, sure_begins, sure_goes_on, members_sure}
-use Rattle.twkb_body.proofs.RawGeometries.{any_apart, apart_certifies, behind_doubts, body_doubts, flat_apart, flat_ends, judged_certifies, raw_allowed}
-use Rattle.twkb_body.proofs.Refuting.{doubts_outside, doubts_through, no_header_refutes, rest_refutes}
+use Rattle.twkb_body.proofs.RawGeometries.{any_apart, apart_certifies, behind_doubts, bits_begin, body_doubts, flat_apart, header_certifies, header_read, judged_certifies, kind_allowed, none_begins, rest_unread, size_ahead}
+use Rattle.twkb_body.proofs.Refuting.{doubts_outside, doubts_through, no_header_refutes}
 use Rattle.twkb_body.proofs.RefutedBodies.{ids_refute, list_refutes, members_refute}
 use Rattle.twkb_body.proofs.CertifiedBodies.{none_of, shape_certifies, some_of, wants_members}
 use Rattle.twkb_body.proofs.sure.+take_flat.Goals as goal
-
--- the header that begins with two bytes, with the other bits of the second left out
-boxed_begins : (begun boxed : Begun) (depth : ℕ) (before now : Reading) → boxed ≡ record begun { metadata = begun.metadata % 32 } → BeginsHead begun depth before now → BeginsHead boxed depth before now
-boxed_begins begun boxed depth before now is begins = announced_same begun boxed depth (begun.metadata % 32) before now refl is begins
 
 -- without the bit of an extended dimensions byte there are X and Y alone
 flat_bits : (metadata bits : ℕ) → bits < 8 → bit_and metadata 25 ≡ bits → has_bit metadata 8 ≡ false
@@ -40,24 +34,20 @@ full_bits : (metadata bits : ℕ) → bits < 16 → bit_and metadata 25 ≡ bits
 full_bits metadata bits few told = bits_same metadata 0 16 (omega (arith, few, told, box_bits metadata))
 
 pub take_flat-returns-in_default-take_rest : goal.take_flat-returns-in_default-take_rest
-take_flat-returns-in_default-take_rest g t c = λ before two.
-    let begins = boxed_begins c.in-Some.begun c.with_bits.result c.args.depth before c.args.cursor.now c.with_bits.ensures.announcing (c.in-Some.ensures.some before two.sound two.moved two.bytes) in
-    rest_refutes c.in_default-take_rest.field-0 c.args.depth c.args.above.now before _ c.requires.shallowest c.requires.deepest two.sound (c.in_default-take_rest.ensures.read c.args.depth before two.sound begins) (c.in_default-take_rest.ensures.exact c.args.depth before two.sound begins)
+take_flat-returns-in_default-take_rest g t c =
+    rest_unread c.args.depth c.args.above.now c.args.first c.args.metadata c.args.cursor.now c.requires.begun.shallowest c.requires.begun.deepest c.with_bits.result (bits_begin _ _ _ _ c.in-Some.begun c.with_bits.result c.with_bits.ensures.announcing c.in-Some.ensures.some) c.take_rest.new.cursor c.in_default-take_rest.field-0 c.in_default-take_rest.ensures.read c.in_default-take_rest.ensures.exact
 
 pub take_flat-begun_by-requires-clause-read : goal.take_flat-begun_by-requires-clause-read
-take_flat-begun_by-requires-clause-read g t c = two_read _ _ _ c.requires.before
+take_flat-begun_by-requires-clause-read g t c = two_read _ _ _ c.requires.begun.before
 
 pub take_flat-returns-in_default : goal.take_flat-returns-in_default
-take_flat-returns-in_default g t c = λ before two.
-    (two.moved.bytes, no_header_refutes c.args.depth c.args.above.now before c.requires.shallowest c.requires.deepest two.sound (λ starts. cc (c.in_default.ensures.none before two.sound two.moved two.bytes starts)))
+take_flat-returns-in_default g t c = none_begins c.args.depth c.args.above.now c.args.first c.args.metadata c.args.cursor.now c.requires.begun.shallowest c.requires.begun.deepest c.in_default.ensures.none
 
 pub take_flat_behind-take_flat_body-requires : goal.take_flat_behind-take_flat_body-requires
 take_flat_behind-take_flat_body-requires g t c κs within =
-    let b = c.requires.read in
-    let s = b.2 in
     let same = c.boxless-head.ensures in
-    let allowed : IsAllowedAt c.boxless-head.result.kind c.args.depth = subst (λ (h : Head). IsAllowedAt h.kind c.args.depth) (sym same) (raw_allowed c.args.raw c.args.depth c.args.above.now b.0 c.args.cursor.now c.requires.shallowest c.requires.deepest b.1 s.0 s.1) in
-    let has_body : c.boxless-head.result.empty ≡ false = ap (λ (h : Head). h.empty) same ∙ c.requires.full in
+    let allowed = kind_allowed c.requires.head c.boxless-head.result same in
+    let has_body : c.boxless-head.result.empty ≡ false = ap (λ (h : Head). h.empty) same ∙ c.requires.head.full in
     let z : c.boxless-head.result.z ≡ None = ap (λ (h : Head). h.z) same ∙ c.requires.z in
     let m : c.boxless-head.result.m ≡ None = ap (λ (h : Head). h.m) same ∙ c.requires.m in
     let framed = c.in-Some.ensures.framed in
@@ -66,38 +56,32 @@ take_flat_behind-take_flat_body-requires g t c κs within =
 pub take_flat_behind-returns-in_err-vertices-2 : goal.take_flat_behind-returns-in_err-vertices-2
 take_flat_behind-returns-in_err-vertices-2 g t c = λ before sound read.
     let p = err_from_is_err_and c.from_residual-in_err-vertices-2.result c.from_residual-in_err-vertices-2.ensures.1 in
-    rw (p.1, p.2) (body_doubts c.args.raw c.args.depth c.args.above.now before c.args.cursor.now c.requires.shallowest c.requires.deepest sound read.0 read.1 c.boxless-head.result c.boxless-head.ensures c.in-Some.frame c.in-Some.ensures c.take_flat_body.new.cursor _ c.in_err-vertices-2.ensures)
+    rw (p.1, p.2) (body_doubts c.args.raw c.args.depth c.args.above.now before c.args.cursor.now c.requires.head.shallowest c.requires.head.deepest sound read.0 read.1 c.boxless-head.result c.boxless-head.ensures c.in-Some.frame c.in-Some.ensures c.take_flat_body.new.cursor _ c.in_err-vertices-2.ensures)
 
 pub take_flat_behind-judged-requires-2 : goal.take_flat_behind-judged-requires-2
 take_flat_behind-judged-requires-2 g t c =
-    let b = c.requires.read in
-    let s = b.2 in
-    flat_ends c.boxless-head.result c.args.raw c.args.depth b.0 c.args.cursor.now c.boxless-head.ensures s.0 s.1 _ (omega (arith, c.in_ok-vertices-2.ensures.inside.few, c.place-2.ensures.value))
+    size_ahead c.requires.head c.boxless-head.result c.boxless-head.ensures _ (omega (arith, c.in_ok-vertices-2.ensures.inside.few, c.place-2.ensures.value))
 
 pub take_flat_behind-returns : goal.take_flat_behind-returns
 take_flat_behind-returns g t c = λ before sound read.
-    judged_certifies c.args.raw c.args.depth c.args.above.now before c.args.cursor.now c.requires.shallowest c.requires.deepest sound read.0 read.1 c.boxless-head.result c.boxless-head.ensures c.in-Some.frame c.in-Some.ensures c.take_flat_body.new.cursor
+    judged_certifies c.args.raw c.args.depth c.args.above.now before c.args.cursor.now c.requires.head.shallowest c.requires.head.deepest sound read.0 read.1 c.boxless-head.result c.boxless-head.ensures c.in-Some.frame c.in-Some.ensures c.take_flat_body.new.cursor
     c.in_ok-vertices-2.vertices c.judged-2.result c.in_ok-vertices-2.ensures (subst (λ (stop : ℕ). IsJudged c.boxless-head.result stop c.in_ok-vertices-2.vertices c.judged-2.result) c.place-2.ensures.value c.judged-2.ensures)
 
 pub take_further-returns-in_default-take_rest : goal.take_further-returns-in_default-take_rest
-take_further-returns-in_default-take_rest g t c = λ before two.
-    let begins = c.in-Some.ensures.some before two.sound two.moved two.bytes in
-    rest_refutes c.in_default-take_rest.field-0 c.args.depth c.args.above.now before _ c.requires.shallowest c.requires.deepest two.sound (c.in_default-take_rest.ensures.read c.args.depth before two.sound begins) (c.in_default-take_rest.ensures.exact c.args.depth before two.sound begins)
+take_further-returns-in_default-take_rest g t c =
+    rest_unread c.args.depth c.args.above.now c.args.first c.args.metadata c.args.cursor.now c.requires.shallowest c.requires.deepest c.in-Some.begun c.in-Some.ensures.some c.take_rest.new.cursor c.in_default-take_rest.field-0 c.in_default-take_rest.ensures.read c.in_default-take_rest.ensures.exact
 
 pub take_further-begun_by-requires-clause-read : goal.take_further-begun_by-requires-clause-read
 take_further-begun_by-requires-clause-read g t c = two_read _ _ _ c.requires.before
 
 pub take_further-returns-in_default : goal.take_further-returns-in_default
-take_further-returns-in_default g t c = λ before two.
-    (two.moved.bytes, no_header_refutes c.args.depth c.args.above.now before c.requires.shallowest c.requires.deepest two.sound (λ starts. cc (c.in_default.ensures.none before two.sound two.moved two.bytes starts)))
+take_further-returns-in_default g t c = none_begins c.args.depth c.args.above.now c.args.first c.args.metadata c.args.cursor.now c.requires.shallowest c.requires.deepest c.in_default.ensures.none
 
 pub take_further_behind-take_further_body-requires : goal.take_further_behind-take_further_body-requires
 take_further_behind-take_further_body-requires g t c κs within =
-    let b = c.requires.read in
-    let s = b.2 in
     let same = c.boxless-head.ensures in
-    let allowed : IsAllowedAt c.boxless-head.result.kind c.args.depth = subst (λ (h : Head). IsAllowedAt h.kind c.args.depth) (sym same) (raw_allowed c.args.raw c.args.depth c.args.above.now b.0 c.args.cursor.now c.requires.shallowest c.requires.deepest b.1 s.0 s.1) in
-    let has_body : c.boxless-head.result.empty ≡ false = ap (λ (h : Head). h.empty) same ∙ c.requires.full in
+    let allowed = kind_allowed c.requires.head c.boxless-head.result same in
+    let has_body : c.boxless-head.result.empty ≡ false = ap (λ (h : Head). h.empty) same ∙ c.requires.head.full in
     let further = c.in-Some.ensures.further in
     let framed = c.in-Some.ensures.frame.framed in
     search rules
@@ -105,17 +89,15 @@ take_further_behind-take_further_body-requires g t c κs within =
 pub take_further_behind-returns-in_err-vertices-2 : goal.take_further_behind-returns-in_err-vertices-2
 take_further_behind-returns-in_err-vertices-2 g t c = λ before sound read.
     let p = err_from_is_err_and c.from_residual-in_err-vertices-2.result c.from_residual-in_err-vertices-2.ensures.1 in
-    rw (p.1, p.2) (body_doubts c.args.raw c.args.depth c.args.above.now before c.args.cursor.now c.requires.shallowest c.requires.deepest sound read.0 read.1 c.boxless-head.result c.boxless-head.ensures c.in-Some.frame c.in-Some.ensures.frame c.take_further_body.new.cursor _ c.in_err-vertices-2.ensures)
+    rw (p.1, p.2) (body_doubts c.args.raw c.args.depth c.args.above.now before c.args.cursor.now c.requires.head.shallowest c.requires.head.deepest sound read.0 read.1 c.boxless-head.result c.boxless-head.ensures c.in-Some.frame c.in-Some.ensures.frame c.take_further_body.new.cursor _ c.in_err-vertices-2.ensures)
 
 pub take_further_behind-judged-requires-2 : goal.take_further_behind-judged-requires-2
 take_further_behind-judged-requires-2 g t c =
-    let b = c.requires.read in
-    let s = b.2 in
-    flat_ends c.boxless-head.result c.args.raw c.args.depth b.0 c.args.cursor.now c.boxless-head.ensures s.0 s.1 _ (omega (arith, c.in_ok-vertices-2.ensures.inside.few, c.place-2.ensures.value))
+    size_ahead c.requires.head c.boxless-head.result c.boxless-head.ensures _ (omega (arith, c.in_ok-vertices-2.ensures.inside.few, c.place-2.ensures.value))
 
 pub take_further_behind-returns : goal.take_further_behind-returns
 take_further_behind-returns g t c = λ before sound read.
-    judged_certifies c.args.raw c.args.depth c.args.above.now before c.args.cursor.now c.requires.shallowest c.requires.deepest sound read.0 read.1 c.boxless-head.result c.boxless-head.ensures c.in-Some.frame c.in-Some.ensures.frame c.take_further_body.new.cursor
+    judged_certifies c.args.raw c.args.depth c.args.above.now before c.args.cursor.now c.requires.head.shallowest c.requires.head.deepest sound read.0 read.1 c.boxless-head.result c.boxless-head.ensures c.in-Some.frame c.in-Some.ensures.frame c.take_further_body.new.cursor
     c.in_ok-vertices-2.vertices c.judged-2.result c.in_ok-vertices-2.ensures (subst (λ (stop : ℕ). IsJudged c.boxless-head.result stop c.in_ok-vertices-2.vertices c.judged-2.result) c.place-2.ensures.value c.judged-2.ensures)
 
 pub take_flat_body-returns-else-is_collection : goal.take_flat_body-returns-else-is_collection
@@ -211,133 +193,111 @@ take_members-returns-in_err-member g t c =
 
 pub take_flat_behind-returns-in_err-vertices : goal.take_flat_behind-returns-in_err-vertices
 take_flat_behind-returns-in_err-vertices g t c = λ before sound read.
-    let (box, there, ranges, apart) = flat_apart c.args.raw c.boxless-head.result c.is_some.result c.flat_ranges.result.0 c.flat_ranges.result.1 c.requires.xy c.boxless-head.ensures c.requires.z c.requires.m c.requires.full c.is_some.ensures c.flat_ranges.ensures in
+    let (box, there, ranges, apart) = flat_apart c.args.raw c.boxless-head.result c.is_some.result c.flat_ranges.result.0 c.flat_ranges.result.1 c.requires.xy c.boxless-head.ensures c.requires.z c.requires.m c.requires.head.full c.is_some.ensures c.flat_ranges.ensures in
     let p = err_from_is_err_and c.from_residual.result c.from_residual.ensures.1 in
-    rw (p.1, p.2) (behind_doubts c.args.raw c.args.depth c.args.above.now before c.args.cursor.now c.requires.shallowest c.requires.deepest sound read.0 read.1 _ c.take_apart_flat.new.cursor (c.in_err-vertices.ensures (head_said c.args.raw) box there ranges apart))
+    rw (p.1, p.2) (behind_doubts c.args.raw c.args.depth c.args.above.now before c.args.cursor.now c.requires.head.shallowest c.requires.head.deepest sound read.0 read.1 _ c.take_apart_flat.new.cursor (c.in_err-vertices.ensures (head_said c.args.raw) box there ranges apart))
 
 pub take_flat_behind-judged-requires : goal.take_flat_behind-judged-requires
 take_flat_behind-judged-requires g t c =
-    let b = c.requires.read in
-    let s = b.2 in
-    let (box, there, ranges, apart) = flat_apart c.args.raw c.boxless-head.result c.is_some.result c.flat_ranges.result.0 c.flat_ranges.result.1 c.requires.xy c.boxless-head.ensures c.requires.z c.requires.m c.requires.full c.is_some.ensures c.flat_ranges.ensures in
+    let (box, there, ranges, apart) = flat_apart c.args.raw c.boxless-head.result c.is_some.result c.flat_ranges.result.0 c.flat_ranges.result.1 c.requires.xy c.boxless-head.ensures c.requires.z c.requires.m c.requires.head.full c.is_some.ensures c.flat_ranges.ensures in
     let sure = c.in_ok-vertices.ensures (head_said c.args.raw) box there ranges apart in
-    flat_ends c.boxless-head.result c.args.raw c.args.depth b.0 c.args.cursor.now c.boxless-head.ensures s.0 s.1 _ (omega (arith, sure.inside.few, c.place.ensures.value))
+    size_ahead c.requires.head c.boxless-head.result c.boxless-head.ensures _ (omega (arith, sure.inside.few, c.place.ensures.value))
 
 pub take_flat_behind-returns-in_default : goal.take_flat_behind-returns-in_default
 take_flat_behind-returns-in_default g t c = λ before sound read.
-    let (box, there, ranges, apart) = flat_apart c.args.raw c.boxless-head.result c.is_some.result c.flat_ranges.result.0 c.flat_ranges.result.1 c.requires.xy c.boxless-head.ensures c.requires.z c.requires.m c.requires.full c.is_some.ensures c.flat_ranges.ensures in
+    let (box, there, ranges, apart) = flat_apart c.args.raw c.boxless-head.result c.is_some.result c.flat_ranges.result.0 c.flat_ranges.result.1 c.requires.xy c.boxless-head.ensures c.requires.z c.requires.m c.requires.head.full c.is_some.ensures c.flat_ranges.ensures in
     let sure = c.in_ok-vertices.ensures (head_said c.args.raw) box there ranges apart in
-    apart_certifies c.args.raw c.args.depth c.args.above.now before c.args.cursor.now c.requires.shallowest c.requires.deepest sound read.0 read.1 c.boxless-head.result c.boxless-head.ensures c.take_apart_flat.new.cursor c.in_ok-vertices.vertices c.judged.result sure
+    apart_certifies c.args.raw c.args.depth c.args.above.now before c.args.cursor.now c.requires.head.shallowest c.requires.head.deepest sound read.0 read.1 c.boxless-head.result c.boxless-head.ensures c.take_apart_flat.new.cursor c.in_ok-vertices.vertices c.judged.result sure
     (subst (λ (stop : ℕ). IsJudged c.boxless-head.result stop c.in_ok-vertices.vertices c.judged.result) c.place.ensures.value c.judged.ensures)
 
 pub take_further_behind-returns-in_err-vertices : goal.take_further_behind-returns-in_err-vertices
 take_further_behind-returns-in_err-vertices g t c = λ before sound read.
-    let apart = any_apart c.args.raw c.boxless-head.result c.requires.xy c.boxless-head.ensures c.requires.full in
+    let apart = any_apart c.args.raw c.boxless-head.result c.requires.xy c.boxless-head.ensures c.requires.head.full in
     let p = err_from_is_err_and c.from_residual.result c.from_residual.ensures.1 in
-    rw (p.1, p.2) (behind_doubts c.args.raw c.args.depth c.args.above.now before c.args.cursor.now c.requires.shallowest c.requires.deepest sound read.0 read.1 _ c.take_apart.new.cursor (c.in_err-vertices.ensures (head_said c.args.raw) apart))
+    rw (p.1, p.2) (behind_doubts c.args.raw c.args.depth c.args.above.now before c.args.cursor.now c.requires.head.shallowest c.requires.head.deepest sound read.0 read.1 _ c.take_apart.new.cursor (c.in_err-vertices.ensures (head_said c.args.raw) apart))
 
 pub take_further_behind-judged-requires : goal.take_further_behind-judged-requires
 take_further_behind-judged-requires g t c =
-    let b = c.requires.read in
-    let s = b.2 in
-    let apart = any_apart c.args.raw c.boxless-head.result c.requires.xy c.boxless-head.ensures c.requires.full in
+    let apart = any_apart c.args.raw c.boxless-head.result c.requires.xy c.boxless-head.ensures c.requires.head.full in
     let sure = c.in_ok-vertices.ensures (head_said c.args.raw) apart in
-    flat_ends c.boxless-head.result c.args.raw c.args.depth b.0 c.args.cursor.now c.boxless-head.ensures s.0 s.1 _ (omega (arith, sure.inside.few, c.place.ensures.value))
+    size_ahead c.requires.head c.boxless-head.result c.boxless-head.ensures _ (omega (arith, sure.inside.few, c.place.ensures.value))
 
 pub take_further_behind-returns-in_default : goal.take_further_behind-returns-in_default
 take_further_behind-returns-in_default g t c = λ before sound read.
-    let apart = any_apart c.args.raw c.boxless-head.result c.requires.xy c.boxless-head.ensures c.requires.full in
+    let apart = any_apart c.args.raw c.boxless-head.result c.requires.xy c.boxless-head.ensures c.requires.head.full in
     let sure = c.in_ok-vertices.ensures (head_said c.args.raw) apart in
-    apart_certifies c.args.raw c.args.depth c.args.above.now before c.args.cursor.now c.requires.shallowest c.requires.deepest sound read.0 read.1 c.boxless-head.result c.boxless-head.ensures c.take_apart.new.cursor c.in_ok-vertices.vertices c.judged.result sure
+    apart_certifies c.args.raw c.args.depth c.args.above.now before c.args.cursor.now c.requires.head.shallowest c.requires.head.deepest sound read.0 read.1 c.boxless-head.result c.boxless-head.ensures c.take_apart.new.cursor c.in_ok-vertices.vertices c.judged.result sure
     (subst (λ (stop : ℕ). IsJudged c.boxless-head.result stop c.in_ok-vertices.vertices c.judged.result) c.place.ensures.value c.judged.ensures)
 
 pub take_flat_behind-take_apart_flat-requires-clause-allowed : goal.take_flat_behind-take_apart_flat-requires-clause-allowed
-take_flat_behind-take_apart_flat-requires-clause-allowed g t c =
-    let b = c.requires.read in
-    let s = b.2 in
-    subst (λ (h : Head). IsAllowedAt h.kind c.args.depth) (sym c.boxless-head.ensures) (raw_allowed c.args.raw c.args.depth c.args.above.now b.0 c.args.cursor.now c.requires.shallowest c.requires.deepest b.1 s.0 s.1)
+take_flat_behind-take_apart_flat-requires-clause-allowed g t c = kind_allowed c.requires.head c.boxless-head.result c.boxless-head.ensures
 
 pub take_further_behind-take_apart-requires-clause-allowed : goal.take_further_behind-take_apart-requires-clause-allowed
-take_further_behind-take_apart-requires-clause-allowed g t c =
-    let b = c.requires.read in
-    let s = b.2 in
-    subst (λ (h : Head). IsAllowedAt h.kind c.args.depth) (sym c.boxless-head.ensures) (raw_allowed c.args.raw c.args.depth c.args.above.now b.0 c.args.cursor.now c.requires.shallowest c.requires.deepest b.1 s.0 s.1)
+take_further_behind-take_apart-requires-clause-allowed g t c = kind_allowed c.requires.head c.boxless-head.result c.boxless-head.ensures
 
 pub take_flat-with_bits-requires : goal.take_flat-with_bits-requires
 take_flat-with_bits-requires g t c = ap (λ n. bit_and n 25) c.in-Some.ensures.metadata ∙ c.requires.bits
 
 pub take_flat-take_flat_behind-requires : goal.take_flat-take_flat_behind-requires
 take_flat-take_flat_behind-requires g t c κs within =
-    let b = c.requires.before in
-    let s = c.in-Ok.ensures.read c.args.depth b.0 b.1.sound (boxed_begins c.in-Some.begun c.with_bits.result c.args.depth b.0 c.args.cursor.now c.with_bits.ensures.announcing (c.in-Some.ensures.some b.0 b.1.sound b.1.moved b.1.bytes)) in
-    let full : c.in-Ok.raw.empty ≡ false = c.in-Ok.ensures.empty ∙ full_bits c.with_bits.result.metadata 0 (omega arith) c.with_bits.ensures.bits in
+    let head = header_read c.args.depth c.args.above.now c.args.first c.args.metadata c.args.cursor.now c.requires.begun.shallowest c.requires.begun.deepest c.with_bits.result (bits_begin _ _ _ _ c.in-Some.begun c.with_bits.result c.with_bits.ensures.announcing c.in-Some.ensures.some) c.take_rest.new.cursor c.in-Ok.raw c.in-Ok.ensures.read c.requires.begun (c.in-Ok.ensures.empty ∙ full_bits c.with_bits.result.metadata 0 (omega arith) c.with_bits.ensures.bits) in
     let flat = c.in-Ok.ensures.flat (flat_bits c.with_bits.result.metadata 0 (omega arith) c.with_bits.ensures.bits) in
     search rules
 
 pub take_flat-returns : goal.take_flat-returns
-take_flat-returns g t c = λ before two.
-    c.take_flat_behind.ensures before two.sound (c.in-Ok.ensures.read c.args.depth before two.sound (boxed_begins c.in-Some.begun c.with_bits.result c.args.depth before c.args.cursor.now c.with_bits.ensures.announcing (c.in-Some.ensures.some before two.sound two.moved two.bytes)))
+take_flat-returns g t c =
+    header_certifies c.args.depth c.args.above.now c.args.first c.args.metadata c.args.cursor.now c.requires.begun.shallowest c.requires.begun.deepest c.with_bits.result (bits_begin _ _ _ _ c.in-Some.begun c.with_bits.result c.with_bits.ensures.announcing c.in-Some.ensures.some) c.take_rest.new.cursor c.in-Ok.raw c.in-Ok.ensures.read _ _ c.take_flat_behind.ensures
 
 pub take_with_box-begun_by-requires-clause-read : goal.take_with_box-begun_by-requires-clause-read
-take_with_box-begun_by-requires-clause-read g t c = two_read _ _ _ c.requires.before
+take_with_box-begun_by-requires-clause-read g t c = two_read _ _ _ c.requires.begun.before
 
 pub take_with_box-returns-in_default : goal.take_with_box-returns-in_default
-take_with_box-returns-in_default g t c = λ before two.
-    (two.moved.bytes, no_header_refutes c.args.depth c.args.above.now before c.requires.shallowest c.requires.deepest two.sound (λ starts. cc (c.in_default.ensures.none before two.sound two.moved two.bytes starts)))
+take_with_box-returns-in_default g t c = none_begins c.args.depth c.args.above.now c.args.first c.args.metadata c.args.cursor.now c.requires.begun.shallowest c.requires.begun.deepest c.in_default.ensures.none
 
 pub take_with_box-returns-in_default-take_boxed_rest : goal.take_with_box-returns-in_default-take_boxed_rest
-take_with_box-returns-in_default-take_boxed_rest g t c = λ before two.
-    let begins = boxed_begins c.in-Some.begun c.with_bits.result c.args.depth before c.args.cursor.now c.with_bits.ensures.announcing (c.in-Some.ensures.some before two.sound two.moved two.bytes) in
-    rest_refutes c.in_default-take_boxed_rest.field-0 c.args.depth c.args.above.now before _ c.requires.shallowest c.requires.deepest two.sound (c.in_default-take_boxed_rest.ensures.read c.args.depth before two.sound begins) (c.in_default-take_boxed_rest.ensures.exact c.args.depth before two.sound begins)
+take_with_box-returns-in_default-take_boxed_rest g t c =
+    rest_unread c.args.depth c.args.above.now c.args.first c.args.metadata c.args.cursor.now c.requires.begun.shallowest c.requires.begun.deepest c.with_bits.result (bits_begin _ _ _ _ c.in-Some.begun c.with_bits.result c.with_bits.ensures.announcing c.in-Some.ensures.some) c.take_boxed_rest.new.cursor c.in_default-take_boxed_rest.field-0 c.in_default-take_boxed_rest.ensures.read c.in_default-take_boxed_rest.ensures.exact
 
 pub take_with_box-with_bits-requires : goal.take_with_box-with_bits-requires
 take_with_box-with_bits-requires g t c = ap (λ n. bit_and n 25) c.in-Some.ensures.metadata ∙ c.requires.bits
 
 pub take_with_box-take_flat_behind-requires : goal.take_with_box-take_flat_behind-requires
 take_with_box-take_flat_behind-requires g t c κs within =
-    let b = c.requires.before in
-    let s = c.in-Ok.ensures.read c.args.depth b.0 b.1.sound (boxed_begins c.in-Some.begun c.with_bits.result c.args.depth b.0 c.args.cursor.now c.with_bits.ensures.announcing (c.in-Some.ensures.some b.0 b.1.sound b.1.moved b.1.bytes)) in
-    let full : c.in-Ok.raw.empty ≡ false = c.in-Ok.ensures.empty ∙ full_bits c.with_bits.result.metadata 1 (omega arith) c.with_bits.ensures.bits in
+    let head = header_read c.args.depth c.args.above.now c.args.first c.args.metadata c.args.cursor.now c.requires.begun.shallowest c.requires.begun.deepest c.with_bits.result (bits_begin _ _ _ _ c.in-Some.begun c.with_bits.result c.with_bits.ensures.announcing c.in-Some.ensures.some) c.take_boxed_rest.new.cursor c.in-Ok.raw c.in-Ok.ensures.read c.requires.begun (c.in-Ok.ensures.empty ∙ full_bits c.with_bits.result.metadata 1 (omega arith) c.with_bits.ensures.bits) in
     let flat = c.in-Ok.ensures.flat (flat_bits c.with_bits.result.metadata 1 (omega arith) c.with_bits.ensures.bits) in
     search rules
 
 pub take_with_box-returns : goal.take_with_box-returns
-take_with_box-returns g t c = λ before two.
-    c.take_flat_behind.ensures before two.sound (c.in-Ok.ensures.read c.args.depth before two.sound (boxed_begins c.in-Some.begun c.with_bits.result c.args.depth before c.args.cursor.now c.with_bits.ensures.announcing (c.in-Some.ensures.some before two.sound two.moved two.bytes)))
+take_with_box-returns g t c =
+    header_certifies c.args.depth c.args.above.now c.args.first c.args.metadata c.args.cursor.now c.requires.begun.shallowest c.requires.begun.deepest c.with_bits.result (bits_begin _ _ _ _ c.in-Some.begun c.with_bits.result c.with_bits.ensures.announcing c.in-Some.ensures.some) c.take_boxed_rest.new.cursor c.in-Ok.raw c.in-Ok.ensures.read _ _ c.take_flat_behind.ensures
 
 pub take_with_further_box-begun_by-requires-clause-read : goal.take_with_further_box-begun_by-requires-clause-read
-take_with_further_box-begun_by-requires-clause-read g t c = two_read _ _ _ c.requires.before
+take_with_further_box-begun_by-requires-clause-read g t c = two_read _ _ _ c.requires.begun.before
 
 pub take_with_further_box-returns-in_default : goal.take_with_further_box-returns-in_default
-take_with_further_box-returns-in_default g t c = λ before two.
-    (two.moved.bytes, no_header_refutes c.args.depth c.args.above.now before c.requires.shallowest c.requires.deepest two.sound (λ starts. cc (c.in_default.ensures.none before two.sound two.moved two.bytes starts)))
+take_with_further_box-returns-in_default g t c = none_begins c.args.depth c.args.above.now c.args.first c.args.metadata c.args.cursor.now c.requires.begun.shallowest c.requires.begun.deepest c.in_default.ensures.none
 
 pub take_with_further_box-returns-in_default-take_boxed_rest : goal.take_with_further_box-returns-in_default-take_boxed_rest
-take_with_further_box-returns-in_default-take_boxed_rest g t c = λ before two.
-    let begins = boxed_begins c.in-Some.begun c.with_bits.result c.args.depth before c.args.cursor.now c.with_bits.ensures.announcing (c.in-Some.ensures.some before two.sound two.moved two.bytes) in
-    rest_refutes c.in_default-take_boxed_rest.field-0 c.args.depth c.args.above.now before _ c.requires.shallowest c.requires.deepest two.sound (c.in_default-take_boxed_rest.ensures.read c.args.depth before two.sound begins) (c.in_default-take_boxed_rest.ensures.exact c.args.depth before two.sound begins)
+take_with_further_box-returns-in_default-take_boxed_rest g t c =
+    rest_unread c.args.depth c.args.above.now c.args.first c.args.metadata c.args.cursor.now c.requires.begun.shallowest c.requires.begun.deepest c.with_bits.result (bits_begin _ _ _ _ c.in-Some.begun c.with_bits.result c.with_bits.ensures.announcing c.in-Some.ensures.some) c.take_boxed_rest.new.cursor c.in_default-take_boxed_rest.field-0 c.in_default-take_boxed_rest.ensures.read c.in_default-take_boxed_rest.ensures.exact
 
 pub take_with_further_box-with_bits-requires : goal.take_with_further_box-with_bits-requires
 take_with_further_box-with_bits-requires g t c = ap (λ n. bit_and n 25) c.in-Some.ensures.metadata ∙ c.requires.bits
 
 pub take_with_further_box-take_further_behind-requires : goal.take_with_further_box-take_further_behind-requires
 take_with_further_box-take_further_behind-requires g t c κs within =
-    let b = c.requires.before in
-    let s = c.in-Ok.ensures.read c.args.depth b.0 b.1.sound (boxed_begins c.in-Some.begun c.with_bits.result c.args.depth b.0 c.args.cursor.now c.with_bits.ensures.announcing (c.in-Some.ensures.some b.0 b.1.sound b.1.moved b.1.bytes)) in
-    let full : c.in-Ok.raw.empty ≡ false = c.in-Ok.ensures.empty ∙ full_bits c.with_bits.result.metadata 9 (omega arith) c.with_bits.ensures.bits in
+    let head = header_read c.args.depth c.args.above.now c.args.first c.args.metadata c.args.cursor.now c.requires.begun.shallowest c.requires.begun.deepest c.with_bits.result (bits_begin _ _ _ _ c.in-Some.begun c.with_bits.result c.with_bits.ensures.announcing c.in-Some.ensures.some) c.take_boxed_rest.new.cursor c.in-Ok.raw c.in-Ok.ensures.read c.requires.begun (c.in-Ok.ensures.empty ∙ full_bits c.with_bits.result.metadata 9 (omega arith) c.with_bits.ensures.bits) in
     search rules
 
 pub take_with_further_box-returns : goal.take_with_further_box-returns
-take_with_further_box-returns g t c = λ before two.
-    c.take_further_behind.ensures before two.sound (c.in-Ok.ensures.read c.args.depth before two.sound (boxed_begins c.in-Some.begun c.with_bits.result c.args.depth before c.args.cursor.now c.with_bits.ensures.announcing (c.in-Some.ensures.some before two.sound two.moved two.bytes)))
+take_with_further_box-returns g t c =
+    header_certifies c.args.depth c.args.above.now c.args.first c.args.metadata c.args.cursor.now c.requires.begun.shallowest c.requires.begun.deepest c.with_bits.result (bits_begin _ _ _ _ c.in-Some.begun c.with_bits.result c.with_bits.ensures.announcing c.in-Some.ensures.some) c.take_boxed_rest.new.cursor c.in-Ok.raw c.in-Ok.ensures.read _ _ c.take_further_behind.ensures
 
 pub take_further-take_further_behind-requires : goal.take_further-take_further_behind-requires
 take_further-take_further_behind-requires g t c κs within =
-    let b = c.requires.before in
-    let s = c.in-Ok.ensures.read c.args.depth b.0 b.1.sound (c.in-Some.ensures.some b.0 b.1.sound b.1.moved b.1.bytes) in
-    let full : c.in-Ok.raw.empty ≡ false = c.in-Ok.ensures.empty ∙ sym c.is_empty.ensures ∙ c.if-is_empty.false in
+    let head = header_read c.args.depth c.args.above.now c.args.first c.args.metadata c.args.cursor.now c.requires.shallowest c.requires.deepest c.in-Some.begun c.in-Some.ensures.some c.take_rest.new.cursor c.in-Ok.raw c.in-Ok.ensures.read c.requires (c.in-Ok.ensures.empty ∙ sym c.is_empty.ensures ∙ c.if-is_empty.false) in
     search rules
 
 pub take_further-returns : goal.take_further-returns
-take_further-returns g t c = λ before two.
-    c.take_further_behind.ensures before two.sound (c.in-Ok.ensures.read c.args.depth before two.sound (c.in-Some.ensures.some before two.sound two.moved two.bytes))
+take_further-returns g t c =
+    header_certifies c.args.depth c.args.above.now c.args.first c.args.metadata c.args.cursor.now c.requires.shallowest c.requires.deepest c.in-Some.begun c.in-Some.ensures.some c.take_rest.new.cursor c.in-Ok.raw c.in-Ok.ensures.read _ _ c.take_further_behind.ensures

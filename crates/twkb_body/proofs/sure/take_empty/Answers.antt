@@ -4,8 +4,7 @@ use Rattle.twkb_head.specs.BegunHeader.{deepest}
 use Rattle.twkb_head.specs.Header.{has_bit}
 use Rattle.twkb_head.specs.Raw.{head_said}
 use Rattle.twkb_body.specs.Devices.Sure.{IsJudged}
-use Rattle.twkb_body.proofs.Refuting.{no_header_refutes, rest_refutes}
-use Rattle.twkb_body.proofs.RawGeometries.{flat_ends, apart_certifies}
+use Rattle.twkb_body.proofs.RawGeometries.{flat_ends, apart_certifies, none_begins, rest_unread}
 use Rattle.twkb_body.proofs.SureSteps.{two_read, empty_sure}
 use Rattle.twkb_body.proofs.sure.take_empty.Goals as goal
 
@@ -13,13 +12,11 @@ pub begun_by-requires-clause-read : goal.begun_by-requires-clause-read
 begun_by-requires-clause-read c = two_read _ _ _ c.requires.before
 
 pub returns-in_default : goal.returns-in_default
-returns-in_default c = λ above before two.
-    (two.moved.bytes, no_header_refutes c.args.depth above before c.requires.shallowest c.requires.deepest two.sound (λ starts. cc (c.in_default.ensures.none before two.sound two.moved two.bytes starts)))
+returns-in_default c = λ above. none_begins c.args.depth above c.args.first c.args.metadata c.args.cursor.now c.requires.shallowest c.requires.deepest c.in_default.ensures.none
 
 pub returns-in_default-take_rest : goal.returns-in_default-take_rest
-returns-in_default-take_rest c = λ above before two.
-    let begins = c.in-Some.ensures.some before two.sound two.moved two.bytes in
-    rest_refutes c.in_default-take_rest.field-0 c.args.depth above before _ c.requires.shallowest c.requires.deepest two.sound (c.in_default-take_rest.ensures.read c.args.depth before two.sound begins) (c.in_default-take_rest.ensures.exact c.args.depth before two.sound begins)
+returns-in_default-take_rest c = λ above.
+    rest_unread c.args.depth above c.args.first c.args.metadata c.args.cursor.now c.requires.shallowest c.requires.deepest c.in-Some.begun c.in-Some.ensures.some c.take_rest.new.cursor c.in_default-take_rest.field-0 c.in_default-take_rest.ensures.read c.in_default-take_rest.ensures.exact
 
 pub judged-requires : goal.judged-requires
 judged-requires c =
