@@ -9,10 +9,9 @@ ghost use Rattle.twkb_head.specs.Shared.Reader.{many_at};
 ghost use Rattle.twkb_body.specs.Devices.Body.{add};
 ghost use Rattle.twkb_body.specs.Devices.BodyReader.{point_at};
 ghost use Rattle.twkb_body.specs.Devices.Inside.{of_head};
-ghost use Rattle.twkb_body.specs.Devices.Walk.{IsWalk, IsRun, IsStill, HasPrecisions, shown};
-ghost use Rattle.twkb_body.specs.Devices.Showing.{Knows, Shows, at, one_point, one_ring, one_polygon, one_part, parts};
+ghost use Rattle.twkb_body.specs.Devices.Walk.{IsWalk, IsRun, IsStill, shown};
+ghost use Rattle.twkb_body.specs.Devices.Showing.{KnowsUnder, Shows, at, one_point, one_ring, one_polygon, one_part, parts};
 ghost use Rattle.twkb_body.specs.Geometry.{PointValue};
-ghost use Rattle.twkb_head.specs.Header.{axes_with};
 
 use crate::points::Points;
 use crate::settled::{pass_known, pass_point};
@@ -65,9 +64,8 @@ pub fn show_parts<V: Visit>(
     trail: &mut Trail,
     visitor: &mut V,
 )
-    requires precisions { HasPrecisions head.now }
-    requires axes { axes ≡ axes_with head.now.z head.now.m }
-    requires known { Knows (parts V.step head.now axes count) (at lost.old trail.old (V.state visitor.old) cursor.old) }
+    requires { KnowsUnder head.now (parts V.step head.now axes count)
+        (at lost.old trail.old (V.state visitor.old) cursor.old) }
     ensures { Shows (parts V.step head.now axes count) (at lost.old trail.old (V.state visitor.old) cursor.old)
         (at lost.new trail.new (V.state visitor.new) cursor.new) }
 {
@@ -86,9 +84,8 @@ fn show_part<V: Visit>(
     trail: &mut Trail,
     visitor: &mut V,
 )
-    requires precisions { HasPrecisions head.now }
-    requires axes { axes ≡ axes_with head.now.z head.now.m }
-    requires known { Knows (one_part V.step head.now axes) (at lost.old trail.old (V.state visitor.old) cursor.old) }
+    requires { KnowsUnder head.now (one_part V.step head.now axes)
+        (at lost.old trail.old (V.state visitor.old) cursor.old) }
     ensures { Shows (one_part V.step head.now axes) (at lost.old trail.old (V.state visitor.old) cursor.old)
         (at lost.new trail.new (V.state visitor.new) cursor.new) }
 {
@@ -115,9 +112,8 @@ fn show_polygon<V: Visit>(
     trail: &mut Trail,
     visitor: &mut V,
 )
-    requires precisions { HasPrecisions head.now }
-    requires axes { axes ≡ axes_with head.now.z head.now.m }
-    requires known { Knows (one_polygon V.step head.now axes) (at lost.old trail.old (V.state visitor.old) cursor.old) }
+    requires { KnowsUnder head.now (one_polygon V.step head.now axes)
+        (at lost.old trail.old (V.state visitor.old) cursor.old) }
     ensures { Shows (one_polygon V.step head.now axes) (at lost.old trail.old (V.state visitor.old) cursor.old)
         (at lost.new trail.new (V.state visitor.new) cursor.new) }
 {
@@ -139,9 +135,8 @@ fn show_ring<V: Visit>(
     trail: &mut Trail,
     visitor: &mut V,
 )
-    requires precisions { HasPrecisions head.now }
-    requires axes { axes ≡ axes_with head.now.z head.now.m }
-    requires known { Knows (one_ring V.step head.now axes) (at lost.old trail.old (V.state visitor.old) cursor.old) }
+    requires { KnowsUnder head.now (one_ring V.step head.now axes)
+        (at lost.old trail.old (V.state visitor.old) cursor.old) }
     ensures { Shows (one_ring V.step head.now axes) (at lost.old trail.old (V.state visitor.old) cursor.old)
         (at lost.new trail.new (V.state visitor.new) cursor.new) }
 {
@@ -168,9 +163,8 @@ fn show_point<V: Visit>(
     trail: &mut Trail,
     visitor: &mut V,
 )
-    requires precisions { HasPrecisions head.now }
-    requires axes { axes ≡ axes_with head.now.z head.now.m }
-    requires known { Knows (one_point V.step head.now axes) (at lost.old trail.old (V.state visitor.old) cursor.old) }
+    requires { KnowsUnder head.now (one_point V.step head.now axes)
+        (at lost.old trail.old (V.state visitor.old) cursor.old) }
     ensures { Shows (one_point V.step head.now axes) (at lost.old trail.old (V.state visitor.old) cursor.old)
         (at lost.new trail.new (V.state visitor.new) cursor.new) }
 {

@@ -4,13 +4,14 @@ use Rattle.std.specs.Prelude.{◌≡◌, ℕ, ◌≤◌, Bool, true, false, List
 use Rattle.twkb_num.specs.Cursor.{Reading}
 use Rattle.twkb_head.specs.declared.boxes.Vertex.{Vertex}
 use Rattle.twkb_head.specs.declared.header.Head.{Head}
+use Rattle.twkb_head.specs.Header.{axes_with}
 use Rattle.twkb_head.specs.Shared.Reader.{Reader, many_at}
 use Rattle.twkb_body.specs.declared.trail.Trail.{Trail}
 use Rattle.twkb_body.specs.Geometry.{PointValue, Ring, PolygonValue}
 use Rattle.twkb_body.specs.Devices.Body.{part_points, ring_sums}
 use Rattle.twkb_body.specs.Devices.BodyReader.{point_at, ring_at, polygon_at, part_at}
 use Rattle.twkb_body.specs.Devices.Inside.{of_head}
-use Rattle.twkb_body.specs.Devices.Walk.{IsWalked, IsStill, shown}
+use Rattle.twkb_body.specs.Devices.Walk.{HasPrecisions, IsWalked, IsStill, shown}
 
 -- how far a showing has come: whether the trail is lost, the trail, the visitor's state, and the reading
 pub record Progress (S : Type 0) : Type 0 where
@@ -43,6 +44,12 @@ pub record Knows {A S : Type 0} (w : Showing A S) (now : Progress S) : Type 0 wh
   pub read : w.each from.last now.reading ≡ (Ok value, stop)
   pub follows : Follows w.step now from
   pub counted : from.points ≤ now.reading.place
+
+-- A value is known, of points under a header: its precisions lie in their ranges, and each point has a number for each axis.
+pub record KnowsUnder {A S : Type 0} (head : Head) (w : Showing A S) (now : Progress S) : Type 0 where
+  pub precisions : HasPrecisions head
+  pub axes : w.axes ≡ axes_with head.z head.m
+  pub known : Knows w now
 
 -- The points of a value that is known were shown, and the place is after it.
 pub record IsShown {A S : Type 0} (w : Showing A S) (before after : Progress S) (known : Knows w before) : Type 0 where

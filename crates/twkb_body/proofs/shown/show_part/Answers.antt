@@ -8,11 +8,11 @@ use Rattle.twkb_body.specs.Devices.Showing.{Knows, Shows, at, one_point, one_rin
 use Rattle.twkb_body.proofs.Showing.{with_reader, dressed_known, dressed_shown, is_points, is_lines, is_polygons}
 use Rattle.twkb_body.proofs.shown.show_part.Goals as goal
 
-pub show_point-requires-clause-known : goal.show_point-requires-clause-known
-show_point-requires-clause-known g c =
+pub show_point-requires : goal.show_point-requires
+show_point-requires g c =
     let now = (at c.args.lost.now c.args.trail.now (g.V.Visit.state c.args.visitor.now) c.args.cursor.now) in
     let known = subst (λ (each : PointValue → Reader PolygonValue). Knows (with_reader each (one_part g.V.Visit.step c.args.head.now c.args.axes)) now) (is_points c.args.head.now.kind c.args.axes c.in-Point.is) c.requires.known in
-    dressed_known (λ (p : PointValue). (p ∷ []) ∷ []) part_points (one_point g.V.Visit.step c.args.head.now c.args.axes) (λ p. refl) now known
+    record { precisions = c.requires.precisions; axes = c.requires.axes; known = dressed_known (λ (p : PointValue). (p ∷ []) ∷ []) part_points (one_point g.V.Visit.step c.args.head.now c.args.axes) (λ p. refl) now known }
 
 pub returns-in-Point : goal.returns-in-Point
 returns-in-Point g c =
@@ -21,11 +21,11 @@ returns-in-Point g c =
     subst (λ (each : PointValue → Reader PolygonValue). Shows (with_reader each (one_part g.V.Visit.step c.args.head.now c.args.axes)) now after) (sym (is_points c.args.head.now.kind c.args.axes c.in-Point.is))
     (dressed_shown (λ (p : PointValue). (p ∷ []) ∷ []) part_points (one_point g.V.Visit.step c.args.head.now c.args.axes) (λ p. refl) now after c.show_point.ensures)
 
-pub show_ring-requires-clause-known : goal.show_ring-requires-clause-known
-show_ring-requires-clause-known g c =
+pub show_ring-requires : goal.show_ring-requires
+show_ring-requires g c =
     let now = (at c.args.lost.now c.args.trail.now (g.V.Visit.state c.args.visitor.now) c.args.cursor.now) in
     let known = subst (λ (each : PointValue → Reader PolygonValue). Knows (with_reader each (one_part g.V.Visit.step c.args.head.now c.args.axes)) now) (is_lines c.args.head.now.kind c.args.axes c.in-LineString.is) c.requires.known in
-    dressed_known (λ (line : Ring). line ∷ []) part_points (one_ring g.V.Visit.step c.args.head.now c.args.axes) (λ line. sym (append-nil line)) now known
+    record { precisions = c.requires.precisions; axes = c.requires.axes; known = dressed_known (λ (line : Ring). line ∷ []) part_points (one_ring g.V.Visit.step c.args.head.now c.args.axes) (λ line. sym (append-nil line)) now known }
 
 pub returns-in-LineString : goal.returns-in-LineString
 returns-in-LineString g c =
@@ -34,9 +34,9 @@ returns-in-LineString g c =
     subst (λ (each : PointValue → Reader PolygonValue). Shows (with_reader each (one_part g.V.Visit.step c.args.head.now c.args.axes)) now after) (sym (is_lines c.args.head.now.kind c.args.axes c.in-LineString.is))
     (dressed_shown (λ (line : Ring). line ∷ []) part_points (one_ring g.V.Visit.step c.args.head.now c.args.axes) (λ line. sym (append-nil line)) now after c.show_ring.ensures)
 
-pub show_polygon-requires-clause-known : goal.show_polygon-requires-clause-known
-show_polygon-requires-clause-known g c =
-    subst (λ (each : PointValue → Reader PolygonValue). Knows (with_reader each (one_part g.V.Visit.step c.args.head.now c.args.axes)) (at c.args.lost.now c.args.trail.now (g.V.Visit.state c.args.visitor.now) c.args.cursor.now)) (is_polygons c.args.head.now.kind c.args.axes c.in-Polygon.is) c.requires.known
+pub show_polygon-requires : goal.show_polygon-requires
+show_polygon-requires g c =
+    record { precisions = c.requires.precisions; axes = c.requires.axes; known = subst (λ (each : PointValue → Reader PolygonValue). Knows (with_reader each (one_part g.V.Visit.step c.args.head.now c.args.axes)) (at c.args.lost.now c.args.trail.now (g.V.Visit.state c.args.visitor.now) c.args.cursor.now)) (is_polygons c.args.head.now.kind c.args.axes c.in-Polygon.is) c.requires.known }
 
 pub returns-in-Polygon : goal.returns-in-Polygon
 returns-in-Polygon g c =

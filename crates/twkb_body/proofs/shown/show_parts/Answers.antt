@@ -9,8 +9,8 @@ use Rattle.twkb_body.proofs.shown.show_parts.Goals as goal
 pub loop-init : goal.loop-init
 loop-init g c = showing_begins (one_part g.V.Visit.step c.args.head.now c.args.axes) ring_sums rings_sums_flat c.args.count (at c.args.lost.now c.args.trail.now (g.V.Visit.state c.args.visitor.now) c.args.cursor.now)
 
-pub show_part-requires-clause-known : goal.show_part-requires-clause-known
-show_part-requires-clause-known g c = showing_next (one_part g.V.Visit.step c.args.head.now c.args.axes) ring_sums rings_sums_flat c.args.count (at c.args.lost.now c.args.trail.now (g.V.Visit.state c.args.visitor.now) c.args.cursor.now) c.loop.counter _ c.loop-test.true c.requires.known c.loop.invariant
+pub show_part-requires : goal.show_part-requires
+show_part-requires g c = record { precisions = c.requires.precisions; axes = c.requires.axes; known = showing_next (one_part g.V.Visit.step c.args.head.now c.args.axes) ring_sums rings_sums_flat c.args.count (at c.args.lost.now c.args.trail.now (g.V.Visit.state c.args.visitor.now) c.args.cursor.now) c.loop.counter _ c.loop-test.true c.requires.known c.loop.invariant }
 
 pub loop-preserved : goal.loop-preserved
 loop-preserved g c = showing_goes_on (one_part g.V.Visit.step c.args.head.now c.args.axes) ring_sums rings_sums_flat c.args.count (at c.args.lost.now c.args.trail.now (g.V.Visit.state c.args.visitor.now) c.args.cursor.now) c.loop.counter _ _ c.loop-test.true c.show_part.ensures c.loop.invariant

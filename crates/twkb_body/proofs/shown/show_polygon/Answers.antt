@@ -14,10 +14,10 @@ unreachable-requires g c = count_reads (λ (n : ℕ). many_at n sums (ring_at c.
 pub loop-init : goal.loop-init
 loop-init g c = showing_begins (one_ring g.V.Visit.step c.args.head.now c.args.axes) sums rings_are_sums c.in-Ok.count (at c.args.lost.now c.args.trail.now (g.V.Visit.state c.args.visitor.now) c.take_number.new.cursor)
 
-pub show_ring-requires-clause-known : goal.show_ring-requires-clause-known
-show_ring-requires-clause-known g c =
+pub show_ring-requires : goal.show_ring-requires
+show_ring-requires g c =
     let known = counted_known (λ (n : ℕ). many_at n sums (ring_at c.args.axes)) (one_polygon g.V.Visit.step c.args.head.now c.args.axes) c.in-Ok.count (at c.args.lost.now c.args.trail.now (g.V.Visit.state c.args.visitor.now) c.args.cursor.now) c.take_number.new.cursor c.in-Ok.ensures c.requires.known in
-    showing_next (one_ring g.V.Visit.step c.args.head.now c.args.axes) sums rings_are_sums c.in-Ok.count (at c.args.lost.now c.args.trail.now (g.V.Visit.state c.args.visitor.now) c.take_number.new.cursor) c.loop.counter _ c.loop-test.true known c.loop.invariant
+    record { precisions = c.requires.precisions; axes = c.requires.axes; known = showing_next (one_ring g.V.Visit.step c.args.head.now c.args.axes) sums rings_are_sums c.in-Ok.count (at c.args.lost.now c.args.trail.now (g.V.Visit.state c.args.visitor.now) c.take_number.new.cursor) c.loop.counter _ c.loop-test.true known c.loop.invariant }
 
 pub loop-preserved : goal.loop-preserved
 loop-preserved g c = showing_goes_on (one_ring g.V.Visit.step c.args.head.now c.args.axes) sums rings_are_sums c.in-Ok.count (at c.args.lost.now c.args.trail.now (g.V.Visit.state c.args.visitor.now) c.take_number.new.cursor) c.loop.counter _ _ c.loop-test.true c.show_ring.ensures c.loop.invariant
