@@ -2,7 +2,6 @@
 use Rattle.std.proofs.Common.{◌≡◌, ℕ, ◌+◌, ◌<◌, ◌≤◌, Bool, true, false, ◌&&◌, List, ◌∷◌, [], length, slice_index_or, ℤ, pos, ◌+ℤ◌, ◌-ℤ◌, Ok, refl, sym, ap, subst, ◌∙◌, arith}
 use Rattle.std.proofs.lemmas.Int.{ints}
 use Rattle.twkb_num.specs.Cursor.{Reading}
-use Rattle.twkb_num.specs.Varint.{IsShort}
 use Rattle.twkb_head.specs.declared.raw.RawBox.{RawBox}
 use Rattle.twkb_head.specs.declared.raw.RawRange.{RawRange}
 use Rattle.twkb_body.specs.declared.numbers.Numbers.{Numbers}
@@ -21,7 +20,7 @@ use Rattle.twkb_body.proofs.FurtherRuns.{trail_at, IsFurtherRun, further_begins,
 use Rattle.twkb_body.proofs.Keeping.{keeps_point, read_keeps}
 use Rattle.twkb_body.proofs.LaneRuns.{run_leaves, next_leaves}
 use Rattle.twkb_body.proofs.LaneSums.{and_true_right}
-use Rattle.twkb_body.proofs.NumberSteps.{four_read}
+use Rattle.twkb_body.proofs.NumberSteps.{four_read, from_zero}
 use Rattle.twkb_body.proofs.PointAxes.{point_has}
 use Rattle.twkb_body.proofs.QuadRuns.{near_range, reached_lane}
 use Rattle.twkb_body.proofs.Runs.{run_goes_on}
@@ -44,9 +43,6 @@ differences_keep has_fourth more old new d = read_keeps (point_at (axes_by has_f
   where
     none : Numbers
     none = record { x = pos 0; y = pos 0; third = pos 0; fourth = pos 0 }
-
-    from_zero : (z : ℤ) → IsShort z → IsIn64 (pos 0 +ℤ z)
-    from_zero z short = (omega (arith, ints, short.0), omega (arith, ints, short.1))
 
     fit : Each IsIn64 (plus none more)
     fit = record { x = from_zero _ d.short.x; y = from_zero _ d.short.y; third = from_zero _ d.short.third; fourth = from_zero _ d.short.fourth }

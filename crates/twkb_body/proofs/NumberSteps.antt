@@ -71,7 +71,7 @@ then_coordinates n x y x_more y_more others mores r middle next new first second
     ∙ ap (λ (a : Answer PointValue). viewed (λ cs. x_more ∷ cs) (viewed (λ cs. y_more ∷ cs) a)) rest
 
 -- a short number added to zero is one of 64 bits
-from_zero : (z : ℤ) → IsShort z → IsIn64 (pos 0 +ℤ z)
+pub from_zero : (z : ℤ) → IsShort z → IsIn64 (pos 0 +ℤ z)
 from_zero z short = (omega (arith, ints, short.0), omega (arith, ints, short.1))
 
 -- ---- the numbers of a point, from the varints that were read

@@ -1,21 +1,13 @@
 -- Numbers that a vector holds, as pairs of differences that were read one after another.
-use Rattle.std.proofs.Common.{◌≡◌, ℕ, List, [], ◌∷◌, length, map, ℤ, pos, refl, ap, subst, ◌∙◌, arith, Bool, true, false, w16}
+use Rattle.std.proofs.Common.{◌≡◌, ℕ, List, [], ◌∷◌, length, map, ℤ, pos, refl, ap, subst, ◌∙◌, arith, w16}
 use Rattle.std.proofs.lemmas.List.{length-map}
 use Rattle.std.specs.Int.{cast_signed}
 use Rattle.std.proofs.lemmas.Int.{ints}
-use Rattle.std.specs.Prelude.{All, not}
+use Rattle.std.specs.Prelude.{All}
 use Rattle.twkb_num.specs.Cursor.{Reading, passed, IsMoved}
 use Rattle.twkb_num.specs.Varint.{SpellsAllSigned, IsShort, IsBrief}
 use Rattle.twkb_num.proofs.PairLaws.{pair_and_others, last_pair}
 use Rattle.twkb_body.specs.Devices.Quads.{ReadsPairs}
-
-pub not_false : (b : Bool) → not b ≡ false → b ≡ true
-not_false true e = refl
-not_false false e = absurd (cc (e))
-
-pub not_true : (b : Bool) → not b ≡ true → b ≡ false
-not_true true e = absurd (cc (e))
-not_true false e = refl
 
 -- a number that two bytes can spell can be spelled by four
 brief_short : (z : ℤ) → IsBrief z → IsShort z

@@ -22,4 +22,3 @@ pub mod Tight
 pub mod Standing
 pub mod Skimmed
 pub mod Pending
-pub mod Counting

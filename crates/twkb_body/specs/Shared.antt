@@ -1,2 +1,3 @@
 -- Shared between crates: contracts of private functions, here and in the crates above, name them, and nothing public does.
 pub mod Tight
+pub mod Skipping

@@ -4,7 +4,7 @@ ghost use Rattle.twkb_layer.specs.Hits.{filled};
 ghost use Rattle.twkb_layer.specs.Layer.{IsCounted, OfLayer, vertex_count};
 ghost use Rattle.twkb_layer.specs.Vertices.{all_vertices};
 ghost use Rattle.twkb_call.specs.Vertices.{point_of};
-ghost use Rattle.twkb_call.specs.Devices.Drawing.{drawing_of, draws, never, never_skips};
+ghost use Rattle.twkb_call.specs.Devices.Drawing.{drawing_of, draws, never};
 
 use crate::layer::Layer;
 use crate::window::Units;
@@ -49,7 +49,8 @@ impl Drop for Pen<'_> {
 }
 
 impl<'a> Visit for Pen<'a> {
-    ghost use Rattle.twkb_call.specs.Devices.Drawing.{Drawing, drawing_of, draws, never, never_skips};
+    ghost use Rattle.twkb_body.specs.Shared.Skipping.{never_skips};
+    ghost use Rattle.twkb_call.specs.Devices.Drawing.{Drawing, drawing_of, draws, never};
 
     ghost State = { Drawing };
 
@@ -59,7 +60,7 @@ impl<'a> Visit for Pen<'a> {
 
     ghost passes = { never };
 
-    ghost sound = { never_skips };
+    ghost sound = { never_skips draws };
 
     /// Draws a vertex, if there is room for it.
     #[inline(always)]

@@ -4,7 +4,6 @@ use Rattle.std.specs.Prelude.{ℕ, ◌+◌, ltb, cond, Bool, false, List, length
 use Rattle.std.specs.Borrow.{GName}
 use Rattle.twkb_head.specs.declared.boxes.Vertex.{Vertex}
 use Rattle.twkb_head.specs.declared.boxes.Bounds.{Bounds}
-use Rattle.twkb_body.specs.Visit.{SkipsSoundly}
 use Rattle.twkb_call.specs.declared.drawing.Point.{Point}
 use Rattle.twkb_call.specs.declared.drawing.Pen.{Pen}
 use Rattle.twkb_call.specs.Vertices.{point_of}
@@ -30,6 +29,3 @@ draws s v = cond (ltb s.drawn (length s.room)) (record {
 -- it skips no box
 abbrev pub never : Drawing → Bounds → Bool
 never s box = false
-
-pub never_skips : SkipsSoundly draws never
-never_skips s box v e h = absurd (cc (e))

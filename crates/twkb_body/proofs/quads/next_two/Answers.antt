@@ -5,7 +5,8 @@ use Rattle.std.specs.Int.{cast_signed}
 use Rattle.std.specs.Prelude.{ℤ, List, All}
 use Rattle.twkb_num.specs.Cursor.{passed}
 use Rattle.twkb_num.specs.Varint.{SpellsAllSigned, IsShort}
-use Rattle.twkb_body.proofs.QuadReads.{not_false, four_of, two_pairs_read}
+use Rattle.std.proofs.lemmas.Bool.{not-false}
+use Rattle.twkb_body.proofs.QuadReads.{four_of, two_pairs_read}
 use Rattle.twkb_body.proofs.quads.next_two.Goals as goal
 
 pub returns-clause-step : goal.returns-clause-step
@@ -13,7 +14,7 @@ returns-clause-step c x y w h at extent x_in y_in w_fits h_fits =
     let old = c.args.cursor.now in
     let new = c.svarint_four-differences.new.self in
     let read = c.svarint_four-differences in
-    let so = not_false read.result.is_read c.if-not-differences.false in
+    let so = not-false read.result.is_read c.if-not-differences.false in
     let long : length read.result.lanes ≡ 4 = search rules in
     let zs : List ℤ = map (cast_signed w32) read.result.lanes in
     let four = four_of zs (length-map read.result.lanes (cast_signed w32) ∙ long) in

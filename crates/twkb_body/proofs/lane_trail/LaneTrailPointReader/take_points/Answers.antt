@@ -4,7 +4,7 @@ use mir.Val.{Fits}
 use Rattle.std.specs.Int.{w64}
 use Rattle.twkb_body.proofs.LaneRuns.{rest_leaves, held_begins, held_goes_on, stands_counted, stands_read, stands_leave}
 use Rattle.twkb_body.proofs.NumberSteps.{points_fit}
-use Rattle.twkb_body.proofs.QuadReads.{not_false, not_true}
+use Rattle.std.proofs.lemmas.Bool.{not-false, not-true}
 use Rattle.twkb_body.proofs.lane_trail.LaneTrailPointReader.take_points.Goals as goal
 
 pub loop-done-init : goal.loop-done-init
@@ -25,7 +25,7 @@ returns-then-not-step-clause-ended g c at s =
     let held = c.loop-done.invariant.read at s in
     stands_leave g.L.LaneReader.axes (λ box. g.L.LaneReader.place c.args.self.now.reader box c.args.self.now.at c.args.self.now.extent) c.args.self.now.points at s c.args.cursor.now c.take_some-step.new.cursor c.args.count
     (rest_leaves g.L.LaneReader.axes s.box (record { last = s.last; points = c.args.self.now.points }) c.args.cursor.now c.args.count c.loop-done.done held.after c.loop-done.cursor c.loop-done.invariant.few held.run
-    (c.take_some-step.ensures.outside (not_true _ c.if-not-step.true) s.box held.after.last held.there))
+    (c.take_some-step.ensures.outside (not-true _ c.if-not-step.true) s.box held.after.last held.there))
 
 pub returns-then-not-step-clause-bytes : goal.returns-then-not-step-clause-bytes
 returns-then-not-step-clause-bytes g c = c.take_some-step.ensures.bytes ∙ c.loop-done.invariant.bytes
@@ -37,7 +37,7 @@ loop-done-preserved g c = record {
   read = λ at s.
       let held = c.loop-done.invariant.read at s in
       held_goes_on g.L.LaneReader.axes s.box (record { last = s.last; points = c.args.self.now.points }) c.args.cursor.now (g.L.LaneReader.place c.args.self.now.reader s.box c.loop-done.at c.args.self.now.extent) (g.L.LaneReader.place c.args.self.now.reader s.box c.take_some-step.result.reached.at c.args.self.now.extent)
-      c.loop-done.cursor c.take_some-step.new.cursor c.loop-done.done c.take_some-step.result.points held (c.take_some-step.ensures.inside (not_false _ c.if-not-step.false) s.box held.after held.there);
+      c.loop-done.cursor c.take_some-step.new.cursor c.loop-done.done c.take_some-step.result.points held (c.take_some-step.ensures.inside (not-false _ c.if-not-step.false) s.box held.after held.there);
 }
 
 pub overflow_add-self : goal.overflow_add-self
