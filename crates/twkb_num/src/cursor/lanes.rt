@@ -1,8 +1,9 @@
 //! Signed numbers at a cursor's place, read together into the lanes of a vector.
-ghost use Rattle.std.specs.Prelude.{◌≡◌, ◌+◌, ◌<◌, ◌≤◌, ◌⊎◌, length, [], ◌∷◌, false, map, replicate, All, IsTrue, IfSome, IfNone, OnSome};
+ghost use Rattle.std.specs.Prelude.{◌≡◌, ◌<◌, ◌⊎◌, length, [], ◌∷◌, false, map, replicate, All, IsTrue};
 ghost use Rattle.std.specs.Int.{w16, w32, cast_signed};
 ghost use Rattle.twkb_num.specs.Cursor.{passed, rest, IsMoved};
-ghost use Rattle.twkb_num.specs.Varint.{SpellsAllSigned, SpellsTwoSigned, IsShort, IsBrief, HasLong};
+ghost use Rattle.twkb_num.specs.Devices.Pairs.{ReadsPair};
+ghost use Rattle.twkb_num.specs.Varint.{SpellsAllSigned, IsShort, IsBrief, HasLong};
 
 use super::Cursor;
 use crate::vectors::{narrow_eight, wide_four, wide_pair};
@@ -76,12 +77,7 @@ impl<'a> Cursor<'a> {
     // The two signed varints at the place, if each takes at most four bytes and sixteen bytes are left.
     #[inline(always)]
     pub(super) fn lane_pair(&mut self) -> Option<(i64, i64)>
-        ensures some { IfSome result (λ pair. SpellsTwoSigned (passed self.old self.new) pair.0 pair.1) }
-        ensures short { IfSome result (λ pair. IsShort pair.0 × IsShort pair.1) }
-        ensures told { IfNone result ((length (rest self.old) < 16) ⊎ HasLong 4 8 (rest self.old)) }
-        ensures within { OnSome result (self.new.place ≤ self.old.place + 8) }
-        ensures moved { OnSome result (IsMoved self.old self.new) }
-        ensures none { IfNone result (self.new ≡ self.old) }
+        ensures { ReadsPair 16 self.old self.new result }
     {
         let both = wide_pair(self.bytes[self.place..].first_chunk::<16>()?);
         if both.len >= 128 {

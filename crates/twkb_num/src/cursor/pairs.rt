@@ -1,6 +1,6 @@
 //! Two to four signed numbers at a cursor's place, read together, and two numbers passed together.
 ghost use Rattle.std.specs.Prelude.{◌≡◌, ◌↔◌, ◌+◌, ◌<◌, ◌≤◌, ◌⊎◌, length, IfSome, IfNone, OnSome, IsTrue};
-ghost use Rattle.twkb_num.specs.Devices.Pairs.{PassesTwoPairs};
+ghost use Rattle.twkb_num.specs.Devices.Pairs.{ReadsPair, PassesTwoPairs};
 ghost use Rattle.twkb_num.specs.Cursor.{Reading, passed, rest, IsMoved};
 ghost use Rattle.twkb_num.specs.Varint.{SpellsMany, SpellsTwoSigned, IsSigned, IsShort, HasLong, EndsOnce};
 
@@ -46,12 +46,7 @@ impl<'a> Cursor<'a> {
     // The two numbers from one word of eight bytes.
     #[inline(always)]
     fn word_pair(&mut self) -> Option<(i64, i64)>
-        ensures some { IfSome result (λ pair. SpellsTwoSigned (passed self.old self.new) pair.0 pair.1) }
-        ensures short { IfSome result (λ pair. IsShort pair.0 × IsShort pair.1) }
-        ensures told { IfNone result ((length (rest self.old) < 8) ⊎ HasLong 4 8 (rest self.old)) }
-        ensures within { OnSome result (self.new.place ≤ self.old.place + 8) }
-        ensures moved { OnSome result (IsMoved self.old self.new) }
-        ensures none { IfNone result (self.new ≡ self.old) }
+        ensures { ReadsPair 8 self.old self.new result }
     {
         let both = next_mixed_pair(self.bytes[self.place..].first_chunk::<8>()?)?;
         self.place += both.len;
