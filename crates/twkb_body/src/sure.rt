@@ -1,6 +1,6 @@
 //! The first reading of a blob, which certifies it or ends in a doubt. It hands down the innermost box, and hands up the number of
 //! vertices.
-ghost use Rattle.std.specs.Prelude.{◌≡◌, ◌≤◌, ◌+◌, ◌-◌, bit_and, true, false, Option, None, Some, option_map, IfSome, OnSome, IfOk, Ok};
+ghost use Rattle.std.specs.Prelude.{◌≡◌, ◌≤◌, ◌+◌, ◌-◌, bit_and, true, false, Option, None, Some, IfSome, IfOk, Ok};
 ghost use Rattle.twkb_num.specs.Cursor.{Reading};
 ghost use Rattle.twkb_num.specs.Units.{IsPrecision};
 ghost use Rattle.twkb_head.specs.BegunHeader.{deepest, is_collection, IsAllowedAt};
@@ -9,8 +9,7 @@ ghost use Rattle.twkb_head.specs.declared.header.Head.{Head as HeadOf};
 ghost use Rattle.twkb_head.specs.declared.kinds.Kind.TheVariants.{Point, LineString};
 ghost use Rattle.twkb_body.specs.declared.doubt.Doubt.TheVariants.{Refused};
 ghost use Rattle.twkb_body.specs.declared.frame.Frame.{Frame as FrameOf};
-ghost use Rattle.twkb_body.specs.Devices.Sure.{counted_in, framed, has_further, IsFramed, IsNearFrame, IsFrameUnder, IsJudged, HasReadTwo, HasBegun, HasHead, Certifies, CertifiesAfterTwo, CertifiesAfterHead, CertifiesBody};
-ghost use Rattle.twkb_body.specs.Devices.Walk.{HasPrecisions};
+ghost use Rattle.twkb_body.specs.Devices.Sure.{counted_in, has_further, IsFramed, IsNearFrame, IsJudged, HasReadTwo, HasBegun, HasHead, Certifies, CertifiesAfterTwo, CertifiesAfterHead, CertifiesBody};
 
 mod announced;
 mod apart;

@@ -2,6 +2,7 @@
 -- The first reading: what it certifies, and what it refuses.
 use Rattle.std.specs.Prelude.{◌≡◌, ◌≢◌, ℕ, ◌+◌, ◌-◌, ◌≤◌, ◌+ℤ◌, ◌≤ℤ◌, Bool, false, List, [], ◌∷◌, ◌++◌, map, Option, Some, None, Result, Ok, Err, All, AllPairs, IfSome, IfOk, IfErr, OnErr, true, ⊤, is_some, ◌||◌, ◌⊎◌, option_map, ℤ}
 use Rattle.twkb_num.specs.Cursor.{Reading, rest, passed, IsMoved, IsSound}
+use Rattle.twkb_num.specs.Units.{IsPrecision}
 use Rattle.twkb_head.specs.declared.header.Head.{Head}
 use Rattle.twkb_head.specs.declared.kinds.Kind.{Kind}
 use Rattle.twkb_head.specs.declared.boxes.Bounds.{Bounds}
@@ -10,8 +11,9 @@ use Rattle.twkb_head.specs.declared.raw.RawBox.{RawBox}
 use Rattle.twkb_head.specs.declared.raw.RawRange.{RawRange}
 use Rattle.twkb_head.specs.BegunHeader.{deepest, is_collection}
 use Rattle.twkb_head.specs.declared.raw.Fields.{Fields}
-use Rattle.twkb_head.specs.Raw.{raw_bounds, ReadsHead}
-use Rattle.twkb_head.specs.Header.{Header}
+use Rattle.twkb_head.specs.declared.read.Begun.{Begun}
+use Rattle.twkb_head.specs.Raw.{raw_bounds, BeginsHead, ReadsHead}
+use Rattle.twkb_head.specs.Header.{Header, has_bit}
 use Rattle.twkb_head.specs.Holds.{Holds}
 use Rattle.twkb_head.specs.Shared.Reader.{many_at, Fails}
 use Rattle.twkb_head.specs.declared.refusal.Malformed.{Malformed}
@@ -235,6 +237,15 @@ pub record HasHead (depth : ℕ) (above : Option Frame) (raw : Fields) (now : Re
 abbrev pub CertifiesAfterHead : ℕ → Option Frame → Fields → Reading → Result ℕ Doubt → Reading → Type 0
 CertifiesAfterHead depth above raw now result new =
     (before : Reading) → IsSound before → ReadsHead depth before now (Ok raw) → Certifies depth above before result new
+
+-- The first two bytes of a blob of this kind were read, and announce a body of X and Y alone and no box.
+pub record HasBegunPlain (kind : Kind) (begun : Begun) (now : Reading) : Type 0 where
+  pub xy : IsPrecision begun.xy
+  pub flat : has_bit begun.metadata 8 ≡ false
+  pub full : has_bit begun.metadata 16 ≡ false
+  pub no_box : has_bit begun.metadata 1 ≡ false
+  pub has_kind : begun.kind ≡ kind
+  pub before : (before : Reading) × IsSound before × BeginsHead begun 1 before now
 
 -- on Ok the size is true of a geometry that ends at stop; on Err the size is false
 abbrev pub IsJudged : Head → ℕ → ℕ → Result ℕ Doubt → Type 0

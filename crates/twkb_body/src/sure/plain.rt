@@ -1,13 +1,11 @@
 //! Points and lines of X and Y without a box, in the first reading, after their first two bytes.
 ghost use Rattle.std.specs.Prelude.{◌≡◌, ◌≤◌, ◌+◌, ◌%◌, ◌^◌, ℕ, false, None, Some, IfSome, IfOk, IfErr};
 ghost use Rattle.twkb_num.specs.Cursor.{Reading, IsSound};
-ghost use Rattle.twkb_num.specs.Units.{IsPrecision};
-ghost use Rattle.twkb_head.specs.Header.{has_bit};
 ghost use Rattle.twkb_head.specs.Raw.{BeginsHead};
 ghost use Rattle.twkb_head.specs.declared.kinds.Kind.TheVariants.{Point, LineString};
 ghost use Rattle.twkb_body.specs.declared.doubt.Doubt.TheVariants.{Refused};
 ghost use Rattle.twkb_body.specs.Devices.Found.{size_judged};
-ghost use Rattle.twkb_body.specs.Devices.Sure.{counted_in, Certifies};
+ghost use Rattle.twkb_body.specs.Devices.Sure.{counted_in, HasBegunPlain, Certifies};
 
 use super::judged;
 use super::unboxed::{take_bare_point, take_flat_line};
@@ -18,12 +16,7 @@ use twkb_num::Cursor;
 /// Reads a point of X and Y without a box, after its first two bytes.
 #[inline(always)]
 pub fn take_plain_point(cursor: &mut Cursor, begun: Begun) -> Result<(usize, usize), Doubt>
-    requires xy { IsPrecision begun.xy }
-    requires flat { has_bit begun.metadata 8 ≡ false }
-    requires full { has_bit begun.metadata 16 ≡ false }
-    requires no_box { has_bit begun.metadata 1 ≡ false }
-    requires point { begun.kind ≡ Point }
-    requires before { (before : Reading) × IsSound before × BeginsHead begun 1 before cursor.old }
+    requires { HasBegunPlain Point begun cursor.old }
     ensures certified { (before : Reading) → IsSound before → BeginsHead begun 1 before cursor.old
         → Certifies 1 None before (counted_in result) cursor.new }
     ensures stop { IfOk result (λ both. both.1 ≡ cursor.new.place) }
@@ -42,12 +35,7 @@ pub fn take_plain_point(cursor: &mut Cursor, begun: Begun) -> Result<(usize, usi
 /// Reads a line of X and Y without a box, after its first two bytes.
 #[inline(always)]
 pub fn take_plain_line(cursor: &mut Cursor, begun: Begun) -> Result<usize, Doubt>
-    requires xy { IsPrecision begun.xy }
-    requires flat { has_bit begun.metadata 8 ≡ false }
-    requires full { has_bit begun.metadata 16 ≡ false }
-    requires no_box { has_bit begun.metadata 1 ≡ false }
-    requires line { begun.kind ≡ LineString }
-    requires before { (before : Reading) × IsSound before × BeginsHead begun 1 before cursor.old }
+    requires { HasBegunPlain LineString begun cursor.old }
     ensures { (before : Reading) → IsSound before → BeginsHead begun 1 before cursor.old
         → Certifies 1 None before result cursor.new }
 {

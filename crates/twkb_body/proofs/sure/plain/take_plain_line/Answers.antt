@@ -18,7 +18,7 @@ returns-in_err-vertices c = λ before sound begins.
     let flat = c.in-Ok.ensures.flat c.requires.flat in
     let full = c.in-Ok.ensures.empty ∙ c.requires.full in
     let no_box = c.in-Ok.ensures.no_box c.requires.no_box in
-    let kind = c.in-Ok.ensures.kind ∙ c.requires.line in
+    let kind = c.in-Ok.ensures.kind ∙ c.requires.has_kind in
     let p = err_from_is_err_and c.from_residual.result c.from_residual.ensures.1 in
     rw (p.1, p.2) (bare_doubts c.in-Ok.raw c.boxless-head.result c.boxless-head.ensures LineString before c.take_rest.new.cursor c.take_flat_line.new.cursor sound s.0 s.1 kind refl refl flat.0 flat.1 full no_box _ c.in_err-vertices.ensures.refused c.in_err-vertices.ensures.malformed)
 
@@ -34,6 +34,6 @@ returns c = λ before sound begins.
     let flat = c.in-Ok.ensures.flat c.requires.flat in
     let full = c.in-Ok.ensures.empty ∙ c.requires.full in
     let no_box = c.in-Ok.ensures.no_box c.requires.no_box in
-    let kind = c.in-Ok.ensures.kind ∙ c.requires.line in
+    let kind = c.in-Ok.ensures.kind ∙ c.requires.has_kind in
     bare_certifies c.in-Ok.raw c.boxless-head.result c.boxless-head.ensures LineString before c.take_rest.new.cursor c.take_flat_line.new.cursor sound s.0 s.1 kind refl refl flat.0 flat.1 full no_box c.in_ok-vertices.vertices c.judged.result c.in_ok-vertices.ensures.ok
     (subst (λ (stop : ℕ). IsJudged c.boxless-head.result stop c.in_ok-vertices.vertices c.judged.result) c.place.ensures.value c.judged.ensures)

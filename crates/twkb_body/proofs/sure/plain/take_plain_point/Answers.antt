@@ -20,7 +20,7 @@ returns-in_err-vertices-clause-certified c = λ before sound begins.
     let flat = c.in-Ok.ensures.flat c.requires.flat in
     let full = c.in-Ok.ensures.empty ∙ c.requires.full in
     let no_box = c.in-Ok.ensures.no_box c.requires.no_box in
-    let kind = c.in-Ok.ensures.kind ∙ c.requires.point in
+    let kind = c.in-Ok.ensures.kind ∙ c.requires.has_kind in
     let p = err_from_is_err_and c.from_residual.result c.from_residual.ensures.1 in
     rw (p.1, p.2) (bare_doubts c.in-Ok.raw (boxless c.in-Ok.raw) refl Point before c.take_rest.new.cursor c.take_bare_point.new.cursor sound s.0 s.1 kind refl refl flat.0 flat.1 full no_box _ c.in_err-vertices.ensures.refused c.in_err-vertices.ensures.malformed)
 
@@ -36,7 +36,7 @@ returns-in_err-stop-clause-certified c = λ before sound begins.
     let flat = c.in-Ok.ensures.flat c.requires.flat in
     let full = c.in-Ok.ensures.empty ∙ c.requires.full in
     let no_box = c.in-Ok.ensures.no_box c.requires.no_box in
-    let kind = c.in-Ok.ensures.kind ∙ c.requires.point in
+    let kind = c.in-Ok.ensures.kind ∙ c.requires.has_kind in
     let p = err_from_is_err_and c.from_residual-in_err-stop.result c.from_residual-in_err-stop.ensures.1 in
     let judged : IsJudged (boxless c.in-Ok.raw) c.take_bare_point.new.cursor.place c.in_ok-vertices.vertices (Err c.in_err-stop.field-0.0) =
     subst (λ (stop : ℕ). IsJudged (boxless c.in-Ok.raw) stop c.in_ok-vertices.vertices (Err c.in_err-stop.field-0.0)) c.place.ensures.value c.in_err-stop.ensures.err in
@@ -48,7 +48,7 @@ returns-clause-certified c = λ before sound begins.
     let flat = c.in-Ok.ensures.flat c.requires.flat in
     let full = c.in-Ok.ensures.empty ∙ c.requires.full in
     let no_box = c.in-Ok.ensures.no_box c.requires.no_box in
-    let kind = c.in-Ok.ensures.kind ∙ c.requires.point in
+    let kind = c.in-Ok.ensures.kind ∙ c.requires.has_kind in
     let judged : IsJudged (boxless c.in-Ok.raw) c.take_bare_point.new.cursor.place c.in_ok-vertices.vertices (Ok c.in_ok-vertices.vertices) =
     (refl, subst (λ (stop : ℕ). size_judged c.in-Ok.raw.size stop ≡ None) c.place.ensures.value c.in_ok-stop.ensures.ok.1) in
     subst (Certifies 1 None before (Ok c.in_ok-vertices.vertices)) (sym c.go_on_from.ensures) (bare_certifies c.in-Ok.raw (boxless c.in-Ok.raw) refl Point before c.take_rest.new.cursor c.take_bare_point.new.cursor sound s.0 s.1 kind refl refl flat.0 flat.1 full no_box c.in_ok-vertices.vertices (Ok c.in_ok-vertices.vertices) c.in_ok-vertices.ensures.ok judged)
