@@ -53,8 +53,8 @@ impl<'a> Cursor<'a> {
         Some((both.first, both.second))
     }
 
-    /// Reads the four signed varints at the place by [`Cursor::svarint_four`], or, if this fails, by two calls of
-    /// [`Cursor::svarint_pair`]. If one of these fails too, it returns `None`, and the cursor is as it was.
+    /// Reads the four signed varints at the place by [`Cursor::svarint_four`], or, if fewer than 32 bytes are left, by two calls of
+    /// [`Cursor::svarint_pair`]. If this fails, it returns `None`, and the cursor is as it was.
     #[inline(always)]
     pub fn svarint_two_pairs(&mut self) -> Option<((i64, i64), (i64, i64))>
         ensures some { IfSome result (λ two. (middle : Reading)
@@ -69,11 +69,15 @@ impl<'a> Cursor<'a> {
         if four.is_read {
             return Some(four.two_pairs());
         }
-        self.two_word_pairs()
+        if self.bytes.len() - self.place < 32 {
+            self.two_word_pairs()
+        } else {
+            None
+        }
     }
 
-    // Two pairs, each from one word of eight bytes.
-    #[inline(always)]
+    // Two pairs, each from one word of eight bytes. It isn't inlined: only the last bytes of a layer are read by it.
+    #[inline(never)]
     fn two_word_pairs(&mut self) -> Option<((i64, i64), (i64, i64))>
         ensures some { IfSome result (λ two. PassesTwoPairs self.old self.new two.0 two.1) }
         ensures first { IfSome result (λ two. IsShort (two.0).0 × IsShort (two.0).1) }
