@@ -20,5 +20,6 @@ pub mod Bare
 pub mod Sure
 pub mod Tight
 pub mod Standing
+pub mod Known
 pub mod Skimmed
 pub mod Pending

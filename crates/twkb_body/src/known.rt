@@ -5,6 +5,7 @@ ghost use Rattle.twkb_head.specs.Raw.{ends_of, IsNear};
 ghost use Rattle.twkb_head.specs.declared.raw.RawRange.{RawRange};
 ghost use Rattle.twkb_head.specs.declared.refusal.Malformed.{Malformed};
 ghost use Rattle.twkb_head.specs.Shared.Reader.{range_from};
+ghost use Rattle.twkb_body.specs.Devices.Known.{ReadsFlatBox};
 
 use crate::varints::take_signed;
 use twkb_head::RawRange;
@@ -31,8 +32,7 @@ pub fn known_range(cursor: &mut Cursor) -> (RawRange, bool)
 /// cursor is as it was.
 #[inline(always)]
 pub fn short_ranges(cursor: &mut Cursor) -> Option<(RawRange, RawRange)>
-    ensures read { IfSome result (λ two. (middle : Reading) × (range_from cursor.old ≡ (Ok (ends_of two.0), middle))
-        × (range_from middle ≡ (Ok (ends_of two.1), cursor.new))) }
+    ensures read { IfSome result (λ two. ReadsFlatBox two.0 two.1 cursor.old cursor.new) }
     ensures x_near { IfSome result (λ two. IsNear two.0) }
     ensures y_near { IfSome result (λ two. IsNear two.1) }
     ensures none { IfNone result (cursor.new ≡ cursor.old) }

@@ -3,6 +3,8 @@ ghost use Rattle.std.specs.Prelude.{◌≡◌, ℕ, ◌+◌, ◌<◌, ◌^◌, t
 ghost use Rattle.twkb_num.specs.Units.{IsPrecision};
 ghost use Rattle.twkb_head.specs.declared.kinds.Kind.TheVariants.{Point};
 ghost use Rattle.twkb_body.specs.Geometry.{Geometry};
+ghost use Rattle.twkb_head.specs.declared.raw.RawRange.{RawRange};
+ghost use Rattle.twkb_body.specs.Devices.Known.{HasFlatBox, ReadsFlatBox};
 ghost use Rattle.twkb_body.specs.Devices.Skimmed.{hop_of, Entered, HasCome, HasRead, IsThere, Enters};
 ghost use Rattle.twkb_head.specs.Raw.{HavePrecisions, head_said, flat_box, raw_bounds, IsNear};
 ghost use Rattle.twkb_body.specs.Standing.{StandsAt};
@@ -160,8 +162,7 @@ fn skips<V: Visit>(visitor: &V, axes: Axes, b: &RawBox) -> bool
     }
 }
 
-/// Enters a geometry that has a size and a box in X and Y, and no other field. Both ranges are read together if their numbers are
-/// short. Otherwise, if the range in X tells that the geometry is skipped, the range in Y is passed by the ends of its numbers.
+/// Enters a geometry that has a size and a box in X and Y, and no other field.
 #[inline(always)]
 fn enter_boxed<V: Visit>(cursor: &mut Cursor, begun: Begun, visitor: &mut V) -> u64
     requires xy { IsPrecision begun.xy }
@@ -174,25 +175,44 @@ fn enter_boxed<V: Visit>(cursor: &mut Cursor, begun: Begun, visitor: &mut V) -> 
         unreachable!()
     };
     let stop = cursor.place() + size as usize;
-    if let Some((x, y)) = short_ranges(cursor) {
-        if skips_flat(visitor, begun.xy, x, y, true) {
-            cursor.go_to(stop);
-            return 0;
-        }
-        return enter_flat(cursor, begun.kind, Axes::flat(begun.xy), false, visitor);
-    }
-    let (x, x_near) = known_range(cursor);
-    if x_near && visitor.skips_by_x(begun.xy, &x) {
-        pass_range(cursor);
-        cursor.go_to(stop);
-        return 0;
-    }
-    let (y, y_near) = known_range(cursor);
-    if skips_flat(visitor, begun.xy, x, y, x_near && y_near) {
+    if skips_box(cursor, begun.xy, visitor) {
         cursor.go_to(stop);
         return 0;
     }
     enter_flat(cursor, begun.kind, Axes::flat(begun.xy), false, visitor)
+}
+
+/// Reads a box in X and Y, and says whether the visitor skips it.
+#[inline(always)]
+fn skips_box<V: Visit>(cursor: &mut Cursor, xy: i8, visitor: &V) -> bool
+    requires xy { IsPrecision xy }
+    requires there { HasFlatBox cursor.old }
+    ensures { (x y : RawRange) × ReadsFlatBox x y cursor.old cursor.new
+        × (result ≡ V.passes (V.state visitor.now) (raw_bounds xy None None (flat_box x y))) }
+{
+    match short_ranges(cursor) {
+        Some((x, y)) => skips_flat(visitor, xy, x, y, true),
+        None => skips_long_box(cursor, xy, visitor),
+    }
+}
+
+/// Reads a box as [`skips_box`] does, whose ranges can't be read together. If the range in X shows that the visitor skips the box,
+/// the range in Y is passed by the ends of its numbers.
+// It isn't inlined, so that the step for short boxes is small enough to be.
+#[inline(never)]
+fn skips_long_box<V: Visit>(cursor: &mut Cursor, xy: i8, visitor: &V) -> bool
+    requires xy { IsPrecision xy }
+    requires there { HasFlatBox cursor.old }
+    ensures { (x y : RawRange) × ReadsFlatBox x y cursor.old cursor.new
+        × (result ≡ V.passes (V.state visitor.now) (raw_bounds xy None None (flat_box x y))) }
+{
+    let (x, x_near) = known_range(cursor);
+    if x_near && visitor.skips_by_x(xy, &x) {
+        pass_range(cursor);
+        return true;
+    }
+    let (y, y_near) = known_range(cursor);
+    skips_flat(visitor, xy, x, y, x_near && y_near)
 }
 
 /// Whether the visitor skips a box in X and Y, whose numbers may be known to be near zero.

@@ -9,4 +9,8 @@ returns-clause-read c =
     let x = c.in_ok-x.x in
     let y = c.in_ok-x.y in
     let two = c.in_ok-x.ensures.some in
-    (two.0, pair_range_held x.0 x.1 _ _ _ _ (omega (arith, ints)) (omega (arith, ints)) two.1 two.2, pair_range_held y.0 y.1 _ _ _ _ (omega (arith, ints)) (omega (arith, ints)) two.3 two.4)
+    record {
+      between = two.0;
+      x_read = pair_range_held x.0 x.1 _ _ _ _ (omega (arith, ints)) (omega (arith, ints)) two.1 two.2;
+      y_read = pair_range_held y.0 y.1 _ _ _ _ (omega (arith, ints)) (omega (arith, ints)) two.3 two.4;
+    }
