@@ -12,7 +12,7 @@ use crate::passer::Passer;
 use crate::skimming::skim_members;
 use crate::step::enter_headed;
 use crate::visit::Visit;
-use twkb_head::{Begun, Fields, begin_head, take_rest};
+use twkb_head::{Begun, Fields, begin_head, take_boxed_rest, take_rest};
 use twkb_num::Cursor;
 
 /// Shows the vertices of the certified blob at the place to a visitor, as [`skim`](crate::skim) does, and returns its header.
@@ -31,7 +31,7 @@ pub fn read_and_skim<V: Visit>(cursor: &mut Cursor, visitor: &mut V) -> Fields
         → V.state visitor.new ≡ fold V.step (V.state visitor.old) (vertices g) }
 {
     let raw = take_header(cursor);
-    skim_behind(cursor, raw, visitor);
+    skim_headed(cursor, raw, visitor);
     raw
 }
 
@@ -56,7 +56,7 @@ pub fn read_and_pass(cursor: &mut Cursor) -> Fields
     let raw = take_header(cursor);
     match raw.size {
         Some(size) => cursor.go_to(size.after + size.value as usize),
-        None => skim_behind(cursor, raw, &mut Passer),
+        None => skim_headed(cursor, raw, &mut Passer),
     }
     raw
 }
@@ -75,7 +75,7 @@ fn take_header(cursor: &mut Cursor) -> Fields
     };
     // Most headers are of these two kinds: here the compiler knows which fields there are.
     if begun.is_flat_boxed() {
-        return finish_header(cursor, begun.announcing(3));
+        return finish_boxed(cursor, begun.announcing(3));
     }
     if begun.is_sized_point() {
         return finish_header(cursor, begun.announcing(2));
@@ -98,9 +98,24 @@ fn finish_header(cursor: &mut Cursor, begun: Begun) -> Fields
     raw
 }
 
+/// Reads the rest of a header as [`finish_header`] does. The reader of the box is inlined.
+#[inline(always)]
+fn finish_boxed(cursor: &mut Cursor, begun: Begun) -> Fields
+    requires xy { IsPrecision begun.xy }
+    requires come { (g : Geometry) × (before : Reading) × HasCome begun cursor.old g 1 before }
+    ensures read { (g : Geometry) (before : Reading) → HasCome begun cursor.old g 1 before
+        → HasRead result cursor.new g 1 before }
+    ensures axes { HavePrecisions result.axes }
+{
+    let Ok(raw) = take_boxed_rest(cursor, begun) else {
+        unreachable!()
+    };
+    raw
+}
+
 /// Shows the vertices of a certified blob to a visitor, after its header.
 #[inline(always)]
-fn skim_behind<V: Visit>(cursor: &mut Cursor, raw: Fields, visitor: &mut V)
+fn skim_headed<V: Visit>(cursor: &mut Cursor, raw: Fields, visitor: &mut V)
     requires axes { HavePrecisions raw.axes }
     requires read { (g : Geometry) × (before : Reading) × HasRead raw cursor.old g 1 before }
     ensures { (g : Geometry) (before : Reading) → HasRead raw cursor.old g 1 before →

@@ -45,13 +45,17 @@ pub fn take_blob<R: IdRoom>(room: &mut R, cursor: &mut Cursor) -> Result<(usize,
     if let Some(begun) = begun_as(cursor, Kind::Point, SIZE_ALONE, first, metadata) {
         return take_plain_point(cursor, begun);
     }
-    if let Some(begun) = begun_as(cursor, Kind::Point, NO_FIELD, first, metadata) {
-        return take_plain_point(cursor, begun);
+    // These two have a comparison of their own: in a series of three, the compiler would compare sized points last.
+    if metadata % 32 == NO_FIELD {
+        if let Some(begun) = begun_as(cursor, Kind::Point, NO_FIELD, first, metadata) {
+            return take_plain_point(cursor, begun);
+        }
+        if let Some(begun) = begun_as(cursor, Kind::LineString, NO_FIELD, first, metadata) {
+            let vertices = take_plain_line(cursor, begun)?;
+            return Ok((vertices, cursor.place()));
+        }
     }
-    let vertices = match begun_as(cursor, Kind::LineString, NO_FIELD, first, metadata) {
-        Some(begun) => take_plain_line(cursor, begun)?,
-        None => take_sure(room, cursor, 1, &None, first, metadata)?,
-    };
+    let vertices = take_sure(room, cursor, 1, &None, first, metadata)?;
     Ok((vertices, cursor.place()))
 }
 
@@ -99,7 +103,7 @@ fn take_flat<R: IdRoom>(
     let Ok(raw) = take_rest(cursor, with_bits(begun, 0)) else {
         return Err(Doubt::Refused);
     };
-    take_flat_behind(room, cursor, depth, above, raw)
+    take_flat_headed(room, cursor, depth, above, raw)
 }
 
 /// Reads a geometry as [`take_sure`] does, which has a box in X and Y, and isn't empty. The reader of the box is inlined here.
@@ -123,13 +127,13 @@ fn take_with_box<R: IdRoom>(
     let Ok(raw) = take_boxed_rest(cursor, with_bits(begun, BOX)) else {
         return Err(Doubt::Refused);
     };
-    take_flat_behind(room, cursor, depth, above, raw)
+    take_flat_headed(room, cursor, depth, above, raw)
 }
 
 /// Reads a geometry of X and Y alone after its header.
 #[cycle(take_flat)]
 #[inline(always)]
-fn take_flat_behind<R: IdRoom>(
+fn take_flat_headed<R: IdRoom>(
     room: &mut R,
     cursor: &mut Cursor,
     depth: u8,
@@ -187,7 +191,7 @@ fn take_further<R: IdRoom>(
     let Ok(raw) = take_rest(cursor, begun) else {
         return Err(Doubt::Refused);
     };
-    take_further_behind(room, cursor, depth, above, raw)
+    take_further_headed(room, cursor, depth, above, raw)
 }
 
 /// Reads a geometry as [`take_sure`] does, which has a box and an extended dimensions byte, and isn't empty. The reader of the box
@@ -212,13 +216,13 @@ fn take_with_further_box<R: IdRoom>(
     let Ok(raw) = take_boxed_rest(cursor, with_bits(begun, FURTHER_BOX)) else {
         return Err(Doubt::Refused);
     };
-    take_further_behind(room, cursor, depth, above, raw)
+    take_further_headed(room, cursor, depth, above, raw)
 }
 
 /// Reads a geometry after its header, which has an extended dimensions byte.
 #[cycle(take_flat)]
 #[inline(always)]
-fn take_further_behind<R: IdRoom>(
+fn take_further_headed<R: IdRoom>(
     room: &mut R,
     cursor: &mut Cursor,
     depth: u8,

@@ -15,8 +15,8 @@ go_to-requires c =
     let e = sized_end c.requires.0 1 c.args.cursor.now _ c.take_header-raw.result c.in-Some.size (c.take_header-raw.ensures.read c.requires.0 c.requires.1) c.in-Some.is in
     omega (arith, e.stop, e.within)
 
-pub skim_behind-requires-clause-read : goal.skim_behind-requires-clause-read
-skim_behind-requires-clause-read c = (c.requires.0, c.args.cursor.now, c.take_header-raw.ensures.read c.requires.0 c.requires.1)
+pub skim_headed-requires-clause-read : goal.skim_headed-requires-clause-read
+skim_headed-requires-clause-read c = (c.requires.0, c.args.cursor.now, c.take_header-raw.ensures.read c.requires.0 c.requires.1)
 
 pub returns-in-Some-clause-header : goal.returns-in-Some-clause-header
 returns-in-Some-clause-header c = λ g at. head_stands g 1 c.args.cursor.now _ c.take_header-raw.result (c.take_header-raw.ensures.read g at)
@@ -42,14 +42,14 @@ pub returns-in-None-clause-header : goal.returns-in-None-clause-header
 returns-in-None-clause-header c = λ g at. head_stands g 1 c.args.cursor.now _ c.take_header-raw.result (c.take_header-raw.ensures.read g at)
 
 pub returns-in-None-clause-bytes : goal.returns-in-None-clause-bytes
-returns-in-None-clause-bytes c = ap (λ (d : Config (Unit {0})). d.reading.bytes) (c.skim_behind.ensures c.requires.0 c.args.cursor.now (c.take_header-raw.ensures.read c.requires.0 c.requires.1))
+returns-in-None-clause-bytes c = ap (λ (d : Config (Unit {0})). d.reading.bytes) (c.skim_headed.ensures c.requires.0 c.args.cursor.now (c.take_header-raw.ensures.read c.requires.0 c.requires.1))
 
 pub returns-in-None-clause-place : goal.returns-in-None-clause-place
-returns-in-None-clause-place c = λ g at. ap (λ (d : Config (Unit {0})). d.reading.place) (c.skim_behind.ensures g c.args.cursor.now (c.take_header-raw.ensures.read g at))
+returns-in-None-clause-place c = λ g at. ap (λ (d : Config (Unit {0})). d.reading.place) (c.skim_headed.ensures g c.args.cursor.now (c.take_header-raw.ensures.read g at))
 
 pub returns-in-None-clause-count : goal.returns-in-None-clause-count
 returns-in-None-clause-count c = λ g at.
-    ap (λ (d : Config (Unit {0})). d.reading.count) (c.skim_behind.ensures g c.args.cursor.now (c.take_header-raw.ensures.read g at))
+    ap (λ (d : Config (Unit {0})). d.reading.count) (c.skim_headed.ensures g c.args.cursor.now (c.take_header-raw.ensures.read g at))
     ∙ ap (added c.args.cursor.now.count) (sym (unsized_reads g 1 c.args.cursor.now _ c.take_header-raw.result (c.take_header-raw.ensures.read g at) c.in-None.is))
 
 pub returns-in-None-clause-once : goal.returns-in-None-clause-once

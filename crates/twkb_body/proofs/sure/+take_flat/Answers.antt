@@ -43,8 +43,8 @@ take_flat-begun_by-requires-clause-read g t c = two_read _ _ _ c.requires.begun.
 pub take_flat-returns-in_default : goal.take_flat-returns-in_default
 take_flat-returns-in_default g t c = none_begins c.args.depth c.args.above.now c.args.first c.args.metadata c.args.cursor.now c.requires.begun.shallowest c.requires.begun.deepest c.in_default.ensures.none
 
-pub take_flat_behind-take_flat_body-requires : goal.take_flat_behind-take_flat_body-requires
-take_flat_behind-take_flat_body-requires g t c κs within =
+pub take_flat_headed-take_flat_body-requires : goal.take_flat_headed-take_flat_body-requires
+take_flat_headed-take_flat_body-requires g t c κs within =
     let same = c.boxless-head.ensures in
     let allowed = kind_allowed c.requires.head c.boxless-head.result same in
     let has_body : c.boxless-head.result.empty ≡ false = ap (λ (h : Head). h.empty) same ∙ c.requires.head.full in
@@ -53,17 +53,17 @@ take_flat_behind-take_flat_body-requires g t c κs within =
     let framed = c.in-Some.ensures.framed in
     search rules
 
-pub take_flat_behind-returns-in_err-vertices-2 : goal.take_flat_behind-returns-in_err-vertices-2
-take_flat_behind-returns-in_err-vertices-2 g t c = λ before sound read.
+pub take_flat_headed-returns-in_err-vertices-2 : goal.take_flat_headed-returns-in_err-vertices-2
+take_flat_headed-returns-in_err-vertices-2 g t c = λ before sound read.
     let p = err_from_is_err_and c.from_residual-in_err-vertices-2.result c.from_residual-in_err-vertices-2.ensures.1 in
     rw (p.1, p.2) (body_doubts c.args.raw c.args.depth c.args.above.now before c.args.cursor.now c.requires.head.shallowest c.requires.head.deepest sound read.0 read.1 c.boxless-head.result c.boxless-head.ensures c.in-Some.frame c.in-Some.ensures c.take_flat_body.new.cursor _ c.in_err-vertices-2.ensures)
 
-pub take_flat_behind-judged-requires-2 : goal.take_flat_behind-judged-requires-2
-take_flat_behind-judged-requires-2 g t c =
+pub take_flat_headed-judged-requires-2 : goal.take_flat_headed-judged-requires-2
+take_flat_headed-judged-requires-2 g t c =
     size_ahead c.requires.head c.boxless-head.result c.boxless-head.ensures _ (omega (arith, c.in_ok-vertices-2.ensures.inside.few, c.place-2.ensures.value))
 
-pub take_flat_behind-returns : goal.take_flat_behind-returns
-take_flat_behind-returns g t c = λ before sound read.
+pub take_flat_headed-returns : goal.take_flat_headed-returns
+take_flat_headed-returns g t c = λ before sound read.
     judged_certifies c.args.raw c.args.depth c.args.above.now before c.args.cursor.now c.requires.head.shallowest c.requires.head.deepest sound read.0 read.1 c.boxless-head.result c.boxless-head.ensures c.in-Some.frame c.in-Some.ensures c.take_flat_body.new.cursor
     c.in_ok-vertices-2.vertices c.judged-2.result c.in_ok-vertices-2.ensures (subst (λ (stop : ℕ). IsJudged c.boxless-head.result stop c.in_ok-vertices-2.vertices c.judged-2.result) c.place-2.ensures.value c.judged-2.ensures)
 
@@ -77,8 +77,8 @@ take_further-begun_by-requires-clause-read g t c = two_read _ _ _ c.requires.bef
 pub take_further-returns-in_default : goal.take_further-returns-in_default
 take_further-returns-in_default g t c = none_begins c.args.depth c.args.above.now c.args.first c.args.metadata c.args.cursor.now c.requires.shallowest c.requires.deepest c.in_default.ensures.none
 
-pub take_further_behind-take_further_body-requires : goal.take_further_behind-take_further_body-requires
-take_further_behind-take_further_body-requires g t c κs within =
+pub take_further_headed-take_further_body-requires : goal.take_further_headed-take_further_body-requires
+take_further_headed-take_further_body-requires g t c κs within =
     let same = c.boxless-head.ensures in
     let allowed = kind_allowed c.requires.head c.boxless-head.result same in
     let has_body : c.boxless-head.result.empty ≡ false = ap (λ (h : Head). h.empty) same ∙ c.requires.head.full in
@@ -86,17 +86,17 @@ take_further_behind-take_further_body-requires g t c κs within =
     let framed = c.in-Some.ensures.frame.framed in
     search rules
 
-pub take_further_behind-returns-in_err-vertices-2 : goal.take_further_behind-returns-in_err-vertices-2
-take_further_behind-returns-in_err-vertices-2 g t c = λ before sound read.
+pub take_further_headed-returns-in_err-vertices-2 : goal.take_further_headed-returns-in_err-vertices-2
+take_further_headed-returns-in_err-vertices-2 g t c = λ before sound read.
     let p = err_from_is_err_and c.from_residual-in_err-vertices-2.result c.from_residual-in_err-vertices-2.ensures.1 in
     rw (p.1, p.2) (body_doubts c.args.raw c.args.depth c.args.above.now before c.args.cursor.now c.requires.head.shallowest c.requires.head.deepest sound read.0 read.1 c.boxless-head.result c.boxless-head.ensures c.in-Some.frame c.in-Some.ensures.frame c.take_further_body.new.cursor _ c.in_err-vertices-2.ensures)
 
-pub take_further_behind-judged-requires-2 : goal.take_further_behind-judged-requires-2
-take_further_behind-judged-requires-2 g t c =
+pub take_further_headed-judged-requires-2 : goal.take_further_headed-judged-requires-2
+take_further_headed-judged-requires-2 g t c =
     size_ahead c.requires.head c.boxless-head.result c.boxless-head.ensures _ (omega (arith, c.in_ok-vertices-2.ensures.inside.few, c.place-2.ensures.value))
 
-pub take_further_behind-returns : goal.take_further_behind-returns
-take_further_behind-returns g t c = λ before sound read.
+pub take_further_headed-returns : goal.take_further_headed-returns
+take_further_headed-returns g t c = λ before sound read.
     judged_certifies c.args.raw c.args.depth c.args.above.now before c.args.cursor.now c.requires.head.shallowest c.requires.head.deepest sound read.0 read.1 c.boxless-head.result c.boxless-head.ensures c.in-Some.frame c.in-Some.ensures.frame c.take_further_body.new.cursor
     c.in_ok-vertices-2.vertices c.judged-2.result c.in_ok-vertices-2.ensures (subst (λ (stop : ℕ). IsJudged c.boxless-head.result stop c.in_ok-vertices-2.vertices c.judged-2.result) c.place-2.ensures.value c.judged-2.ensures)
 
@@ -191,62 +191,62 @@ take_members-returns-in_err-member g t c =
     (λ wrong. members_refute head (deepest - c.args.depth) inner c.args.cursor.now c.args.frame.now under full many c.take_list.new.cursor list.0 c.in_ok-list.list listed list.2 c.loop.counter c.loop.vertices c.loop.cursor c.loop-test.true l wrong)
     (λ wants. wants_members head c.args.depth c.args.cursor.now full many (member_ids list.0 c.take_list.new.cursor c.loop.cursor c.loop.counter l.loop.front listed (omega (arith, c.loop-test.true, list.2.count)) l.loop.so_far wants)) one)
 
-pub take_flat_behind-returns-in_err-vertices : goal.take_flat_behind-returns-in_err-vertices
-take_flat_behind-returns-in_err-vertices g t c = λ before sound read.
+pub take_flat_headed-returns-in_err-vertices : goal.take_flat_headed-returns-in_err-vertices
+take_flat_headed-returns-in_err-vertices g t c = λ before sound read.
     let (box, there, ranges, apart) = flat_apart c.args.raw c.boxless-head.result c.is_some.result c.flat_ranges.result.0 c.flat_ranges.result.1 c.requires.xy c.boxless-head.ensures c.requires.z c.requires.m c.requires.head.full c.is_some.ensures c.flat_ranges.ensures in
     let p = err_from_is_err_and c.from_residual.result c.from_residual.ensures.1 in
     rw (p.1, p.2) (behind_doubts c.args.raw c.args.depth c.args.above.now before c.args.cursor.now c.requires.head.shallowest c.requires.head.deepest sound read.0 read.1 _ c.take_apart_flat.new.cursor (c.in_err-vertices.ensures (head_said c.args.raw) box there ranges apart))
 
-pub take_flat_behind-judged-requires : goal.take_flat_behind-judged-requires
-take_flat_behind-judged-requires g t c =
+pub take_flat_headed-judged-requires : goal.take_flat_headed-judged-requires
+take_flat_headed-judged-requires g t c =
     let (box, there, ranges, apart) = flat_apart c.args.raw c.boxless-head.result c.is_some.result c.flat_ranges.result.0 c.flat_ranges.result.1 c.requires.xy c.boxless-head.ensures c.requires.z c.requires.m c.requires.head.full c.is_some.ensures c.flat_ranges.ensures in
     let sure = c.in_ok-vertices.ensures (head_said c.args.raw) box there ranges apart in
     size_ahead c.requires.head c.boxless-head.result c.boxless-head.ensures _ (omega (arith, sure.inside.few, c.place.ensures.value))
 
-pub take_flat_behind-returns-in_default : goal.take_flat_behind-returns-in_default
-take_flat_behind-returns-in_default g t c = λ before sound read.
+pub take_flat_headed-returns-in_default : goal.take_flat_headed-returns-in_default
+take_flat_headed-returns-in_default g t c = λ before sound read.
     let (box, there, ranges, apart) = flat_apart c.args.raw c.boxless-head.result c.is_some.result c.flat_ranges.result.0 c.flat_ranges.result.1 c.requires.xy c.boxless-head.ensures c.requires.z c.requires.m c.requires.head.full c.is_some.ensures c.flat_ranges.ensures in
     let sure = c.in_ok-vertices.ensures (head_said c.args.raw) box there ranges apart in
     apart_certifies c.args.raw c.args.depth c.args.above.now before c.args.cursor.now c.requires.head.shallowest c.requires.head.deepest sound read.0 read.1 c.boxless-head.result c.boxless-head.ensures c.take_apart_flat.new.cursor c.in_ok-vertices.vertices c.judged.result sure
     (subst (λ (stop : ℕ). IsJudged c.boxless-head.result stop c.in_ok-vertices.vertices c.judged.result) c.place.ensures.value c.judged.ensures)
 
-pub take_further_behind-returns-in_err-vertices : goal.take_further_behind-returns-in_err-vertices
-take_further_behind-returns-in_err-vertices g t c = λ before sound read.
+pub take_further_headed-returns-in_err-vertices : goal.take_further_headed-returns-in_err-vertices
+take_further_headed-returns-in_err-vertices g t c = λ before sound read.
     let apart = any_apart c.args.raw c.boxless-head.result c.requires.xy c.boxless-head.ensures c.requires.head.full in
     let p = err_from_is_err_and c.from_residual.result c.from_residual.ensures.1 in
     rw (p.1, p.2) (behind_doubts c.args.raw c.args.depth c.args.above.now before c.args.cursor.now c.requires.head.shallowest c.requires.head.deepest sound read.0 read.1 _ c.take_apart.new.cursor (c.in_err-vertices.ensures (head_said c.args.raw) apart))
 
-pub take_further_behind-judged-requires : goal.take_further_behind-judged-requires
-take_further_behind-judged-requires g t c =
+pub take_further_headed-judged-requires : goal.take_further_headed-judged-requires
+take_further_headed-judged-requires g t c =
     let apart = any_apart c.args.raw c.boxless-head.result c.requires.xy c.boxless-head.ensures c.requires.head.full in
     let sure = c.in_ok-vertices.ensures (head_said c.args.raw) apart in
     size_ahead c.requires.head c.boxless-head.result c.boxless-head.ensures _ (omega (arith, sure.inside.few, c.place.ensures.value))
 
-pub take_further_behind-returns-in_default : goal.take_further_behind-returns-in_default
-take_further_behind-returns-in_default g t c = λ before sound read.
+pub take_further_headed-returns-in_default : goal.take_further_headed-returns-in_default
+take_further_headed-returns-in_default g t c = λ before sound read.
     let apart = any_apart c.args.raw c.boxless-head.result c.requires.xy c.boxless-head.ensures c.requires.head.full in
     let sure = c.in_ok-vertices.ensures (head_said c.args.raw) apart in
     apart_certifies c.args.raw c.args.depth c.args.above.now before c.args.cursor.now c.requires.head.shallowest c.requires.head.deepest sound read.0 read.1 c.boxless-head.result c.boxless-head.ensures c.take_apart.new.cursor c.in_ok-vertices.vertices c.judged.result sure
     (subst (λ (stop : ℕ). IsJudged c.boxless-head.result stop c.in_ok-vertices.vertices c.judged.result) c.place.ensures.value c.judged.ensures)
 
-pub take_flat_behind-take_apart_flat-requires-clause-allowed : goal.take_flat_behind-take_apart_flat-requires-clause-allowed
-take_flat_behind-take_apart_flat-requires-clause-allowed g t c = kind_allowed c.requires.head c.boxless-head.result c.boxless-head.ensures
+pub take_flat_headed-take_apart_flat-requires-clause-allowed : goal.take_flat_headed-take_apart_flat-requires-clause-allowed
+take_flat_headed-take_apart_flat-requires-clause-allowed g t c = kind_allowed c.requires.head c.boxless-head.result c.boxless-head.ensures
 
-pub take_further_behind-take_apart-requires-clause-allowed : goal.take_further_behind-take_apart-requires-clause-allowed
-take_further_behind-take_apart-requires-clause-allowed g t c = kind_allowed c.requires.head c.boxless-head.result c.boxless-head.ensures
+pub take_further_headed-take_apart-requires-clause-allowed : goal.take_further_headed-take_apart-requires-clause-allowed
+take_further_headed-take_apart-requires-clause-allowed g t c = kind_allowed c.requires.head c.boxless-head.result c.boxless-head.ensures
 
 pub take_flat-with_bits-requires : goal.take_flat-with_bits-requires
 take_flat-with_bits-requires g t c = ap (λ n. bit_and n 25) c.in-Some.ensures.metadata ∙ c.requires.bits
 
-pub take_flat-take_flat_behind-requires : goal.take_flat-take_flat_behind-requires
-take_flat-take_flat_behind-requires g t c κs within =
+pub take_flat-take_flat_headed-requires : goal.take_flat-take_flat_headed-requires
+take_flat-take_flat_headed-requires g t c κs within =
     let head = header_read c.args.depth c.args.above.now c.args.first c.args.metadata c.args.cursor.now c.requires.begun.shallowest c.requires.begun.deepest c.with_bits.result (bits_begin _ _ _ _ c.in-Some.begun c.with_bits.result c.with_bits.ensures.announcing c.in-Some.ensures.some) c.take_rest.new.cursor c.in-Ok.raw c.in-Ok.ensures.read c.requires.begun (c.in-Ok.ensures.empty ∙ full_bits c.with_bits.result.metadata 0 (omega arith) c.with_bits.ensures.bits) in
     let flat = c.in-Ok.ensures.flat (flat_bits c.with_bits.result.metadata 0 (omega arith) c.with_bits.ensures.bits) in
     search rules
 
 pub take_flat-returns : goal.take_flat-returns
 take_flat-returns g t c =
-    header_certifies c.args.depth c.args.above.now c.args.first c.args.metadata c.args.cursor.now c.requires.begun.shallowest c.requires.begun.deepest c.with_bits.result (bits_begin _ _ _ _ c.in-Some.begun c.with_bits.result c.with_bits.ensures.announcing c.in-Some.ensures.some) c.take_rest.new.cursor c.in-Ok.raw c.in-Ok.ensures.read _ _ c.take_flat_behind.ensures
+    header_certifies c.args.depth c.args.above.now c.args.first c.args.metadata c.args.cursor.now c.requires.begun.shallowest c.requires.begun.deepest c.with_bits.result (bits_begin _ _ _ _ c.in-Some.begun c.with_bits.result c.with_bits.ensures.announcing c.in-Some.ensures.some) c.take_rest.new.cursor c.in-Ok.raw c.in-Ok.ensures.read _ _ c.take_flat_headed.ensures
 
 pub take_with_box-begun_by-requires-clause-read : goal.take_with_box-begun_by-requires-clause-read
 take_with_box-begun_by-requires-clause-read g t c = two_read _ _ _ c.requires.begun.before
@@ -261,15 +261,15 @@ take_with_box-returns-in_default-take_boxed_rest g t c =
 pub take_with_box-with_bits-requires : goal.take_with_box-with_bits-requires
 take_with_box-with_bits-requires g t c = ap (λ n. bit_and n 25) c.in-Some.ensures.metadata ∙ c.requires.bits
 
-pub take_with_box-take_flat_behind-requires : goal.take_with_box-take_flat_behind-requires
-take_with_box-take_flat_behind-requires g t c κs within =
+pub take_with_box-take_flat_headed-requires : goal.take_with_box-take_flat_headed-requires
+take_with_box-take_flat_headed-requires g t c κs within =
     let head = header_read c.args.depth c.args.above.now c.args.first c.args.metadata c.args.cursor.now c.requires.begun.shallowest c.requires.begun.deepest c.with_bits.result (bits_begin _ _ _ _ c.in-Some.begun c.with_bits.result c.with_bits.ensures.announcing c.in-Some.ensures.some) c.take_boxed_rest.new.cursor c.in-Ok.raw c.in-Ok.ensures.read c.requires.begun (c.in-Ok.ensures.empty ∙ full_bits c.with_bits.result.metadata 1 (omega arith) c.with_bits.ensures.bits) in
     let flat = c.in-Ok.ensures.flat (flat_bits c.with_bits.result.metadata 1 (omega arith) c.with_bits.ensures.bits) in
     search rules
 
 pub take_with_box-returns : goal.take_with_box-returns
 take_with_box-returns g t c =
-    header_certifies c.args.depth c.args.above.now c.args.first c.args.metadata c.args.cursor.now c.requires.begun.shallowest c.requires.begun.deepest c.with_bits.result (bits_begin _ _ _ _ c.in-Some.begun c.with_bits.result c.with_bits.ensures.announcing c.in-Some.ensures.some) c.take_boxed_rest.new.cursor c.in-Ok.raw c.in-Ok.ensures.read _ _ c.take_flat_behind.ensures
+    header_certifies c.args.depth c.args.above.now c.args.first c.args.metadata c.args.cursor.now c.requires.begun.shallowest c.requires.begun.deepest c.with_bits.result (bits_begin _ _ _ _ c.in-Some.begun c.with_bits.result c.with_bits.ensures.announcing c.in-Some.ensures.some) c.take_boxed_rest.new.cursor c.in-Ok.raw c.in-Ok.ensures.read _ _ c.take_flat_headed.ensures
 
 pub take_with_further_box-begun_by-requires-clause-read : goal.take_with_further_box-begun_by-requires-clause-read
 take_with_further_box-begun_by-requires-clause-read g t c = two_read _ _ _ c.requires.begun.before
@@ -284,20 +284,20 @@ take_with_further_box-returns-in_default-take_boxed_rest g t c =
 pub take_with_further_box-with_bits-requires : goal.take_with_further_box-with_bits-requires
 take_with_further_box-with_bits-requires g t c = ap (λ n. bit_and n 25) c.in-Some.ensures.metadata ∙ c.requires.bits
 
-pub take_with_further_box-take_further_behind-requires : goal.take_with_further_box-take_further_behind-requires
-take_with_further_box-take_further_behind-requires g t c κs within =
+pub take_with_further_box-take_further_headed-requires : goal.take_with_further_box-take_further_headed-requires
+take_with_further_box-take_further_headed-requires g t c κs within =
     let head = header_read c.args.depth c.args.above.now c.args.first c.args.metadata c.args.cursor.now c.requires.begun.shallowest c.requires.begun.deepest c.with_bits.result (bits_begin _ _ _ _ c.in-Some.begun c.with_bits.result c.with_bits.ensures.announcing c.in-Some.ensures.some) c.take_boxed_rest.new.cursor c.in-Ok.raw c.in-Ok.ensures.read c.requires.begun (c.in-Ok.ensures.empty ∙ full_bits c.with_bits.result.metadata 9 (omega arith) c.with_bits.ensures.bits) in
     search rules
 
 pub take_with_further_box-returns : goal.take_with_further_box-returns
 take_with_further_box-returns g t c =
-    header_certifies c.args.depth c.args.above.now c.args.first c.args.metadata c.args.cursor.now c.requires.begun.shallowest c.requires.begun.deepest c.with_bits.result (bits_begin _ _ _ _ c.in-Some.begun c.with_bits.result c.with_bits.ensures.announcing c.in-Some.ensures.some) c.take_boxed_rest.new.cursor c.in-Ok.raw c.in-Ok.ensures.read _ _ c.take_further_behind.ensures
+    header_certifies c.args.depth c.args.above.now c.args.first c.args.metadata c.args.cursor.now c.requires.begun.shallowest c.requires.begun.deepest c.with_bits.result (bits_begin _ _ _ _ c.in-Some.begun c.with_bits.result c.with_bits.ensures.announcing c.in-Some.ensures.some) c.take_boxed_rest.new.cursor c.in-Ok.raw c.in-Ok.ensures.read _ _ c.take_further_headed.ensures
 
-pub take_further-take_further_behind-requires : goal.take_further-take_further_behind-requires
-take_further-take_further_behind-requires g t c κs within =
+pub take_further-take_further_headed-requires : goal.take_further-take_further_headed-requires
+take_further-take_further_headed-requires g t c κs within =
     let head = header_read c.args.depth c.args.above.now c.args.first c.args.metadata c.args.cursor.now c.requires.shallowest c.requires.deepest c.in-Some.begun c.in-Some.ensures.some c.take_rest.new.cursor c.in-Ok.raw c.in-Ok.ensures.read c.requires (c.in-Ok.ensures.empty ∙ sym c.is_empty.ensures ∙ c.if-is_empty.false) in
     search rules
 
 pub take_further-returns : goal.take_further-returns
 take_further-returns g t c =
-    header_certifies c.args.depth c.args.above.now c.args.first c.args.metadata c.args.cursor.now c.requires.shallowest c.requires.deepest c.in-Some.begun c.in-Some.ensures.some c.take_rest.new.cursor c.in-Ok.raw c.in-Ok.ensures.read _ _ c.take_further_behind.ensures
+    header_certifies c.args.depth c.args.above.now c.args.first c.args.metadata c.args.cursor.now c.requires.shallowest c.requires.deepest c.in-Some.begun c.in-Some.ensures.some c.take_rest.new.cursor c.in-Ok.raw c.in-Ok.ensures.read _ _ c.take_further_headed.ensures

@@ -21,11 +21,11 @@ decreases-take_flat g l = 8 * (deepest - l.depth) + 5
 abbrev pub decreases-take_further : goal.decreases-take_further
 decreases-take_further g l = 8 * (deepest - l.depth) + 5
 
-abbrev pub decreases-take_flat_behind : goal.decreases-take_flat_behind
-decreases-take_flat_behind g l = 8 * (deepest - l.depth) + 3
+abbrev pub decreases-take_flat_headed : goal.decreases-take_flat_headed
+decreases-take_flat_headed g l = 8 * (deepest - l.depth) + 3
 
-abbrev pub decreases-take_further_behind : goal.decreases-take_further_behind
-decreases-take_further_behind g l = 8 * (deepest - l.depth) + 3
+abbrev pub decreases-take_further_headed : goal.decreases-take_further_headed
+decreases-take_further_headed g l = 8 * (deepest - l.depth) + 3
 
 abbrev pub decreases-take_flat_body : goal.decreases-take_flat_body
 decreases-take_flat_body g l = 8 * (deepest - l.depth) + 2

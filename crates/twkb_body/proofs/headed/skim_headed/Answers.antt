@@ -2,7 +2,7 @@
 use Rattle.std.proofs.Common.{◌≡◌, ◌∙◌, arith}
 use Rattle.twkb_body.specs.Geometry.{member_count}
 use Rattle.twkb_body.proofs.Remaining.{none_left}
-use Rattle.twkb_body.proofs.headed.skim_behind.Goals as goal
+use Rattle.twkb_body.proofs.headed.skim_headed.Goals as goal
 
 pub enter_headed-members-requires-clause-come : goal.enter_headed-members-requires-clause-come
 enter_headed-members-requires-clause-come g c = (c.requires.read.0, 1, c.requires.read.1, c.requires.read.2)
