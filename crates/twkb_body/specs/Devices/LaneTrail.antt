@@ -15,7 +15,7 @@ use Rattle.twkb_body.specs.Devices.PointReader.{Stage, Leads}
 use Rattle.twkb_body.specs.Devices.Quads.{lanes_at, IsInLane, IsLaneExtent}
 use Rattle.twkb_body.specs.Devices.Walk.{IsRun}
 
--- a range, distances from whose minimum lanes hold
+-- a range whose minimum and extent lanes hold, so that they hold distances too
 pub record FitsLane (range : RawRange) : Type 0 where
   pub low : IsInLane (neg_ℤ range.minimum)
   pub wide : IsLaneExtent range.extent

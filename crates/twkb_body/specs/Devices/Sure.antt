@@ -238,7 +238,8 @@ abbrev pub CertifiesAfterHead : ℕ → Option Frame → Fields → Reading → 
 CertifiesAfterHead depth above raw now result new =
     (before : Reading) → IsSound before → ReadsHead depth before now (Ok raw) → Certifies depth above before result new
 
--- The first two bytes of a blob of this kind were read, and announce a body of X and Y alone and no box.
+-- The first two bytes of a blob of this kind were read, with a precision in its range. They announce a body of X and Y alone and no
+-- box.
 pub record HasBegunPlain (kind : Kind) (begun : Begun) (now : Reading) : Type 0 where
   pub xy : IsPrecision begun.xy
   pub flat : has_bit begun.metadata 8 ≡ false
@@ -284,7 +285,7 @@ CountsParts multi ids old result new =
     IsSureOr (IsCounted multi ids old new) (IsWrongCount multi ids old new)
     (HasManyIdsAfterCount ids (rest old)) old result new
 
--- The header is of a geometry that has a body and is no collection, and the frame, if there is one, has its precisions.
+-- The header is of a geometry that has a body and is no collection. The frame, if there is one, has its precisions and is near zero.
 pub record IsShapeHead (head : Head) (frame : Option Frame) : Type 0 where
   pub full : head.empty ≡ false
   pub kind : is_collection head.kind ≡ false

@@ -4,7 +4,8 @@ use Rattle.std.specs.Prelude.{◌≡◌, ◌⊎◌, ◌+◌, ◌<◌, ◌≤◌,
 use Rattle.twkb_num.specs.Cursor.{Reading, rest, passed, IsMoved}
 use Rattle.twkb_num.specs.Varint.{SpellsTwoSigned, IsShort, HasLong}
 
--- Two numbers were read, of at most four bytes each. Or none was: fewer than `room` bytes are left, or a number is longer.
+-- Two short numbers were read, from at most eight bytes. Or none was: fewer than `room` bytes are left, or four in a row of the
+-- next eight go on.
 pub record ReadsPair (room : ℕ) (old new : Reading) (result : Option (ℤ × ℤ)) : Type 0 where
   pub some : IfSome result (λ pair. SpellsTwoSigned (passed old new) pair.0 pair.1)
   pub short : IfSome result (λ pair. IsShort pair.0 × IsShort pair.1)
