@@ -1,18 +1,17 @@
 //! Certified blobs whose headers are handed back, each read once.
-ghost use Rattle.std.specs.Prelude.{◌≡◌, ◌+◌, ◌≤◌, fold};
+ghost use Rattle.std.specs.Prelude.{◌≡◌, ◌+◌, ◌≤◌, is_some, IfSome, fold};
 ghost use Rattle.twkb_num.specs.Cursor.{Reading, added};
-ghost use Rattle.twkb_num.specs.Units.{IsPrecision};
-ghost use Rattle.twkb_head.specs.Raw.{HavePrecisions, head_said};
+ghost use Rattle.twkb_head.specs.Raw.{HasZeros, HavePrecisions, head_said};
 ghost use Rattle.twkb_body.specs.Geometry.{Geometry, lengths_of, vertices};
 ghost use Rattle.twkb_body.specs.Standing.{StandsAt, head_standing};
-ghost use Rattle.twkb_body.specs.Devices.Skimmed.{HasCome, HasRead, skimmed};
+ghost use Rattle.twkb_body.specs.Devices.Skimmed.{HasRead, skimmed};
 ghost use Rattle.twkb_body.specs.Visit.{walk, bytes_to_pass};
 
 use crate::passer::Passer;
 use crate::skimming::skim_members;
 use crate::step::enter_headed;
 use crate::visit::Visit;
-use twkb_head::{Begun, Fields, begin_head, take_boxed_rest, take_rest};
+use twkb_head::{Fields, begin_head, take_boxed_rest, take_rest};
 use twkb_num::Cursor;
 
 /// Shows the vertices of the certified blob at the place to a visitor, as [`skim`](crate::skim) does, and returns its header.
@@ -22,6 +21,7 @@ pub fn read_and_skim<V: Visit>(cursor: &mut Cursor, visitor: &mut V) -> Fields
     ensures header { (g : Geometry) → StandsAt g 1 cursor.old.bytes cursor.old.place
         → head_said result ≡ head_standing g cursor.old.place }
     ensures axes { HavePrecisions result.axes }
+    ensures zeros { IfSome result.bounds (HasZeros (is_some result.axes.z) (is_some result.axes.m)) }
     ensures cursor { (g : Geometry) → StandsAt g 1 cursor.old.bytes cursor.old.place → cursor.new ≡ record {
       bytes = cursor.old.bytes;
       place = cursor.old.place + (lengths_of g).whole;
@@ -45,6 +45,7 @@ pub fn read_and_pass(cursor: &mut Cursor) -> Fields
     ensures header { (g : Geometry) → StandsAt g 1 cursor.old.bytes cursor.old.place
         → head_said result ≡ head_standing g cursor.old.place }
     ensures axes { HavePrecisions result.axes }
+    ensures zeros { IfSome result.bounds (HasZeros (is_some result.axes.z) (is_some result.axes.m)) }
     ensures bytes { cursor.new.bytes ≡ cursor.old.bytes }
     ensures place { (g : Geometry) → StandsAt g 1 cursor.old.bytes cursor.old.place
         → cursor.new.place ≡ cursor.old.place + (lengths_of g).whole }
@@ -68,48 +69,21 @@ fn take_header(cursor: &mut Cursor) -> Fields
     ensures read { (g : Geometry) → StandsAt g 1 cursor.old.bytes cursor.old.place
         → HasRead result cursor.new g 1 cursor.old }
     ensures axes { HavePrecisions result.axes }
+    ensures zeros { IfSome result.bounds (HasZeros (is_some result.axes.z) (is_some result.axes.m)) }
 {
     cursor.place_is_within();
     let Some(begun) = begin_head(cursor, 1) else {
         unreachable!()
     };
-    // Most headers are of these two kinds: here the compiler knows which fields there are.
-    if begun.is_flat_boxed() {
-        return finish_boxed(cursor, begun.announcing(3));
-    }
-    if begun.is_sized_point() {
-        return finish_header(cursor, begun.announcing(2));
-    }
-    finish_header(cursor, begun)
-}
-
-/// Reads the rest of a certified header after its first two bytes.
-#[inline(always)]
-fn finish_header(cursor: &mut Cursor, begun: Begun) -> Fields
-    requires xy { IsPrecision begun.xy }
-    requires come { (g : Geometry) × (before : Reading) × HasCome begun cursor.old g 1 before }
-    ensures read { (g : Geometry) (before : Reading) → HasCome begun cursor.old g 1 before
-        → HasRead result cursor.new g 1 before }
-    ensures axes { HavePrecisions result.axes }
-{
-    let Ok(raw) = take_rest(cursor, begun) else {
-        unreachable!()
+    // Most headers are of the first two kinds: there the compiler knows which fields there are.
+    let read = if begun.is_flat_boxed() {
+        take_boxed_rest(cursor, begun.announcing(3))
+    } else if begun.is_sized_point() {
+        take_rest(cursor, begun.announcing(2))
+    } else {
+        take_rest(cursor, begun)
     };
-    raw
-}
-
-/// Reads the rest of a header as [`finish_header`] does. The reader of the box is inlined.
-#[inline(always)]
-fn finish_boxed(cursor: &mut Cursor, begun: Begun) -> Fields
-    requires xy { IsPrecision begun.xy }
-    requires come { (g : Geometry) × (before : Reading) × HasCome begun cursor.old g 1 before }
-    ensures read { (g : Geometry) (before : Reading) → HasCome begun cursor.old g 1 before
-        → HasRead result cursor.new g 1 before }
-    ensures axes { HavePrecisions result.axes }
-{
-    let Ok(raw) = take_boxed_rest(cursor, begun) else {
-        unreachable!()
-    };
+    let Ok(raw) = read else { unreachable!() };
     raw
 }
 

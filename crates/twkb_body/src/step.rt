@@ -4,7 +4,7 @@ ghost use Rattle.twkb_num.specs.Units.{IsPrecision};
 ghost use Rattle.twkb_head.specs.declared.kinds.Kind.TheVariants.{Point};
 ghost use Rattle.twkb_body.specs.Geometry.{Geometry};
 ghost use Rattle.twkb_head.specs.declared.raw.RawRange.{RawRange};
-ghost use Rattle.twkb_body.specs.Devices.Known.{HasFlatBox, ReadsFlatBox};
+ghost use Rattle.twkb_body.specs.Devices.Known.{HasFlatBox, JudgesFlatBox};
 ghost use Rattle.twkb_body.specs.Devices.Skimmed.{hop_of, Entered, HasCome, HasRead, IsThere, Enters};
 ghost use Rattle.twkb_head.specs.Raw.{HavePrecisions, head_said, flat_box, raw_bounds, IsNear};
 ghost use Rattle.twkb_body.specs.Standing.{StandsAt};
@@ -187,8 +187,7 @@ fn enter_boxed<V: Visit>(cursor: &mut Cursor, begun: Begun, visitor: &mut V) -> 
 fn skips_box<V: Visit>(cursor: &mut Cursor, xy: i8, visitor: &V) -> bool
     requires xy { IsPrecision xy }
     requires there { HasFlatBox cursor.old }
-    ensures { (x y : RawRange) × ReadsFlatBox x y cursor.old cursor.new
-        × (result ≡ V.passes (V.state visitor.now) (raw_bounds xy None None (flat_box x y))) }
+    ensures { JudgesFlatBox (V.passes (V.state visitor.now)) xy result cursor.old cursor.new }
 {
     match short_ranges(cursor) {
         Some((x, y)) => skips_flat(visitor, xy, x, y, true),
@@ -203,8 +202,7 @@ fn skips_box<V: Visit>(cursor: &mut Cursor, xy: i8, visitor: &V) -> bool
 fn skips_long_box<V: Visit>(cursor: &mut Cursor, xy: i8, visitor: &V) -> bool
     requires xy { IsPrecision xy }
     requires there { HasFlatBox cursor.old }
-    ensures { (x y : RawRange) × ReadsFlatBox x y cursor.old cursor.new
-        × (result ≡ V.passes (V.state visitor.now) (raw_bounds xy None None (flat_box x y))) }
+    ensures { JudgesFlatBox (V.passes (V.state visitor.now)) xy result cursor.old cursor.new }
 {
     let (x, x_near) = known_range(cursor);
     if x_near && visitor.skips_by_x(xy, &x) {

@@ -1,5 +1,5 @@
 -- Headers whose boxes are raw integers.
-use Rattle.std.specs.Prelude.{◌≡◌, ℕ, ◌/◌, ◌%◌, ◌^◌, ◌≤◌, ℤ, pos, neg_ℤ, ◌+ℤ◌, ◌≤ℤ◌, List, [], ◌∷◌, Option, None, option_map, IfSome, Result, Ok, Err}
+use Rattle.std.specs.Prelude.{◌≡◌, ◌||◌, ◌&&◌, Bool, false, ℕ, ◌/◌, ◌%◌, ◌^◌, ◌≤◌, ℤ, pos, neg_ℤ, ◌+ℤ◌, ◌≤ℤ◌, List, [], ◌∷◌, Option, None, option_map, IfSome, Result, Ok, Err}
 use Rattle.twkb_head.specs.declared.boxes.Bounds.{Bounds}
 use Rattle.twkb_head.specs.declared.raw.RawRange.{RawRange}
 use Rattle.twkb_head.specs.declared.raw.RawBox.{RawBox}
@@ -47,6 +47,10 @@ pub record HasNearRanges (box : RawBox) : Type 0 where
 abbrev pub zero_range : RawRange
 zero_range = record { minimum = pos 0; extent = pos 0 }
 
+-- a missing axis has a range of zeros: the third range if there is neither Z nor M, the fourth unless there are both
+abbrev pub HasZeros : Bool → Bool → RawBox → Type 0
+HasZeros has_z has_m box = ((has_z || has_m) ≡ false → box.third ≡ zero_range) × ((has_z && has_m) ≡ false → box.fourth ≡ zero_range)
+
 -- the box of two ranges in X and Y, and none in Z and M
 abbrev pub flat_box : RawRange → RawRange → RawBox
 flat_box x y = record { x = x; y = y; third = zero_range; fourth = zero_range }
@@ -78,8 +82,7 @@ head_said f = record {
 abbrev pub boxless : Fields → Head
 boxless f = record (head_said f) { bounds = None }
 
--- The first two bytes of a header that is allowed at the depth were read. Only the five lowest bits of the metadata byte
--- matter.
+-- The first two bytes of a header that is allowed at the depth were read; the three highest bits of the second don't matter.
 pub record BeginsHead (begun : Begun) (depth : ℕ) (before now : Reading) : Type 0 where
   pub type_byte : ℕ
   pub metadata : ℕ

@@ -1,5 +1,5 @@
 //! [`read_head`] and the other functions that read a header, whole or in two steps.
-ghost use Rattle.std.specs.Prelude.{◌≡◌, ◌≢◌, ◌↔◌, ◌⊎◌, ◌||◌, ◌&&◌, is_some, ℕ, ◌+◌, ◌-◌, ◌≤◌, ◌<◌, ◌%◌, [], ◌∷◌, true, false, not, None, Err, option_map, IfOk, OnOk, IfErr, IfSome, IfNone, IsOk, IsSome};
+ghost use Rattle.std.specs.Prelude.{◌≡◌, ◌≢◌, ◌↔◌, ◌⊎◌, is_some, ℕ, ◌+◌, ◌-◌, ◌≤◌, ◌<◌, ◌%◌, [], ◌∷◌, true, false, not, None, Err, option_map, IfOk, OnOk, IfErr, IfSome, IfNone, IsOk, IsSome};
 ghost use Rattle.twkb_num.specs.Cursor.{Reading, rest, passed, counted, IsMoved, IsSound};
 ghost use Rattle.twkb_num.specs.Units.{IsPrecision};
 ghost use Rattle.twkb_head.specs.BegunHeader.{deepest};
@@ -10,7 +10,7 @@ ghost use Rattle.twkb_head.specs.Refusal.{IsRefusedHead, looked_at_until};
 ghost use Rattle.twkb_head.specs.Devices.HeadReader.{byte_at, head_at, rest_at};
 ghost use Rattle.twkb_head.specs.Shared.Reader.{number_at, optional_at};
 ghost use Rattle.twkb_head.specs.Devices.Raw.{head_result, ReadsFirstTwo};
-ghost use Rattle.twkb_head.specs.Raw.{HavePrecisions, zero_range, head_said, BeginsHead, ReadsHead};
+ghost use Rattle.twkb_head.specs.Raw.{HavePrecisions, HasZeros, head_said, BeginsHead, ReadsHead};
 ghost use Rattle.twkb_head.specs.Header.{has_bit, code_of};
 
 use crate::bits::{BOX, EMPTY, EXTENDED, IDS, SIZE, has_bit, ids_of, m_of, precision_of, z_of};
@@ -65,10 +65,7 @@ pub fn read_raw(cursor: &mut Cursor, depth: u8) -> Result<Fields, Malformed>
     ensures refused { IfErr result (λ m. IsRefusedHead m depth cursor.old.place (rest cursor.old)) }
     ensures no_range { IfErr result (λ m. m.why ≢ Range) }
     ensures still { IfErr result (λ m. cursor.new ≡ counted cursor.old (looked_at_until m cursor.old)) }
-    ensures no_third { IfOk result (λ raw. (is_some raw.axes.z || is_some raw.axes.m) ≡ false
-        → IfSome raw.bounds (λ b. b.third ≡ zero_range)) }
-    ensures no_fourth { IfOk result (λ raw. (is_some raw.axes.z && is_some raw.axes.m) ≡ false
-        → IfSome raw.bounds (λ b. b.fourth ≡ zero_range)) }
+    ensures zeros { IfOk result (λ raw. IfSome raw.bounds (HasZeros (is_some raw.axes.z) (is_some raw.axes.m))) }
 {
     let start = cursor.place();
     match take_head(cursor, depth) {
@@ -163,10 +160,7 @@ fn take_head(cursor: &mut Cursor, depth: u8) -> Result<Fields, Malformed>
     requires { depth ≤ deepest }
     ensures read { head_at (deepest - depth) cursor.old ≡ (head_result result, cursor.new) }
     ensures axes { IfOk result (λ raw. HavePrecisions raw.axes) }
-    ensures no_third { IfOk result (λ raw. (is_some raw.axes.z || is_some raw.axes.m) ≡ false
-        → IfSome raw.bounds (λ b. b.third ≡ zero_range)) }
-    ensures no_fourth { IfOk result (λ raw. (is_some raw.axes.z && is_some raw.axes.m) ≡ false
-        → IfSome raw.bounds (λ b. b.fourth ≡ zero_range)) }
+    ensures zeros { IfOk result (λ raw. IfSome raw.bounds (HasZeros (is_some raw.axes.z) (is_some raw.axes.m))) }
 {
     let first_two = take_begun(cursor, depth)?;
     take_fields::<Called>(cursor, first_two)
@@ -278,10 +272,7 @@ pub fn take_rest(cursor: &mut Cursor, begun: Begun) -> Result<Fields, Malformed>
     ensures empty { IfOk result (λ raw. raw.empty ≡ has_bit begun.metadata 16) }
     ensures no_box { has_bit begun.metadata 1 ≡ false → IfOk result (λ raw. raw.bounds ≡ None) }
     ensures kind { IfOk result (λ raw. raw.kind ≡ begun.kind) }
-    ensures no_third { IfOk result (λ raw. (is_some raw.axes.z || is_some raw.axes.m) ≡ false
-        → IfSome raw.bounds (λ b. b.third ≡ zero_range)) }
-    ensures no_fourth { IfOk result (λ raw. (is_some raw.axes.z && is_some raw.axes.m) ≡ false
-        → IfSome raw.bounds (λ b. b.fourth ≡ zero_range)) }
+    ensures zeros { IfOk result (λ raw. IfSome raw.bounds (HasZeros (is_some raw.axes.z) (is_some raw.axes.m))) }
 {
     take_fields::<Called>(cursor, begun)
 }
@@ -303,10 +294,7 @@ pub fn take_boxed_rest(cursor: &mut Cursor, begun: Begun) -> Result<Fields, Malf
     ensures no_box { has_bit begun.metadata 1 ≡ false → IfOk result (λ raw. raw.bounds ≡ None) }
     ensures boxed { has_bit begun.metadata 1 ≡ true → IfOk result (λ raw. IsSome raw.bounds) }
     ensures kind { IfOk result (λ raw. raw.kind ≡ begun.kind) }
-    ensures no_third { IfOk result (λ raw. (is_some raw.axes.z || is_some raw.axes.m) ≡ false
-        → IfSome raw.bounds (λ b. b.third ≡ zero_range)) }
-    ensures no_fourth { IfOk result (λ raw. (is_some raw.axes.z && is_some raw.axes.m) ≡ false
-        → IfSome raw.bounds (λ b. b.fourth ≡ zero_range)) }
+    ensures zeros { IfOk result (λ raw. IfSome raw.bounds (HasZeros (is_some raw.axes.z) (is_some raw.axes.m))) }
 {
     take_fields::<Inlined>(cursor, begun)
 }
@@ -324,10 +312,7 @@ fn take_fields<R: RangeReader>(cursor: &mut Cursor, begun: Begun) -> Result<Fiel
     ensures no_box { has_bit begun.metadata 1 ≡ false → IfOk result (λ raw. raw.bounds ≡ None) }
     ensures boxed { has_bit begun.metadata 1 ≡ true → IfOk result (λ raw. IsSome raw.bounds) }
     ensures kind { IfOk result (λ raw. raw.kind ≡ begun.kind) }
-    ensures no_third { IfOk result (λ raw. (is_some raw.axes.z || is_some raw.axes.m) ≡ false
-        → IfSome raw.bounds (λ b. b.third ≡ zero_range)) }
-    ensures no_fourth { IfOk result (λ raw. (is_some raw.axes.z && is_some raw.axes.m) ≡ false
-        → IfSome raw.bounds (λ b. b.fourth ≡ zero_range)) }
+    ensures zeros { IfOk result (λ raw. IfSome raw.bounds (HasZeros (is_some raw.axes.z) (is_some raw.axes.m))) }
 {
     let extended = take_extended(cursor, has_bit(begun.metadata, EXTENDED))?;
     let z = z_of(extended);

@@ -1,8 +1,9 @@
 -- Devices of proofs: nothing public names them.
 -- The box in X and Y of a certified geometry, at the place of a cursor.
-use Rattle.std.specs.Prelude.{◌≡◌, ◌≢◌, Ok, Err}
+use Rattle.std.specs.Prelude.{◌≡◌, ◌≢◌, ℤ, Bool, None, Ok, Err}
 use Rattle.twkb_num.specs.Cursor.{Reading}
-use Rattle.twkb_head.specs.Raw.{ends_of}
+use Rattle.twkb_head.specs.Raw.{ends_of, flat_box, raw_bounds}
+use Rattle.twkb_head.specs.declared.boxes.Bounds.{Bounds}
 use Rattle.twkb_head.specs.declared.raw.RawRange.{RawRange}
 use Rattle.twkb_head.specs.declared.refusal.Malformed.{Malformed}
 use Rattle.twkb_head.specs.Shared.Reader.{range_from}
@@ -18,3 +19,8 @@ pub record HasFlatBox (now : Reading) : Type 0 where
   pub x_stands : (m : Malformed) (new : Reading) → range_from now ≢ (Err m, new)
   pub y_stands : (x : RawRange) (between : Reading) → range_from now ≡ (Ok (ends_of x), between)
       → (m : Malformed) (new : Reading) → range_from between ≢ (Err m, new)
+
+-- A box in X and Y was read, and the answer is whether the test skips it, by the precision.
+abbrev pub JudgesFlatBox : (Bounds → Bool) → ℤ → Bool → Reading → Reading → Type 0
+JudgesFlatBox skips xy skipped before after = (x y : RawRange) × ReadsFlatBox x y before after
+    × (skipped ≡ skips (raw_bounds xy None None (flat_box x y)))

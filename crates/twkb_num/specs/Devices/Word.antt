@@ -4,7 +4,7 @@ use Rattle.std.specs.Prelude.{◌≡◌, ℕ, ◌*◌, ◌/◌, ◌%◌, ◌≤�
 use Rattle.std.specs.Int.{w32, to_le_bytes}
 use Rattle.twkb_num.specs.Varint.{Spells}
 
--- so many of the lowest bits of a word of four bytes, which are whole bytes, spell the value
+-- the lowest `bits` bits of a word of four bytes are whole bytes, and spell the value
 pub record LowBitsSpell (low bits value : ℕ) : Type 0 where
   pub some : 8 ≤ bits
   pub few : bits ≤ 32
