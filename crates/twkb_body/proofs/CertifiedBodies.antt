@@ -118,7 +118,7 @@ module _ (head : Head) (levels axes count : ℕ) (old mid new : Reading) (full :
 
   -- a body that a frame has to hold is certified by its parts
   module _ (frame : Frame) (precisions : frame ≡ framed head frame.bounds) where
-    pub held_sure : (vertices : ℕ) → AreHeld true head.kind axes count frame.bounds mid new vertices → IsSureBody levels head (Some frame) old new vertices
+    pub held_sure : (vertices : ℕ) → AreHeld head.kind axes count frame.bounds mid new vertices → IsSureBody levels head (Some frame) old new vertices
     held_sure vertices (held, parts, inside) =
         body_held levels head old new vertices axes (sym axes_are) full single frame precisions
         (held, adds_parts (held_then axes) head.kind head.ids axes count old mid new (record { box = frame.bounds; inside = true }) held vertices counted parts, inside)

@@ -35,7 +35,7 @@ module _ (kind : Kind) (axes count : ℕ) (box : RawBox) (old new : Reading) whe
 
   -- parts are held that were read up to a stage at which this many points were read, and the box holds all so far
   pub parts_held : (stands : Stage Held → Type 0) (points : ℕ) → ((at : Stage Held) → stands at → (at.trail.points ≡ points) × (at.state.inside ≡ true))
-      → HasRead parts_at points_of (held_then axes) stands start old new → AreHeld true kind axes count box old new points
+      → HasRead parts_at points_of (held_then axes) stands start old new → AreHeld kind axes count box old new points
   parts_held stands points told read =
       let there = told _ read.there in
       (read.state, record { parts = read.value; after = read.trail; read = read.read; walked = read.walked; vertices_are = sym there.0 }, there.1)

@@ -12,7 +12,7 @@ ghost use Rattle.twkb_body.specs.Geometry.{Geometry};
 ghost use Rattle.twkb_body.specs.Tight.{IsTightlyTrue};
 ghost use Rattle.twkb_layer.specs.Directory.{IsDirectoryOf, directory_cost};
 ghost use Rattle.twkb_layer.specs.Decimals.{Decimal, IsDecimalText, is_less, rational_of, span_of_decimals};
-ghost use Rattle.twkb_layer.specs.Layer.{IsCertifiedLayer, IsCounted, OfLayer};
+ghost use Rattle.twkb_layer.specs.Layer.{IsCounted, OfLayer};
 ghost use Rattle.twkb_layer.specs.Hits.{hits, found_blobs, cost, filled};
 ghost use Rattle.twkb_layer.specs.Rows.{rows};
 ghost use Rattle.twkb_layer.specs.Slots.{entries_kept};

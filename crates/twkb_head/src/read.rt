@@ -96,23 +96,6 @@ impl Begun {
         self.metadata % 32 == SIZE + BOX
     }
 
-    /// This header, if it announces a box in X and Y and a body; its metadata byte then has no other bits than those of the box, the
-    /// size and the ids. So the compiler knows which fields there can be.
-    #[inline(always)]
-    pub fn flat_boxed(self) -> Option<Begun>
-        ensures announcing { IfSome result (λ begun. begun ≡ record self { metadata = self.metadata % 32 }) }
-        ensures boxed { IfSome result (λ begun. has_bit begun.metadata 1 ≡ true) }
-        ensures flat { IfSome result (λ begun. has_bit begun.metadata 8 ≡ false) }
-        ensures full { IfSome result (λ begun. has_bit begun.metadata 16 ≡ false) }
-        ensures only { IsSome result ↔ ((has_bit self.metadata 1 ≡ true) × (has_bit self.metadata 8 ≡ false)
-            × (has_bit self.metadata 16 ≡ false)) }
-    {
-        if self.metadata & (BOX + EXTENDED + EMPTY) != BOX {
-            return None;
-        }
-        Some(self.announcing(BOX + (self.metadata & (SIZE + IDS))))
-    }
-
     /// `true` says that it is a point, and that a size follows, no other field, and a body.
     #[inline(always)]
     pub fn is_sized_point(self) -> bool

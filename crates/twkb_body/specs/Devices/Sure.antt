@@ -63,16 +63,16 @@ abbrev pub AreMalformed : Kind → ℕ → ℕ → Reading → Reading → Type 
 AreMalformed kind axes count old new =
     (m : Malformed) × Fails (many_at count ring_sums (part_at kind axes) zeros old) m new
 
--- The parts were read. The box holds all their points if `all` is true, and not all if it is false.
-abbrev pub AreHeld : Bool → Kind → ℕ → ℕ → RawBox → Reading → Reading → ℕ → Type 0
-AreHeld all kind axes count box old new vertices =
+-- The parts were read, and the box holds all their points.
+abbrev pub AreHeld : Kind → ℕ → ℕ → RawBox → Reading → Reading → ℕ → Type 0
+AreHeld kind axes count box old new vertices =
     (held : Held)
     × ReadParts (held_then axes) kind axes count old new (record { box = box; inside = true }) held vertices
-    × (held.inside ≡ all)
+    × (held.inside ≡ true)
 
 -- A body was read whose points the box holds, and the result is how many points there are; or else its parts leave the box.
 pub record HoldsOrLeaves (kind : Kind) (axes count : ℕ) (box : RawBox) (old new : Reading) (result : Result ℕ Doubt) : Type 0 where
-  pub held : IfOk result (AreHeld true kind axes count box old new)
+  pub held : IfOk result (AreHeld kind axes count box old new)
   pub leave : OnErr result (LeaveBox kind axes count box old)
   pub bytes : new.bytes ≡ old.bytes
   pub refused : IfErr result (λ doubt. doubt ≡ Refused)

@@ -1,5 +1,5 @@
 //! Points and lines of X and Y without a box, in the first reading, after their first two bytes.
-ghost use Rattle.std.specs.Prelude.{◌≡◌, ◌≤◌, ◌+◌, ◌%◌, ◌^◌, ℕ, false, None, Some, IfSome, IfOk, IfErr};
+ghost use Rattle.std.specs.Prelude.{◌≡◌, ◌≤◌, ◌+◌, ◌%◌, ◌^◌, ℕ, None, Some, IfSome, IfOk, IfErr};
 ghost use Rattle.twkb_num.specs.Cursor.{Reading, IsSound};
 ghost use Rattle.twkb_head.specs.Raw.{BeginsHead};
 ghost use Rattle.twkb_head.specs.declared.kinds.Kind.TheVariants.{Point, LineString};

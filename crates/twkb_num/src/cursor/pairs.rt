@@ -9,8 +9,9 @@ use crate::ends::second_end;
 use crate::word::{next_mixed_pair, next_pair};
 
 impl<'a> Cursor<'a> {
-    /// Reads the two signed varints at the place, if each takes at most four bytes and eight bytes are left. Otherwise it returns
-    /// `None`, and the cursor is as it was; read them one after the other then.
+    /// Reads the two signed varints at the place, which take at most eight bytes together. It returns `None`, and leaves the cursor as
+    /// it was, only if fewer than eight bytes are left or four in a row of the next eight have their top bit set; read the two one
+    /// after the other then.
     #[inline(always)]
     pub fn svarint_pair(&mut self) -> Option<(i64, i64)>
         ensures some { IfSome result (λ pair. SpellsTwoSigned (passed self.old self.new) pair.0 pair.1) }

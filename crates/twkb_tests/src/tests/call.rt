@@ -1,5 +1,4 @@
 //! Tests of what no contract says of the calls from other languages: the answers for worked files.
-ghost use Rattle.std.specs.Prelude.{◌≡◌};
 ghost use Rattle.twkb_layer.specs.Layer.{IsCounted};
 
 use self::windows::UNREAD;
