@@ -17,7 +17,7 @@ BASH = share/bash-completion/completions
 ZSH = share/zsh/site-functions
 
 .PHONY: help kit libraries library build install uninstall install-library uninstall-library dist
-.PHONY: try demo test test-program test-languages bindings web page
+.PHONY: try demo test test-program test-languages test-packages bindings web page
 .PHONY: bench callers picture trusted refusals fuzz apart twins stack clean
 
 help:
@@ -117,9 +117,11 @@ test: kit
 	cp crates/twkb_tool/out/twkb_tool $(PROGRAM)
 	@mv build/proved $(PROGRAM).sources
 	@$(MAKE) --no-print-directory --jobs=2 --output-sync=target test-program test-languages
+	@$(MAKE) --no-print-directory test-packages
 	@tail -n 1 build/ci.log
 
-# Both need what `make test` has built by then. A make that one of these tests calls has jobs of its own, so the flags of this make are
+# These need what `make test` has built by then. The module for web pages is proved beside the library, which takes longer; it is
+# left out where its tests are. A make that one of these tests calls has jobs of its own, so the flags of this make are
 # kept from it.
 ALONE = env -u MAKEFLAGS python3
 test-program:
@@ -129,11 +131,14 @@ test-program:
 	$(ALONE) tests/scripts.py $(PROGRAM)
 	$(ALONE) tests/publish.py $(PROGRAM)
 	$(ALONE) tests/first_answer.py
+	if command -v wasm-opt; then bindings/web/build.sh; fi
 
 test-languages:
 	$(ALONE) tests/bindings.py $(PROGRAM)
 	$(ALONE) tests/cuts.py
 	$(ALONE) tests/versions.py
+
+test-packages:
 	$(ALONE) tests/web.py
 	$(ALONE) tests/page.py $(PROGRAM)
 	$(ALONE) tests/release.py $(PROGRAM)

@@ -2,7 +2,7 @@
 # Builds build/bindings/libtwkb.a and libtwkb.so out of the proved static library. usage: bindings/build.sh [--second]
 # `make library` proves the libraries below it before.
 # With --second it is build/bindings/second/libtwkb.a alone, by the kit's second compiler, to compare the answers of both.
-# Wants rt of the Rattle kit, ar and gcc.
+# Wants rt of the Rattle kit, ar and gcc. If the libraries are current, nothing is done; with --second they are always built.
 set -eu
 top=$(cd "$(dirname "$0")/.." && pwd)
 out=$top/build/bindings
@@ -13,6 +13,12 @@ case ${1-} in
     '') ;;
     *) echo "usage: bindings/build.sh [--second]" >&2; exit 2 ;;
 esac
+ours=$top/bindings
+if [ $backend = llvm ] && [ -f "$out/libtwkb.so.0" ] && [ -f "$out/libtwkb.a" ] && "$top/tools/is_current.sh" "$out/libtwkb.so" \
+    "$ours/build.sh" "$ours/prove.sh" "$ours/exports.map" "$ours/c/version.c" "$ours/c/twkb.h"; then
+    echo "$out/libtwkb.a and libtwkb.so are current"
+    exit 0
+fi
 mkdir -p "$out"
 sources=$("$top/tools/sources.sh")
 
@@ -26,7 +32,8 @@ rm -f "$out/libtwkb.a"
 ar rcs "$out/libtwkb.a" "$objects"/*.o
 echo "built $out/libtwkb.a"
 [ $backend = llvm ] || exit 0
-gcc -shared -s -o "$out/libtwkb.so" -Wl,--whole-archive "$out/libtwkb.a" -Wl,--no-whole-archive -Wl,-z,defs \
+# Marked with the processor that the kit's code needs, so that the loader says it where the processor is an older one.
+gcc -shared -s -o "$out/libtwkb.so" -Wl,--whole-archive "$out/libtwkb.a" -Wl,--no-whole-archive -Wl,-z,defs -Wl,-z,x86-64-v2 \
     -Wl,--version-script="$top/bindings/exports.map" -Wl,-soname,libtwkb.so.0
 # By this name the loader looks for it: the same file under a second name, since the kit's gate takes no symbolic links.
 ln -f "$out/libtwkb.so" "$out/libtwkb.so.0"

@@ -7,6 +7,7 @@ import io
 import os
 import re
 import shutil
+import struct
 import subprocess
 import sys
 import zipfile
@@ -125,6 +126,16 @@ def packages(release, version, folder):
     status, _, error = asked(place)
     count("the package without a library", (status, "libtwkb.so.0" in error, "make install-library" in error), (1, True, True))
     glibc(release)
+    processor(release)
+
+
+def processor(release):
+    """The library is marked with the processor that it needs, as a property in its notes: the level x86-64-v2 is bit 1."""
+    with open(os.path.join(release, "lib", "libtwkb.so.0"), "rb") as file:
+        data = file.read()
+    isa_needed = struct.pack("<II", 0xC0008002, 4)
+    at = data.find(isa_needed) + len(isa_needed)
+    count("lib/libtwkb.so.0: the processor that it needs", (isa_needed in data, data[at] & 2), (True, 2))
 
 
 def glibc(release):

@@ -243,8 +243,9 @@ def installs(release, clone, folder):
     """Without the kit, with nothing but coreutils in PATH, and to the same as make does."""
     path = machines.only_coreutils(os.path.join(folder, "coreutils"))
 
-    def install(here, *words):
-        return subprocess.run(["/bin/sh", os.path.join(here, "install.sh"), *words], cwd=folder, capture_output=True, text=True, env={"PATH": path})
+    def install(here, *words, **more):
+        command = ["/bin/sh", os.path.join(here, "install.sh"), *words]
+        return subprocess.run(command, cwd=folder, capture_output=True, text=True, env={"PATH": path} | more)
 
     done = install(release, "below/a prefix")
     prefix = os.path.join(folder, "below", "a prefix")
@@ -265,7 +266,24 @@ def installs(release, clone, folder):
         file.write(b"\n")
     count("install.sh of a spoiled file", install(spoiled, "nothing").returncode, 1)
     count("it installs nothing", os.path.exists(os.path.join(folder, "nothing")), False)
+    processors(lambda cpuinfo: install(release, "for another", CPUINFO=cpuinfo), folder)
     return prefix
+
+
+def processors(install, folder):
+    """What install.sh says of processors, by files such as /proc/cpuinfo."""
+    v2 = "fpu sse sse2 pni ssse3 cx16 sse4_1 sse4_2 popcnt lahf_lm"
+    lacks = "install.sh: the processor isn't x86-64-v2, and can't run what is installed: it lacks"
+    for flags, error in (
+        (f"flags\t\t: {v2}\n", ""),
+        (f"flags\t\t: {v2.replace(' sse4_1', '')}\n", f"{lacks} sse4_1\n"),
+        # The names of other parts begin or end alike.
+        ("flags\t\t: fpu sse sse2 pni ssse3x xssse3 cx16 sse4_1 sse4_2 lahf_lm\n", f"{lacks} popcnt ssse3\n"),
+        ("Features\t: fp asimd\n", ""),
+    ):
+        done = install(written(folder, "cpuinfo", f"processor\t: 0\n{flags}".encode()))
+        count(f"install.sh with {flags.split()[2:]}", (done.returncode, done.stderr), (0, error))
+    count("install.sh without a file of the processor", install(os.path.join(folder, "none")).stderr, "")
 
 
 def main():

@@ -2,7 +2,8 @@
 # Installs what this folder holds: the program with its manual page and completions, and the library with its header and its
 # pkg-config file. usage: install.sh PREFIX   (/usr/local, say)
 # Needs only a shell and coreutils. The files are first compared with SHA256SUMS: if one differs, nothing is installed and the exit
-# status is 1. It is 2 if PREFIX is missing.
+# status is 1. It is 2 if PREFIX is missing. If the processor isn't x86-64-v2, the files are installed, and standard error says what
+# the processor lacks. CPUINFO names a file to read instead of /proc/cpuinfo, for a machine that isn't this one.
 set -eu
 here=$(cd "$(dirname "$0")" && pwd)
 if [ $# -ne 1 ] || [ -z "$1" ]; then
@@ -22,6 +23,23 @@ put() {
     install -m "$1" "$here/$2" "$into/$2"
 }
 
+# The parts of x86-64-v2 that the processor lacks, if there is a line that says what it has.
+lacked() {
+    while IFS= read -r line; do
+        case $line in
+            flags*:*)
+                for part in cx16 lahf_lm pni popcnt sse4_1 sse4_2 ssse3; do
+                    case "$line " in
+                        *" $part "*) ;;
+                        *) printf ' %s' "$part" ;;
+                    esac
+                done
+                return
+                ;;
+        esac
+    done
+}
+
 put 755 bin/twkb_tool
 put 644 share/man/man1/twkb_tool.1
 put 644 share/bash-completion/completions/twkb_tool
@@ -32,3 +50,8 @@ put 644 lib/libtwkb.so.0
 ln -sf libtwkb.so.0 "$into/lib/libtwkb.so"
 put 644 lib/pkgconfig/twkb.pc
 echo "installed below $into. Where $into/lib is one of the loader's folders, ldconfig tells it of libtwkb.so.0."
+cpuinfo=${CPUINFO:-/proc/cpuinfo}
+if [ -r "$cpuinfo" ]; then
+    lacks=$(lacked < "$cpuinfo")
+    [ -z "$lacks" ] || echo "install.sh: the processor isn't x86-64-v2, and can't run what is installed: it lacks$lacks" >&2
+fi

@@ -1,7 +1,11 @@
 #!/bin/sh
-# Prints a sum of all that is proved: the files of crates/, but what rt makes there, crates.txt and HANDLES. usage: tools/sources.sh
+# Prints a sum of all that is proved, and of the kit that proves it: the files of crates/, but what rt makes there, crates.txt and
+# HANDLES, and what `rt version` prints. usage: tools/sources.sh
 # What builds something writes it beside that, and `make dist` packs nothing of other sources.
 set -eu
 cd "$(dirname "$0")/.."
 ls -d crates crates.txt HANDLES > /dev/null
-find crates crates.txt HANDLES -path 'crates/*/out' -prune -o -type f -print0 | LC_ALL=C sort -z | xargs -0 sha256sum | sha256sum | cut -d ' ' -f 1
+{
+    find crates crates.txt HANDLES -path 'crates/*/out' -prune -o -type f -print0 | LC_ALL=C sort -z | xargs -0 sha256sum
+    rt version
+} | sha256sum | cut -d ' ' -f 1

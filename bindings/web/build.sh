@@ -1,6 +1,6 @@
 #!/bin/sh
 # Builds build/web/twkb_web.wasm, a module of 32 bits with no imports, out of the proved crate. usage: bindings/web/build.sh
-# `make page` proves the libraries below it before. Wants the Rattle kit and wasm-opt.
+# `make page` proves the libraries below it before. Wants the Rattle kit and wasm-opt. If the module is current, nothing is done.
 set -eu
 top=$(cd "$(dirname "$0")/../.." && pwd)
 out=$top/build/web
@@ -11,6 +11,10 @@ if ! command -v wasm-opt > /dev/null; then
     exit 3
 fi
 
+if "$top/tools/is_current.sh" "$out/twkb_web.wasm" "$0" "$top/bindings/prove.sh"; then
+    echo "$out/twkb_web.wasm is current"
+    exit 0
+fi
 mkdir -p "$out"
 sources=$("$top/tools/sources.sh")
 "$top/bindings/prove.sh" twkb_web "$out/twkb_web.a" --backend llvm --target $target

@@ -225,13 +225,12 @@ fn hits_that_fit(rt: HostRuntime) {
 // The names are the words that the program prints, with zeros after them.
 #[test]
 fn names(rt: HostRuntime) {
-    let name = |text: &[u8; 24]| text.iter().take_while(|byte| **byte != 0).count();
-    equal(&rt, name(type_name(1)), b"point".len());
-    equal(&rt, name(type_name(7)), b"geometrycollection".len());
-    equal(&rt, name(type_name(8)), 0);
-    equal(&rt, name(kind_name(0)), 0);
-    equal(&rt, name(kind_name(9)), b"loose".len());
-    equal(&rt, name(answer_name(2)), b"no memory".len());
+    equal(&rt, &type_name(1)[..6], &b"point\0"[..]);
+    equal(&rt, &type_name(7)[..19], &b"geometrycollection\0"[..]);
+    equal(&rt, type_name(8)[0], 0);
+    equal(&rt, kind_name(0)[0], 0);
+    equal(&rt, &kind_name(9)[..6], &b"loose\0"[..]);
+    equal(&rt, &answer_name(2)[..10], &b"no memory\0"[..]);
 }
 
 // A line from (-1 1) to (3 -2).
