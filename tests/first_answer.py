@@ -22,6 +22,7 @@ LIBRARIES = ["refusing", "twkb_num", "twkb_head", "twkb_body", "twkb_layer"]
 # OTHER to be begun. HELD names crates that wait for a file, FAILS one that isn't proved, and SLOW one that goes on until it is stopped.
 # What waits in vain for half a minute fails.
 RT = """#!/bin/sh
+[ "$1" != version ] || { echo a stand-in; exit; }
 crate=$(basename "$PWD")
 awaits() {
     for _ in $(seq 300); do
@@ -119,7 +120,7 @@ def proved(folder):
     count("how long it takes, said first", bool(re.search(r"some \d+ minutes", first)), True)
     count("the program is put in its place", os.path.exists(os.path.join(folder, "build", "twkb_tool")), True)
     with open(os.path.join(folder, "build", "twkb_tool.sources")) as told:
-        sources = subprocess.run([os.path.join(folder, "tools", "sources.sh")], capture_output=True, text=True).stdout
+        sources = subprocess.run([os.path.join(folder, "tools", "sources.sh")], capture_output=True, text=True, env=fresh(folder)[0]).stdout
         count("which crates it is of", (told.read(), len(sources)), (sources, 65))
 
 
