@@ -120,9 +120,8 @@ test: kit
 	@$(MAKE) --no-print-directory test-packages
 	@tail -n 1 build/ci.log
 
-# These need what `make test` has built by then. The module for web pages is proved beside the library, which takes longer; it is
-# left out where its tests are. A make that one of these tests calls has jobs of its own, so the flags of this make are
-# kept from it.
+# These need what `make test` has built by then: test-packages the library and the module for web pages too, which the two before it
+# build. A make that one of these tests calls has jobs of its own, so the flags of this make are kept from it.
 ALONE = env -u MAKEFLAGS python3
 test-program:
 	$(ALONE) tests/run.py $(PROGRAM)
@@ -131,7 +130,7 @@ test-program:
 	$(ALONE) tests/scripts.py $(PROGRAM)
 	$(ALONE) tests/publish.py $(PROGRAM)
 	$(ALONE) tests/first_answer.py
-	if command -v wasm-opt; then bindings/web/build.sh; fi
+	$(ALONE) tests/page.py $(PROGRAM)
 
 test-languages:
 	$(ALONE) tests/bindings.py $(PROGRAM)
@@ -140,7 +139,6 @@ test-languages:
 
 test-packages:
 	$(ALONE) tests/web.py
-	$(ALONE) tests/page.py $(PROGRAM)
 	$(ALONE) tests/release.py $(PROGRAM)
 
 # What other languages call needs one library more.
