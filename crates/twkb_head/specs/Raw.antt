@@ -49,7 +49,7 @@ zero_range = record { minimum = pos 0; extent = pos 0 }
 
 -- a missing axis has a range of zeros: the third range if there is neither Z nor M, the fourth unless there are both
 abbrev pub HasZeros : Bool → Bool → RawBox → Type 0
-HasZeros has_z has_m box = ((has_z || has_m) ≡ false → box.third ≡ zero_range) × ((has_z && has_m) ≡ false → box.fourth ≡ zero_range)
+HasZeros z m box = ((z || m) ≡ false → box.third ≡ zero_range) × ((z && m) ≡ false → box.fourth ≡ zero_range)
 
 -- the box of two ranges in X and Y, and none in Z and M
 abbrev pub flat_box : RawRange → RawRange → RawBox
