@@ -20,6 +20,8 @@ if [ $backend = llvm ] && [ -f "$out/libtwkb.so.0" ] && [ -f "$out/libtwkb.a" ] 
     exit 0
 fi
 mkdir -p "$out"
+# A build that is cut short leaves nothing that is taken for current.
+rm -f "$out/libtwkb.so.sources"
 sources=$("$top/tools/sources.sh")
 
 "$top/bindings/prove.sh" twkb_c "$out/twkb_c.a" --backend $backend

@@ -274,16 +274,19 @@ def processors(install, folder):
     """What install.sh says of processors, by files such as /proc/cpuinfo."""
     v2 = "fpu sse sse2 pni ssse3 cx16 sse4_1 sse4_2 popcnt lahf_lm"
     lacks = "install.sh: the processor isn't x86-64-v2, and can't run what is installed: it lacks"
-    for flags, error in (
-        (f"flags\t\t: {v2}\n", ""),
-        (f"flags\t\t: {v2.replace(' sse4_1', '')}\n", f"{lacks} sse4_1\n"),
+    unchecked = "The processor isn't checked"
+    for flags, error, is_checked in (
+        (f"flags\t\t: {v2}\n", "", True),
+        (f"flags\t\t: {v2.replace(' sse4_1', '')}\n", f"{lacks} sse4_1\n", True),
         # The names of other parts begin or end alike.
-        ("flags\t\t: fpu sse sse2 pni ssse3x xssse3 cx16 sse4_1 sse4_2 lahf_lm\n", f"{lacks} popcnt ssse3\n"),
-        ("Features\t: fp asimd\n", ""),
+        ("flags\t\t: fpu sse sse2 pni ssse3x xssse3 cx16 sse4_1 sse4_2 lahf_lm\n", f"{lacks} popcnt ssse3\n", True),
+        ("Features\t: fp asimd\n", "", False),
     ):
         done = install(written(folder, "cpuinfo", f"processor\t: 0\n{flags}".encode()))
-        count(f"install.sh with {flags.split()[2:]}", (done.returncode, done.stderr), (0, error))
-    count("install.sh without a file of the processor", install(os.path.join(folder, "none")).stderr, "")
+        told = done.returncode, done.stderr, unchecked not in done.stdout
+        count(f"install.sh with {flags.split()[2:]}", told, (0, error, is_checked))
+    done = install(os.path.join(folder, "none"))
+    count("install.sh without a file of the processor", (done.returncode, done.stderr, unchecked in done.stdout), (0, "", True))
 
 
 def main():

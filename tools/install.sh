@@ -3,7 +3,8 @@
 # pkg-config file. usage: install.sh PREFIX   (/usr/local, say)
 # Needs only a shell and coreutils. The files are first compared with SHA256SUMS: if one differs, nothing is installed and the exit
 # status is 1. It is 2 if PREFIX is missing. If the processor isn't x86-64-v2, the files are installed, and standard error says what
-# the processor lacks. CPUINFO names a file to read instead of /proc/cpuinfo, for a machine that isn't this one.
+# the processor lacks; if nothing says what it has, that is printed. CPUINFO names a file to read instead of /proc/cpuinfo, for a
+# machine that isn't this one.
 set -eu
 here=$(cd "$(dirname "$0")" && pwd)
 if [ $# -ne 1 ] || [ -z "$1" ]; then
@@ -23,7 +24,7 @@ put() {
     install -m "$1" "$here/$2" "$into/$2"
 }
 
-# The parts of x86-64-v2 that the processor lacks, if there is a line that says what it has.
+# The parts of x86-64-v2 that the processor lacks. The status is 1 if no line says what it has.
 lacked() {
     while IFS= read -r line; do
         case $line in
@@ -38,6 +39,7 @@ lacked() {
                 ;;
         esac
     done
+    return 1
 }
 
 put 755 bin/twkb_tool
@@ -51,7 +53,8 @@ ln -sf libtwkb.so.0 "$into/lib/libtwkb.so"
 put 644 lib/pkgconfig/twkb.pc
 echo "installed below $into. Where $into/lib is one of the loader's folders, ldconfig tells it of libtwkb.so.0."
 cpuinfo=${CPUINFO:-/proc/cpuinfo}
-if [ -r "$cpuinfo" ]; then
-    lacks=$(lacked < "$cpuinfo")
+if lacks=$( { lacked < "$cpuinfo"; } 2> /dev/null); then
     [ -z "$lacks" ] || echo "install.sh: the processor isn't x86-64-v2, and can't run what is installed: it lacks$lacks" >&2
+else
+    echo "The processor isn't checked: $cpuinfo doesn't say what it has."
 fi

@@ -4,8 +4,9 @@
 # What builds something writes it beside that, and `make dist` packs nothing of other sources.
 set -eu
 cd "$(dirname "$0")/.."
+kit=$(rt version)
 ls -d crates crates.txt HANDLES > /dev/null
 {
     find crates crates.txt HANDLES -path 'crates/*/out' -prune -o -type f -print0 | LC_ALL=C sort -z | xargs -0 sha256sum
-    rt version
+    printf '%s\n' "$kit"
 } | sha256sum | cut -d ' ' -f 1

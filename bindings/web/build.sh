@@ -16,6 +16,8 @@ if "$top/tools/is_current.sh" "$out/twkb_web.wasm" "$0" "$top/bindings/prove.sh"
     exit 0
 fi
 mkdir -p "$out"
+# A build that is cut short leaves nothing that is taken for current.
+rm -f "$out/twkb_web.wasm.sources"
 sources=$("$top/tools/sources.sh")
 "$top/bindings/prove.sh" twkb_web "$out/twkb_web.a" --backend llvm --target $target
 "$kit/bin/rattle-link" --target $target --toolchain "$kit/toolchain" -o "$out/twkb_web64.wasm" "$out/twkb_web.a"

@@ -34,7 +34,7 @@ pub record PassesCountedRuns (each : ℕ) (old new : Reading) (groups : ℕ) : T
 abbrev pub LacksNumber : Reading → Type 0
 LacksNumber r = (fault : NumFault) × Faults fault (rest r)
 
--- the groups aren't passed: there are more than the most, too few bytes for their varints, or a varint that doesn't end
+-- the groups aren't passed: they exceed the most, too few bytes are left for their varints, or these stop before the last
 abbrev pub RefusesGroups : ℕ → ℕ → ℕ → Reading → Type 0
 RefusesGroups each most groups r =
     (most < groups) ⊎ ((length (rest r) < groups * each) ⊎ StopsBefore (groups * each) (rest r))
