@@ -53,7 +53,7 @@ ln -sf libtwkb.so.0 "$into/lib/libtwkb.so"
 put 644 lib/pkgconfig/twkb.pc
 echo "installed below $into. Where $into/lib is one of the loader's folders, ldconfig tells it of libtwkb.so.0."
 cpuinfo=${CPUINFO:-/proc/cpuinfo}
-if lacks=$( { lacked < "$cpuinfo"; } 2> /dev/null); then
+if lacks=$( { lacked < "$cpuinfo"; } 2>&-); then
     [ -z "$lacks" ] || echo "install.sh: the processor isn't x86-64-v2, and can't run what is installed: it lacks$lacks" >&2
 else
     echo "The processor isn't checked: $cpuinfo doesn't say what it has."
