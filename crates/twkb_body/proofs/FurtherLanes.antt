@@ -25,6 +25,12 @@ use Rattle.twkb_body.proofs.PointAxes.{point_has}
 use Rattle.twkb_body.proofs.QuadRuns.{near_range, reached_lane}
 use Rattle.twkb_body.proofs.Runs.{run_goes_on}
 
+-- two pairs are one point of four axes
+pub one_point_read : (a b c d : ℤ) (old new : Reading) → ReadsPairs ((a, b) ∷ (c, d) ∷ []) old new → ReadsPoints true (record { x = a; y = b; third = c; fourth = d } ∷ []) old new
+one_point_read a b c d old new one =
+    let two = one.5 in
+    (two.0, four_read a b c d old one.0 two.0 one.1 (one.3, one.4) one.2 two.1 (two.3, two.4) two.2, two.5)
+
 -- four pairs are two points of four axes
 pub two_points_read : (a b c d e f g h : ℤ) (old new : Reading) → ReadsPairs ((a, b) ∷ (c, d) ∷ (e, f) ∷ (g, h) ∷ []) old new
     → ReadsPoints true (record { x = a; y = b; third = c; fourth = d } ∷ record { x = e; y = f; third = g; fourth = h } ∷ []) old new

@@ -8,7 +8,10 @@ use Rattle.std.proofs.lemmas.Bool.Decides.{leb_tells}
 use Rattle.std.specs.Prelude.{if◌then◌else◌, nat_lt, ◌≤◌, ◌⊎◌}
 use lib.Lanes.{Each1, mask_l}
 use Rattle.twkb_num.specs.Varint.{IsBrief, IsShort}
+use Rattle.twkb_body.specs.declared.numbers.Numbers.{Numbers}
 use Rattle.twkb_body.specs.Devices.BoxTest.{reaches}
+use Rattle.twkb_body.specs.Devices.FurtherLanes.{four_lanes, all_within, HaveGone}
+use Rattle.twkb_body.specs.Devices.Numbers.{Each, plus}
 use Rattle.twkb_body.specs.Devices.Quads.{IsInLane, IsLaneExtent}
 use Rattle.twkb_body.proofs.BoxRuns.{reaches_decides, both_true}
 
@@ -212,3 +215,25 @@ four_set false false true true = refl
 four_set false false true false = refl
 four_set false false false true = refl
 four_set false false false false = refl
+
+-- the distances of one point, by the sums of lanes and one comparison without signs
+pub one_gone : (e apart d : Numbers) (place : List ℕ) (inside : Bool) → Each IsShort d → Each IsInLane apart → Each IsLaneExtent e
+    → place ≡ ((cast_unsigned w32 d.x + cast_unsigned w32 apart.x) % 4294967296) ∷ ((cast_unsigned w32 d.y + cast_unsigned w32 apart.y) % 4294967296)
+    ∷ ((cast_unsigned w32 d.third + cast_unsigned w32 apart.third) % 4294967296) ∷ ((cast_unsigned w32 d.fourth + cast_unsigned w32 apart.fourth) % 4294967296) ∷ []
+    → (place ≡ four_lanes (plus apart d) → inside ≡ (nat_le (cast_unsigned w32 (apart.x +ℤ d.x)) (cast_unsigned w32 e.x) && nat_le (cast_unsigned w32 (apart.y +ℤ d.y)) (cast_unsigned w32 e.y))
+    && (nat_le (cast_unsigned w32 (apart.third +ℤ d.third)) (cast_unsigned w32 e.third) && nat_le (cast_unsigned w32 (apart.fourth +ℤ d.fourth)) (cast_unsigned w32 e.fourth)))
+    → HaveGone e apart (d ∷ []) place inside
+one_gone e apart d place inside short in_lanes wide sums test =
+    let x = one_lane d.x apart.x short.x in_lanes.x in
+    let y = one_lane d.y apart.y short.y in_lanes.y in
+    let z = one_lane d.third apart.third short.third in_lanes.third in
+    let m = one_lane d.fourth apart.fourth short.fourth in_lanes.fourth in
+    let there : place ≡ four_lanes (plus apart d) = sums ∙ (λ j. x j ∷ y j ∷ z j ∷ m j ∷ []) in
+    let rx = lane_reaches e.x (apart.x +ℤ d.x) wide.x (met apart.x d.x in_lanes.x short.x) in
+    let ry = lane_reaches e.y (apart.y +ℤ d.y) wide.y (met apart.y d.y in_lanes.y short.y) in
+    let rz = lane_reaches e.third (apart.third +ℤ d.third) wide.third (met apart.third d.third in_lanes.third short.third) in
+    let rm = lane_reaches e.fourth (apart.fourth +ℤ d.fourth) wide.fourth (met apart.fourth d.fourth in_lanes.fourth short.fourth) in
+    record { at_is = there; inside_is = test there ∙ (λ j. (rx j && ry j) && (rz j && rm j)) ∙ and_true_right (all_within e (plus apart d)) }
+  where
+    met : (x d : ℤ) → IsInLane x → IsShort d → IsMetInLane (x +ℤ d)
+    met x d l short = (omega (arith, ints, l.0, short.0), omega (arith, ints, l.1, short.1))

@@ -7,7 +7,7 @@ ghost use Rattle.twkb_body.specs.Devices.Body.{zeros};
 
 use crate::lane_trail::{LaneReader, LaneTrail};
 use crate::positions::{Reached, Step, distances_in, is_in_lane, is_lane_extent, lanes_of};
-use crate::quads::next_points;
+use crate::quads::{next_points, next_two};
 use crate::varints::take_signed;
 use std::simd::prelude::*;
 use twkb_head::{RawBox, RawRange};
@@ -40,6 +40,15 @@ impl LaneReader for FlatLanes {
     ghost axes = { 2 };
 
     ghost place = { λ reader. IsFlatPlace };
+
+    /// Reads two points at once, or none.
+    #[inline(always)]
+    fn take_first(&self, cursor: &mut Cursor, left: u64, at: u32x4, extent: u32x4) -> Step {
+        if left < 2 {
+            return Step::none(at);
+        }
+        next_two(cursor, at, extent)
+    }
 
     /// Reads up to four points at once.
     #[inline(always)]

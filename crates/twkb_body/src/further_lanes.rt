@@ -9,8 +9,10 @@ ghost use Rattle.twkb_body.specs.Devices.Quads.{IsInLane};
 use crate::box_test::{BoxTest, distances, placed};
 use crate::flat_lanes::fits_lane;
 use crate::lane_trail::{LaneReader, LaneTrail};
-use crate::numbers::{Numbers, take_differences};
-use crate::positions::{Reached, Step, four_lanes_of, numbers_in, one_further, two_further};
+use crate::numbers::{Numbers, take_three};
+use crate::positions::{
+    Reached, Step, four_lanes_of, numbers_in, one_of_four, one_of_three, two_further,
+};
 use crate::trail::{Trail, take_point};
 use crate::walk::bare_head;
 use std::simd::prelude::*;
@@ -59,6 +61,16 @@ impl<const AXES: usize> LaneReader for FurtherLanes<AXES> {
 
     ghost place = { λ reader. IsFurtherPlace (is_four AXES) reader.bounds };
 
+    /// Reads one point of four axes, or none.
+    #[inline(always)]
+    fn take_first(&self, cursor: &mut Cursor, left: u64, at: u32x4, extent: u32x4) -> Step {
+        if AXES == 4 && 1 <= left {
+            point_of_four(cursor, at, extent)
+        } else {
+            Step::none(at)
+        }
+    }
+
     /// Reads up to two points at once.
     #[inline(always)]
     fn take_some(&self, cursor: &mut Cursor, left: u64, at: u32x4, extent: u32x4) -> Step {
@@ -96,30 +108,52 @@ fn next_further<const AXES: usize>(cursor: &mut Cursor, left: u64, at: u32x4, ex
     ensures step { IsFurtherStep (is_four AXES) at extent cursor.old cursor.new result.points result.reached.at
         result.reached.inside }
 {
-    if AXES == 4 && 2 <= left {
+    if AXES != 4 {
+        return point_of_three(cursor, at, extent);
+    }
+    if 2 <= left {
         let step = two_points(cursor, at, extent);
         if step.points != 0 {
             return step;
         }
     }
-    one_point::<AXES>(cursor, at, extent)
+    point_of_four(cursor, at, extent)
 }
 
-/// Reads one point, or none.
+/// Reads one point of three axes, or none.
 #[inline(always)]
-fn one_point<const AXES: usize>(cursor: &mut Cursor, at: u32x4, extent: u32x4) -> Step
+fn point_of_three(cursor: &mut Cursor, at: u32x4, extent: u32x4) -> Step
     ensures few { result.points ≤ 1 }
     ensures none { result.points ≡ 0 → cursor.new ≡ cursor.old }
     ensures bytes { cursor.new.bytes ≡ cursor.old.bytes }
-    ensures step { IsFurtherStep (is_four AXES) at extent cursor.old cursor.new result.points result.reached.at
+    ensures step { IsFurtherStep false at extent cursor.old cursor.new result.points result.reached.at
         result.reached.inside }
 {
-    match take_differences::<AXES>(cursor) {
+    match take_three(cursor) {
         Some(more) => Step {
             points: 1,
-            reached: one_further(&more, at, extent),
+            reached: one_of_three(&more, at, extent),
         },
         None => Step::none(at),
+    }
+}
+
+/// Reads one point of four axes, or none.
+#[inline(always)]
+fn point_of_four(cursor: &mut Cursor, at: u32x4, extent: u32x4) -> Step
+    ensures few { result.points ≤ 1 }
+    ensures none { result.points ≡ 0 → cursor.new ≡ cursor.old }
+    ensures bytes { cursor.new.bytes ≡ cursor.old.bytes }
+    ensures step { IsFurtherStep true at extent cursor.old cursor.new result.points result.reached.at
+        result.reached.inside }
+{
+    let differences = cursor.svarint_four();
+    if !differences.is_read {
+        return Step::none(at);
+    }
+    Step {
+        points: 1,
+        reached: one_of_four(differences.lanes, at, extent),
     }
 }
 

@@ -22,6 +22,20 @@ pub trait LaneReader {
     /// Lanes hold the distances of a point from the minima of a box, and other lanes the extents of the box.
     ghost place: { Self → RawBox → List ℕ → List ℕ → PointValue → Type 0 };
 
+    /// Reads the first points of a run, `left` at most, or none. The first point of a line or a ring is mostly far from the point
+    /// before it, so a reader of numbers of at most two bytes would fail. If a point is malformed, `inside` is false, too.
+    fn take_first(&self, cursor: &mut Cursor, left: u64, at: u32x4, extent: u32x4) -> Step
+        requires place { (box : RawBox) × (last : PointValue) × place self.now box at extent last }
+        ensures few { result.points ≤ left }
+        ensures bytes { cursor.new.bytes ≡ cursor.old.bytes }
+        ensures inside { result.reached.inside ≡ true → (box : RawBox) (trail : Trail)
+            → place self.now box at extent trail.last
+            → IsHeldRun axes (place self.now box result.reached.at extent) box trail cursor.old cursor.new
+            result.points }
+        ensures outside { result.reached.inside ≡ false → (box : RawBox) (last : PointValue)
+            → place self.now box at extent last
+            → PointsLeave axes left box last cursor.old };
+
     /// Reads one point or more, `left` at most. If a point is malformed, `inside` is false, too.
     fn take_some(&self, cursor: &mut Cursor, left: u64, at: u32x4, extent: u32x4) -> Step
         requires left { 1 ≤ left }
@@ -74,8 +88,12 @@ impl<L: LaneReader> PointReader for LaneTrail<L> {
     /// Reads the points some at a time.
     #[inline(always)]
     fn take_points(&mut self, cursor: &mut Cursor, count: u64) -> Result<(), NotHeld> {
-        let mut at = self.at;
-        let mut done = 0;
+        let first = self.reader.take_first(cursor, count, self.at, self.extent);
+        if !first.reached.inside {
+            return Err(NotHeld);
+        }
+        let mut at = first.reached.at;
+        let mut done = first.points;
         while done < count {
             let step = self.reader.take_some(cursor, count - done, at, self.extent);
             if !step.reached.inside {

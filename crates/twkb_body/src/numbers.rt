@@ -76,7 +76,7 @@ fn take_four(cursor: &mut Cursor) -> Option<Numbers>
 
 /// Reads the differences of a point of three axes: a pair, and a number after it.
 #[inline(always)]
-fn take_three(cursor: &mut Cursor) -> Option<Numbers>
+pub fn take_three(cursor: &mut Cursor) -> Option<Numbers>
     ensures some { IfSome result (λ more. AreDifferences false more cursor.old cursor.new) }
     ensures none { IfNone result (cursor.new ≡ cursor.old) }
 {

@@ -155,9 +155,24 @@ pub fn two_further(differences: u16x8, at: u32x4, extent: u32x4) -> Reached
     }
 }
 
-/// One point of three axes or four more, by differences of at most four bytes.
+/// One point of four axes more, by differences in lanes, each of at most four bytes.
 #[inline(always)]
-pub fn one_further(more: &Numbers, at: u32x4, extent: u32x4) -> Reached
+pub fn one_of_four(differences: u32x4, at: u32x4, extent: u32x4) -> Reached
+    ensures { (apart e d : NumbersOf) → at ≡ four_lanes apart → extent ≡ four_lanes e
+        → map (cast_signed w32) differences ≡ listed d → All IsShort (map (cast_signed w32) differences)
+        → Each IsInLane apart → Each IsLaneExtent e
+        → HaveGone e apart (d ∷ []) result.at result.inside }
+{
+    let place = summed(differences, at);
+    Reached {
+        at: place,
+        inside: are_within(place, extent),
+    }
+}
+
+/// One point of three axes more, by differences of at most four bytes. The fourth number is zero.
+#[inline(always)]
+pub fn one_of_three(more: &Numbers, at: u32x4, extent: u32x4) -> Reached
     requires { Each IsShort more.now }
     ensures { (apart e : NumbersOf) → at ≡ four_lanes apart → extent ≡ four_lanes e → Each IsInLane apart
         → Each IsLaneExtent e

@@ -51,7 +51,7 @@ fn next_four(cursor: &mut Cursor, at: u32x4, extent: u32x4) -> Step
 
 /// Reads two points, or none.
 #[inline(always)]
-fn next_two(cursor: &mut Cursor, at: u32x4, extent: u32x4) -> Step
+pub fn next_two(cursor: &mut Cursor, at: u32x4, extent: u32x4) -> Step
     ensures few { result.points ≤ 2 }
     ensures none { result.points ≡ 0 → cursor.new ≡ cursor.old }
     ensures bytes { cursor.new.bytes ≡ cursor.old.bytes }

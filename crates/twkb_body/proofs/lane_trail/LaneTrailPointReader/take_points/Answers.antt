@@ -1,17 +1,27 @@
 -- Steps lead on to all points, or to one that is outside.
-use Rattle.std.proofs.Common.{◌≡◌, ℕ, ◌+◌, ◌≤◌, refl, sym, subst, ◌∙◌, arith}
+use Rattle.std.proofs.Common.{◌≡◌, ℕ, ◌+◌, ◌≤◌, sym, subst, ◌∙◌, arith}
 use mir.Val.{Fits}
 use Rattle.std.specs.Int.{w64}
-use Rattle.twkb_body.proofs.LaneRuns.{rest_leaves, held_begins, held_goes_on, stands_counted, stands_read, stands_leave}
+use Rattle.twkb_body.proofs.LaneRuns.{rest_leaves, held_goes_on, stands_counted, stands_read, stands_leave}
 use Rattle.twkb_body.proofs.NumberSteps.{points_fit}
 use Rattle.std.proofs.lemmas.Bool.{not-false, not-true}
 use Rattle.twkb_body.proofs.lane_trail.LaneTrailPointReader.take_points.Goals as goal
 
+pub take_first-first-requires : goal.take_first-first-requires
+take_first-first-requires g c =
+    let s = c.requires.ready.1 in
+    record { place = (s.box, s.last, s.there) }
+
+pub returns-then-not-first-clause-ended : goal.returns-then-not-first-clause-ended
+returns-then-not-first-clause-ended g c at s =
+    stands_leave g.L.LaneReader.axes (λ box. g.L.LaneReader.place c.args.self.now.reader box c.args.self.now.at c.args.self.now.extent) c.args.self.now.points at s c.args.cursor.now c.take_first-first.new.cursor c.args.count
+    (c.take_first-first.ensures.outside (not-true _ c.if-not-first.true) s.box s.last s.there)
+
 pub loop-done-init : goal.loop-done-init
 loop-done-init g c = record {
-  few = omega arith;
-  bytes = refl;
-  read = λ at s. held_begins g.L.LaneReader.axes s.box (record { last = s.last; points = c.args.self.now.points }) c.args.cursor.now (g.L.LaneReader.place c.args.self.now.reader s.box c.args.self.now.at c.args.self.now.extent) s.there;
+  few = c.take_first-first.ensures.few;
+  bytes = c.take_first-first.ensures.bytes;
+  read = λ at s. c.take_first-first.ensures.inside (not-false _ c.if-not-first.false) s.box (record { last = s.last; points = c.args.self.now.points }) s.there;
 }
 
 pub take_some-step-requires : goal.take_some-step-requires
