@@ -1,5 +1,5 @@
 -- What readers of points read: counts, rings, polygons and parts, from what they read of each part.
-use Rattle.std.proofs.Common.{◌≡◌, ℕ, suc, ◌+◌, ◌-◌, ◌<◌, ◌≤◌, List, [], ◌∷◌, ◌++◌, fold, flat_map, Ok, Err, Option, Some, None, refl, sym, ap, subst, ◌∙◌, arith}
+use Rattle.std.proofs.Common.{◌≡◌, ℕ, zero, suc, ◌+◌, ◌-◌, ◌<◌, ◌≤◌, List, [], ◌∷◌, ◌++◌, fold, flat_map, map, Ok, Err, Option, Some, None, refl, sym, ap, subst, ◌∙◌, arith}
 use Rattle.std.proofs.lemmas.Grind.{flat_map-append}
 use Rattle.std.proofs.lemmas.List.{append-nil}
 use Rattle.std.proofs.lemmas.List.Sums.{fold-append}
@@ -10,8 +10,8 @@ use Rattle.twkb_head.specs.Shared.Reader.{Answer, Reader, ◌>>=◌, viewed, num
 use Rattle.twkb_head.proofs.Loops.{first_fails, then_fails}
 use Rattle.twkb_head.proofs.Readings.{ok_not_err}
 use Rattle.twkb_body.specs.declared.trail.Trail.{Trail}
-use Rattle.twkb_body.specs.Geometry.{PointValue}
-use Rattle.twkb_body.specs.Devices.Body.{add, sums}
+use Rattle.twkb_body.specs.Geometry.{PointValue, PolygonValue, points_of}
+use Rattle.twkb_body.specs.Devices.Body.{add, sums, ring_sums}
 use Rattle.twkb_body.specs.Devices.BodyReader.{point_at}
 use Rattle.twkb_body.specs.Devices.PointReader.{Stage, on, IsReady, HasRead, Leads, EndsEarly}
 use Rattle.twkb_body.specs.Devices.Walk.{lasts_from, IsWalked}
@@ -30,13 +30,28 @@ viewed_fails {A} f a m new fails = record { left = fails.left; is = ap (λ (a : 
 pub ring_alone : (line : List PointValue) → line ≡ flat_map (λ ring. ring) (line ∷ [])
 ring_alone line = sym (append-nil line)
 
--- a point is a line of one point
-pub point_alone : (axes : ℕ) (s : PointValue) (r : Reading) → viewed (λ line. line ∷ []) (many_at 1 add (point_at axes) s r) ≡ viewed (λ p. (p ∷ []) ∷ []) (point_at axes s r)
-point_alone axes s r = go (point_at axes s r)
+-- the part that a point is: one line, of one point
+abbrev pub alone : PointValue → PolygonValue
+alone p = (p ∷ []) ∷ []
+
+-- points are read as parts, each of one point
+pub points_apart : (axes n : ℕ) (s : PointValue) (r : Reading) → viewed (map alone) (many_at n add (point_at axes) s r) ≡ many_at n ring_sums (λ s r. viewed alone (point_at axes s r)) s r
+points_apart axes zero s r = refl
+points_apart axes (suc n) s r = go (λ p q. points_apart axes n (add s p) q) (point_at axes s r)
   where
-    go : (a : Answer PointValue) → viewed (λ line. line ∷ []) (a >>= λ x q. viewed (λ xs. x ∷ xs) (many_at 0 add (point_at axes) (add s x) q)) ≡ viewed (λ p. (p ∷ []) ∷ []) a
-    go (Ok p, q) = refl
-    go (Err m, q) = refl
+    first : (p : PointValue) (a : Answer (List PointValue)) → viewed (map alone) (viewed (λ xs. p ∷ xs) a) ≡ viewed (λ ys. alone p ∷ ys) (viewed (map alone) a)
+    first p (Ok xs, q) = refl
+    first p (Err m, q) = refl
+
+    go : (rest : (p : PointValue) (q : Reading) → viewed (map alone) (many_at n add (point_at axes) (add s p) q) ≡ many_at n ring_sums (λ s r. viewed alone (point_at axes s r)) (add s p) q) (a : Answer PointValue)
+        → viewed (map alone) (a >>= λ x q. viewed (λ xs. x ∷ xs) (many_at n add (point_at axes) (add s x) q)) ≡ (viewed alone a >>= λ y q. viewed (λ ys. y ∷ ys) (many_at n ring_sums (λ s r. viewed alone (point_at axes s r)) (ring_sums s y) q))
+    go rest (Ok p, q) = first p (many_at n add (point_at axes) (add s p) q) ∙ ap (viewed (λ ys. alone p ∷ ys)) (rest p q)
+    go rest (Err m, q) = refl
+
+-- the points of such parts
+pub points_alone : (ps : List PointValue) → ps ≡ points_of (map alone ps)
+points_alone [] = refl
+points_alone (p ∷ ps) = ap (λ (xs : List PointValue). p ∷ xs) (points_alone ps)
 
 module _ {S : Type 0} (step : S → PointValue → S) (at : Stage S) where
   -- ---- what is read, at whatever stage the reader stands after it

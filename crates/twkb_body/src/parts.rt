@@ -1,6 +1,7 @@
 //! The parts of a body: points, lines and polygons. The first reading and the exact audit both read them here, each with its own
 //! [`PointReader`].
-ghost use Rattle.std.specs.Prelude.{◌≡◌, IfOk, IfErr, flat_map};
+ghost use Rattle.std.specs.Prelude.{◌≡◌, ◌≢◌, IfOk, IfErr, flat_map};
+ghost use Rattle.twkb_head.specs.declared.kinds.Kind.TheVariants.{Point, MultiPoint};
 ghost use Rattle.twkb_head.specs.Shared.Reader.{many_at};
 ghost use Rattle.twkb_body.specs.Devices.Body.{ring_sums};
 ghost use Rattle.twkb_body.specs.Devices.BodyReader.{ring_at, polygon_at, part_at};
@@ -30,19 +31,25 @@ pub fn take_parts<R: PointReader>(
         cursor.old cursor.new) }
     ensures bytes { cursor.new.bytes ≡ cursor.old.bytes }
 {
+    // No count stands before a point, so all points are one run.
+    if let Kind::Point | Kind::MultiPoint = kind {
+        return reader.take_points(cursor, count);
+    }
     for _ in 0..count {
         take_part(cursor, kind, reader)?;
     }
     Ok(())
 }
 
-/// Reads one part: a point, a line or a polygon, by the kind.
+/// Reads one part, a line or a polygon, by the kind.
 #[inline(always)]
 fn take_part<R: PointReader>(
     cursor: &mut Cursor,
     kind: Kind,
     reader: &mut R,
 ) -> Result<(), R::Fault>
+    requires one_point { kind ≢ Point }
+    requires many_points { kind ≢ MultiPoint }
     requires ready { IsReady (R.stands reader.old) cursor.old }
     ensures read { IfOk result (λ done. (at : Stage R.State) → R.stands reader.old at
         → HasRead (part_at kind at.axes) (λ part. flat_map (λ ring. ring) part) R.step (R.stands reader.new) at
@@ -53,7 +60,7 @@ fn take_part<R: PointReader>(
     ensures bytes { cursor.new.bytes ≡ cursor.old.bytes }
 {
     match kind {
-        Kind::Point | Kind::MultiPoint => reader.take_points(cursor, 1),
+        Kind::Point | Kind::MultiPoint => unreachable!(),
         Kind::LineString | Kind::MultiLineString => take_ring(cursor, reader),
         Kind::Polygon | Kind::MultiPolygon => take_polygon(cursor, reader),
         Kind::GeometryCollection => Ok(()),
