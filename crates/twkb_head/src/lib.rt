@@ -11,7 +11,7 @@
 //!
 //! [`read_raw`] reads a header with its box in raw integers ([`Fields`]), which are the numbers in the file. [`begin_head`] and
 //! [`take_rest`] read a header in two steps: the first two bytes, and the rest. Audits and skims branch between the two.
-//! [`take_boxed_rest`] reads the rest too, for callers that mostly read headers with a box.
+//! [`take_boxed_rest`] reads the rest too, and has the reader of the box inlined.
 //!
 //! [`malformed`] makes a refusal out of a fault of a number, also for numbers of the body.
 //!

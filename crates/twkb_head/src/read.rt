@@ -260,8 +260,7 @@ pub fn take_rest(cursor: &mut Cursor, begun: Begun) -> Result<Fields, Malformed>
     take_fields::<Called>(cursor, begun)
 }
 
-/// Reads the other fields of a header as [`take_rest`] does. It is for callers that mostly read headers with a box: the reading of
-/// the box is inlined.
+/// Reads the other fields of a header as [`take_rest`] does, with the reader of the box inlined.
 #[inline(always)]
 pub fn take_boxed_rest(cursor: &mut Cursor, begun: Begun) -> Result<Fields, Malformed>
     requires { IsPrecision begun.xy }
