@@ -168,7 +168,8 @@ def main(module, out):
 
     def page(parts):
         parts_of["EXAMPLES"] = layers(parts)
-        html = text_of(PAGE, "index.html").encode(CODEC)
+        # Without indentation, which shows nowhere: scripts fill each `pre`.
+        html = re.sub(r"^\s+", "", text_of(PAGE, "index.html"), flags=re.MULTILINE).encode(CODEC)
         return re.sub(b"@([A-Z]+)@", lambda match: parts_of[match[1].decode()], html)
 
     fits = bisect.bisect_left(range(1, MOST_PARTS + 1), LARGEST + 1, key=lambda parts: len(page(parts)))
