@@ -8,13 +8,15 @@ use Rattle.twkb_head.specs.Shared.Plan.{fits}
 use Rattle.twkb_head.specs.Shared.Reader.{Answer, ◌>>=◌, viewed, signed_at, coordinate_at, many_at}
 use Rattle.twkb_head.proofs.Readings.{ok_not_err, one_answer}
 use Rattle.twkb_head.proofs.Steps.{coordinate_no_signed, coordinate_ok, coordinate_refused}
+use Rattle.twkb_body.specs.declared.positions.Reached.{Reached}
+use Rattle.twkb_body.specs.declared.positions.Step.{Step}
 use Rattle.twkb_body.specs.declared.trail.Trail.{Trail}
 use Rattle.twkb_body.specs.Geometry.{PointValue}
 use Rattle.twkb_body.specs.Devices.Body.{first_of, behind}
 use Rattle.twkb_body.specs.Devices.BodyReader.{point_at}
 use Rattle.twkb_body.specs.Devices.BoxTest.{reaches, held_then}
-use Rattle.twkb_body.specs.Devices.LaneTrail.{holding, LeavesBox, PointsLeave, IsHeldRun, IsFlatPlace}
-use Rattle.twkb_body.specs.Devices.Quads.{IsQuadStep, IsFarStep}
+use Rattle.twkb_body.specs.Devices.LaneTrail.{holding, LeavesBox, PointsLeave, IsHeldRun, IsLaneStep, IsFlatPlace}
+use Rattle.twkb_body.specs.Devices.Quads.{FromLanes, IsQuadStep, StepsInLanes, IsFarStep}
 use Rattle.twkb_body.specs.Devices.Walk.{lasts_from}
 use Rattle.twkb_body.proofs.FlatRuns.{flat_begins}
 use Rattle.twkb_body.proofs.LaneRuns.{run_leaves, next_leaves}
@@ -108,11 +110,11 @@ module _ (box : RawBox) (lanes extent : List ℕ) (from : Reading) where
     }
 
     -- up to four points that the box holds
-    pub some_held : (next : List ℕ) (inside : Bool) (new : Reading) (points : ℕ) → inside ≡ true → IsQuadStep box.x.extent box.y.extent place.across place.up from new points next inside → IsHeldRun 2 (IsFlatPlace box next extent) box start from new points
+    some_held : (next : List ℕ) (inside : Bool) (new : Reading) (points : ℕ) → inside ≡ true → IsQuadStep box.x.extent box.y.extent place.across place.up from new points next inside → IsHeldRun 2 (IsFlatPlace box next extent) box start from new points
     some_held next inside new points so step = run_held next new points (subst (IsLaneRun start from box next new) (omega arith) (step_inside start from box place.fits lanes from 0 begun next inside new points so step))
 
     -- a point of any differences that the box holds
-    pub far_held : (next : List ℕ) (inside : Bool) (new : Reading) → inside ≡ true → IsFarStep box.x.extent box.y.extent place.across place.up from new next inside → IsHeldRun 2 (IsFlatPlace box next extent) box start from new 1
+    far_held : (next : List ℕ) (inside : Bool) (new : Reading) → inside ≡ true → IsFarStep box.x.extent box.y.extent place.across place.up from new next inside → IsHeldRun 2 (IsFlatPlace box next extent) box start from new 1
     far_held next inside new so step = run_held next new 1 (far_inside start from box place.fits lanes from 0 begun next inside new so step)
 
   module _ (last : PointValue) (place : IsFlatPlace box lanes extent last) (count : ℕ) where
@@ -120,13 +122,13 @@ module _ (box : RawBox) (lanes extent : List ℕ) (from : Reading) where
     alone = record { last = last; points = 0 }
 
     -- up to four points of which the box doesn't hold one
-    pub some_leave : (next : List ℕ) (inside : Bool) (new : Reading) (points : ℕ) → points ≤ count → inside ≡ false → IsQuadStep box.x.extent box.y.extent place.across place.up from new points next inside → PointsLeave 2 count box last from
+    some_leave : (next : List ℕ) (inside : Bool) (new : Reading) (points : ℕ) → points ≤ count → inside ≡ false → IsQuadStep box.x.extent box.y.extent place.across place.up from new points next inside → PointsLeave 2 count box last from
     some_leave next inside new points le so step =
         let out = step_outside alone from box place.fits lanes from 0 (begun alone place) next inside new points so step in
         run_leaves 2 box alone from count (0 + points) _ (record { box = box; inside = false }) new (omega (arith, le)) out.2 refl
 
     -- a point that is malformed, or that the box doesn't hold
-    pub far_leaves : (next : List ℕ) (inside : Bool) (new : Reading) → 1 ≤ count → inside ≡ false → IsFarStep box.x.extent box.y.extent place.across place.up from new next inside → PointsLeave 2 count box last from
+    far_leaves : (next : List ℕ) (inside : Bool) (new : Reading) → 1 ≤ count → inside ≡ false → IsFarStep box.x.extent box.y.extent place.across place.up from new next inside → PointsLeave 2 count box last from
     far_leaves next inside new le so step = next_leaves 2 box alone from count le (outside (subst (λ (b : Bool). IsFarStep box.x.extent box.y.extent place.across place.up from new next b) so step))
       where
         outside : IsFarStep box.x.extent box.y.extent place.across place.up from new next false → LeavesBox 2 (point_at 2) one_point box last from
@@ -135,3 +137,32 @@ module _ (box : RawBox) (lanes extent : List ℕ) (from : Reading) where
             ap₂ (λ (s p : PointValue). (fold (held_then 2) (holding box) (lasts_from s (p ∷ []))).inside) place.is (sym two.is)
             ∙ ap₂ (λ (c d : ℤ). reaches box.x.extent c && reaches box.y.extent d) (from_there box.x.minimum place.across two.a) (from_there box.y.minimum place.up two.b)
             ∙ refuted two.a two.b two.middle stop two.first two.second
+
+module _ (lanes extent : List ℕ) (from new : Reading) (left : ℕ) where
+  -- where readers of X and Y stand
+  abbrev flat : RawBox → List ℕ → PointValue → Type 0
+  flat box at = IsFlatPlace box at extent
+
+  -- what starts from distances in lanes starts from a place
+  from_place : (follows : ℤ → ℤ → ℤ → ℤ → Type 0) → FromLanes lanes extent follows → (box : RawBox) (last : PointValue) (place : flat box lanes last) → follows place.across place.up box.x.extent box.y.extent
+  from_place follows known box last place = known place.across place.up box.x.extent box.y.extent place.lanes_are place.extent_is place.in_x place.in_y place.fits.0.wide place.fits.1.wide
+
+  -- up to four points are a step
+  pub some_step : (step : Step) → step.points ≤ left → StepsInLanes lanes extent from new step → IsLaneStep 2 left flat lanes from new step
+  some_step step few known = record {
+    inside = λ so box trail place. some_held box lanes extent from trail place step.reached.at step.reached.inside new step.points so (quad box trail.last place);
+    outside = λ so box last place. some_leave box lanes extent from last place left step.reached.at step.reached.inside new step.points few so (quad box last place);
+  }
+    where
+      quad : (box : RawBox) (last : PointValue) (place : flat box lanes last) → IsQuadStep box.x.extent box.y.extent place.across place.up from new step.points step.reached.at step.reached.inside
+      quad = from_place (λ x y w h. IsQuadStep w h x y from new step.points step.reached.at step.reached.inside) known
+
+  -- a point of any differences is a step
+  pub far_step : (reached : Reached) → 1 ≤ left → FromLanes lanes extent (λ x y w h. IsFarStep w h x y from new reached.at reached.inside) → IsLaneStep 2 left flat lanes from new (record { points = 1; reached = reached })
+  far_step reached one known = record {
+    inside = λ so box trail place. far_held box lanes extent from trail place reached.at reached.inside new so (far box trail.last place);
+    outside = λ so box last place. far_leaves box lanes extent from last place left reached.at reached.inside new one so (far box last place);
+  }
+    where
+      far : (box : RawBox) (last : PointValue) (place : flat box lanes last) → IsFarStep box.x.extent box.y.extent place.across place.up from new reached.at reached.inside
+      far = from_place (λ x y w h. IsFarStep w h x y from new reached.at reached.inside) known

@@ -5,13 +5,15 @@ use Rattle.twkb_num.specs.Cursor.{Reading}
 use Rattle.twkb_head.specs.declared.raw.RawBox.{RawBox}
 use Rattle.twkb_head.specs.declared.raw.RawRange.{RawRange}
 use Rattle.twkb_body.specs.declared.numbers.Numbers.{Numbers}
+use Rattle.twkb_body.specs.declared.positions.Reached.{Reached}
+use Rattle.twkb_body.specs.declared.positions.Step.{Step}
 use Rattle.twkb_body.specs.declared.trail.Trail.{Trail}
 use Rattle.twkb_body.specs.Geometry.{PointValue}
 use Rattle.twkb_body.specs.Devices.Body.{add, zeros}
 use Rattle.twkb_body.specs.Devices.BodyReader.{point_at}
 use Rattle.twkb_body.specs.Devices.BoxTest.{reaches, reach_all, is_in_range, is_in_box, Held, held_then, IsClose, IsMet, IsNearZero, AreNear}
 use Rattle.twkb_body.specs.Devices.FurtherLanes.{four_lanes, extents, FitsFurther, all_within, after, all_on_the_way, HaveGone, ReadsPoints, IsFurtherStep, IsFarPoint, LeavesByPoint, IsFurtherPlace}
-use Rattle.twkb_body.specs.Devices.LaneTrail.{FitsLane, holding, PointsLeave, IsHeldRun}
+use Rattle.twkb_body.specs.Devices.LaneTrail.{FitsLane, holding, PointsLeave, IsHeldRun, IsLaneStep}
 use Rattle.twkb_body.specs.Devices.Numbers.{listed, Each, plus, placed_at, IsIn64, axes_by, AreDifferences}
 use Rattle.twkb_body.specs.Devices.Quads.{ReadsPairs, IsInLane, IsLaneExtent}
 use Rattle.twkb_body.specs.Devices.Walk.{IsWalked}
@@ -54,13 +56,14 @@ differences_keep has_fourth more old new d = read_keeps (point_at (axes_by has_f
     fit = record { x = from_zero _ d.short.x; y = from_zero _ d.short.y; third = from_zero _ d.short.third; fourth = from_zero _ d.short.fourth }
 
 -- one point is a step
-pub one_step : (has_fourth : Bool) (more : Numbers) (at extent next : List ℕ) (r new : Reading) (inside : Bool) → AreDifferences has_fourth more r new
-    → ((apart e : Numbers) → at ≡ four_lanes apart → extent ≡ four_lanes e → Each IsInLane apart → Each IsLaneExtent e → HaveGone e apart (more ∷ []) next inside) → IsFurtherStep has_fourth at extent r new 1 next inside
-one_step has_fourth more at extent next r new inside d gone apart e at_is extent_is in_lanes wide = (more ∷ [], refl, (new, d, refl), gone apart e at_is extent_is in_lanes wide)
+pub one_step : (has_fourth : Bool) (more : Numbers) (at extent : List ℕ) (r new : Reading) (reached : Reached) → AreDifferences has_fourth more r new
+    → ((apart e : Numbers) → at ≡ four_lanes apart → extent ≡ four_lanes e → Each IsInLane apart → Each IsLaneExtent e → HaveGone e apart (more ∷ []) reached.at reached.inside)
+    → IsFurtherStep has_fourth at extent r new (record { points = 1; reached = reached })
+one_step has_fourth more at extent r new reached d gone apart e at_is extent_is in_lanes wide = (more ∷ [], refl, (new, d, refl), gone apart e at_is extent_is in_lanes wide)
 
 -- no point is a step to where it began
-pub no_step : (has_fourth : Bool) (at extent next : List ℕ) (r new : Reading) (points : ℕ) (inside : Bool) → points ≡ 0 → next ≡ at → inside ≡ true → new ≡ r → IsFurtherStep has_fourth at extent r new points next inside
-no_step has_fourth at extent next r new points inside none at_is inside_is same apart e at_lanes extent_lanes in_lanes wide =
+pub no_step : (has_fourth : Bool) (at extent : List ℕ) (r new : Reading) (step : Step) → step.points ≡ 0 → step.reached.at ≡ at → step.reached.inside ≡ true → new ≡ r → IsFurtherStep has_fourth at extent r new step
+no_step has_fourth at extent r new step none at_is inside_is same apart e at_lanes extent_lanes in_lanes wide =
     ([], sym none, same, record { at_is = at_is ∙ at_lanes; inside_is = inside_is })
 
 swapped : (a b : Bool) → a && b ≡ b && a
@@ -297,22 +300,49 @@ module _ (has_fourth : Bool) (bounds box : RawBox) (lanes extent : List ℕ) (fr
     wide = record { x = place.fits.x.wide; y = place.fits.y.wide; third = place.fits.third.wide; fourth = place.fits.fourth.wide }
 
     -- points that the box holds
-    pub further_held : (next : List ℕ) (inside : Bool) (new : Reading) (points : ℕ) → inside ≡ true → IsFurtherStep has_fourth lanes extent from new points next inside → IsHeldRun (axes_by has_fourth) (IsFurtherPlace has_fourth bounds box next extent) box start from new points
-    further_held next inside new points so steps =
-        let step = steps place.apart (extents box) place.lanes_are place.extent_is place.in_lanes wide in
-        at_held (after place.apart step.0) next new points step.3.at_is (subst (IsAt box has_fourth place.fits start from (after place.apart step.0) new) (omega (arith, step.1)) (all_inside box has_fourth place.fits start from step.0 place.apart from new 0 step.2 (sym step.3.inside_is ∙ so) begun))
+    further_held : (new : Reading) (step : Step) → step.reached.inside ≡ true → IsFurtherStep has_fourth lanes extent from new step → IsHeldRun (axes_by has_fourth) (IsFurtherPlace has_fourth bounds box step.reached.at extent) box start from new step.points
+    further_held new step so known =
+        let read = known place.apart (extents box) place.lanes_are place.extent_is place.in_lanes wide in
+        at_held (after place.apart read.0) step.reached.at new step.points read.3.at_is (subst (IsAt box has_fourth place.fits start from (after place.apart read.0) new) (omega (arith, read.1)) (all_inside box has_fourth place.fits start from read.0 place.apart from new 0 read.2 (sym read.3.inside_is ∙ so) begun))
 
     -- a point of any differences that the box holds
-    pub far_further_held : (next : List ℕ) (new : Reading) → IsFarPoint has_fourth box place.apart from new next → IsHeldRun (axes_by has_fourth) (IsFurtherPlace has_fourth bounds box next extent) box start from new 1
+    far_further_held : (next : List ℕ) (new : Reading) → IsFarPoint has_fourth box place.apart from new next → IsHeldRun (axes_by has_fourth) (IsFurtherPlace has_fourth bounds box next extent) box start from new 1
     far_further_held next new far = at_held far.there next new 1 far.lanes_are (far_inside box has_fourth place.fits start from place.apart from new next 0 far begun)
 
     -- points of which the box doesn't hold one
-    pub further_leave : (count : ℕ) (next : List ℕ) (inside : Bool) (new : Reading) (points : ℕ) → points ≤ count → inside ≡ false → IsFurtherStep has_fourth lanes extent from new points next inside → PointsLeave (axes_by has_fourth) count box start.last from
-    further_leave count next inside new points le so steps =
-        let step = steps place.apart (extents box) place.lanes_are place.extent_is place.in_lanes wide in
-        some_outside box has_fourth place.fits start from count step.0 place.apart from new 0 (omega (arith, step.1, le)) step.2 (sym step.3.inside_is ∙ so) begun
+    further_leave : (count : ℕ) (new : Reading) (step : Step) → step.points ≤ count → step.reached.inside ≡ false → IsFurtherStep has_fourth lanes extent from new step → PointsLeave (axes_by has_fourth) count box start.last from
+    further_leave count new step le so known =
+        let read = known place.apart (extents box) place.lanes_are place.extent_is place.in_lanes wide in
+        some_outside box has_fourth place.fits start from count read.0 place.apart from new 0 (omega (arith, read.1, le)) read.2 (sym read.3.inside_is ∙ so) begun
 
     -- a point that is malformed, or that the box doesn't hold
-    pub far_further_leaves : (count : ℕ) → 1 ≤ count → LeavesByPoint has_fourth box place.apart from → PointsLeave (axes_by has_fourth) count box start.last from
+    far_further_leaves : (count : ℕ) → 1 ≤ count → LeavesByPoint has_fourth box place.apart from → PointsLeave (axes_by has_fourth) count box start.last from
     far_further_leaves count le leaves =
         next_leaves (axes_by has_fourth) box start from count le (λ p stop e. ap (λ (s : PointValue). is_in_box (axes_by has_fourth) box (add s p)) place.is ∙ leaves p stop (ap (λ (s : PointValue). point_at (axes_by has_fourth) s from) (sym place.is) ∙ e))
+
+module _ (has_fourth : Bool) (bounds : RawBox) (lanes extent : List ℕ) (from new : Reading) (left : ℕ) where
+  -- where readers of three axes or four stand
+  abbrev further : RawBox → List ℕ → PointValue → Type 0
+  further box at = IsFurtherPlace has_fourth bounds box at extent
+
+  abbrev alone : PointValue → Trail
+  alone last = record { last = last; points = 0 }
+
+  -- points read by vectors are a step
+  pub further_step : (step : Step) → step.points ≤ left → IsFurtherStep has_fourth lanes extent from new step → IsLaneStep (axes_by has_fourth) left further lanes from new step
+  further_step step few known = record {
+    inside = λ so box trail place. further_held has_fourth bounds box lanes extent from trail place new step so known;
+    outside = λ so box last place. further_leave has_fourth bounds box lanes extent from (alone last) place left new step few so known;
+  }
+
+  -- a point of any differences is a step
+  pub far_further_step : (reached : Reached) → 1 ≤ left
+      → (reached.inside ≡ true → (apart : Numbers) → lanes ≡ four_lanes apart → Each IsInLane apart → IsFarPoint has_fourth bounds apart from new reached.at)
+      → (reached.inside ≡ false → (apart : Numbers) → lanes ≡ four_lanes apart → Each IsInLane apart → LeavesByPoint has_fourth bounds apart from)
+      → IsLaneStep (axes_by has_fourth) left further lanes from new (record { points = 1; reached = reached })
+  far_further_step reached one point leaves = record {
+    inside = λ so box trail place. far_further_held has_fourth bounds box lanes extent from trail place reached.at new
+        (subst (λ (b : RawBox). IsFarPoint has_fourth b place.apart from new reached.at) place.box_is (point so place.apart place.lanes_are place.in_lanes));
+    outside = λ so box last place. far_further_leaves has_fourth bounds box lanes extent from (alone last) place left one
+        (subst (λ (b : RawBox). LeavesByPoint has_fourth b place.apart from) place.box_is (leaves so place.apart place.lanes_are place.in_lanes));
+  }

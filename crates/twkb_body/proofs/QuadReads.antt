@@ -1,5 +1,5 @@
 -- Numbers that a vector holds, as pairs of differences that were read one after another.
-use Rattle.std.proofs.Common.{◌≡◌, ℕ, List, [], ◌∷◌, length, map, ℤ, pos, refl, ap, subst, ◌∙◌, arith, w16}
+use Rattle.std.proofs.Common.{◌≡◌, ℕ, List, [], ◌∷◌, length, map, ℤ, pos, refl, ap, subst, ◌∙◌, arith, w16, w32}
 use Rattle.std.proofs.lemmas.List.{length-map}
 use Rattle.std.specs.Int.{cast_signed}
 use Rattle.std.proofs.lemmas.Int.{ints}
@@ -13,13 +13,13 @@ use Rattle.twkb_body.specs.Devices.Quads.{ReadsPairs}
 brief_short : (z : ℤ) → IsBrief z → IsShort z
 brief_short z brief = (omega (arith, ints, brief.0), omega (arith, ints, brief.1))
 
-pub two_pairs_read : (a1 b1 a2 b2 : ℤ) (old new : Reading) → SpellsAllSigned (passed old new) (a1 ∷ b1 ∷ a2 ∷ b2 ∷ []) → IsMoved old new → All IsShort (a1 ∷ b1 ∷ a2 ∷ b2 ∷ [])
+two_pairs_read : (a1 b1 a2 b2 : ℤ) (old new : Reading) → SpellsAllSigned (passed old new) (a1 ∷ b1 ∷ a2 ∷ b2 ∷ []) → IsMoved old new → All IsShort (a1 ∷ b1 ∷ a2 ∷ b2 ∷ [])
     → ReadsPairs ((a1, b1) ∷ (a2, b2) ∷ []) old new
 two_pairs_read a1 b1 a2 b2 old new all moved short =
     let one = pair_and_others old new a1 b1 (a2 ∷ b2 ∷ []) all moved in
     (one.0, one.1, one.2, short 0 (pos 0) (omega arith), short 1 (pos 0) (omega arith), (new, last_pair one.0 new a2 b2 one.3, one.4, short 2 (pos 0) (omega arith), short 3 (pos 0) (omega arith), refl))
 
-pub four_pairs_read : (a1 b1 a2 b2 a3 b3 a4 b4 : ℤ) (old new : Reading) → SpellsAllSigned (passed old new) (a1 ∷ b1 ∷ a2 ∷ b2 ∷ a3 ∷ b3 ∷ a4 ∷ b4 ∷ []) → IsMoved old new
+four_pairs_read : (a1 b1 a2 b2 a3 b3 a4 b4 : ℤ) (old new : Reading) → SpellsAllSigned (passed old new) (a1 ∷ b1 ∷ a2 ∷ b2 ∷ a3 ∷ b3 ∷ a4 ∷ b4 ∷ []) → IsMoved old new
     → All IsBrief (a1 ∷ b1 ∷ a2 ∷ b2 ∷ a3 ∷ b3 ∷ a4 ∷ b4 ∷ []) → ReadsPairs ((a1, b1) ∷ (a2, b2) ∷ (a3, b3) ∷ (a4, b4) ∷ []) old new
 four_pairs_read a1 b1 a2 b2 a3 b3 a4 b4 old new all moved brief =
     let one = pair_and_others old new a1 b1 (a2 ∷ b2 ∷ a3 ∷ b3 ∷ a4 ∷ b4 ∷ []) all moved in
@@ -48,7 +48,7 @@ four_pairs_read a1 b1 a2 b2 a3 b3 a4 b4 old new all moved brief =
     )
 
 -- a list of four numbers, by its numbers
-pub four_of : (zs : List ℤ) → length zs ≡ 4 → (a b c d : ℤ) × (zs ≡ a ∷ b ∷ c ∷ d ∷ [])
+four_of : (zs : List ℤ) → length zs ≡ 4 → (a b c d : ℤ) × (zs ≡ a ∷ b ∷ c ∷ d ∷ [])
 four_of [] e = absurd (omega (arith, e))
 four_of (a ∷ []) e = absurd (omega (arith, e))
 four_of (a ∷ b ∷ []) e = absurd (omega (arith, e))
@@ -56,7 +56,7 @@ four_of (a ∷ b ∷ c ∷ []) e = absurd (omega (arith, e))
 four_of (a ∷ b ∷ c ∷ d ∷ []) e = (a, b, c, d, refl)
 four_of (a ∷ b ∷ c ∷ d ∷ z ∷ zs) e = absurd (omega (arith, e))
 
-pub eight_of : (zs : List ℤ) → length zs ≡ 8 → (a b c d e f g h : ℤ) × (zs ≡ a ∷ b ∷ c ∷ d ∷ e ∷ f ∷ g ∷ h ∷ [])
+eight_of : (zs : List ℤ) → length zs ≡ 8 → (a b c d e f g h : ℤ) × (zs ≡ a ∷ b ∷ c ∷ d ∷ e ∷ f ∷ g ∷ h ∷ [])
 eight_of [] is = absurd (omega (arith, is))
 eight_of (a ∷ []) is = absurd (omega (arith, is))
 eight_of (a ∷ b ∷ []) is = absurd (omega (arith, is))
@@ -64,6 +64,13 @@ eight_of (a ∷ b ∷ c ∷ []) is = absurd (omega (arith, is))
 eight_of (a ∷ b ∷ c ∷ d ∷ zs) is =
     let four = four_of zs (omega (arith, is)) in
     (a, b, c, d, four.0, four.1, four.2, four.3, ap (λ (ys : List ℤ). a ∷ b ∷ c ∷ d ∷ ys) four.4)
+
+-- four numbers in lanes that were read are two pairs
+pub four_pairs : (lanes : List ℕ) (old new : Reading) → length lanes ≡ 4 → SpellsAllSigned (passed old new) (map (cast_signed w32) lanes) → IsMoved old new → All IsShort (map (cast_signed w32) lanes)
+    → (a b c d : ℤ) × (map (cast_signed w32) lanes ≡ a ∷ b ∷ c ∷ d ∷ []) × ReadsPairs ((a, b) ∷ (c, d) ∷ []) old new
+four_pairs lanes old new long all moved short =
+    let e = four_of (map (cast_signed w32) lanes) (length-map lanes (cast_signed w32) ∙ long) in
+    (e.0, e.1, e.2, e.3, e.4, two_pairs_read e.0 e.1 e.2 e.3 old new (subst (λ (zs : List ℤ). SpellsAllSigned (passed old new) zs) e.4 all) moved (subst (All IsShort) e.4 short))
 
 -- eight numbers in lanes that were read are four pairs
 pub eight_pairs : (lanes : List ℕ) (old new : Reading) → length lanes ≡ 8 → SpellsAllSigned (passed old new) (map (cast_signed w16) lanes) → IsMoved old new → All IsBrief (map (cast_signed w16) lanes)

@@ -105,8 +105,7 @@ fn next_further<const AXES: usize>(cursor: &mut Cursor, left: u64, at: u32x4, ex
     ensures few { result.points ≤ left }
     ensures none { result.points ≡ 0 → cursor.new ≡ cursor.old }
     ensures bytes { cursor.new.bytes ≡ cursor.old.bytes }
-    ensures step { IsFurtherStep (is_four AXES) at extent cursor.old cursor.new result.points result.reached.at
-        result.reached.inside }
+    ensures step { IsFurtherStep (is_four AXES) at extent cursor.old cursor.new result }
 {
     if AXES != 4 {
         return point_of_three(cursor, at, extent);
@@ -126,8 +125,7 @@ fn point_of_three(cursor: &mut Cursor, at: u32x4, extent: u32x4) -> Step
     ensures few { result.points ≤ 1 }
     ensures none { result.points ≡ 0 → cursor.new ≡ cursor.old }
     ensures bytes { cursor.new.bytes ≡ cursor.old.bytes }
-    ensures step { IsFurtherStep false at extent cursor.old cursor.new result.points result.reached.at
-        result.reached.inside }
+    ensures step { IsFurtherStep false at extent cursor.old cursor.new result }
 {
     match take_three(cursor) {
         Some(more) => Step {
@@ -144,8 +142,7 @@ fn point_of_four(cursor: &mut Cursor, at: u32x4, extent: u32x4) -> Step
     ensures few { result.points ≤ 1 }
     ensures none { result.points ≡ 0 → cursor.new ≡ cursor.old }
     ensures bytes { cursor.new.bytes ≡ cursor.old.bytes }
-    ensures step { IsFurtherStep true at extent cursor.old cursor.new result.points result.reached.at
-        result.reached.inside }
+    ensures step { IsFurtherStep true at extent cursor.old cursor.new result }
 {
     let differences = cursor.svarint_four();
     if !differences.is_read {
@@ -163,8 +160,7 @@ fn two_points(cursor: &mut Cursor, at: u32x4, extent: u32x4) -> Step
     ensures few { result.points ≤ 2 }
     ensures none { result.points ≡ 0 → cursor.new ≡ cursor.old }
     ensures bytes { cursor.new.bytes ≡ cursor.old.bytes }
-    ensures step { IsFurtherStep true at extent cursor.old cursor.new result.points result.reached.at
-        result.reached.inside }
+    ensures step { IsFurtherStep true at extent cursor.old cursor.new result }
 {
     let differences = cursor.svarint_eight();
     if !differences.is_read {

@@ -2,11 +2,10 @@
 //! doesn't hold.
 //!
 //! A [`LaneReader`] reads the points. There is one for X and Y alone, and one for three axes or four.
-ghost use Rattle.std.specs.Prelude.{◌≡◌, ◌≤◌, true, false, ℕ, List};
+ghost use Rattle.std.specs.Prelude.{◌≡◌, ◌≤◌, ℕ, List};
 ghost use Rattle.twkb_head.specs.declared.raw.RawBox.{RawBox};
-ghost use Rattle.twkb_body.specs.declared.trail.Trail.{Trail};
 ghost use Rattle.twkb_body.specs.Geometry.{PointValue};
-ghost use Rattle.twkb_body.specs.Devices.LaneTrail.{IsHeldRun, PointsLeave};
+ghost use Rattle.twkb_body.specs.Devices.LaneTrail.{IsLaneStep};
 
 use crate::point_reader::PointReader;
 use crate::positions::Step;
@@ -28,13 +27,7 @@ pub trait LaneReader {
         requires place { (box : RawBox) × (last : PointValue) × place self.now box at extent last }
         ensures few { result.points ≤ left }
         ensures bytes { cursor.new.bytes ≡ cursor.old.bytes }
-        ensures inside { result.reached.inside ≡ true → (box : RawBox) (trail : Trail)
-            → place self.now box at extent trail.last
-            → IsHeldRun axes (place self.now box result.reached.at extent) box trail cursor.old cursor.new
-            result.points }
-        ensures outside { result.reached.inside ≡ false → (box : RawBox) (last : PointValue)
-            → place self.now box at extent last
-            → PointsLeave axes left box last cursor.old };
+        ensures step { IsLaneStep axes left (λ box lanes. place self.now box lanes extent) at cursor.old cursor.new result };
 
     /// Reads one point or more, `left` at most. If a point is malformed, `inside` is false, too.
     fn take_some(&self, cursor: &mut Cursor, left: u64, at: u32x4, extent: u32x4) -> Step
@@ -43,13 +36,7 @@ pub trait LaneReader {
         ensures some { 1 ≤ result.points }
         ensures few { result.points ≤ left }
         ensures bytes { cursor.new.bytes ≡ cursor.old.bytes }
-        ensures inside { result.reached.inside ≡ true → (box : RawBox) (trail : Trail)
-            → place self.now box at extent trail.last
-            → IsHeldRun axes (place self.now box result.reached.at extent) box trail cursor.old cursor.new
-            result.points }
-        ensures outside { result.reached.inside ≡ false → (box : RawBox) (last : PointValue)
-            → place self.now box at extent last
-            → PointsLeave axes left box last cursor.old };
+        ensures step { IsLaneStep axes left (λ box lanes. place self.now box lanes extent) at cursor.old cursor.new result };
 }
 
 /// How far a pass has come among points that a box has to hold.

@@ -5,6 +5,7 @@ use Rattle.std.specs.Int.{w32, cast_unsigned}
 use Rattle.twkb_num.specs.Cursor.{Reading}
 use Rattle.twkb_head.specs.declared.raw.RawBox.{RawBox}
 use Rattle.twkb_body.specs.declared.numbers.Numbers.{Numbers}
+use Rattle.twkb_body.specs.declared.positions.Step.{Step}
 use Rattle.twkb_body.specs.Geometry.{PointValue}
 use Rattle.twkb_body.specs.Devices.Body.{add}
 use Rattle.twkb_body.specs.Devices.BodyReader.{point_at}
@@ -53,11 +54,12 @@ abbrev pub ReadsPoints : Bool → List Numbers → Reading → Reading → Type 
 ReadsPoints has_fourth [] old new = new ≡ old
 ReadsPoints has_fourth (d ∷ ds) old new = (middle : Reading) × AreDifferences has_fourth d old middle × ReadsPoints has_fourth ds middle new
 
--- this many points were read, from the distances in lanes on
-abbrev pub IsFurtherStep : Bool → List ℕ → List ℕ → Reading → Reading → ℕ → List ℕ → Bool → Type 0
-IsFurtherStep has_fourth at extent old new points next inside =
+-- from the distances in these lanes on, the points of a step were read
+abbrev pub IsFurtherStep : Bool → List ℕ → List ℕ → Reading → Reading → Step → Type 0
+IsFurtherStep has_fourth at extent old new step =
     (apart e : Numbers) → at ≡ four_lanes apart → extent ≡ four_lanes e → Each IsInLane apart → Each IsLaneExtent e
-    → (differences : List Numbers) × (length differences ≡ points) × ReadsPoints has_fourth differences old new × HaveGone e apart differences next inside
+    → (differences : List Numbers) × (length differences ≡ step.points) × ReadsPoints has_fourth differences old new
+    × HaveGone e apart differences step.reached.at step.reached.inside
 
 -- a point was read from these distances on, which the box holds, and its distances are in these lanes
 pub record IsFarPoint (has_fourth : Bool) (box : RawBox) (apart : Numbers) (old new : Reading) (next : List ℕ) : Type 0 where

@@ -6,6 +6,7 @@ use Rattle.twkb_head.specs.declared.kinds.Kind.{Kind}
 use Rattle.twkb_head.specs.declared.raw.RawBox.{RawBox}
 use Rattle.twkb_head.specs.declared.raw.RawRange.{RawRange}
 use Rattle.twkb_head.specs.Shared.Reader.{Reader, many_at}
+use Rattle.twkb_body.specs.declared.positions.Step.{Step}
 use Rattle.twkb_body.specs.declared.trail.Trail.{Trail}
 use Rattle.twkb_body.specs.Geometry.{PointValue, points_of}
 use Rattle.twkb_body.specs.Devices.Body.{add, ring_sums, zeros}
@@ -46,6 +47,13 @@ LeavesBox axes each points_in box last from = Leads each points_in (held_then ax
 -- if this many points can be read after this one, the box doesn't hold them all
 abbrev pub PointsLeave : ℕ → ℕ → RawBox → PointValue → Reading → Type 0
 PointsLeave axes count box last from = LeavesBox axes (many_at count add (point_at axes)) (λ points. points) box last from
+
+-- A step was made among points of which this many were left. Its lanes are of each box that the lanes before it were of. If it ends
+-- inside, such a box holds the points of the step. If not, such a box doesn't hold all points that were left.
+pub record IsLaneStep (axes left : ℕ) (place : RawBox → List ℕ → PointValue → Type 0) (at : List ℕ) (old new : Reading) (step : Step) : Type 0 where
+  pub inside : step.reached.inside ≡ true → (box : RawBox) (trail : Trail) → place box at trail.last
+      → IsHeldRun axes (place box step.reached.at) box trail old new step.points
+  pub outside : step.reached.inside ≡ false → (box : RawBox) (last : PointValue) → place box at last → PointsLeave axes left box last old
 
 -- if the parts can be read, the box doesn't hold all their points
 abbrev pub LeaveBox : Kind → ℕ → ℕ → RawBox → Reading → Type 0

@@ -8,4 +8,4 @@ returns-in-Some-clause-bytes c = differences_keep false c.in-Some.more c.args.cu
 
 pub returns-in-Some-clause-step : goal.returns-in-Some-clause-step
 returns-in-Some-clause-step c =
-    one_step false c.in-Some.more c.args.at c.args.extent c.one_of_three.result.at c.args.cursor.now c.take_three.new.cursor c.one_of_three.result.inside c.in-Some.ensures.some c.one_of_three.ensures
+    one_step false c.in-Some.more c.args.at c.args.extent c.args.cursor.now c.take_three.new.cursor c.one_of_three.result c.in-Some.ensures.some c.one_of_three.ensures

@@ -15,13 +15,13 @@ take_first-first-requires g c =
 pub returns-then-not-first-clause-ended : goal.returns-then-not-first-clause-ended
 returns-then-not-first-clause-ended g c at s =
     stands_leave g.L.LaneReader.axes (λ box. g.L.LaneReader.place c.args.self.now.reader box c.args.self.now.at c.args.self.now.extent) c.args.self.now.points at s c.args.cursor.now c.take_first-first.new.cursor c.args.count
-    (c.take_first-first.ensures.outside (not-true _ c.if-not-first.true) s.box s.last s.there)
+    (c.take_first-first.ensures.step.outside (not-true _ c.if-not-first.true) s.box s.last s.there)
 
 pub loop-done-init : goal.loop-done-init
 loop-done-init g c = record {
   few = c.take_first-first.ensures.few;
   bytes = c.take_first-first.ensures.bytes;
-  read = λ at s. c.take_first-first.ensures.inside (not-false _ c.if-not-first.false) s.box (record { last = s.last; points = c.args.self.now.points }) s.there;
+  read = λ at s. c.take_first-first.ensures.step.inside (not-false _ c.if-not-first.false) s.box (record { last = s.last; points = c.args.self.now.points }) s.there;
 }
 
 pub take_some-step-requires : goal.take_some-step-requires
@@ -35,7 +35,7 @@ returns-then-not-step-clause-ended g c at s =
     let held = c.loop-done.invariant.read at s in
     stands_leave g.L.LaneReader.axes (λ box. g.L.LaneReader.place c.args.self.now.reader box c.args.self.now.at c.args.self.now.extent) c.args.self.now.points at s c.args.cursor.now c.take_some-step.new.cursor c.args.count
     (rest_leaves g.L.LaneReader.axes s.box (record { last = s.last; points = c.args.self.now.points }) c.args.cursor.now c.args.count c.loop-done.done held.after c.loop-done.cursor c.loop-done.invariant.few held.run
-    (c.take_some-step.ensures.outside (not-true _ c.if-not-step.true) s.box held.after.last held.there))
+    (c.take_some-step.ensures.step.outside (not-true _ c.if-not-step.true) s.box held.after.last held.there))
 
 pub returns-then-not-step-clause-bytes : goal.returns-then-not-step-clause-bytes
 returns-then-not-step-clause-bytes g c = c.take_some-step.ensures.bytes ∙ c.loop-done.invariant.bytes
@@ -47,7 +47,7 @@ loop-done-preserved g c = record {
   read = λ at s.
       let held = c.loop-done.invariant.read at s in
       held_goes_on g.L.LaneReader.axes s.box (record { last = s.last; points = c.args.self.now.points }) c.args.cursor.now (g.L.LaneReader.place c.args.self.now.reader s.box c.loop-done.at c.args.self.now.extent) (g.L.LaneReader.place c.args.self.now.reader s.box c.take_some-step.result.reached.at c.args.self.now.extent)
-      c.loop-done.cursor c.take_some-step.new.cursor c.loop-done.done c.take_some-step.result.points held (c.take_some-step.ensures.inside (not-false _ c.if-not-step.false) s.box held.after held.there);
+      c.loop-done.cursor c.take_some-step.new.cursor c.loop-done.done c.take_some-step.result.points held (c.take_some-step.ensures.step.inside (not-false _ c.if-not-step.false) s.box held.after held.there);
 }
 
 pub overflow_add-self : goal.overflow_add-self
