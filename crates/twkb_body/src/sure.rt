@@ -303,7 +303,9 @@ fn take_flat_body<R: IdRoom>(
     ensures { CertifiesBody depth head.now frame.now cursor.old result cursor.new }
 {
     if head.kind.is_collection() {
-        take_members(room, cursor, depth, head.ids, frame)
+        // A copy, so that the frame of a geometry without members stays in registers.
+        let below = *frame;
+        take_members(room, cursor, depth, head.ids, &below)
     } else {
         take_flat_shape(room, cursor, head, frame)
     }
@@ -327,7 +329,9 @@ fn take_further_body<R: IdRoom>(
     ensures { CertifiesBody depth head.now frame.now cursor.old result cursor.new }
 {
     if head.kind.is_collection() {
-        take_members(room, cursor, depth, head.ids, frame)
+        // A copy, as in `take_flat_body`.
+        let below = *frame;
+        take_members(room, cursor, depth, head.ids, &below)
     } else {
         take_further_shape(room, cursor, head, frame)
     }
@@ -335,7 +339,7 @@ fn take_further_body<R: IdRoom>(
 
 /// Reads the members of a collection at `depth`.
 #[cycle(take_flat)]
-#[inline(always)]
+#[inline(never)]
 fn take_members<R: IdRoom>(
     room: &mut R,
     cursor: &mut Cursor,
@@ -354,15 +358,13 @@ fn take_members<R: IdRoom>(
     if list.ids.is_some() {
         return Err(Doubt::Refused);
     }
-    // A copy, so that the frame of a geometry without members stays in registers.
-    let below = *frame;
     let mut vertices = 0;
     for _ in 0..list.count {
         cursor.place_is_within();
         let Some((first, metadata)) = cursor.two_bytes() else {
             return Err(Doubt::Refused);
         };
-        let member = take_sure(room, cursor, depth + 1, &below, first, metadata)?;
+        let member = take_sure(room, cursor, depth + 1, frame, first, metadata)?;
         cursor.place_is_within();
         vertices += member;
     }
