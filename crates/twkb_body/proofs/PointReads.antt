@@ -1,18 +1,19 @@
 -- What readers of points read: counts, rings, polygons and parts, from what they read of each part.
-use Rattle.std.proofs.Common.{◌≡◌, ℕ, zero, suc, ◌+◌, ◌-◌, ◌<◌, ◌≤◌, List, [], ◌∷◌, ◌++◌, fold, flat_map, map, Ok, Err, Option, Some, None, refl, sym, ap, subst, ◌∙◌, arith}
+use Rattle.std.proofs.Common.{◌≡◌, ℕ, zero, suc, ◌+◌, ◌-◌, ◌<◌, ◌≤◌, List, [], ◌∷◌, ◌++◌, fold, flat_map, map, replicate, Ok, Err, Option, Some, None, refl, sym, ap, subst, ◌∙◌, arith}
 use Rattle.std.proofs.lemmas.Grind.{flat_map-append}
 use Rattle.std.proofs.lemmas.List.{append-nil}
 use Rattle.std.proofs.lemmas.List.Sums.{fold-append}
 use Rattle.std.specs.Prelude.{IfSome}
 use Rattle.twkb_num.specs.Cursor.{Reading}
+use Rattle.twkb_head.specs.declared.kinds.Kind.TheVariants.{GeometryCollection}
 use Rattle.twkb_head.specs.declared.refusal.Malformed.{Malformed}
 use Rattle.twkb_head.specs.Shared.Reader.{Answer, Reader, ◌>>=◌, viewed, number_at, many_at, Fails}
 use Rattle.twkb_head.proofs.Loops.{first_fails, then_fails}
 use Rattle.twkb_head.proofs.Readings.{ok_not_err}
 use Rattle.twkb_body.specs.declared.trail.Trail.{Trail}
 use Rattle.twkb_body.specs.Geometry.{PointValue, PolygonValue, points_of}
-use Rattle.twkb_body.specs.Devices.Body.{add, sums, ring_sums}
-use Rattle.twkb_body.specs.Devices.BodyReader.{point_at}
+use Rattle.twkb_body.specs.Devices.Body.{add, sums, ring_sums, part_points}
+use Rattle.twkb_body.specs.Devices.BodyReader.{point_at, ring_at, part_at}
 use Rattle.twkb_body.specs.Devices.PointReader.{Stage, on, IsReady, HasRead, Leads, EndsEarly}
 use Rattle.twkb_body.specs.Devices.Walk.{lasts_from, IsWalked}
 use Rattle.twkb_body.proofs.RefutedBodies.{viewed_back}
@@ -26,32 +27,60 @@ counted_at after each s r = number_at r >>= λ n. many_at n after each s
 viewed_fails : {A B : Type 0} (f : A → B) (a : Answer A) (m : Malformed) (new : Reading) → Fails a m new → Fails (viewed f a) m new
 viewed_fails {A} f a m new fails = record { left = fails.left; is = ap (λ (a : Answer A). viewed f a) fails.is; bytes = fails.bytes }
 
--- a line is a polygon of one ring
-pub ring_alone : (line : List PointValue) → line ≡ flat_map (λ ring. ring) (line ∷ [])
-ring_alone line = sym (append-nil line)
-
 -- the part that a point is: one line, of one point
-abbrev pub alone : PointValue → PolygonValue
-alone p = (p ∷ []) ∷ []
+abbrev pub point_part : PointValue → PolygonValue
+point_part p = (p ∷ []) ∷ []
 
--- points are read as parts, each of one point
-pub points_apart : (axes n : ℕ) (s : PointValue) (r : Reading) → viewed (map alone) (many_at n add (point_at axes) s r) ≡ many_at n ring_sums (λ s r. viewed alone (point_at axes s r)) s r
-points_apart axes zero s r = refl
-points_apart axes (suc n) s r = go (λ p q. points_apart axes n (add s p) q) (point_at axes s r)
-  where
-    first : (p : PointValue) (a : Answer (List PointValue)) → viewed (map alone) (viewed (λ xs. p ∷ xs) a) ≡ viewed (λ ys. alone p ∷ ys) (viewed (map alone) a)
-    first p (Ok xs, q) = refl
-    first p (Err m, q) = refl
+-- the part that a line is: one ring
+abbrev pub line_part : List PointValue → PolygonValue
+line_part line = line ∷ []
 
-    go : (rest : (p : PointValue) (q : Reading) → viewed (map alone) (many_at n add (point_at axes) (add s p) q) ≡ many_at n ring_sums (λ s r. viewed alone (point_at axes s r)) (add s p) q) (a : Answer PointValue)
-        → viewed (map alone) (a >>= λ x q. viewed (λ xs. x ∷ xs) (many_at n add (point_at axes) (add s x) q)) ≡ (viewed alone a >>= λ y q. viewed (λ ys. y ∷ ys) (many_at n ring_sums (λ s r. viewed alone (point_at axes s r)) (ring_sums s y) q))
-    go rest (Ok p, q) = first p (many_at n add (point_at axes) (add s p) q) ∙ ap (viewed (λ ys. alone p ∷ ys)) (rest p q)
-    go rest (Err m, q) = refl
+-- to read values and make another of each is to read the others
+module _ {A B : Type 0} (f : A → B) (after : PointValue → A → PointValue) (after_f : PointValue → B → PointValue) (each : PointValue → Reader A) (same : (s : PointValue) (x : A) → after s x ≡ after_f s (f x)) where
+  abbrev made : PointValue → Reader B
+  made s r = viewed f (each s r)
+
+  each_made : (n : ℕ) (s : PointValue) (r : Reading) → viewed (map f) (many_at n after each s r) ≡ many_at n after_f made s r
+  each_made zero s r = refl
+  each_made (suc n) s r = go (λ t q. each_made n t q) (each s r)
+    where
+      first : (x : A) (a : Answer (List A)) → viewed (map f) (viewed (λ xs. x ∷ xs) a) ≡ viewed (λ ys. f x ∷ ys) (viewed (map f) a)
+      first x (Ok xs, q) = refl
+      first x (Err m, q) = refl
+
+      go : (rest : (t : PointValue) (q : Reading) → viewed (map f) (many_at n after each t q) ≡ many_at n after_f made t q) (a : Answer A)
+          → viewed (map f) (a >>= λ x q. viewed (λ xs. x ∷ xs) (many_at n after each (after s x) q)) ≡ (viewed f a >>= λ y q. viewed (λ ys. y ∷ ys) (many_at n after_f made (after_f s y) q))
+      go rest (Ok x, q) = first x (many_at n after each (after s x) q) ∙ ap (viewed (λ ys. f x ∷ ys)) (rest (after s x) q ∙ ap (λ (t : PointValue). many_at n after_f made t q) (same s x))
+      go rest (Err m, q) = refl
+
+  pub all_made : (n : ℕ) → (λ (s : PointValue) (r : Reading). viewed (map f) (many_at n after each s r)) ≡ many_at n after_f made
+  all_made n j s r = each_made n s r j
+
+-- points are read as parts
+pub points_apart : (axes n : ℕ) → (λ (s : PointValue) (r : Reading). viewed (map point_part) (many_at n add (point_at axes) s r)) ≡ many_at n ring_sums (λ s r. viewed point_part (point_at axes s r))
+points_apart axes = all_made point_part add ring_sums (point_at axes) (λ s p. refl)
+
+-- lines are read as parts
+pub lines_apart : (axes n : ℕ) → (λ (s : PointValue) (r : Reading). viewed (map line_part) (many_at n sums (ring_at axes) s r)) ≡ many_at n ring_sums (λ s r. viewed line_part (ring_at axes s r))
+lines_apart axes = all_made line_part sums ring_sums (ring_at axes) (λ s line. refl)
 
 -- the points of such parts
-pub points_alone : (ps : List PointValue) → ps ≡ points_of (map alone ps)
+pub points_alone : (ps : List PointValue) → ps ≡ points_of (map point_part ps)
 points_alone [] = refl
 points_alone (p ∷ ps) = ap (λ (xs : List PointValue). p ∷ xs) (points_alone ps)
+
+pub lines_alone : (lines : List (List PointValue)) → part_points lines ≡ points_of (map line_part lines)
+lines_alone [] = refl
+lines_alone (line ∷ lines) = (λ j. sym (append-nil line) j ++ lines_alone lines j)
+
+-- a collection has no parts of its own: to read some of them reads nothing
+pub nothing_read : (axes n : ℕ) (s : PointValue) (r : Reading) → many_at n ring_sums (part_at GeometryCollection axes) s r ≡ (Ok (replicate n []), r)
+nothing_read axes zero s r = refl
+nothing_read axes (suc n) s r = ap (viewed (λ xs. [] ∷ xs)) (nothing_read axes n s r)
+
+pub nothing_has : (n : ℕ) → points_of (replicate n []) ≡ []
+nothing_has zero = refl
+nothing_has (suc n) = nothing_has n
 
 module _ {S : Type 0} (step : S → PointValue → S) (at : Stage S) where
   -- ---- what is read, at whatever stage the reader stands after it

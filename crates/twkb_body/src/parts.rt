@@ -1,10 +1,9 @@
 //! The parts of a body: points, lines and polygons. The first reading and the exact audit both read them here, each with its own
 //! [`PointReader`].
-ghost use Rattle.std.specs.Prelude.{◌≡◌, ◌≢◌, IfOk, IfErr, flat_map};
-ghost use Rattle.twkb_head.specs.declared.kinds.Kind.TheVariants.{Point, MultiPoint};
+ghost use Rattle.std.specs.Prelude.{◌≡◌, IfOk, IfErr};
 ghost use Rattle.twkb_head.specs.Shared.Reader.{many_at};
-ghost use Rattle.twkb_body.specs.Devices.Body.{ring_sums};
-ghost use Rattle.twkb_body.specs.Devices.BodyReader.{ring_at, polygon_at, part_at};
+ghost use Rattle.twkb_body.specs.Devices.Body.{add, sums, ring_sums, part_points};
+ghost use Rattle.twkb_body.specs.Devices.BodyReader.{point_at, ring_at, polygon_at, part_at};
 ghost use Rattle.twkb_body.specs.Geometry.{points_of};
 ghost use Rattle.twkb_body.specs.Devices.PointReader.{Stage, IsReady, HasRead, EndsEarly};
 
@@ -14,8 +13,7 @@ use twkb_head::Kind;
 use twkb_num::Cursor;
 
 /// Reads `count` parts of a kind.
-// Out of line: the compiler inlines nothing into a function that would grow very large.
-#[inline(never)]
+#[inline(always)]
 pub fn take_parts<R: PointReader>(
     cursor: &mut Cursor,
     kind: Kind,
@@ -31,77 +29,77 @@ pub fn take_parts<R: PointReader>(
         cursor.old cursor.new) }
     ensures bytes { cursor.new.bytes ≡ cursor.old.bytes }
 {
-    // No count stands before a point, so all points are one run.
-    if let Kind::Point | Kind::MultiPoint = kind {
-        return reader.take_points(cursor, count);
-    }
-    for _ in 0..count {
-        take_part(cursor, kind, reader)?;
-    }
-    Ok(())
-}
-
-/// Reads one part, a line or a polygon, by the kind.
-#[inline(always)]
-fn take_part<R: PointReader>(
-    cursor: &mut Cursor,
-    kind: Kind,
-    reader: &mut R,
-) -> Result<(), R::Fault>
-    requires one_point { kind ≢ Point }
-    requires many_points { kind ≢ MultiPoint }
-    requires ready { IsReady (R.stands reader.old) cursor.old }
-    ensures read { IfOk result (λ done. (at : Stage R.State) → R.stands reader.old at
-        → HasRead (part_at kind at.axes) (λ part. flat_map (λ ring. ring) part) R.step (R.stands reader.new) at
-        cursor.old cursor.new) }
-    ensures ended { IfErr result (λ fault. (at : Stage R.State) → R.stands reader.old at
-        → EndsEarly (part_at kind at.axes) (λ part. flat_map (λ ring. ring) part) R.step R.ends (R.tells fault) at
-        cursor.old cursor.new) }
-    ensures bytes { cursor.new.bytes ≡ cursor.old.bytes }
-{
     match kind {
-        Kind::Point | Kind::MultiPoint => unreachable!(),
-        Kind::LineString | Kind::MultiLineString => take_ring(cursor, reader),
-        Kind::Polygon | Kind::MultiPolygon => take_polygon(cursor, reader),
+        // No count precedes a point, so all points are one run.
+        Kind::Point | Kind::MultiPoint => take_run(cursor, count, reader),
+        Kind::LineString | Kind::MultiLineString => take_rings(cursor, count, reader),
+        Kind::Polygon | Kind::MultiPolygon => take_polygons(cursor, count, reader),
         Kind::GeometryCollection => Ok(()),
     }
 }
 
-/// Reads the rings of a polygon.
-// Out of line, for the reason given at `take_parts`.
+/// Reads points that no count precedes.
+// Out of line, as are the next two: the compiler inlines nothing into a function that would grow very large.
 #[inline(never)]
-fn take_polygon<R: PointReader>(cursor: &mut Cursor, reader: &mut R) -> Result<(), R::Fault>
+fn take_run<R: PointReader>(cursor: &mut Cursor, count: u64, reader: &mut R) -> Result<(), R::Fault>
     requires ready { IsReady (R.stands reader.old) cursor.old }
     ensures read { IfOk result (λ done. (at : Stage R.State) → R.stands reader.old at
-        → HasRead (polygon_at at.axes) (λ polygon. flat_map (λ ring. ring) polygon) R.step (R.stands reader.new) at
-        cursor.old cursor.new) }
+        → HasRead (many_at count add (point_at at.axes)) (λ points. points) R.step (R.stands reader.new) at cursor.old
+        cursor.new) }
     ensures ended { IfErr result (λ fault. (at : Stage R.State) → R.stands reader.old at
-        → EndsEarly (polygon_at at.axes) (λ polygon. flat_map (λ ring. ring) polygon) R.step R.ends (R.tells fault)
-        at cursor.old cursor.new) }
+        → EndsEarly (many_at count add (point_at at.axes)) (λ points. points) R.step R.ends (R.tells fault) at
+        cursor.old cursor.new) }
     ensures bytes { cursor.new.bytes ≡ cursor.old.bytes }
 {
-    let count = match take_number(cursor) {
-        Ok(count) => count,
-        Err(malformed) => return Err(R::fault_of(malformed)),
-    };
+    reader.take_points(cursor, count)
+}
+
+/// Reads `count` rings, or lines.
+#[inline(never)]
+fn take_rings<R: PointReader>(
+    cursor: &mut Cursor,
+    count: u64,
+    reader: &mut R,
+) -> Result<(), R::Fault>
+    requires ready { IsReady (R.stands reader.old) cursor.old }
+    ensures read { IfOk result (λ done. (at : Stage R.State) → R.stands reader.old at
+        → HasRead (many_at count sums (ring_at at.axes)) part_points R.step (R.stands reader.new) at cursor.old
+        cursor.new) }
+    ensures ended { IfErr result (λ fault. (at : Stage R.State) → R.stands reader.old at
+        → EndsEarly (many_at count sums (ring_at at.axes)) part_points R.step R.ends (R.tells fault) at cursor.old
+        cursor.new) }
+    ensures bytes { cursor.new.bytes ≡ cursor.old.bytes }
+{
     for _ in 0..count {
-        take_ring(cursor, reader)?;
+        match take_number(cursor) {
+            Ok(points) => reader.take_points(cursor, points)?,
+            Err(malformed) => return Err(R::fault_of(malformed)),
+        }
     }
     Ok(())
 }
 
-/// Reads the points of a ring, or of a line.
-#[inline(always)]
-fn take_ring<R: PointReader>(cursor: &mut Cursor, reader: &mut R) -> Result<(), R::Fault>
+/// Reads `count` polygons.
+#[inline(never)]
+fn take_polygons<R: PointReader>(
+    cursor: &mut Cursor,
+    count: u64,
+    reader: &mut R,
+) -> Result<(), R::Fault>
     requires ready { IsReady (R.stands reader.old) cursor.old }
     ensures read { IfOk result (λ done. (at : Stage R.State) → R.stands reader.old at
-        → HasRead (ring_at at.axes) (λ ring. ring) R.step (R.stands reader.new) at cursor.old cursor.new) }
+        → HasRead (many_at count ring_sums (polygon_at at.axes)) points_of R.step (R.stands reader.new) at cursor.old
+        cursor.new) }
     ensures ended { IfErr result (λ fault. (at : Stage R.State) → R.stands reader.old at
-        → EndsEarly (ring_at at.axes) (λ ring. ring) R.step R.ends (R.tells fault) at cursor.old cursor.new) }
+        → EndsEarly (many_at count ring_sums (polygon_at at.axes)) points_of R.step R.ends (R.tells fault) at cursor.old
+        cursor.new) }
     ensures bytes { cursor.new.bytes ≡ cursor.old.bytes }
 {
-    match take_number(cursor) {
-        Ok(count) => reader.take_points(cursor, count),
-        Err(malformed) => Err(R::fault_of(malformed)),
+    for _ in 0..count {
+        match take_number(cursor) {
+            Ok(rings) => take_rings(cursor, rings, reader)?,
+            Err(malformed) => return Err(R::fault_of(malformed)),
+        }
     }
+    Ok(())
 }
