@@ -1,4 +1,4 @@
-//! The box that the vertices of a geometry have to lie in: its own, or the box of a geometry above.
+//! The box that the vertices of a geometry have to lie in: its own, or the box of a collection around it.
 ghost use Rattle.std.specs.Prelude.{◌≡◌, ◌<◌, ◌^◌, ℕ, true, Option, IfSome, OnSome, IsTrue, not, option_map};
 ghost use Rattle.twkb_head.specs.Raw.{raw_bounds};
 ghost use Rattle.twkb_body.specs.Devices.BoxTest.{IsNearRange};
@@ -17,9 +17,10 @@ pub struct Frame {
 }
 
 impl Frame {
-    /// The frame of a geometry: its own box or, if it has none, the frame above. `None` if this can't be told. Then its box has
-    /// numbers far from zero or a negative extent. Or there is a frame above, and that frame has other axes or precisions, or
-    /// doesn't contain the box.
+    /// The frame of a geometry: its own box or, if it has none, the frame above. `Some(None)` if neither is there.
+    ///
+    /// `None` if a frame doesn't tell enough, and the geometry has to be read apart: its box has numbers far from zero or a
+    /// negative extent, or the frame above has other axes or precisions, or doesn't contain the box.
     #[inline(always)]
     pub fn under(above: &Option<Frame>, head: &Head, own: &Option<RawBox>) -> Option<Option<Frame>>
         requires near { IfSome above.now IsNearFrame }

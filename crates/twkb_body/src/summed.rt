@@ -1,4 +1,4 @@
-//! Points that no box asks for: their coordinates are only summed, to find one that leaves 64 bits.
+//! Points that no box has to hold: their coordinates are only summed, to find one that doesn't fit 64 bits.
 ghost use Rattle.std.specs.Prelude.{◌≤◌};
 ghost use Rattle.twkb_body.specs.Devices.Bare.{unchanged};
 ghost use Rattle.twkb_body.specs.Devices.Walk.{IsRun};

@@ -50,7 +50,8 @@ const SIZES: (usize, usize) = (std::mem::size_of::<Scanned>(), std::mem::size_of
 
 const _: () = prove!(SIZES.0 == 16 && SIZES.1 == 24);
 
-/// Finds the blobs that have a vertex inside the window, and writes them to `room` in file order, as many as fit.
+/// Finds the blobs that have a vertex inside the window, and writes them to `room` in file order, as many as fit. Returns how many
+/// there are, and how many bytes were read.
 pub fn scan(layer: &Layer, window: &Window, room: &mut [Hit]) -> Scanned
     requires { IsCounted layer.now.bytes.now layer.now.blobs layer.now.vertices }
     ensures hits { OfLayer layer.now.bytes.now (λ trees. result.hits ≡ length (hits trees (ranges_of window.now))) }

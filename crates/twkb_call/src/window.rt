@@ -1,4 +1,4 @@
-//! [`Window`], a window in words of 64 bits, the parser of its text, and ranges of decimals.
+//! [`Window`], a window in numbers of 64 bits, the parser of its text, and ranges of decimal numbers.
 ghost use Rattle.std.specs.Prelude.{◌≡◌, ◌≢◌, ◌≤◌, if◌then◌else◌, true, false};
 ghost use Rattle.twkb_head.specs.declared.boxes.Bounds.{Bounds};
 ghost use Rattle.twkb_layer.specs.Decimals.{Decimal, IsDecimalText, is_less, rational_of, span_of_decimals};
@@ -92,7 +92,7 @@ impl Range {
 }
 
 impl Window {
-    /// The window of these ranges.
+    /// A window of `twkb_layer`, in numbers of 64 bits.
     fn of(window: &twkb_layer::Window) -> Window
         ensures { ranges_of result ≡ window.now }
     {

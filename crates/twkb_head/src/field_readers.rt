@@ -1,7 +1,7 @@
 //! The fields of a header, each read by itself.
 //!
-//! Each function answers as a reader in `specs/` does (`byte_at`, `number_at`, ..): a value, with the cursor after the
-//! field, or the field's place and the reason why it is malformed.
+//! Each reader answers as the one of `specs/` does that its contract names (`byte_at`, `number_at`, ..): a value, with the cursor
+//! after the field, or the place of the field and why it is malformed.
 ghost use Rattle.std.specs.Prelude.{◌≡◌, ◌≤◌, ◌-◌, IfOk};
 ghost use Rattle.twkb_num.specs.Units.{IsPrecision};
 ghost use Rattle.twkb_head.specs.BegunHeader.{deepest};
@@ -72,7 +72,7 @@ pub fn take_signed(cursor: &mut Cursor) -> Result<i64, Malformed>
     }
 }
 
-/// Makes the refusal for this fault of the number at the place.
+/// The refusal of the number at the cursor's place, which has this fault.
 #[cold]
 pub fn malformed(cursor: &Cursor, fault: NumFault) -> Malformed
     ensures offset { result.offset ≡ cursor.now.place }

@@ -1,4 +1,4 @@
-//! Varints from the next 32 bytes, read into the lanes of vectors.
+//! Varints at the front of 16 or 32 bytes, read into the lanes of vectors.
 ghost use Rattle.std.specs.Prelude.{◌≡◌, ◌+◌, ◌<◌, ◌≤◌, ◌/◌, ◌%◌, ◌^◌, ℕ, ℤ, List, [], ◌∷◌, map, slice_index, take, All};
 ghost use Rattle.std.specs.Int.{w16, w32, cast_signed};
 ghost use Rattle.twkb_num.specs.Varint.{zigzag_value, SpellsAll, SpellsAllSigned, IsShort, IsBrief, HasLong};
@@ -150,7 +150,7 @@ fn picked(v: u8x16, places: u8x16) -> u8x16
     v.swizzle_dyn(places & u8x16::splat(0x8f))
 }
 
-/// The first eight bytes of one vector, and then the first eight of another.
+/// The first eight bytes of `lo`, and then the first eight of `hi`.
 #[inline(always)]
 fn low_halves(lo: u8x16, hi: u8x16) -> u8x16
     ensures low { (i : ℕ) → i < 8 → slice_index result i ≡ slice_index lo i }

@@ -1,7 +1,7 @@
 //! What a command line requests.
 //!
-//! `clap` parses the words by the command (`command`). What it found (`found`) becomes a [`Line`], whose windows are parsed
-//! from their texts (`windows`). `specs/Words.antt` defines what each of these returns.
+//! `clap` parses the words as the module `command` says. The module `found` makes a [`Line`] of what it found, and the module
+//! `windows` parses the windows. `specs/Words.antt` defines what the functions of all three return.
 ghost use Rattle.std.specs.List.{list_all};
 ghost use Rattle.std.specs.Prelude.{◌≡◌, ◌≢◌, List, [], ◌∷◌, map, codes, true, IfOk, IfErr, OnOk, IsErrAnd};
 ghost use Rattle.clap.specs.Words.{Text, fault_of, found_of, rows_of, subcommand_of, subcommand_rows_of};
@@ -81,7 +81,7 @@ fn line_by_clap<S: AsStr>(alloc: Global, words: &[S]) -> Result<Line, Usage>
     }
 }
 
-/// The matches that `clap` finds among the words.
+/// The words as `clap` parses them, or why it refuses them.
 fn matches_of<'a, S: AsStr>(alloc: Global, words: &'a [S]) -> Result<ArgMatches<'a>, Usage>
     ensures ok { IfOk result (λ m. subcommand_rows_of m ≡ subcommand_of tool_app (map S.text words.entry.now)) }
     ensures parsed { OnOk result (fault_of tool_app (map S.text words.entry.now) ≡ []) }

@@ -1,6 +1,6 @@
 //! The library for a web page. It has no heap and no state: the page lends all memory that a call needs.
 //!
-//! A call takes a slice as a pointer and a length. Bytes are copied into the module's memory first.
+//! A call takes a slice as a pointer and a length. The page copies bytes into the module's memory before the call.
 #![tactic(auto)]
 
 ghost use Rattle.std.specs.Prelude.{◌≡◌, ◌≢◌, ◌≤◌, if◌then◌else◌, true, false, List, length, map, sum_by, ◌⊎◌};
@@ -85,7 +85,8 @@ pub extern "C" fn twkb_span_of_decimals(lo: &[u8], hi: &[u8], span: &mut Range) 
     twkb_call::span_of_decimals(lo, hi, span)
 }
 
-/// Finds the blobs that have a vertex inside the window, and writes them to `room` in file order, as many as fit.
+/// Finds the blobs that have a vertex inside the window, and writes them to `room` in file order, as many as fit. Returns how many
+/// there are, and how many bytes were read.
 #[unsafe(no_mangle)]
 pub extern "C" fn twkb_scan(layer: &Layer, window: &Window, room: &mut [Hit]) -> Scanned
     requires { IsCounted layer.now.bytes.now layer.now.blobs layer.now.vertices }
