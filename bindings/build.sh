@@ -1,21 +1,30 @@
 #!/bin/sh
-# Builds build/bindings/libtwkb.a and libtwkb.so out of the proved static library. usage: bindings/build.sh [--second]
+# Builds build/bindings/libtwkb.a and libtwkb.so out of the proved static library.
+# usage: bindings/build.sh [--second|--sources]
 # `make library` proves the libraries below it before.
 # With --second it is build/bindings/second/libtwkb.a alone, by the kit's second compiler, to compare the answers of both.
+# With --sources it builds nothing, and prints what the library is made of beside the crates.
 # Wants rt of the Rattle kit, ar and gcc. If the libraries are current, nothing is done; with --second they are always built.
 set -eu
-top=$(cd "$(dirname "$0")/.." && pwd)
+cd "$(dirname "$0")/.."
+top=$PWD
 out=$top/build/bindings
+mode=${1-}
+# What it is made of, as dist.sh asks too.
+set -- bindings/build.sh bindings/prove.sh bindings/exports.map bindings/c/version.c bindings/c/twkb.h
+if [ "$mode" = --sources ]; then
+    printf '%s\n' "$@"
+    exit 0
+fi
 kit=$(dirname "$(rt doc)")
 backend=llvm
-case ${1-} in
+case $mode in
     --second) out=$out/second backend=rattle ;;
     '') ;;
-    *) echo "usage: bindings/build.sh [--second]" >&2; exit 2 ;;
+    *) echo "usage: bindings/build.sh [--second|--sources]" >&2; exit 2 ;;
 esac
-ours=$top/bindings
-if [ $backend = llvm ] && [ -f "$out/libtwkb.so.0" ] && [ -f "$out/libtwkb.a" ] && "$top/tools/is_current.sh" "$out/libtwkb.so" \
-    "$ours/build.sh" "$ours/prove.sh" "$ours/exports.map" "$ours/c/version.c" "$ours/c/twkb.h"; then
+if [ $backend = llvm ] && [ -f "$out/libtwkb.so.0" ] && [ -f "$out/libtwkb.a" ] \
+    && tools/is_current.sh "$out/libtwkb.so" "$@"; then
     echo "$out/libtwkb.a and libtwkb.so are current"
     exit 0
 fi

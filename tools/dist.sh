@@ -38,8 +38,11 @@ changes=$(git status --porcelain)
 sources=$(tools/sources.sh)
 proved build build/twkb_tool
 proved library build/bindings/libtwkb.so
-for library in libtwkb.a libtwkb.so libtwkb.so.0; do
-    made library "build/bindings/$library" bindings/build.sh bindings/prove.sh bindings/exports.map bindings/c/version.c bindings/c/twkb.h
+parts=$(bindings/build.sh --sources)
+for part in $parts; do
+    for library in libtwkb.a libtwkb.so libtwkb.so.0; do
+        made library "build/bindings/$library" "$part"
+    done
 done
 proved page build/web/twkb_web.wasm
 made page build/web/twkb_web.wasm bindings/web/build.sh bindings/prove.sh
