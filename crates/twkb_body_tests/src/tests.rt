@@ -1,7 +1,8 @@
 //! The answers of audits and skims: for blobs whose answers are known from the format's own words, and for others by a plain
 //! reader; and memory that runs out.
-use self::blobs::{CERTIFIED, FALLING_IDS, SEVENTEEN_IDS};
+use self::blobs::CERTIFIED;
 use self::faults::{FALSE, MALFORMED};
+use random_layers::{FALLING_IDS, SEVENTEEN_IDS};
 use refusing::Refusing;
 use std::alloc::Global;
 use std::fmt::Debug;

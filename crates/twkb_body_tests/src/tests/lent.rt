@@ -1,7 +1,8 @@
 //! Audits with a lent buffer for the ids of a list.
-use super::blobs::{CERTIFIED, FALLING_IDS, SEVENTEEN_IDS};
+use super::blobs::CERTIFIED;
 use super::faults::{FALSE, MALFORMED};
 use super::{equal, false_claim, malformed, whole};
+use random_layers::{FALLING_IDS, SEVENTEEN_IDS};
 use std::process::Abort;
 use twkb_body::{Audit, AuditFault, Claim, Cursor, audit_lent, audit_tight_lent};
 

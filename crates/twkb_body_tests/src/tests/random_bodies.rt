@@ -1,7 +1,7 @@
 //! Geometries at random of each kind but a collection, each against a plain reader: numbers of each length, sums that leave 64
 //! bits, boxes whose ends are met or missed by one, and the end of the bytes at each distance.
 use super::bytes::{number_of, put, put_bytes, put_padded, put_unsigned};
-use super::variants::both_agree;
+use super::variants::random_blobs_agree;
 use random_layers::Dice;
 use std::alloc::{AllocError, Global};
 use std::test::Fail;
@@ -127,13 +127,7 @@ pub fn geometry(alloc: Global, dice: &mut Dice) -> Result<Vec<u8>, AllocError> {
 
 #[test]
 fn random_geometries(rt: HostRuntime) -> Result<(), Fail> {
-    let mut certified = 0u64;
-    for seed in 0..4000 {
-        let bytes = geometry(rt.alloc(), &mut Dice::new(seed))?;
-        if both_agree(&rt, rt.alloc(), &bytes) {
-            certified = certified.saturating_add(1);
-        }
-    }
+    let certified = random_blobs_agree(&rt, rt.alloc(), geometry)?;
     assert!(&rt; 1500 < certified && certified < 3500, "{certified}");
     Ok(())
 }

@@ -1,7 +1,7 @@
 //! Collections at random, in boxes that are right, wider or narrower by one, mostly at one precision, against the plain
 //! reader.
 use super::bytes::{put, put_bytes, put_unsigned};
-use super::variants::both_agree;
+use super::variants::random_blobs_agree;
 use random_layers::Dice;
 use std::alloc::{AllocError, Global};
 use std::test::Fail;
@@ -171,13 +171,7 @@ fn blob(alloc: Global, dice: &mut Dice) -> Result<Vec<u8>, AllocError> {
 // Many are certified, and many are refused.
 #[test]
 fn random_collections_in_boxes(rt: HostRuntime) -> Result<(), Fail> {
-    let mut certified = 0u64;
-    for seed in 0..4000 {
-        let bytes = blob(rt.alloc(), &mut Dice::new(seed))?;
-        if both_agree(&rt, rt.alloc(), &bytes) {
-            certified = certified.saturating_add(1);
-        }
-    }
+    let certified = random_blobs_agree(&rt, rt.alloc(), blob)?;
     assert!(&rt; 1000 < certified && certified < 3500, "{certified}");
     Ok(())
 }

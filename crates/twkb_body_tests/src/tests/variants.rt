@@ -4,7 +4,8 @@ use super::faults::{FALSE, MALFORMED};
 use super::tight::{LOOSE, TIGHT};
 use super::{answers, false_claim};
 use plain::Fault;
-use std::alloc::Global;
+use random_layers::Dice;
+use std::alloc::{AllocError, Global};
 use std::process::Abort;
 use std::test::Fail;
 use twkb_body::{Audit, AuditFault, Claim};
@@ -45,6 +46,24 @@ pub fn agrees(rt: &impl Abort, alloc: Global, bytes: &[u8], is_tight: bool) -> b
 pub fn both_agree(rt: &impl Abort, alloc: Global, bytes: &[u8]) -> bool {
     agrees(rt, alloc, bytes, true);
     agrees(rt, alloc, bytes, false)
+}
+
+/// Both audits answer as the plain reader does for 4000 blobs made at random. Returns how many of them they certify.
+pub fn random_blobs_agree<F: Fn(Global, &mut Dice) -> Result<Vec<u8>, AllocError>>(
+    rt: &impl Abort,
+    alloc: Global,
+    make: F,
+) -> Result<u64, Fail>
+    requires { F.IsAlwaysCallable make }
+{
+    let mut certified = 0u64;
+    for seed in 0..4000 {
+        let bytes = make(alloc, &mut Dice::new(seed))?;
+        if both_agree(rt, alloc, &bytes) {
+            certified = certified.saturating_add(1);
+        }
+    }
+    Ok(certified)
 }
 
 /// Sets a byte, which is there.

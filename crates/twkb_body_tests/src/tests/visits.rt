@@ -7,52 +7,10 @@ use random_layers::Dice;
 use std::alloc::{AllocError, Global};
 use std::process::Abort;
 
-// A visitor that expects these vertices, one after another. Its contract says nothing of them; the tests compare them.
-#[derive(Drop)]
-struct Expecting<'a> {
-    vertices: &'a [Vertex],
-    shown: usize,
-    wrong: usize,
-}
-
-impl<'a> Visit for Expecting<'a> {
-    ghost use Rattle.std.specs.Prelude.{false, true, ◌≡◌};
-    ghost use Rattle.std.proofs.Common.{refl};
-
-    ghost State = { Unit {0} };
-
-    ghost state = { λ s. tt };
-
-    ghost step = { λ s v. s };
-
-    ghost passes = { λ s b. false };
-
-    ghost sound = { λ s b v e h. refl };
-
-    fn point(&mut self, v: &Vertex) {
-        if self.vertices.get(self.shown) != Some(v) {
-            self.wrong = self.wrong.saturating_add(1);
-        }
-        self.shown = self.shown.saturating_add(1);
-    }
-
-    fn skips(&self, _b: &Bounds) -> bool {
-        false
-    }
-}
-
 // A skim of the blob shows the vertices of the layer that a plain reader found there.
-fn are_shown(rt: &impl Abort, alloc: Global, bytes: &[u8], layer: &plain::Layer) {
-    let mut expecting = Expecting {
-        vertices: &layer.vertices,
-        shown: 0,
-        wrong: 0,
-    };
-    let end = skims::skimmed(alloc, bytes, &mut expecting);
+fn shows_as_plain(rt: &impl Abort, alloc: Global, bytes: &[u8], layer: &plain::Layer) {
     let whole = layer.geometries.first().map_or(0, |blob| blob.whole);
-    equal(rt, (end, bytes), (Some((whole, whole as u64)), bytes));
-    equal(rt, (expecting.shown, bytes), (layer.vertices.len(), bytes));
-    equal(rt, (expecting.wrong, bytes), (0, bytes));
+    skims::are_shown(rt, alloc, bytes, whole, &layer.vertices);
 }
 
 #[test]
@@ -61,7 +19,7 @@ fn random_points_are_shown(rt: HostRuntime) -> Result<(), Fail> {
     for seed in 0..3000 {
         let bytes = geometry(rt.alloc(), &mut Dice::new(seed))?;
         if let Ok(layer) = plain::read_blob(rt.alloc(), &bytes) {
-            are_shown(&rt, rt.alloc(), &bytes, &layer);
+            shows_as_plain(&rt, rt.alloc(), &bytes, &layer);
             visited = visited.saturating_add(1);
         }
     }
@@ -103,7 +61,7 @@ fn words_up_to_the_end(rt: HostRuntime) -> Result<(), Fail> {
                 for behind in 0..9 {
                     let bytes = even_line(rt.alloc(), difference, count, has_size, behind)?;
                     if let Ok(layer) = plain::read_blob(rt.alloc(), &bytes) {
-                        are_shown(&rt, rt.alloc(), &bytes, &layer);
+                        shows_as_plain(&rt, rt.alloc(), &bytes, &layer);
                         visited = visited.saturating_add(1);
                     }
                 }

@@ -5,7 +5,7 @@ use mir.Val.{to_z, of_z}
 use Rattle.std.specs.Int.{w8}
 use Rattle.twkb_head.specs.Head.{span_at}
 use Rattle.twkb_head.specs.Raw.{ends_of}
-use Rattle.twkb_body_tests.proofs.tests.skims.KeeperVisit.skips_by_x.Goals as goal
+use Rattle.twkb_body_tests.proofs.tests.skims.ExpectingVisit.skips_by_x.Goals as goal
 
 pub returns : goal.returns
 returns c = λ told b is.
