@@ -3,7 +3,8 @@ ghost use Rattle.twkb_layer.specs.Layer.{IsCounted};
 
 use self::windows::UNREAD;
 use super::equal;
-use super::layer::worked::{FALLING_IDS, TWO_BLOBS};
+use super::layer::worked::TWO_BLOBS;
+use random_layers::FALLING_IDS;
 use refusing::Refusing;
 use std::alloc::Allocator;
 use std::process::Abort;
@@ -58,21 +59,20 @@ fn no(blob: usize, offset: usize, kind: u32) -> Verdict {
 #[test]
 fn verdicts(rt: HostRuntime) {
     let alloc = rt.alloc();
-    equal(&rt, certify(&alloc, &[]), yes(0, 0));
-    equal(&rt, certify(&alloc, &TWO_BLOBS), yes(2, 3));
-    equal(&rt, certify(&alloc, &SIZE_OFF_BY_ONE), no(0, 2, 6));
-    equal(&rt, certify(&alloc, &TWO_BLOBS[..13]), no(1, 13, 1));
-    equal(&rt, certify(&alloc, &LOOSE), yes(1, 2));
-    equal(&rt, certify(&alloc, &FALLING_IDS), yes(1, 17));
-}
-
-#[test]
-fn tight_verdicts(rt: HostRuntime) {
-    let alloc = rt.alloc();
-    equal(&rt, certify_tight(&alloc, &[]), yes(0, 0));
-    equal(&rt, certify_tight(&alloc, &TWO_BLOBS), yes(2, 3));
-    equal(&rt, certify_tight(&alloc, &SIZE_OFF_BY_ONE), no(0, 2, 6));
-    equal(&rt, certify_tight(&alloc, &LOOSE), no(0, 3, 9));
+    // The verdicts of the plain call and of the tight one.
+    let table: [(&[u8], Verdict, Verdict); 6] = [
+        (&[], yes(0, 0), yes(0, 0)),
+        (&TWO_BLOBS, yes(2, 3), yes(2, 3)),
+        (&SIZE_OFF_BY_ONE, no(0, 2, 6), no(0, 2, 6)),
+        (&TWO_BLOBS[..13], no(1, 13, 1), no(1, 13, 1)),
+        (&LOOSE, yes(1, 2), no(0, 3, 9)),
+        (&FALLING_IDS, yes(1, 17), yes(1, 17)),
+    ];
+    for (bytes, plainly, tightly) in table {
+        equal(&rt, (certify(&alloc, bytes), bytes), (plainly, bytes));
+        let verdict = certify_tight(&alloc, bytes);
+        equal(&rt, (verdict, bytes), (tightly, bytes));
+    }
 }
 
 #[test]

@@ -55,6 +55,11 @@ fn is_certified(
     }
 }
 
+/// The refusal of a layer for a malformed field or a false claim.
+fn no(blob: usize, offset: usize, kind: u8) -> Option<Refusal> {
+    Some(Refusal::No { blob, offset, kind })
+}
+
 /// The window of these ranges.
 fn window(ranges: &Bounds) -> Window {
     let mut window = Window::new(ranges.x, ranges.y);
@@ -70,8 +75,13 @@ fn window(ranges: &Bounds) -> Window {
 /// The hit in each place of a room before a scan.
 const NOWHERE: Hit = Hit { blob: 9, offset: 9 };
 
-// A scan found the hit of the case, or none, and put no other into the room.
-fn found_as_worked(rt: &impl Abort, case: &Case, found: usize, room: [Hit; 2]) {
+// A scan found the hit of the case, or none, and put no other into the room, and the two counts of bytes are equal.
+fn found_as_worked(
+    rt: &impl Abort,
+    case: &Case,
+    (room, found): ([Hit; 2], usize),
+    counts: (u64, u64),
+) {
     let Case { bytes, window, .. } = case;
     equal(
         rt,
@@ -83,4 +93,5 @@ fn found_as_worked(rt: &impl Abort, case: &Case, found: usize, room: [Hit; 2]) {
         (room, window, bytes),
         ([case.hit.unwrap_or(NOWHERE), NOWHERE], window, bytes),
     );
+    equal(rt, (counts.0, window, bytes), (counts.1, window, bytes));
 }

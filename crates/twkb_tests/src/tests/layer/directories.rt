@@ -2,22 +2,15 @@
 ghost use Rattle.std.specs.Prelude.{◌≡◌};
 ghost use Rattle.twkb_layer.specs.Directory.{IsDirectoryOf};
 
-use super::worked::{Case, TWO_BLOBS, cases_of_more_axes, flat, flat_cases};
+use super::worked::{Case, LINE_HIT, POINT_HIT, TWO_BLOBS, cases, flat};
 use super::{NOWHERE, certified, equal, found_as_worked, window};
 use std::alloc::Global;
 use std::process::Abort;
-use twkb_layer::{Certified, Directory, Hit};
+use twkb_layer::{Certified, Directory};
 
 #[test]
-fn flat_windows(rt: HostRuntime) {
-    for case in flat_cases() {
-        scans_twice(&rt, rt.alloc(), &case);
-    }
-}
-
-#[test]
-fn windows_of_more_axes(rt: HostRuntime) {
-    for case in cases_of_more_axes() {
+fn worked_scans_by_a_directory(rt: HostRuntime) {
+    for case in cases() {
         scans_twice(&rt, rt.alloc(), &case);
     }
 }
@@ -40,13 +33,8 @@ fn scans_to(rt: &impl Abort, directory: &Directory<Global>, layer: &mut Certifie
     let before = layer.read_count();
     let mut room = [NOWHERE; 2];
     let found = directory.scan(layer, &window, &mut room);
-    found_as_worked(rt, case, found, room);
     let read = before.saturating_add(case.read_by_directory);
-    equal(
-        rt,
-        (layer.read_count(), window, case.bytes),
-        (read, window, case.bytes),
-    );
+    found_as_worked(rt, case, (room, found), (layer.read_count(), read));
 }
 
 #[test]
@@ -54,18 +42,13 @@ fn rooms(rt: HostRuntime) {
     let mut layer = certified(&rt, rt.alloc(), &TWO_BLOBS);
     let directory = Directory::build(rt.alloc(), &mut layer).expect(&rt, "there is memory");
     let both = window(&flat((0, 10), (0, 10)));
-    let line = Hit { blob: 0, offset: 0 };
-    let point = Hit {
-        blob: 1,
-        offset: 12,
-    };
     equal(&rt, directory.scan(&mut layer, &both, &mut []), 2);
     let mut one = [NOWHERE; 1];
     equal(&rt, directory.scan(&mut layer, &both, &mut one), 2);
-    equal(&rt, one, [line]);
+    equal(&rt, one, [LINE_HIT]);
     let mut three = [NOWHERE; 3];
     equal(&rt, directory.scan(&mut layer, &both, &mut three), 2);
-    equal(&rt, three, [line, point, NOWHERE]);
+    equal(&rt, three, [LINE_HIT, POINT_HIT, NOWHERE]);
 }
 
 // The directory of one layer fits another over equal bytes.

@@ -1,9 +1,10 @@
 //! Lists of worked layers.
 use super::worked::{
     BOXED_LINE, BOXED_POINT, COARSE_POINT, EMPTY, EMPTY_BOXED_POINT, HOP_IN_A_COLLECTION,
-    SEVENTEEN_IDS, TWO_BLOBS, TWO_LINES, TWO_RINGS,
+    TWO_BLOBS, TWO_LINES, TWO_RINGS,
 };
 use super::{certified, equal};
+use random_layers::SEVENTEEN_IDS;
 use std::alloc::Global;
 use std::process::Abort;
 use twkb_layer::{Kind, Row};

@@ -1,6 +1,6 @@
 //! Lists of a thousand ids: in rising order, in other orders, and with two equal ids.
-use super::worked::{FALLING_IDS, SEVENTEEN_IDS};
 use super::{equal, is_certified};
+use random_layers::{FALLING_IDS, SEVENTEEN_IDS};
 use refusing::Refusing;
 use std::alloc::{AllocError, Allocator, Global};
 use std::process::Abort;
@@ -59,6 +59,15 @@ fn different(step: u64) -> Ids {
     Ids {
         step,
         place: 0,
+        other: 0,
+    }
+}
+
+// The last id is the first one again.
+fn equal_at_the_ends(step: u64) -> Ids {
+    Ids {
+        step,
+        place: 999,
         other: 0,
     }
 }
@@ -175,11 +184,7 @@ fn growths_of(
 
 #[test]
 fn each_growth_is_refused(rt: HostRuntime) {
-    let two_equal = Ids {
-        step: RISING,
-        place: 999,
-        other: 0,
-    };
+    let two_equal = equal_at_the_ends(RISING);
     for &list in &LISTS {
         for is_tight in [false, true] {
             for step in [RISING, MIXED, FALLING] {
@@ -214,11 +219,7 @@ fn refusal_in_less(bytes: &[u8], is_tight: bool) -> Option<Refusal> {
 // Room for a thousand ids is enough for each list, and with one place less memory is wanted.
 #[test]
 fn lent_room(rt: HostRuntime) -> Result<(), Fail> {
-    let two_equal = Ids {
-        step: MIXED,
-        place: 999,
-        other: 0,
-    };
+    let two_equal = equal_at_the_ends(MIXED);
     for &list in &LISTS {
         for is_tight in [false, true] {
             for step in [RISING, MIXED, FALLING] {

@@ -1,9 +1,10 @@
 //! Allocations that are refused, each in turn.
 use super::lists::LINE_AND_POINT;
-use super::worked::{EMPTY, FALLING_IDS, MANY_IDS_ANNOUNCED, TWO_BLOBS, flat};
+use super::worked::{EMPTY, MANY_IDS_ANNOUNCED, TWO_BLOBS, flat};
 use super::{certified, equal, window};
+use random_layers::FALLING_IDS;
 use refusing::Refusing;
-use std::alloc::Allocator;
+use std::alloc::{Allocator, Global};
 use std::process::Abort;
 use twkb_layer::{Certified, Cursor, Directory, Refusal, certify_in, certify_tight_in};
 
@@ -22,22 +23,31 @@ fn runs_out<A: Allocator>(rt: &impl Abort, memory: &A, bytes: &[u8]) -> bool {
     }
 }
 
-// A list of more than sixteen ids.
-#[test]
-fn each_allocation_is_refused(rt: HostRuntime) {
+// Each request for memory is refused in turn, until a run meets no refusal. A run returns whether memory was refused.
+// The allocator grants what is wanted after that, so the same run with it, tried again, has all memory.
+fn each_is_refused<F: FnMut(&Refusing<Global>) -> bool>(rt: &impl Abort, alloc: Global, mut run: F)
+    requires { F.IsAlwaysCallable run }
+{
     let mut refusals = 0u64;
     for call in 0..100u64 {
-        let memory = Refusing::new(rt.alloc(), call);
-        let is_out = runs_out(&rt, &memory, &FALLING_IDS);
-        equal(&rt, is_out, memory.has_refused());
+        let memory = Refusing::new(alloc, call);
+        let is_out = run(&memory);
+        equal(rt, is_out, memory.has_refused());
         if !is_out {
             break;
         }
-        // The allocator grants the next call, and a new cursor gives the answer.
-        assert!(rt; !runs_out(&rt, &memory, &FALLING_IDS));
+        assert!(rt; !run(&memory));
         refusals = call + 1;
     }
     assert!(rt; 0 < refusals && refusals < 100, "{refusals}");
+}
+
+// A list of more than sixteen ids.
+#[test]
+fn each_allocation_is_refused(rt: HostRuntime) {
+    each_is_refused(&rt, rt.alloc(), |memory| {
+        runs_out(&rt, memory, &FALLING_IDS)
+    });
 }
 
 // A multipoint that announces 1001 ids and has sixteen, the most that need no memory.
@@ -95,84 +105,56 @@ fn counts_take_no_memory(rt: HostRuntime) {
     }
 }
 
+// A scan of the two blobs finds them.
+fn finds_both(rt: &impl Abort, layer: &mut Certified) {
+    let found = layer.scan(&window(&flat((0, 10), (0, 10))), &mut []);
+    equal(rt, found, 2);
+}
+
 // Lists two blobs with all memory from an allocator, and returns whether memory was refused. A refusal comes before any
 // byte is read.
 fn list_runs_out<A: Allocator>(rt: &impl Abort, memory: &A, layer: &mut Certified) -> bool {
     let before = layer.read_count();
-    match layer.list_in(memory) {
-        Ok(rows) => {
-            equal(rt, rows.as_slice(), LINE_AND_POINT.as_slice());
-            // Each of the twenty bytes is read once.
-            equal(rt, layer.read_count().saturating_sub(before), 20);
-            false
-        }
-        Err(_) => {
-            equal(rt, layer.read_count(), before);
-            true
-        }
-    }
+    let Ok(rows) = layer.list_in(memory) else {
+        equal(rt, layer.read_count(), before);
+        return true;
+    };
+    equal(rt, rows.as_slice(), LINE_AND_POINT.as_slice());
+    // Each of the twenty bytes is read once.
+    equal(rt, layer.read_count().saturating_sub(before), 20);
+    finds_both(rt, layer);
+    false
 }
 
 #[test]
 fn refused_lists_may_be_repeated(rt: HostRuntime) {
     let mut layer = certified(&rt, rt.alloc(), &TWO_BLOBS);
-    let mut refusals = 0u64;
-    for call in 0..100u64 {
-        let memory = Refusing::new(rt.alloc(), call);
-        let is_out = list_runs_out(&rt, &memory, &mut layer);
-        equal(&rt, is_out, memory.has_refused());
-        if !is_out {
-            break;
-        }
-        assert!(rt; !list_runs_out(&rt, &memory, &mut layer));
-        equal(
-            &rt,
-            layer.scan(&window(&flat((0, 10), (0, 10))), &mut []),
-            2,
-        );
-        refusals = call + 1;
-    }
-    assert!(rt; 0 < refusals && refusals < 100, "{refusals}");
+    each_is_refused(&rt, rt.alloc(), |memory| {
+        list_runs_out(&rt, memory, &mut layer)
+    });
 }
 
 // Builds a directory of two blobs with all memory from an allocator, and returns whether memory was refused.
 fn directory_runs_out<A: Allocator>(rt: &impl Abort, memory: &A, layer: &mut Certified) -> bool {
     let before = layer.read_count();
-    match Directory::build_in(memory, layer) {
-        Ok(directory) => {
-            // The line has a size, so only the seven bytes of its header are read. All eight bytes of the point are read.
-            equal(rt, layer.read_count().saturating_sub(before), 15);
-            let found = directory.scan(layer, &window(&flat((0, 10), (0, 10))), &mut []);
-            equal(rt, found, 2);
-            false
-        }
-        Err(_) => {
-            equal(rt, layer.read_count(), before);
-            true
-        }
-    }
+    let Ok(directory) = Directory::build_in(memory, layer) else {
+        equal(rt, layer.read_count(), before);
+        return true;
+    };
+    // The line has a size, so only the seven bytes of its header are read. All eight bytes of the point are read.
+    equal(rt, layer.read_count().saturating_sub(before), 15);
+    let found = directory.scan(layer, &window(&flat((0, 10), (0, 10))), &mut []);
+    equal(rt, found, 2);
+    finds_both(rt, layer);
+    false
 }
 
 #[test]
 fn refused_directories_may_be_built_again(rt: HostRuntime) {
     let mut layer = certified(&rt, rt.alloc(), &TWO_BLOBS);
-    let mut refusals = 0u64;
-    for call in 0..100u64 {
-        let memory = Refusing::new(rt.alloc(), call);
-        let is_out = directory_runs_out(&rt, &memory, &mut layer);
-        equal(&rt, is_out, memory.has_refused());
-        if !is_out {
-            break;
-        }
-        assert!(rt; !directory_runs_out(&rt, &memory, &mut layer));
-        equal(
-            &rt,
-            layer.scan(&window(&flat((0, 10), (0, 10))), &mut []),
-            2,
-        );
-        refusals = call + 1;
-    }
-    assert!(rt; 0 < refusals && refusals < 100, "{refusals}");
+    each_is_refused(&rt, rt.alloc(), |memory| {
+        directory_runs_out(&rt, memory, &mut layer)
+    });
 }
 
 // An allocator that would refuse its first call isn't asked.

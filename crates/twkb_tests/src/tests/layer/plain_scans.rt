@@ -2,7 +2,7 @@
 ghost use Rattle.std.specs.Prelude.{◌≡◌};
 ghost use Rattle.twkb_layer.specs.Directory.{IsDirectoryOf};
 
-use super::worked::{Case, cases_of_more_axes, flat_cases};
+use super::worked::{Case, cases};
 use super::{NOWHERE, equal, window};
 use plain::{Layer, read_layer};
 use std::alloc::Global;
@@ -87,15 +87,8 @@ fn is_as_plain(
 }
 
 #[test]
-fn flat_windows(rt: HostRuntime) {
-    for case in flat_cases() {
-        scans_to(&rt, rt.alloc(), &case);
-    }
-}
-
-#[test]
-fn windows_of_more_axes(rt: HostRuntime) {
-    for case in cases_of_more_axes() {
+fn worked_scans_by_the_plain_reader(rt: HostRuntime) {
+    for case in cases() {
         scans_to(&rt, rt.alloc(), &case);
     }
 }

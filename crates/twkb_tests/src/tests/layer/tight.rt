@@ -1,38 +1,12 @@
-//! Tight checking: worked files, each refused allocation, and random layers against a plain reader.
+//! Tight checking: worked files that are refused, each refused allocation, and random layers against a plain reader.
 use super::long_lists::growths;
-use super::worked::{
-    BOXED_LINE, EMPTY, EMPTY_BOXED_POINT, SEVENTEEN_IDS, TWO_BLOBS, Z_IN_THE_BOX_ALONE,
-};
-use super::{equal, is_certified};
+use super::worked::Z_IN_THE_BOX_ALONE;
+use super::{equal, no};
 use plain::{Claim, Fault};
-use random_layers::Dice;
+use random_layers::{Dice, SEVENTEEN_IDS};
 use std::alloc::Global;
 use std::process::Abort;
 use twkb_layer::{Cursor, Refusal, certify, certify_tight};
-
-#[test]
-fn layers_without_a_loose_box(rt: HostRuntime) {
-    let table: [(&[u8], usize, usize); 7] = [
-        (&EMPTY, 0, 0),
-        (&BOXED_LINE, 1, 2),
-        (&TWO_BLOBS, 2, 3),
-        (&BOX_AT_ANOTHER_PRECISION, 1, 1),
-        (&NOTHING_IN_LESS_THAN_NOTHING, 1, 0),
-        (&EMPTY_BOXED_POINT, 1, 0),
-        (&SEVENTEEN_IDS, 1, 17),
-    ];
-    for (bytes, blobs, vertices) in table {
-        let answer = certify_tight(rt.alloc(), Cursor::new(bytes));
-        is_certified(&rt, answer, bytes, blobs, vertices);
-    }
-}
-
-// A collection from 1 to 2, and in it a point at 1.5.
-const BOX_AT_ANOTHER_PRECISION: [u8; 11] = [
-    0x07, 0x01, 0x02, 0x02, 0x02, 0x02, 0x01, 0x21, 0x00, 0x1E, 0x1E,
-];
-
-const NOTHING_IN_LESS_THAN_NOTHING: [u8; 7] = [0x02, 0x01, 0x02, 0x01, 0x00, 0x00, 0x00];
 
 // The answers of the plain call and of the tight one.
 #[test]
@@ -53,10 +27,6 @@ fn layers_are_refused(rt: HostRuntime) {
         let refusal = certify_tight(rt.alloc(), Cursor::new(bytes)).err();
         equal(&rt, (refusal, bytes), (tightly, bytes));
     }
-}
-
-fn no(blob: usize, offset: usize, kind: u8) -> Option<Refusal> {
-    Some(Refusal::No { blob, offset, kind })
 }
 
 // The line from (1 1) to (5 5), whose box goes from 0 to 5 in X, and from 1 to 6.

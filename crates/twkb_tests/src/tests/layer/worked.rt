@@ -17,6 +17,14 @@ pub const TWO_BLOBS: [u8; 20] = [
     0x14, 0x00, 0x14, 0x14,
 ];
 
+/// The hits of `TWO_BLOBS`, if a window has vertices of both inside.
+pub const LINE_HIT: Hit = Hit { blob: 0, offset: 0 };
+
+pub const POINT_HIT: Hit = Hit {
+    blob: 1,
+    offset: 12,
+};
+
 /// A point at (41230 0), at a precision of -1.
 pub const COARSE_POINT: [u8; 5] = [0x11, 0x00, 0xB6, 0x40, 0x00];
 
@@ -68,20 +76,6 @@ pub const Z_IN_THE_BOX_ALONE: [u8; 14] = [
     0x07, 0x09, 0x01, 0x00, 0x02, 0x00, 0x02, 0x14, 0x00, 0x01, 0x01, 0x00, 0x02, 0x02,
 ];
 
-/// A multipoint with seventeen ids, one more than an audit holds without memory.
-pub const SEVENTEEN_IDS: [u8; 54] = [
-    0x04, 0x04, 0x11, 0x00, 0x02, 0x04, 0x06, 0x08, 0x0A, 0x0C, 0x0E, 0x10, 0x12, 0x14, 0x16, 0x18,
-    0x1A, 0x1C, 0x1E, 0x20, 0, 0, 0, 0, 0, 0, 0, 0, 0, 0, 0, 0, 0, 0, 0, 0, 0, 0, 0, 0, 0, 0, 0, 0,
-    0, 0, 0, 0, 0, 0, 0, 0, 0, 0,
-];
-
-/// `SEVENTEEN_IDS`, but the last id is the least.
-pub const FALLING_IDS: [u8; 54] = [
-    0x04, 0x04, 0x11, 0x00, 0x02, 0x04, 0x06, 0x08, 0x0A, 0x0C, 0x0E, 0x10, 0x12, 0x14, 0x16, 0x18,
-    0x1A, 0x1C, 0x1E, 0x01, 0, 0, 0, 0, 0, 0, 0, 0, 0, 0, 0, 0, 0, 0, 0, 0, 0, 0, 0, 0, 0, 0, 0, 0,
-    0, 0, 0, 0, 0, 0, 0, 0, 0, 0,
-];
-
 /// As many ids as a count can announce, and none of them there.
 pub const MANY_IDS_ANNOUNCED: [u8; 12] = [
     0x04, 0x04, 0xFF, 0xFF, 0xFF, 0xFF, 0xFF, 0xFF, 0xFF, 0xFF, 0xFF, 0x01,
@@ -107,8 +101,8 @@ fn scan_of(bytes: &'static [u8], window: Bounds, hit: Option<Hit>, reads: (u64, 
     }
 }
 
-/// Windows over X and Y.
-pub fn flat_cases() -> [Case; 23] {
+// Windows over X and Y.
+fn flat_cases() -> [Case; 23] {
     let far = flat((6, 9), (0, 9));
     let corner = flat((5, 9), (5, 9));
     let at_ten = flat((10, 10), (10, 10));
@@ -145,8 +139,8 @@ pub fn flat_cases() -> [Case; 23] {
     ]
 }
 
-/// Windows that bound Z or M too.
-pub fn cases_of_more_axes() -> [Case; 13] {
+// Windows that bound Z or M too.
+fn cases_of_more_axes() -> [Case; 13] {
     let at_the_point = flat((1, 1), (2, 2));
     let z = |lo: i128, hi: i128| with_z(at_the_point, (lo, hi));
     let on_the_line = flat((1, 5), (1, 5));
@@ -179,6 +173,15 @@ pub fn cases_of_more_axes() -> [Case; 13] {
         scan_of(&Z_IN_THE_BOX_ALONE, with_z(around, (0, 5)), None, (14, 0)),
         scan_of(&Z_IN_THE_BOX_ALONE, flat((1, 1), (1, 1)), first, (14, 14)),
     ]
+}
+
+/// All scans of worked layers.
+pub fn cases() -> [Case; 36] {
+    let first = flat_cases();
+    let mut all = [first[0]; 36];
+    all[..23].copy_from_slice(&first);
+    all[23..].copy_from_slice(&cases_of_more_axes());
+    all
 }
 
 pub fn hit(blob: usize, offset: usize) -> Option<Hit> {
