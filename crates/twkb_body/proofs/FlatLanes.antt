@@ -139,30 +139,26 @@ module _ (box : RawBox) (lanes extent : List ℕ) (from : Reading) where
             ∙ refuted two.a two.b two.middle stop two.first two.second
 
 module _ (lanes extent : List ℕ) (from new : Reading) (left : ℕ) where
-  -- where readers of X and Y stand
-  abbrev flat : RawBox → List ℕ → PointValue → Type 0
-  flat box at = IsFlatPlace box at extent
-
   -- what starts from distances in lanes starts from a place
-  from_place : (follows : ℤ → ℤ → ℤ → ℤ → Type 0) → FromLanes lanes extent follows → (box : RawBox) (last : PointValue) (place : flat box lanes last) → follows place.across place.up box.x.extent box.y.extent
+  from_place : (follows : ℤ → ℤ → ℤ → ℤ → Type 0) → FromLanes lanes extent follows → (box : RawBox) (last : PointValue) (place : IsFlatPlace box lanes extent last) → follows place.across place.up box.x.extent box.y.extent
   from_place follows known box last place = known place.across place.up box.x.extent box.y.extent place.lanes_are place.extent_is place.in_x place.in_y place.fits.0.wide place.fits.1.wide
 
   -- up to four points are a step
-  pub some_step : (step : Step) → step.points ≤ left → StepsInLanes lanes extent from new step → IsLaneStep 2 left flat lanes from new step
+  pub some_step : (step : Step) → step.points ≤ left → StepsInLanes lanes extent from new step → IsLaneStep 2 left IsFlatPlace lanes extent from new step
   some_step step few known = record {
     inside = λ so box trail place. some_held box lanes extent from trail place step.reached.at step.reached.inside new step.points so (quad box trail.last place);
     outside = λ so box last place. some_leave box lanes extent from last place left step.reached.at step.reached.inside new step.points few so (quad box last place);
   }
     where
-      quad : (box : RawBox) (last : PointValue) (place : flat box lanes last) → IsQuadStep box.x.extent box.y.extent place.across place.up from new step.points step.reached.at step.reached.inside
+      quad : (box : RawBox) (last : PointValue) (place : IsFlatPlace box lanes extent last) → IsQuadStep box.x.extent box.y.extent place.across place.up from new step.points step.reached.at step.reached.inside
       quad = from_place (λ x y w h. IsQuadStep w h x y from new step.points step.reached.at step.reached.inside) known
 
   -- a point of any differences is a step
-  pub far_step : (reached : Reached) → 1 ≤ left → FromLanes lanes extent (λ x y w h. IsFarStep w h x y from new reached.at reached.inside) → IsLaneStep 2 left flat lanes from new (record { points = 1; reached = reached })
+  pub far_step : (reached : Reached) → 1 ≤ left → FromLanes lanes extent (λ x y w h. IsFarStep w h x y from new reached.at reached.inside) → IsLaneStep 2 left IsFlatPlace lanes extent from new (record { points = 1; reached = reached })
   far_step reached one known = record {
     inside = λ so box trail place. far_held box lanes extent from trail place reached.at reached.inside new so (far box trail.last place);
     outside = λ so box last place. far_leaves box lanes extent from last place left reached.at reached.inside new one so (far box last place);
   }
     where
-      far : (box : RawBox) (last : PointValue) (place : flat box lanes last) → IsFarStep box.x.extent box.y.extent place.across place.up from new reached.at reached.inside
+      far : (box : RawBox) (last : PointValue) (place : IsFlatPlace box lanes extent last) → IsFarStep box.x.extent box.y.extent place.across place.up from new reached.at reached.inside
       far = from_place (λ x y w h. IsFarStep w h x y from new reached.at reached.inside) known

@@ -321,15 +321,11 @@ module _ (has_fourth : Bool) (bounds box : RawBox) (lanes extent : List ℕ) (fr
         next_leaves (axes_by has_fourth) box start from count le (λ p stop e. ap (λ (s : PointValue). is_in_box (axes_by has_fourth) box (add s p)) place.is ∙ leaves p stop (ap (λ (s : PointValue). point_at (axes_by has_fourth) s from) (sym place.is) ∙ e))
 
 module _ (has_fourth : Bool) (bounds : RawBox) (lanes extent : List ℕ) (from new : Reading) (left : ℕ) where
-  -- where readers of three axes or four stand
-  abbrev further : RawBox → List ℕ → PointValue → Type 0
-  further box at = IsFurtherPlace has_fourth bounds box at extent
-
   abbrev alone : PointValue → Trail
   alone last = record { last = last; points = 0 }
 
   -- points read by vectors are a step
-  pub further_step : (step : Step) → step.points ≤ left → IsFurtherStep has_fourth lanes extent from new step → IsLaneStep (axes_by has_fourth) left further lanes from new step
+  pub further_step : (step : Step) → step.points ≤ left → IsFurtherStep has_fourth lanes extent from new step → IsLaneStep (axes_by has_fourth) left (IsFurtherPlace has_fourth bounds) lanes extent from new step
   further_step step few known = record {
     inside = λ so box trail place. further_held has_fourth bounds box lanes extent from trail place new step so known;
     outside = λ so box last place. further_leave has_fourth bounds box lanes extent from (alone last) place left new step few so known;
@@ -339,7 +335,7 @@ module _ (has_fourth : Bool) (bounds : RawBox) (lanes extent : List ℕ) (from n
   pub far_further_step : (reached : Reached) → 1 ≤ left
       → (reached.inside ≡ true → (apart : Numbers) → lanes ≡ four_lanes apart → Each IsInLane apart → IsFarPoint has_fourth bounds apart from new reached.at)
       → (reached.inside ≡ false → (apart : Numbers) → lanes ≡ four_lanes apart → Each IsInLane apart → LeavesByPoint has_fourth bounds apart from)
-      → IsLaneStep (axes_by has_fourth) left further lanes from new (record { points = 1; reached = reached })
+      → IsLaneStep (axes_by has_fourth) left (IsFurtherPlace has_fourth bounds) lanes extent from new (record { points = 1; reached = reached })
   far_further_step reached one point leaves = record {
     inside = λ so box trail place. far_further_held has_fourth bounds box lanes extent from trail place reached.at new
         (subst (λ (b : RawBox). IsFarPoint has_fourth b place.apart from new reached.at) place.box_is (point so place.apart place.lanes_are place.in_lanes));

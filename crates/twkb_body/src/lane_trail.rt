@@ -27,7 +27,7 @@ pub trait LaneReader {
         requires place { (box : RawBox) × (last : PointValue) × place self.now box at extent last }
         ensures few { result.points ≤ left }
         ensures bytes { cursor.new.bytes ≡ cursor.old.bytes }
-        ensures step { IsLaneStep axes left (λ box lanes. place self.now box lanes extent) at cursor.old cursor.new result };
+        ensures step { IsLaneStep axes left (place self.now) at extent cursor.old cursor.new result };
 
     /// Reads one point or more, `left` at most. If a point is malformed, `inside` is false, too.
     fn take_some(&self, cursor: &mut Cursor, left: u64, at: u32x4, extent: u32x4) -> Step
@@ -36,7 +36,7 @@ pub trait LaneReader {
         ensures some { 1 ≤ result.points }
         ensures few { result.points ≤ left }
         ensures bytes { cursor.new.bytes ≡ cursor.old.bytes }
-        ensures step { IsLaneStep axes left (λ box lanes. place self.now box lanes extent) at cursor.old cursor.new result };
+        ensures step { IsLaneStep axes left (place self.now) at extent cursor.old cursor.new result };
 }
 
 /// How far a pass has come among points that a box has to hold.

@@ -51,10 +51,12 @@ PointsLeave axes count box last from = LeavesBox axes (many_at count add (point_
 -- A step among points, of which `left` were left. Take any box for which the lanes hold the distances of the last point. If the step
 -- ends inside, the box holds the points of the step, and the new lanes hold the distances of the last one. If it doesn't, the box
 -- doesn't hold all points that were left.
-pub record IsLaneStep (axes left : ℕ) (place : RawBox → List ℕ → PointValue → Type 0) (at : List ℕ) (old new : Reading) (step : Step) : Type 0 where
-  pub inside : step.reached.inside ≡ true → (box : RawBox) (trail : Trail) → place box at trail.last
-      → IsHeldRun axes (place box step.reached.at) box trail old new step.points
-  pub outside : step.reached.inside ≡ false → (box : RawBox) (last : PointValue) → place box at last → PointsLeave axes left box last old
+pub record IsLaneStep (axes left : ℕ) (place : RawBox → List ℕ → List ℕ → PointValue → Type 0) (at extent : List ℕ)
+    (old new : Reading) (step : Step) : Type 0 where
+  pub inside : step.reached.inside ≡ true → (box : RawBox) (trail : Trail) → place box at extent trail.last
+      → IsHeldRun axes (place box step.reached.at extent) box trail old new step.points
+  pub outside : step.reached.inside ≡ false → (box : RawBox) (last : PointValue) → place box at extent last
+      → PointsLeave axes left box last old
 
 -- if the parts can be read, the box doesn't hold all their points
 abbrev pub LeaveBox : Kind → ℕ → ℕ → RawBox → Reading → Type 0
