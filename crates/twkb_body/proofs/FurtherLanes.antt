@@ -1,7 +1,12 @@
 -- Points of three axes or four that a box has to hold, read with a lane for each axis.
-use Rattle.std.proofs.Common.{◌≡◌, ℕ, ◌+◌, ◌<◌, ◌≤◌, Bool, true, false, ◌&&◌, List, ◌∷◌, [], length, slice_index_or, ℤ, pos, ◌+ℤ◌, ◌-ℤ◌, Ok, refl, sym, ap, subst, ◌∙◌, arith}
+use Rattle.std.proofs.Common.{◌≡◌, ℕ, zero, suc, ◌+◌, ◌*◌, ◌<◌, ◌≤◌, Bool, true, false, ◌&&◌, List, ◌∷◌, [], length, map, slice_index_or, ℤ, pos, ◌+ℤ◌, ◌-ℤ◌, Ok, refl, sym, ap, subst, ◌∙◌, arith}
 use Rattle.std.proofs.lemmas.Int.{ints}
-use Rattle.twkb_num.specs.Cursor.{Reading}
+use Rattle.std.proofs.lemmas.List.{length-map}
+use Rattle.std.specs.Int.{cast_signed}
+use Rattle.std.specs.Prelude.{All}
+use mir.Syntax.{Width}
+use Rattle.twkb_num.specs.Cursor.{Reading, passed, IsMoved}
+use Rattle.twkb_num.specs.Varint.{SpellsAllSigned, IsShort}
 use Rattle.twkb_head.specs.declared.raw.RawBox.{RawBox}
 use Rattle.twkb_head.specs.declared.raw.RawRange.{RawRange}
 use Rattle.twkb_body.specs.declared.numbers.Numbers.{Numbers}
@@ -12,10 +17,10 @@ use Rattle.twkb_body.specs.Geometry.{PointValue}
 use Rattle.twkb_body.specs.Devices.Body.{add, zeros}
 use Rattle.twkb_body.specs.Devices.BodyReader.{point_at}
 use Rattle.twkb_body.specs.Devices.BoxTest.{reaches, reach_all, is_in_range, is_in_box, Held, held_then, IsClose, IsMet, IsNearZero, AreNear}
-use Rattle.twkb_body.specs.Devices.FurtherLanes.{four_lanes, extents, FitsFurther, all_within, after, all_on_the_way, HaveGone, ReadsPoints, IsFurtherStep, IsFarPoint, LeavesByPoint, IsFurtherPlace}
+use Rattle.twkb_body.specs.Devices.FurtherLanes.{four_lanes, fours_of, FromFourLanes, extents, FitsFurther, all_within, after, all_on_the_way, HaveGone, ReadsPoints, IsFurtherStep, IsFarPoint, LeavesByPoint, IsFurtherPlace}
 use Rattle.twkb_body.specs.Devices.LaneTrail.{FitsLane, holding, PointsLeave, IsHeldRun, IsLaneStep}
 use Rattle.twkb_body.specs.Devices.Numbers.{listed, Each, plus, placed_at, IsIn64, axes_by, AreDifferences}
-use Rattle.twkb_body.specs.Devices.Quads.{ReadsPairs, IsInLane, IsLaneExtent}
+use Rattle.twkb_body.specs.Devices.Quads.{pairs_of, ReadsPairs, IsInLane, IsLaneExtent, ReadsAtMost}
 use Rattle.twkb_body.specs.Devices.Walk.{IsWalked}
 use Rattle.twkb_body.proofs.BoxRuns.{reaches_decides, both_true}
 use Rattle.twkb_body.proofs.FurtherRuns.{trail_at, IsFurtherRun, further_begins, further_goes_on}
@@ -24,26 +29,24 @@ use Rattle.twkb_body.proofs.LaneRuns.{run_leaves, next_leaves}
 use Rattle.twkb_body.proofs.LaneSums.{and_true_right}
 use Rattle.twkb_body.proofs.NumberSteps.{four_read, from_zero}
 use Rattle.twkb_body.proofs.PointAxes.{point_has}
+use Rattle.twkb_body.proofs.QuadReads.{pairs_read, pairs_many}
 use Rattle.twkb_body.proofs.QuadRuns.{near_range, reached_lane}
 use Rattle.twkb_body.proofs.Runs.{run_goes_on}
 
--- two pairs are one point of four axes
-pub one_point_read : (a b c d : ℤ) (old new : Reading) → ReadsPairs ((a, b) ∷ (c, d) ∷ []) old new → ReadsPoints true (record { x = a; y = b; third = c; fourth = d } ∷ []) old new
-one_point_read a b c d old new one =
+-- pairs that were read are points of four axes that were read
+fours_read : (ps : List (ℤ × ℤ)) (n : ℕ) (old new : Reading) → length ps ≡ n * 2 → ReadsPairs ps old new → ReadsPoints true (fours_of ps) old new
+fours_read [] n old new even read = read
+fours_read (p ∷ []) n old new even read = absurd (omega (arith, even))
+fours_read (p ∷ q ∷ ps) zero old new even one = absurd (omega (arith, even))
+fours_read (p ∷ q ∷ ps) (suc n) old new even one =
     let two = one.5 in
-    (two.0, four_read a b c d old one.0 two.0 one.1 (one.3, one.4) one.2 two.1 (two.3, two.4) two.2, two.5)
+    (two.0, four_read p.0 p.1 q.0 q.1 old one.0 two.0 one.1 (one.3, one.4) one.2 two.1 (two.3, two.4) two.2, fours_read ps n two.0 new (omega (arith, even)) two.5)
 
--- four pairs are two points of four axes
-pub two_points_read : (a b c d e f g h : ℤ) (old new : Reading) → ReadsPairs ((a, b) ∷ (c, d) ∷ (e, f) ∷ (g, h) ∷ []) old new
-    → ReadsPoints true (record { x = a; y = b; third = c; fourth = d } ∷ record { x = e; y = f; third = g; fourth = h } ∷ []) old new
-two_points_read a b c d e f g h old new one =
-    let two = one.5 in
-    let three = two.5 in
-    let four = three.5 in (
-      two.0,
-      four_read a b c d old one.0 two.0 one.1 (one.3, one.4) one.2 two.1 (two.3, two.4) two.2,
-      (four.0, four_read e f g h two.0 three.0 four.0 three.1 (three.3, three.4) three.2 four.1 (four.3, four.4) four.2, four.5),
-    )
+fours_many : (ps : List (ℤ × ℤ)) (n : ℕ) → length ps ≡ n * 2 → length (fours_of ps) ≡ n
+fours_many [] n even = omega (arith, even)
+fours_many (p ∷ []) n even = absurd (omega (arith, even))
+fours_many (p ∷ q ∷ ps) zero even = absurd (omega (arith, even))
+fours_many (p ∷ q ∷ ps) (suc n) even = ap suc (fours_many ps n (omega (arith, even)))
 
 -- reading a point leaves the bytes unchanged
 pub differences_keep : (has_fourth : Bool) (more : Numbers) (old new : Reading) → AreDifferences has_fourth more old new → new.bytes ≡ old.bytes
@@ -55,16 +58,26 @@ differences_keep has_fourth more old new d = read_keeps (point_at (axes_by has_f
     fit : Each IsIn64 (plus none more)
     fit = record { x = from_zero _ d.short.x; y = from_zero _ d.short.y; third = from_zero _ d.short.third; fourth = from_zero _ d.short.fourth }
 
--- one point is a step
-pub one_step : (has_fourth : Bool) (more : Numbers) (at extent : List ℕ) (r new : Reading) (reached : Reached) → AreDifferences has_fourth more r new
-    → ((apart e : Numbers) → at ≡ four_lanes apart → extent ≡ four_lanes e → Each IsInLane apart → Each IsLaneExtent e → HaveGone e apart (more ∷ []) reached.at reached.inside)
-    → IsFurtherStep has_fourth at extent r new (record { points = 1; reached = reached })
-one_step has_fourth more at extent r new reached d gone apart e at_is extent_is in_lanes wide = (more ∷ [], refl, (new, d, refl), gone apart e at_is extent_is in_lanes wide)
+-- points that were read, and that lead to lanes, are a step
+pub points_step : (has_fourth : Bool) (ds : List Numbers) (n : ℕ) (at extent : List ℕ) (old new : Reading) (reached : Reached) → length ds ≡ n → 1 ≤ n → new.bytes ≡ old.bytes → ReadsPoints has_fourth ds old new
+    → FromFourLanes at extent (λ apart e. HaveGone e apart ds reached.at reached.inside) → ReadsAtMost n (IsFurtherStep has_fourth at extent) old new (record { points = n; reached = reached })
+points_step has_fourth ds n at extent old new reached many some bytes read lead = record {
+  few = omega arith;
+  none = λ e. absurd (omega (arith, e, some));
+  bytes = bytes;
+  step = λ apart e at_is extent_is in_lanes wide. (ds, many, read, lead apart e at_is extent_is in_lanes wide);
+}
 
--- no point is a step to where it began
-pub no_step : (has_fourth : Bool) (at extent : List ℕ) (r new : Reading) (step : Step) → step.points ≡ 0 → step.reached.at ≡ at → step.reached.inside ≡ true → new ≡ r → IsFurtherStep has_fourth at extent r new step
-no_step has_fourth at extent r new step none at_is inside_is same apart e at_lanes extent_lanes in_lanes wide =
-    ([], sym none, same, record { at_is = at_is ∙ at_lanes; inside_is = inside_is })
+-- numbers in lanes that were read, and whose fours lead to other lanes, are a step
+pub four_lanes_step : (w : Width) (lanes : List ℕ) (n : ℕ) (at extent : List ℕ) (old new : Reading) (reached : Reached) → length lanes ≡ n * 4 → 1 ≤ n
+    → SpellsAllSigned (passed old new) (map (cast_signed w) lanes) → IsMoved old new → All IsShort (map (cast_signed w) lanes)
+    → FromFourLanes at extent (λ apart e. HaveGone e apart (fours_of (pairs_of (map (cast_signed w) lanes))) reached.at reached.inside)
+    → ReadsAtMost n (IsFurtherStep true at extent) old new (record { points = n; reached = reached })
+four_lanes_step w lanes n at extent old new reached long some all moved short lead =
+    let zs = map (cast_signed w) lanes in
+    let twice : length zs ≡ n * 2 * 2 = length-map lanes (cast_signed w) ∙ omega (arith, long) in
+    let even = pairs_many zs (n * 2) twice in
+    points_step true (fours_of (pairs_of zs)) n at extent old new reached (fours_many (pairs_of zs) n even) some moved.bytes (fours_read (pairs_of zs) n old new even (pairs_read zs (n * 2) old new twice (omega (arith, some)) all moved short)) lead
 
 swapped : (a b : Bool) → a && b ≡ b && a
 swapped true b = and_true_right b

@@ -1,80 +1,75 @@
 -- Numbers that a vector holds, as pairs of differences that were read one after another.
-use Rattle.std.proofs.Common.{◌≡◌, ℕ, List, [], ◌∷◌, length, map, ℤ, pos, refl, ap, subst, ◌∙◌, arith, w16, w32}
-use Rattle.std.proofs.lemmas.List.{length-map}
-use Rattle.std.specs.Int.{cast_signed}
+use Rattle.std.proofs.Common.{◌≡◌, ℕ, zero, suc, ◌*◌, ◌≤◌, List, [], ◌∷◌, length, map, ℤ, pos, refl, ap, ◌∙◌, arith}
 use Rattle.std.proofs.lemmas.Int.{ints}
+use Rattle.std.proofs.lemmas.List.{length-map}
+use Rattle.std.proofs.lemmas.List.Elements.{All-tail}
+use Rattle.std.specs.Int.{cast_signed}
 use Rattle.std.specs.Prelude.{All}
+use mir.Syntax.{Width}
 use Rattle.twkb_num.specs.Cursor.{Reading, passed, IsMoved}
 use Rattle.twkb_num.specs.Varint.{SpellsAllSigned, IsShort, IsBrief}
 use Rattle.twkb_num.proofs.PairLaws.{pair_and_others, last_pair}
-use Rattle.twkb_body.specs.Devices.Quads.{ReadsPairs}
+use Rattle.twkb_body.specs.declared.positions.Reached.{Reached}
+use Rattle.twkb_body.specs.Devices.Quads.{pairs_of, ReadsPairs, HaveReached, FromLanes, StepsInLanes, ReadsAtMost}
 
 -- a number that two bytes can spell can be spelled by four
 brief_short : (z : ℤ) → IsBrief z → IsShort z
 brief_short z brief = (omega (arith, ints, brief.0), omega (arith, ints, brief.1))
 
-two_pairs_read : (a1 b1 a2 b2 : ℤ) (old new : Reading) → SpellsAllSigned (passed old new) (a1 ∷ b1 ∷ a2 ∷ b2 ∷ []) → IsMoved old new → All IsShort (a1 ∷ b1 ∷ a2 ∷ b2 ∷ [])
-    → ReadsPairs ((a1, b1) ∷ (a2, b2) ∷ []) old new
-two_pairs_read a1 b1 a2 b2 old new all moved short =
-    let one = pair_and_others old new a1 b1 (a2 ∷ b2 ∷ []) all moved in
-    (one.0, one.1, one.2, short 0 (pos 0) (omega arith), short 1 (pos 0) (omega arith), (new, last_pair one.0 new a2 b2 one.3, one.4, short 2 (pos 0) (omega arith), short 3 (pos 0) (omega arith), refl))
+-- so can all of them
+pub all_short : (zs : List ℤ) → All IsBrief zs → All IsShort zs
+all_short zs brief i z there = brief_short _ (brief i z there)
 
-four_pairs_read : (a1 b1 a2 b2 a3 b3 a4 b4 : ℤ) (old new : Reading) → SpellsAllSigned (passed old new) (a1 ∷ b1 ∷ a2 ∷ b2 ∷ a3 ∷ b3 ∷ a4 ∷ b4 ∷ []) → IsMoved old new
-    → All IsBrief (a1 ∷ b1 ∷ a2 ∷ b2 ∷ a3 ∷ b3 ∷ a4 ∷ b4 ∷ []) → ReadsPairs ((a1, b1) ∷ (a2, b2) ∷ (a3, b3) ∷ (a4, b4) ∷ []) old new
-four_pairs_read a1 b1 a2 b2 a3 b3 a4 b4 old new all moved brief =
-    let one = pair_and_others old new a1 b1 (a2 ∷ b2 ∷ a3 ∷ b3 ∷ a4 ∷ b4 ∷ []) all moved in
-    let two = pair_and_others one.0 new a2 b2 (a3 ∷ b3 ∷ a4 ∷ b4 ∷ []) one.3 one.4 in
-    let three = pair_and_others two.0 new a3 b3 (a4 ∷ b4 ∷ []) two.3 two.4 in (
-      one.0,
-      one.1,
-      one.2,
-      brief_short a1 (brief 0 (pos 0) (omega arith)),
-      brief_short b1 (brief 1 (pos 0) (omega arith)),
-      (
-        two.0,
-        two.1,
-        two.2,
-        brief_short a2 (brief 2 (pos 0) (omega arith)),
-        brief_short b2 (brief 3 (pos 0) (omega arith)),
-        (
-          three.0,
-          three.1,
-          three.2,
-          brief_short a3 (brief 4 (pos 0) (omega arith)),
-          brief_short b3 (brief 5 (pos 0) (omega arith)),
-          (new, last_pair three.0 new a4 b4 three.3, three.4, brief_short a4 (brief 6 (pos 0) (omega arith)), brief_short b4 (brief 7 (pos 0) (omega arith)), refl),
-        ),
-      ),
-    )
+-- numbers that were read are pairs that were read
+pub pairs_read : (zs : List ℤ) (n : ℕ) (old new : Reading) → length zs ≡ n * 2 → 1 ≤ n → SpellsAllSigned (passed old new) zs → IsMoved old new → All IsShort zs → ReadsPairs (pairs_of zs) old new
+pairs_read [] n old new long some all moved short = absurd (omega (arith, long, some))
+pairs_read (a ∷ []) n old new long some all moved short = absurd (omega (arith, long))
+pairs_read (a ∷ b ∷ []) n old new long some all moved short = (new, last_pair old new a b all, moved, short 0 (pos 0) (omega arith), short 1 (pos 0) (omega arith), refl)
+pairs_read (a ∷ b ∷ c ∷ zs) zero old new long some all moved short = absurd (omega (arith, some))
+pairs_read (a ∷ b ∷ c ∷ zs) (suc n) old new long some all moved short =
+    let one = pair_and_others old new a b (c ∷ zs) all moved in
+    let others = All-tail IsShort b (c ∷ zs) (All-tail IsShort a (b ∷ c ∷ zs) short) in
+    (one.0, one.1, one.2, short 0 (pos 0) (omega arith), short 1 (pos 0) (omega arith), pairs_read (c ∷ zs) n one.0 new (omega (arith, long)) (omega (arith, long)) one.3 one.4 others)
 
--- a list of four numbers, by its numbers
-four_of : (zs : List ℤ) → length zs ≡ 4 → (a b c d : ℤ) × (zs ≡ a ∷ b ∷ c ∷ d ∷ [])
-four_of [] e = absurd (omega (arith, e))
-four_of (a ∷ []) e = absurd (omega (arith, e))
-four_of (a ∷ b ∷ []) e = absurd (omega (arith, e))
-four_of (a ∷ b ∷ c ∷ []) e = absurd (omega (arith, e))
-four_of (a ∷ b ∷ c ∷ d ∷ []) e = (a, b, c, d, refl)
-four_of (a ∷ b ∷ c ∷ d ∷ z ∷ zs) e = absurd (omega (arith, e))
+pub pairs_many : (zs : List ℤ) (n : ℕ) → length zs ≡ n * 2 → length (pairs_of zs) ≡ n
+pairs_many [] n long = omega (arith, long)
+pairs_many (a ∷ []) n long = absurd (omega (arith, long))
+pairs_many (a ∷ b ∷ zs) zero long = absurd (omega (arith, long))
+pairs_many (a ∷ b ∷ zs) (suc n) long = ap suc (pairs_many zs n (omega (arith, long)))
 
-eight_of : (zs : List ℤ) → length zs ≡ 8 → (a b c d e f g h : ℤ) × (zs ≡ a ∷ b ∷ c ∷ d ∷ e ∷ f ∷ g ∷ h ∷ [])
-eight_of [] is = absurd (omega (arith, is))
-eight_of (a ∷ []) is = absurd (omega (arith, is))
-eight_of (a ∷ b ∷ []) is = absurd (omega (arith, is))
-eight_of (a ∷ b ∷ c ∷ []) is = absurd (omega (arith, is))
-eight_of (a ∷ b ∷ c ∷ d ∷ zs) is =
-    let four = four_of zs (omega (arith, is)) in
-    (a, b, c, d, four.0, four.1, four.2, four.3, ap (λ (ys : List ℤ). a ∷ b ∷ c ∷ d ∷ ys) four.4)
+-- pairs that were read, and that lead to lanes, are a step
+pub pairs_step : (ds : List (ℤ × ℤ)) (n left : ℕ) (at extent : List ℕ) (old new : Reading) (reached : Reached) → length ds ≡ n → 1 ≤ n → n ≤ 4 → n ≤ left → new.bytes ≡ old.bytes → ReadsPairs ds old new
+    → FromLanes at extent (λ x y w h. HaveReached w h x y ds reached.at reached.inside) → ReadsAtMost left (StepsInLanes at extent) old new (record { points = n; reached = reached })
+pairs_step ds n left at extent old new reached many some few enough bytes read lead = record {
+  few = enough;
+  none = λ e. absurd (omega (arith, e, some));
+  bytes = bytes;
+  step = λ x y w h at_is extent_is x_in y_in w_fits h_fits. record { differences = ds; many = many; few = few; read = read; reached = lead x y w h at_is extent_is x_in y_in w_fits h_fits };
+}
 
--- four numbers in lanes that were read are two pairs
-pub four_pairs : (lanes : List ℕ) (old new : Reading) → length lanes ≡ 4 → SpellsAllSigned (passed old new) (map (cast_signed w32) lanes) → IsMoved old new → All IsShort (map (cast_signed w32) lanes)
-    → (a b c d : ℤ) × (map (cast_signed w32) lanes ≡ a ∷ b ∷ c ∷ d ∷ []) × ReadsPairs ((a, b) ∷ (c, d) ∷ []) old new
-four_pairs lanes old new long all moved short =
-    let e = four_of (map (cast_signed w32) lanes) (length-map lanes (cast_signed w32) ∙ long) in
-    (e.0, e.1, e.2, e.3, e.4, two_pairs_read e.0 e.1 e.2 e.3 old new (subst (λ (zs : List ℤ). SpellsAllSigned (passed old new) zs) e.4 all) moved (subst (All IsShort) e.4 short))
+-- numbers in lanes that were read, and whose pairs lead to other lanes, are a step
+pub lanes_step : (w : Width) (lanes : List ℕ) (n left : ℕ) (at extent : List ℕ) (old new : Reading) (reached : Reached) → length lanes ≡ n * 2 → 1 ≤ n → n ≤ 4 → n ≤ left
+    → SpellsAllSigned (passed old new) (map (cast_signed w) lanes) → IsMoved old new → All IsShort (map (cast_signed w) lanes)
+    → FromLanes at extent (λ x y w' h. HaveReached w' h x y (pairs_of (map (cast_signed w) lanes)) reached.at reached.inside) → ReadsAtMost left (StepsInLanes at extent) old new (record { points = n; reached = reached })
+lanes_step w lanes n left at extent old new reached many some few enough all moved short lead =
+    let long = length-map lanes (cast_signed w) ∙ many in
+    pairs_step (pairs_of (map (cast_signed w) lanes)) n left at extent old new reached (pairs_many _ n long) some few enough moved.bytes (pairs_read _ n old new long some all moved short) lead
 
--- eight numbers in lanes that were read are four pairs
-pub eight_pairs : (lanes : List ℕ) (old new : Reading) → length lanes ≡ 8 → SpellsAllSigned (passed old new) (map (cast_signed w16) lanes) → IsMoved old new → All IsBrief (map (cast_signed w16) lanes)
-    → (a b c d e f g h : ℤ) × (map (cast_signed w16) lanes ≡ a ∷ b ∷ c ∷ d ∷ e ∷ f ∷ g ∷ h ∷ []) × ReadsPairs ((a, b) ∷ (c, d) ∷ (e, f) ∷ (g, h) ∷ []) old new
-eight_pairs lanes old new long all moved brief =
-    let e = eight_of (map (cast_signed w16) lanes) (length-map lanes (cast_signed w16) ∙ long) in
-    (e.0, e.1, e.2, e.3, e.4, e.5, e.6, e.7, e.8, four_pairs_read e.0 e.1 e.2 e.3 e.4 e.5 e.6 e.7 old new (subst (λ (zs : List ℤ). SpellsAllSigned (passed old new) zs) e.8 all) moved (subst (All IsBrief) e.8 brief))
+-- the numbers in four lanes
+pub four_of : (w : Width) (lanes : List ℕ) → length lanes ≡ 4 → (a b c d : ℤ) × (map (cast_signed w) lanes ≡ a ∷ b ∷ c ∷ d ∷ [])
+four_of w [] e = absurd (omega (arith, e))
+four_of w (a ∷ []) e = absurd (omega (arith, e))
+four_of w (a ∷ b ∷ []) e = absurd (omega (arith, e))
+four_of w (a ∷ b ∷ c ∷ []) e = absurd (omega (arith, e))
+four_of w (a ∷ b ∷ c ∷ d ∷ []) e = (cast_signed w a, cast_signed w b, cast_signed w c, cast_signed w d, refl)
+four_of w (a ∷ b ∷ c ∷ d ∷ z ∷ zs) e = absurd (omega (arith, e))
+
+-- the numbers in eight lanes
+pub eight_of : (w : Width) (lanes : List ℕ) → length lanes ≡ 8 → (a b c d e f g h : ℤ) × (map (cast_signed w) lanes ≡ a ∷ b ∷ c ∷ d ∷ e ∷ f ∷ g ∷ h ∷ [])
+eight_of w [] is = absurd (omega (arith, is))
+eight_of w (a ∷ []) is = absurd (omega (arith, is))
+eight_of w (a ∷ b ∷ []) is = absurd (omega (arith, is))
+eight_of w (a ∷ b ∷ c ∷ []) is = absurd (omega (arith, is))
+eight_of w (a ∷ b ∷ c ∷ d ∷ zs) is =
+    let four = four_of w zs (omega (arith, is)) in
+    (cast_signed w a, cast_signed w b, cast_signed w c, cast_signed w d, four.0, four.1, four.2, four.3, ap (λ (ys : List ℤ). cast_signed w a ∷ cast_signed w b ∷ cast_signed w c ∷ cast_signed w d ∷ ys) four.4)

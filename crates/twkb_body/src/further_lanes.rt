@@ -4,7 +4,7 @@ ghost use Rattle.twkb_body.specs.declared.numbers.Numbers.{Numbers as NumbersOf}
 ghost use Rattle.twkb_body.specs.Devices.Body.{zeros};
 ghost use Rattle.twkb_body.specs.Devices.FurtherLanes.{FitsFurther, IsFurtherStep, IsFarPoint, LeavesByPoint, IsFurtherPlace, four_lanes};
 ghost use Rattle.twkb_body.specs.Devices.Numbers.{Each, is_four, axes_by};
-ghost use Rattle.twkb_body.specs.Devices.Quads.{IsInLane};
+ghost use Rattle.twkb_body.specs.Devices.Quads.{IsInLane, ReadsAtMost};
 
 use crate::box_test::{BoxTest, distances, placed};
 use crate::flat_lanes::fits_lane;
@@ -102,10 +102,7 @@ pub fn fits_further<const AXES: usize>(bounds: &RawBox) -> bool
 #[inline(always)]
 fn next_further<const AXES: usize>(cursor: &mut Cursor, left: u64, at: u32x4, extent: u32x4) -> Step
     requires { 1 ≤ left }
-    ensures few { result.points ≤ left }
-    ensures none { result.points ≡ 0 → cursor.new ≡ cursor.old }
-    ensures bytes { cursor.new.bytes ≡ cursor.old.bytes }
-    ensures step { IsFurtherStep (is_four AXES) at extent cursor.old cursor.new result }
+    ensures { ReadsAtMost left (IsFurtherStep (is_four AXES) at extent) cursor.old cursor.new result }
 {
     if AXES != 4 {
         return point_of_three(cursor, at, extent);
@@ -122,10 +119,7 @@ fn next_further<const AXES: usize>(cursor: &mut Cursor, left: u64, at: u32x4, ex
 /// Reads one point of three axes, or none.
 #[inline(always)]
 fn point_of_three(cursor: &mut Cursor, at: u32x4, extent: u32x4) -> Step
-    ensures few { result.points ≤ 1 }
-    ensures none { result.points ≡ 0 → cursor.new ≡ cursor.old }
-    ensures bytes { cursor.new.bytes ≡ cursor.old.bytes }
-    ensures step { IsFurtherStep false at extent cursor.old cursor.new result }
+    ensures { ReadsAtMost 1 (IsFurtherStep false at extent) cursor.old cursor.new result }
 {
     match take_three(cursor) {
         Some(more) => Step {
@@ -139,37 +133,28 @@ fn point_of_three(cursor: &mut Cursor, at: u32x4, extent: u32x4) -> Step
 /// Reads one point of four axes, or none.
 #[inline(always)]
 fn point_of_four(cursor: &mut Cursor, at: u32x4, extent: u32x4) -> Step
-    ensures few { result.points ≤ 1 }
-    ensures none { result.points ≡ 0 → cursor.new ≡ cursor.old }
-    ensures bytes { cursor.new.bytes ≡ cursor.old.bytes }
-    ensures step { IsFurtherStep true at extent cursor.old cursor.new result }
+    ensures { ReadsAtMost 1 (IsFurtherStep true at extent) cursor.old cursor.new result }
 {
     let differences = cursor.svarint_four();
     if !differences.is_read {
         return Step::none(at);
     }
-    Step {
-        points: 1,
-        reached: one_of_four(differences.lanes, at, extent),
-    }
+    let reached = one_of_four(differences.lanes, at, extent);
+    Step { points: 1, reached }
 }
 
 /// Reads two points of four axes, or none.
+// Were this written out in its caller, the loop over the points would be slower.
 #[inline(always)]
 fn two_points(cursor: &mut Cursor, at: u32x4, extent: u32x4) -> Step
-    ensures few { result.points ≤ 2 }
-    ensures none { result.points ≡ 0 → cursor.new ≡ cursor.old }
-    ensures bytes { cursor.new.bytes ≡ cursor.old.bytes }
-    ensures step { IsFurtherStep true at extent cursor.old cursor.new result }
+    ensures { ReadsAtMost 2 (IsFurtherStep true at extent) cursor.old cursor.new result }
 {
     let differences = cursor.svarint_eight();
     if !differences.is_read {
         return Step::none(at);
     }
-    Step {
-        points: 2,
-        reached: two_further(differences.lanes, at, extent),
-    }
+    let reached = two_further(differences.lanes, at, extent);
+    Step { points: 2, reached }
 }
 
 /// How many axes there are.

@@ -2,13 +2,13 @@
 //!
 //! A lane holds a point's distance in one axis from the minimum of the box. One comparison without signs tells whether the point is
 //! in the box, since a distance below zero is a great number then. Points of X and Y alone have each distance in two lanes.
-ghost use Rattle.std.specs.Prelude.{◌≡◌, true, ◌+◌, ◌-◌, ◌%◌, ◌&&◌, ℕ, ℤ, map, [], ◌∷◌, ◌++◌, nat_le, nat_lt, if◌then◌else◌, All, IsTrue};
+ghost use Rattle.std.specs.Prelude.{◌≡◌, true, ◌+◌, ◌-◌, ◌%◌, ◌&&◌, ℕ, ℤ, map, [], ◌∷◌, nat_le, nat_lt, if◌then◌else◌, All, IsTrue};
 ghost use Rattle.std.specs.Int.{w16, w32, cast_signed, cast_unsigned};
 ghost use Rattle.twkb_num.specs.Varint.{IsBrief, IsShort};
 ghost use Rattle.twkb_body.specs.declared.numbers.Numbers.{Numbers as NumbersOf};
-ghost use Rattle.twkb_body.specs.Devices.FurtherLanes.{four_lanes, HaveGone};
-ghost use Rattle.twkb_body.specs.Devices.Numbers.{Each, listed};
-ghost use Rattle.twkb_body.specs.Devices.Quads.{lanes_at, FromLanes, IsInLane, IsLaneExtent, HaveReached};
+ghost use Rattle.twkb_body.specs.Devices.FurtherLanes.{four_lanes, fours_of, FromFourLanes, HaveGone};
+ghost use Rattle.twkb_body.specs.Devices.Numbers.{Each};
+ghost use Rattle.twkb_body.specs.Devices.Quads.{lanes_at, pairs_of, FromLanes, IsInLane, IsLaneExtent, HaveReached};
 
 use crate::numbers::Numbers;
 use std::simd::prelude::*;
@@ -95,10 +95,8 @@ pub fn distances_in(at: u32x4) -> (i64, i64)
 /// Four points more, by differences of at most two bytes.
 #[inline(always)]
 pub fn four_more(differences: u16x8, at: u32x4, extent: u32x4) -> Reached
-    ensures { (x y w h a1 b1 a2 b2 a3 b3 a4 b4 : ℤ) → at ≡ lanes_at x y → extent ≡ lanes_at w h
-        → map (cast_signed w16) differences ≡ a1 ∷ b1 ∷ a2 ∷ b2 ∷ a3 ∷ b3 ∷ a4 ∷ b4 ∷ []
-        → All IsBrief (map (cast_signed w16) differences) → IsInLane x → IsInLane y → IsLaneExtent w → IsLaneExtent h
-        → HaveReached w h x y ((a1, b1) ∷ (a2, b2) ∷ (a3, b3) ∷ (a4, b4) ∷ []) result.at result.inside }
+    ensures { All IsBrief (map (cast_signed w16) differences) → FromLanes at extent (λ x y w h.
+        HaveReached w h x y (pairs_of (map (cast_signed w16) differences)) result.at result.inside) }
 {
     let sums = biased(with_half_before(with_pair_before(differences)));
     let first = unbiased_sum(first_half(sums), at);
@@ -112,10 +110,8 @@ pub fn four_more(differences: u16x8, at: u32x4, extent: u32x4) -> Reached
 /// Two points more, by differences of at most four bytes.
 #[inline(always)]
 pub fn two_more(differences: u32x4, at: u32x4, extent: u32x4) -> Reached
-    ensures { (x y w h a1 b1 a2 b2 : ℤ) → at ≡ lanes_at x y → extent ≡ lanes_at w h
-        → map (cast_signed w32) differences ≡ a1 ∷ b1 ∷ a2 ∷ b2 ∷ []
-        → All IsShort (map (cast_signed w32) differences) → IsInLane x → IsInLane y → IsLaneExtent w → IsLaneExtent h
-        → HaveReached w h x y ((a1, b1) ∷ (a2, b2) ∷ []) result.at result.inside }
+    ensures { All IsShort (map (cast_signed w32) differences) → FromLanes at extent (λ x y w h.
+        HaveReached w h x y (pairs_of (map (cast_signed w32) differences)) result.at result.inside) }
 {
     let points = two_places(differences, at);
     Reached {
@@ -141,10 +137,8 @@ pub fn one_more(x_more: i64, y_more: i64, at: u32x4, extent: u32x4) -> Reached
 /// Two points of four axes more, by differences of at most two bytes.
 #[inline(always)]
 pub fn two_further(differences: u16x8, at: u32x4, extent: u32x4) -> Reached
-    ensures { (apart e d1 d2 : NumbersOf) → at ≡ four_lanes apart → extent ≡ four_lanes e
-        → map (cast_signed w16) differences ≡ listed d1 ++ listed d2 → All IsBrief (map (cast_signed w16) differences)
-        → Each IsInLane apart → Each IsLaneExtent e
-        → HaveGone e apart (d1 ∷ d2 ∷ []) result.at result.inside }
+    ensures { All IsBrief (map (cast_signed w16) differences) → FromFourLanes at extent (λ apart e.
+        HaveGone e apart (fours_of (pairs_of (map (cast_signed w16) differences))) result.at result.inside) }
 {
     let sums = biased(with_half_before(differences));
     let near = unbiased_sum(first_half(sums), at);
@@ -158,10 +152,8 @@ pub fn two_further(differences: u16x8, at: u32x4, extent: u32x4) -> Reached
 /// One point of four axes more, by differences in lanes, each of at most four bytes.
 #[inline(always)]
 pub fn one_of_four(differences: u32x4, at: u32x4, extent: u32x4) -> Reached
-    ensures { (apart e d : NumbersOf) → at ≡ four_lanes apart → extent ≡ four_lanes e
-        → map (cast_signed w32) differences ≡ listed d → All IsShort (map (cast_signed w32) differences)
-        → Each IsInLane apart → Each IsLaneExtent e
-        → HaveGone e apart (d ∷ []) result.at result.inside }
+    ensures { All IsShort (map (cast_signed w32) differences) → FromFourLanes at extent (λ apart e.
+        HaveGone e apart (fours_of (pairs_of (map (cast_signed w32) differences))) result.at result.inside) }
 {
     let place = summed(differences, at);
     Reached {
@@ -174,9 +166,7 @@ pub fn one_of_four(differences: u32x4, at: u32x4, extent: u32x4) -> Reached
 #[inline(always)]
 pub fn one_of_three(more: &Numbers, at: u32x4, extent: u32x4) -> Reached
     requires { Each IsShort more.now }
-    ensures { (apart e : NumbersOf) → at ≡ four_lanes apart → extent ≡ four_lanes e → Each IsInLane apart
-        → Each IsLaneExtent e
-        → HaveGone e apart (more.now ∷ []) result.at result.inside }
+    ensures { FromFourLanes at extent (λ apart e. HaveGone e apart (more.now ∷ []) result.at result.inside) }
 {
     let place = summed(four_lanes_of(more), at);
     Reached {

@@ -1,6 +1,6 @@
 //! Points of X and Y read up to four at once, and compared with a box.
-ghost use Rattle.std.specs.Prelude.{◌≡◌, ◌≤◌};
-ghost use Rattle.twkb_body.specs.Devices.Quads.{StepsInLanes};
+ghost use Rattle.std.specs.Prelude.{◌≤◌};
+ghost use Rattle.twkb_body.specs.Devices.Quads.{ReadsAtMost, StepsInLanes};
 
 use crate::positions::{Step, four_more, one_more, two_more};
 use std::simd::prelude::*;
@@ -11,15 +11,13 @@ use twkb_num::Cursor;
 #[inline(always)]
 pub fn next_points(cursor: &mut Cursor, left: u64, at: u32x4, extent: u32x4) -> Step
     requires { 1 ≤ left }
-    ensures few { result.points ≤ left }
-    ensures none { result.points ≡ 0 → cursor.new ≡ cursor.old }
-    ensures bytes { cursor.new.bytes ≡ cursor.old.bytes }
-    ensures step { StepsInLanes at extent cursor.old cursor.new result }
+    ensures { ReadsAtMost left (StepsInLanes at extent) cursor.old cursor.new result }
 {
     if 4 <= left {
-        let step = next_four(cursor, at, extent);
-        if step.points != 0 {
-            return step;
+        let differences = cursor.svarint_eight();
+        if differences.is_read {
+            let reached = four_more(differences.lanes, at, extent);
+            return Step { points: 4, reached };
         }
     }
     if 2 <= left {
@@ -31,49 +29,23 @@ pub fn next_points(cursor: &mut Cursor, left: u64, at: u32x4, extent: u32x4) -> 
     next_one(cursor, at, extent)
 }
 
-/// Reads four points, or none.
-#[inline(always)]
-fn next_four(cursor: &mut Cursor, at: u32x4, extent: u32x4) -> Step
-    ensures few { result.points ≤ 4 }
-    ensures none { result.points ≡ 0 → cursor.new ≡ cursor.old }
-    ensures bytes { cursor.new.bytes ≡ cursor.old.bytes }
-    ensures step { StepsInLanes at extent cursor.old cursor.new result }
-{
-    let differences = cursor.svarint_eight();
-    if !differences.is_read {
-        return Step::none(at);
-    }
-    Step {
-        points: 4,
-        reached: four_more(differences.lanes, at, extent),
-    }
-}
-
 /// Reads two points, or none.
 #[inline(always)]
 pub fn next_two(cursor: &mut Cursor, at: u32x4, extent: u32x4) -> Step
-    ensures few { result.points ≤ 2 }
-    ensures none { result.points ≡ 0 → cursor.new ≡ cursor.old }
-    ensures bytes { cursor.new.bytes ≡ cursor.old.bytes }
-    ensures step { StepsInLanes at extent cursor.old cursor.new result }
+    ensures { ReadsAtMost 2 (StepsInLanes at extent) cursor.old cursor.new result }
 {
     let differences = cursor.svarint_four();
     if !differences.is_read {
         return Step::none(at);
     }
-    Step {
-        points: 2,
-        reached: two_more(differences.lanes, at, extent),
-    }
+    let reached = two_more(differences.lanes, at, extent);
+    Step { points: 2, reached }
 }
 
 /// Reads one point, or none.
 #[inline(always)]
 fn next_one(cursor: &mut Cursor, at: u32x4, extent: u32x4) -> Step
-    ensures few { result.points ≤ 1 }
-    ensures none { result.points ≡ 0 → cursor.new ≡ cursor.old }
-    ensures bytes { cursor.new.bytes ≡ cursor.old.bytes }
-    ensures step { StepsInLanes at extent cursor.old cursor.new result }
+    ensures { ReadsAtMost 1 (StepsInLanes at extent) cursor.old cursor.new result }
 {
     match cursor.svarint_pair() {
         Some((x, y)) => Step {

@@ -1,6 +1,6 @@
 -- Devices of proofs: nothing public names them.
 -- Points of three axes or four in lanes, with a lane for each axis.
-use Rattle.std.specs.Prelude.{◌≡◌, ℕ, ◌<◌, Bool, true, false, ◌&&◌, List, [], ◌∷◌, length, pos, Ok}
+use Rattle.std.specs.Prelude.{◌≡◌, ℕ, ◌<◌, Bool, true, false, ◌&&◌, List, [], ◌∷◌, length, ℤ, pos, Ok}
 use Rattle.std.specs.Int.{w32, cast_unsigned}
 use Rattle.twkb_num.specs.Cursor.{Reading}
 use Rattle.twkb_head.specs.declared.raw.RawBox.{RawBox}
@@ -17,6 +17,12 @@ use Rattle.twkb_body.specs.Devices.Quads.{IsInLane, IsLaneExtent}
 -- a number for each axis in lanes, in two's complement
 abbrev pub four_lanes : Numbers → List ℕ
 four_lanes n = cast_unsigned w32 n.x ∷ cast_unsigned w32 n.y ∷ cast_unsigned w32 n.third ∷ cast_unsigned w32 n.fourth ∷ []
+
+-- pairs two by two, each two the numbers of a point of four axes
+abbrev pub fours_of : List (ℤ × ℤ) → List Numbers
+fours_of [] = []
+fours_of (p ∷ []) = []
+fours_of (p ∷ q ∷ ps) = record { x = p.0; y = p.1; third = q.0; fourth = q.1 } ∷ fours_of ps
 
 -- the extents of a box
 abbrev pub extents : RawBox → Numbers
@@ -54,12 +60,17 @@ abbrev pub ReadsPoints : Bool → List Numbers → Reading → Reading → Type 
 ReadsPoints has_fourth [] old new = new ≡ old
 ReadsPoints has_fourth (d ∷ ds) old new = (middle : Reading) × AreDifferences has_fourth d old middle × ReadsPoints has_fourth ds middle new
 
+-- this holds of the distances and the extents in these lanes, with a lane for each axis
+abbrev pub FromFourLanes : List ℕ → List ℕ → (Numbers → Numbers → Type 0) → Type 0
+FromFourLanes at extent follows =
+    (apart e : Numbers) → at ≡ four_lanes apart → extent ≡ four_lanes e → Each IsInLane apart → Each IsLaneExtent e
+    → follows apart e
+
 -- from the distances in these lanes on, the points of a step were read
 abbrev pub IsFurtherStep : Bool → List ℕ → List ℕ → Reading → Reading → Step → Type 0
-IsFurtherStep has_fourth at extent old new step =
-    (apart e : Numbers) → at ≡ four_lanes apart → extent ≡ four_lanes e → Each IsInLane apart → Each IsLaneExtent e
-    → (differences : List Numbers) × (length differences ≡ step.points) × ReadsPoints has_fourth differences old new
-    × HaveGone e apart differences step.reached.at step.reached.inside
+IsFurtherStep has_fourth at extent old new step = FromFourLanes at extent (λ apart e. (differences : List Numbers)
+    × (length differences ≡ step.points) × ReadsPoints has_fourth differences old new
+    × HaveGone e apart differences step.reached.at step.reached.inside)
 
 -- a point was read from these distances on, which the box holds, and its distances are in these lanes
 pub record IsFarPoint (has_fourth : Bool) (box : RawBox) (apart : Numbers) (old new : Reading) (next : List ℕ) : Type 0 where

@@ -20,6 +20,12 @@ IsInLane z = (neg_ℤ (pos (2 ^ 31)) ≤ℤ z) × (z <ℤ pos (2 ^ 31))
 abbrev pub IsLaneExtent : ℤ → Type 0
 IsLaneExtent z = (pos 0 ≤ℤ z) × (z <ℤ pos (2 ^ 30))
 
+-- numbers two by two
+abbrev pub pairs_of : List ℤ → List (ℤ × ℤ)
+pairs_of [] = []
+pairs_of (x ∷ []) = []
+pairs_of (x ∷ y ∷ zs) = (x, y) ∷ pairs_of zs
+
 -- the distance in X after these differences, each of a point in X and Y
 abbrev pub x_after : ℤ → List (ℤ × ℤ) → ℤ
 x_after x [] = x
@@ -53,6 +59,14 @@ pub record IsQuadStep (w h x y : ℤ) (old new : Reading) (points : ℕ) (at : L
   pub few : points ≤ 4
   pub read : ReadsPairs differences old new
   pub reached : HaveReached w h x y differences at inside
+
+-- This many points at most were read, by a step of this kind. The bytes stay as they were, and all else too if none was read.
+pub record ReadsAtMost (most : ℕ) (is_step : Reading → Reading → Step → Type 0) (old new : Reading) (result : Step)
+    : Type 0 where
+  pub few : result.points ≤ most
+  pub none : result.points ≡ 0 → new ≡ old
+  pub bytes : new.bytes ≡ old.bytes
+  pub step : is_step old new result
 
 -- this holds of the two distances and the two extents in these lanes
 abbrev pub FromLanes : List ℕ → List ℕ → (ℤ → ℤ → ℤ → ℤ → Type 0) → Type 0

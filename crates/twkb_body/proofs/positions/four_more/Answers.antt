@@ -1,14 +1,16 @@
-use Rattle.std.proofs.Common.{◌≡◌, ◌&&◌, [], ◌∷◌, subst, ◌∙◌, w16, w32, arith, pos}
+use Rattle.std.proofs.Common.{rules, ◌≡◌, ◌&&◌, [], ◌∷◌, subst, ◌∙◌, w16, w32, arith, pos}
 use Rattle.std.proofs.lemmas.Int.{ints}
 use Rattle.std.specs.Int.{cast_unsigned}
 use Rattle.std.specs.Prelude.{◌+ℤ◌, All}
 use Rattle.twkb_num.specs.Varint.{IsBrief}
 use Rattle.twkb_body.specs.Devices.BoxTest.{reaches}
 use Rattle.twkb_body.proofs.LaneSums.{IsMetInLane, lanes_are, first_lane, second_lane, third_lane, fourth_lane, lane_reaches, greater_within, each_of_four}
+use Rattle.twkb_body.proofs.QuadReads.{eight_of}
 use Rattle.twkb_body.proofs.positions.four_more.Goals as goal
 
 pub returns : goal.returns
-returns k x y w h a1 b1 a2 b2 a3 b3 a4 b4 at extent means short x_in y_in w_fits h_fits =
+returns k short x y w h at extent x_in y_in w_fits h_fits =
+    let (a1, b1, a2, b2, a3, b3, a4, b4, means) = eight_of w16 k.args.differences (search rules) in
     let all = subst (All IsBrief) means short in
     let a1_short : IsBrief a1 = all 0 (pos 0) (omega arith) in
     let b1_short : IsBrief b1 = all 1 (pos 0) (omega arith) in
@@ -52,6 +54,7 @@ returns k x y w h a1 b1 a2 b2 a3 b3 a4 b4 at extent means short x_in y_in w_fits
     let gy = greater_within (cast_unsigned w32 (y +ℤ b1)) (cast_unsigned w32 (((y +ℤ b1) +ℤ b2) +ℤ b3)) (cast_unsigned w32 h) in
     let gu = greater_within (cast_unsigned w32 ((x +ℤ a1) +ℤ a2)) (cast_unsigned w32 ((((x +ℤ a1) +ℤ a2) +ℤ a3) +ℤ a4)) (cast_unsigned w32 w) in
     let gv = greater_within (cast_unsigned w32 ((y +ℤ b1) +ℤ b2)) (cast_unsigned w32 ((((y +ℤ b1) +ℤ b2) +ℤ b3) +ℤ b4)) (cast_unsigned w32 h) in
+    rw means
     record {
       at_is = k.last_twice.ensures _ _ _ _ second;
       inside_is = k.are_within.ensures _ _ _ _ _ _ _ _ (k.greater.ensures _ _ _ _ _ _ _ _ first second) extent

@@ -1,14 +1,16 @@
 -- The sums are the points' distances, and one comparison without signs tells whether the extents hold both.
-use Rattle.std.proofs.Common.{◌≡◌, ◌&&◌, ◌++◌, [], ◌∷◌, ◌∙◌, subst, arith, pos, w16, w32}
+use Rattle.std.proofs.Common.{rules, ◌≡◌, ◌&&◌, ◌++◌, [], ◌∷◌, ◌∙◌, subst, arith, pos, w16, w32}
 use Rattle.std.proofs.lemmas.Int.{ints}
 use Rattle.std.specs.Int.{cast_unsigned}
 use Rattle.std.specs.Prelude.{ℤ, ◌+ℤ◌, All}
 use Rattle.twkb_num.specs.Varint.{IsBrief}
+use Rattle.twkb_body.specs.declared.numbers.Numbers.{Numbers}
 use Rattle.twkb_body.specs.Devices.BoxTest.{reaches}
 use Rattle.twkb_body.specs.Devices.FurtherLanes.{four_lanes}
 use Rattle.twkb_body.specs.Devices.Numbers.{listed, plus}
 use Rattle.twkb_body.specs.Devices.Quads.{IsInLane}
 use Rattle.twkb_body.proofs.LaneSums.{IsMetInLane, lanes_are, first_of_two, second_of_two, lane_reaches, greater_within, each_of_two}
+use Rattle.twkb_body.proofs.QuadReads.{eight_of}
 use Rattle.twkb_body.proofs.positions.two_further.Goals as goal
 
 one_met : (x a : ℤ) → IsInLane x → IsBrief a → IsMetInLane (x +ℤ a)
@@ -18,7 +20,10 @@ both_met : (x a b : ℤ) → IsInLane x → IsBrief a → IsBrief b → IsMetInL
 both_met x a b l one two = (omega (arith, ints, l.0, one.0, two.0), omega (arith, ints, l.1, one.1, two.1))
 
 pub returns : goal.returns
-returns c apart e p q at extent means brief in_lanes wide =
+returns c brief apart e at extent in_lanes wide =
+    let (p_x, p_y, p_z, p_m, q_x, q_y, q_z, q_m, means) = eight_of w16 c.args.differences (search rules) in
+    let p : Numbers = record { x = p_x; y = p_y; third = p_z; fourth = p_m } in
+    let q : Numbers = record { x = q_x; y = q_y; third = q_z; fourth = q_m } in
     let all = subst (All IsBrief) means brief in
     let px : IsBrief p.x = all 0 (pos 0) (omega arith) in
     let py : IsBrief p.y = all 1 (pos 0) (omega arith) in
@@ -52,6 +57,7 @@ returns c apart e p q at extent means brief in_lanes wide =
     let gy = greater_within (cast_unsigned w32 (apart.y +ℤ p.y)) (cast_unsigned w32 ((apart.y +ℤ p.y) +ℤ q.y)) (cast_unsigned w32 e.y) in
     let gz = greater_within (cast_unsigned w32 (apart.third +ℤ p.third)) (cast_unsigned w32 ((apart.third +ℤ p.third) +ℤ q.third)) (cast_unsigned w32 e.third) in
     let gm = greater_within (cast_unsigned w32 (apart.fourth +ℤ p.fourth)) (cast_unsigned w32 ((apart.fourth +ℤ p.fourth) +ℤ q.fourth)) (cast_unsigned w32 e.fourth) in
+    rw means
     record {
       at_is = second;
       inside_is = c.are_within.ensures _ _ _ _ _ _ _ _ (c.greater.ensures _ _ _ _ _ _ _ _ first second) extent
