@@ -246,7 +246,8 @@ impl<'w> RawWindows<'w> {
         fourth: i64,
     ) -> bool
         requires { HavePrecisions (record { xy = xy; z = z; m = m }) }
-        ensures { result ≡ is_inside self.now (vertex_at (record { xy = xy; z = z; m = m }) (x ∷ y ∷ third ∷ fourth ∷ [])) }
+        ensures { result ≡ is_inside self.now
+            (vertex_at (record { xy = xy; z = z; m = m }) (x ∷ y ∷ third ∷ fourth ∷ [])) }
     {
         let axes = Axes { xy, z, m };
         self.window()

@@ -57,8 +57,8 @@ pub fn wide_four(bytes: &[u8; 32]) -> Wide
 #[inline(always)]
 pub fn wide_pair(bytes: &[u8; 16]) -> Wide
     ensures few { result.len < 128 → result.len ≤ 8 }
-    ensures spelled { (x y : ℤ) (others : List ℤ) → map (cast_signed w32) result.lanes ≡ x ∷ y ∷ others → result.len < 128
-        → SpellsAllSigned (take result.len bytes.now) (x ∷ y ∷ []) }
+    ensures spelled { (x y : ℤ) (others : List ℤ) → map (cast_signed w32) result.lanes ≡ x ∷ y ∷ others
+        → result.len < 128 → SpellsAllSigned (take result.len bytes.now) (x ∷ y ∷ []) }
     ensures short { All IsShort (map (cast_signed w32) result.lanes) }
     ensures long { 128 ≤ result.len → HasLong 4 8 bytes.now }
 {
