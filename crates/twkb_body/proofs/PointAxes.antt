@@ -7,7 +7,7 @@ use Rattle.twkb_head.specs.Shared.Reader.{Answer, Reader, ◌>>=◌, viewed, num
 use Rattle.twkb_head.proofs.Readings.{ok_not_err}
 use Rattle.twkb_body.specs.Geometry.{PointValue, PolygonValue, points_of}
 use Rattle.twkb_body.specs.Devices.Body.{first_of, behind, add, sums, ring_sums, part_points}
-use Rattle.twkb_body.specs.Devices.BodyReader.{point_at, ring_at, polygon_at, part_at}
+use Rattle.twkb_body.specs.Devices.BodyReader.{point_at, prefixed_at, ring_at, polygon_at, part_at}
 use Rattle.twkb_body.specs.Devices.Walk.{HaveAxes}
 use Rattle.twkb_body.proofs.PartPlans.{flat_single}
 use Rattle.twkb_body.proofs.RefutedBodies.{viewed_back}
@@ -45,7 +45,7 @@ module _ {A : Type 0} (axes : ℕ) (after : PointValue → A → PointValue) (ea
       (λ n s r stop x xs one l. HaveAxes-append axes (points_in x) (flat_map points_in xs) (have s r stop x one) l)
 
   -- the points of values whose number is read before them have these axes
-  counted_have : (s : PointValue) (r stop : Reading) (xs : List A) → (number_at r >>= λ n. many_at n after each s) ≡ (Ok xs, stop) → HaveAxes axes (flat_map points_in xs)
+  counted_have : (s : PointValue) (r stop : Reading) (xs : List A) → prefixed_at after each s r ≡ (Ok xs, stop) → HaveAxes axes (flat_map points_in xs)
   counted_have s r stop xs e = go (number_at r) e
     where
       go : (a : Answer ℕ) → (a >>= λ n. many_at n after each s) ≡ (Ok xs, stop) → HaveAxes axes (flat_map points_in xs)

@@ -1,27 +1,26 @@
 -- What readers of points read: counts, rings, polygons and parts, from what they read of each part.
 use Rattle.std.proofs.Common.{◌≡◌, ℕ, zero, suc, ◌+◌, ◌-◌, ◌<◌, ◌≤◌, List, [], ◌∷◌, ◌++◌, fold, flat_map, map, replicate, Ok, Err, Option, Some, None, refl, sym, ap, subst, ◌∙◌, arith}
 use Rattle.std.proofs.lemmas.Grind.{flat_map-append}
-use Rattle.std.proofs.lemmas.List.{append-nil}
+use Rattle.std.proofs.lemmas.List.{append-nil, map-id}
 use Rattle.std.proofs.lemmas.List.Sums.{fold-append}
-use Rattle.std.specs.Prelude.{IfSome}
+use Rattle.std.specs.Prelude.{IfSome, ◌⊎◌}
 use Rattle.twkb_num.specs.Cursor.{Reading}
-use Rattle.twkb_head.specs.declared.kinds.Kind.TheVariants.{GeometryCollection}
+use Rattle.twkb_head.specs.declared.kinds.Kind.{Kind}
+use Rattle.twkb_head.specs.declared.kinds.Kind.TheVariants.{Point, LineString, Polygon, MultiPoint, MultiLineString, MultiPolygon, GeometryCollection}
 use Rattle.twkb_head.specs.declared.refusal.Malformed.{Malformed}
 use Rattle.twkb_head.specs.Shared.Reader.{Answer, Reader, ◌>>=◌, viewed, number_at, many_at, Fails}
 use Rattle.twkb_head.proofs.Loops.{first_fails, then_fails}
 use Rattle.twkb_head.proofs.Readings.{ok_not_err}
 use Rattle.twkb_body.specs.declared.trail.Trail.{Trail}
-use Rattle.twkb_body.specs.Geometry.{PointValue, PolygonValue, points_of}
+use Rattle.twkb_body.specs.Geometry.{PointValue, Ring, PolygonValue, points_of}
 use Rattle.twkb_body.specs.Devices.Body.{add, sums, ring_sums, part_points}
-use Rattle.twkb_body.specs.Devices.BodyReader.{point_at, ring_at, part_at}
+use Rattle.twkb_body.specs.Devices.BodyReader.{point_at, prefixed_at, ring_at, polygon_at, part_at}
 use Rattle.twkb_body.specs.Devices.PointReader.{Stage, on, IsReady, HasRead, Leads, EndsEarly}
 use Rattle.twkb_body.specs.Devices.Walk.{lasts_from, IsWalked}
 use Rattle.twkb_body.proofs.RefutedBodies.{viewed_back}
+use Rattle.twkb_body.proofs.Showing.{is_points, is_lines, is_polygons}
+use Rattle.twkb_body.proofs.Sums.{rings_sums_flat}
 use Rattle.twkb_body.proofs.Walks.{number_ahead, walked_from, IsWalkLoop, walk_begins, walk_goes_on, walk_fails, walk_ends, lasts_from-append}
-
--- values whose number is read before them
-abbrev pub counted_at : {A : Type 0} → (PointValue → A → PointValue) → (PointValue → Reader A) → PointValue → Reader (List A)
-counted_at after each s r = number_at r >>= λ n. many_at n after each s
 
 -- a fault is kept where f is applied to the value of an answer
 viewed_fails : {A B : Type 0} (f : A → B) (a : Answer A) (m : Malformed) (new : Reading) → Fails a m new → Fails (viewed f a) m new
@@ -56,22 +55,41 @@ module _ {A B : Type 0} (f : A → B) (after : PointValue → A → PointValue) 
   pub all_made : (n : ℕ) → (λ (s : PointValue) (r : Reading). viewed (map f) (many_at n after each s r)) ≡ many_at n after_f made
   all_made n j s r = each_made n s r j
 
--- points are read as parts
-pub points_apart : (axes n : ℕ) → (λ (s : PointValue) (r : Reading). viewed (map point_part) (many_at n add (point_at axes) s r)) ≡ many_at n ring_sums (λ s r. viewed point_part (point_at axes s r))
-points_apart axes = all_made point_part add ring_sums (point_at axes) (λ s p. refl)
+-- Values are the parts of a kind, if f makes a part of each: to read them is to read these parts, which have their points.
+pub record AreParts {A : Type 0} (kind : Kind) (f : A → PolygonValue) (after : PointValue → A → PointValue) (each : ℕ → PointValue → Reader A) (points_in : List A → List PointValue) : Type 0 where
+  pub read : (axes n : ℕ) → (λ (s : PointValue) (r : Reading). viewed (map f) (many_at n after (each axes) s r)) ≡ many_at n ring_sums (part_at kind axes)
+  pub points : (xs : List A) → points_in xs ≡ points_of (map f xs)
 
--- lines are read as parts
-pub lines_apart : (axes n : ℕ) → (λ (s : PointValue) (r : Reading). viewed (map line_part) (many_at n sums (ring_at axes) s r)) ≡ many_at n ring_sums (λ s r. viewed line_part (ring_at axes s r))
-lines_apart axes = all_made line_part sums ring_sums (ring_at axes) (λ s line. refl)
+pub points_are_parts : (kind : Kind) → (kind ≡ Point) ⊎ (kind ≡ MultiPoint) → AreParts kind point_part add point_at (λ points. points)
+points_are_parts kind is = record {
+  read = λ axes n. all_made point_part add ring_sums (point_at axes) (λ s p. refl) n ∙ ap (λ (each : PointValue → Reader PolygonValue). many_at n ring_sums each) (sym (is_points kind axes is));
+  points = points_alone;
+}
+  where
+    points_alone : (ps : List PointValue) → ps ≡ points_of (map point_part ps)
+    points_alone [] = refl
+    points_alone (p ∷ ps) = ap (λ (xs : List PointValue). p ∷ xs) (points_alone ps)
 
--- the points of such parts
-pub points_alone : (ps : List PointValue) → ps ≡ points_of (map point_part ps)
-points_alone [] = refl
-points_alone (p ∷ ps) = ap (λ (xs : List PointValue). p ∷ xs) (points_alone ps)
+pub lines_are_parts : (kind : Kind) → (kind ≡ LineString) ⊎ (kind ≡ MultiLineString) → AreParts kind line_part sums ring_at part_points
+lines_are_parts kind is = record {
+  read = λ axes n. all_made line_part sums ring_sums (ring_at axes) (λ s line. refl) n ∙ ap (λ (each : PointValue → Reader PolygonValue). many_at n ring_sums each) (sym (is_lines kind axes is));
+  points = lines_alone;
+}
+  where
+    lines_alone : (lines : List Ring) → part_points lines ≡ points_of (map line_part lines)
+    lines_alone [] = refl
+    lines_alone (line ∷ lines) = (λ j. sym (append-nil line) j ++ lines_alone lines j)
 
-pub lines_alone : (lines : List (List PointValue)) → part_points lines ≡ points_of (map line_part lines)
-lines_alone [] = refl
-lines_alone (line ∷ lines) = (λ j. sym (append-nil line) j ++ lines_alone lines j)
+pub polygons_are_parts : (kind : Kind) → (kind ≡ Polygon) ⊎ (kind ≡ MultiPolygon) → AreParts kind (λ polygon. polygon) (λ s polygon. sums s (part_points polygon)) polygon_at points_of
+polygons_are_parts kind is = record {
+  read = λ axes n. all_made (λ polygon. polygon) (λ s polygon. sums s (part_points polygon)) ring_sums (polygon_at axes) (λ s polygon. sym (rings_sums_flat s polygon)) n
+      ∙ ap (λ (each : PointValue → Reader PolygonValue). many_at n ring_sums each) ((λ j s r. as_it_is (polygon_at axes s r) j) ∙ sym (is_polygons kind axes is));
+  points = λ polygons. ap points_of (sym (map-id polygons));
+}
+  where
+    as_it_is : (a : Answer PolygonValue) → viewed (λ polygon. polygon) a ≡ a
+    as_it_is (Ok polygon, r) = refl
+    as_it_is (Err m, r) = refl
 
 -- a collection has no parts of its own: to read some of them reads nothing
 pub nothing_read : (axes n : ℕ) (s : PointValue) (r : Reading) → many_at n ring_sums (part_at GeometryCollection axes) s r ≡ (Ok (replicate n []), r)
@@ -85,8 +103,8 @@ nothing_has (suc n) = nothing_has n
 module _ {S : Type 0} (step : S → PointValue → S) (at : Stage S) where
   -- ---- what is read, at whatever stage the reader stands after it
   module _ (stands : Stage S → Type 0) where
-    pub counted_read : {A : Type 0} (after : PointValue → A → PointValue) (each : PointValue → Reader A) (points_in : List A → List PointValue) (old from to : Reading) (count : ℕ) → number_at old ≡ (Ok count, from)
-        → HasRead (many_at count after each) points_in step stands at from to → HasRead (counted_at after each) points_in step stands at old to
+    counted_read : {A : Type 0} (after : PointValue → A → PointValue) (each : PointValue → Reader A) (points_in : List A → List PointValue) (old from to : Reading) (count : ℕ) → number_at old ≡ (Ok count, from)
+        → HasRead (many_at count after each) points_in step stands at from to → HasRead (prefixed_at after each) points_in step stands at old to
     counted_read after each points_in old from to count counted h = record {
       value = h.value;
       read = ap (λ (a : Answer ℕ). a >>= λ n. many_at n after each at.trail.last) counted ∙ h.read;
@@ -96,42 +114,45 @@ module _ {S : Type 0} (step : S → PointValue → S) (at : Stage S) where
       walked = walked_from step at.axes at.trail h.trail at.state h.state from.place to.place old.place (points_in h.value) (number_ahead count old from counted) h.walked;
     }
 
-    pub made_read : {A B : Type 0} (f : A → B) (each : PointValue → Reader A) (points_in : A → List PointValue) (points_in_f : B → List PointValue) → ((x : A) → points_in x ≡ points_in_f (f x)) → (from to : Reading)
-        → HasRead each points_in step stands at from to → HasRead (λ s r. viewed f (each s r)) points_in_f step stands at from to
-    made_read f each points_in points_in_f same from to h = record {
-      value = f h.value;
-      read = ap (viewed f) h.read;
+    -- values that are parts were read
+    pub parts_read : {A : Type 0} {kind : Kind} {f : A → PolygonValue} {after : PointValue → A → PointValue} {each : ℕ → PointValue → Reader A} {points_in : List A → List PointValue} → AreParts kind f after each points_in → (count : ℕ) (from to : Reading)
+        → HasRead (many_at count after (each at.axes)) points_in step stands at from to → HasRead (many_at count ring_sums (part_at kind at.axes)) points_of step stands at from to
+    parts_read {A} {kind} {f} {after} {each} {points_in} are count from to h = record {
+      value = map f h.value;
+      read = sym (λ j. are.read at.axes count j at.trail.last from) ∙ ap (viewed (map f)) h.read;
       trail = h.trail;
       state = h.state;
       there = h.there;
-      walked = subst (IsWalked step at.axes at.trail h.trail at.state h.state from.place to.place) (same h.value) h.walked;
+      walked = subst (IsWalked step at.axes at.trail h.trail at.state h.state from.place to.place) (are.points h.value) h.walked;
     }
 
   -- ---- early ends
   module _ (ends : S → Type 0) where
-    pub counted_ends : {A : Type 0} (told : Option Malformed) (after : PointValue → A → PointValue) (each : PointValue → Reader A) (points_in : List A → List PointValue) (old from to : Reading) (count : ℕ) → number_at old ≡ (Ok count, from)
-        → EndsEarly (many_at count after each) points_in step ends told at from to → EndsEarly (counted_at after each) points_in step ends told at old to
+    counted_ends : {A : Type 0} (told : Option Malformed) (after : PointValue → A → PointValue) (each : PointValue → Reader A) (points_in : List A → List PointValue) (old from to : Reading) (count : ℕ) → number_at old ≡ (Ok count, from)
+        → EndsEarly (many_at count after each) points_in step ends told at from to → EndsEarly (prefixed_at after each) points_in step ends told at old to
     counted_ends (Some m) after each points_in old from to count counted fails = then_fails (number_at old) (λ n. many_at n after each at.trail.last) count from m to counted fails
     counted_ends None after each points_in old from to count counted leads = λ xs stop e. leads xs stop (sym (ap (λ (a : Answer ℕ). a >>= λ n. many_at n after each at.trail.last) counted) ∙ e)
 
-    pub uncounted_ends : {A : Type 0} (told : Option Malformed) (after : PointValue → A → PointValue) (each : PointValue → Reader A) (points_in : List A → List PointValue) (old from : Reading) (m : Malformed) → number_at old ≡ (Err m, from) → IfSome told (λ t. t ≡ m)
-        → EndsEarly (counted_at after each) points_in step ends told at old from
+    uncounted_ends : {A : Type 0} (told : Option Malformed) (after : PointValue → A → PointValue) (each : PointValue → Reader A) (points_in : List A → List PointValue) (old from : Reading) (m : Malformed) → number_at old ≡ (Err m, from) → IfSome told (λ t. t ≡ m)
+        → EndsEarly (prefixed_at after each) points_in step ends told at old from
     uncounted_ends told after each points_in old from m failed same = go told same
       where
-        fails : Fails (counted_at after each at.trail.last old) m from
+        fails : Fails (prefixed_at after each at.trail.last old) m from
         fails = first_fails (number_at old) (λ n. many_at n after each at.trail.last) m from (record { left = from; is = failed; bytes = refl })
 
-        go : (told : Option Malformed) → IfSome told (λ t. t ≡ m) → EndsEarly (counted_at after each) points_in step ends told at old from
-        go (Some t) same = subst (λ (m : Malformed). Fails (counted_at after each at.trail.last old) m from) (sym same) fails
+        go : (told : Option Malformed) → IfSome told (λ t. t ≡ m) → EndsEarly (prefixed_at after each) points_in step ends told at old from
+        go (Some t) same = subst (λ (m : Malformed). Fails (prefixed_at after each at.trail.last old) m from) (sym same) fails
         go None same = λ xs stop e. absurd (ok_not_err xs m stop fails.left (sym e ∙ fails.is))
 
-    pub made_ends : {A B : Type 0} (told : Option Malformed) (f : A → B) (each : PointValue → Reader A) (points_in : A → List PointValue) (points_in_f : B → List PointValue) → ((x : A) → points_in x ≡ points_in_f (f x)) → (from to : Reading)
-        → EndsEarly each points_in step ends told at from to → EndsEarly (λ s r. viewed f (each s r)) points_in_f step ends told at from to
-    made_ends (Some m) f each points_in points_in_f same from to fails = viewed_fails f (each at.trail.last from) m to fails
-    made_ends {A} {B} None f each points_in points_in_f same from to leads = λ y stop e.
-        let x = viewed_back f (each at.trail.last from) y stop e in
-        subst (λ (y : B). ends (fold step at.state (lasts_from at.trail.last (points_in_f y)))) x.2
-        (subst (λ (ps : List PointValue). ends (fold step at.state (lasts_from at.trail.last ps))) (same x.0) (leads x.0 stop x.1))
+    -- values that are parts ended early
+    pub parts_end : {A : Type 0} {kind : Kind} {f : A → PolygonValue} {after : PointValue → A → PointValue} {each : ℕ → PointValue → Reader A} {points_in : List A → List PointValue} → AreParts kind f after each points_in → (told : Option Malformed) (count : ℕ) (from to : Reading)
+        → EndsEarly (many_at count after (each at.axes)) points_in step ends told at from to → EndsEarly (many_at count ring_sums (part_at kind at.axes)) points_of step ends told at from to
+    parts_end {A} {kind} {f} {after} {each} {points_in} are (Some m) count from to fails =
+        subst (λ (parts : PointValue → Reader (List PolygonValue)). Fails (parts at.trail.last from) m to) (are.read at.axes count) (viewed_fails (map f) (many_at count after (each at.axes) at.trail.last from) m to fails)
+    parts_end {A} {kind} {f} {after} {each} {points_in} are None count from to leads = λ parts stop e.
+        let x = viewed_back (map f) (many_at count after (each at.axes) at.trail.last from) parts stop ((λ j. are.read at.axes count j at.trail.last from) ∙ e) in
+        subst (λ (parts : List PolygonValue). ends (fold step at.state (lasts_from at.trail.last (points_of parts)))) x.2
+        (subst (λ (ps : List PointValue). ends (fold step at.state (lasts_from at.trail.last ps))) (are.points x.0) (leads x.0 stop x.1))
 
   -- ---- loops
   module _ {A : Type 0} (after : PointValue → A → PointValue) (each : PointValue → Reader A) (points_in : A → List PointValue)
@@ -141,33 +162,6 @@ module _ {S : Type 0} (step : S → PointValue → S) (at : Stage S) where
 
     abbrev all_points : List A → List PointValue
     all_points xs = flat_map points_in xs
-
-    -- i values were read, and their points lead to a stage at which the reader stands
-    pub record HasReadSome (stands : Stage S → Type 0) (i : ℕ) (r : Reading) : Type 0 where
-      pub trail : Trail
-      pub state : S
-      pub there : stands (on at trail state)
-      pub loop : Loop i trail state r
-
-    pub some_begin : (stands : Stage S → Type 0) → stands at → HasReadSome stands 0 from
-    some_begin stands there = record { trail = at.trail; state = at.state; there = there; loop = walk_begins step at.axes after each points_in after_is count at.trail at.state from }
-
-    -- no more points than bytes
-    pub some_ready : (stands : Stage S → Type 0) (i : ℕ) (r : Reading) → at.trail.points ≤ from.place → HasReadSome stands i r → IsReady stands r
-    some_ready stands i r few h = (on at h.trail h.state, h.there, omega (arith, few, h.loop.walked.points, h.loop.walked.ahead))
-
-    pub some_go_on : (stands next : Stage S → Type 0) (i : ℕ) (r new : Reading) → i < count → (h : HasReadSome stands i r) → HasRead each points_in step next (on at h.trail h.state) r new → HasReadSome next (i + 1) new
-    some_go_on stands next i r new lt h one = record {
-      trail = one.trail;
-      state = one.state;
-      there = one.there;
-      loop = walk_goes_on step at.axes after each points_in after_is count at.trail at.state from i h.trail one.trail h.state one.state r new one.value lt one.read one.walked h.loop;
-    }
-
-    pub some_end : (stands : Stage S → Type 0) (i : ℕ) (r : Reading) → i ≡ count → HasReadSome stands i r → HasRead (many_at count after each) all_points step stands at from r
-    some_end stands i r end h =
-        let e = walk_ends step at.axes after each points_in after_is count at.trail at.state from i h.trail h.state r end h.loop in
-        record { value = e.0; read = e.1; trail = h.trail; state = h.state; there = h.there; walked = e.2 }
 
     -- the values after those of a loop, if all can be read
     module _ (i : ℕ) (now : Trail) (t : S) (r : Reading) (l : Loop i now t r) where
@@ -226,8 +220,63 @@ module _ {S : Type 0} (step : S → PointValue → S) (at : Stage S) where
                 let b = viewed_back (λ zs. x ∷ zs) (many_at (count - (i + 1)) after each (after now.last x) mid) ys stop e in
                 subst (λ (zs : List A). ends (all_from t now.last zs)) b.2 (first x mid one b.0)
 
-    -- if the next value ends early, all do
-    pub some_fail : (told : Option Malformed) (ends : S → Type 0) (lasts : (s : S) (p : PointValue) → ends s → ends (step s p)) (stands : Stage S → Type 0) (i : ℕ) (r new : Reading) → i < count → (h : HasReadSome stands i r)
-        → EndsEarly each points_in step ends told (on at h.trail h.state) r new → EndsEarly (many_at count after each) all_points step ends told at from new
-    some_fail (Some m) ends lasts stands i r new lt h fails = walk_fails step at.axes after each points_in after_is count at.trail at.state from i h.trail h.state r new m lt fails h.loop
-    some_fail None ends lasts stands i r new lt h leads = next_leads i h.trail h.state r h.loop ends lasts lt leads
+-- ---- lists of values, one after another, each after its length
+module _ {S : Type 0} (step : S → PointValue → S) (at : Stage S) {A : Type 0} (after : PointValue → A → PointValue) (each : PointValue → Reader A) (points_in : List A → List PointValue) (count : ℕ) (from : Reading) where
+  abbrev list_after : PointValue → List A → PointValue
+  list_after s xs = sums s (points_in xs)
+
+  abbrev a_list : PointValue → Reader (List A)
+  a_list = prefixed_at after each
+
+  abbrev lists : PointValue → Reader (List (List A))
+  lists = many_at count list_after a_list
+
+  abbrev points_in_lists : List (List A) → List PointValue
+  points_in_lists xss = flat_map points_in xss
+
+  -- i lists were read, and their points lead to a stage at which the reader stands
+  pub record HasReadLists (stands : Stage S → Type 0) (i : ℕ) (r : Reading) : Type 0 where
+    pub trail : Trail
+    pub state : S
+    pub there : stands (on at trail state)
+    pub loop : IsWalkLoop step at.axes list_after a_list points_in (λ s xs. refl) count at.trail at.state from i trail state r
+
+  pub lists_begin : (stands : Stage S → Type 0) → stands at → HasReadLists stands 0 from
+  lists_begin stands there = record { trail = at.trail; state = at.state; there = there; loop = walk_begins step at.axes list_after a_list points_in (λ s xs. refl) count at.trail at.state from }
+
+  -- no more points than bytes, after a length too
+  pub lists_ready : (stands : Stage S → Type 0) (i : ℕ) (r mid : Reading) (n : ℕ) → at.trail.points ≤ from.place → number_at r ≡ (Ok n, mid) → HasReadLists stands i r → IsReady stands mid
+  lists_ready stands i r mid n few counted h =
+      let ahead = number_ahead n r mid counted in
+      (on at h.trail h.state, h.there, omega (arith, few, ahead, h.loop.walked.points, h.loop.walked.ahead))
+
+  -- a length was read, and as many values
+  pub lists_go_on : (stands next : Stage S → Type 0) (i : ℕ) (r mid new : Reading) (n : ℕ) → i < count → (h : HasReadLists stands i r) → number_at r ≡ (Ok n, mid) → HasRead (many_at n after each) points_in step next (on at h.trail h.state) mid new
+      → HasReadLists next (i + 1) new
+  lists_go_on stands next i r mid new n lt h counted values =
+      let one = counted_read step (on at h.trail h.state) next after each points_in r mid new n counted values in
+      record {
+        trail = one.trail;
+        state = one.state;
+        there = one.there;
+        loop = walk_goes_on step at.axes list_after a_list points_in (λ s xs. refl) count at.trail at.state from i h.trail one.trail h.state one.state r new one.value lt one.read one.walked h.loop;
+      }
+
+  pub lists_end : (stands : Stage S → Type 0) (i : ℕ) (r : Reading) → i ≡ count → HasReadLists stands i r → HasRead lists points_in_lists step stands at from r
+  lists_end stands i r end h =
+      let e = walk_ends step at.axes list_after a_list points_in (λ s xs. refl) count at.trail at.state from i h.trail h.state r end h.loop in
+      record { value = e.0; read = e.1; trail = h.trail; state = h.state; there = h.there; walked = e.2 }
+
+  module _ (ends : S → Type 0) (lasts : (s : S) (p : PointValue) → ends s → ends (step s p)) (told : Option Malformed) (stands : Stage S → Type 0) (i : ℕ) (r mid : Reading) (lt : i < count) (h : HasReadLists stands i r) where
+    -- if the next list ends early, all do
+    list_fails : (told : Option Malformed) (new : Reading) → EndsEarly a_list points_in step ends told (on at h.trail h.state) r new → EndsEarly lists points_in_lists step ends told at from new
+    list_fails (Some m) new fails = walk_fails step at.axes list_after a_list points_in (λ s xs. refl) count at.trail at.state from i h.trail h.state r new m lt fails h.loop
+    list_fails None new leads = next_leads step at list_after a_list points_in (λ s xs. refl) count from i h.trail h.state r h.loop ends lasts lt leads
+
+    -- its values do
+    pub values_fail : (n : ℕ) (new : Reading) → number_at r ≡ (Ok n, mid) → EndsEarly (many_at n after each) points_in step ends told (on at h.trail h.state) mid new → EndsEarly lists points_in_lists step ends told at from new
+    values_fail n new counted early = list_fails told new (counted_ends step (on at h.trail h.state) ends told after each points_in r mid new n counted early)
+
+    -- its length is malformed
+    pub length_fails : (m : Malformed) → number_at r ≡ (Err m, mid) → IfSome told (λ t. t ≡ m) → EndsEarly lists points_in_lists step ends told at from mid
+    length_fails m failed same = list_fails told mid (uncounted_ends step (on at h.trail h.state) ends told after each points_in r mid m failed same)

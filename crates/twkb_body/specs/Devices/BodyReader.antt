@@ -20,13 +20,17 @@ abbrev pub NumbersLead : ℕ → Reading → Reading → Type 0
 NumbersLead zero r stop = r ≡ stop
 NumbersLead (suc n) r stop = (z : ℤ) × (mid : Reading) × (signed_at r ≡ (Ok z, mid)) × NumbersLead n mid stop
 
+-- values, after their number
+abbrev pub prefixed_at : {A : Type 0} → (PointValue → A → PointValue) → (PointValue → Reader A) → PointValue → Reader (List A)
+prefixed_at after each s r = number_at r >>= λ n. many_at n after each s
+
 -- a ring, or a line
 abbrev pub ring_at : ℕ → PointValue → Reader Ring
-ring_at axes s r = number_at r >>= λ n. many_at n add (point_at axes) s
+ring_at axes = prefixed_at add (point_at axes)
 
 -- a polygon
 abbrev pub polygon_at : ℕ → PointValue → Reader PolygonValue
-polygon_at axes s r = number_at r >>= λ n. many_at n sums (ring_at axes) s
+polygon_at axes = prefixed_at sums (ring_at axes)
 
 -- a part of the kind
 abbrev pub part_at : Kind → ℕ → PointValue → Reader PolygonValue

@@ -15,6 +15,11 @@ use Rattle.twkb_body.proofs.shown.show_ring.Goals as goal
 pub unreachable-requires : goal.unreachable-requires
 unreachable-requires g c = count_reads (λ (n : ℕ). many_at n add (point_at c.args.axes)) (one_ring g.V.Visit.step c.args.head.now c.args.axes) (at c.args.lost.now c.args.trail.now (g.V.Visit.state c.args.visitor.now) c.args.cursor.now) _ c.in_default.field-0 c.requires.known c.in_default.ensures
 
+pub pass_known-requires : goal.pass_known-requires
+pass_known-requires g c =
+    let k = counted_known (λ (n : ℕ). many_at n add (point_at c.args.axes)) (one_ring g.V.Visit.step c.args.head.now c.args.axes) c.in-Ok.count (at c.args.lost.now c.args.trail.now (g.V.Visit.state c.args.visitor.now) c.args.cursor.now) c.take_number.new.cursor c.in-Ok.ensures c.requires.known in
+    record { known = (k.from.last, k.value, k.stop, k.read) }
+
 pub returns-then-lost : goal.returns-then-lost
 returns-then-lost g c =
     counted_shown (λ (n : ℕ). many_at n add (point_at c.args.axes)) (one_ring g.V.Visit.step c.args.head.now c.args.axes) c.in-Ok.count (at c.args.lost.now c.args.trail.now (g.V.Visit.state c.args.visitor.now) c.args.cursor.now) c.take_number.new.cursor c.in-Ok.ensures _
