@@ -17,7 +17,7 @@ use twkb_num::{Cursor, units};
 const CLOSE: i64 = 1 << 62;
 
 /// No run that is summed up without tests has more points than this.
-pub const LONGEST: u64 = 1 << 34;
+const LONGEST: u64 = 1 << 34;
 
 impl<V: Visit> Points for V {
     ghost use Rattle.twkb_body.specs.Devices.Walk.{shown};
@@ -52,7 +52,7 @@ impl<V: Visit> Points for V {
 
 /// Whether a sum is at most 2^62 from zero.
 #[inline(always)]
-pub fn is_close(sum: i64) -> bool
+fn is_close(sum: i64) -> bool
     ensures { IsTrue result ↔ ((neg_ℤ (pos (2 ^ 62)) ≤ℤ sum) × (sum ≤ℤ pos (2 ^ 62))) }
 {
     -CLOSE <= sum && sum <= CLOSE
