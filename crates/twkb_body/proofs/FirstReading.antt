@@ -6,9 +6,10 @@ use Rattle.twkb_head.specs.declared.header.Head.{Head}
 use Rattle.twkb_head.specs.declared.kinds.Kind.{Kind}
 use Rattle.twkb_head.specs.declared.raw.Fields.{Fields}
 use Rattle.twkb_head.specs.declared.raw.RawBox.{RawBox}
+use Rattle.twkb_head.specs.declared.read.Begun.{Begun}
 use Rattle.twkb_head.specs.BegunHeader.{deepest, is_collection}
 use Rattle.twkb_head.specs.Head.{IsHeadAt}
-use Rattle.twkb_head.specs.Header.{axes_of, axes_with, is_multi}
+use Rattle.twkb_head.specs.Header.{axes_of, axes_with, is_multi, has_bit}
 use Rattle.twkb_head.specs.Raw.{head_said, boxless}
 use Rattle.twkb_head.specs.Shared.Reader.{Answer}
 use Rattle.twkb_body.specs.declared.doubt.Doubt.{Doubt}
@@ -21,7 +22,7 @@ use Rattle.twkb_body.specs.Devices.Bare.{unchanged}
 use Rattle.twkb_body.specs.Devices.BodyReader.{geometry_at}
 use Rattle.twkb_body.specs.Devices.Inside.{of_head}
 use Rattle.twkb_body.specs.Devices.Stops.{WantsBehind}
-use Rattle.twkb_body.specs.Devices.Sure.{framed, IsCounted, ReadParts, AreMalformed, IsFrameUnder, IsRefuted, IsRefutedBody, IsJudged, HasDoubt, Certifies}
+use Rattle.twkb_body.specs.Devices.Sure.{framed, IsCounted, ReadParts, AreMalformed, IsFrameUnder, IsRefuted, IsRefutedBody, HasBegunPlain, IsJudged, HasDoubt, Certifies}
 use Rattle.twkb_body.proofs.AuditFacts.{blob_stands, is_malformed}
 use Rattle.twkb_body.proofs.BlobLaws.{blob_once}
 use Rattle.twkb_body.proofs.ClaimPlaces.{claims_move_by}
@@ -32,22 +33,37 @@ use Rattle.twkb_body.proofs.ShapeSteps.{one_alone}
 use Rattle.twkb_body.proofs.SureSteps.{body_unboxed, frame_alone}
 
 -- ---- a blob of X and Y with one part and no box
+-- the fields of a geometry of this kind, of X and Y alone, without a box
+pub record IsPlain (kind : Kind) (raw : Fields) : Type 0 where
+  pub has_kind : raw.kind ≡ kind
+  pub z : raw.axes.z ≡ None
+  pub m : raw.axes.m ≡ None
+  pub full : raw.empty ≡ false
+  pub no_box : raw.bounds ≡ None
+
+pub plain_fields : (kind : Kind) (begun : Begun) (raw : Fields) (now : Reading) → HasBegunPlain kind begun now
+    → raw.kind ≡ begun.kind → (has_bit begun.metadata 8 ≡ false → (raw.axes.z ≡ None) × (raw.axes.m ≡ None)) → raw.empty ≡ has_bit begun.metadata 16 → (has_bit begun.metadata 1 ≡ false → raw.bounds ≡ None)
+    → IsPlain kind raw
+plain_fields kind begun raw now plain has_kind flat empty no_box =
+    let axes = flat plain.flat in
+    record { has_kind = has_kind ∙ plain.has_kind; z = axes.0; m = axes.1; full = empty ∙ plain.full; no_box = no_box plain.no_box }
+
 module _ (raw : Fields) (plain : Head) (same : plain ≡ boxless raw) (kind : Kind) (r mid new : Reading) (sound : IsSound r) (at : IsHeadAt (head_said raw) 1 r.place (passed r mid)) (moved : IsMoved r mid)
-    (kind_is : raw.kind ≡ kind) (single : is_collection kind ≡ false) (one : is_multi kind ≡ false) (z : raw.axes.z ≡ None) (m : raw.axes.m ≡ None) (full : raw.empty ≡ false) (no_box : raw.bounds ≡ None) where
+    (single : is_collection kind ≡ false) (one : is_multi kind ≡ false) (fields : IsPlain kind raw) where
   under : IsFrameUnder None plain (option_map (framed plain) raw.bounds) None
-  under = subst (λ (o : Option RawBox). IsFrameUnder None plain (option_map (framed plain) o) None) (sym no_box) (frame_alone plain None tt)
+  under = subst (λ (o : Option RawBox). IsFrameUnder None plain (option_map (framed plain) o) None) (sym fields.no_box) (frame_alone plain None tt)
 
   plain_kind : plain.kind ≡ kind
-  plain_kind = ap (λ (h : Head). h.kind) same ∙ kind_is
+  plain_kind = ap (λ (h : Head). h.kind) same ∙ fields.has_kind
 
   plain_full : plain.empty ≡ false
-  plain_full = ap (λ (h : Head). h.empty) same ∙ full
+  plain_full = ap (λ (h : Head). h.empty) same ∙ fields.full
 
   plain_single : is_collection plain.kind ≡ false
   plain_single = ap is_collection plain_kind ∙ single
 
   two : 2 ≡ axes_of (of_head plain)
-  two = sym (ap (λ (h : Head). axes_with h.z h.m) same ∙ ap₂ axes_with z m)
+  two = sym (ap (λ (h : Head). axes_with h.z h.m) same ∙ ap₂ axes_with fields.z fields.m)
 
   counted : IsCounted (is_multi plain.kind) plain.ids mid mid 1
   counted = one_alone (is_multi plain.kind) plain.ids mid (ap is_multi plain_kind ∙ one)

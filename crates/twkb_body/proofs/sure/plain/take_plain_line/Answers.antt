@@ -5,7 +5,7 @@ use Rattle.twkb_head.specs.declared.kinds.Kind.TheVariants.{LineString}
 use Rattle.twkb_body.specs.Devices.Sure.{IsJudged}
 use Rattle.twkb_body.proofs.Refuting.{rest_refutes}
 use Rattle.twkb_body.proofs.RawGeometries.{flat_ends}
-use Rattle.twkb_body.proofs.FirstReading.{bare_certifies, bare_doubts}
+use Rattle.twkb_body.proofs.FirstReading.{plain_fields, bare_certifies, bare_doubts}
 use Rattle.twkb_body.proofs.sure.plain.take_plain_line.Goals as goal
 
 pub returns-in_default : goal.returns-in_default
@@ -15,12 +15,9 @@ returns-in_default c = λ before sound begins.
 pub returns-in_err-vertices : goal.returns-in_err-vertices
 returns-in_err-vertices c = λ before sound begins.
     let s = c.in-Ok.ensures.read 1 before sound begins in
-    let flat = c.in-Ok.ensures.flat c.requires.flat in
-    let full = c.in-Ok.ensures.empty ∙ c.requires.full in
-    let no_box = c.in-Ok.ensures.no_box c.requires.no_box in
-    let kind = c.in-Ok.ensures.kind ∙ c.requires.has_kind in
+    let plain = plain_fields LineString c.args.begun c.in-Ok.raw c.args.cursor.now c.requires c.in-Ok.ensures.kind c.in-Ok.ensures.flat c.in-Ok.ensures.empty c.in-Ok.ensures.no_box in
     let p = err_from_is_err_and c.from_residual.result c.from_residual.ensures.1 in
-    rw (p.1, p.2) (bare_doubts c.in-Ok.raw c.boxless-head.result c.boxless-head.ensures LineString before c.take_rest.new.cursor c.take_flat_line.new.cursor sound s.0 s.1 kind refl refl flat.0 flat.1 full no_box _ c.in_err-vertices.ensures.refused c.in_err-vertices.ensures.malformed)
+    rw (p.1, p.2) (bare_doubts c.in-Ok.raw c.boxless-head.result c.boxless-head.ensures LineString before c.take_rest.new.cursor c.take_flat_line.new.cursor sound s.0 s.1 refl refl plain _ c.in_err-vertices.ensures.refused c.in_err-vertices.ensures.malformed)
 
 pub judged-requires : goal.judged-requires
 judged-requires c =
@@ -31,9 +28,6 @@ judged-requires c =
 pub returns : goal.returns
 returns c = λ before sound begins.
     let s = c.in-Ok.ensures.read 1 before sound begins in
-    let flat = c.in-Ok.ensures.flat c.requires.flat in
-    let full = c.in-Ok.ensures.empty ∙ c.requires.full in
-    let no_box = c.in-Ok.ensures.no_box c.requires.no_box in
-    let kind = c.in-Ok.ensures.kind ∙ c.requires.has_kind in
-    bare_certifies c.in-Ok.raw c.boxless-head.result c.boxless-head.ensures LineString before c.take_rest.new.cursor c.take_flat_line.new.cursor sound s.0 s.1 kind refl refl flat.0 flat.1 full no_box c.in_ok-vertices.vertices c.judged.result c.in_ok-vertices.ensures.ok
+    let plain = plain_fields LineString c.args.begun c.in-Ok.raw c.args.cursor.now c.requires c.in-Ok.ensures.kind c.in-Ok.ensures.flat c.in-Ok.ensures.empty c.in-Ok.ensures.no_box in
+    bare_certifies c.in-Ok.raw c.boxless-head.result c.boxless-head.ensures LineString before c.take_rest.new.cursor c.take_flat_line.new.cursor sound s.0 s.1 refl refl plain c.in_ok-vertices.vertices c.judged.result c.in_ok-vertices.ensures.ok
     (subst (λ (stop : ℕ). IsJudged c.boxless-head.result stop c.in_ok-vertices.vertices c.judged.result) c.place.ensures.value c.judged.ensures)

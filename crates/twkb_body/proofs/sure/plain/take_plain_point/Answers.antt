@@ -7,7 +7,7 @@ use Rattle.twkb_body.specs.Devices.Found.{size_judged}
 use Rattle.twkb_body.specs.Devices.Sure.{IsJudged, Certifies}
 use Rattle.twkb_body.proofs.HeadFacts.{head_size}
 use Rattle.twkb_body.proofs.Refuting.{rest_refutes}
-use Rattle.twkb_body.proofs.FirstReading.{bare_certifies, bare_doubts}
+use Rattle.twkb_body.proofs.FirstReading.{plain_fields, bare_certifies, bare_doubts}
 use Rattle.twkb_body.proofs.sure.plain.take_plain_point.Goals as goal
 
 pub returns-in_default-clause-certified : goal.returns-in_default-clause-certified
@@ -17,12 +17,9 @@ returns-in_default-clause-certified c = λ before sound begins.
 pub returns-in_err-vertices-clause-certified : goal.returns-in_err-vertices-clause-certified
 returns-in_err-vertices-clause-certified c = λ before sound begins.
     let s = c.in-Ok.ensures.read 1 before sound begins in
-    let flat = c.in-Ok.ensures.flat c.requires.flat in
-    let full = c.in-Ok.ensures.empty ∙ c.requires.full in
-    let no_box = c.in-Ok.ensures.no_box c.requires.no_box in
-    let kind = c.in-Ok.ensures.kind ∙ c.requires.has_kind in
+    let plain = plain_fields Point c.args.begun c.in-Ok.raw c.args.cursor.now c.requires c.in-Ok.ensures.kind c.in-Ok.ensures.flat c.in-Ok.ensures.empty c.in-Ok.ensures.no_box in
     let p = err_from_is_err_and c.from_residual.result c.from_residual.ensures.1 in
-    rw (p.1, p.2) (bare_doubts c.in-Ok.raw (boxless c.in-Ok.raw) refl Point before c.take_rest.new.cursor c.take_bare_point.new.cursor sound s.0 s.1 kind refl refl flat.0 flat.1 full no_box _ c.in_err-vertices.ensures.refused c.in_err-vertices.ensures.malformed)
+    rw (p.1, p.2) (bare_doubts c.in-Ok.raw (boxless c.in-Ok.raw) refl Point before c.take_rest.new.cursor c.take_bare_point.new.cursor sound s.0 s.1 refl refl plain _ c.in_err-vertices.ensures.refused c.in_err-vertices.ensures.malformed)
 
 pub judged_stop-requires-clause-after : goal.judged_stop-requires-clause-after
 judged_stop-requires-clause-after c =
@@ -33,22 +30,16 @@ judged_stop-requires-clause-after c =
 pub returns-in_err-stop-clause-certified : goal.returns-in_err-stop-clause-certified
 returns-in_err-stop-clause-certified c = λ before sound begins.
     let s = c.in-Ok.ensures.read 1 before sound begins in
-    let flat = c.in-Ok.ensures.flat c.requires.flat in
-    let full = c.in-Ok.ensures.empty ∙ c.requires.full in
-    let no_box = c.in-Ok.ensures.no_box c.requires.no_box in
-    let kind = c.in-Ok.ensures.kind ∙ c.requires.has_kind in
+    let plain = plain_fields Point c.args.begun c.in-Ok.raw c.args.cursor.now c.requires c.in-Ok.ensures.kind c.in-Ok.ensures.flat c.in-Ok.ensures.empty c.in-Ok.ensures.no_box in
     let p = err_from_is_err_and c.from_residual-in_err-stop.result c.from_residual-in_err-stop.ensures.1 in
     let judged : IsJudged (boxless c.in-Ok.raw) c.take_bare_point.new.cursor.place c.in_ok-vertices.vertices (Err c.in_err-stop.field-0.0) =
     subst (λ (stop : ℕ). IsJudged (boxless c.in-Ok.raw) stop c.in_ok-vertices.vertices (Err c.in_err-stop.field-0.0)) c.place.ensures.value c.in_err-stop.ensures.err in
-    rw (p.1, p.2) (bare_certifies c.in-Ok.raw (boxless c.in-Ok.raw) refl Point before c.take_rest.new.cursor c.take_bare_point.new.cursor sound s.0 s.1 kind refl refl flat.0 flat.1 full no_box c.in_ok-vertices.vertices (Err c.in_err-stop.field-0.0) c.in_ok-vertices.ensures.ok judged)
+    rw (p.1, p.2) (bare_certifies c.in-Ok.raw (boxless c.in-Ok.raw) refl Point before c.take_rest.new.cursor c.take_bare_point.new.cursor sound s.0 s.1 refl refl plain c.in_ok-vertices.vertices (Err c.in_err-stop.field-0.0) c.in_ok-vertices.ensures.ok judged)
 
 pub returns-clause-certified : goal.returns-clause-certified
 returns-clause-certified c = λ before sound begins.
     let s = c.in-Ok.ensures.read 1 before sound begins in
-    let flat = c.in-Ok.ensures.flat c.requires.flat in
-    let full = c.in-Ok.ensures.empty ∙ c.requires.full in
-    let no_box = c.in-Ok.ensures.no_box c.requires.no_box in
-    let kind = c.in-Ok.ensures.kind ∙ c.requires.has_kind in
+    let plain = plain_fields Point c.args.begun c.in-Ok.raw c.args.cursor.now c.requires c.in-Ok.ensures.kind c.in-Ok.ensures.flat c.in-Ok.ensures.empty c.in-Ok.ensures.no_box in
     let judged : IsJudged (boxless c.in-Ok.raw) c.take_bare_point.new.cursor.place c.in_ok-vertices.vertices (Ok c.in_ok-vertices.vertices) =
     (refl, subst (λ (stop : ℕ). size_judged c.in-Ok.raw.size stop ≡ None) c.place.ensures.value c.in_ok-stop.ensures.ok.1) in
-    subst (Certifies 1 None before (Ok c.in_ok-vertices.vertices)) (sym c.go_on_from.ensures) (bare_certifies c.in-Ok.raw (boxless c.in-Ok.raw) refl Point before c.take_rest.new.cursor c.take_bare_point.new.cursor sound s.0 s.1 kind refl refl flat.0 flat.1 full no_box c.in_ok-vertices.vertices (Ok c.in_ok-vertices.vertices) c.in_ok-vertices.ensures.ok judged)
+    subst (Certifies 1 None before (Ok c.in_ok-vertices.vertices)) (sym c.go_on_from.ensures) (bare_certifies c.in-Ok.raw (boxless c.in-Ok.raw) refl Point before c.take_rest.new.cursor c.take_bare_point.new.cursor sound s.0 s.1 refl refl plain c.in_ok-vertices.vertices (Ok c.in_ok-vertices.vertices) c.in_ok-vertices.ensures.ok judged)
