@@ -339,7 +339,7 @@ fn take_further_body<R: IdRoom>(
 
 /// Reads the members of a collection at `depth`.
 #[cycle(take_flat)]
-#[inline(never)]
+#[inline(always)]
 fn take_members<R: IdRoom>(
     room: &mut R,
     cursor: &mut Cursor,

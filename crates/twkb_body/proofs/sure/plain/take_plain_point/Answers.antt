@@ -1,5 +1,5 @@
 -- The header of the point announces no box, so only its part and its size, if it has one, decide.
-use Rattle.std.proofs.Common.{◌≡◌, ℕ, None, Ok, Err, refl, sym, subst, ◌∙◌, arith}
+use Rattle.std.proofs.Common.{◌≡◌, ℕ, None, Ok, Err, refl, sym, subst, arith}
 use Rattle.std.proofs.lemmas.Result.{err_from_is_err_and}
 use Rattle.twkb_head.specs.Raw.{head_said, boxless}
 use Rattle.twkb_head.specs.declared.kinds.Kind.TheVariants.{Point}
