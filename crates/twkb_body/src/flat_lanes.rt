@@ -7,7 +7,7 @@ ghost use Rattle.twkb_body.specs.Devices.Body.{zeros};
 
 use crate::lane_trail::{LaneReader, LaneTrail};
 use crate::positions::{Reached, Step, distances_in, is_in_lane, is_lane_extent, lanes_of};
-use crate::quads::{next_points, next_two};
+use crate::quads::{next_one, next_points, next_two};
 use crate::varints::take_signed;
 use std::simd::prelude::*;
 use twkb_head::{RawBox, RawRange};
@@ -41,10 +41,14 @@ impl LaneReader for FlatLanes {
 
     ghost place = { λ reader. IsFlatPlace };
 
-    /// Reads two points at once, or none.
+    /// Reads one point of an odd number and two of an even one, or none. Steps of four and of two read the others, and leave none
+    /// over.
     #[inline(always)]
     fn take_first(&self, cursor: &mut Cursor, left: u64, at: u32x4, extent: u32x4) -> Step {
-        if left < 2 {
+        if left % 2 == 1 {
+            return next_one(cursor, at, extent);
+        }
+        if left == 0 {
             return Step::none(at);
         }
         next_two(cursor, at, extent)
