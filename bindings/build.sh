@@ -2,7 +2,7 @@
 # Builds build/bindings/libtwkb.a and libtwkb.so out of the proved static library.
 # usage: bindings/build.sh [--second|--sources]
 # `make library` proves the libraries below it before.
-# With --second it is build/bindings/second/libtwkb.a alone, by the kit's second compiler, to compare the answers of both.
+# With --second it builds build/bindings/second/libtwkb.a alone, by the kit's second compiler, to compare the answers of both.
 # With --sources it builds nothing, and prints what the library is made of beside the crates.
 # Wants rt of the Rattle kit, ar and gcc. If the libraries are current, nothing is done; with --second they are always built.
 set -eu
@@ -10,7 +10,7 @@ cd "$(dirname "$0")/.."
 top=$PWD
 out=$top/build/bindings
 mode=${1-}
-# What it is made of, as dist.sh asks too.
+# What the library is made of beside the crates. tools/dist.sh asks for this list too.
 set -- bindings/build.sh bindings/prove.sh bindings/exports.map bindings/c/version.c bindings/c/twkb.h
 if [ "$mode" = --sources ]; then
     printf '%s\n' "$@"

@@ -1,4 +1,4 @@
-//! Lists of seventeen ids.
+//! Multipoints with seventeen ids.
 
 /// A multipoint with seventeen ids, one more than an audit holds without memory.
 pub const SEVENTEEN_IDS: [u8; 54] = [

@@ -3,7 +3,7 @@
 //! A [`layer`] is a few blobs of all seven types, with collections in collections, at precisions that differ from
 //! header to header, some with Z or M, with ids, with a size or a box, and some empty. Each size, box and list of ids in
 //! it is true, since it is written after the bytes that it describes. A [`window`] lies on or beside a place that it is
-//! given. [`nested`] isn't made at random: it is collections in one another, as many as are wanted. Nor are constants.
+//! given. [`nested`] isn't made at random: it is collections in one another, as many as are wanted. Nor are the constants.
 #![tactic(auto)]
 
 mod dice;

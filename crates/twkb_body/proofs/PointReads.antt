@@ -273,10 +273,10 @@ module _ {S : Type 0} (step : S → PointValue → S) (at : Stage S) {A : Type 0
     list_fails (Some m) new fails = walk_fails step at.axes list_after a_list points_in (λ s xs. refl) count at.trail at.state from i h.trail h.state r new m lt fails h.loop
     list_fails None new leads = next_leads step at list_after a_list points_in (λ s xs. refl) count from i h.trail h.state r h.loop ends lasts lt leads
 
-    -- its values do
+    -- if its values end early, all lists do
     pub values_fail : (n : ℕ) (new : Reading) → number_at r ≡ (Ok n, mid) → EndsEarly (many_at n after each) points_in step ends told (on at h.trail h.state) mid new → EndsEarly lists points_in_lists step ends told at from new
     values_fail n new counted early = list_fails told new (counted_ends step (on at h.trail h.state) ends told after each points_in r mid new n counted early)
 
-    -- its length is malformed
+    -- if its length is malformed, all lists end early
     pub length_fails : (m : Malformed) → number_at r ≡ (Err m, mid) → IfSome told (λ t. t ≡ m) → EndsEarly lists points_in_lists step ends told at from mid
     length_fails m failed same = list_fails told mid (uncounted_ends step (on at h.trail h.state) ends told after each points_in r mid m failed same)

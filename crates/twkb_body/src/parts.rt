@@ -48,7 +48,7 @@ trait Values<R: PointReader> {
     /// The sums after a value.
     ghost after: { PointValue → Value → PointValue };
 
-    /// The points of values.
+    /// The points of some values, one after another.
     ghost points_in: { List Value → List PointValue };
 
     /// Reads `count` values.
@@ -83,7 +83,7 @@ impl<R: PointReader> Values<R> for Run {
     }
 }
 
-/// Values that a function reads which isn't inlined: the compiler inlines nothing into a function that would grow very large.
+/// Values read by a function that isn't inlined, since the compiler inlines nothing into a function that would grow very large.
 #[derive(Drop)]
 struct OutOfLine<V>(V);
 
@@ -115,7 +115,7 @@ impl<R: PointReader, V: Values<R>> Values<R> for Prefixed<V> {
 
     ghost points_in = { λ lists. flat_map V.points_in lists };
 
-    /// Reads a length and then as many values, again and again.
+    /// Reads `count` lists: of each, its length and then as many values.
     // Out of line for the reason that `OutOfLine` gives.
     #[inline(never)]
     fn take(&self, cursor: &mut Cursor, count: u64, reader: &mut R) -> Result<(), R::Fault> {

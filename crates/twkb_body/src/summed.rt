@@ -3,7 +3,7 @@
 use crate::visit::Visit;
 use twkb_head::{Axes, Bounds, Vertex};
 
-/// A visitor that looks at no vertex, and is never settled, so that every coordinate is summed.
+/// A visitor that looks at no vertex. It is never settled, since runs are read only for a visitor that isn't.
 #[derive(Drop)]
 pub struct Summed;
 

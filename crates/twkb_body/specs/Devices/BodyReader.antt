@@ -20,7 +20,7 @@ abbrev pub NumbersLead : ℕ → Reading → Reading → Type 0
 NumbersLead zero r stop = r ≡ stop
 NumbersLead (suc n) r stop = (z : ℤ) × (mid : Reading) × (signed_at r ≡ (Ok z, mid)) × NumbersLead n mid stop
 
--- values, after their number
+-- a number, and then as many values
 abbrev pub prefixed_at : {A : Type 0} → (PointValue → A → PointValue) → (PointValue → Reader A) → PointValue → Reader (List A)
 prefixed_at after each s r = number_at r >>= λ n. many_at n after each s
 

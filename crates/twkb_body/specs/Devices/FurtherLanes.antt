@@ -18,7 +18,7 @@ use Rattle.twkb_body.specs.Devices.Quads.{IsInLane, IsLaneExtent}
 abbrev pub four_lanes : Numbers → List ℕ
 four_lanes n = cast_unsigned w32 n.x ∷ cast_unsigned w32 n.y ∷ cast_unsigned w32 n.third ∷ cast_unsigned w32 n.fourth ∷ []
 
--- pairs two by two, each two the numbers of a point of four axes
+-- pairs two by two: the numbers of points of four axes
 abbrev pub fours_of : List (ℤ × ℤ) → List Numbers
 fours_of [] = []
 fours_of (p ∷ []) = []

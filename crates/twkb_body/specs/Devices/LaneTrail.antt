@@ -48,9 +48,9 @@ LeavesBox axes each points_in box last from = Leads each points_in (held_then ax
 abbrev pub PointsLeave : ℕ → ℕ → RawBox → PointValue → Reading → Type 0
 PointsLeave axes count box last from = LeavesBox axes (many_at count add (point_at axes)) (λ points. points) box last from
 
--- A step among points, of which `left` were left. Take any box for which the lanes hold the distances of the last point. If the step
--- ends inside, the box holds the points of the step, and the new lanes hold the distances of the last one. If it doesn't, the box
--- doesn't hold all points that were left.
+-- A step among points, of which `left` were left. Take any box whose extents are in `extent`, and for which `at` holds the distances
+-- of the last point. If the step ends inside, the box holds the points of the step, and the new lanes hold the distances of the last
+-- one. If it doesn't, the box doesn't hold all points that were left.
 pub record IsLaneStep (axes left : ℕ) (place : RawBox → List ℕ → List ℕ → PointValue → Type 0) (at extent : List ℕ)
     (old new : Reading) (step : Step) : Type 0 where
   pub inside : step.reached.inside ≡ true → (box : RawBox) (trail : Trail) → place box at extent trail.last

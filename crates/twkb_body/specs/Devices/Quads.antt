@@ -60,7 +60,8 @@ pub record IsQuadStep (w h x y : ℤ) (old new : Reading) (points : ℕ) (at : L
   pub read : ReadsPairs differences old new
   pub reached : HaveReached w h x y differences at inside
 
--- This many points at most were read, by a step of this kind. The bytes stay as they were, and all else too if none was read.
+-- This many points at most were read, by a step of this kind. The bytes stay as they were, and if no point was read, so does all
+-- else.
 pub record ReadsAtMost (most : ℕ) (is_step : Reading → Reading → Step → Type 0) (old new : Reading) (result : Step)
     : Type 0 where
   pub few : result.points ≤ most

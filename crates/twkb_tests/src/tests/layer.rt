@@ -75,12 +75,12 @@ fn window(ranges: &Bounds) -> Window {
 /// The hit in each place of a room before a scan.
 const NOWHERE: Hit = Hit { blob: 9, offset: 9 };
 
-// A scan found the hit of the case, or none, and put no other into the room, and the two counts of bytes are equal.
+// A scan found the hit of the case, or none, put no other into the room, and read as many bytes as wanted.
 fn found_as_worked(
     rt: &impl Abort,
     case: &Case,
     (room, found): ([Hit; 2], usize),
-    counts: (u64, u64),
+    (read, wanted): (u64, u64),
 ) {
     let Case { bytes, window, .. } = case;
     equal(
@@ -93,5 +93,5 @@ fn found_as_worked(
         (room, window, bytes),
         ([case.hit.unwrap_or(NOWHERE), NOWHERE], window, bytes),
     );
-    equal(rt, (counts.0, window, bytes), (counts.1, window, bytes));
+    equal(rt, (read, window, bytes), (wanted, window, bytes));
 }

@@ -1,4 +1,4 @@
-//! Worked files: layers that are certified, in tight checking too, and layers that are refused.
+//! Worked files: layers that are certified, all but one in tight checking too, and layers that are refused.
 use super::worked::{
     BOXED_LINE, BOXED_POINT, EMPTY, EMPTY_BOXED_POINT, MANY_IDS_ANNOUNCED, TWO_BLOBS,
     Z_IN_THE_BOX_ALONE,

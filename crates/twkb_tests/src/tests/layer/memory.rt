@@ -24,7 +24,7 @@ fn runs_out<A: Allocator>(rt: &impl Abort, memory: &A, bytes: &[u8]) -> bool {
 }
 
 // Each request for memory is refused in turn, until a run meets no refusal. A run returns whether memory was refused.
-// The allocator grants what is wanted after that, so the same run with it, tried again, has all memory.
+// After a refusal the allocator grants everything, so the run succeeds when it is tried again.
 fn each_is_refused<F: FnMut(&Refusing<Global>) -> bool>(rt: &impl Abort, alloc: Global, mut run: F)
     requires { F.IsAlwaysCallable run }
 {
