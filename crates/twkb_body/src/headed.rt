@@ -57,7 +57,7 @@ pub fn read_and_pass(cursor: &mut Cursor) -> Fields
     let raw = take_header(cursor);
     match raw.size {
         Some(size) => cursor.go_to(size.after + size.value as usize),
-        None => skim_headed(cursor, raw, &mut Passer),
+        None => skim_headed(cursor, raw, &mut Passer::<true>),
     }
     raw
 }

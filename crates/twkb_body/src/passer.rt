@@ -3,11 +3,12 @@
 use crate::visit::Visit;
 use twkb_head::{Axes, Bounds, RawBox, RawRange, Vertex};
 
-/// A visitor that looks at no vertex and skips every box.
+/// A visitor that looks at no vertex and skips every box. If `SETTLED`, it is settled from the start, so points are passed without
+/// decoding their numbers. Otherwise these are summed, to find a coordinate that doesn't fit 64 bits.
 #[derive(Drop)]
-pub struct Passer;
+pub struct Passer<const SETTLED: bool>;
 
-impl Visit for Passer {
+impl<const SETTLED: bool> Visit for Passer<SETTLED> {
     ghost use Rattle.std.specs.Prelude.{true, refl};
 
     ghost State = { Unit {0} };
@@ -43,6 +44,6 @@ impl Visit for Passer {
 
     #[inline(always)]
     fn is_settled(&self) -> bool {
-        true
+        SETTLED
     }
 }

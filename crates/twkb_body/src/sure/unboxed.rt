@@ -8,7 +8,7 @@ ghost use Rattle.twkb_body.specs.declared.doubt.Doubt.TheVariants.{Refused};
 
 use super::parts::take_walk;
 use crate::doubt::Doubt;
-use crate::summed::Summed;
+use crate::passer::Passer;
 use crate::walk::bare_head;
 use twkb_head::Kind;
 use twkb_num::Cursor;
@@ -117,6 +117,6 @@ fn take_summed(cursor: &mut Cursor, kind: Kind, axes: usize, count: u64) -> Resu
     ensures refused { IfErr result (λ doubt. doubt ≡ Refused) }
 {
     let head = bare_head(kind, axes);
-    let walk = take_walk(cursor, &head, axes, count, Summed)?;
+    let walk = take_walk(cursor, &head, axes, count, Passer::<false>)?;
     Ok(walk.trail.points)
 }
