@@ -11,7 +11,7 @@ use crate::passer::Passer;
 use crate::skimming::skim_members;
 use crate::step::enter_headed;
 use crate::visit::Visit;
-use twkb_head::{Fields, begin_head, take_boxed_rest, take_rest};
+use twkb_head::{BoxCalled, BoxInlined, Fields, begin_head, take_rest};
 use twkb_num::Cursor;
 
 /// Shows the vertices of the certified blob at the place to a visitor, as [`skim`](crate::skim) does, and returns its header.
@@ -77,11 +77,11 @@ fn take_header(cursor: &mut Cursor) -> Fields
     };
     // Most headers are of the first two kinds: there the compiler knows which fields there are.
     let read = if begun.is_flat_boxed() {
-        take_boxed_rest(cursor, begun.announcing(3))
+        take_rest::<BoxInlined>(cursor, begun.announcing(3))
     } else if begun.is_sized_point() {
-        take_rest(cursor, begun.announcing(2))
+        take_rest::<BoxCalled>(cursor, begun.announcing(2))
     } else {
-        take_rest(cursor, begun)
+        take_rest::<BoxCalled>(cursor, begun)
     };
     let Ok(raw) = read else { unreachable!() };
     raw

@@ -13,7 +13,7 @@ use crate::body::{enter_deep_body, enter_flat, enter_point};
 use crate::known::{known_range, pass_range, short_ranges};
 use crate::varints::take_number;
 use crate::visit::Visit;
-use twkb_head::{Axes, Begun, Fields, Kind, RawBox, RawRange, begun_as, begun_by, take_boxed_rest};
+use twkb_head::{Axes, Begun, BoxInlined, Fields, Kind, RawBox, RawRange, begun_as, begun_by, take_rest};
 use twkb_num::Cursor;
 
 /// Reads a header and then the points after it, or the list of members up to the first, or jumps over all of them. It returns
@@ -86,7 +86,7 @@ fn enter_begun<V: Visit>(cursor: &mut Cursor, begun: Begun, visitor: &mut V) -> 
 {
     // Points with a size, and geometries with a size and a box in X and Y, were read before. Most boxes that are left have Z or M, and
     // their reader is inlined here.
-    let Ok(raw) = take_boxed_rest(cursor, begun) else {
+    let Ok(raw) = take_rest::<BoxInlined>(cursor, begun) else {
         unreachable!()
     };
     enter_headed(cursor, raw, visitor)

@@ -5,6 +5,7 @@ ghost use Rattle.twkb_num.specs.Cursor.{Reading};
 ghost use Rattle.twkb_num.specs.Units.{IsPrecision};
 ghost use Rattle.twkb_head.specs.BegunHeader.{deepest, is_collection, IsAllowedAt};
 ghost use Rattle.twkb_head.specs.Header.{has_bit};
+ghost use Rattle.twkb_head.specs.Raw.{HavePrecisions};
 ghost use Rattle.twkb_head.specs.declared.header.Head.{Head as HeadOf};
 ghost use Rattle.twkb_head.specs.declared.kinds.Kind.TheVariants.{Point, LineString};
 ghost use Rattle.twkb_body.specs.declared.doubt.Doubt.TheVariants.{Refused};
@@ -27,7 +28,7 @@ use crate::found::judge_size;
 use crate::frame::{Frame, further_frame};
 use crate::lists::take_list;
 use crate::rooms::IdRoom;
-use twkb_head::{Fields, Head, Kind, begun_as, begun_by, take_boxed_rest, take_rest};
+use twkb_head::{BoxCalled, BoxInlined, Fields, Head, Kind, begun_as, begun_by, take_rest};
 use twkb_num::Cursor;
 
 /// Reads the blob at the place, and returns how many vertices it has and where it ends. A doubt says that it isn't certified,
@@ -100,7 +101,7 @@ fn take_flat<R: IdRoom>(
     let Some(begun) = begun_by(cursor, depth, first, metadata) else {
         return Err(Doubt::Refused);
     };
-    let Ok(raw) = take_rest(cursor, with_bits(begun, 0)) else {
+    let Ok(raw) = take_rest::<BoxCalled>(cursor, with_bits(begun, 0)) else {
         return Err(Doubt::Refused);
     };
     take_flat_headed(room, cursor, depth, above, raw)
@@ -124,7 +125,7 @@ fn take_with_box<R: IdRoom>(
     let Some(begun) = begun_by(cursor, depth, first, metadata) else {
         return Err(Doubt::Refused);
     };
-    let Ok(raw) = take_boxed_rest(cursor, with_bits(begun, BOX)) else {
+    let Ok(raw) = take_rest::<BoxInlined>(cursor, with_bits(begun, BOX)) else {
         return Err(Doubt::Refused);
     };
     take_flat_headed(room, cursor, depth, above, raw)
@@ -188,7 +189,7 @@ fn take_further<R: IdRoom>(
     if begun.is_empty() {
         return take_empty(cursor, depth, first, metadata);
     }
-    let Ok(raw) = take_rest(cursor, begun) else {
+    let Ok(raw) = take_rest::<BoxCalled>(cursor, begun) else {
         return Err(Doubt::Refused);
     };
     take_further_headed(room, cursor, depth, above, raw)
@@ -213,7 +214,7 @@ fn take_with_further_box<R: IdRoom>(
     let Some(begun) = begun_by(cursor, depth, first, metadata) else {
         return Err(Doubt::Refused);
     };
-    let Ok(raw) = take_boxed_rest(cursor, with_bits(begun, FURTHER_BOX)) else {
+    let Ok(raw) = take_rest::<BoxInlined>(cursor, with_bits(begun, FURTHER_BOX)) else {
         return Err(Doubt::Refused);
     };
     take_further_headed(room, cursor, depth, above, raw)
@@ -230,9 +231,7 @@ fn take_further_headed<R: IdRoom>(
     raw: Fields,
 ) -> Result<usize, Doubt>
     requires head { HasHead depth above.now raw cursor.old }
-    requires xy { IsPrecision raw.axes.xy }
-    requires z_high { IfSome raw.axes.z (λ p. p ≤ 7) }
-    requires m_high { IfSome raw.axes.m (λ p. p ≤ 7) }
+    requires axes { HavePrecisions raw.axes }
     ensures { CertifiesAfterHead depth above.now raw cursor.old result cursor.new }
 {
     let head = raw.boxless();
@@ -265,7 +264,7 @@ fn take_empty(cursor: &mut Cursor, depth: u8, first: u8, metadata: u8) -> Result
     let Some(begun) = begun_by(cursor, depth, first, metadata) else {
         return Err(Doubt::Refused);
     };
-    let Ok(raw) = take_rest(cursor, begun) else {
+    let Ok(raw) = take_rest::<BoxCalled>(cursor, begun) else {
         return Err(Doubt::Refused);
     };
     let head = raw.boxless();

@@ -10,8 +10,8 @@
 //!   place, and only the count has changed.
 //!
 //! [`read_raw`] reads a header with its box in raw integers ([`Fields`]), which are the numbers in the file. [`begin_head`] and
-//! [`take_rest`] read a header in two steps: the first two bytes, and the rest. Audits and skims branch between the two.
-//! [`take_boxed_rest`] reads the rest too, and has the reader of the box inlined.
+//! [`take_rest`] read a header in two steps: the first two bytes, and the rest. Audits and skims branch between the two, and choose
+//! whether the reader of the box is inlined ([`BoxInlined`]) or called ([`BoxCalled`]).
 //!
 //! [`malformed`] makes a refusal out of a fault of a number, also for numbers of the body.
 //!
@@ -43,9 +43,10 @@ pub use boxes::{Bounds, Span, Vertex};
 pub use field_readers::malformed;
 pub use header::{BoxField, Head, SizeField};
 pub use kinds::{DEEPEST, Kind};
+pub use ranges::{BoxCalled, BoxInlined};
 pub use raw::{Axes, Fields, RawBox, RawRange};
 pub use read::{
-    Begun, begin_head, begun_as, begun_by, read_head, read_raw, take_boxed_rest, take_rest,
+    Begun, begin_head, begun_as, begun_by, read_head, read_raw, take_rest,
 };
 pub use refusal::{Malformed, Why};
 pub use twkb_num::{Cursor, NumFault};

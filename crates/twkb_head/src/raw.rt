@@ -1,7 +1,7 @@
 //! Boxes and headers in raw integers. Numbers of one precision compare without units. `ranges` and `read` read them.
 ghost use Rattle.std.specs.Prelude.{◌≡◌, ◌≤◌, ◌^◌, ◌≤ℤ◌, pos, neg_ℤ, None, true, option_map, IfSome};
 ghost use Rattle.twkb_num.specs.Units.{IsPrecision};
-ghost use Rattle.twkb_head.specs.Raw.{ends_of, ranges_in, flat_box, raw_bounds, head_said, boxless, IsNear, HasNearRanges};
+ghost use Rattle.twkb_head.specs.Raw.{HavePrecisions, ends_of, ranges_in, flat_box, raw_bounds, head_said, boxless, IsNear, HasNearRanges};
 ghost use Rattle.twkb_head.specs.Head.{span_at, range_of, m_axis};
 ghost use Rattle.twkb_head.specs.declared.kinds.Kind.TheVariants.{Point};
 
@@ -138,9 +138,7 @@ impl RawBox {
     /// The box in units, by the precisions of its header.
     #[inline(always)]
     pub fn in_units(&self, axes: Axes) -> Bounds
-        requires xy { IsPrecision axes.xy }
-        requires z_high { IfSome axes.z (λ p. p ≤ 7) }
-        requires m_high { IfSome axes.m (λ p. p ≤ 7) }
+        requires { HavePrecisions axes }
         ensures { result ≡ raw_bounds axes.xy axes.z axes.m self.now }
     {
         Bounds {
@@ -217,9 +215,7 @@ impl Fields {
     /// What the header says, with its box in units.
     #[inline(always)]
     pub fn whole(&self) -> Head
-        requires xy { IsPrecision self.now.axes.xy }
-        requires z_high { IfSome self.now.axes.z (λ p. p ≤ 7) }
-        requires m_high { IfSome self.now.axes.m (λ p. p ≤ 7) }
+        requires { HavePrecisions self.now.axes }
         ensures { result ≡ head_said self.now }
     {
         let bounds = match &self.bounds {

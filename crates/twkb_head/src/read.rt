@@ -17,7 +17,7 @@ use crate::bits::{BOX, EMPTY, EXTENDED, IDS, SIZE, has_bit, ids_of, m_of, precis
 use crate::field_readers::{take_byte, take_number, take_type};
 use crate::header::{Head, SizeField};
 use crate::kinds::{Kind, kind_at};
-use crate::ranges::{Called, Inlined, RangeReader, take_box};
+use crate::ranges::{BoxCalled, RangeReader, take_box};
 use crate::raw::{Axes, Fields};
 use crate::refusal::Malformed;
 use twkb_num::Cursor;
@@ -38,9 +38,7 @@ pub fn read_head(cursor: &mut Cursor, depth: u8) -> Result<Head, Malformed>
     ensures moved { OnOk result (IsMoved cursor.old cursor.new) }
 
     // Its precisions lie in their ranges.
-    ensures xy { IfOk result (λ head. IsPrecision head.xy) }
-    ensures z_high { IfOk result (λ head. IfSome head.z (λ p. p ≤ 7)) }
-    ensures m_high { IfOk result (λ head. IfSome head.m (λ p. p ≤ 7)) }
+    ensures axes { IfOk result (λ head. HavePrecisions (record { xy = head.xy; z = head.z; m = head.m })) }
 
     // It names the first field that can't follow, for one of the first four reasons, and counts the bytes that it looked at.
     ensures refused { IfErr result (λ m. IsRefusedHead m depth cursor.old.place (rest cursor.old)) }
@@ -59,9 +57,7 @@ pub fn read_raw(cursor: &mut Cursor, depth: u8) -> Result<Fields, Malformed>
     ensures exact { IsOk result ↔ StartsWithHeader depth (rest cursor.old) }
     ensures ok { IfOk result (λ raw. IsHeadAt (head_said raw) depth cursor.old.place (passed cursor.old cursor.new)) }
     ensures moved { OnOk result (IsMoved cursor.old cursor.new) }
-    ensures xy { IfOk result (λ raw. IsPrecision raw.axes.xy) }
-    ensures z_high { IfOk result (λ raw. IfSome raw.axes.z (λ p. p ≤ 7)) }
-    ensures m_high { IfOk result (λ raw. IfSome raw.axes.m (λ p. p ≤ 7)) }
+    ensures axes { IfOk result (λ raw. HavePrecisions raw.axes) }
     ensures refused { IfErr result (λ m. IsRefusedHead m depth cursor.old.place (rest cursor.old)) }
     ensures no_range { IfErr result (λ m. m.why ≢ Range) }
     ensures still { IfErr result (λ m. cursor.new ≡ counted cursor.old (looked_at_until m cursor.old)) }
@@ -146,7 +142,7 @@ fn take_head(cursor: &mut Cursor, depth: u8) -> Result<Fields, Malformed>
     ensures zeros { IfOk result (λ raw. IfSome raw.bounds (HasZeros (is_some raw.axes.z) (is_some raw.axes.m))) }
 {
     let first_two = take_begun(cursor, depth)?;
-    take_fields::<Called>(cursor, first_two)
+    take_fields::<BoxCalled>(cursor, first_two)
 }
 
 /// The first two bytes of the header at the place.
@@ -239,38 +235,16 @@ pub fn begun_as(cursor: &Cursor, kind: Kind, fields: u8, first: u8, metadata: u8
     })
 }
 
-/// Reads the other fields of a header, after its first two bytes. A refusal leaves the cursor at the field that is wrong, and
-/// the bytes looked at are counted.
+/// Reads the other fields of a header, after its first two bytes, and its box by `R`. A refusal leaves the cursor at the field that
+/// is wrong, and the bytes looked at are counted.
 #[inline(always)]
-pub fn take_rest(cursor: &mut Cursor, begun: Begun) -> Result<Fields, Malformed>
+pub fn take_rest<R: RangeReader>(cursor: &mut Cursor, begun: Begun) -> Result<Fields, Malformed>
     requires { IsPrecision begun.xy }
     ensures read { (depth : ℕ) (before : Reading) → IsSound before → BeginsHead begun depth before cursor.old
         → ReadsHead depth before cursor.new result }
     ensures exact { (depth : ℕ) (before : Reading) → IsSound before → BeginsHead begun depth before cursor.old
         → IsOk result ↔ StartsWithHeader depth (rest before) }
-    ensures xy { IfOk result (λ raw. IsPrecision raw.axes.xy) }
-    ensures z_high { IfOk result (λ raw. IfSome raw.axes.z (λ p. p ≤ 7)) }
-    ensures m_high { IfOk result (λ raw. IfSome raw.axes.m (λ p. p ≤ 7)) }
-    ensures flat { has_bit begun.metadata 8 ≡ false → IfOk result (λ raw. (raw.axes.z ≡ None) × (raw.axes.m ≡ None)) }
-    ensures empty { IfOk result (λ raw. raw.empty ≡ has_bit begun.metadata 16) }
-    ensures no_box { has_bit begun.metadata 1 ≡ false → IfOk result (λ raw. raw.bounds ≡ None) }
-    ensures kind { IfOk result (λ raw. raw.kind ≡ begun.kind) }
-    ensures zeros { IfOk result (λ raw. IfSome raw.bounds (HasZeros (is_some raw.axes.z) (is_some raw.axes.m))) }
-{
-    take_fields::<Called>(cursor, begun)
-}
-
-/// Reads the other fields of a header as [`take_rest`] does, with the reader of the box inlined.
-#[inline(always)]
-pub fn take_boxed_rest(cursor: &mut Cursor, begun: Begun) -> Result<Fields, Malformed>
-    requires { IsPrecision begun.xy }
-    ensures read { (depth : ℕ) (before : Reading) → IsSound before → BeginsHead begun depth before cursor.old
-        → ReadsHead depth before cursor.new result }
-    ensures exact { (depth : ℕ) (before : Reading) → IsSound before → BeginsHead begun depth before cursor.old
-        → IsOk result ↔ StartsWithHeader depth (rest before) }
-    ensures xy { IfOk result (λ raw. IsPrecision raw.axes.xy) }
-    ensures z_high { IfOk result (λ raw. IfSome raw.axes.z (λ p. p ≤ 7)) }
-    ensures m_high { IfOk result (λ raw. IfSome raw.axes.m (λ p. p ≤ 7)) }
+    ensures axes { IfOk result (λ raw. HavePrecisions raw.axes) }
     ensures flat { has_bit begun.metadata 8 ≡ false → IfOk result (λ raw. (raw.axes.z ≡ None) × (raw.axes.m ≡ None)) }
     ensures empty { IfOk result (λ raw. raw.empty ≡ has_bit begun.metadata 16) }
     ensures no_box { has_bit begun.metadata 1 ≡ false → IfOk result (λ raw. raw.bounds ≡ None) }
@@ -278,7 +252,7 @@ pub fn take_boxed_rest(cursor: &mut Cursor, begun: Begun) -> Result<Fields, Malf
     ensures kind { IfOk result (λ raw. raw.kind ≡ begun.kind) }
     ensures zeros { IfOk result (λ raw. IfSome raw.bounds (HasZeros (is_some raw.axes.z) (is_some raw.axes.m))) }
 {
-    take_fields::<Inlined>(cursor, begun)
+    take_fields::<R>(cursor, begun)
 }
 
 /// The fields after the first two bytes, in order.

@@ -10,7 +10,7 @@ ghost use Rattle.twkb_body.specs.Devices.Sure.{counted_in, HasBegunPlain, Certif
 use super::judged;
 use super::unboxed::{take_bare_point, take_flat_line};
 use crate::doubt::Doubt;
-use twkb_head::{Begun, SizeField, take_rest};
+use twkb_head::{Begun, BoxCalled, SizeField, take_rest};
 use twkb_num::Cursor;
 
 /// Reads a point of X and Y without a box, after its first two bytes.
@@ -21,7 +21,7 @@ pub fn take_plain_point(cursor: &mut Cursor, begun: Begun) -> Result<(usize, usi
         → Certifies 1 None before (counted_in result) cursor.new }
     ensures stop { IfOk result (λ both. both.1 ≡ cursor.new.place) }
 {
-    let Ok(raw) = take_rest(cursor, begun) else {
+    let Ok(raw) = take_rest::<BoxCalled>(cursor, begun) else {
         return Err(Doubt::Refused);
     };
     // This comes before the numbers, so that the next blob needn't wait for their ends.
@@ -39,7 +39,7 @@ pub fn take_plain_line(cursor: &mut Cursor, begun: Begun) -> Result<usize, Doubt
     ensures { (before : Reading) → IsSound before → BeginsHead begun 1 before cursor.old
         → Certifies 1 None before result cursor.new }
 {
-    let Ok(raw) = take_rest(cursor, begun) else {
+    let Ok(raw) = take_rest::<BoxCalled>(cursor, begun) else {
         return Err(Doubt::Refused);
     };
     let head = raw.boxless();

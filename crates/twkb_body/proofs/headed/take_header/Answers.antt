@@ -16,7 +16,7 @@ unreachable-requires-in_default-read c =
     elim c.if-is_flat_boxed.branch [
       | then-is_flat_boxed w ↦
           let same = announced_same c.in-Some.begun w.announcing.result 1 3 c.args.cursor.now c.begin_head.new.cursor (c.is_flat_boxed.ensures w.if-is_flat_boxed.true) w.announcing.ensures begins in
-          let no = rw (sym w.read-is ∙ c.in_default-read.is) at (w.take_boxed_rest-read.ensures.exact 1 c.args.cursor.now sound same).1 starts in
+          let no = rw (sym w.read-is ∙ c.in_default-read.is) at (w.take_rest-read.ensures.exact 1 c.args.cursor.now sound same).1 starts in
           cc (no)
       | else-is_flat_boxed+then-is_sized_point w ↦
           let same = announced_same c.in-Some.begun w.announcing-then-is_sized_point.result 1 2 c.args.cursor.now c.begin_head.new.cursor (w.is_sized_point.ensures.metadata w.if-is_sized_point.true) w.announcing-then-is_sized_point.ensures begins in

@@ -12,7 +12,7 @@ unreachable-requires g c =
 pub enter_headed-requires-clause-come : goal.enter_headed-requires-clause-come
 enter_headed-requires-clause-come g c =
     let (t, depth, before, come) = c.requires.come in
-    (t, depth, before, rest_read c.args.begun t depth before c.args.cursor.now c.take_boxed_rest.new.cursor come c.in-Ok.raw (c.in-Ok.ensures.read 1 before come.sound come.begins))
+    (t, depth, before, rest_read c.args.begun t depth before c.args.cursor.now c.take_rest.new.cursor come c.in-Ok.raw (c.in-Ok.ensures.read 1 before come.sound come.begins))
 
 pub returns : goal.returns
-returns g c = λ t depth before come. c.enter_headed.ensures t depth before (rest_read c.args.begun t depth before c.args.cursor.now c.take_boxed_rest.new.cursor come c.in-Ok.raw (c.in-Ok.ensures.read 1 before come.sound come.begins))
+returns g c = λ t depth before come. c.enter_headed.ensures t depth before (rest_read c.args.begun t depth before c.args.cursor.now c.take_rest.new.cursor come c.in-Ok.raw (c.in-Ok.ensures.read 1 before come.sound come.begins))

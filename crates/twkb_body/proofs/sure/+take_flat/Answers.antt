@@ -212,19 +212,19 @@ take_flat_headed-returns-in_default g t c = λ before sound read.
 
 pub take_further_headed-returns-in_err-vertices : goal.take_further_headed-returns-in_err-vertices
 take_further_headed-returns-in_err-vertices g t c = λ before sound read.
-    let apart = any_apart c.args.raw c.boxless-head.result c.requires.xy c.boxless-head.ensures c.requires.head.full in
+    let apart = any_apart c.args.raw c.boxless-head.result c.requires.axes.0 c.boxless-head.ensures c.requires.head.full in
     let p = err_from_is_err_and c.from_residual.result c.from_residual.ensures.1 in
     rw (p.1, p.2) (behind_doubts c.args.raw c.args.depth c.args.above.now before c.args.cursor.now c.requires.head.shallowest c.requires.head.deepest sound read.0 read.1 _ c.take_apart.new.cursor (c.in_err-vertices.ensures (head_said c.args.raw) apart))
 
 pub take_further_headed-judged-requires : goal.take_further_headed-judged-requires
 take_further_headed-judged-requires g t c =
-    let apart = any_apart c.args.raw c.boxless-head.result c.requires.xy c.boxless-head.ensures c.requires.head.full in
+    let apart = any_apart c.args.raw c.boxless-head.result c.requires.axes.0 c.boxless-head.ensures c.requires.head.full in
     let sure = c.in_ok-vertices.ensures (head_said c.args.raw) apart in
     size_ahead c.requires.head c.boxless-head.result c.boxless-head.ensures _ (omega (arith, sure.inside.few, c.place.ensures.value))
 
 pub take_further_headed-returns-in_default : goal.take_further_headed-returns-in_default
 take_further_headed-returns-in_default g t c = λ before sound read.
-    let apart = any_apart c.args.raw c.boxless-head.result c.requires.xy c.boxless-head.ensures c.requires.head.full in
+    let apart = any_apart c.args.raw c.boxless-head.result c.requires.axes.0 c.boxless-head.ensures c.requires.head.full in
     let sure = c.in_ok-vertices.ensures (head_said c.args.raw) apart in
     apart_certifies c.args.raw c.args.depth c.args.above.now before c.args.cursor.now c.requires.head.shallowest c.requires.head.deepest sound read.0 read.1 c.boxless-head.result c.boxless-head.ensures c.take_apart.new.cursor c.in_ok-vertices.vertices c.judged.result sure
     (subst (λ (stop : ℕ). IsJudged c.boxless-head.result stop c.in_ok-vertices.vertices c.judged.result) c.place.ensures.value c.judged.ensures)
@@ -254,22 +254,22 @@ take_with_box-begun_by-requires-clause-read g t c = two_read _ _ _ c.requires.be
 pub take_with_box-returns-in_default : goal.take_with_box-returns-in_default
 take_with_box-returns-in_default g t c = none_begins c.args.depth c.args.above.now c.args.first c.args.metadata c.args.cursor.now c.requires.begun.shallowest c.requires.begun.deepest c.in_default.ensures.none
 
-pub take_with_box-returns-in_default-take_boxed_rest : goal.take_with_box-returns-in_default-take_boxed_rest
-take_with_box-returns-in_default-take_boxed_rest g t c =
-    rest_unread c.args.depth c.args.above.now c.args.first c.args.metadata c.args.cursor.now c.requires.begun.shallowest c.requires.begun.deepest c.with_bits.result (bits_begin _ _ _ _ c.in-Some.begun c.with_bits.result c.with_bits.ensures.announcing c.in-Some.ensures.some) c.take_boxed_rest.new.cursor c.in_default-take_boxed_rest.field-0 c.in_default-take_boxed_rest.ensures.read c.in_default-take_boxed_rest.ensures.exact
+pub take_with_box-returns-in_default-take_rest : goal.take_with_box-returns-in_default-take_rest
+take_with_box-returns-in_default-take_rest g t c =
+    rest_unread c.args.depth c.args.above.now c.args.first c.args.metadata c.args.cursor.now c.requires.begun.shallowest c.requires.begun.deepest c.with_bits.result (bits_begin _ _ _ _ c.in-Some.begun c.with_bits.result c.with_bits.ensures.announcing c.in-Some.ensures.some) c.take_rest.new.cursor c.in_default-take_rest.field-0 c.in_default-take_rest.ensures.read c.in_default-take_rest.ensures.exact
 
 pub take_with_box-with_bits-requires : goal.take_with_box-with_bits-requires
 take_with_box-with_bits-requires g t c = ap (λ n. bit_and n 25) c.in-Some.ensures.metadata ∙ c.requires.bits
 
 pub take_with_box-take_flat_headed-requires : goal.take_with_box-take_flat_headed-requires
 take_with_box-take_flat_headed-requires g t c κs within =
-    let head = header_read c.args.depth c.args.above.now c.args.first c.args.metadata c.args.cursor.now c.requires.begun.shallowest c.requires.begun.deepest c.with_bits.result (bits_begin _ _ _ _ c.in-Some.begun c.with_bits.result c.with_bits.ensures.announcing c.in-Some.ensures.some) c.take_boxed_rest.new.cursor c.in-Ok.raw c.in-Ok.ensures.read c.requires.begun (c.in-Ok.ensures.empty ∙ full_bits c.with_bits.result.metadata 1 (omega arith) c.with_bits.ensures.bits) in
+    let head = header_read c.args.depth c.args.above.now c.args.first c.args.metadata c.args.cursor.now c.requires.begun.shallowest c.requires.begun.deepest c.with_bits.result (bits_begin _ _ _ _ c.in-Some.begun c.with_bits.result c.with_bits.ensures.announcing c.in-Some.ensures.some) c.take_rest.new.cursor c.in-Ok.raw c.in-Ok.ensures.read c.requires.begun (c.in-Ok.ensures.empty ∙ full_bits c.with_bits.result.metadata 1 (omega arith) c.with_bits.ensures.bits) in
     let flat = c.in-Ok.ensures.flat (flat_bits c.with_bits.result.metadata 1 (omega arith) c.with_bits.ensures.bits) in
     search rules
 
 pub take_with_box-returns : goal.take_with_box-returns
 take_with_box-returns g t c =
-    header_certifies c.args.depth c.args.above.now c.args.first c.args.metadata c.args.cursor.now c.requires.begun.shallowest c.requires.begun.deepest c.with_bits.result (bits_begin _ _ _ _ c.in-Some.begun c.with_bits.result c.with_bits.ensures.announcing c.in-Some.ensures.some) c.take_boxed_rest.new.cursor c.in-Ok.raw c.in-Ok.ensures.read _ _ c.take_flat_headed.ensures
+    header_certifies c.args.depth c.args.above.now c.args.first c.args.metadata c.args.cursor.now c.requires.begun.shallowest c.requires.begun.deepest c.with_bits.result (bits_begin _ _ _ _ c.in-Some.begun c.with_bits.result c.with_bits.ensures.announcing c.in-Some.ensures.some) c.take_rest.new.cursor c.in-Ok.raw c.in-Ok.ensures.read _ _ c.take_flat_headed.ensures
 
 pub take_with_further_box-begun_by-requires-clause-read : goal.take_with_further_box-begun_by-requires-clause-read
 take_with_further_box-begun_by-requires-clause-read g t c = two_read _ _ _ c.requires.begun.before
@@ -277,21 +277,21 @@ take_with_further_box-begun_by-requires-clause-read g t c = two_read _ _ _ c.req
 pub take_with_further_box-returns-in_default : goal.take_with_further_box-returns-in_default
 take_with_further_box-returns-in_default g t c = none_begins c.args.depth c.args.above.now c.args.first c.args.metadata c.args.cursor.now c.requires.begun.shallowest c.requires.begun.deepest c.in_default.ensures.none
 
-pub take_with_further_box-returns-in_default-take_boxed_rest : goal.take_with_further_box-returns-in_default-take_boxed_rest
-take_with_further_box-returns-in_default-take_boxed_rest g t c =
-    rest_unread c.args.depth c.args.above.now c.args.first c.args.metadata c.args.cursor.now c.requires.begun.shallowest c.requires.begun.deepest c.with_bits.result (bits_begin _ _ _ _ c.in-Some.begun c.with_bits.result c.with_bits.ensures.announcing c.in-Some.ensures.some) c.take_boxed_rest.new.cursor c.in_default-take_boxed_rest.field-0 c.in_default-take_boxed_rest.ensures.read c.in_default-take_boxed_rest.ensures.exact
+pub take_with_further_box-returns-in_default-take_rest : goal.take_with_further_box-returns-in_default-take_rest
+take_with_further_box-returns-in_default-take_rest g t c =
+    rest_unread c.args.depth c.args.above.now c.args.first c.args.metadata c.args.cursor.now c.requires.begun.shallowest c.requires.begun.deepest c.with_bits.result (bits_begin _ _ _ _ c.in-Some.begun c.with_bits.result c.with_bits.ensures.announcing c.in-Some.ensures.some) c.take_rest.new.cursor c.in_default-take_rest.field-0 c.in_default-take_rest.ensures.read c.in_default-take_rest.ensures.exact
 
 pub take_with_further_box-with_bits-requires : goal.take_with_further_box-with_bits-requires
 take_with_further_box-with_bits-requires g t c = ap (λ n. bit_and n 25) c.in-Some.ensures.metadata ∙ c.requires.bits
 
 pub take_with_further_box-take_further_headed-requires : goal.take_with_further_box-take_further_headed-requires
 take_with_further_box-take_further_headed-requires g t c κs within =
-    let head = header_read c.args.depth c.args.above.now c.args.first c.args.metadata c.args.cursor.now c.requires.begun.shallowest c.requires.begun.deepest c.with_bits.result (bits_begin _ _ _ _ c.in-Some.begun c.with_bits.result c.with_bits.ensures.announcing c.in-Some.ensures.some) c.take_boxed_rest.new.cursor c.in-Ok.raw c.in-Ok.ensures.read c.requires.begun (c.in-Ok.ensures.empty ∙ full_bits c.with_bits.result.metadata 9 (omega arith) c.with_bits.ensures.bits) in
+    let head = header_read c.args.depth c.args.above.now c.args.first c.args.metadata c.args.cursor.now c.requires.begun.shallowest c.requires.begun.deepest c.with_bits.result (bits_begin _ _ _ _ c.in-Some.begun c.with_bits.result c.with_bits.ensures.announcing c.in-Some.ensures.some) c.take_rest.new.cursor c.in-Ok.raw c.in-Ok.ensures.read c.requires.begun (c.in-Ok.ensures.empty ∙ full_bits c.with_bits.result.metadata 9 (omega arith) c.with_bits.ensures.bits) in
     search rules
 
 pub take_with_further_box-returns : goal.take_with_further_box-returns
 take_with_further_box-returns g t c =
-    header_certifies c.args.depth c.args.above.now c.args.first c.args.metadata c.args.cursor.now c.requires.begun.shallowest c.requires.begun.deepest c.with_bits.result (bits_begin _ _ _ _ c.in-Some.begun c.with_bits.result c.with_bits.ensures.announcing c.in-Some.ensures.some) c.take_boxed_rest.new.cursor c.in-Ok.raw c.in-Ok.ensures.read _ _ c.take_further_headed.ensures
+    header_certifies c.args.depth c.args.above.now c.args.first c.args.metadata c.args.cursor.now c.requires.begun.shallowest c.requires.begun.deepest c.with_bits.result (bits_begin _ _ _ _ c.in-Some.begun c.with_bits.result c.with_bits.ensures.announcing c.in-Some.ensures.some) c.take_rest.new.cursor c.in-Ok.raw c.in-Ok.ensures.read _ _ c.take_further_headed.ensures
 
 pub take_further-take_further_headed-requires : goal.take_further-take_further_headed-requires
 take_further-take_further_headed-requires g t c κs within =

@@ -30,7 +30,7 @@ fn is_read(rt: &impl Abort, bytes: &[u8], expected: Fields) {
     equal(rt, (cursor.place(), cursor.read_count()), passed);
     let mut cursor = Cursor::new(bytes);
     let answer = match begin_head(&mut cursor, 1) {
-        Some(begun) => take_rest(&mut cursor, begun).ok(),
+        Some(begun) => take_rest::<BoxCalled>(&mut cursor, begun).ok(),
         None => None,
     };
     equal(rt, (answer, bytes), (Some(expected), bytes));
