@@ -25,7 +25,7 @@ BINDINGS = os.path.join(layers.TOP, "bindings")
 LIBRARY = os.path.join(layers.TOP, "build", "bindings")
 WINDOWS, AT_ONCE = 1000, 64
 SCANS = [f"scan, {WINDOWS} windows", f"directory scan, {WINDOWS} windows"]
-# The same windows with a directory, in a call for each.
+# The windows of a directory scan, in a call for each.
 ALONE = f"directory scan one by one, {WINDOWS} windows"
 STEPS = ["certify", "list", SCANS[0], "directory", SCANS[1], ALONE]
 # What Python has beside, and what it is compared with in C.
@@ -70,7 +70,7 @@ def note(bests, language, command):
 
 
 def note_program(bests, tool, layer):
-    """The same by whole runs of the program."""
+    """Certifying, listing and scanning by whole runs of the program."""
     (line,), seconds, _ = programs.run([tool, "check", layer])
     blobs, vertices = field(line, "blobs"), field(line, "vertices")
     bests.setdefault(("certify", "the program"), Times()).note(1000 * seconds, f" {blobs} blobs, {vertices} vertices")

@@ -4,7 +4,7 @@
 usage: bench/hops.py [PROGRAM]   (build/twkb_tool where it is left out)
 
 The windows are grids of squares of several sizes. Each is looked for alone, and then all in runs of 64, for which the
-program keeps a directory of the blobs. How much is read is what the program says behind `read=`. Prints the means too.
+program keeps a directory of the blobs. How much is read, the program says after `read=`. Prints the means too.
 """
 import os
 import re
@@ -32,7 +32,7 @@ def read_for(program, windows):
 
 
 def in_runs(program, windows, length):
-    """What is read for each window, with so many of them in a run."""
+    """The bytes read for each window, in runs of `length` windows."""
     runs = [windows[first : first + length] for first in range(0, len(windows), length)]
     with ThreadPoolExecutor(os.cpu_count()) as pool:
         return [read for reads in pool.map(lambda run: read_for(program, run), runs) for read in reads]

@@ -4,7 +4,7 @@
 //! in units (i128), and has everything inlined but the recursion.
 //!
 //! Usage: hops FILE X0 X1 Y0 Y1 [REPEATS], the window in units. The hits and the bytes that had to be read are printed,
-//! and behind them the best time of one repeat in nanoseconds.
+//! and after them the best time of one repeat in nanoseconds.
 use std::hint::black_box;
 use std::time::Instant;
 
@@ -58,7 +58,7 @@ fn holds(range: (i128, i128), value: i128) -> bool {
     range.0 <= value && value <= range.1
 }
 
-/// How many units a step is, by the raw precision: those of zigzag, 0, -1, 1, -2 and on.
+/// How many units a step is, by the raw precision, which is a precision in zigzag: 0, -1, 1, -2 and so on.
 const SCALES: [i128; 16] = {
     let mut scales = [0; 16];
     let mut raw = 0;
@@ -69,7 +69,7 @@ const SCALES: [i128; 16] = {
     scales
 };
 
-/// A body of X, Y and so many further axes.
+/// A body of X, Y and `further` more axes.
 struct Body<'r, 'a, 'w> {
     reader: &'r mut Reader<'a>,
     window: &'w Window,
@@ -139,9 +139,9 @@ fn is_met(reader: &mut Reader, window: &Window) -> Option<bool> {
     let start = reader.place;
     if metadata & 1 != 0 && misses(reader, window, scale, further)? {
         if let Some(size) = size {
-            let behind = start + size as usize;
-            reader.hopped += behind - reader.place;
-            reader.place = behind;
+            let after = start + size as usize;
+            reader.hopped += after - reader.place;
+            reader.place = after;
             return Some(false);
         }
     }

@@ -37,7 +37,7 @@ def example(name):
 
 
 def write_layer(folder, kind, least_bytes, first=None):
-    """Writes a layer of at least so many bytes, perhaps with another first byte, and gives its path and its copies."""
+    """Writes a layer of at least that many bytes, perhaps with another first byte, and gives its path and its copies."""
     piece = repeated(kind)
     copies = -(-least_bytes // len(piece))
     path = os.path.join(folder, f"{kind.replace(' ', '_')}_{least_bytes}{'_refused' if first else ''}.twkb")
@@ -63,7 +63,7 @@ def signed(number):
 
 
 def number(data, place):
-    """The number that a varint spells, and the place behind it."""
+    """The number that a varint spells, and the place after it."""
     value = shift = 0
     while True:
         value |= (data[place] & 127) << shift

@@ -1,8 +1,8 @@
-//! The same check in plain Rust, std only, written for comparison: it reads a layer whole and judges every claim.
+//! `twkb_tool check` in plain Rust, std only, written for comparison: it reads a layer whole and judges every claim.
 //!
 //! It is written as one would write it at first: a cursor with `?`, a loop for each varint, vertices in units (i128) as
 //! they are read, and ids in a set. `plain FILE` prints the line of `twkb_tool check FILE`; `plain FILE N` judges the
-//! bytes N times over and prints the best time in nanoseconds behind it.
+//! bytes N times over and adds the best time in nanoseconds to the line.
 use std::collections::HashSet;
 use std::time::Instant;
 
@@ -116,7 +116,7 @@ struct Head {
     kind: u8,
     metadata: u8,
     scales: [Option<i128>; 4],
-    /// Where the size stands, its value, and the place behind it.
+    /// The place of the size, its value, and the place after it.
     size: Option<(usize, u64, usize)>,
     bounds: Option<(usize, Extent)>,
 }

@@ -41,7 +41,7 @@ def instructions(command):
 
 
 def one_more(command, repeats):
-    """The instructions of one repeat alone: those of a process with one more of them, less those of one with fewer."""
+    """The instructions of one repeat alone: what a process with one more repeat takes, less what one without it takes."""
     if VALGRIND is None:
         return None
     more, fewer = (instructions([word.replace("REPEATS", str(n)) for word in command]) for n in (repeats + 1, repeats))

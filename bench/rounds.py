@@ -1,7 +1,7 @@
 """Times of a step in rounds, in each of which ours is run between two runs of the yardstick."""
 import statistics
 
-# A round tells of the ratio only where the yardstick takes as long behind ours as before it, but for a twentieth. Else
+# A round counts for the ratio only where the yardstick takes as long after ours as before it, but for a twentieth. Else
 # the machine did other work meanwhile.
 ALIKE = 1.05
 
@@ -13,11 +13,11 @@ class Rounds:
         self.ours, self.fast, self.vectors, self.plain, self.ratios = [], [], [], [], []
         self.answers = set()
 
-    def note(self, ours, before, behind, vectors, plain):
+    def note(self, ours, before, after, vectors, plain):
         """One round; each run is a time and an answer."""
-        self.answers.update(answer for _, answer in (ours, before, behind, vectors, plain))
+        self.answers.update(answer for _, answer in (ours, before, after, vectors, plain))
         self.ours.append(ours[0])
-        self.fast += [before[0], behind[0]]
+        self.fast += [before[0], after[0]]
         self.vectors.append(vectors[0])
         self.plain.append(plain[0])
         if max(self.fast[-2:]) <= ALIKE * min(self.fast[-2:]):
@@ -27,7 +27,7 @@ class Rounds:
         return min(self.ours), min(self.fast), min(self.vectors), min(self.plain)
 
     def over_fast(self):
-        """The median of the ratios of quiet rounds, or that of the best times, where fewer than half of the rounds were quiet."""
+        """The median of the ratios of quiet rounds; where fewer than half of the rounds were quiet, the ratio of best times."""
         quiet = 2 * len(self.ratios) >= len(self.ours)
         return statistics.median(self.ratios) if quiet else min(self.ours) / min(self.fast)
 

@@ -65,7 +65,7 @@ class Programs:
         }
 
     def audits(self, layer, repeats):
-        """The same, repeated within the process."""
+        """Audits repeated within the process."""
         return {
             "ours": [self.scanner, layer, repeats],
             "fast": [self.fast, "check", layer, repeats],
@@ -99,8 +99,8 @@ def note_audits(found, layer, rounds):
         (line,), _, _ = programs.run(commands[name])
         return told(line, "blobs", "vertices")
 
-    before, ours, behind, vectors, plain = (audited(name) for name in ORDER)
-    rounds.note(ours, before, behind, vectors, plain)
+    before, ours, after, vectors, plain = (audited(name) for name in ORDER)
+    rounds.note(ours, before, after, vectors, plain)
 
 
 def note_runs(commands, rounds, memories):
@@ -111,8 +111,8 @@ def note_runs(commands, rounds, memories):
         memories[name] = max(memories.get(name, 0), kilobytes / 1024)
         return 1000 * seconds, line.split(" nanoseconds=")[0]
 
-    before, ours, behind, vectors, plain = (ran(name) for name in ORDER)
-    rounds.note(ours, before, behind, vectors, plain)
+    before, ours, after, vectors, plain = (ran(name) for name in ORDER)
+    rounds.note(ours, before, after, vectors, plain)
 
 
 def note_scans(found, layer, rounds):
@@ -173,7 +173,7 @@ def cells_of_times(rounds):
 
 
 def cells_of_numbers(numbers):
-    """The same of numbers that come out alike each time."""
+    """The numbers of the four programs, which come out alike each time, and the ratios of ours over the other three."""
     ours, *others = (numbers.get(name) for name in NAMES)
     return [shown(ours), *map(shown, others), *(ratio(ours, other) for other in others)]
 

@@ -1,4 +1,4 @@
-"""Which functions of the library stand in a built program as functions of their own, by its symbols."""
+"""Which functions of the library a built program has as functions of their own, by its symbols."""
 import re
 import subprocess
 

@@ -9,7 +9,7 @@ pub fn check(bytes: &[u8], judge: bool) -> String {
     let (mut rest, mut blobs, mut vertices) = (bytes, 0, 0);
     while !rest.is_empty() {
         match blob(bytes, rest, judge) {
-            Ok((behind, more)) => (rest, vertices) = (behind, vertices + more),
+            Ok((after, more)) => (rest, vertices) = (after, vertices + more),
             Err((offset, kind)) => return format!("no blob={blobs} offset={offset} kind={kind}"),
         }
         blobs += 1;
@@ -17,7 +17,7 @@ pub fn check(bytes: &[u8], judge: bool) -> String {
     format!("ok blobs={blobs} vertices={vertices}")
 }
 
-/// What is behind the blob that the rest of the bytes begins with, and the number of its vertices.
+/// The bytes after the first blob of `rest`, and the number of its vertices.
 #[inline(always)]
 pub fn blob<'a>(bytes: &'a [u8], rest: &'a [u8], judge: bool) -> Result<(&'a [u8], u64), Refusal> {
     if let (true, Some(found)) = (judge, quick(rest, 1, None)) {
@@ -67,11 +67,11 @@ fn quick<'a>(rest: &'a [u8], depth: u8, over: Option<&Over>) -> Sure<'a> {
         frame |= (extended as u32) << 8;
         rest = &rest[1..];
     }
-    let mut behind = rest;
+    let mut after = rest;
     if metadata & 2 != 0 {
         let size;
         (size, rest) = unsigned(rest)?;
-        behind = rest.get(size as usize..)?;
+        after = rest.get(size as usize..)?;
     }
     let (stop, vertices) = match (metadata & 16 != 0 || kind == 7, axes) {
         (true, _) => collection(rest, kind, metadata, frame, axes, depth, over),
@@ -83,8 +83,8 @@ fn quick<'a>(rest: &'a [u8], depth: u8, over: Option<&Over>) -> Sure<'a> {
         return Some((stop, vertices));
     }
     // What comes next is found by the size, so that it doesn't wait for the body.
-    if stop.len() == behind.len() {
-        Some((behind, vertices))
+    if stop.len() == after.len() {
+        Some((after, vertices))
     } else {
         None
     }
@@ -134,7 +134,7 @@ fn called_shape<'a, const N: usize>(
     shape::<N>(rest, kind, metadata, frame, over)
 }
 
-/// A body under no box with so many or so great differences that they might leave 64 bits.
+/// A body under no box, with too many or too great differences for `Skipped`.
 #[inline(never)]
 fn summed<const N: usize>(rest: &[u8], kind: u8, count: u64) -> Sure<'_> {
     parts(rest, kind, count, &mut Summed { at: [0; N] })
@@ -167,8 +167,8 @@ fn collection<'a>(
     let (count, mut rest) = list(rest, metadata & 4 != 0)?;
     let (mut vertices, mut member) = (0, 0);
     while member < count {
-        let (behind, more) = quick(rest, depth + 1, over)?;
-        (vertices, rest) = (vertices + more, behind);
+        let (after, more) = quick(rest, depth + 1, over)?;
+        (vertices, rest) = (vertices + more, after);
         member += 1;
     }
     Some((rest, vertices))

@@ -9,17 +9,17 @@ pub trait Points<const N: usize> {
     fn read<'a>(&mut self, mut rest: &'a [u8], count: u64) -> Option<&'a [u8]> {
         let mut point = 0;
         while point < count {
-            let (x, y, behind) = pair(rest)?;
+            let (x, y, after) = pair(rest)?;
             let mut sure = self.step(0, x) && self.step(1, y);
-            rest = behind;
+            rest = after;
             if N == 4 {
-                let (z, m, behind) = pair(rest)?;
+                let (z, m, after) = pair(rest)?;
                 sure = sure && self.step(2, z) && self.step(3, m);
-                rest = behind;
+                rest = after;
             } else if N == 3 {
-                let (z, behind) = unsigned(rest)?;
+                let (z, after) = unsigned(rest)?;
                 sure = sure && self.step(2, unzigzag(z));
-                rest = behind;
+                rest = after;
             }
             if !sure {
                 return None;
@@ -73,7 +73,7 @@ impl<const N: usize> Points<N> for Skipped {
     }
 }
 
-/// Under no box: summed, where so many or so great differences might leave 64 bits.
+/// Under no box: summed, since there are too many or too great differences for `Skipped`, and sums might leave 64 bits.
 pub struct Summed<const N: usize> {
     pub at: [i64; N],
 }
@@ -87,10 +87,10 @@ impl<const N: usize> Points<N> for Summed<N> {
     }
 }
 
-/// What is behind a geometry or its body, and the number of its vertices.
+/// The bytes after a geometry or its body, and the number of its vertices.
 pub type Sure<'a> = Option<(&'a [u8], u64)>;
 
-/// So many parts of a body of kinds 1 to 6.
+/// The `count` parts of a body of kinds 1 to 6.
 #[inline(always)]
 pub fn parts<'a, const N: usize>(mut rest: &'a [u8], kind: u8, count: u64, points: &mut impl Points<N>) -> Sure<'a> {
     if kind == 1 || kind == 4 {
@@ -103,8 +103,8 @@ pub fn parts<'a, const N: usize>(mut rest: &'a [u8], kind: u8, count: u64, point
             (rings, rest) = unsigned(rest)?;
         }
         while rings > 0 {
-            let (more, behind) = unsigned(rest)?;
-            rest = points.read(behind, more)?;
+            let (more, after) = unsigned(rest)?;
+            rest = points.read(after, more)?;
             vertices += more;
             rings -= 1;
         }
@@ -113,15 +113,15 @@ pub fn parts<'a, const N: usize>(mut rest: &'a [u8], kind: u8, count: u64, point
     Some((rest, vertices))
 }
 
-/// The count of a list, and what is behind its ids, if they differ. Ids that rise need no memory and no sorting.
+/// The count of a list, and the bytes after its ids, if they differ. Ids that rise need no memory and no sorting.
 #[inline(always)]
 pub fn list(rest: &[u8], has_ids: bool) -> Option<(u64, &[u8])> {
     let (count, start) = unsigned(rest)?;
     let (mut rest, mut rise, mut before, mut place) = (start, true, i64::MIN, 0);
     while has_ids && place < count {
-        let (id, behind) = unsigned(rest)?;
+        let (id, after) = unsigned(rest)?;
         rise &= before < unzigzag(id);
-        (before, rest) = (unzigzag(id), behind);
+        (before, rest) = (unzigzag(id), after);
         place += 1;
     }
     if rise || differ(start, count) {
@@ -135,9 +135,9 @@ pub fn list(rest: &[u8], has_ids: bool) -> Option<(u64, &[u8])> {
 fn differ(mut rest: &[u8], count: u64) -> bool {
     let mut ids = Vec::with_capacity(count as usize);
     for _ in 0..count {
-        let Some((id, behind)) = unsigned(rest) else { return false };
+        let Some((id, after)) = unsigned(rest) else { return false };
         ids.push(id);
-        rest = behind;
+        rest = after;
     }
     ids.sort_unstable();
     ids.windows(2).all(|two| two[0] != two[1])

@@ -8,7 +8,7 @@ pub struct Program {
     pub check: fn(&[u8], bool) -> String,
     /// The number of hits and of bytes that had to be read, where geometries whose box misses the window are hopped over.
     pub hop_scan: fn(&[u8], [i128; 4]) -> (usize, usize),
-    /// The same numbers of a scan that looks at every vertex.
+    /// The number of hits and of bytes that had to be read, where every vertex is looked at.
     pub whole_scan: fn(&[u8], [i128; 4]) -> (usize, usize),
 }
 

@@ -4,7 +4,7 @@
 //! Usage: fast touch|check|decode FILE [REPEATS], fast scan|scanall FILE X0 X1 Y0 Y1 [REPEATS], the window in units.
 //! `touch` sums the bytes, `check` audits claims, `decode` reads every coordinate and judges no size and no box, `scan`
 //! hops over what has a size and a box that misses, `scanall` looks at every vertex. The answer is printed, for a scan
-//! the hits and the bytes that had to be read, and behind it the best time of one repeat in nanoseconds.
+//! the hits and the bytes that had to be read, and after it the best time of one repeat in nanoseconds.
 //!
 //! Quick passes (`audits`, `scans`, over `words` and `bodies`) only answer what they are sure of. Where they aren't (a
 //! false claim, a malformation, a varint of more than eight bytes, a member's box not inside the one over it) a plain

@@ -153,7 +153,7 @@ fn axes(reader: &mut Reader, first: u8, metadata: u8) -> Result<Axes, Refusal> {
     Ok(axes)
 }
 
-/// The count of a list, behind its ids; of kinds 1 to 3, one.
+/// The count of a list, whose ids are read too; of kinds 1 to 3, one.
 pub fn list(reader: &mut Reader, head: &Head, found: &mut Found) -> Result<u64, Refusal> {
     if head.kind < 4 {
         return Ok(1);

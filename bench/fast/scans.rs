@@ -55,7 +55,7 @@ impl<const N: usize> Points<N> for Sought {
     }
 }
 
-/// Whether a vertex of a geometry is inside, how many bytes were hopped over, and what is behind it.
+/// Whether a vertex of a geometry is inside, how many bytes were hopped over, and the bytes after it.
 pub type Found<'a> = (bool, usize, &'a [u8]);
 
 /// The number of hits, and of bytes that had to be read. If `HOP` is true, geometries with a size and a box that misses
@@ -65,12 +65,12 @@ pub fn scan_all<const HOP: bool>(bytes: &[u8], units: [i128; 4]) -> (usize, usiz
     let window = &window(units);
     let (mut hits, mut hopped, mut rest) = (0, 0, bytes);
     while !rest.is_empty() {
-        if let (true, Some((more, behind))) = (HOP, missed(rest, window)) {
-            (hopped, rest) = (hopped + more, behind);
+        if let (true, Some((more, after))) = (HOP, missed(rest, window)) {
+            (hopped, rest) = (hopped + more, after);
             continue;
         }
-        let (found, more, behind) = looked_at::<HOP>(rest, window);
-        (hits, hopped, rest) = (hits + found as usize, hopped + more, behind);
+        let (found, more, after) = looked_at::<HOP>(rest, window);
+        (hits, hopped, rest) = (hits + found as usize, hopped + more, after);
     }
     (hits, bytes.len() - hopped)
 }
@@ -84,7 +84,7 @@ pub fn looked_at<'a, const HOP: bool>(rest: &'a [u8], window: &Window) -> Found<
     }
 }
 
-/// How many bytes are hopped over, and what is behind the geometry, if it has a size and a box that misses the window.
+/// How many bytes are hopped over, and the bytes after the geometry, if it has a size and a box that misses the window.
 #[inline(always)]
 pub fn missed<'a>(rest: &'a [u8], window: &Window) -> Option<(usize, &'a [u8])> {
     let first = word(rest)?;
@@ -97,37 +97,37 @@ pub fn missed<'a>(rest: &'a [u8], window: &Window) -> Option<(usize, &'a [u8])> 
     }
 }
 
-/// The same of a geometry with an extended byte.
+/// `missed` for a geometry with an extended byte.
 #[inline(never)]
 fn missed_further<'a>(rest: &'a [u8], window: &Window) -> Option<(usize, &'a [u8])> {
     let first = word(rest)?;
     missed_by_box(rest, 3, (first >> 16 & 1) + (first >> 17 & 1), window)
 }
 
-/// The same, whose size is at a place, and whose box has so many further axes. The box's ends are below 2^56, so the
-/// window's ends may be moved into 64 bits.
+/// `missed` for a geometry whose size is at `place`, and whose box has `further` axes besides X and Y. The box's ends
+/// are below 2^56, so the window's ends may be moved into 64 bits.
 #[inline(always)]
 fn missed_by_box<'a>(rest: &'a [u8], place: usize, further: u64, window: &Window) -> Option<(usize, &'a [u8])> {
     let raw = &window.raw[(word(rest)? >> 4 & 15) as usize];
     let (size, ends) = unsigned(&rest[place..])?;
-    let behind = ends.get(size as usize..)?;
+    let after = ends.get(size as usize..)?;
     let (x, width, ends) = mixed_pair(ends)?;
     if (x + width < raw.low[0]) | (raw.high[0] < x) {
-        return Some((skip_any(ends, 2 + 2 * further)?.len() - behind.len(), behind));
+        return Some((skip_any(ends, 2 + 2 * further)?.len() - after.len(), after));
     }
     let (y, height, ends) = mixed_pair(ends)?;
     if (y + height < raw.low[1]) | (raw.high[1] < y) {
-        Some((skip_any(ends, 2 * further)?.len() - behind.len(), behind))
+        Some((skip_any(ends, 2 * further)?.len() - after.len(), after))
     } else {
         None
     }
 }
 
-/// What is behind so many varints.
+/// The bytes after a given number of varints.
 #[inline(always)]
 fn skip_any(rest: &[u8], varints: u64) -> Option<&[u8]> {
     match skip(rest, varints, true) {
-        Some(behind) => Some(behind),
+        Some(after) => Some(after),
         None => skip_long(rest, varints),
     }
 }
@@ -151,7 +151,7 @@ fn sought<'a, const HOP: bool>(rest: &'a [u8], window: &Window) -> Option<Found<
         return Some((inside & !raw.empty, 0, rest.get(3 + (first >> 16) as u8 as usize..)?));
     }
     let (kind, metadata) = (first as u8 & 15, (first >> 8) as u8);
-    let (mut axes, mut rest, mut behind) = (2, &rest[2..], None);
+    let (mut axes, mut rest, mut after) = (2, &rest[2..], None);
     if metadata & 8 != 0 {
         axes += (first >> 16 & 1) + (first >> 17 & 1);
         rest = &rest[1..];
@@ -159,7 +159,7 @@ fn sought<'a, const HOP: bool>(rest: &'a [u8], window: &Window) -> Option<Found<
     if metadata & 2 != 0 {
         let size;
         (size, rest) = unsigned(rest)?;
-        behind = Some(rest.get(size as usize..)?);
+        after = Some(rest.get(size as usize..)?);
     }
     if metadata & 1 != 0 {
         rest = skip(rest, 2 * axes, true)?;
@@ -182,7 +182,7 @@ fn sought<'a, const HOP: bool>(rest: &'a [u8], window: &Window) -> Option<Found<
         3 => sought_in_body::<3>(rest, kind, count, raw),
         _ => sought_in_body::<4>(rest, kind, count, raw),
     }?;
-    Some((found, 0, behind.unwrap_or(stop)))
+    Some((found, 0, after.unwrap_or(stop)))
 }
 
 #[inline(always)]
@@ -197,11 +197,11 @@ fn sought_in_body<'a, const N: usize>(rest: &'a [u8], kind: u8, count: u64, raw:
 fn sought_in_members<'a, const HOP: bool>(mut rest: &'a [u8], count: u64, window: &Window) -> Option<Found<'a>> {
     let (mut found, mut hopped, mut member) = (false, 0, 0);
     while member < count {
-        let (inside, more, behind) = match if HOP { missed(rest, window) } else { None } {
-            Some((more, behind)) => (false, more, behind),
+        let (inside, more, after) = match if HOP { missed(rest, window) } else { None } {
+            Some((more, after)) => (false, more, after),
             None => sought::<HOP>(rest, window)?,
         };
-        (found, hopped, rest) = (found | inside, hopped + more, behind);
+        (found, hopped, rest) = (found | inside, hopped + more, after);
         member += 1;
     }
     Some((found, hopped, rest))

@@ -22,16 +22,16 @@ fn packed(groups: u64) -> u64 {
     (pairs & 0x0000_3fff_0000_3fff) | (pairs >> 2 & 0x0fff_c000_0fff_c000)
 }
 
-/// The next unsigned varint, of at most eight bytes, and what is behind it.
+/// The next unsigned varint, of at most eight bytes, and the bytes after it.
 #[inline(always)]
 pub fn unsigned(rest: &[u8]) -> Option<(u64, &[u8])> {
-    let (&first, behind) = rest.split_first()?;
+    let (&first, after) = rest.split_first()?;
     if first < 128 {
-        return Some((first as u64, behind));
+        return Some((first as u64, after));
     }
-    let (&second, behind) = behind.split_first()?;
+    let (&second, after) = after.split_first()?;
     if second < 128 {
-        return Some(((first & 127) as u64 | (second as u64) << 7, behind));
+        return Some(((first & 127) as u64 | (second as u64) << 7, after));
     }
     long_unsigned(rest)
 }
@@ -44,11 +44,11 @@ fn long_unsigned(rest: &[u8]) -> Option<(u64, &[u8])> {
     let word = u64::from_le_bytes(bytes);
     let ends = !word & TOPS;
     let value = packed(word & (ends ^ ends.wrapping_sub(1)));
-    let behind = rest.get((ends.trailing_zeros() >> 3) as usize + 1..)?;
+    let after = rest.get((ends.trailing_zeros() >> 3) as usize + 1..)?;
     if ends == 0 {
         return None;
     }
-    Some((value & 0x0fff_ffff | value >> 4 & 0x00ff_ffff_f000_0000, behind))
+    Some((value & 0x0fff_ffff | value >> 4 & 0x00ff_ffff_f000_0000, after))
 }
 
 /// The next two signed varints, of at most eight bytes each. One comparison tells twice two bytes and twice one byte.
@@ -65,13 +65,13 @@ pub fn pair(rest: &[u8]) -> Option<(i64, i64, &[u8])> {
     mixed_pair(rest)
 }
 
-/// The same. With at most four bytes each, both are read at once, with no branch on their lengths.
+/// `pair` without its comparison. With at most four bytes each, both are read at once, with no branch on their lengths.
 #[inline(always)]
 pub fn mixed_pair(rest: &[u8]) -> Option<(i64, i64, &[u8])> {
     if let Some(word) = word(rest) {
         let ends = !word & TOPS;
         if ends as u32 != 0 {
-            // The first in the lower half, the second in the upper one, each cut behind its end.
+            // The first in the lower half, the second in the upper one, each cut after its end.
             let shift = (ends as u32).trailing_zeros() + 1;
             let halves = word as u32 as u64 | (word >> (shift & 63)) << 32;
             let stops = !halves & TOPS;
@@ -81,8 +81,8 @@ pub fn mixed_pair(rest: &[u8]) -> Option<(i64, i64, &[u8])> {
                 let odd = both & 0x0000_0001_0000_0001;
                 let both = ((both ^ odd) >> 1) ^ (odd << 32).wrapping_sub(odd);
                 // The end of the second doesn't wait for the length of the first.
-                let behind = &rest[(second.trailing_zeros() >> 3) as usize + 1..];
-                return Some((both as i32 as i64, both as i64 >> 32, behind));
+                let after = &rest[(second.trailing_zeros() >> 3) as usize + 1..];
+                return Some((both as i32 as i64, both as i64 >> 32, after));
             }
         }
     }
@@ -96,8 +96,8 @@ fn long_pair(rest: &[u8]) -> Option<(i64, i64, &[u8])> {
     Some((unzigzag(x), unzigzag(y), rest))
 }
 
-/// What is behind so many varints, of at most seven bytes each, or eight in the first word of a body. Their ends are
-/// counted, a word at a time: nothing waits for the length of a varint.
+/// The bytes after a given number of varints, of at most seven bytes each, or eight in the first word of a body. Their
+/// ends are counted, a word at a time: nothing waits for the length of a varint.
 #[inline(always)]
 pub fn skip(mut rest: &[u8], mut varints: u64, first: bool) -> Option<&[u8]> {
     // Each word has an end among its first four bytes (the first word: five), and one among its last four.

@@ -12,14 +12,14 @@ use crate::words::{unsigned, word};
 pub fn check(bytes: &[u8]) -> String {
     let (mut rest, mut blobs, mut vertices) = (bytes, 0, 0);
     while !rest.is_empty() {
-        let (behind, passed, more) = series(rest);
+        let (after, passed, more) = series(rest);
         if passed > 0 {
-            (rest, blobs, vertices) = (behind, blobs + passed, vertices + more);
+            (rest, blobs, vertices) = (after, blobs + passed, vertices + more);
             continue;
         }
         let found = boxed(rest, 1, None).or_else(|| unboxed(rest));
         match found.map_or_else(|| fast_audits::blob(bytes, rest, true), Ok) {
-            Ok((behind, more)) => (rest, vertices) = (behind, vertices + more),
+            Ok((after, more)) => (rest, vertices) = (after, vertices + more),
             Err((offset, kind)) => return format!("no blob={blobs} offset={offset} kind={kind}"),
         }
         blobs += 1;
@@ -45,7 +45,7 @@ fn boxed<'a>(rest: &'a [u8], depth: u8, over: Option<&Frame>) -> Sure<'a> {
     let (size, start) = size(rest, first)?;
     let (frame, body) = Frame::of_two(start, first as u32 >> 4 & 15)?;
     let (stop, vertices) = shape::<2>(body, kind, metadata, frame.under(over)?.points())?;
-    behind(start, stop, metadata, size, vertices)
+    after(start, stop, metadata, size, vertices)
 }
 
 /// A body of kinds 1 to 6, if all its points lie in the box.
@@ -71,10 +71,10 @@ where
     }
 }
 
-/// What is behind a geometry, from its box on, if its body stops where its size says. With a size, what comes next is
-/// found by it, so that it doesn't wait for the body.
+/// The bytes after a geometry, and the number of its vertices, if it stops where its size says, counted from `start`.
+/// With a size, the next geometry is found by it, so that it doesn't wait for the body.
 #[inline(always)]
-fn behind<'a>(start: &'a [u8], stop: &'a [u8], metadata: u8, size: u64, vertices: u64) -> Sure<'a> {
+fn after<'a>(start: &'a [u8], stop: &'a [u8], metadata: u8, size: u64, vertices: u64) -> Sure<'a> {
     if metadata & 2 == 0 {
         return Some((stop, vertices));
     }
@@ -96,7 +96,7 @@ fn unboxed(rest: &[u8]) -> Sure<'_> {
     let (size, start) = size(rest, first)?;
     let (count, body) = if kind >= 4 { list(start, metadata & 4 != 0)? } else { (1, start) };
     let (stop, vertices) = parts::<2>(body, kind, count, &mut Passed::new())?;
-    behind(start, stop, metadata, size, vertices)
+    after(start, stop, metadata, size, vertices)
 }
 
 /// A geometry with a box in X, Y, Z and M.
@@ -111,7 +111,7 @@ fn boxed_in_four<'a>(rest: &'a [u8], kind: u8, over: Option<&Frame>) -> Sure<'a>
     let precisions = first as u32 >> 4 & 15 | (extended as u32) << 8;
     let (frame, body) = Frame::of_four(start, precisions)?;
     let (stop, vertices) = shape::<4>(body, kind, metadata, frame.under(over)?.points())?;
-    behind(start, stop, metadata, size, vertices)
+    after(start, stop, metadata, size, vertices)
 }
 
 /// A collection of X and Y with a box. Each of its members must have a box too.
@@ -131,8 +131,8 @@ fn collection<'a>(rest: &'a [u8], depth: u8, over: Option<&Frame>) -> Sure<'a> {
     let (mut left, mut stop) = list(body, metadata & 4 != 0)?;
     let mut vertices = 0;
     while left > 0 {
-        let (behind, more) = boxed(stop, depth + 1, Some(&frame))?;
-        (stop, vertices, left) = (behind, vertices + more, left - 1);
+        let (after, more) = boxed(stop, depth + 1, Some(&frame))?;
+        (stop, vertices, left) = (after, vertices + more, left - 1);
     }
-    behind(start, stop, metadata, size, vertices)
+    after(start, stop, metadata, size, vertices)
 }

@@ -14,7 +14,7 @@ pub struct Frame {
 }
 
 impl Frame {
-    /// The box of X and Y that the bytes begin with, and what is behind it.
+    /// The box of X and Y that the bytes begin with, and the bytes after it.
     #[inline(always)]
     pub fn of_two(rest: &[u8], precisions: u32) -> Option<(Frame, &[u8])> {
         let (numbers, length) = four(ahead(rest)?)?;
@@ -22,7 +22,7 @@ impl Frame {
         Some((Frame { low, extent, precisions, outside: extent }, &rest[length..]))
     }
 
-    /// The box of X, Y, Z and M that the bytes begin with, and what is behind it.
+    /// The box of X, Y, Z and M that the bytes begin with, and the bytes after it.
     #[inline(always)]
     pub fn of_four(rest: &[u8], precisions: u32) -> Option<(Frame, &[u8])> {
         let (these, length) = four(ahead(rest)?)?;

@@ -1,8 +1,8 @@
 //! Sizes of geometries.
 use crate::words::unsigned;
 
-/// The size of a geometry without an extended byte, if it has one, and what is behind it. `first` is the word that it
-/// begins with.
+/// The size of a geometry without an extended byte, or 0 if it has none, and the bytes after it. `first` is the word
+/// that the geometry begins with.
 #[inline(always)]
 pub fn size(rest: &[u8], first: u64) -> Option<(u64, &[u8])> {
     if first & 0x0200 == 0 {

@@ -3,7 +3,7 @@ use crate::lanes::Lanes;
 use crate::tables::{KEPT, NTH, TABLES, TOO_LONG};
 use crate::words::{ONES, TOPS};
 
-/// The bytes that a kernel may look at. It loads sixteen behind a length that a table gives in a byte, so whatever the
+/// The bytes that a kernel may look at. It loads sixteen after a length that a table gives in a byte, so whatever the
 /// length is, the load is inside.
 pub type Ahead = [u8; 272];
 
@@ -27,14 +27,14 @@ fn signed_32(groups: Lanes) -> Lanes {
     zigzag.shifted_32::<1>().xor(Lanes::zero().minus_32(zigzag.and(Lanes::all_32(1))))
 }
 
-/// The same within each lane of 16 bits.
+/// Groups of seven bits, in bytes, pushed together within each lane of 16 bits, and signs.
 #[inline(always)]
 fn signed_16(groups: Lanes) -> Lanes {
     let zigzag = groups.and(Lanes::all_16(0x7f)).or(groups.shifted_16::<1>().and(Lanes::all_16(0x3f80)));
     zigzag.shifted_16::<1>().xor(Lanes::zero().minus_16(zigzag.and(Lanes::all_16(1))))
 }
 
-/// Two varints of at most four bytes each as lanes of 32 bits, with two lanes of zero behind them, and their length, if
+/// Two varints of at most four bytes each as lanes of 32 bits, with two lanes of zero after them, and their length, if
 /// neither is longer.
 #[inline(always)]
 pub fn two(bytes: &Ahead) -> Option<(Lanes, usize)> {
@@ -73,7 +73,7 @@ pub fn eight(bytes: &Ahead) -> Option<(Lanes, usize)> {
     fitting(lanes, TABLES.lengths[2][these] as usize + TABLES.lengths[2][those] as usize)
 }
 
-/// As many pairs of such varints, of four at most, with lanes of zero behind them, and their length, if none is longer.
+/// `count` pairs of such varints, of four at most, with lanes of zero after them, and their length, if none is longer.
 #[inline(always)]
 pub fn pairs(bytes: &Ahead, count: usize) -> Option<(Lanes, usize)> {
     let (lanes, these, those) = halves(bytes);

@@ -25,7 +25,7 @@ impl Lanes {
         Lanes(unsafe { _mm_loadu_si128(bytes.as_ptr().cast()) })
     }
 
-    /// Eight bytes, and eight zeros behind them.
+    /// Eight bytes, and eight zeros after them.
     #[inline(always)]
     pub fn load_half(bytes: &[u8; 8]) -> Lanes {
         // SAFETY: the eight bytes are there, and the load needs no alignment.
@@ -82,7 +82,7 @@ impl Lanes {
         Lanes(instruction!(_mm_srli_epi16::<BITS>(self.0)))
     }
 
-    /// The top bit of each byte, that of the first byte lowest.
+    /// The top bit of each byte, the first byte's lowest.
     #[inline(always)]
     pub fn tops(self) -> u32 {
         instruction!(_mm_movemask_epi8(self.0)) as u32
@@ -166,13 +166,13 @@ impl Lanes {
         Lanes(instruction!(_mm_unpacklo_epi64(self.0, other.0)))
     }
 
-    /// The first half, and zeros behind it.
+    /// The first half, and zeros after it.
     #[inline(always)]
     pub fn first_half(self) -> Lanes {
         Lanes(instruction!(_mm_move_epi64(self.0)))
     }
 
-    /// Moved behind so many bytes of zero.
+    /// `BYTES` zeros, and then the first bytes, as many as still fit.
     #[inline(always)]
     pub fn moved<const BYTES: i32>(self) -> Lanes {
         Lanes(instruction!(_mm_slli_si128::<BYTES>(self.0)))

@@ -43,7 +43,7 @@ impl<P: Places> Points<4> for P {
     }
 }
 
-/// What is behind so many points of X and Y, if their numbers take at most four bytes each. They are read four at a
+/// The bytes after `count` points of X and Y, if their numbers take at most four bytes each. They are read four at a
 /// time where their numbers take at most two, else two at a time. The first is a place and no difference, and mostly
 /// longer.
 #[inline(always)]
@@ -71,17 +71,17 @@ fn run_of_two<'a>(mut rest: &'a [u8], count: u64, points: &mut impl Places) -> O
     Some(rest)
 }
 
-/// A run of fewer bytes than a kernel looks at. Behind them it is shown bytes that end no varint.
+/// A run of fewer bytes than a kernel looks at: a copy of them is read, with bytes after it that end no varint.
 #[cold]
 #[inline(never)]
 fn run_at_end<P: Places>(rest: &[u8], count: u64, mut points: P) -> Option<(&[u8], P)> {
     let mut bytes = [255; 2 * size_of::<Ahead>()];
     bytes[..rest.len()].copy_from_slice(rest);
-    let behind = run_of_two(&bytes, count, &mut points)?.len();
-    Some((rest.get(bytes.len() - behind..)?, points))
+    let after = run_of_two(&bytes, count, &mut points)?.len();
+    Some((rest.get(bytes.len() - after..)?, points))
 }
 
-/// One or two points of X and Y: what is behind them, and how many are left.
+/// One or two points of X and Y: the bytes after them, and how many points are left.
 #[inline(always)]
 fn two_points<'a>(rest: &'a [u8], left: u64, points: &mut impl Places) -> Option<(&'a [u8], u64)> {
     let ahead = ahead(rest)?;
@@ -103,7 +103,7 @@ fn four_points(differences: Lanes, points: &mut impl Places) {
     points.go_on(last.at_32::<0b11_10_11_10>());
 }
 
-/// What is behind so many points of X, Y, Z and M, if their numbers take at most four bytes each: two at a time where
+/// The bytes after `count` points of X, Y, Z and M, if their numbers take at most four bytes each: two at a time where
 /// they take at most two, else one.
 #[inline(always)]
 fn run_of_four<'a>(mut rest: &'a [u8], count: u64, points: &mut impl Places) -> Option<&'a [u8]> {

@@ -15,15 +15,15 @@ pub fn scan_all<const HOP: bool>(bytes: &[u8], units: [i128; 4]) -> (usize, usiz
     let nears = Nears::new(window);
     let (mut hits, mut hopped, mut rest) = (0, 0, bytes);
     while !rest.is_empty() {
-        if let (true, Some((more, behind))) = (HOP, missed(rest, &nears)) {
-            (hopped, rest) = (hopped + more, behind);
+        if let (true, Some((more, after))) = (HOP, missed(rest, &nears)) {
+            (hopped, rest) = (hopped + more, after);
             continue;
         }
-        let (found, more, behind) = match sought::<HOP>(rest, &nears) {
+        let (found, more, after) = match sought::<HOP>(rest, &nears) {
             Some(found) => found,
             None => without_vectors::<HOP>(rest, window),
         };
-        (hits, hopped, rest) = (hits + found as usize, hopped + more, behind);
+        (hits, hopped, rest) = (hits + found as usize, hopped + more, after);
     }
     (hits, bytes.len() - hopped)
 }
@@ -32,12 +32,12 @@ pub fn scan_all<const HOP: bool>(bytes: &[u8], units: [i128; 4]) -> (usize, usiz
 #[inline(never)]
 fn without_vectors<'a, const HOP: bool>(rest: &'a [u8], window: &Window) -> Found<'a> {
     match if HOP { fast_scans::missed(rest, window) } else { None } {
-        Some((hopped, behind)) => (false, hopped, behind),
+        Some((hopped, after)) => (false, hopped, after),
         None => fast_scans::looked_at::<HOP>(rest, window),
     }
 }
 
-/// How many bytes are hopped over, and what is behind the geometry, if it has a size and a box that misses the window.
+/// How many bytes are hopped over, and the bytes after the geometry, if it has a size and a box that misses the window.
 #[inline(always)]
 fn missed<'a>(rest: &'a [u8], nears: &Nears) -> Option<(usize, &'a [u8])> {
     let first = word(rest)?;
@@ -47,21 +47,21 @@ fn missed<'a>(rest: &'a [u8], nears: &Nears) -> Option<(usize, &'a [u8])> {
     let (size, start) = size(rest, first)?;
     let (frame, body) = Frame::of_two(start, 0)?;
     if nears.of(first).misses(frame.low, frame.high()) {
-        let behind = start.get(size as usize..)?;
-        return Some((body.len() - behind.len(), behind));
+        let after = start.get(size as usize..)?;
+        return Some((body.len() - after.len(), after));
     }
     None
 }
 
-/// The same of a geometry with Z and M.
+/// `missed` for a geometry with Z and M.
 #[inline(never)]
 fn missed_in_four<'a>(rest: &'a [u8], nears: &Nears) -> Option<(usize, &'a [u8])> {
     let first = word(rest)?;
     let (size, start) = unsigned(&rest[3..])?;
     let (frame, body) = Frame::of_four(start, 0)?;
     if nears.of(first).with_z_and_m().misses(frame.low, frame.high()) {
-        let behind = start.get(size as usize..)?;
-        return Some((body.len() - behind.len(), behind));
+        let after = start.get(size as usize..)?;
+        return Some((body.len() - after.len(), after));
     }
     None
 }
@@ -74,8 +74,8 @@ fn sought<'a, const HOP: bool>(rest: &'a [u8], nears: &Nears) -> Option<Found<'a
     if first & 0x80_1f0f == 0x0201 {
         let (point, _) = two(ahead(&rest[3..])?)?;
         let point = point.first_halves(point);
-        let behind = rest.get(3 + (first >> 16) as u8 as usize..)?;
-        return Some((!nears.of(first).misses(point, point), 0, behind));
+        let after = rest.get(3 + (first >> 16) as u8 as usize..)?;
+        return Some((!nears.of(first).misses(point, point), 0, after));
     }
     let (kind, metadata) = (first as u8 & 15, (first >> 8) as u8);
     if kind == 7 || metadata & 0x19 != 1 {
@@ -86,7 +86,7 @@ fn sought<'a, const HOP: bool>(rest: &'a [u8], nears: &Nears) -> Option<Found<'a
     sought_in_body::<2>(body, kind, metadata, Sought::new(nears.of(first)))
 }
 
-/// The same of a collection, and of a geometry with Z and M.
+/// `sought` for a collection, and for a geometry with Z and M.
 #[inline(never)]
 fn sought_further<'a, const HOP: bool>(rest: &'a [u8], nears: &Nears) -> Option<Found<'a>> {
     let first = word(rest)?;
@@ -109,11 +109,11 @@ fn sought_in_members<'a, const HOP: bool>(rest: &'a [u8], metadata: u8, nears: &
     let (mut left, mut rest) = list(rest, metadata)?;
     let (mut found, mut hopped) = (false, 0);
     while left > 0 {
-        let (inside, more, behind) = match if HOP { missed(rest, nears) } else { None } {
-            Some((more, behind)) => (false, more, behind),
+        let (inside, more, after) = match if HOP { missed(rest, nears) } else { None } {
+            Some((more, after)) => (false, more, after),
             None => sought::<HOP>(rest, nears)?,
         };
-        (found, hopped, rest, left) = (found | inside, hopped + more, behind, left - 1);
+        (found, hopped, rest, left) = (found | inside, hopped + more, after, left - 1);
     }
     Some((found, hopped, rest))
 }
@@ -141,7 +141,7 @@ where
     Some((points.is_found(), 0, rest))
 }
 
-/// The count of a list, and what is behind its ids.
+/// The count of a list, and the bytes after its ids.
 #[inline(always)]
 fn list(rest: &[u8], metadata: u8) -> Option<(u64, &[u8])> {
     let (count, rest) = unsigned(rest)?;

@@ -3,7 +3,7 @@
 use crate::kernels::load;
 use crate::unboxed::pass;
 
-/// What is behind such blobs, how many there are, and how many vertices they have.
+/// The bytes after such blobs, how many there are, and how many vertices they have.
 pub type Passed<'a> = (&'a [u8], u64, u64);
 
 /// The blobs of one of these forms that the bytes begin with.
@@ -52,7 +52,7 @@ fn sized_points(mut rest: &[u8]) -> Passed<'_> {
 }
 
 /// Whether the bytes at a place are a point of this size, of at most ten bytes: so neither number takes more than nine.
-/// The second end behind the header has to be where the size says.
+/// The second end after the header has to be where the size says.
 #[inline(always)]
 fn is_sized_point(bytes: &[u8], place: usize, size: usize) -> bool {
     let head = u16::from_le_bytes([bytes[place], bytes[place + 1]]);
@@ -61,7 +61,7 @@ fn is_sized_point(bytes: &[u8], place: usize, size: usize) -> bool {
     (head & 0x1f0f == SIZED_POINT) & (size <= 10) & (second.trailing_zeros() as usize + 1 == size)
 }
 
-/// Points without a size, of at most ten bytes behind the header.
+/// Points without a size, of at most ten bytes after the header.
 #[inline(never)]
 fn bare_points(mut rest: &[u8]) -> Passed<'_> {
     let mut points = 0;
@@ -86,8 +86,8 @@ fn bare_lines(mut rest: &[u8]) -> Passed<'_> {
         if u16::from_le_bytes([kind, metadata]) & 0x1b0f != BARE_LINE || count > 127 {
             break;
         }
-        let Some(behind) = pass(&rest[3..], 2 * count as u64) else { break };
-        (rest, lines, vertices) = (behind, lines + 1, vertices + count as u64);
+        let Some(after) = pass(&rest[3..], 2 * count as u64) else { break };
+        (rest, lines, vertices) = (after, lines + 1, vertices + count as u64);
     }
     (rest, lines, vertices)
 }

@@ -38,7 +38,7 @@ const fn tables() -> Tables {
     tables
 }
 
-/// The places of the bytes of so many varints, as far as they fit, and how long the first half and all of them are.
+/// The places of the bytes of `COUNT` varints, as far as they fit, and how long the first half and all of them are.
 const fn varints<const COUNT: usize>(tops: usize) -> ([u8; 8], [u8; 2]) {
     let (room, mut places, mut lengths) = (8 / COUNT, [NOWHERE; 8], [TOO_LONG; 2]);
     let (mut start, mut varint) = (0, 0);
@@ -64,7 +64,7 @@ const fn varints<const COUNT: usize>(tops: usize) -> ([u8; 8], [u8; 2]) {
     (places, lengths)
 }
 
-/// By a count of at most four: as many lanes of 32 bits that keep all, and behind them zeros.
+/// By a count of at most four: a mask that keeps that many lanes of 32 bits, and makes the rest zero.
 pub static KEPT: [[u8; 16]; 5] = kept();
 
 const fn kept() -> [[u8; 16]; 5] {

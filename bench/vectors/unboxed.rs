@@ -27,7 +27,7 @@ impl<const N: usize> Points<N> for Passed {
     }
 }
 
-/// What is behind so many varints of at most seven bytes each.
+/// The bytes after a given number of varints, of at most seven bytes each.
 #[inline(always)]
 pub fn pass(mut rest: &[u8], varints: u64) -> Option<&[u8]> {
     let mut left = varints;

@@ -3,8 +3,8 @@ use crate::fast_scans::Window;
 use crate::lanes::Lanes;
 use crate::runs::Places;
 
-/// A window in raw integers, in lanes as those of a `Frame`. What is compared with it is at most 2^28, so its ends may
-/// be moved inside of 2^30.
+/// A window in raw integers, its lanes in the order of a `Frame`. What is compared with it is at most 2^28, so its ends
+/// may be moved inside of 2^30.
 #[derive(Clone, Copy)]
 pub struct Near {
     low: Lanes,
@@ -12,7 +12,7 @@ pub struct Near {
 }
 
 impl Near {
-    /// The same in X, Y, Z and M: any Z and M are inside.
+    /// This window in X, Y, Z and M: any Z and M are inside.
     #[inline(always)]
     pub fn with_z_and_m(self) -> Near {
         let (low, high) = (Lanes::all_32(i32::MIN), Lanes::all_32(i32::MAX));
