@@ -1,4 +1,4 @@
-"""Bars of ratios, and curves of what is read, as pictures."""
+"""Bars of ratios, and curves of bytes read, as pictures."""
 
 # Dark where the reader's screen is.
 STYLE = (

@@ -6,7 +6,7 @@ usage: bench/run.py TOOL SCANNER [RUNS]
 SCANNER is twkb_bench, which times audits and scans within its process. TOOL is twkb_tool, of which whole runs are
 timed, and runs on the same bytes with a first one that no blob begins with: these read the file and refuse it. They are
 compared with programs in Rust, std only: fast/ is the fastest that we know how to write, without SIMD, and vectors/ with
-that of x86-64-v2; of the two called plain, plain.rs checks as one would write it at first, and hops.rs scans with all
+the SIMD of x86-64-v2; of the two called plain, plain.rs checks as one would write it at first, and hops.rs scans with all
 inlined. In each of RUNS rounds ours is run between two runs of fast/. Of each the best time is shown. Ratios of times over
 fast/ are medians of the rounds in which both of its runs took as long, or of the best times, where fewer than half of the
 rounds were such; other ratios are of the best times. Times are of 40 MB, and instructions, which valgrind counts, of 4 MB,

@@ -73,7 +73,8 @@ pub fn eight(bytes: &Ahead) -> Option<(Lanes, usize)> {
     fitting(lanes, TABLES.lengths[2][these] as usize + TABLES.lengths[2][those] as usize)
 }
 
-/// `count` pairs of such varints, of four at most, with lanes of zero after them, and their length, if none is longer.
+/// `count` pairs of varints of at most two bytes each, four pairs at most, with lanes of zero after them, and their
+/// length, if none is longer.
 #[inline(always)]
 pub fn pairs(bytes: &Ahead, count: usize) -> Option<(Lanes, usize)> {
     let (lanes, these, those) = halves(bytes);

@@ -7,8 +7,8 @@
 //! From these come boxes (`frames`) and runs of points (`runs`), which an audit compares with the box (`audits`) and a
 //! scan with the window (`windows`, `scans`). Without a box the ends of varints are counted (`unboxed`), and blobs of
 //! one form that follow one another are read in loops of their own (`series`). All of these only answer what they are
-//! sure of. What they aren't sure of, as numbers that are too long for a lane, the last few hundred bytes, or what is
-//! false or malformed, the passes of `../fast` read again.
+//! sure of. The passes of `../fast` read again what they aren't sure of: numbers that are too long for a lane, the last
+//! few hundred bytes, and false or malformed geometries.
 mod audits;
 #[path = "../fast/bodies.rs"]
 mod bodies;
