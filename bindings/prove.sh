@@ -1,7 +1,8 @@
 #!/bin/sh
 # Proves a static library over the libraries below it, and compiles it. usage: bindings/prove.sh CRATE ARCHIVE [FLAG ..]
-# They are those in out/rlib of their crates, as `make libraries` or `rt ci` left them: rt lib would prove those of rt ci
-# once more. It doesn't look whether sources have changed since. Wants the Rattle kit; the flags are those of `rattle build`.
+# The libraries are taken from out/rlib of their crates, as `make libraries` or `rt ci` left them: rt lib would prove once
+# more what rt ci has proved. It doesn't look whether sources have changed since. Wants the Rattle kit, and passes the flags
+# on to `rattle build`.
 set -eu
 top=$(cd "$(dirname "$0")/.." && pwd)
 kit=$(dirname "$(rt doc)")

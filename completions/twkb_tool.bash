@@ -5,7 +5,7 @@ _twkb_tool() {
     if ((COMP_CWORD == 1)); then
         mapfile -t COMPREPLY < <(compgen -W 'check list scan help --help' -- "$word")
     elif [[ $command == help ]]; then
-        # Behind help stands a command, and no file.
+        # After help comes a command, and no file.
         ((COMP_CWORD > 2)) || mapfile -t COMPREPLY < <(compgen -W 'check list scan help' -- "$word")
     elif [[ $command == check && $word == -* ]]; then
         COMPREPLY=('--tight')

@@ -53,7 +53,7 @@ static void names(void) {
 
 /* ---- rooms */
 
-/* A room is filled as far as it goes, and stays as it was behind what there is. */
+/* A room is filled with as many rows or hits as fit, and the rest of it stays as it was. */
 static void list_rooms(const struct twkb_layer *layer, const struct twkb_row *all, size_t room) {
     struct twkb_row *rows = guarded(room * sizeof *rows);
     CHECK(twkb_list(layer, rows, room) == layer->blobs);
@@ -204,7 +204,7 @@ static void fronts(const struct twkb_layer *layer) {
 
 /* ---- deep collections */
 
-/* So many collections, each in the last, and in the deepest a point, or two whose ids fall, which take longer. */
+/* Nested collections, and in the deepest a point, or two whose ids fall, which take longer. Returns how long they are. */
 static size_t nest(uint8_t *bytes, int collections, bool falling) {
     static const uint8_t point[] = {1, 0, 2, 4}, points[] = {4, 4, 2, 4, 2, 2, 4, 0, 0};
     for (int i = 0; i < collections; i++) memcpy(bytes + 3 * i, "\x07\x00\x01", 3);

@@ -1,9 +1,9 @@
 /* Says of many layers, one after another, what the library answers: for tests/fuzz.py, which makes the layers.
  *
  * Standard input has for each layer its length, its bytes, the room for hits, how many windows there are, and for each of these
- * the window, the length of its text and the text. Numbers are of 32 bits. The text on standard output is that of the program,
- * behind it what reading each window's text answers, and a line `end`. Bytes, texts and rooms end at a page that nobody may
- * touch, so whoever passes them ends the run; the sanitizers see this side. */
+ * the window, the length of its text and the text. Numbers are of 32 bits. Standard output has for each layer the program's
+ * text, then what reading each window's text answers, and a line `end`. Bytes, texts and rooms end at a page that nobody may
+ * touch, so an access past them ends the run; the sanitizers see this side. */
 #define _DEFAULT_SOURCE
 #include "guard.h"
 #include "twkb.h"
@@ -14,7 +14,7 @@ enum { WINDOWS = 8 };
 
 static struct twkb_window windows[WINDOWS];
 
-/* Whether so many bytes were there. */
+/* Reads `size` bytes. Returns whether they were there. */
 static bool taken(void *into, size_t size) {
     return size == 0 || fread(into, size, 1, stdin) == 1;
 }

@@ -1,4 +1,4 @@
-/* Memory that ends at a page that nobody may touch: whoever reads or writes a byte past it ends the program. */
+/* Memory that ends at a page that nobody may touch: to read or write a byte past it ends the program. */
 #ifndef GUARD_H
 #define GUARD_H
 

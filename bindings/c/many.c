@@ -15,8 +15,8 @@ enum { MANY = 6 };
 static const char *const TEXTS[MANY] = {"x=0..20,y=0..60",  "x=200..300,y=0..1",           "x=-1000..1000,y=-1000..1000",
                                         "x=0..0.5,y=0..60", "x=-80..-60,y=-60..0,z=0..9", "x=0..20,y=0..60"};
 
-/* A layer with a directory, the windows, and what a call for each of them alone gives: its result, and its hits behind those of the
- * windows before. */
+/* A layer with a directory, the windows, and what a call for each of them alone gives: its result, and its hits, after the
+ * hits of the windows before. */
 struct wanted {
     struct twkb_layer layer;
     struct twkb_slot *slots;
@@ -48,7 +48,7 @@ static void let_go(struct wanted *wanted) {
     free(wanted->hits);
 }
 
-/* The results of the first `said` windows stand there, and what is behind them is as it was. */
+/* The results of the first `said` windows are there, and the rest is as it was. */
 static bool are_told(const struct wanted *wanted, const struct twkb_scanned *scanned, size_t said, size_t results) {
     bool same = true;
     for (size_t i = 0; i < said; i++) {

@@ -188,14 +188,14 @@ size_t twkb_directory_build(const struct twkb_layer *layer, struct twkb_slot *sl
 struct twkb_scanned twkb_directory_scan(const struct twkb_layer *layer, const struct twkb_slot *slots, size_t count,
                                         const struct twkb_window *window, struct twkb_hit *hits, size_t room);
 
-/* Scans for `many` windows in one call, each as twkb_directory_scan does. The hits of each window are written to `hits` behind
- * those of the windows before, as many as fit; `room` is how many fit. scanned[i] is set to what a scan for windows[i] returns;
- * `results` is how many of these fit, `many` to get them all.
+/* Scans for `many` windows in one call, each as twkb_directory_scan does. The hits are written to `hits` one window after
+ * another, as many as fit; `room` is how many fit. scanned[i] is set to what a scan for windows[i] returns; `results` is how
+ * many of these fit, `many` to get them all.
  *
  * Returns how many windows are answered. It is `many`, unless the hits of a window don't all fit. Then the call stops there,
  * and the result is the number of this window, from 0. scanned[result] says how many hits it has, and those that fit are
- * written. Nothing else is written to `hits` and `scanned`. Call again for the windows from this one on, with at least so much
- * room. As much room as the layer has blobs suffices for any window:
+ * written. Nothing else is written to `hits` and `scanned`. Call again for the windows from this one on, with room for that
+ * many hits or more. As much room as the layer has blobs suffices for any window:
  *
  *     for (size_t done = 0, answered; done < many; done += answered) {
  *         answered = twkb_directory_scan_many(&layer, slots, count, windows + done, many - done, scanned, many - done, hits,

@@ -1,5 +1,6 @@
 // Takes the words of the program twkb_tool, and prints what it prints on standard output, by the module. It scans for one
-// window. A check may have room for so many ids of a list alone. Beside these, `vertices FILE` prints X and Y of each vertex in units, drawn at once and then blob by blob.
+// window. A check with IDS has room for only that many ids of a list. Besides, `vertices FILE` prints X and Y of each vertex
+// in units, drawn at once and then blob by blob.
 //
 // usage: node cases.mjs MODULE check [--tight] FILE [IDS] | list FILE | scan FILE WINDOW | vertices FILE
 import { readFileSync } from "node:fs";

@@ -24,8 +24,8 @@ class Library {
     return new DataView(this.exports.memory.buffer, at, length);
   }
 
-  // Copies the bytes in, and certifies them with room for so many ids of a list, each of which takes a byte at least. A layer
-  // that is certified is the one of the calls behind.
+  // Copies the bytes in, and certifies them with room for `ids` ids of a list, each of which takes a byte at least. Later
+  // calls are of the layer that is certified.
   certify(bytes, tight = false, ids = bytes.length) {
     this.#view(this.bytes, bytes.length);
     new Uint8Array(this.exports.memory.buffer, this.bytes, bytes.length).set(bytes);
@@ -50,7 +50,7 @@ class Library {
     }
   }
 
-  // Makes the layer of the calls behind: that of these bytes.
+  // Makes these bytes the layer of later calls.
   take(offset, length, blobs, vertices) {
     const layer = this.#view(this.layer, LAYER);
     [this.bytes + offset, length, blobs, vertices].forEach((word, i) => layer.setBigUint64(8 * i, BigInt(word), true));
@@ -74,7 +74,7 @@ class Library {
     return { count, rows: each(places, count, ROW, row) };
   }
 
-  // Reads the text of a window for the scans behind: 0, or 1 for its form, 2 for its order.
+  // Reads the text of a window for later scans: 0, or 1 for its form, 2 for its order.
   parse(text) {
     const bytes = new TextEncoder().encode(text);
     new Uint8Array(this.#view(this.window, WINDOW).buffer, this.window, WINDOW).fill(0);
@@ -106,7 +106,7 @@ function aligned(number) {
   return (number + 15) & ~15;
 }
 
-// What stands in the room, of as many as there are and fit.
+// The values in the room, as many as there are and fit.
 function each(places, count, size, read) {
   return Array.from({ length: Math.min(places, count) }, (_, i) => read(i * size));
 }

@@ -11,7 +11,7 @@ from ._window import Box, Range, Window
 
 # A scan with more hits than this is run a second time, with as much room as it wants.
 _FIRST_ROOM = 4096
-# A call for many windows has room for as many hits as they can have, or for so many if these are fewer.
+# A call for many windows has room for as many hits as they can have, or for this many if that is fewer.
 _ROOM = 1 << 22
 
 
@@ -285,7 +285,7 @@ def _scan_into(
 
 
 def _room_for(hits: int) -> "ctypes.Array[_library.Hit]":
-    """Room for so many hits. It takes memory only where hits are written."""
+    """Room for the given number of hits. It takes memory only where hits are written."""
     count = max(hits, 1)
     try:
         pages = mmap.mmap(-1, count * _library.HIT.size, flags=mmap.MAP_PRIVATE | mmap.MAP_ANONYMOUS)

@@ -61,7 +61,7 @@ def range_of(name: str, text: str) -> Range:
 
 
 class Handler(BaseHTTPRequestHandler):
-    # A client that says nothing for so many seconds is left.
+    # In seconds: a client that says nothing for longer is left.
     timeout = 30
 
     def __init__(self, layer: Layer, directory: Directory, *rest: object) -> None:

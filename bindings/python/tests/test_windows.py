@@ -54,7 +54,7 @@ class Numbers(unittest.TestCase):
     def test_known(self) -> None:
         known: List[Tuple[Number, int, int]] = [
             (0, 0, 0), (-3, -3 * UNIT, -3 * UNIT), (0.5, UNIT // 2, UNIT // 2), (-0.0, 0, 0), (1e22, 10**29, 10**29),
-            # The float is above a tenth, and that of 0.7 below seven tenths.
+            # The float 0.1 is above a tenth, and the float 0.7 below seven tenths.
             (0.1, 1000001, 1000000), (-0.1, -1000000, -1000001), (0.7, 7000000, 6999999),
             (0.1 + 0.2, 3000001, 3000000), (5e-324, 1, 0), (-5e-324, 0, -1), (1e-8, 1, 0),
             ("0.1", 1000000, 1000000), ("-0.0000001", -1, -1), ("0.00000001", 1, 0), ("-0.99999999", -9999999, -10000000),

@@ -24,7 +24,7 @@ unsafe impl FixedBytes for Rc<[u8]> {}
 // Sound: nobody writes to borrowed bytes.
 unsafe impl FixedBytes for &[u8] {}
 
-/// Bytes that don't change, as the caller promises, such as those of a memory map.
+/// Bytes that don't change, as the caller promises, such as a memory map's.
 ///
 /// ```
 /// # use dozhemik::{OwnedLayer, Vouched};

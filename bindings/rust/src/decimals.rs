@@ -42,7 +42,7 @@ fn decimals(number: f64) -> usize {
     let bits = number.to_bits();
     let exponent = (bits >> FRACTION & 0x7ff) as i32;
     let fraction = bits & ((1 << FRACTION) - 1);
-    // The number is whole * 2^power. Those of the least exponent have no leading 1.
+    // The number is whole * 2^power. Numbers of the least exponent have no leading 1.
     let (whole, power) = match exponent {
         0 => (fraction, 1),
         _ => (fraction | 1 << FRACTION, exponent),

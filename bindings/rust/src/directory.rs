@@ -55,7 +55,7 @@ impl<'a> Directory<'a> {
     ///
     /// # Errors
     ///
-    /// Those of [`Layer::scan`].
+    /// As for [`Layer::scan`].
     pub fn scan(&self, window: &Window) -> Result<Scan, TryReserveError> {
         // Sound: the slots were built for this layer.
         unsafe { self.slots.scan(&self.layer, window) }
@@ -214,7 +214,7 @@ impl Slots {
     }
 }
 
-/// An empty vector with room for so many.
+/// An empty vector with room for `count` values.
 fn with_room<T>(count: usize) -> Result<Vec<T>, TryReserveError> {
     let mut vector = Vec::new();
     vector.try_reserve_exact(count)?;

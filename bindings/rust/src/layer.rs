@@ -61,7 +61,7 @@ impl<'a> Layer<'a> {
     ///
     /// # Errors
     ///
-    /// Those of [`certify`](Layer::certify), with [`RefusalKind::Loose`] among the kinds.
+    /// As for [`certify`](Layer::certify), with [`RefusalKind::Loose`] among the kinds.
     pub fn certify_tight(bytes: &'a [u8]) -> Result<Layer<'a>, CertifyError> {
         // Sound: a slice's pointer is good for its length and isn't null, and nobody writes what is borrowed.
         let verdict = unsafe { ffi::twkb_certify_tight(bytes.as_ptr(), bytes.len()) };

@@ -34,7 +34,7 @@ impl<B: FixedBytes> OwnedLayer<B> {
     ///
     /// # Errors
     ///
-    /// Those of [`Layer::certify`]. The bytes are dropped then: hold them in an `Arc<[u8]>` to keep them.
+    /// As for [`Layer::certify`]. The bytes are dropped then: hold them in an `Arc<[u8]>` to keep them.
     pub fn certify(bytes: B) -> Result<OwnedLayer<B>, CertifyError> {
         let layer = Layer::certify(bytes.as_ref())?;
         let (blobs, vertices) = (layer.blobs(), layer.vertices());
@@ -45,7 +45,7 @@ impl<B: FixedBytes> OwnedLayer<B> {
     ///
     /// # Errors
     ///
-    /// Those of [`Layer::certify_tight`]. The bytes are dropped then.
+    /// As for [`Layer::certify_tight`]. The bytes are dropped then.
     pub fn certify_tight(bytes: B) -> Result<OwnedLayer<B>, CertifyError> {
         let layer = Layer::certify_tight(bytes.as_ref())?;
         let (blobs, vertices) = (layer.blobs(), layer.vertices());
@@ -119,7 +119,7 @@ impl<B: FixedBytes> OwnedDirectory<B> {
     ///
     /// # Errors
     ///
-    /// Those of [`Layer::scan`].
+    /// As for [`Layer::scan`].
     pub fn scan(&self, window: &Window) -> Result<Scan, TryReserveError> {
         // Sound: the slots were built for this layer.
         unsafe { self.slots.scan(&self.layer(), window) }
@@ -129,7 +129,7 @@ impl<B: FixedBytes> OwnedDirectory<B> {
     ///
     /// # Errors
     ///
-    /// Those of [`Directory::scan_many`](crate::Directory::scan_many).
+    /// As for [`Directory::scan_many`](crate::Directory::scan_many).
     pub fn scan_many(&self, windows: &[Window]) -> Result<Vec<Scan>, TryReserveError> {
         // Sound: the slots were built for this layer.
         unsafe { self.slots.scan_many(&self.layer(), windows) }

@@ -25,7 +25,7 @@ pub struct Row {
 }
 
 /// The type of a geometry. It is displayed as the program's word: `point`, `linestring` and so on.
-// The numbers are those of TWKB, which the library writes.
+// The numbers are TWKB's, which the library writes.
 #[repr(u8)]
 #[derive(Clone, Copy, Debug, PartialEq, Eq, Hash)]
 pub enum Kind {

@@ -131,7 +131,7 @@ impl Window {
     ///
     /// # Errors
     ///
-    /// Those of [`Span::from_coordinates`].
+    /// As for [`Span::from_coordinates`].
     pub fn from_bbox([x_min, y_min, x_max, y_max]: [f64; 4]) -> Result<Window, BadWindow> {
         Ok(Window::new(Span::from_coordinates(x_min..=x_max)?, Span::from_coordinates(y_min..=y_max)?))
     }

@@ -273,7 +273,7 @@ fn blobs_are_cut_out_by_hits_and_rows() {
         assert_eq!(layer.blob(hit), Some(&TWO[row.offset..row.offset + row.bytes]));
         assert_eq!((layer.blob(*hit), layer.blob(*row)), (layer.blob(row), layer.blob(row)));
     }
-    // Those of another layer.
+    // Hits of another layer.
     for (offset, bytes) in [(0, 21), (20, 1), (21, 0), (1, usize::MAX), (usize::MAX, 1), (usize::MAX, usize::MAX)] {
         assert_eq!(layer.blob(Hit { blob: 0, offset, bytes }), None);
     }

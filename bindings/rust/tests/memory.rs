@@ -43,7 +43,7 @@ unsafe impl GlobalAlloc for Refusing {
 #[global_allocator]
 static MEMORY: Refusing = Refusing;
 
-/// What a call answers that is given memory so many times.
+/// What a call answers that is given memory `times` times, and then no more.
 fn given<T>(times: usize, call: impl FnOnce() -> T) -> T {
     LEFT.with(|left| left.set(times));
     let answer = call();

@@ -13,7 +13,7 @@ fn window(text: &str) -> Window {
     text.parse().expect("a window")
 }
 
-/// Whatever holds the bytes, the answers are those of the borrowed layer.
+/// Whatever holds the bytes, an owned layer answers as the borrowed one does.
 fn answers_alike<B: FixedBytes + Clone>(bytes: B) {
     let data = bytes.as_ref().to_vec();
     let wanted = Layer::certify(&data).unwrap();

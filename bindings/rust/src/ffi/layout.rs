@@ -1,12 +1,12 @@
 //! Sizes and places of what crosses the border, the same as in `bindings/c/layout.c`. Compiled, never run.
-// Older compilers don't see that constants use what stands here.
+// Older compilers don't see that constants use what is here.
 #![allow(dead_code)]
 
 use super::{Layer, Slot, Span, Units, Verdict, Window};
 use crate::{Hit, Kind, Row, Scanned};
 use std::mem::{align_of, size_of};
 
-/// What stands in a value at a place, read as another type.
+/// The bytes of a value from a place on, read as another type.
 ///
 /// # Safety
 ///
