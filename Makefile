@@ -171,7 +171,7 @@ picture: build
 trusted:
 	@python3 tests/trusted.py
 
-# Each call of the whole program for memory in turn, those of reading the words too. The gate has it, as part of test-program.
+# Refuses each call of the program for memory in turn, also while it reads its words. Part of test-program at the gate.
 refusals: build
 	python3 tests/refuse_allocations.py $(PROGRAM)
 

@@ -60,7 +60,7 @@ def cases(folder):
 
 
 def runs_on_examples(program):
-    """The same of the examples, with what the program gives."""
+    """Runs of the program on the examples, each with the status and the text that it gives."""
     for layer in EXAMPLES:
         path = os.path.join(TOP, "examples", layer)
         windows = [row[1] for row in table("postgis.tsv") if row[0] == layer]

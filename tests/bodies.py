@@ -34,7 +34,7 @@ class Check:
 
     def __init__(self, status, output):
         self.lines = output.splitlines()
-        # The crate's own verdict comes after those of libraries.
+        # The verdicts of libraries come first, and then the crate's own.
         verdict = [line.split()[0] for line in self.lines if line.startswith("logic=")][-1:]
         self.is_proved = status == 0 and verdict == ["logic=proved"]
         self.is_refused = status == 1 and verdict == ["logic=not-proved"]

@@ -39,7 +39,7 @@ def near(values, chance):
 
 
 def windows_near(blobs, chance):
-    """Two windows whose ranges end where vertices and boxes of the blobs do, or a unit before or behind."""
+    """Two windows whose ranges end where vertices and boxes of the blobs do, or a unit before or after."""
     values = [{0} for _ in plain.AXES]
     for blob in blobs:
         for axis, found in enumerate(values):

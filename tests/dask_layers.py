@@ -73,7 +73,7 @@ def wanted(program, folder, windows):
 
 
 def compare(name, folder, told, wanted_lines):
-    """Each layer stands once, with its lines together and in their order."""
+    """Each layer is printed once, with its lines together and in their order."""
     rows = [row.split("\t") for row in told.splitlines()]
     blocks = [(path, [row[1] for row in rows]) for path, rows in itertools.groupby(rows, key=lambda row: row[0])]
     paths = [os.path.join(at, file) for at, _, files in os.walk(folder) for file in files if file.endswith(".twkb")]
@@ -187,7 +187,7 @@ def batches():
 
 
 def by_fsspec(program, folder):
-    """The same layers by an address."""
+    """The folder of the layers is named by an address."""
     if importlib.util.find_spec("fsspec") is None:
         print("fsspec is missing, so no address was tried: apt-get install python3-fsspec")
         return
@@ -228,7 +228,7 @@ def until(there):
 
 
 def progress_until(stream, done, text=""):
-    """Reads the progress until so many layers are done. Answers what was read."""
+    """Reads the progress until `done` layers are done. Answers what was read."""
     while not any(int(number) >= done for number in re.findall(r"\r(\d+) of", text)):
         piece = os.read(stream.fileno(), 4096).decode()
         if not piece:

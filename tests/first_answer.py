@@ -1,5 +1,5 @@
 #!/usr/bin/env python3
-"""What stands between a checkout and a first answer: `make try`, and how crates are proved side by side.
+"""How a checkout comes to a first answer: `make try`, and how crates are proved side by side.
 
 usage: tests/first_answer.py
 

@@ -3,7 +3,7 @@
 
 usage: tests/fuzz.py PROGRAM [SECONDS] [SEED]   (60 seconds, and a seed of the clock; needs gcc and build/bindings/libtwkb.a)
 
-The layers and windows are those of made.py. On each layer the program runs all its commands. The library is called by
+Layers and windows are made by made.py. On each layer the program runs all its commands. The library is called by
 bindings/c/fuzz.c, built with the sanitizers, whose bytes and rooms end at a page that nobody may touch: both checks, rows, and
 each window by a scan and by a directory, those upside down too, which the program has to refuse. All windows in one call have to
 get what each gets. Layer N of a seed is always the same. A layer on which anything differs is kept in build/fuzz, as a file, with
@@ -28,7 +28,7 @@ KEPT = os.path.join(TOP, "build", "fuzz")
 ARCHIVE = os.environ.get("TWKB_ARCHIVE", os.path.join(TOP, "build", "bindings", "libtwkb.a"))
 DRIVER = os.path.join(TOP, "bindings", "c", "fuzz.c")
 GCC = ["gcc", "-std=c11", "-Wall", "-Wextra", "-Wpedantic", "-Werror", "-O1", "-g"]
-# After so many layers that differ the run ends before its time.
+# After this many layers that differ the run ends before its time.
 ENOUGH = 20
 SANITIZED = ["-fsanitize=address,undefined", "-fno-sanitize-recover"]
 

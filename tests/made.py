@@ -1,7 +1,7 @@
 """Layers and windows made at random, by the rules of docs/FORMAT.md, for fuzz.py.
 
 Most layers are certified. In some a claim is false, a number is spelled long, a coordinate passes 64 bits, or bytes are changed
-behind that. What comes of it is for plain.py to say: nothing here is told what a layer has to give.
+after that. What comes of it is for plain.py to say: nothing here is told what a layer has to give.
 """
 import plain
 from changed import GREATEST, number
@@ -47,7 +47,7 @@ class Made:
         return self.chance.choice([17, 40] if self.is_so(0.03) else [0, 1, 1, 2, 2, 3, 5])
 
     def geometry(self, depth, room):
-        """A geometry that stands at a depth, of some forty bytes at most for each member that has room below it."""
+        """A geometry at a depth, of some forty bytes at most for each member that has room below it."""
         chance = self.chance
         kinds = range(1, COLLECTION + (depth < DEEPEST and room > 0))
         kind = chance.choice([*kinds, *[COLLECTION] * (2 if len(kinds) == COLLECTION else 0)])
@@ -136,7 +136,7 @@ class Made:
 
 
 def nested(inside, levels):
-    """A geometry in so many collections of it alone."""
+    """A geometry in nested collections, each of one member."""
     return b"\x07\x00\x01" * levels + inside
 
 

@@ -120,7 +120,7 @@ const contrast = (one, other) => {
   return (Math.max(...both) + 0.05) / (Math.min(...both) + 0.05);
 };
 
-// Texts whose contrast with their ground is below that of the accessibility guidelines.
+// Texts whose contrast with their ground is below what the accessibility guidelines ask for.
 window.faint = () => {
   const hasText = (at) => [...at.childNodes].some((node) => node.nodeType === Node.TEXT_NODE && node.data.trim());
   const all = [...document.querySelectorAll("body *:not(script, [aria-disabled=true])")].filter((at) => at.checkVisibility() && hasText(at));
@@ -128,7 +128,7 @@ window.faint = () => {
   return all.filter(isFaint).map((at) => at.outerHTML.slice(0, 80));
 };
 
-// The colours of an element that are seen beside its ground: its own, its border's, and those of its pattern.
+// The colours of an element that are seen beside its ground: its own, its border's and its pattern's.
 const coloursOf = (at) => {
   const { backgroundColor, backgroundImage, borderTopWidth, borderTopColor } = getComputedStyle(at);
   const border = parseFloat(borderTopWidth) ? [borderTopColor] : [];

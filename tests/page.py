@@ -37,7 +37,7 @@ LARGEST_FILE = 268435456
 EXAMPLES = ["points_sized.twkb", "coast_lines_sized.twkb", "coast_collections.twkb", "coast_z.twkb", WORLD]
 # These copies of the lines have more than 100 MB.
 COPIES = 1190
-# Of the world PostGIS was asked for no windows: those of the lines are taken.
+# PostGIS was asked for no windows of the world: the windows of the lines are taken.
 LINES_TOO = {WORLD: "coast_lines_sized.twkb"}
 # Of the windows that PostGIS was asked for every fifth one is asked for, of each example.
 EVERY = 5

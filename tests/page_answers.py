@@ -112,7 +112,7 @@ def exact(page):
 
 
 def directories(page):
-    """Blobs and bytes that a scan reads, and those that one with a directory reads, are the program's and those of plain.py."""
+    """The blobs and bytes that a scan reads, with a directory and without, are as the program and plain.py say."""
     scans = [row for row in table("cases.tsv") if row[1].startswith("scan ") and row[3] == "0"]
     layers = [("case", bytes.fromhex(row[2]), window) for row in scans for window in row[1].split(" ")[2:]]
     for name in ("coast_lines_sized.twkb", "coast_collections.twkb", "points_sized.twkb", "coast_z.twkb", "world.twkb"):
@@ -201,7 +201,7 @@ def shares(page):
 
 
 def windows(page):
-    """The sentence names its window, and stays that of the last one where the text is none."""
+    """The sentence names its window, and stays as it was where the text is no window."""
     page.drop("lines.twkb", example("coast_lines_sized.twkb"))
     page.scan("x=10..30,y=35..45")
     kept = page.run('$("scanned").textContent')

@@ -80,7 +80,7 @@ def scrolled(page):
 
 
 def known(page):
-    """The shorelines are those of the whole world: capes that everyone knows are on them."""
+    """The shorelines are of the whole world: capes that everyone knows are on them."""
     tap(page, 0)
     missed = [cape for cape in CAPES if page.scan("x={}..{},y={}..{}".format(*ends(cape)))["printed"].startswith("hits=0")]
     count(page.name("capes on the shorelines"), missed, [])

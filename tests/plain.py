@@ -55,7 +55,7 @@ def zigzag(number):
 
 
 class Head:
-    """The header of a geometry at a depth, and where its size and its box stand."""
+    """The header of a geometry at a depth, and where its size and its box are."""
 
     def __init__(self, reader, depth):
         at, first = reader.place, reader.byte()
@@ -104,7 +104,7 @@ class Head:
         return False
 
     def misses(self, window):
-        """Whether there is a box, and it ends before the window or begins behind it in an axis that both have."""
+        """Whether there is a box, and it ends before the window or begins after it in an axis that both have."""
         return self.box is not None and any(
             ours is not None and its is not None and (ours[1] < its[0] or its[1] < ours[0])
             for ours, its in zip(self.box, window)

@@ -3,7 +3,7 @@
 
 usage: tests/postgis.py > tests/postgis.tsv   (psql has to reach a database with the extension postgis, by its PG variables)
 
-PostGIS decodes each blob by ST_GeomFromTWKB, and its vertices are those of ST_DumpPoints. What it finds is kept in the
+PostGIS decodes each blob by ST_GeomFromTWKB, and gives its vertices by ST_DumpPoints. What it finds is kept in the
 repository, since the tests that compare the program with it run without it.
 """
 import os
@@ -13,7 +13,7 @@ import plain
 
 EXAMPLES = os.path.join(os.path.dirname(os.path.dirname(os.path.abspath(__file__))), "examples")
 LAYERS = ["points_sized.twkb", "coast_lines_sized.twkb", "coast_collections.twkb", "coast_z.twkb"]
-# Ranges of Z and M for coast_z.twkb, each behind one of X and Y.
+# Ranges of Z and M for coast_z.twkb, each added to ranges of X and Y.
 FURTHER = [",z=7.3..7.3", ",z=7.31..9", ",m=-1..0", ",m=0.001..1", ",z=0..7.3,m=0..0", ",z=0..7.3,m=0.001..1"]
 EVERYWHERE, NORTH = "x=-360..360,y=-360..360", "x=30..100,y=40..90"
 STEP = 30

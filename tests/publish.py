@@ -28,7 +28,7 @@ WORDS = {"PGUSER": "postgres", "PGDATABASE": "postgres"}
 
 
 def published(folder, program, words=("coast",), path=None, **environment):
-    """What the script answers, what the layer is then, and what stands beside it."""
+    """What the script answers, what the layer is then, and which files are beside it."""
     place = os.path.join(folder, "served")
     shutil.rmtree(place, ignore_errors=True)
     os.mkdir(place)

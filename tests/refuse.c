@@ -1,4 +1,4 @@
-/* Refuses one call for memory: the one whose number, from 1, stands in REFUSED. At the end of the run it writes to the
+/* Refuses one call for memory: the one whose number, from 1, is in REFUSED. At the end of the run it writes to the
    descriptor of COUNT how many calls there were. tests/refuse_allocations.py loads it before the program. */
 #include <stddef.h>
 #include <stdio.h>

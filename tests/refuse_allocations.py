@@ -1,10 +1,10 @@
 #!/usr/bin/env python3
-"""Refuses each call for memory of whole runs of the program in turn, those of reading the words among them.
+"""Refuses each call for memory of whole runs of the program in turn, also while it reads its words.
 
 usage: tests/refuse_allocations.py PROGRAM   (needs gcc, which makes the library of tests/refuse.c)
 
-The library stands before the C library, so it is the built program itself that is refused. Which call has to be answered
-in which way is known before the run (`wanted`): those that fetch the words end it with `cannot read words`, all behind them
+The library is loaded before the C library, so it is the built program itself that is refused. Which call has to be answered
+in which way is known before the run (`wanted`): those that fetch the words end it with `cannot read words`, all after them
 with `out of memory`, each with status 3, that one line on standard error and nothing put; and the one call between, which
 asks for room ahead, changes nothing. Prints for each run how many calls it has. The last line is `N refused, M failed`; the
 status is 1 where any failed.
@@ -49,7 +49,7 @@ RUNS = [
     ([], 2, "", BY_CLAP),
 ]
 
-# How the words are fetched: each into room of its own, which is doubled until the word fits, and behind the last one room to
+# How the words are fetched: each into room of its own, which is doubled until the word fits, and after the last one room to
 # see that there is none more. The list of them grows with the first and with those that find all its places taken.
 ROOM, GROWTHS = 256, {0, 4, 8, 16, 32, 64}
 WORDS, MEMORY = "twkb_tool: cannot read words", "twkb_tool: out of memory"
@@ -64,7 +64,7 @@ def fetching(words):
 def wanted(words, answer, calls):
     """What the run has to give where each of its calls is refused, in order: status, text and lines on standard error.
 
-    Behind the fetched words the list of them is put into a list of the program's own. It asks for its places ahead, and
+    After the words are fetched, their list is put into a list of the program's own. It asks for its places ahead, and
     where these are refused for each as it comes. Opening a file takes no memory. So all else is asked for by reading the
     words, and then by the run.
     """

@@ -150,7 +150,7 @@ def unpacked(archive, folder):
 
 
 def sums(release):
-    """Each file but that of the sums has its own there."""
+    """SHA256SUMS has the sum of each other file."""
     found = {}
     for row in text_of(release, "SHA256SUMS").splitlines():
         digest, name = row.split("  ")
@@ -229,7 +229,7 @@ def others(clone, refused):
 
 
 def tree(folder):
-    """What stands below a folder: a link's goal, or rights and content."""
+    """The files below a folder: of each its rights, or a link's goal, and its content."""
     found = {}
     for at, folders, files in os.walk(folder):
         for name in files:

@@ -29,7 +29,7 @@ LINE = "ok blobs=1 vertices=1\n"
 ROW = "blob=0 offset=0 bytes=4 type=point precision=0 vertices=1 size=no box=no\n"
 HIT = "hit blob=0 offset=0\nhits=1 read=4 of=4\n"
 WINDOW = "x=1..1,y=2..2"
-# The words of each command but the layer, which stands behind the first, and what they give on POINT.
+# The words of each command but the layer, which comes after the first, and what they give on POINT.
 COMMANDS = [
     (["check"], LINE),
     (["check", "--tight"], LINE),

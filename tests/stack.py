@@ -68,7 +68,7 @@ def main():
             _, tight, _ = places([program, *certified["check --tight"]], folder)
             for name, entered in (("first reading", first), ("exact audit", audit), ("tight audit", tight)):
                 levels = {above - below for above, below in zip(entered, entered[1:])}
-                print(f"{name}: {len(entered)} geometries, each so many bytes below the one before it: {sorted(levels)}")
+                print(f"{name}: {len(entered)} geometries; how many bytes each is below the one before it: {sorted(levels)}")
             print(f"scan: goes over members {len(scan)} times")
 
 

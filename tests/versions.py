@@ -17,7 +17,7 @@ import tempfile
 from harness import TOP, count, counts, written
 
 LIBRARY = os.path.join(TOP, "build", "bindings")
-# Where a version stands, and what stands round it.
+# The files that state a version, each with a pattern of the text around it.
 STATED = {
     "bindings/c/twkb.h": r'^#define TWKB_VERSION "(.*)"$',
     "bindings/c/twkb.pc": r"^Version: (.*)$",
@@ -29,7 +29,7 @@ STATED = {
     "docs/USAGE.md": r"dozhemik-(\d.*?)-x86_64",
     "docs/BINDINGS.md": r"dozhemik-(\d.*?)-py3",
 }
-# Prints the version of the header, by its numbers and as a text, and that of the library.
+# Prints the version of the header, by its numbers and as a text, and the library's.
 PROGRAM = r"""
 #include "twkb.h"
 #include <stdio.h>
@@ -78,7 +78,7 @@ def of_the_package(version):
 
 
 def of_the_page(version, folder):
-    """The page's version stands in its text, whatever module is in it."""
+    """The page says its version in its text, whatever module is in it."""
     page = os.path.join(folder, "page.html")
     maker = os.path.join(TOP, "bindings", "web", "make_page.py")
     done = subprocess.run([sys.executable, maker, written(folder, "none.wasm", b""), page], capture_output=True, text=True)

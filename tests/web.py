@@ -4,7 +4,7 @@
 usage: tests/web.py [--all]   (rt of the kit in PATH; wasm-opt, node of Node 16 or later, and gcc)
 
 The small layers of cases.tsv and the examples go through bindings/web/cases.mjs, which takes the program's words and has to
-print its text; of the examples the vertices too, which have to be those of plain.py. Then come verdicts on fronts of an
+print its text; of the examples the vertices too, which have to be plain.py's. Then come verdicts on fronts of an
 example, and on it with a byte changed: each has to be the native one. With --all these are more than half a million, else
 some tens of thousands. Long lists of ids are tried in too little room for them too. Prints each difference, and last a
 line `N passed, M failed`; the status is 1 where any failed.

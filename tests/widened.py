@@ -3,8 +3,8 @@
 
 usage: tests/widened.py PROGRAM LAYER DEGREES WINDOW..
 
-Prints for each window how many bytes one scan for all of them reads of the layer, and how many of the same layer with each
-box of a blob so many degrees wider on each side of X and Y.
+Prints for each window how many bytes one scan for all of them reads of the layer, and how many of the layer with each
+box of a blob DEGREES wider on each side of X and Y.
 """
 import os
 import re
@@ -21,7 +21,7 @@ UNITS_A_DEGREE = 10**7
 
 
 def box_bytes(head, units):
-    """The box, in each axis so many units wider on each side in X and Y."""
+    """The box, `units` wider on each side in X and Y."""
     spelled = b""
     for axis in head.axes:
         low, high = head.box[axis]

@@ -18,7 +18,7 @@ into=$1
     exit 1
 }
 
-# put RIGHTS PATH: a file, where it stands in this folder.
+# put RIGHTS PATH: installs a file of this folder at its path below PREFIX.
 put() {
     install -d "$into/$(dirname "$2")"
     install -m "$1" "$here/$2" "$into/$2"

@@ -1,5 +1,5 @@
 #!/bin/sh
-# Whether FILE is built, of the crates as they stand, and no other of its sources is newer: then the status is 0.
+# Whether FILE is built, of the crates as they are, and no other of its sources is newer: then the status is 0.
 # usage: tools/is_current.sh FILE SOURCE..
 # What builds FILE writes the sum of the crates (tools/sources.sh) to FILE.sources.
 set -eu

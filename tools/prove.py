@@ -1,12 +1,12 @@
 #!/usr/bin/env python3
-"""Proves crates, each behind those that it stands on, and side by side where neither stands on the other.
+"""Proves crates, each after the crates that it uses, and side by side where neither uses the other.
 
 usage: tools/prove.py [--every SECONDS] CRATE..   (rt of the Rattle kit in PATH)
 
-crates.txt says what stands on what. What isn't named here is taken as proved before. A library is proved by `rt lib`. A program
-is proved and built by `rt run`, which runs it on an empty layer. What they say goes to build/CRATE.log. A line says what is begun
-and what is done, and one a minute, or each so many SECONDS, how far it is. Where a crate fails, its log is printed, what else
-runs is stopped, and the status is 1. It is 2 for words that ask for nothing.
+crates.txt says which crate uses which. What isn't named here is taken as proved before. A library is proved by `rt lib`. A
+program is proved and built by `rt run`, which runs it on an empty layer. What they say goes to build/CRATE.log. A line says
+what is begun and what is done, and one a minute, or every SECONDS, how far it is. Where a crate fails, its log is printed,
+what else runs is stopped, and the status is 1. It is 2 for words that ask for nothing.
 """
 import argparse
 import os
@@ -20,7 +20,7 @@ STEP = 0.1
 
 
 def stands_on():
-    """What each crate of crates.txt stands on."""
+    """The crates that each crate of crates.txt uses."""
     found = {}
     with open(os.path.join(TOP, "crates.txt"), encoding="utf-8") as rows:
         for row in rows:
@@ -65,7 +65,7 @@ class Run:
         self.below, self.start = below, time.monotonic()
 
     def begin(self):
-        """Begins each crate that stands on none that waits or runs."""
+        """Begins each crate that uses none that waits or runs."""
         open_ones = {*self.waiting, *(proof.crate for proof in self.running)}
         for crate in [crate for crate in self.waiting if not self.below[crate] & open_ones]:
             self.waiting.remove(crate)

@@ -3,7 +3,7 @@
 
 usage: tools/wheel.py LIBRARY FOLDER   (Python 3.11 or later; SOURCE_DATE_EPOCH is the time of all files in it, else 1980)
 
-Says the path. The name, the version and the rest are those of bindings/python/pyproject.toml.
+Says the path. The name, the version and the rest are as in bindings/python/pyproject.toml.
 """
 import base64
 import hashlib

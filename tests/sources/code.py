@@ -72,7 +72,7 @@ def items(lines, first=1):
 
 
 class Code:
-    """A file of code. Its functions include those of traits and impls."""
+    """A file of code. Its functions include the functions of traits and impls."""
 
     def __init__(self, text):
         self.text = text

@@ -61,7 +61,7 @@ class Change:
         self.changes_nothing = self.applied_to({}) == self.before
         self.lines, self.functions, texts = set(), set(), dict(self.before)
         for file, old, new in self.pairs:
-            # Lines are those of the unchanged file, unless it has the old text exactly once only after earlier pairs.
+            # Lines are counted in the unchanged file, unless it has the old text exactly once only after earlier pairs.
             text = self.before[file] if self.before[file].count(old) == 1 else texts[file]
             line = text.count("\n", 0, text.index(old)) + 1
             self.lines.add((file, line))
