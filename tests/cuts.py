@@ -6,7 +6,7 @@ usage: tests/cuts.py   (over build/bindings/libtwkb.so, which `make library` and
 The files are the layers of cases.tsv. Those that are one blob, be its claims true or false (`plain.is_blob`), are cut after each
 of their bytes but the last, which has to be refused as cut in blob 0. In all files each byte is set to each of the 256 values.
 Both checks are made of what comes of this. Where one names a malformation, the same bytes cut at its offset have to be refused
-as cut, at that blob and offset; or, where the offset is the first byte of its blob, certified with as many blobs as stand
+as cut, at that blob and offset; or, where the offset is the first byte of its blob, certified with as many blobs as come
 before it. Of files of up to 64 bytes plain.py has to give the same answers.
 
 These are more than two million calls, so they go to the library and not to the program, whose runs on changed layers are in

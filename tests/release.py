@@ -4,7 +4,7 @@
 usage: tests/release.py [--debootstrap] [PROGRAM]   (build/twkb_tool where it is left out; rt of the kit in PATH; after
 tests/bindings.py, which builds the library)
 
-It packs in a copy of the checkout as it stands, committed there. The page is made of build/web's module, or without one, which a
+It packs in a copy of the checkout as it is, committed there. The page is made of build/web's module, or without one, which a
 line says. A machine with a shell, coreutils and python3 alone is a folder that is put together of this machine's files, or with
 --debootstrap of Debian's packages. What can't be done here is said in one line and left out. Prints each difference, and last a
 line `N passed, M failed`; the status is 1 where any failed.
