@@ -5,13 +5,14 @@ use Rattle.twkb_head.specs.declared.header.Head.{Head}
 use Rattle.twkb_head.specs.declared.refusal.Malformed.{Malformed}
 use Rattle.twkb_head.specs.Header.{Header, axes_with}
 use Rattle.twkb_head.specs.Shared.Reader.{Reader, many_at, Fails}
+use Rattle.twkb_head.specs.Raw.{HavePrecisions}
 use Rattle.twkb_body.specs.declared.trail.Trail.{Trail}
 use Rattle.twkb_body.specs.Geometry.{PointValue}
 use Rattle.twkb_body.specs.Devices.Body.{add}
 use Rattle.twkb_body.specs.Devices.BodyReader.{point_at}
 use Rattle.twkb_body.specs.Devices.Inside.{of_head}
 use Rattle.twkb_body.specs.Devices.PointReader.{Stage, HasRead, EndsEarly, IsWalking}
-use Rattle.twkb_body.specs.Devices.Walk.{HasPrecisions, lasts_from, IsWalk, IsWalked}
+use Rattle.twkb_body.specs.Devices.Walk.{precisions_of, lasts_from, IsWalk, IsWalked}
 use Rattle.twkb_body.proofs.PartPlans.{flat_single}
 use Rattle.twkb_body.proofs.Walks.{IsRingLoop, walk_fails, walk_ends, one_point, add_is_sums}
 
@@ -52,7 +53,7 @@ module _ {S : Type 0} (step : Header → S → PointValue → S) where
     pub loop_ready : (now : Head) (many : ℕ) (new : Trail) (t : S) (i : ℕ) (r : Reading) → now ≡ head → many ≡ axes → Loop now many i new t r → (at : Stage (Header × S)) → IsWalking head axes old s at → at.trail.points ≤ from.place → IsWalk now many new r
     loop_ready now many new t i r same axes_same loop at w few =
         let old_points = ap (λ (at : Stage (Header × S)). at.trail.points) w.at_is in (
-          subst HasPrecisions (sym same) w.precisions,
+          subst (λ (h : Head). HavePrecisions (precisions_of h)) (sym same) w.precisions,
           axes_same ∙ w.axes_are ∙ ap (λ (h : Head). axes_with h.z h.m) (sym same),
           omega (arith, few, old_points, loop.walked.points, loop.walked.ahead),
         )

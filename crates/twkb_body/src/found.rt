@@ -1,10 +1,11 @@
 //! [`Found`], what the exact audit keeps of the geometries it has read, and the judging of claims.
 ghost use Rattle.std.specs.Prelude.{◌≡◌, ◌+◌, ◌^◌, ◌<◌, ◌≤◌, IfSome, None};
+ghost use Rattle.twkb_head.specs.Raw.{HavePrecisions};
 ghost use Rattle.twkb_body.specs.Devices.Inside.{of_head};
 ghost use Rattle.twkb_body.specs.Devices.Pass.{first, false_at, is_tight};
 ghost use Rattle.twkb_body.specs.Devices.Found.{named, size_judged, box_judged};
 ghost use Rattle.twkb_body.specs.Audited.{number_of};
-ghost use Rattle.twkb_body.specs.Devices.Walk.{HasPrecisions};
+ghost use Rattle.twkb_body.specs.Devices.Walk.{precisions_of};
 
 use crate::answers::Claim;
 use crate::extent::Extent;
@@ -70,7 +71,7 @@ pub fn judge_size(size: Option<SizeField>, stop: usize) -> Option<FalseClaim>
 /// The claim of the box, if some vertex of this extent is outside, or in tight checking if the box is loose.
 #[inline(always)]
 pub fn judge_box(head: &Head, extent: &Extent, tight: bool) -> Option<FalseClaim>
-    requires precisions { HasPrecisions head.now }
+    requires precisions { HavePrecisions (precisions_of head.now) }
     ensures { named result ≡ box_judged tight (of_head head.now) head.now.bounds extent.now }
 {
     match &head.bounds {
@@ -89,7 +90,7 @@ pub fn judge_box(head: &Head, extent: &Extent, tight: bool) -> Option<FalseClaim
 /// The claim that the box isn't loose, if it is loose at the precisions of its header.
 #[inline(always)]
 fn judge_tight(head: &Head, field: &BoxField, extent: &Extent) -> Option<FalseClaim>
-    requires precisions { HasPrecisions head.now }
+    requires precisions { HavePrecisions (precisions_of head.now) }
     ensures { named result ≡ false_at
         (is_tight head.now.xy head.now.z head.now.m field.now.bounds extent.now) field.now.offset 9 }
 {

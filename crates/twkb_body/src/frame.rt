@@ -1,9 +1,9 @@
 //! The box that the vertices of a geometry have to lie in: its own, or the box of a collection around it.
 ghost use Rattle.std.specs.Prelude.{◌≡◌, ◌<◌, ◌^◌, ℕ, true, Option, IfSome, OnSome, IsTrue, not, option_map};
-ghost use Rattle.twkb_head.specs.Raw.{raw_bounds};
+ghost use Rattle.twkb_head.specs.Raw.{HavePrecisions, raw_bounds};
 ghost use Rattle.twkb_body.specs.Devices.BoxTest.{IsNearRange};
 ghost use Rattle.twkb_body.specs.Devices.Sure.{framed, has_further, IsNear, IsNearFrame, IsFrameUnder, LiesIn, LiesInAll};
-ghost use Rattle.twkb_body.specs.Devices.Walk.{ArePrecisions, HasPrecisions};
+ghost use Rattle.twkb_body.specs.Devices.Walk.{precisions_of};
 
 use twkb_head::{Axes, Bounds, Head, RawBox, RawRange};
 
@@ -24,7 +24,7 @@ impl Frame {
     #[inline(always)]
     pub fn under(above: &Option<Frame>, head: &Head, own: &Option<RawBox>) -> Option<Option<Frame>>
         requires near { IfSome above.now IsNearFrame }
-        requires precisions { HasPrecisions head.now }
+        requires precisions { HavePrecisions (precisions_of head.now) }
         ensures { IfSome result (IsFrameUnder above.now head.now (option_map (framed head.now) own.now)) }
     {
         match (above, own) {
@@ -67,7 +67,7 @@ impl Frame {
 
     /// The box in units.
     pub fn in_units(&self) -> Bounds
-        requires precisions { ArePrecisions self.now.xy self.now.z self.now.m }
+        requires precisions { HavePrecisions (record { xy = self.now.xy; z = self.now.z; m = self.now.m }) }
         ensures { result ≡ raw_bounds self.now.xy self.now.z self.now.m self.now.bounds }
     {
         self.bounds.in_units(Axes {
@@ -87,7 +87,7 @@ pub fn further_frame(
     own: &Option<RawBox>,
 ) -> Option<Option<Frame>>
     requires near { IfSome above.now IsNearFrame }
-    requires precisions { HasPrecisions head.now }
+    requires precisions { HavePrecisions (precisions_of head.now) }
     ensures further { OnSome result (has_further head.now.z head.now.m ≡ true) }
     ensures frame { IfSome result (IsFrameUnder above.now head.now (option_map (framed head.now) own.now)) }
 {

@@ -1,9 +1,10 @@
 //! [`Points`], the trait of what the points under one header are added to.
 ghost use Rattle.std.specs.Prelude.{◌≡◌, ◌≤◌};
 ghost use Rattle.twkb_head.specs.Header.{Header};
+ghost use Rattle.twkb_head.specs.Raw.{HavePrecisions};
 ghost use Rattle.twkb_body.specs.Geometry.{PointValue};
 ghost use Rattle.twkb_body.specs.Devices.Inside.{of_head};
-ghost use Rattle.twkb_body.specs.Devices.Walk.{HasPrecisions, IsWalk, IsRun};
+ghost use Rattle.twkb_body.specs.Devices.Walk.{precisions_of, IsWalk, IsRun};
 
 use crate::trail::Trail;
 use twkb_head::Head;
@@ -21,7 +22,7 @@ pub trait Points {
 
     /// Adds one point, by its coordinates in the order of the axes.
     fn add(&mut self, head: &Head, point: &[i64; 4])
-        requires precisions { HasPrecisions head.now }
+        requires precisions { HavePrecisions (precisions_of head.now) }
         ensures { state self.new ≡ step (of_head head.now) (state self.old) point.now };
 
     /// Reads some of the points at the place, `most` of them or fewer, by words of eight bytes or by vectors. Returns how many it

@@ -5,10 +5,10 @@
 ghost use Rattle.std.specs.Prelude.{◌≡◌, ◌≤◌, IfSome, None, [], ◌∷◌, option_map};
 ghost use Rattle.std.specs.List.{cons_option};
 ghost use Rattle.twkb_num.specs.Units.{IsPrecision};
+ghost use Rattle.twkb_head.specs.Raw.{HavePrecisions};
 ghost use Rattle.twkb_body.specs.Extent.{joined, span_of, reach_of};
 ghost use Rattle.twkb_body.specs.Geometry.{coordinate};
 ghost use Rattle.twkb_body.specs.Devices.Ranges.{scaled, scaled_if, reach_in_units};
-ghost use Rattle.twkb_body.specs.Devices.Walk.{ArePrecisions};
 
 use crate::extent::Extent;
 use crate::points::Points;
@@ -133,7 +133,7 @@ impl Ranges {
     /// The ranges of all axes in units, by the precisions of the header.
     #[inline(always)]
     pub fn in_units(&self, xy: i8, z: Option<u8>, m: Option<u8>) -> Extent
-        requires precisions { ArePrecisions xy z m }
+        requires precisions { HavePrecisions (record { xy = xy; z = z; m = m }) }
         ensures { result ≡ reach_in_units xy z m self.now }
     {
         Extent::from_spans(

@@ -1,9 +1,10 @@
 //! [`Walk`], which reads points one after another, adds up their differences, and shows each point to a [`Points`].
 ghost use Rattle.std.specs.Prelude.{◌≡◌, ◌≤◌, None, false};
 ghost use Rattle.twkb_head.specs.Header.{Header, axes_with};
+ghost use Rattle.twkb_head.specs.Raw.{HavePrecisions};
 ghost use Rattle.twkb_body.specs.Devices.Inside.{of_head};
 ghost use Rattle.twkb_body.specs.Devices.PointReader.{IsWalking};
-ghost use Rattle.twkb_body.specs.Devices.Walk.{HasPrecisions, no_points};
+ghost use Rattle.twkb_body.specs.Devices.Walk.{precisions_of, no_points};
 
 use crate::point_reader::PointReader;
 use crate::points::Points;
@@ -26,7 +27,7 @@ impl<'h, P: Points> Walk<'h, P> {
     /// No point yet.
     #[inline(always)]
     pub fn new(head: &'h Head, axes: usize, points: P) -> Walk<'h, P>
-        requires precisions { HasPrecisions head.now }
+        requires precisions { HavePrecisions (precisions_of head.now) }
         requires axes { axes ≡ axes_with head.now.z head.now.m }
         ensures stands { IsWalking result.head.now result.axes result.trail (P.state result.points)
             (record { axes = axes; trail = no_points; state = (of_head head.now, P.state points) }) }
@@ -100,7 +101,7 @@ pub fn bare_head(kind: Kind, axes: usize) -> Head
     requires few { axes ≤ 4 }
     ensures kind { result.kind ≡ kind }
     ensures axes { axes ≡ axes_with result.z result.m }
-    ensures precisions { HasPrecisions result }
+    ensures precisions { HavePrecisions (precisions_of result) }
     ensures nothing { (result.size ≡ None) × (result.bounds ≡ None) × (result.ids ≡ false) × (result.empty ≡ false) }
 {
     Head {

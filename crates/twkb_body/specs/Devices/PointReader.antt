@@ -6,10 +6,11 @@ use Rattle.twkb_head.specs.declared.header.Head.{Head}
 use Rattle.twkb_head.specs.declared.refusal.Malformed.{Malformed}
 use Rattle.twkb_head.specs.Header.{Header, axes_with}
 use Rattle.twkb_head.specs.Shared.Reader.{Reader, Fails}
+use Rattle.twkb_head.specs.Raw.{HavePrecisions}
 use Rattle.twkb_body.specs.declared.trail.Trail.{Trail}
 use Rattle.twkb_body.specs.Geometry.{PointValue}
 use Rattle.twkb_body.specs.Devices.Inside.{of_head}
-use Rattle.twkb_body.specs.Devices.Walk.{HasPrecisions, lasts_from, IsWalked}
+use Rattle.twkb_body.specs.Devices.Walk.{precisions_of, lasts_from, IsWalked}
 
 -- how far a reader has come: how many axes the points have, the last point and the number of points so far, and a state
 pub record Stage (S : Type 0) : Type 0 where
@@ -49,6 +50,6 @@ EndsEarly each points_in step ends None at from to = Leads each points_in step e
 
 -- the stage of a walk: its trail, and its header beside the state of what the points are added to
 pub record IsWalking {S : Type 0} (head : Head) (axes : ℕ) (trail : Trail) (state : S) (at : Stage (Header × S)) : Type 0 where
-  pub precisions : HasPrecisions head
+  pub precisions : HavePrecisions (precisions_of head)
   pub axes_are : axes ≡ axes_with head.z head.m
   pub at_is : at ≡ record { axes = axes; trail = trail; state = (of_head head, state) }

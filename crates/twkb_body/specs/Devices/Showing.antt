@@ -6,12 +6,13 @@ use Rattle.twkb_head.specs.declared.boxes.Vertex.{Vertex}
 use Rattle.twkb_head.specs.declared.header.Head.{Head}
 use Rattle.twkb_head.specs.Header.{axes_with}
 use Rattle.twkb_head.specs.Shared.Reader.{Reader, many_at}
+use Rattle.twkb_head.specs.Raw.{HavePrecisions}
 use Rattle.twkb_body.specs.declared.trail.Trail.{Trail}
 use Rattle.twkb_body.specs.Geometry.{PointValue, Ring, PolygonValue}
 use Rattle.twkb_body.specs.Devices.Body.{part_points, ring_sums}
 use Rattle.twkb_body.specs.Devices.BodyReader.{point_at, ring_at, polygon_at, part_at}
 use Rattle.twkb_body.specs.Devices.Inside.{of_head}
-use Rattle.twkb_body.specs.Devices.Walk.{HasPrecisions, IsWalked, IsStill, shown}
+use Rattle.twkb_body.specs.Devices.Walk.{precisions_of, IsWalked, IsStill, shown}
 
 -- how far a showing has come: whether the trail is lost, the trail, the visitor's state, and the reading
 pub record Progress (S : Type 0) : Type 0 where
@@ -47,7 +48,7 @@ pub record Knows {A S : Type 0} (w : Showing A S) (now : Progress S) : Type 0 wh
 
 -- A value is known, of points under a header: its precisions lie in their ranges, and each point has a number for each axis.
 pub record KnowsUnder {A S : Type 0} (head : Head) (w : Showing A S) (now : Progress S) : Type 0 where
-  pub precisions : HasPrecisions head
+  pub precisions : HavePrecisions (precisions_of head)
   pub axes : w.axes ≡ axes_with head.z head.m
   pub known : Knows w now
 

@@ -12,7 +12,7 @@ use Rattle.twkb_head.specs.declared.raw.RawRange.{RawRange}
 use Rattle.twkb_head.specs.BegunHeader.{deepest, is_collection}
 use Rattle.twkb_head.specs.declared.raw.Fields.{Fields}
 use Rattle.twkb_head.specs.declared.read.Begun.{Begun}
-use Rattle.twkb_head.specs.Raw.{raw_bounds, BeginsHead, ReadsHead}
+use Rattle.twkb_head.specs.Raw.{HavePrecisions, raw_bounds, BeginsHead, ReadsHead}
 use Rattle.twkb_head.specs.Header.{Header, has_bit}
 use Rattle.twkb_head.specs.Holds.{Holds}
 use Rattle.twkb_head.specs.Shared.Reader.{many_at, Fails}
@@ -39,7 +39,7 @@ use Rattle.twkb_body.specs.Devices.IdLists.{IsListFound, HasManyIdsAfterCount}
 use Rattle.twkb_body.specs.Devices.Inside.{of_head, IsInside, body_behind}
 use Rattle.twkb_body.specs.Devices.LaneTrail.{LeaveBox}
 use Rattle.twkb_body.specs.Devices.Stops.{WantsBehind}
-use Rattle.twkb_body.specs.Devices.Walk.{ArePrecisions, no_points, IsWalked}
+use Rattle.twkb_body.specs.Devices.Walk.{no_points, IsWalked}
 
 -- this many vertices were found, and no false claim
 abbrev pub faultless : ℕ → Found
@@ -116,7 +116,7 @@ pub record IsNear (z m : Option ℕ) (box : RawBox) : Type 0 where
 
 -- the numbers of a frame are near, in the axes that there are, and its precisions lie in their ranges
 abbrev pub IsNearFrame : Frame → Type 0
-IsNearFrame frame = IsNear frame.z frame.m frame.bounds × ArePrecisions frame.xy frame.z frame.m
+IsNearFrame frame = IsNear frame.z frame.m frame.bounds × HavePrecisions (record { xy = frame.xy; z = frame.z; m = frame.m })
 
 -- the frame is near (`IsNearFrame`) and has the precisions of a header
 abbrev pub IsFramed : Head → Frame → Type 0

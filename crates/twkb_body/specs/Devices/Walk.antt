@@ -4,6 +4,7 @@ use Rattle.std.specs.Prelude.{◌≡◌, ℕ, ◌+◌, ◌≤◌, List, [], ◌�
 use Rattle.twkb_num.specs.Cursor.{Reading}
 use Rattle.twkb_head.specs.declared.boxes.Vertex.{Vertex}
 use Rattle.twkb_head.specs.declared.header.Head.{Head}
+use Rattle.twkb_head.specs.declared.raw.Axes.{Axes}
 use Rattle.twkb_head.specs.Header.{Header, axes_with}
 use Rattle.twkb_head.specs.Shared.Reader.{many_at}
 use Rattle.twkb_body.specs.declared.trail.Trail.{Trail}
@@ -12,17 +13,13 @@ use Rattle.twkb_head.specs.Raw.{HavePrecisions}
 use Rattle.twkb_body.specs.Devices.Body.{add, sums, zeros, map_from}
 use Rattle.twkb_body.specs.Devices.BodyReader.{point_at}
 
--- precisions of X and Y, and of Z and M where there are these, that lie in their ranges
-abbrev pub ArePrecisions : ℤ → Option ℕ → Option ℕ → Type 0
-ArePrecisions xy z m = HavePrecisions (record { xy = xy; z = z; m = m })
-
--- the precisions of a header lie in their ranges
-abbrev pub HasPrecisions : Head → Type 0
-HasPrecisions head = ArePrecisions head.xy head.z head.m
+-- the precisions of a header's axes
+abbrev pub precisions_of : Head → Axes
+precisions_of head = record { xy = head.xy; z = head.z; m = head.m }
 
 -- What a pass over the points under a header carries: how many axes they have, and no more points than bytes.
 abbrev pub IsWalk : Head → ℕ → Trail → Reading → Type 0
-IsWalk head axes trail r = HasPrecisions head × (axes ≡ axes_with head.z head.m) × (trail.points ≤ r.place)
+IsWalk head axes trail r = HavePrecisions (precisions_of head) × (axes ≡ axes_with head.z head.m) × (trail.points ≤ r.place)
 
 -- the trail of no points, from which differences start
 abbrev pub no_points : Trail

@@ -2,12 +2,11 @@
 ghost use Rattle.std.specs.Prelude.{◌≡◌, ◌≤◌, ◌-◌, false, Option, None, Some, is_some, IfSome, Ok};
 ghost use Rattle.twkb_num.specs.Units.{IsPrecision};
 ghost use Rattle.twkb_head.specs.BegunHeader.{IsAllowedAt};
-ghost use Rattle.twkb_head.specs.Raw.{flat_box};
+ghost use Rattle.twkb_head.specs.Raw.{HavePrecisions, flat_box};
 ghost use Rattle.twkb_head.specs.declared.header.Head.{Head as HeadOf};
 ghost use Rattle.twkb_head.specs.declared.raw.RawBox.{RawBox as BoxOf};
 ghost use Rattle.twkb_body.specs.declared.doubt.Doubt.TheVariants.{Refused};
 ghost use Rattle.twkb_body.specs.Devices.Sure.{IsNearFrame, IsApart, CertifiesBehind};
-ghost use Rattle.twkb_body.specs.Devices.Walk.{ArePrecisions};
 
 use crate::doubt::Doubt;
 use crate::frame::Frame;
@@ -84,7 +83,7 @@ pub fn take_apart<R: IdRoom>(
 ) -> Result<usize, Doubt>
     requires shallowest { 1 ≤ depth }
     requires allowed { IsAllowedAt kind depth }
-    requires precisions { ArePrecisions xy z m }
+    requires precisions { HavePrecisions (record { xy = xy; z = z; m = m }) }
     requires near { IfSome above.now IsNearFrame }
     ensures { (head : HeadOf) → IsApart head kind xy z m ids bounds.now
         → CertifiesBehind depth head above.now cursor.old result cursor.new }
@@ -114,7 +113,7 @@ fn head_apart(
     ids: bool,
     bounds: &Option<RawBox>,
 ) -> Head
-    requires precisions { ArePrecisions xy z m }
+    requires precisions { HavePrecisions (record { xy = xy; z = z; m = m }) }
     ensures { IsApart result kind xy z m ids bounds.now }
 {
     let bounds = match bounds {

@@ -1,13 +1,14 @@
 //! The parts of a body in the first reading: their count, and whether a box holds their points.
 ghost use Rattle.std.specs.Prelude.{◌≡◌, ◌≤◌, ◌⊎◌, IfOk, IfErr, OnErr};
 ghost use Rattle.twkb_head.specs.Header.{axes_with, is_multi};
+ghost use Rattle.twkb_head.specs.Raw.{HavePrecisions};
 ghost use Rattle.twkb_body.specs.Devices.BoxTest.{IsNearBox};
 ghost use Rattle.twkb_body.specs.Devices.Inside.{of_head};
 ghost use Rattle.twkb_body.specs.Devices.Body.{zeros};
 ghost use Rattle.twkb_body.specs.Devices.Sure.{ReadParts, AreMalformed, HoldsOrLeaves, CountsParts};
 ghost use Rattle.twkb_head.specs.declared.raw.RawBox.{RawBox as RawBoxOf};
 ghost use Rattle.twkb_body.specs.declared.doubt.Doubt.TheVariants.{Refused};
-ghost use Rattle.twkb_body.specs.Devices.Walk.{HasPrecisions};
+ghost use Rattle.twkb_body.specs.Devices.Walk.{precisions_of};
 
 use crate::box_test::BoxTest;
 use crate::doubt::Doubt;
@@ -154,7 +155,7 @@ pub fn take_walk<'h, P: Points + Drop>(
     count: u64,
     points: P,
 ) -> Result<Walk<'h, P>, Doubt>
-    requires precisions { HasPrecisions head.now }
+    requires precisions { HavePrecisions (precisions_of head.now) }
     requires axes { axes ≡ axes_with head.now.z head.now.m }
     ensures ok { IfOk result (λ walk. ReadParts (P.step (of_head head.now)) head.now.kind axes count cursor.old
         cursor.new
