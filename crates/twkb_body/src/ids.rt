@@ -3,18 +3,8 @@ ghost use Rattle.std.specs.Prelude.{◌≢◌, ◌↔◌, ◌<◌, IsTrue, AllPa
 ghost use Rattle.std.specs.List.Sorted.{IsSorted};
 ghost use Rattle.std.specs.Ordering.{int_cmp};
 
-use smallvec::SmallVec;
-use std::alloc::Allocator;
-
-/// Whether no two ids are equal. It sorts them in place, and takes no memory.
-pub fn are_distinct<A: Allocator>(ids: &mut SmallVec<i64, 16, A>) -> bool
-    ensures { IsTrue result ↔ AllPairs (λ a b. a ≢ b) ids.old.items }
-{
-    slice_distinct(ids.as_mut_slice())
-}
-
-/// Whether no two ids of a slice are equal. It sorts them in place.
-pub fn slice_distinct(ids: &mut [i64]) -> bool
+/// Whether no two ids of a slice are equal. It sorts them in place, and takes no memory.
+pub fn are_distinct(ids: &mut [i64]) -> bool
     ensures { IsTrue result ↔ AllPairs (λ a b. a ≢ b) ids.old }
 {
     ids.sort_unstable();

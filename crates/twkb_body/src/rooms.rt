@@ -1,8 +1,9 @@
 //! Room for the ids of a list: memory that grows, or a slice that is lent.
-ghost use Rattle.std.specs.Prelude.{◌≤◌, ◌<ℤ◌, length, IsTrue};
+ghost use Rattle.std.specs.Prelude.{◌≡◌, ◌≢◌, ◌≤◌, ◌<ℤ◌, ◌↔◌, ℤ, List, [], ◌∷◌, ◌++◌, length, take, AllPairs, IsTrue, OnOk, IfErr};
+ghost use Rattle.twkb_body.specs.declared.stopped.Stopped.TheVariants.{Memory};
 ghost use Rattle.twkb_body.specs.Devices.Stops.{ReadsIds};
 
-use crate::ids::{are_distinct, slice_distinct};
+use crate::ids::are_distinct;
 use crate::stopped::Stopped;
 use crate::varints::take_signed;
 use smallvec::SmallVec;
@@ -18,63 +19,114 @@ pub trait IdRoom {
 
 impl<A: Allocator> IdRoom for &A {
     fn take_ids(&mut self, cursor: &mut Cursor, count: u64) -> Result<bool, Stopped> {
-        take_grown(*self, cursor, count)
+        let mut ids: SmallVec<i64, 16, &A> = SmallVec::new(*self);
+        take_kept(&mut ids, cursor, count)
     }
 }
 
 impl IdRoom for &mut [i64] {
     fn take_ids(&mut self, cursor: &mut Cursor, count: u64) -> Result<bool, Stopped> {
         if self.len() < 16 {
-            take_lent(&mut [0; 16], cursor, count)
+            take_kept(&mut LentIds::of(&mut [0; 16]), cursor, count)
         } else {
-            take_lent(self, cursor, count)
+            take_kept(&mut LentIds::of(self), cursor, count)
         }
     }
 }
 
-/// Reads and judges the ids of a list in memory that grows as they are read, and frees it.
-fn take_grown<A: Allocator>(alloc: &A, cursor: &mut Cursor, count: u64) -> Result<bool, Stopped>
-    ensures { ReadsIds count cursor.old result cursor.new }
-{
-    cursor.place_is_within();
-    let mut ids: SmallVec<i64, 16, &A> = SmallVec::new(alloc);
-    let mut last = i64::MIN;
-    let mut rising = true;
-    for _ in 0..count {
-        let id = take_signed(cursor)?;
-        rising = still_rises(rising, last, id);
-        last = id;
-        ids.push(id)?;
-    }
-    if rising {
-        return Ok(true);
-    }
-    Ok(are_distinct(&mut ids))
+/// The ids of one list, as they are read.
+trait IdStore {
+    /// The ids, in order.
+    ghost ids: { Self → List ℤ };
+
+    /// There is room for sixteen ids at least.
+    ghost is_roomy: { Self → Type 0 };
+
+    /// Keeps one id more, unless there is no memory for it.
+    fn keep(&mut self, id: i64) -> Result<(), Stopped>
+        requires { is_roomy self.old }
+        ensures ok { OnOk result (ids self.new ≡ ids self.old ++ id ∷ []) }
+        ensures err { IfErr result (λ stop. (stop ≡ Memory) × (16 ≤ length (ids self.old))) }
+        ensures roomy { is_roomy self.new };
+
+    /// Whether no two ids are equal. It sorts them.
+    fn are_distinct(&mut self) -> bool
+        requires { is_roomy self.old }
+        ensures { IsTrue result ↔ AllPairs (λ a b. a ≢ b) (ids self.old) };
 }
 
-/// Reads and judges the ids of a list in places that are lent, at least sixteen of them.
-fn take_lent(ids: &mut [i64], cursor: &mut Cursor, count: u64) -> Result<bool, Stopped>
-    requires { 16 ≤ length ids.old }
-    ensures { ReadsIds count cursor.old result cursor.new }
-{
-    cursor.place_is_within();
-    let mut held = 0;
-    let mut last = i64::MIN;
-    let mut rising = true;
-    for _ in 0..count {
-        let id = take_signed(cursor)?;
-        rising = still_rises(rising, last, id);
-        last = id;
-        if held == ids.len() {
+/// Ids in memory that grows.
+impl<A: Allocator + Copy> IdStore for SmallVec<i64, 16, A> {
+    ghost ids = { λ s. s.items };
+
+    ghost is_roomy = { λ s. 16 ≤ s.capacity };
+
+    #[inline(always)]
+    fn keep(&mut self, id: i64) -> Result<(), Stopped> {
+        self.push(id)?;
+        Ok(())
+    }
+
+    fn are_distinct(&mut self) -> bool {
+        are_distinct(self.as_mut_slice())
+    }
+}
+
+/// Ids in places that are lent.
+#[derive(Drop)]
+struct LentIds<'r> {
+    room: &'r mut [i64],
+    held: usize,
+}
+
+impl<'r> LentIds<'r> {
+    /// No ids yet.
+    fn of(room: &'r mut [i64]) -> LentIds<'r>
+        ensures { result ≡ record { room = room.entry; held = 0 } }
+    {
+        LentIds { room, held: 0 }
+    }
+}
+
+impl<'r> IdStore for LentIds<'r> {
+    ghost ids = { λ s. take s.held s.room.now };
+
+    ghost is_roomy = { λ s. (16 ≤ length s.room.now) × (s.held ≤ length s.room.now) };
+
+    #[inline(always)]
+    fn keep(&mut self, id: i64) -> Result<(), Stopped> {
+        if self.held == self.room.len() {
             return Err(Stopped::Memory);
         }
-        ids[held] = id;
-        held += 1;
+        self.room[self.held] = id;
+        self.held += 1;
+        Ok(())
+    }
+
+    fn are_distinct(&mut self) -> bool {
+        are_distinct(&mut self.room[..self.held])
+    }
+}
+
+/// Reads and judges the ids of a list, and keeps them in a store that holds none yet.
+fn take_kept<S: IdStore>(ids: &mut S, cursor: &mut Cursor, count: u64) -> Result<bool, Stopped>
+    requires none { S.ids ids.old ≡ [] }
+    requires roomy { S.is_roomy ids.old }
+    ensures { ReadsIds count cursor.old result cursor.new }
+{
+    cursor.place_is_within();
+    let mut last = i64::MIN;
+    let mut rising = true;
+    for _ in 0..count {
+        let id = take_signed(cursor)?;
+        rising = still_rises(rising, last, id);
+        last = id;
+        ids.keep(id)?;
     }
     if rising {
         return Ok(true);
     }
-    Ok(slice_distinct(&mut ids[..held]))
+    Ok(ids.are_distinct())
 }
 
 /// Whether ids that rose up to the last one still rise. Ids that all rise are distinct, and needn't be sorted.

@@ -13,7 +13,9 @@ use crate::body::{enter_deep_body, enter_flat, enter_point};
 use crate::known::{known_range, pass_range, short_ranges};
 use crate::varints::take_number;
 use crate::visit::Visit;
-use twkb_head::{Axes, Begun, BoxInlined, Fields, Kind, RawBox, RawRange, begun_as, begun_by, take_rest};
+use twkb_head::{
+    Axes, Begun, BoxInlined, Fields, Kind, RawBox, RawRange, begun_as, begun_by, take_rest,
+};
 use twkb_num::Cursor;
 
 /// Reads a header and then the points after it, or the list of members up to the first, or jumps over all of them. It returns

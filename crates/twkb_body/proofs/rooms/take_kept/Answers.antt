@@ -1,29 +1,28 @@
--- Each turn keeps one more id; a malformed one or a refusal of memory ends the reading.
-use Rattle.std.proofs.Common.{refl, rules, ◌≡◌, ◌≤◌, length, arith}
+-- Each turn keeps one id more; a malformed one or a refusal of memory ends the reading.
+use Rattle.std.proofs.Common.{refl, rules, ◌≡◌, arith}
 use Rattle.std.proofs.lemmas.Result.{err_from_is_err_and}
 use Rattle.std.proofs.lemmas.Int.{ints}
 use mir.Val.{to_z, of_z}
 use Rattle.std.specs.Int.{w64}
 use Rattle.twkb_body.proofs.IdLoops.{ids_go_on, ids_fail, ids_many, rising_begins, rising_goes_on, rising_ends}
-use Rattle.twkb_body.proofs.rooms.take_grown.Goals as goal
+use Rattle.twkb_body.proofs.rooms.take_kept.Goals as goal
 
 pub returns-in_err-id : goal.returns-in_err-id
 returns-in_err-id g c =
     let p = err_from_is_err_and c.from_residual.result c.from_residual.ensures.1 in
     rw (p.1, p.2) (ids_fail c.args.count _ c.loop.counter _ _ _ _ c.loop-test.true c.in_err-id.ensures c.loop.invariant.going)
 
-pub returns-in_err-push : goal.returns-in_err-push
-returns-in_err-push g c =
-    let p = err_from_is_err_and c.from_residual-in_err-push.result c.from_residual-in_err-push.ensures.1 in
-    let full : 16 ≤ length c.loop.ids.items = grind (arith, c.in_err-push.ensures.succeeds, c.loop.invariant.room) in
-    rw (p.1, p.2) (ids_many c.args.count _ c.loop.counter c.loop.ids.items _ _ c.in_ok-id.id c.place_is_within.ensures c.loop-test.true c.in_ok-id.ensures full c.loop.invariant.going)
+pub returns-in_err-keep : goal.returns-in_err-keep
+returns-in_err-keep g c =
+    let p = err_from_is_err_and c.from_residual-in_err-keep.result c.from_residual-in_err-keep.ensures.1 in
+    rw (p.1, p.2, c.in_err-keep.ensures.err.0) (ids_many c.args.count _ c.loop.counter (g.S.IdStore.ids c.loop.ids) _ _ c.in_ok-id.id c.place_is_within.ensures c.loop-test.true c.in_ok-id.ensures c.in_err-keep.ensures.err.1 c.loop.invariant.going)
 
 pub loop-preserved : goal.loop-preserved
 loop-preserved g c =
     let same : to_z w64 (of_z w64 c.in_ok-id.id) ≡ c.in_ok-id.id = omega (arith, ints) in
     record {
-      going = ids_go_on c.args.count _ c.loop.counter c.loop.ids.items _ _ _ c.in_ok-id.id c.loop-test.true c.in_ok-id.ensures (rw same at c.in_ok-push.ensures.ok) c.loop.invariant.going;
-      room = omega (arith, c.loop.invariant.room, c.in_ok-push.ensures.capacity);
+      going = ids_go_on c.args.count _ c.loop.counter _ _ _ _ c.in_ok-id.id c.loop-test.true c.in_ok-id.ensures (rw same at c.in_ok-keep.ensures.ok) c.loop.invariant.going;
+      roomy = c.keep.ensures.roomy;
       rise = λ e. let s = c.still_rises-rising.ensures e in rw same (rising_goes_on c.args.count c.args.cursor.now c.loop.counter _ c.in_ok-id.id _ _ c.loop-test.true (rw same at s.1) c.in_ok-id.ensures (c.loop.invariant.rise s.0));
     }
 
@@ -35,6 +34,6 @@ returns-then-rising g c =
 pub loop-init : goal.loop-init
 loop-init g c = record {
   going = search rules;
-  room = search rules;
+  roomy = c.requires.roomy;
   rise = λ e. rising_begins c.args.count c.args.cursor.now _;
 }
