@@ -101,7 +101,7 @@ nothing_has zero = refl
 nothing_has (suc n) = nothing_has n
 
 module _ {S : Type 0} (step : S → PointValue → S) (at : Stage S) where
-  -- ---- what is read, at whatever stage the reader stands after it
+  -- ---- what is read, at whatever stage the reader is after it
   module _ (stands : Stage S → Type 0) where
     counted_read : {A : Type 0} (after : PointValue → A → PointValue) (each : PointValue → Reader A) (points_in : List A → List PointValue) (old from to : Reading) (count : ℕ) → number_at old ≡ (Ok count, from)
         → HasRead (many_at count after each) points_in step stands at from to → HasRead (prefixed_at after each) points_in step stands at old to
@@ -234,7 +234,7 @@ module _ {S : Type 0} (step : S → PointValue → S) (at : Stage S) {A : Type 0
   abbrev points_in_lists : List (List A) → List PointValue
   points_in_lists xss = flat_map points_in xss
 
-  -- i lists were read, and their points lead to a stage at which the reader stands
+  -- i lists were read, and their points lead to a stage at which the reader is
   pub record HasReadLists (stands : Stage S → Type 0) (i : ℕ) (r : Reading) : Type 0 where
     pub trail : Trail
     pub state : S

@@ -15,20 +15,20 @@ use Rattle.twkb_call.specs.declared.scans.Hit.{Hit}
 use Rattle.twkb_call.specs.declared.scans.Scanned.{Scanned}
 use Rattle.twkb_call.specs.declared.window.Window.{Window}
 
--- what comes next goes behind what was put in, as far as the room goes
+-- what comes next goes after what was put in, as far as the room goes
 filled_behind : {A : Type 0} (seen more room : List A) → length seen ≤ length room
     → take (length seen) (filled seen room) ++ filled more (drop (length seen) (filled seen room)) ≡ filled (seen ++ more) room
 filled_behind [] more room fits = ap (filled more) (sym (filled-nil room))
 filled_behind (s ∷ seen) more [] fits = absurd (omega (arith, fits))
 filled_behind (s ∷ seen) more (r ∷ room) fits = ap (λ xs. s ∷ xs) (filled_behind seen more room (omega (arith, fits)))
 
--- nothing of a room is behind its rest
+-- nothing of a room comes after its rest
 nothing_behind : {A : Type 0} (room behind : List A) (used : ℕ) → put_mid used (length room - used) room behind ≡ take used room ++ behind
 nothing_behind room behind used =
     let none : drop (length room - used) (drop used room) ≡ [] = drop-drop (length room - used) used room ∙ drop_all (used + (length room - used)) room (omega arith) in
     ap (λ xs. take used room ++ xs) (ap (λ xs. behind ++ xs) none ∙ append-nil behind)
 
--- The first windows are answered: what was said of them, and all their hits, stand in the rooms.
+-- The first windows are answered: what was said of them, and all their hits, are in the rooms.
 pub record Answered (trees : List Geometry) (windows : List Window) (n used : ℕ) (scanned scanned' : List Scanned) (room room' : List Hit) : Type 0 where
   pub counted : used ≡ length (hits_in_all trees (take n windows))
   pub told : scanned' ≡ filled (map (scanned_with trees) (take n windows)) scanned

@@ -25,7 +25,7 @@ pub says_yes : (IsTrue : Claim → Type 0) (v : Verdict) (cursor : Reading) (byt
 says_yes IsTrue v cursor bytes layer is counted same new =
     inl (is, subst (λ bytes. IsCounted bytes v.blobs v.vertices) (same ∙ bytes_of_new cursor bytes new) counted)
 
--- that of bytes that are refused
+-- the verdict on bytes that are refused
 pub says_no : (IsTrue : Claim → Type 0) (v : Verdict) (cursor : Reading) (bytes : List ℕ) (refusal : Refusal)
     → v ≡ verdict_on refusal → IsRefusedFor IsTrue refusal cursor.bytes
     → IsNew cursor bytes → Says IsTrue v bytes

@@ -122,12 +122,12 @@ impl<'t> Decimal<'t> {
         ensures { result ≡ is_less (rational_of other.now) (rational_of self.now) }
     {
         let (places, others) = (self.fraction.len(), other.fraction.len());
-        let mut behind = self.whole.len().max(other.whole.len()) + places + others;
+        let mut power = self.whole.len().max(other.whole.len()) + places + others;
         let mut ahead: i64 = 0;
-        while behind > 0 {
-            behind -= 1;
-            let digit = self.signed_digit(others, behind);
-            ahead = leaning(ahead, digit, other.signed_digit(places, behind));
+        while power > 0 {
+            power -= 1;
+            let digit = self.signed_digit(others, power);
+            ahead = leaning(ahead, digit, other.signed_digit(places, power));
         }
         ahead > 0
     }
@@ -150,11 +150,11 @@ impl<'t> Decimal<'t> {
         ensures { result ≡ min (whole_units self.now) farthest }
     {
         let places = self.fraction.len();
-        let mut behind = self.whole.len() + places + UNIT_PLACES;
+        let mut power = self.whole.len() + places + UNIT_PLACES;
         let mut amount = 0;
-        while behind > places {
-            behind -= 1;
-            amount = (amount * 10 + u128::from(self.digit(UNIT_PLACES, behind))).min(FARTHEST);
+        while power > places {
+            power -= 1;
+            amount = (amount * 10 + u128::from(self.digit(UNIT_PLACES, power))).min(FARTHEST);
         }
         amount
     }
@@ -163,8 +163,8 @@ impl<'t> Decimal<'t> {
     fn is_between_units(&self) -> bool
         ensures { result ≡ is_between_units self.now }
     {
-        for behind in 0..self.fraction.len() {
-            if self.digit(UNIT_PLACES, behind) != 0 {
+        for power in 0..self.fraction.len() {
+            if self.digit(UNIT_PLACES, power) != 0 {
                 return true;
             }
         }
@@ -172,26 +172,26 @@ impl<'t> Decimal<'t> {
     }
 
     /// A digit, as in [`digit`](Decimal::digit), with the sign of the decimal.
-    fn signed_digit(&self, zeros: usize, behind: usize) -> i64
-        ensures { result ≡ signed self.now.minus (self.now.number * 10 ^ zeros / 10 ^ behind % 10) }
+    fn signed_digit(&self, zeros: usize, power: usize) -> i64
+        ensures { result ≡ signed self.now.minus (self.now.number * 10 ^ zeros / 10 ^ power % 10) }
     {
-        let digit = i64::from(self.digit(zeros, behind));
+        let digit = i64::from(self.digit(zeros, power));
         if self.minus { -digit } else { digit }
     }
 
-    /// The digit that has `behind` digits after it, in all digits without the point and with `zeros` zeros appended.
-    fn digit(&self, zeros: usize, behind: usize) -> u8
-        ensures { result ≡ self.now.number * 10 ^ zeros / 10 ^ behind % 10 }
+    /// The digit of 10^`power` in all digits without the point and with `zeros` zeros appended.
+    fn digit(&self, zeros: usize, power: usize) -> u8
+        ensures { result ≡ self.now.number * 10 ^ zeros / 10 ^ power % 10 }
     {
-        if behind < zeros {
+        if power < zeros {
             return 0;
         }
-        let behind = behind - zeros;
+        let power = power - zeros;
         let places = self.fraction.len();
-        if behind < places {
-            digit_of(self.fraction, behind)
+        if power < places {
+            digit_of(self.fraction, power)
         } else {
-            digit_of(self.whole, behind - places)
+            digit_of(self.whole, power - places)
         }
     }
 }
@@ -207,13 +207,13 @@ fn leaning(ahead: i64, digit: i64, other: i64) -> i64
     (ahead * 10 + (digit - other)).clamp(-2, 2)
 }
 
-/// The digit that has `behind` digits after it, or 0 if there are fewer digits.
-fn digit_of(digits: &[u8], behind: usize) -> u8
+/// The digit of 10^`power`, or 0 if there are fewer digits.
+fn digit_of(digits: &[u8], power: usize) -> u8
     requires { AllDigits 10 digits.now }
-    ensures { result ≡ digits_value 10 digits.now / 10 ^ behind % 10 }
+    ensures { result ≡ digits_value 10 digits.now / 10 ^ power % 10 }
 {
-    if behind < digits.len() {
-        digits[digits.len() - 1 - behind] - b'0'
+    if power < digits.len() {
+        digits[digits.len() - 1 - power] - b'0'
     } else {
         0
     }

@@ -62,7 +62,7 @@ pub record IsLaneStep (axes left : ℕ) (place : RawBox → List ℕ → List �
 abbrev pub LeaveBox : Kind → ℕ → ℕ → RawBox → Reading → Type 0
 LeaveBox kind axes count box from = LeavesBox axes (λ last. many_at count ring_sums (part_at kind axes) last) points_of box zeros from
 
--- ---- where readers stand
+-- ---- where readers are
 -- the stage after this many points, all of them in the box, of which the last one has this property
 pub record StandsInLanes (axes : ℕ) (place : RawBox → PointValue → Type 0) (points : ℕ) (at : Stage Held) : Type 0 where
   pub box : RawBox

@@ -22,11 +22,11 @@ pub record Stage (S : Type 0) : Type 0 where
 abbrev pub on : {S : Type 0} → Stage S → Trail → S → Stage S
 on at trail state = record { axes = at.axes; trail = trail; state = state }
 
--- a reader stands at some stage, and has read no more points than bytes
+-- a reader is at some stage, and has read no more points than bytes
 abbrev pub IsReady : {S : Type 0} → (Stage S → Type 0) → Reading → Type 0
 IsReady {S} stands r = (at : Stage S) × stands at × (at.trail.points ≤ r.place)
 
--- A value was read from one stage on, and its points lead to a stage at which the reader stands.
+-- A value was read from one stage on, and its points lead to a stage at which the reader is.
 pub record HasRead {A S : Type 0} (each : PointValue → Reader A) (points_in : A → List PointValue) (step : S → PointValue → S) (stands : Stage S → Type 0)
     (at : Stage S) (from to : Reading) : Type 0 where
   pub value : A

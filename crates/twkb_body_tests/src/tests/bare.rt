@@ -72,14 +72,14 @@ fn sums_that_leave_64_bits(rt: HostRuntime) -> Result<(), Fail> {
     Ok(())
 }
 
-// A line of a point, of differences `x` and `y`, and of a point, and `behind` bytes after it.
-fn line_of(alloc: Global, x: i64, y: i64, behind: usize) -> Result<Vec<u8>, AllocError> {
+// A line of a point, of differences `x` and `y`, and of a point, and `after` bytes after it.
+fn line_of(alloc: Global, x: i64, y: i64, after: usize) -> Result<Vec<u8>, AllocError> {
     let mut out = Vec::new(alloc);
     out.extend_from_slice(&[0x02, 0x00, 0x03, 0x02, 0x01])?;
     put(&mut out, x)?;
     put(&mut out, y)?;
     out.extend_from_slice(&[0x01, 0x02])?;
-    put_bytes(&mut out, 0x81, behind)?;
+    put_bytes(&mut out, 0x81, after)?;
     Ok(out)
 }
 
@@ -87,8 +87,8 @@ fn line_of(alloc: Global, x: i64, y: i64, behind: usize) -> Result<Vec<u8>, Allo
 fn bare_numbers_of_every_two_lengths(rt: HostRuntime) -> Result<(), Fail> {
     for &x in &GREATEST {
         for &y in &GREATEST {
-            for behind in 0..9 {
-                let bytes = line_of(rt.alloc(), x, y.wrapping_neg(), behind)?;
+            for after in 0..9 {
+                let bytes = line_of(rt.alloc(), x, y.wrapping_neg(), after)?;
                 agrees(&rt, rt.alloc(), &bytes, false);
             }
         }
@@ -96,12 +96,12 @@ fn bare_numbers_of_every_two_lengths(rt: HostRuntime) -> Result<(), Fail> {
     Ok(())
 }
 
-// A line of `points` points with a size that is too great by `too_great`, and `behind` bytes after it.
+// A line of `points` points with a size that is too great by `too_great`, and `after` bytes after it.
 fn sized_line(
     alloc: Global,
     points: u64,
     too_great: i64,
-    behind: usize,
+    after: usize,
 ) -> Result<Vec<u8>, AllocError> {
     let mut body = Vec::new(alloc);
     put_steps(&mut body, points)?;
@@ -110,7 +110,7 @@ fn sized_line(
     let size = (body.len() as u64).wrapping_add_signed(too_great);
     put_unsigned(&mut out, size)?;
     out.extend_from_slice(&body)?;
-    put_bytes(&mut out, 0x00, behind)?;
+    put_bytes(&mut out, 0x00, after)?;
     Ok(out)
 }
 
@@ -118,8 +118,8 @@ fn sized_line(
 fn bodies_without_a_box_that_have_a_size(rt: HostRuntime) -> Result<(), Fail> {
     for points in [0, 1, 2, 62, 63, 64, 200] {
         for too_great in [-1, 0, 1] {
-            for behind in [0, 1, 8] {
-                let line = sized_line(rt.alloc(), points, too_great, behind)?;
+            for after in [0, 1, 8] {
+                let line = sized_line(rt.alloc(), points, too_great, after)?;
                 let certified = agrees(&rt, rt.alloc(), &line, false);
                 assert!(rt; certified == (too_great == 0));
             }

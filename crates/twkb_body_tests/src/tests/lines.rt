@@ -49,20 +49,20 @@ const BOTH: Axes = (&[0x02, 0x09, 0x03], 4);
 // Each axis.
 const EACH: [(Axes, usize); 6] = [(FLAT, 0), (FLAT, 1), (Z, 2), (M, 2), (BOTH, 2), (BOTH, 3)];
 
-// A line with a box, by minimum and extent of each axis, and `behind` bytes after it.
+// A line with a box, by minimum and extent of each axis, and `after` bytes after it.
 fn line_in_box(
     alloc: Global,
     (before, axes): Axes,
     bounds: &[(i64, i64); 4],
     points: &[[i64; 4]],
-    behind: usize,
+    after: usize,
 ) -> Result<Vec<u8>, AllocError> {
     let mut out = Vec::new(alloc);
     out.extend_from_slice(before)?;
     put_bounds(&mut out, &bounds[..axes.min(4)])?;
     out.push((points.len() % 128) as u8)?;
     put_points(&mut out, axes, points)?;
-    put_bytes(&mut out, 0x00, behind)?;
+    put_bytes(&mut out, 0x00, after)?;
     Ok(out)
 }
 
@@ -74,8 +74,8 @@ fn line_agrees(
     bounds: &[(i64, i64); 4],
     points: &[[i64; 4]],
 ) -> Result<(), AllocError> {
-    for behind in [0, 8] {
-        let bytes = line_in_box(alloc, axes, bounds, points, behind)?;
+    for after in [0, 8] {
+        let bytes = line_in_box(alloc, axes, bounds, points, after)?;
         both_agree(rt, alloc, &bytes);
     }
     Ok(())
@@ -185,8 +185,8 @@ fn point_agrees(
                 let (minimum, extent) = bounds[missed - 1];
                 bounds[missed - 1] = (minimum.wrapping_add(low), extent.wrapping_add(high));
             }
-            for behind in [0, 5, 6, 7, 8] {
-                let bytes = line_in_box(alloc, axes, &bounds, &[[0; 4], point], behind)?;
+            for after in [0, 5, 6, 7, 8] {
+                let bytes = line_in_box(alloc, axes, &bounds, &[[0; 4], point], after)?;
                 agrees(rt, alloc, &bytes, false);
             }
         }
@@ -227,9 +227,9 @@ fn bytes_behind_the_last_point(rt: HostRuntime) -> Result<(), Fail> {
     ];
     for axes in [FLAT, Z, BOTH] {
         for count in 0..6usize {
-            for behind in 0..12usize {
+            for after in 0..12usize {
                 let points = &POINTS[..count.min(5)];
-                let bytes = line_in_box(rt.alloc(), axes, &bounds, points, behind)?;
+                let bytes = line_in_box(rt.alloc(), axes, &bounds, points, after)?;
                 both_agree(&rt, rt.alloc(), &bytes);
             }
         }

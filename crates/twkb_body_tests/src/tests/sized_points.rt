@@ -17,16 +17,16 @@ fn put(out: &mut Vec<u8>, bytes: usize) -> Result<(), AllocError> {
     Ok(())
 }
 
-// Puts a point with a size, X of `x` bytes and Y of `y` bytes, and `behind` bytes after it.
+// Puts a point with a size, X of `x` bytes and Y of `y` bytes, and `after` bytes after it.
 fn sized_point(
     out: &mut Vec<u8>,
-    [x, y, behind]: [usize; 3],
+    [x, y, after]: [usize; 3],
     size: usize,
 ) -> Result<(), AllocError> {
     out.extend_from_slice(&[0xA1, 0x02, (size % 128) as u8])?;
     put(out, x)?;
     put(out, y)?;
-    put_bytes(out, 0x00, behind)
+    put_bytes(out, 0x00, after)
 }
 
 // Both audits agree with the plain reader on the bytes, and on each cut of them.
@@ -40,11 +40,11 @@ fn cuts_agree(rt: &impl Abort, alloc: Global, bytes: &[u8]) {
 fn coordinates_of_each_length(rt: HostRuntime) -> Result<(), Fail> {
     for x in 1..12usize {
         for y in 1..12usize {
-            for &behind in &BEHIND {
+            for &after in &BEHIND {
                 let length = x.wrapping_add(y);
                 for size in [length, length.wrapping_add(1), length.wrapping_sub(1)] {
                     let mut bytes = Vec::new(rt.alloc());
-                    sized_point(&mut bytes, [x, y, behind], size)?;
+                    sized_point(&mut bytes, [x, y, after], size)?;
                     cuts_agree(&rt, rt.alloc(), &bytes);
                 }
             }
@@ -57,9 +57,9 @@ fn coordinates_of_each_length(rt: HostRuntime) -> Result<(), Fail> {
 #[test]
 fn variants_of_sized_points(rt: HostRuntime) -> Result<(), Fail> {
     for (x, y) in [(1, 1), (2, 3), (4, 4), (5, 5), (8, 8), (9, 1), (1, 10)] {
-        for behind in [0, 9] {
+        for after in [0, 9] {
             let mut bytes = Vec::new(rt.alloc());
-            sized_point(&mut bytes, [x, y, behind], x.wrapping_add(y))?;
+            sized_point(&mut bytes, [x, y, after], x.wrapping_add(y))?;
             variants_agree(&rt, rt.alloc(), &bytes)?;
         }
     }

@@ -28,13 +28,13 @@ fn random_points_are_shown(rt: HostRuntime) -> Result<(), Fail> {
     Ok(())
 }
 
-// A line of points whose differences are all equal, of one byte or two, with a size or none, and `behind` other bytes after it.
+// A line of points whose differences are all equal, of one byte or two, with a size or none, and `after` other bytes after it.
 fn even_line(
     alloc: Global,
     difference: &[u8],
     count: u8,
     has_size: bool,
-    behind: usize,
+    after: usize,
 ) -> Result<Vec<u8>, AllocError> {
     let mut out = Vec::new(alloc);
     let numbers = usize::from(count).saturating_mul(2);
@@ -47,7 +47,7 @@ fn even_line(
     for _ in 0..numbers {
         out.extend_from_slice(difference)?;
     }
-    put_bytes(&mut out, 0xFF, behind)?;
+    put_bytes(&mut out, 0xFF, after)?;
     Ok(out)
 }
 
@@ -58,8 +58,8 @@ fn words_up_to_the_end(rt: HostRuntime) -> Result<(), Fail> {
     for difference in differences {
         for count in 0..18 {
             for has_size in [false, true] {
-                for behind in 0..9 {
-                    let bytes = even_line(rt.alloc(), difference, count, has_size, behind)?;
+                for after in 0..9 {
+                    let bytes = even_line(rt.alloc(), difference, count, has_size, after)?;
                     if let Ok(layer) = plain::read_blob(rt.alloc(), &bytes) {
                         shows_as_plain(&rt, rt.alloc(), &bytes, &layer);
                         visited = visited.saturating_add(1);

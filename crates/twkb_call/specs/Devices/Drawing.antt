@@ -8,7 +8,7 @@ use Rattle.twkb_call.specs.declared.drawing.Point.{Point}
 use Rattle.twkb_call.specs.declared.drawing.Pen.{Pen}
 use Rattle.twkb_call.specs.Vertices.{point_of}
 
--- the room, by its reference and what stands in it, and how many points were drawn
+-- the room, by its reference and its contents, and how many points were drawn
 pub record Drawing : Type 0 where
   pub lent : GName
   pub room : List Point

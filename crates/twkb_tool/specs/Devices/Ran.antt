@@ -6,7 +6,7 @@ use Rattle.twkb_tool.specs.declared.run.RunFault.{RunFault}
 use Rattle.twkb_tool.specs.declared.run.RunFault.TheVariants.{Read, TooLarge, Memory, Write}
 use Rattle.twkb_tool.specs.Ran.{PutsSome}
 
--- the source gave a piece of n bytes, which stand in the buffer after the first ones, those held
+-- the source gave a piece of n bytes, which are in the buffer after the first ones, those held
 abbrev pub AddsPiece : SourceState → SourceState → ℕ → List ℕ → List ℕ → ℕ → Type 0
 AddsPiece s t held old new n = (given : List ℕ) × Gives s t given × (length given ≡ n)
     × (take (held + n) new ≡ take held old ++ given)

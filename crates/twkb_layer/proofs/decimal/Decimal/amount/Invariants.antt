@@ -3,11 +3,11 @@ use Rattle.std.proofs.Common.{◌≡◌, ◌*◌, ◌/◌, ◌^◌, ◌≤◌, m
 use Rattle.twkb_layer.specs.Decimals.{farthest}
 use Rattle.twkb_layer.proofs.decimal.Decimal.amount.Given as goal
 
-abbrev pub invariant-loop-behind : goal.invariant-loop-behind
-invariant-loop-behind l = record {
-  amount_is : l.amount ≡ min (l.self.number * 10 ^ 7 / 10 ^ l.behind) farthest;
-  above : l.self.places ≤ l.behind;
+abbrev pub invariant-loop-power : goal.invariant-loop-power
+invariant-loop-power l = record {
+  amount_is : l.amount ≡ min (l.self.number * 10 ^ 7 / 10 ^ l.power) farthest;
+  above : l.self.places ≤ l.power;
 }
 
-abbrev pub decreases-loop-behind : goal.decreases-loop-behind
-decreases-loop-behind l = l.behind
+abbrev pub decreases-loop-power : goal.decreases-loop-power
+decreases-loop-power l = l.power
