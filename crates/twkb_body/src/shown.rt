@@ -53,7 +53,7 @@ fn show_some<V: Visit>(
     done
 }
 
-/// Shows `count` parts.
+/// Shows the parts of a body, `count` of them: points, lines or polygons, by the kind in its header.
 #[inline(always)]
 pub fn show_parts<V: Visit>(
     cursor: &mut Cursor,

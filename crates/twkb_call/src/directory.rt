@@ -29,7 +29,7 @@ pub fn build_directory(layer: &Layer, room: &mut [Slot]) -> usize
     ensures few { OfLayer layer.now.bytes.now (λ trees. result ≤ 2 * length trees) }
     ensures kept { length room.old < result → room.new ≡ room.old }
 {
-    layer.certified().directory_into(room)
+    layer.as_certified().directory_into(room)
 }
 
 /// Scans as [`scan`](crate::scan) does, and reads nothing of a blob whose box misses the window.
@@ -42,7 +42,7 @@ pub fn scan_directory(layer: &Layer, slots: &[Slot], window: &Window, room: &mut
     ensures read { OfLayer layer.now.bytes.now (λ trees.
         result.bytes_read ≡ added 0 (sum_by (directory_cost (ranges_of window.now)) trees)) }
 {
-    let mut certified = layer.certified();
+    let mut certified = layer.as_certified();
     let hits = certified.scan_at_into(slots, &window.checked(), room);
     Scanned {
         hits,

@@ -84,7 +84,7 @@ pub fn draw(layer: &Layer, room: &mut [Point]) -> usize
     ensures room { OfLayer layer.now.bytes.now (λ trees.
         room.new ≡ filled (map point_of (all_vertices trees)) room.old) }
 {
-    let mut certified = layer.certified();
+    let mut certified = layer.as_certified();
     let mut pen = Pen { room, drawn: 0 };
     certified.visit(&mut pen);
     certified.vertices()

@@ -20,8 +20,8 @@ const SIZE: usize = std::mem::size_of::<Layer>();
 const _: () = prove!(SIZE == 32);
 
 impl<'a> Layer<'a> {
-    /// The layer, of which nothing was read yet.
-    pub(crate) fn certified(&self) -> Certified<'a>
+    /// The layer for one call on it, of which no byte was read yet.
+    pub(crate) fn as_certified(&self) -> Certified<'a>
         requires { IsCounted self.now.bytes.now self.now.blobs self.now.vertices }
         ensures { result ≡ record { bytes = self.now.bytes.now; count = 0 } }
     {

@@ -57,5 +57,5 @@ pub fn list(layer: &Layer, room: &mut [Row]) -> usize
     ensures answer { OfLayer layer.now.bytes.now (λ trees. result ≡ length trees) }
     ensures room { OfLayer layer.now.bytes.now (λ trees. room.new ≡ filled (map in_numbers (rows trees)) room.old) }
 {
-    layer.certified().list_into(room)
+    layer.as_certified().list_into(room)
 }

@@ -60,7 +60,7 @@ pub fn scan(layer: &Layer, window: &Window, room: &mut [Hit]) -> Scanned
     ensures read { OfLayer layer.now.bytes.now (λ trees.
         result.bytes_read ≡ added 0 (sum_by (cost (ranges_of window.now)) trees)) }
 {
-    let mut certified = layer.certified();
+    let mut certified = layer.as_certified();
     let hits = certified.scan_into(&window.checked(), room);
     Scanned {
         hits,

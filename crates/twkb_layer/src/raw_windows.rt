@@ -232,7 +232,8 @@ impl<'w> RawWindows<'w> {
             || self.holds_in_units(axes.xy, axes.z, axes.m, x, y, point[2], point[3])
     }
 
-    /// Whether a vertex in raw numbers is inside, compared in units.
+    /// Whether a vertex in raw numbers is inside, compared in units. `holds` asks this if X or Y is an end of 64 bits, and if the window
+    /// has a range in Z or M.
     // It takes neither an array nor a struct, so that a point that is compared in raw numbers stays in registers.
     #[inline(never)]
     fn holds_in_units(
@@ -322,7 +323,8 @@ fn tenth_down(number: i64) -> i64
     if rest < 0 { tenth - 1 } else { tenth }
 }
 
-/// Whether a number is neither the least nor the greatest of 64 bits.
+/// Whether a coordinate of a vertex is neither the least nor the greatest number of 64 bits. Only such a coordinate is compared with
+/// raw windows: an end of a window that is beyond 64 bits is kept as the least or the greatest number.
 #[inline(always)]
 fn is_inner(number: i64) -> bool
     ensures { result ≡ true → IsInner number }

@@ -84,7 +84,7 @@ pub fn take_boxed(
     }
 }
 
-/// Reads a body of `AXES` axes, whose points the box has to hold.
+/// Reads the `count` parts of a body of `AXES` axes, whose points the box has to hold.
 // Out of line: the compiler inlines nothing into a function that would grow very large.
 #[inline(never)]
 fn take_further_boxed<const AXES: usize>(

@@ -7,7 +7,7 @@ use Rattle.twkb_call.proofs.drawing.draw.Goals as goal
 
 pub returns-clause-room : goal.returns-clause-room
 returns-clause-room c = λ trees h.
-    let certified = subst (λ bytes. IsCertifiedLayer trees bytes) (sym (ap (λ (layer : Layer). layer.bytes) c.certified-certified.ensures)) h in
+    let certified = subst (λ bytes. IsCertifiedLayer trees bytes) (sym (ap (λ (layer : Layer). layer.bytes) c.as_certified-certified.ensures)) h in
     room_drawn _ _ (all_vertices trees) c.visit.new.visitor _ (c.visit.ensures.visitor trees certified) (search rules)
 
 pub returns-clause-answer : goal.returns-clause-answer
