@@ -80,14 +80,14 @@ impl<L: LaneReader> PointReader for LaneTrail<L> {
             return Err(NotHeld);
         }
         let mut at = first.reached.at;
-        let mut done = first.points;
-        while done < count {
-            let step = self.reader.take_some(cursor, count - done, at, self.extent);
+        let mut left = count - first.points;
+        while left > 0 {
+            let step = self.reader.take_some(cursor, left, at, self.extent);
             if !step.reached.inside {
                 return Err(NotHeld);
             }
             at = step.reached.at;
-            done += step.points;
+            left -= step.points;
         }
         // The proof knows from here that the place fits its type, and so does the number of points.
         let _stop = cursor.place();

@@ -1,16 +1,14 @@
 //! Points of X and Y read up to four at once, and compared with a box.
-ghost use Rattle.std.specs.Prelude.{◌≤◌};
 ghost use Rattle.twkb_body.specs.Devices.Quads.{ReadsAtMost, StepsInLanes};
 
 use crate::positions::{Step, four_more, one_more, two_more};
 use std::simd::prelude::*;
 use twkb_num::Cursor;
 
-/// Reads four points at the place, or two, or one, by their distances from the minima of a box, in lanes. It reads none if a
-/// difference of the first takes more than four bytes, or if fewer than eight bytes are left.
+/// Reads four points at the place, or two, by their distances from the minima of a box, in lanes. It reads none if only one is left,
+/// if a difference of the first two takes more than four bytes, or if fewer than 32 bytes are left.
 #[inline(always)]
 pub fn next_points(cursor: &mut Cursor, left: u64, at: u32x4, extent: u32x4) -> Step
-    requires { 1 ≤ left }
     ensures { ReadsAtMost left (StepsInLanes at extent) cursor.old cursor.new result }
 {
     if 4 <= left {
@@ -21,12 +19,9 @@ pub fn next_points(cursor: &mut Cursor, left: u64, at: u32x4, extent: u32x4) -> 
         }
     }
     if 2 <= left {
-        let step = next_two(cursor, at, extent);
-        if step.points != 0 {
-            return step;
-        }
+        return next_two(cursor, at, extent);
     }
-    next_one(cursor, at, extent)
+    Step::none(at)
 }
 
 /// Reads two points, or none.
