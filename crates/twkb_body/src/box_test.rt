@@ -118,7 +118,7 @@ impl BoxTest {
                 break;
             };
             apart = apart.plus(&more);
-            is_inside = reach_all(&bounds, AXES == 4, &apart);
+            is_inside = reach_all::<AXES>(&bounds, &apart);
             taken += 1;
         }
         cursor.place_is_within();
@@ -222,35 +222,35 @@ pub fn placed(bounds: &RawBox, distances: &Numbers) -> [i64; 4]
     ]
 }
 
-/// Whether a distance from the minimum of the fourth axis lies within its extent, if there is a fourth axis.
+/// Whether a distance from the minimum of the fourth axis lies within its extent, if there are four axes.
 #[inline(always)]
-fn reaches_fourth(has_fourth: bool, extent: i64, distance: i64) -> bool
+fn reaches_fourth<const AXES: usize>(extent: i64, distance: i64) -> bool
     requires { pos 0 ≤ℤ extent }
-    ensures { result ≡ reaches_if has_fourth extent distance }
+    ensures { result ≡ reaches_if (is_four AXES) extent distance }
 {
-    !has_fourth || reaches(extent, distance)
+    AXES != 4 || reaches(extent, distance)
 }
 
 /// Whether distances from the minima of a box lie within its extents in the axes after Y.
 #[inline(always)]
-fn reach_further(bounds: &RawBox, has_fourth: bool, distances: &Numbers) -> bool
+fn reach_further<const AXES: usize>(bounds: &RawBox, distances: &Numbers) -> bool
     requires third { IsNearRange bounds.now.third }
     requires fourth { IsNearRange bounds.now.fourth }
-    ensures { result ≡ reach_further bounds.now has_fourth distances.now }
+    ensures { result ≡ reach_further bounds.now (is_four AXES) distances.now }
 {
     reaches(bounds.third.extent, distances.third)
-        && reaches_fourth(has_fourth, bounds.fourth.extent, distances.fourth)
+        && reaches_fourth::<AXES>(bounds.fourth.extent, distances.fourth)
 }
 
 /// Whether distances from the minima of a box lie within its extents in all axes.
 #[inline(always)]
-fn reach_all(bounds: &RawBox, has_fourth: bool, distances: &Numbers) -> bool
+fn reach_all<const AXES: usize>(bounds: &RawBox, distances: &Numbers) -> bool
     requires bounds { IsNearBox bounds.now }
     requires third { IsNearRange bounds.now.third }
     requires fourth { IsNearRange bounds.now.fourth }
-    ensures { result ≡ reach_all bounds.now has_fourth distances.now }
+    ensures { result ≡ reach_all bounds.now (is_four AXES) distances.now }
 {
-    reach_further(bounds, has_fourth, distances) && reach_both(bounds, distances.x, distances.y)
+    reach_further::<AXES>(bounds, distances) && reach_both(bounds, distances.x, distances.y)
 }
 
 impl Points for BoxTest {
