@@ -17,6 +17,14 @@ pub trait IdRoom {
         ensures { ReadsIds count cursor.old result cursor.new };
 }
 
+/// Room for the ids of one list at a time, which an audit judges: an allocator, or a slice that is lent.
+// Its methods are those of `IdRoom`, which other crates can't name.
+pub trait AuditRoom: IdRoom {}
+
+impl<A: Allocator> AuditRoom for &A {}
+
+impl AuditRoom for &mut [i64] {}
+
 impl<A: Allocator> IdRoom for &A {
     fn take_ids(&mut self, cursor: &mut Cursor, count: u64) -> Result<bool, Stopped> {
         let mut ids: SmallVec<i64, 16, &A> = SmallVec::new(*self);

@@ -122,9 +122,9 @@ fn runs_out(rt: &impl Abort, alloc: Global, bytes: &[u8], is_tight: bool, call: 
     let memory = Refusing::new(alloc, call);
     let mut cursor = Cursor::new(bytes);
     let answer = if is_tight {
-        audit_tight_in(&memory, &mut cursor)
+        audit_tight_with(&mut &memory, &mut cursor)
     } else {
-        audit_in(&memory, &mut cursor)
+        audit_with(&mut &memory, &mut cursor)
     };
     if memory.has_refused() {
         equal(rt, answer, Err(AuditFault::Memory));
@@ -158,7 +158,7 @@ fn memory_runs_out(rt: HostRuntime) -> Result<(), Fail> {
     }
     for &(bytes, vertices) in &CERTIFIED {
         let memory = Refusing::new(rt.alloc(), 0);
-        let answer = audit_in(&memory, &mut Cursor::new(bytes));
+        let answer = audit_with(&mut &memory, &mut Cursor::new(bytes));
         equal(&rt, (answer, bytes), (whole(bytes, vertices), bytes));
         equal(&rt, (memory.has_refused(), bytes), (false, bytes));
     }

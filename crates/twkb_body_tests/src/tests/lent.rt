@@ -4,7 +4,15 @@ use super::faults::{FALSE, MALFORMED};
 use super::{equal, false_claim, malformed, whole};
 use random_layers::{FALLING_IDS, SEVENTEEN_IDS};
 use std::process::Abort;
-use twkb_body::{Audit, AuditFault, Claim, Cursor, audit_lent, audit_tight_lent};
+use twkb_body::{Audit, AuditFault, Claim, Cursor, audit_tight_with, audit_with};
+
+fn audit_lent(mut room: &mut [i64], cursor: &mut Cursor) -> Result<Audit, AuditFault> {
+    audit_with(&mut room, cursor)
+}
+
+fn audit_tight_lent(mut room: &mut [i64], cursor: &mut Cursor) -> Result<Audit, AuditFault> {
+    audit_tight_with(&mut room, cursor)
+}
 
 // Seventeen ids need seventeen places, whether they rise or not. With fewer places memory is wanted, and the place is unchanged.
 #[test]

@@ -1,4 +1,4 @@
--- The refusal of `audit_in` is passed on.
+-- The refusal of `audit_with` is passed on.
 use Rattle.std.proofs.Common.{rules}
 use Rattle.twkb_body.proofs.auditing.audit.Goals as goal
 
