@@ -34,7 +34,7 @@ pub extern "C" fn twkb_certify(alloc: Global, bytes: &[u8]) -> Verdict
     ensures says { Says IsTrueClaim result bytes.now }
     ensures complete { OfLayer bytes.now (λ trees. (result.answer ≡ 0) ⊎ (result.answer ≡ 2)) }
 {
-    twkb_call::certify(&alloc, bytes)
+    twkb_call::certify(&mut &alloc, bytes)
 }
 
 /// Certifies the bytes as a layer without a loose box. The answers are those of `twkb_certify`.
@@ -45,7 +45,7 @@ pub extern "C" fn twkb_certify_tight(alloc: Global, bytes: &[u8]) -> Verdict
     ensures complete { (trees : List Geometry) → IsTightLayer trees bytes.now
         → (result.answer ≡ 0) ⊎ (result.answer ≡ 2) }
 {
-    twkb_call::certify_tight(&alloc, bytes)
+    twkb_call::certify_tight(&mut &alloc, bytes)
 }
 
 /// Writes a row for each blob to `room`, in file order, as many as fit, and returns how many blobs there are.

@@ -20,5 +20,5 @@ pub use names::{Name, answer_name, kind_name, type_name};
 pub use rows::{Row, list};
 pub use scans::{Hit, Scanned, scan};
 pub use twkb_layer::Slot;
-pub use verdict::{Verdict, certify, certify_lent, certify_tight, certify_tight_lent};
+pub use verdict::{Verdict, certify, certify_tight};
 pub use window::{Range, Units, Window, parse_window, span_of_decimals};

@@ -8,8 +8,7 @@ ghost use Rattle.twkb_layer.specs.Tight.{IsTightLayer};
 ghost use Rattle.twkb_call.specs.Verdict.{yes, Says};
 ghost use Rattle.twkb_call.specs.Devices.Verdict.{verdict_on};
 
-use std::alloc::Allocator;
-use twkb_layer::{Certified, Cursor, Refusal, certify_in, certify_tight_in};
+use twkb_layer::{AuditRoom, Certified, Cursor, Refusal, certify_tight_with, certify_with};
 
 /// The verdict on bytes. Fields that the answer doesn't use are 0.
 #[repr(C)]
@@ -34,52 +33,27 @@ const SIZE: usize = std::mem::size_of::<Verdict>();
 // Callers in other languages lay it out by hand.
 const _: () = prove!(SIZE == 40);
 
-/// Certifies the bytes as a layer.
-pub fn certify<A: Allocator>(alloc: &A, bytes: &[u8]) -> Verdict
+/// Certifies the bytes as a layer, with an allocator or with a buffer for the ids of a list, which it overwrites, and no other memory.
+/// The verdict may be "out of memory" with a buffer if a list has more ids than the buffer has places, and more than sixteen.
+pub fn certify<R: AuditRoom>(room: &mut R, bytes: &[u8]) -> Verdict
     ensures says { Says IsTrueClaim result bytes.now }
     ensures complete { (trees : List Geometry) → IsCertifiedLayer trees bytes.now
         → (result.answer ≡ 0) ⊎ (result.answer ≡ 2) }
 {
-    match certify_in(alloc, Cursor::new(bytes)) {
+    match certify_with(room, Cursor::new(bytes)) {
         Ok(layer) => certified(&layer),
         Err(refusal) => refused(&refusal),
     }
 }
 
-/// Certifies the bytes as a layer without a loose box.
-pub fn certify_tight<A: Allocator>(alloc: &A, bytes: &[u8]) -> Verdict
+/// Certifies the bytes as a layer without a loose box, with room for ids as in [`certify`].
+pub fn certify_tight<R: AuditRoom>(room: &mut R, bytes: &[u8]) -> Verdict
     ensures says { Says IsTightlyTrue result bytes.now }
     ensures tight { result.answer ≡ 0 → (trees : List Geometry) × IsTightLayer trees bytes.now }
     ensures complete { (trees : List Geometry) → IsTightLayer trees bytes.now
         → (result.answer ≡ 0) ⊎ (result.answer ≡ 2) }
 {
-    match certify_tight_in(alloc, Cursor::new(bytes)) {
-        Ok(layer) => certified(&layer),
-        Err(refusal) => refused(&refusal),
-    }
-}
-
-/// Certifies the bytes as a layer with no memory but a buffer for the ids of a list, which it overwrites. The verdict may be
-/// "out of memory" if a list has more ids than the buffer has places, and more than sixteen.
-pub fn certify_lent(bytes: &[u8], ids: &mut [i64]) -> Verdict
-    ensures says { Says IsTrueClaim result bytes.now }
-    ensures complete { (trees : List Geometry) → IsCertifiedLayer trees bytes.now
-        → (result.answer ≡ 0) ⊎ (result.answer ≡ 2) }
-{
-    match twkb_layer::certify_lent(ids, Cursor::new(bytes)) {
-        Ok(layer) => certified(&layer),
-        Err(refusal) => refused(&refusal),
-    }
-}
-
-/// Certifies the bytes as a layer without a loose box, with a lent buffer as in [`certify_lent`].
-pub fn certify_tight_lent(bytes: &[u8], ids: &mut [i64]) -> Verdict
-    ensures says { Says IsTightlyTrue result bytes.now }
-    ensures tight { result.answer ≡ 0 → (trees : List Geometry) × IsTightLayer trees bytes.now }
-    ensures complete { (trees : List Geometry) → IsTightLayer trees bytes.now
-        → (result.answer ≡ 0) ⊎ (result.answer ≡ 2) }
-{
-    match twkb_layer::certify_tight_lent(ids, Cursor::new(bytes)) {
+    match certify_tight_with(room, Cursor::new(bytes)) {
         Ok(layer) => certified(&layer),
         Err(refusal) => refused(&refusal),
     }

@@ -9,7 +9,7 @@ use crate::request::Request;
 use crate::run::MAX_FILE;
 use crate::text::{push_layer_text, push_no_line};
 use std::alloc::{AllocError, Allocator};
-use twkb_layer::{Certified, Cursor, Refusal, certify_in, certify_tight_in};
+use twkb_layer::{Certified, Cursor, Refusal, certify_tight_with, certify_with};
 
 /// Whether a file is a certified layer.
 #[derive(Clone, Copy, Debug, PartialEq, Eq)]
@@ -44,7 +44,7 @@ pub fn answer<'a, A: Allocator>(
 
 /// Certifies the bytes for a request, or returns why they are refused.
 fn certified<'b, A: Allocator>(
-    alloc: &A,
+    mut alloc: &A,
     request: &Request,
     bytes: &'b [u8],
 ) -> Result<Certified<'b>, Refusal>
@@ -58,7 +58,7 @@ fn certified<'b, A: Allocator>(
 {
     let cursor = Cursor::new(bytes);
     match request {
-        Request::CheckTight => certify_tight_in(alloc, cursor),
-        Request::Check | Request::List | Request::Scan(_) => certify_in(alloc, cursor),
+        Request::CheckTight => certify_tight_with(&mut alloc, cursor),
+        Request::Check | Request::List | Request::Scan(_) => certify_with(&mut alloc, cursor),
     }
 }

@@ -27,22 +27,22 @@ use twkb_call::{Hit, Layer, Point, Range, Row, Scanned, Verdict, Window};
 /// Certifies the bytes as a layer, with a buffer for the ids of a list. The verdict may be "out of memory" if a list has more
 /// ids than the buffer has places, and more than sixteen.
 #[unsafe(no_mangle)]
-pub extern "C" fn twkb_certify(bytes: &[u8], ids: &mut [i64]) -> Verdict
+pub extern "C" fn twkb_certify(bytes: &[u8], mut ids: &mut [i64]) -> Verdict
     ensures says { Says IsTrueClaim result bytes.now }
     ensures complete { OfLayer bytes.now (λ trees. (result.answer ≡ 0) ⊎ (result.answer ≡ 2)) }
 {
-    twkb_call::certify_lent(bytes, ids)
+    twkb_call::certify(&mut ids, bytes)
 }
 
 /// Certifies the bytes as a layer without a loose box.
 #[unsafe(no_mangle)]
-pub extern "C" fn twkb_certify_tight(bytes: &[u8], ids: &mut [i64]) -> Verdict
+pub extern "C" fn twkb_certify_tight(bytes: &[u8], mut ids: &mut [i64]) -> Verdict
     ensures says { Says IsTightlyTrue result bytes.now }
     ensures tight { result.answer ≡ 0 → (trees : List Geometry) × IsTightLayer trees bytes.now }
     ensures complete { (trees : List Geometry) → IsTightLayer trees bytes.now
         → (result.answer ≡ 0) ⊎ (result.answer ≡ 2) }
 {
-    twkb_call::certify_tight_lent(bytes, ids)
+    twkb_call::certify_tight(&mut ids, bytes)
 }
 
 /// Writes a row for each blob to `room`, in file order, as many as fit, and returns how many blobs there are.

@@ -9,8 +9,8 @@ use refusing::Refusing;
 use std::alloc::Allocator;
 use std::process::Abort;
 use twkb_call::{
-    Hit, Layer, Point, Row, Scanned, Units, Verdict, answer_name, certify, certify_lent,
-    certify_tight, certify_tight_lent, draw, kind_name, list, parse_window, scan, type_name,
+    Hit, Layer, Point, Row, Scanned, Units, Verdict, answer_name, certify,
+    certify_tight, draw, kind_name, list, parse_window, scan, type_name,
 };
 
 mod windows;
@@ -69,8 +69,8 @@ fn verdicts(rt: HostRuntime) {
         (&FALLING_IDS, yes(1, 17), yes(1, 17)),
     ];
     for (bytes, plainly, tightly) in table {
-        equal(&rt, (certify(&alloc, bytes), bytes), (plainly, bytes));
-        let verdict = certify_tight(&alloc, bytes);
+        equal(&rt, (certify(&mut &alloc, bytes), bytes), (plainly, bytes));
+        let verdict = certify_tight(&mut &alloc, bytes);
         equal(&rt, (verdict, bytes), (tightly, bytes));
     }
 }
@@ -80,7 +80,7 @@ fn each_allocation_is_refused(rt: HostRuntime) {
     let mut refusals = 0u64;
     for call in 0..100u64 {
         let memory = Refusing::new(rt.alloc(), call);
-        let verdict = certify(&memory, &FALLING_IDS);
+        let verdict = certify(&mut &memory, &FALLING_IDS);
         if !memory.has_refused() {
             equal(&rt, verdict, yes(1, 17));
             break;
@@ -88,12 +88,20 @@ fn each_allocation_is_refused(rt: HostRuntime) {
         equal(&rt, verdict, NO_MEMORY);
         equal(
             &rt,
-            certify_tight(&Refusing::new(rt.alloc(), call), &FALLING_IDS),
+            certify_tight(&mut &Refusing::new(rt.alloc(), call), &FALLING_IDS),
             NO_MEMORY,
         );
         refusals = call + 1;
     }
     assert!(rt; 0 < refusals && refusals < 100, "{refusals}");
+}
+
+fn certify_lent(bytes: &[u8], mut ids: &mut [i64]) -> Verdict {
+    certify(&mut ids, bytes)
+}
+
+fn certify_tight_lent(bytes: &[u8], mut ids: &mut [i64]) -> Verdict {
+    certify_tight(&mut ids, bytes)
 }
 
 #[test]

@@ -1,4 +1,4 @@
--- The verdict says what `certify_tight_in` answers: its yes is tight, and a tight layer wants at most memory.
+-- The verdict says what `certify_tight_with` answers: its yes is tight, and a tight layer wants at most memory.
 use Rattle.std.proofs.Common.{List, subst, sym}
 use Rattle.twkb_body.specs.Geometry.{Geometry}
 use Rattle.twkb_body.specs.Tight.{IsTightlyTrue}

@@ -6,8 +6,7 @@ use std::alloc::{AllocError, Allocator, Global};
 use std::process::Abort;
 use std::test::Fail;
 use twkb_layer::{
-    Cursor, Refusal, certify, certify_in, certify_lent, certify_tight, certify_tight_in,
-    certify_tight_lent,
+    AuditRoom, Cursor, Refusal, certify, certify_tight, certify_tight_with, certify_with,
 };
 
 const MANY: u64 = 1000;
@@ -139,12 +138,16 @@ fn equal_ids_are_refused(rt: HostRuntime) -> Result<(), Fail> {
     Ok(())
 }
 
-fn refusal_in<A: Allocator>(memory: &A, bytes: &[u8], is_tight: bool) -> Option<Refusal> {
+fn refusal_in<A: Allocator>(mut memory: &A, bytes: &[u8], is_tight: bool) -> Option<Refusal> {
+    refusal_by(&mut memory, bytes, is_tight)
+}
+
+fn refusal_by<R: AuditRoom>(room: &mut R, bytes: &[u8], is_tight: bool) -> Option<Refusal> {
     let cursor = Cursor::new(bytes);
     if is_tight {
-        certify_tight_in(memory, cursor).err()
+        certify_tight_with(room, cursor).err()
     } else {
-        certify_in(memory, cursor).err()
+        certify_with(room, cursor).err()
     }
 }
 
@@ -197,13 +200,8 @@ fn each_growth_is_refused(rt: HostRuntime) {
     }
 }
 
-fn refusal_with(ids: &mut [i64], bytes: &[u8], is_tight: bool) -> Option<Refusal> {
-    let cursor = Cursor::new(bytes);
-    if is_tight {
-        certify_tight_lent(ids, cursor).err()
-    } else {
-        certify_lent(ids, cursor).err()
-    }
+fn refusal_with(mut ids: &mut [i64], bytes: &[u8], is_tight: bool) -> Option<Refusal> {
+    refusal_by(&mut ids, bytes, is_tight)
 }
 
 fn refusal_in_enough(bytes: &[u8], is_tight: bool) -> Option<Refusal> {

@@ -6,11 +6,11 @@ use random_layers::FALLING_IDS;
 use refusing::Refusing;
 use std::alloc::{Allocator, Global};
 use std::process::Abort;
-use twkb_layer::{Certified, Cursor, Directory, Refusal, certify_in, certify_tight_in};
+use twkb_layer::{Certified, Cursor, Directory, Refusal, certify_tight_with, certify_with};
 
 /// Certifies once with all memory from an allocator, and returns whether the answer was that memory ran out.
-fn runs_out<A: Allocator>(rt: &impl Abort, memory: &A, bytes: &[u8]) -> bool {
-    match certify_in(memory, Cursor::new(bytes)) {
+fn runs_out<A: Allocator>(rt: &impl Abort, mut memory: &A, bytes: &[u8]) -> bool {
+    match certify_with(&mut memory, Cursor::new(bytes)) {
         Ok(layer) => {
             equal(rt, layer.blobs(), 1);
             equal(rt, layer.vertices(), 17);
@@ -97,9 +97,9 @@ fn counts_take_no_memory(rt: HostRuntime) {
             offset: bytes.len(),
             kind: 1,
         };
-        let refusal = certify_in(&memory, Cursor::new(bytes)).err();
+        let refusal = certify_with(&mut &memory, Cursor::new(bytes)).err();
         equal(&rt, refusal, Some(cut_at_the_end));
-        let refusal = certify_tight_in(&memory, Cursor::new(bytes)).err();
+        let refusal = certify_tight_with(&mut &memory, Cursor::new(bytes)).err();
         equal(&rt, refusal, Some(cut_at_the_end));
         assert!(rt; !memory.has_refused());
     }
@@ -161,7 +161,7 @@ fn refused_directories_may_be_built_again(rt: HostRuntime) {
 #[test]
 fn the_empty_layer_needs_no_memory(rt: HostRuntime) {
     let memory = Refusing::new(rt.alloc(), 0);
-    let mut layer = certify_in(&memory, Cursor::new(&EMPTY)).expect(&rt, "no memory is asked for");
+    let mut layer = certify_with(&mut &memory, Cursor::new(&EMPTY)).expect(&rt, "no memory is asked for");
     let rows = layer.list_in(&memory).expect(&rt, "no memory is asked for");
     assert!(rt; rows.is_empty());
     let directory = Directory::build_in(&memory, &mut layer).expect(&rt, "no memory is asked for");
