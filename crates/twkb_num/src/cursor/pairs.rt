@@ -28,8 +28,9 @@ impl<'a> Cursor<'a> {
         }
     }
 
-    // The two numbers from one word of eight bytes. It isn't inlined: only the last bytes of a layer are read by it.
-    #[inline(never)]
+    // The two numbers from one word of eight bytes. It is inlined although only the last bytes of a layer are read by it: as a call it
+    // would cost a hop scan of points an eighth more.
+    #[inline(always)]
     fn word_pair(&mut self) -> Option<(i64, i64)>
         ensures { ReadsPair 8 self.old self.new result }
     {
