@@ -1,5 +1,5 @@
 //! Room for the ids of a list: memory that grows, or a slice that is lent.
-ghost use Rattle.std.specs.Prelude.{◌≡◌, ◌≢◌, ◌≤◌, ◌<ℤ◌, ◌↔◌, ℤ, List, [], ◌∷◌, ◌++◌, length, take, AllPairs, IsTrue, OnOk, IfErr};
+ghost use Rattle.std.specs.Prelude.{◌≡◌, ◌≢◌, ◌≤◌, ◌<ℤ◌, ◌↔◌, ℤ, List, [], ◌∷◌, ◌++◌, length, take, AllPairs, IsTrue, OnOk, OnErr, IfErr};
 ghost use Rattle.twkb_body.specs.declared.stopped.Stopped.TheVariants.{Memory};
 ghost use Rattle.twkb_body.specs.Devices.Stops.{ReadsIds};
 
@@ -50,11 +50,15 @@ trait IdStore {
     /// There is room for sixteen ids at least.
     ghost is_roomy: { Self → Type 0 };
 
-    /// Keeps one id more, unless there is no memory for it.
+    /// Another id may be refused.
+    ghost is_full: { Self → Type 0 };
+
+    /// Keeps one id more. It may refuse only if it is full, and holds sixteen ids.
     fn keep(&mut self, id: i64) -> Result<(), Stopped>
         requires { is_roomy self.old }
         ensures ok { OnOk result (ids self.new ≡ ids self.old ++ id ∷ []) }
         ensures err { IfErr result (λ stop. (stop ≡ Memory) × (16 ≤ length (ids self.old))) }
+        ensures full { OnErr result (is_full self.old) }
         ensures roomy { is_roomy self.new };
 
     /// Whether no two ids are equal. It sorts them.
@@ -68,6 +72,8 @@ impl<A: Allocator + Copy> IdStore for SmallVec<i64, 16, A> {
     ghost ids = { λ s. s.items };
 
     ghost is_roomy = { λ s. 16 ≤ s.capacity };
+
+    ghost is_full = { λ s. s.capacity ≤ length s.items };
 
     #[inline(always)]
     fn keep(&mut self, id: i64) -> Result<(), Stopped> {
@@ -100,6 +106,8 @@ impl<'r> IdStore for LentIds<'r> {
     ghost ids = { λ s. take s.held s.room.now };
 
     ghost is_roomy = { λ s. (16 ≤ length s.room.now) × (s.held ≤ length s.room.now) };
+
+    ghost is_full = { λ s. s.held ≡ length s.room.now };
 
     #[inline(always)]
     fn keep(&mut self, id: i64) -> Result<(), Stopped> {

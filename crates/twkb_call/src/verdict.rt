@@ -34,7 +34,8 @@ const SIZE: usize = std::mem::size_of::<Verdict>();
 const _: () = prove!(SIZE == 40);
 
 /// Certifies the bytes as a layer, with an allocator or with a buffer for the ids of a list, which it overwrites, and no other memory.
-/// The verdict may be "out of memory" with a buffer if a list has more ids than the buffer has places, and more than sixteen.
+/// The verdict is "out of memory" only if a list has more than sixteen ids; with a buffer, if the list has more ids than the buffer
+/// has places, which no clause says.
 pub fn certify<R: AuditRoom>(room: &mut R, bytes: &[u8]) -> Verdict
     ensures says { Says IsTrueClaim result bytes.now }
     ensures complete { (trees : List Geometry) → IsCertifiedLayer trees bytes.now

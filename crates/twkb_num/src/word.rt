@@ -20,7 +20,7 @@ struct FirstNumber {
     bits: u32,
 }
 
-/// The two signed numbers that the front of the eight bytes spells. `None` if one of them takes more than four bytes.
+/// The two signed numbers that the front of the eight bytes spells, if each takes at most four bytes.
 #[inline(always)]
 pub fn next_pair(bytes: &[u8; 8]) -> Option<SignedPair>
     ensures len { IfSome result (λ pair. pair.len ≤ 8) }

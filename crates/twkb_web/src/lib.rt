@@ -24,8 +24,8 @@ ghost use Rattle.twkb_call.specs.Window.{ranges_of, span_from};
 
 use twkb_call::{Hit, Layer, Point, Range, Row, Scanned, Verdict, Window};
 
-/// Certifies the bytes as a layer, with a buffer for the ids of a list. The verdict may be "out of memory" if a list has more
-/// ids than the buffer has places, and more than sixteen.
+/// Certifies the bytes as a layer, with a buffer for the ids of a list. The verdict is "out of memory" only if a list has more than
+/// sixteen ids: if it has more than the buffer has places, which no clause says.
 #[unsafe(no_mangle)]
 pub extern "C" fn twkb_certify(bytes: &[u8], mut ids: &mut [i64]) -> Verdict
     ensures says { Says IsTrueClaim result bytes.now }

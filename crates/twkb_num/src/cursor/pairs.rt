@@ -28,7 +28,7 @@ impl<'a> Cursor<'a> {
         }
     }
 
-    // The two numbers from one word of eight bytes. It is inlined although only the last bytes of a layer are read by it: as a call it
+    // The two numbers from one word of eight bytes. It is inlined although only the last fifteen bytes are read by it: as a call it
     // would cost a hop scan of points an eighth more.
     #[inline(always)]
     fn word_pair(&mut self) -> Option<(i64, i64)>

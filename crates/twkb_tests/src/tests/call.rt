@@ -9,8 +9,8 @@ use refusing::Refusing;
 use std::alloc::Allocator;
 use std::process::Abort;
 use twkb_call::{
-    Hit, Layer, Point, Row, Scanned, Units, Verdict, answer_name, certify,
-    certify_tight, draw, kind_name, list, parse_window, scan, type_name,
+    Hit, Layer, Point, Row, Scanned, Units, Verdict, answer_name, certify, certify_tight, draw,
+    kind_name, list, parse_window, scan, type_name,
 };
 
 mod windows;

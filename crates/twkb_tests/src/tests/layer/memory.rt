@@ -161,7 +161,10 @@ fn refused_directories_may_be_built_again(rt: HostRuntime) {
 #[test]
 fn the_empty_layer_needs_no_memory(rt: HostRuntime) {
     let memory = Refusing::new(rt.alloc(), 0);
-    let mut layer = certify_with(&mut &memory, Cursor::new(&EMPTY)).expect(&rt, "no memory is asked for");
+    let mut layer = certify_with(&mut &memory, Cursor::new(&EMPTY)).expect(
+        &rt,
+        "no memory is asked for",
+    );
     let rows = layer.list_in(&memory).expect(&rt, "no memory is asked for");
     assert!(rt; rows.is_empty());
     let directory = Directory::build_in(&memory, &mut layer).expect(&rt, "no memory is asked for");
