@@ -130,10 +130,10 @@ fn verdicts_in_lent_room(rt: HostRuntime) {
 }
 
 /// The bytes as a layer that was certified before.
-fn layer_of<'a, A: Allocator>(rt: &impl Abort, alloc: &A, bytes: &'a [u8]) -> Layer<'a>
+fn layer_of<'a, A: Allocator>(rt: &impl Abort, mut alloc: &A, bytes: &'a [u8]) -> Layer<'a>
     ensures { IsCounted result.bytes.now result.blobs result.vertices }
 {
-    let verdict = certify(alloc, bytes);
+    let verdict = certify(&mut alloc, bytes);
     if verdict.answer != 0 {
         panic!(rt; "{verdict:?}, of {bytes:?}");
     }
