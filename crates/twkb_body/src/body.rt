@@ -24,7 +24,7 @@ pub fn enter_point<V: Visit>(cursor: &mut Cursor, axes: Axes, ids: bool, visitor
         (V.state visitor.old) (V.state visitor.new) cursor.new result }
     ensures none { result ≡ 0 }
 {
-    match cursor.svarint_pair() {
+    match cursor.svarint_mixed_pair() {
         Some((x, y)) => {
             visitor.add_raw(axes, &[x, y, 0, 0]);
             0

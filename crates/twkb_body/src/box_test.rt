@@ -51,8 +51,8 @@ impl BoxTest {
 
     /// A run of points of X and Y alone, one after another.
     // All that changes from point to point is in locals. While points are in the box no sum leaves 64 bits, and the first
-    // that isn't ends the run. It isn't inlined, since lanes hold the distances in most boxes.
-    #[inline(never)]
+    // that isn't ends the run.
+    #[inline(always)]
     fn take_pairs(&mut self, cursor: &mut Cursor, _head: &Head, most: u64, trail: &mut Trail) -> u64
         requires flat { axes_with _head.now.z _head.now.m ≡ 2 }
         requires counted { trail.old.points ≤ cursor.old.place }
@@ -90,7 +90,7 @@ impl BoxTest {
     }
 
     /// A run of points of three axes or four, one after another.
-    #[inline(never)]
+    #[inline(always)]
     fn take_further_run<const AXES: usize>(
         &mut self,
         cursor: &mut Cursor,

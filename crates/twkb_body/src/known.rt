@@ -19,7 +19,7 @@ pub fn known_range(cursor: &mut Cursor) -> (RawRange, bool)
     ensures read { range_from cursor.old ≡ (Ok (ends_of result.0), cursor.new) }
     ensures near { result.1 ≡ true → IsNear result.0 }
 {
-    match cursor.svarint_pair() {
+    match cursor.svarint_mixed_pair() {
         Some((minimum, extent)) => (RawRange { minimum, extent }, true),
         None => {
             let range = slow_range(cursor);

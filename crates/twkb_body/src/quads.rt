@@ -43,7 +43,7 @@ pub fn next_two(cursor: &mut Cursor, at: u32x4, extent: u32x4) -> Step
 pub fn next_one(cursor: &mut Cursor, at: u32x4, extent: u32x4) -> Step
     ensures { ReadsAtMost 1 (StepsInLanes at extent) cursor.old cursor.new result }
 {
-    match cursor.svarint_pair() {
+    match cursor.svarint_mixed_pair() {
         Some((x, y)) => Step {
             points: 1,
             reached: one_more(x, y, at, extent),

@@ -60,9 +60,8 @@ fn is_close(sum: i64) -> bool
 
 /// Shows points at the place, `most` of them or fewer: it stops before a point with a difference of more than four bytes, near
 /// the end of the bytes, and where the visitor is settled. Returns how many it showed.
-// Both sums are in locals. While differences are short, no sum leaves 64 bits, so none is tested. It isn't inlined, since each of its
-// callers would have a copy for each visitor.
-#[inline(never)]
+// Both sums are in locals. While differences are short, no sum leaves 64 bits, so none is tested.
+#[inline(always)]
 fn show_flat_run<V: Visit>(
     visitor: &mut V,
     cursor: &mut Cursor,

@@ -341,7 +341,7 @@ module _ (bytes : List ℕ) (many left done low size : ℕ) (l : IsEndsLoop byte
     | inr none ↦ none
   ])
 
--- bytes that are stuck after a place are stuck from their beginning on
+-- bytes that are stuck behind a place are stuck from their beginning on
 pub stuck_behind : (bytes : List ℕ) (place size : ℕ) → place ≤ length bytes → IsStuck (drop place bytes) size → IsStuck bytes (place + size)
 stuck_behind bytes place size within (inl few) = inl (omega (arith, few, within, length-drop place bytes))
 stuck_behind bytes place size within (inr (at, low, on)) = inr (

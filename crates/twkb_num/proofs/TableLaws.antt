@@ -46,7 +46,7 @@ abbrev pub all_on : ℕ → ℕ → ℕ → Bool
 all_on zero mask at = true
 all_on (suc n) mask at = eqb (mask / 2 ^ at % 2) 1 && all_on n mask (suc at)
 
--- from some place before `at` on, n bits are set
+-- n bits are set from one of the first so many places on
 abbrev pub some_on : ℕ → ℕ → ℕ → Bool
 some_on n mask zero = false
 some_on n mask (suc at) = all_on n mask at || some_on n mask at

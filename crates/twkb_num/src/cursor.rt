@@ -16,18 +16,19 @@ use std::marker::Model;
 /// A call counts each byte that it returns or passes, and each byte that it looked at to find a fault. No public call lowers the
 /// count, lends the bytes, or returns a second cursor. Only [`Cursor::go_to`] moves without counting, and it reads nothing.
 ///
-/// Some calls read or pass numbers by words of eight bytes, such as [`Cursor::pass_varint`] and [`Cursor::pass_varints`], or by
-/// vectors from the next 16 or 32 bytes, as [`Cursor::svarint_pair`], [`Cursor::svarint_four`] and [`Cursor::svarint_eight`]
-/// do. They touch bytes after the numbers too, as reading a cache line does, but count only the bytes of the numbers. If such a
-/// call fails (returns `None`, or a result whose `is_read` is false) or passes fewer numbers than requested, its caller learns
-/// something about bytes that aren't counted: a number is too long for the call, the end is near, or (the last two calls below)
-/// a count can't be read or is too large. This list says when a call may fail, and which clause says so. Where a call may fail,
-/// no clause says whether it does; only the code shows that this choice tells nothing else. A byte *goes on* if it is at least
-/// 128.
+/// Some calls read or pass numbers by words of eight bytes, such as [`Cursor::svarint_pair`], [`Cursor::pass_varint`] and
+/// [`Cursor::pass_varints`], or by vectors from the next 16 or 32 bytes, as [`Cursor::svarint_mixed_pair`],
+/// [`Cursor::svarint_four`] and [`Cursor::svarint_eight`] do. They touch bytes after the numbers too, as reading a cache line
+/// does, but count only the bytes of the numbers. If such a call fails (returns `None`, or a result whose `is_read` is false)
+/// or passes fewer numbers than requested, its caller learns something about bytes that aren't counted: a number is too long
+/// for the call, the end is near, or (the last two calls below) a count can't be read or is too large. This list says when a
+/// call may fail, and which clause says so. Where a call may fail, no clause says whether it does; only the code shows that
+/// this choice tells nothing else. A byte *goes on* if it is at least 128.
 ///
 /// - [`Cursor::pass_varint`]: fewer than eight bytes are left, or the next eight all go on (`told`).
 /// - [`Cursor::pass_pair`]: fewer than eight bytes are left, or at most one of the next eight ends a varint (`told`).
-/// - [`Cursor::svarint_pair`]: fewer than eight bytes are left, or four in a row of the next eight go on (`told`).
+/// - [`Cursor::svarint_pair`] and [`Cursor::svarint_mixed_pair`]: fewer than eight bytes are left, or four in a row of the next
+///   eight go on (`told`).
 /// - [`Cursor::svarint_pair_and_one`]: fewer than twelve bytes are left, or four in a row of the next twelve go on (`told`).
 /// - [`Cursor::svarint_two_pairs`]: fewer than sixteen bytes are left, or four in a row of the next sixteen go on (`told`).
 /// - [`Cursor::svarint_four`]: fewer than 32 bytes are left, or four in a row of the next sixteen go on (`told`).

@@ -50,11 +50,9 @@ pub struct FirstVarints {
     pub size: usize,
 }
 
-/// Finds the first `many` varints, or fewer, in words of eight bytes. It counts the bytes that end a varint, so that no step waits
-/// for the length of one.
-///
-/// It finds fewer where less than eight bytes are left, and where a varint may take more than seven bytes: at a word without an end
-/// in its first four bytes (in the first word, seven), or without one in its last four, unless the last varint ends in the word.
+/// Finds the first varints, at most `many`, in words of eight bytes. It stops before a word without an end in its first half, or
+/// of the first word in its first seven bytes. It also stops before a word without an end in its second half, unless the last
+/// varint ends in the word. So each varint takes at most seven bytes. Ends are counted, and no step waits for a varint's length.
 #[inline(always)]
 pub fn first_varints(bytes: &[u8], many: u64) -> FirstVarints
     ensures few { result.many ≤ many }

@@ -138,7 +138,7 @@ fn a_pair_is_two_reads(rt: HostRuntime) {
     equal(&rt, cursor.svarint(), Ok(-4));
 }
 
-// Pairs of each two lengths, with seven bytes left, with eight (a word), and with more (from sixteen on, a vector).
+// Pairs of each two lengths, with seven bytes left, eight, and more.
 #[test]
 fn a_pair_has_four_bytes_each_at_most(rt: HostRuntime) {
     for second in 1..=10 {
@@ -153,20 +153,28 @@ fn a_pair_has_four_bytes_each_at_most(rt: HostRuntime) {
     }
 }
 
-// If `is_read`, a pair is read at the front, the two numbers that single reads give. If not, nothing is read or passed.
+// If `is_read`, a pair is read at the front, the two numbers that single reads give, by a word and by a vector. If not, nothing is
+// read or passed.
 fn pair_like_two_reads(rt: &impl Abort, bytes: &[u8], is_read: bool) {
     let mut reads = Cursor::new(bytes);
     let mut pairs = Cursor::new(bytes);
+    let mut mixed = Cursor::new(bytes);
     if is_read {
         match (reads.svarint(), reads.svarint()) {
-            (Ok(x), Ok(y)) => equal(rt, pairs.svarint_pair(), Some((x, y))),
+            (Ok(x), Ok(y)) => {
+                equal(rt, pairs.svarint_pair(), Some((x, y)));
+                equal(rt, mixed.svarint_mixed_pair(), Some((x, y)));
+            }
             _ => assert!(rt; false),
         }
     } else {
         equal(rt, pairs.svarint_pair(), None);
+        equal(rt, mixed.svarint_mixed_pair(), None);
     }
-    equal(rt, pairs.place(), reads.place());
-    equal(rt, pairs.read_count(), reads.read_count());
+    for cursor in [pairs, mixed] {
+        equal(rt, cursor.place(), reads.place());
+        equal(rt, cursor.read_count(), reads.read_count());
+    }
 }
 
 #[test]

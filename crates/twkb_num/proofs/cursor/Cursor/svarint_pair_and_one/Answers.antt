@@ -1,4 +1,4 @@
--- The third number is refused in the bytes after the pair, which takes at most eight.
+-- The third number is refused in the bytes behind the pair, which takes at most eight.
 use Rattle.std.proofs.Common.{◌-◌, ◌↔◌, ℤ, false, w64, subst, arith}
 use Rattle.std.specs.Prelude.{IsTrue}
 use Rattle.std.proofs.lemmas.Int.{ints}

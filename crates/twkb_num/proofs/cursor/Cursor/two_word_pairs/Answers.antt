@@ -1,4 +1,4 @@
--- The second pair is refused in the bytes after the first, which takes at most eight.
+-- The second pair is refused in the bytes behind the first, which takes at most eight.
 use Rattle.std.proofs.Common.{subst}
 use Rattle.twkb_num.specs.Cursor.{Reading, rest}
 use Rattle.twkb_num.proofs.ToldLemmas.{IsTold, told_after}

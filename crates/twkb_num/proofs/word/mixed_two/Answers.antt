@@ -1,17 +1,11 @@
 -- Two fronts of a word, one after the other, are two numbers.
 use Rattle.std.proofs.Common.{rules, ◌/◌, arith}
 use Rattle.twkb_num.proofs.FrontLemmas.{two_fronts, four_go_on}
-use Rattle.twkb_num.proofs.PairLaws.{zigzag_short}
-use Rattle.twkb_num.proofs.word.next_pair.Goals as goal
+use Rattle.twkb_num.proofs.word.mixed_two.Goals as goal
 
 pub returns-clause-some : goal.returns-clause-some
 returns-clause-some c =
-    let spelled = two_fronts c.args.bytes.now _ c.in_ok-first.first.bits c.in_ok-second.second.bits _ _ (search rules) (search rules) c.from_le_bytes-word.ensures c.in_ok-first.ensures.some c.in_ok-second.ensures.some in
-    (c.in_ok-first.first.value, c.in_ok-second.second.value, spelled, search rules, search rules)
-
-pub returns-clause-short : goal.returns-clause-short
-returns-clause-short c =
-    (zigzag_short _ _ c.in_ok-first.ensures.short (search rules), zigzag_short _ _ c.in_ok-second.ensures.short (search rules))
+    two_fronts c.args.bytes.now _ c.in_ok-first.first.bits c.in_ok-second.second.bits _ _ (search rules) (search rules) c.from_le_bytes-word.ensures c.in_ok-first.ensures.some c.in_ok-second.ensures.some
 
 pub returns-in_err-second-clause-told : goal.returns-in_err-second-clause-told
 returns-in_err-second-clause-told c =
