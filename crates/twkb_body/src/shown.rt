@@ -143,10 +143,10 @@ fn show_ring<V: Visit>(
     let Ok(count) = take_number(cursor) else {
         unreachable!()
     };
-    let mut done = 0;
-    if !*lost {
-        done = show_some(cursor, head, axes, count, trail, visitor);
+    if *lost {
+        return pass_known(cursor, axes, count);
     }
+    let done = show_some(cursor, head, axes, count, trail, visitor);
     if done < count {
         *lost = true;
         pass_known(cursor, axes, count - done);
