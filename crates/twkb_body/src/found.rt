@@ -38,7 +38,7 @@ impl Found {
         }
     }
 
-    /// What was found in two parts, one after the other.
+    /// Adds what was found in the next member of a collection: the sum of the vertices, and the first false claim.
     #[inline(always)]
     pub fn then(self, next: Found) -> Found
         requires { self.vertices + next.vertices < 2 ^ 64 }
@@ -52,7 +52,7 @@ impl Found {
     }
 }
 
-/// The claim of the size, if it is false of a geometry that ends at `stop`.
+/// `Claim::Size`, if the size is false of a geometry that ends at `stop`.
 #[inline(always)]
 pub fn judge_size(size: Option<SizeField>, stop: usize) -> Option<FalseClaim>
     requires { IfSome size (λ size. size.after ≤ stop) }
@@ -60,7 +60,7 @@ pub fn judge_size(size: Option<SizeField>, stop: usize) -> Option<FalseClaim>
 {
     match size {
         Some(size) => {
-            // The end by the size. A sum beyond 64 bits wraps to a place before `after`, so it isn't `stop`.
+            // The end that the size claims. A sum beyond 64 bits wraps to a place before `after`, so it isn't `stop`.
             let end = (size.after as u64).wrapping_add(size.value);
             claimed(end == stop as u64, size.offset, Claim::Size)
         }
@@ -68,7 +68,7 @@ pub fn judge_size(size: Option<SizeField>, stop: usize) -> Option<FalseClaim>
     }
 }
 
-/// The claim of the box, if some vertex of this extent is outside, or in tight checking if the box is loose.
+/// `Claim::Box`, if some vertex of this extent is outside the box. With `tight`, `Claim::Loose` if the box is loose.
 #[inline(always)]
 pub fn judge_box(head: &Head, extent: &Extent, tight: bool) -> Option<FalseClaim>
     requires precisions { HavePrecisions (precisions_of head.now) }
@@ -87,7 +87,7 @@ pub fn judge_box(head: &Head, extent: &Extent, tight: bool) -> Option<FalseClaim
     }
 }
 
-/// The claim that the box isn't loose, if it is loose at the precisions of its header.
+/// `Claim::Loose`, if the box is loose at the precisions of its header.
 #[inline(always)]
 fn judge_tight(head: &Head, field: &BoxField, extent: &Extent) -> Option<FalseClaim>
     requires precisions { HavePrecisions (precisions_of head.now) }
@@ -98,7 +98,7 @@ fn judge_tight(head: &Head, field: &BoxField, extent: &Extent) -> Option<FalseCl
     claimed(hugs, field.offset, Claim::Loose)
 }
 
-/// The claim, if it is false.
+/// A false claim at the offset, or `None` if the claim holds.
 #[inline(always)]
 pub fn claimed(holds: bool, offset: usize, claim: Claim) -> Option<FalseClaim>
     ensures { named result ≡ false_at holds offset (number_of claim) }

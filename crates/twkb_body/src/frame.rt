@@ -7,7 +7,7 @@ ghost use Rattle.twkb_body.specs.Devices.Walk.{precisions_of};
 
 use twkb_head::{Axes, Bounds, Head, RawBox, RawRange};
 
-/// A box of raw numbers, and the precision of each axis that there is.
+/// A box of raw numbers, and the precision of each axis that it has.
 #[derive(Clone, Copy, Debug)]
 pub struct Frame {
     pub xy: i8,
@@ -19,8 +19,8 @@ pub struct Frame {
 impl Frame {
     /// The frame of a geometry: its own box or, if it has none, the frame above. `Some(None)` if neither is there.
     ///
-    /// `None` if a frame doesn't tell enough, and the geometry has to be read apart: its box has numbers far from zero or a
-    /// negative extent, or the frame above has other axes or precisions, or doesn't contain the box.
+    /// `None` if the geometry has to be read by [`sure/apart`](crate::sure): its own box has numbers far from zero or a negative
+    /// extent, or the frame above has other axes or precisions, or doesn't contain that box.
     #[inline(always)]
     pub fn under(above: &Option<Frame>, head: &Head, own: &Option<RawBox>) -> Option<Option<Frame>>
         requires near { IfSome above.now IsNearFrame }
@@ -78,8 +78,7 @@ impl Frame {
     }
 }
 
-/// The frame of a geometry with Z or M. `None` if it can't be told, or if the extended dimensions byte announces neither.
-// Points of X and Y are read in one place, which is inlined into its caller.
+/// The frame of a geometry with Z or M. `None` if [`Frame::under`] returns `None`, or if the header has neither.
 #[inline(always)]
 pub fn further_frame(
     above: &Option<Frame>,
@@ -102,7 +101,7 @@ pub fn further_frame(
 fn is_near_box(bounds: &RawBox) -> bool
     ensures { IsTrue result → (z m : Option ℕ) → IsNear z m bounds.now }
 {
-    // One comparison for all numbers: if one of them is far from zero, there is a high bit.
+    // One comparison for all numbers: one that is far from zero sets a bit at or above 2^60.
     let all = bits_of(&bounds.x)
         | bits_of(&bounds.y)
         | bits_of(&bounds.third)
@@ -110,7 +109,7 @@ fn is_near_box(bounds: &RawBox) -> bool
     all < 1 << 60
 }
 
-/// A number below 2^60 if a range isn't empty and its minimum and its extent are near zero.
+/// The bits of both numbers. If the result is below 2^60, the range isn't empty, and its minimum and extent are near zero.
 #[inline(always)]
 fn bits_of(range: &RawRange) -> u64
     ensures { result < 2 ^ 60 → IsNearRange range.now }
@@ -118,7 +117,7 @@ fn bits_of(range: &RawRange) -> u64
     range.minimum.wrapping_add(1 << 59).cast_unsigned() | range.extent.cast_unsigned()
 }
 
-/// Whether one box lies in another, which is near, in each axis that the header has.
+/// Whether `inner` lies in `outer`, in each axis that the header has.
 #[inline(always)]
 fn lies_in_all(head: &Head, inner: &RawBox, outer: &RawBox) -> bool
     requires near { IsNear head.now.z head.now.m outer.now }
@@ -149,7 +148,8 @@ fn lies_in_further(inner: &RawBox, outer: &RawBox) -> bool
     lies_in(&inner.third, &outer.third) && lies_in(&inner.fourth, &outer.fourth)
 }
 
-/// Whether one range isn't empty, and lies in another, which is near. Distances are compared as numbers without sign.
+/// Whether `inner` isn't empty, and lies in `outer`.
+// Distances are compared as unsigned numbers, in which a negative one is very great.
 #[inline(always)]
 fn lies_in(inner: &RawRange, outer: &RawRange) -> bool
     requires { IsNearRange outer.now }

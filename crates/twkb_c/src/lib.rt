@@ -1,7 +1,7 @@
 //! The library for C, and for languages that can call C. `bindings/c/twkb.h` declares it.
 //!
-//! A call takes a slice as a pointer and a length. It keeps no pointer, has no state and frees the memory that it allocates, so
-//! any number of threads may call at once.
+//! A call takes a slice as a pointer and a length. No call keeps a pointer or a state, and each frees the memory that it allocates,
+//! so any number of threads may call at once.
 #![tactic(auto)]
 
 ghost use Rattle.std.specs.Prelude.{◌≡◌, ◌≢◌, ◌+◌, ◌*◌, ◌<◌, ◌≤◌, if◌then◌else◌, true, false, List, length, map, take, sum_by, ◌⊎◌};
@@ -37,7 +37,7 @@ pub extern "C" fn twkb_certify(alloc: Global, bytes: &[u8]) -> Verdict
     twkb_call::certify(&mut &alloc, bytes)
 }
 
-/// Certifies the bytes as a layer without a loose box. The answers are those of `twkb_certify`.
+/// Certifies the bytes as a layer without a loose box. The answer is 0, 1 or 2, as of `twkb_certify`.
 #[unsafe(no_mangle)]
 pub extern "C" fn twkb_certify_tight(alloc: Global, bytes: &[u8]) -> Verdict
     ensures says { Says IsTightlyTrue result bytes.now }
@@ -140,8 +140,8 @@ pub extern "C" fn twkb_directory_scan(
 /// Scans for one window after another, each as `twkb_directory_scan` does, until the hits of one don't fit any more. Returns
 /// how many windows it answered: all, or those before that one.
 ///
-/// The hits of the windows are written to `room` one after another, and what a scan says of each window to `scanned`, as many
-/// as fit. The window whose hits don't fit is among them: `scanned` says how many it has, and as many as fit are in `room`.
+/// The hits go to `room`, window after window, and the result of each scan goes to `scanned`, if there is a place left. The window
+/// whose hits don't fit is written too: its result has the full number of its hits, and `room` has the hits that fit.
 #[unsafe(no_mangle)]
 pub extern "C" fn twkb_directory_scan_many(
     layer: &Layer,

@@ -1,4 +1,4 @@
-//! Scans of layers for a window, whose hits are put into memory that the caller lends.
+//! Scans of a layer for a window. The hits are written to memory that the caller lends.
 ghost use Rattle.std.specs.Prelude.{◌≡◌, length, map, sum_by};
 ghost use Rattle.twkb_num.specs.Cursor.{added};
 ghost use Rattle.twkb_layer.specs.Hits.{hits, found_blobs, cost, filled};
@@ -42,7 +42,7 @@ impl FromFound for Hit {
 pub struct Scanned {
     /// How many blobs have a vertex inside the window.
     pub hits: usize,
-    /// How many bytes it read.
+    /// How many bytes the scan read.
     pub bytes_read: u64,
 }
 

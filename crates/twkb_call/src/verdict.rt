@@ -34,8 +34,8 @@ const SIZE: usize = std::mem::size_of::<Verdict>();
 const _: () = prove!(SIZE == 40);
 
 /// Certifies the bytes as a layer, with an allocator or with a buffer for the ids of a list, which it overwrites, and no other memory.
-/// The verdict is "out of memory" only if a list has more than sixteen ids; with a buffer, if the list has more ids than the buffer
-/// has places, which no clause says.
+/// The verdict is "out of memory" only if a list has more than sixteen ids and, with a buffer, more than the buffer has places.
+/// The contract promises the first of these alone.
 pub fn certify<R: AuditRoom>(room: &mut R, bytes: &[u8]) -> Verdict
     ensures says { Says IsTrueClaim result bytes.now }
     ensures complete { (trees : List Geometry) → IsCertifiedLayer trees bytes.now

@@ -18,7 +18,7 @@ use twkb_body::{Span, vertex_at};
 use twkb_head::{Axes, RawBox, RawRange};
 use twkb_num::units;
 
-/// The ends of a range in raw integers at some precision, as far as 64 bits go.
+/// The ends of a range in raw integers at some precision. An end beyond 64 bits is the nearest number of 64 bits.
 #[derive(Clone, Copy, PartialEq)]
 pub struct RawEnds {
     pub least: i64,
@@ -38,7 +38,7 @@ impl RawEnds {
         }
     }
 
-    /// The ends of a range in units at the finest precision, at which a number is a unit, if they have 64 bits.
+    /// The ends of a range at the finest precision, at which a raw integer is a unit. `None` if one doesn't fit 64 bits.
     pub fn finest(range: &Span) -> Option<RawEnds>
         ensures { IfSome result (IsExactEnds (pos 7) range.now) }
     {
@@ -59,7 +59,7 @@ impl RawEnds {
         }
     }
 
-    /// The ends at each precision whose unit is greater than both: 0, or the number next to 0 if the range doesn't reach it.
+    /// The ends at each precision whose unit is greater than both: 0, or 1 or -1 if the range stops short of 0.
     /// They don't change at coarser precisions.
     #[inline(always)]
     fn coarsest(&self) -> RawEnds
@@ -71,7 +71,7 @@ impl RawEnds {
         }
     }
 
-    /// Whether a range, from its first number to its second, has no number in common with the window's.
+    /// Whether the range from `range.0` to `range.1` has no number in common with this one.
     #[inline(always)]
     pub fn misses(&self, range: (i64, i64)) -> bool
         ensures { result ≡ raw_range_misses self.now range }
@@ -88,7 +88,7 @@ pub struct RawWindow {
 }
 
 impl RawWindow {
-    /// What a table has before it is filled.
+    /// What [`fill_raws`] replaces.
     #[inline(always)]
     pub fn nowhere() -> RawWindow {
         let nowhere = RawEnds {
@@ -191,7 +191,7 @@ impl<'w> RawWindows<'w> {
         raw.x.misses(x.ends())
     }
 
-    /// Whether the box misses the window in Z or in M.
+    /// Whether the box misses the window in Z or in M. A box with neither doesn't.
     #[inline(always)]
     fn misses_in_z_or_m(&self, axes: Axes, b: RawBox) -> bool
         requires { HavePrecisions axes }
@@ -203,7 +203,7 @@ impl<'w> RawWindows<'w> {
         self.misses_in_z_or_m_in_units(axes, b)
     }
 
-    /// As `misses_in_z_or_m`, by ranges converted to units.
+    /// Converts the box to units, and compares Z and M, for `misses_in_z_or_m`.
     #[inline(never)]
     fn misses_in_z_or_m_in_units(&self, axes: Axes, b: RawBox) -> bool
         requires { HavePrecisions axes }
@@ -213,7 +213,8 @@ impl<'w> RawWindows<'w> {
         self.window.misses_in_z_or_m(bounds.z, bounds.m)
     }
 
-    /// Whether a vertex in raw numbers is inside. X and Y are compared in raw numbers, unless one is an end of 64 bits.
+    /// Whether a vertex in raw numbers is inside. X and Y are compared in raw numbers, unless one is `i64::MIN` or
+    /// `i64::MAX`.
     #[inline(always)]
     pub fn holds(&self, axes: Axes, point: &[i64; 4]) -> bool
         requires { HavePrecisions axes }
@@ -232,8 +233,8 @@ impl<'w> RawWindows<'w> {
             || self.holds_in_units(axes.xy, axes.z, axes.m, x, y, point[2], point[3])
     }
 
-    /// Whether a vertex in raw numbers is inside, compared in units. `holds` asks this if X or Y is an end of 64 bits, and if the window
-    /// has a range in Z or M.
+    /// Whether a vertex in raw numbers is inside, compared in units. `holds` calls this if X or Y is `i64::MIN` or `i64::MAX`, or
+    /// if the window has a range in Z or M.
     // It takes neither an array nor a struct, so that a point that is compared in raw numbers stays in registers.
     #[inline(never)]
     fn holds_in_units(
@@ -265,7 +266,7 @@ impl<'w> RawWindows<'w> {
     }
 }
 
-/// Converts a window, once a scan: `raws` becomes the window in raw integers at each precision, by the codes of precisions.
+/// Converts a window, once per scan: `raws` becomes the window in raw integers at each precision, by the codes of precisions.
 // The table is filled in place, since a scan of one blob takes a tenth longer with a copy of it.
 #[inline(always)]
 pub fn fill_raws(window: &Window, raws: &mut [RawWindow; 16])
@@ -277,7 +278,7 @@ pub fn fill_raws(window: &Window, raws: &mut [RawWindow; 16])
     }
 }
 
-/// Makes each window from the one at the next finer precision, down to the precision from which on it doesn't change. A
+/// Makes each window from the one at the next finer precision, until it no longer changes. A
 /// division by ten is a multiplication, so this takes a fraction of the time of [`fill_by_divisions`].
 #[inline(always)]
 fn fill_by_tenths(finest: RawWindow, raws: &mut [RawWindow; 16])
@@ -323,8 +324,8 @@ fn tenth_down(number: i64) -> i64
     if rest < 0 { tenth - 1 } else { tenth }
 }
 
-/// Whether a coordinate of a vertex is neither the least nor the greatest number of 64 bits. Only such a coordinate is compared with
-/// raw windows: an end of a window that is beyond 64 bits is kept as the least or the greatest number.
+/// Whether a coordinate is neither `i64::MIN` nor `i64::MAX`. Only such a coordinate is compared with raw windows: an end of a
+/// window that is beyond 64 bits is kept as `i64::MIN` or `i64::MAX`.
 #[inline(always)]
 fn is_inner(number: i64) -> bool
     ensures { result ≡ true → IsInner number }
@@ -332,7 +333,7 @@ fn is_inner(number: i64) -> bool
     i64::MIN < number && number < i64::MAX
 }
 
-/// The least of the numbers that are no less than `lo` in units, as far as 64 bits go.
+/// The least raw integer that is at least `lo` in units, or the nearest number of 64 bits.
 fn least_from(lo: i128, unit: i128) -> i64
     requires { pos 0 <ℤ unit }
     ensures { (c : ℤ) → IsInner c → int_lt (c *ℤ unit) lo ≡ int_lt c result }
@@ -345,7 +346,7 @@ fn least_from(lo: i128, unit: i128) -> i64
     }
 }
 
-/// The greatest of the numbers that are no more than `hi` in units, as far as 64 bits go.
+/// The greatest raw integer that is at most `hi` in units, or the nearest number of 64 bits.
 fn greatest_to(hi: i128, unit: i128) -> i64
     requires { pos 0 <ℤ unit }
     ensures { (c : ℤ) → IsInner c → int_lt hi (c *ℤ unit) ≡ int_lt result c }
@@ -374,7 +375,7 @@ fn divided(number: i128, unit: i128) -> (i128, i128)
     }
 }
 
-/// The number, or the end of 64 bits that is nearest. It compares as before with the numbers between these ends.
+/// The nearest number of 64 bits. Numbers between `i64::MIN` and `i64::MAX` are below it or above it as they were before.
 fn in_64_bits(number: i128) -> i64
     ensures below { (c : ℤ) → IsInner c → int_lt c number ≡ int_lt c result }
     ensures above { (c : ℤ) → IsInner c → int_lt number c ≡ int_lt result c }

@@ -1,4 +1,4 @@
-//! [`TextReader`], which reads the parts of a window's text.
+//! [`TextReader`], which reads the text of a window or of a decimal, piece by piece.
 ghost use Rattle.std.specs.Prelude.{◌≡◌, ◌-◌, ◌*◌, ◌^◌, ◌<◌, ◌≤◌, ℕ, true, false, List, [], ◌++◌, take, drop, length, Option, Some, None, IfSome, unsigned_abs};
 ghost use Rattle.std.specs.Bool.{OnTrue, OnFalse};
 ghost use Rattle.std.specs.Str.Parse.{digits_value, AllDigits};
@@ -58,7 +58,7 @@ impl<'t> TextReader<'t> {
         }
     }
 
-    /// Reads two numbers, with two points between them.
+    /// Reads two numbers, separated by `..`.
     fn span(&mut self) -> Option<Span>
         ensures some { IfSome result (Passes IsRangeText self.old self.new) }
         ensures exact { ReadsEach IsRangeText self.old self.new result }
@@ -98,7 +98,7 @@ impl<'t> TextReader<'t> {
         )
     }
 
-    /// Reads a point and the digits after it, or nothing if no digit follows a point.
+    /// Reads a `.` and the digits after it. If the text doesn't begin with a `.` and a digit, it reads nothing.
     pub fn fraction(&mut self) -> &'t [u8]
         ensures parts { self.old ≡ point_and result.now ++ self.new }
         ensures digits { AllDigits 10 result.now }
@@ -139,7 +139,7 @@ impl<'t> TextReader<'t> {
     }
 }
 
-/// Whether the text begins with a point and a digit.
+/// Whether the text begins with a `.` and a digit.
 fn has_fraction(text: &[u8]) -> bool
     ensures { result ≡ starts_fraction text.now }
 {
@@ -160,7 +160,7 @@ fn count_digits(text: &[u8]) -> usize
     text.len()
 }
 
-/// The number that digits write.
+/// The value of decimal digits.
 fn digits_value(digits: &[u8]) -> u128
     requires digits { AllDigits 10 digits.now }
     requires few { length digits.now ≤ 27 }
@@ -173,7 +173,7 @@ fn digits_value(digits: &[u8]) -> u128
     value
 }
 
-/// How many units one is in the last of `digits` digits after the point.
+/// How many units a 1 is worth in the last of `digits` places after the `.`.
 fn place_value(digits: usize) -> u128
     requires { digits ≤ 7 }
     ensures { result ≡ 10 ^ (7 - digits) }

@@ -25,7 +25,7 @@ ghost use Rattle.twkb_call.specs.Window.{ranges_of, span_from};
 use twkb_call::{Hit, Layer, Point, Range, Row, Scanned, Verdict, Window};
 
 /// Certifies the bytes as a layer, with a buffer for the ids of a list. The verdict is "out of memory" only if a list has more than
-/// sixteen ids: if it has more than the buffer has places, which no clause says.
+/// sixteen ids, and more than the buffer has places. The contract promises the first of these alone.
 #[unsafe(no_mangle)]
 pub extern "C" fn twkb_certify(bytes: &[u8], mut ids: &mut [i64]) -> Verdict
     ensures says { Says IsTrueClaim result bytes.now }
@@ -99,7 +99,7 @@ pub extern "C" fn twkb_scan(layer: &Layer, window: &Window, room: &mut [Hit]) ->
     twkb_call::scan(layer, window, room)
 }
 
-/// Writes X and Y of each vertex to `room`, in reading order, as many as fit, and returns how many vertices there are.
+/// Writes X and Y of each vertex, in units, to `room`, in reading order, as many as fit, and returns how many vertices there are.
 #[unsafe(no_mangle)]
 pub extern "C" fn twkb_draw(layer: &Layer, room: &mut [Point]) -> usize
     requires { IsCounted layer.now.bytes.now layer.now.blobs layer.now.vertices }

@@ -24,7 +24,7 @@ pub struct Eight {
 }
 
 impl Four {
-    /// The numbers, two by two.
+    /// The four numbers, widened to 64 bits, as two pairs.
     #[inline(always)]
     pub(super) fn two_pairs(self) -> ((i64, i64), (i64, i64))
         ensures { map (cast_signed w32) self.lanes ≡ (result.0).0 ∷ (result.0).1 ∷ (result.1).0 ∷ (result.1).1 ∷ [] }
@@ -46,8 +46,8 @@ fn signed_lane(lane: u32) -> i64
 }
 
 impl<'a> Cursor<'a> {
-    /// Reads the four signed varints at the place, if each takes at most four bytes and 32 bytes are left. Otherwise `is_read` is
-    /// false: it has read nothing, and the lanes are zero.
+    /// Reads the four signed varints at the place, if each takes at most four bytes and 32 bytes are left. Otherwise it reads
+    /// nothing: `is_read` is false, and the lanes are zero.
     #[inline(always)]
     pub fn svarint_four(&mut self) -> Four
         ensures some { IsTrue result.is_read
@@ -74,7 +74,8 @@ impl<'a> Cursor<'a> {
         }
     }
 
-    // The two signed varints at the place, if each takes at most four bytes and sixteen bytes are left.
+    /// Reads the two signed varints at the place, if each takes at most four bytes and sixteen bytes are left. Otherwise it reads
+    /// nothing.
     #[inline(always)]
     pub(super) fn lane_pair(&mut self) -> Option<(i64, i64)>
         ensures { ReadsPair 16 self.old self.new result }
@@ -91,8 +92,8 @@ impl<'a> Cursor<'a> {
         Some(four.two_pairs().0)
     }
 
-    /// Reads the eight signed varints at the place, if each takes at most two bytes and 32 bytes are left. Otherwise `is_read` is
-    /// false: it has read nothing, and the lanes are zero.
+    /// Reads the eight signed varints at the place, if each takes at most two bytes and 32 bytes are left. Otherwise it reads
+    /// nothing: `is_read` is false, and the lanes are zero.
     #[inline(always)]
     pub fn svarint_eight(&mut self) -> Eight
         ensures some { IsTrue result.is_read

@@ -64,7 +64,8 @@ pub fn push_hit_line<A: Allocator>(out: &mut Vec<u8, A>, hit: &Hit) -> Result<()
     push_text(out, "\n")
 }
 
-/// Pushes the line after the hits of a window: how many hits there are, and how many bytes of how many were read.
+/// Pushes the line after the hits of a window: how many hits there are, how many bytes were read, and how many the
+/// file has.
 #[tactic(auto, unfolding(crate::specs::Output::end_line))]
 pub fn push_end_line<A: Allocator>(
     out: &mut Vec<u8, A>,
@@ -118,7 +119,7 @@ fn name_of(kind: Kind) -> &'static str
     }
 }
 
-/// `yes` or `no`.
+/// `yes` if true, else `no`: for whether a blob has a size, or a box.
 #[tactic(auto, unfolding(crate::specs::Output::yes_no))]
 fn yes_no(is: bool) -> &'static str
     ensures { result.now ≡ yes_no is }
