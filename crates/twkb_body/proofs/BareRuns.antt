@@ -15,14 +15,14 @@ use Rattle.twkb_head.proofs.Steps.{read_number, read_signed, coordinate_ok, fits
 use Rattle.twkb_body.specs.declared.trail.Trail.{Trail}
 use Rattle.twkb_body.specs.Devices.Bare.{unchanged}
 use Rattle.twkb_body.specs.Geometry.{PointValue, Ring, PolygonValue, points_of}
-use Rattle.twkb_body.specs.Devices.Body.{first_of, behind, add, sums, ring_sums, zeros, part_points}
+use Rattle.twkb_body.specs.Devices.Body.{first_of, behind, add, sums, ring_sums, zeros}
 use Rattle.twkb_body.specs.Devices.BodyReader.{point_at, ring_at, polygon_at, part_at}
 use Rattle.twkb_body.specs.Devices.Sure.{ReadParts}
 use Rattle.twkb_body.specs.Devices.Walk.{no_points, HaveAxes, IsWalked}
 use Rattle.twkb_body.proofs.Coordinates.{coordinate_ahead}
 use Rattle.twkb_body.proofs.FlatRuns.{has_64_bits}
 use Rattle.twkb_body.proofs.Walks.{number_ahead, walked_from, IsWalkLoop, walk_begins, walk_goes_on, walk_ends, counted_ends, ring_points, rings_are_sums}
-use Rattle.twkb_body.proofs.Sums.{rings_sums_flat}
+use Rattle.twkb_body.proofs.Sums.{part_points, rings_sums_flat}
 
 -- a sum of this many numbers of seven bytes, each at most 2^48 from zero
 abbrev pub IsInSteps : ℕ → ℤ → Type 0

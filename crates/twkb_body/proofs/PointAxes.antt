@@ -6,13 +6,14 @@ use Rattle.twkb_head.specs.declared.kinds.Kind.TheVariants.{Point, LineString, P
 use Rattle.twkb_head.specs.Shared.Reader.{Answer, Reader, ◌>>=◌, viewed, number_at, coordinate_at, many_at}
 use Rattle.twkb_head.proofs.Readings.{ok_not_err}
 use Rattle.twkb_body.specs.Geometry.{PointValue, PolygonValue, points_of}
-use Rattle.twkb_body.specs.Devices.Body.{first_of, behind, add, sums, ring_sums, part_points}
+use Rattle.twkb_body.specs.Devices.Body.{first_of, behind, add, sums, ring_sums}
 use Rattle.twkb_body.specs.Devices.BodyReader.{point_at, prefixed_at, ring_at, polygon_at, part_at}
 use Rattle.twkb_body.specs.Devices.Walk.{HaveAxes}
 use Rattle.twkb_body.proofs.PartPlans.{flat_single}
 use Rattle.twkb_body.proofs.RefutedBodies.{viewed_back}
 use Rattle.twkb_body.proofs.Runs.{values_of}
 use Rattle.twkb_body.proofs.Walks.{HaveAxes-append, one_point, ring_points}
+use Rattle.twkb_body.proofs.Sums.{part_points}
 
 -- of many values that are read, each was read from some state
 module _ {A S : Type 0} (after : S → A → S) (each : S → Reader A) where

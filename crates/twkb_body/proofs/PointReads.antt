@@ -1,9 +1,9 @@
--- What readers of points read: counts, rings, polygons and parts, from what they read of each part.
-use Rattle.std.proofs.Common.{◌≡◌, ℕ, zero, suc, ◌+◌, ◌-◌, ◌<◌, ◌≤◌, List, [], ◌∷◌, ◌++◌, fold, flat_map, map, replicate, Ok, Err, Option, Some, None, refl, sym, ap, subst, ◌∙◌, arith}
+-- What readers of points read, or can read: counts, rings, polygons and parts, from what they read of each part.
+use Rattle.std.proofs.Common.{◌≡◌, ℕ, zero, suc, ◌+◌, ◌-◌, ◌<◌, List, [], ◌∷◌, ◌++◌, fold, flat_map, map, replicate, Ok, Err, Option, Some, None, inl, inr, refl, sym, ap, subst, ◌∙◌, arith}
 use Rattle.std.proofs.lemmas.Grind.{flat_map-append}
 use Rattle.std.proofs.lemmas.List.{append-nil, map-id}
 use Rattle.std.proofs.lemmas.List.Sums.{fold-append}
-use Rattle.std.specs.Prelude.{IfSome, ◌⊎◌}
+use Rattle.std.specs.Prelude.{IfSome, ◌⊎◌, Bool, true, false}
 use Rattle.twkb_num.specs.Cursor.{Reading}
 use Rattle.twkb_head.specs.declared.kinds.Kind.{Kind}
 use Rattle.twkb_head.specs.declared.kinds.Kind.TheVariants.{Point, LineString, Polygon, MultiPoint, MultiLineString, MultiPolygon, GeometryCollection}
@@ -13,13 +13,13 @@ use Rattle.twkb_head.proofs.Loops.{first_fails, then_fails}
 use Rattle.twkb_head.proofs.Readings.{ok_not_err}
 use Rattle.twkb_body.specs.declared.trail.Trail.{Trail}
 use Rattle.twkb_body.specs.Geometry.{PointValue, Ring, PolygonValue, points_of}
-use Rattle.twkb_body.specs.Devices.Body.{add, sums, ring_sums, part_points}
+use Rattle.twkb_body.specs.Devices.Body.{add, sums, ring_sums}
 use Rattle.twkb_body.specs.Devices.BodyReader.{point_at, prefixed_at, ring_at, polygon_at, part_at}
-use Rattle.twkb_body.specs.Devices.PointReader.{Stage, on, IsReady, HasRead, Leads, EndsEarly}
+use Rattle.twkb_body.specs.Devices.PointReader.{Stage, on, CanRead, IsBefore, HasRead, Leads, EndsEarly}
 use Rattle.twkb_body.specs.Devices.Walk.{lasts_from, IsWalked}
 use Rattle.twkb_body.proofs.RefutedBodies.{viewed_back}
-use Rattle.twkb_body.proofs.Showing.{is_points, is_lines, is_polygons}
-use Rattle.twkb_body.proofs.Sums.{rings_sums_flat}
+use Rattle.twkb_body.proofs.Settling.{next_read}
+use Rattle.twkb_body.proofs.Sums.{part_points, rings_sums_flat}
 use Rattle.twkb_body.proofs.Walks.{number_ahead, walked_from, IsWalkLoop, walk_begins, walk_goes_on, walk_fails, walk_ends, lasts_from-append}
 
 -- a fault is kept where f is applied to the value of an answer
@@ -33,6 +33,19 @@ point_part p = (p ∷ []) ∷ []
 -- the part that a line is: one ring
 abbrev pub line_part : List PointValue → PolygonValue
 line_part line = line ∷ []
+
+-- ---- the parts of a kind
+is_points : (kind : Kind) (axes : ℕ) → (kind ≡ Point) ⊎ (kind ≡ MultiPoint) → part_at kind axes ≡ (λ (s : PointValue) (r : Reading). viewed point_part (point_at axes s r))
+is_points kind axes (inl e) = ap (λ (k : Kind). part_at k axes) e
+is_points kind axes (inr e) = ap (λ (k : Kind). part_at k axes) e
+
+is_lines : (kind : Kind) (axes : ℕ) → (kind ≡ LineString) ⊎ (kind ≡ MultiLineString) → part_at kind axes ≡ (λ (s : PointValue) (r : Reading). viewed line_part (ring_at axes s r))
+is_lines kind axes (inl e) = ap (λ (k : Kind). part_at k axes) e
+is_lines kind axes (inr e) = ap (λ (k : Kind). part_at k axes) e
+
+is_polygons : (kind : Kind) (axes : ℕ) → (kind ≡ Polygon) ⊎ (kind ≡ MultiPolygon) → part_at kind axes ≡ polygon_at axes
+is_polygons kind axes (inl e) = ap (λ (k : Kind). part_at k axes) e
+is_polygons kind axes (inr e) = ap (λ (k : Kind). part_at k axes) e
 
 -- to read values and make another of each is to read the others
 module _ {A B : Type 0} (f : A → B) (after : PointValue → A → PointValue) (after_f : PointValue → B → PointValue) (each : PointValue → Reader A) (same : (s : PointValue) (x : A) → after s x ≡ after_f s (f x)) where
@@ -90,6 +103,25 @@ polygons_are_parts kind is = record {
     as_it_is : (a : Answer PolygonValue) → viewed (λ polygon. polygon) a ≡ a
     as_it_is (Ok polygon, r) = refl
     as_it_is (Err m, r) = refl
+
+-- if parts can be read, so can the values that they are made of
+pub parts_before : {A S : Type 0} {kind : Kind} {f : A → PolygonValue} {after : PointValue → A → PointValue} {each : ℕ → PointValue → Reader A} {points_in : List A → List PointValue} → AreParts kind f after each points_in
+    → (stands : Stage S → Type 0) (trusts : Bool) (count : ℕ) (from : Reading) (at : Stage S) → IsBefore stands trusts (λ axes. many_at count ring_sums (part_at kind axes)) from at → IsBefore stands trusts (λ axes. many_at count after (each axes)) from at
+parts_before {A} {S} {kind} {f} {after} {each} {points_in} are stands trusts count from at before = record { there = before.there; counted = before.counted; readable = λ t. made (before.readable t) }
+  where
+    made : CanRead (many_at count ring_sums (part_at kind at.axes)) at from → CanRead (many_at count after (each at.axes)) at from
+    made (parts, stop, e) =
+        let x = viewed_back (map f) (many_at count after (each at.axes) at.trail.last from) parts stop ((λ j. are.read at.axes count j at.trail.last from) ∙ e) in
+        (x.0, stop, x.1)
+
+-- before its first point, a reader that doesn't trust the bytes is before any value
+pub none_yet : {A S : Type 0} (stands : Stage S → Type 0) (each : ℕ → PointValue → Reader A) (r : Reading) (at : Stage S) → stands at → at.trail.points ≡ 0 → IsBefore stands false each r at
+none_yet stands each r at there none = record { there = there; counted = omega (arith, none); readable = λ t. absurd (cc (t)) }
+
+-- what is never trusted is not trusted
+pub untrusted : (b : Bool) → (b ≡ true → ⊥) → b ≡ false
+untrusted true not = absurd (not refl)
+untrusted false not = refl
 
 -- a collection has no parts of its own: to read some of them reads nothing
 pub nothing_read : (axes n : ℕ) (s : PointValue) (r : Reading) → many_at n ring_sums (part_at GeometryCollection axes) s r ≡ (Ok (replicate n []), r)
@@ -221,7 +253,10 @@ module _ {S : Type 0} (step : S → PointValue → S) (at : Stage S) where
                 subst (λ (zs : List A). ends (all_from t now.last zs)) b.2 (first x mid one b.0)
 
 -- ---- lists of values, one after another, each after its length
-module _ {S : Type 0} (step : S → PointValue → S) (at : Stage S) {A : Type 0} (after : PointValue → A → PointValue) (each : PointValue → Reader A) (points_in : List A → List PointValue) (count : ℕ) (from : Reading) where
+module _ {S : Type 0} (step : S → PointValue → S) (at : Stage S) {A : Type 0} (after : PointValue → A → PointValue) (value : ℕ → PointValue → Reader A) (points_in : List A → List PointValue) (count : ℕ) (from : Reading) where
+  abbrev each : PointValue → Reader A
+  each = value at.axes
+
   abbrev list_after : PointValue → List A → PointValue
   list_after s xs = sums s (points_in xs)
 
@@ -230,6 +265,10 @@ module _ {S : Type 0} (step : S → PointValue → S) (at : Stage S) {A : Type 0
 
   abbrev lists : PointValue → Reader (List (List A))
   lists = many_at count list_after a_list
+
+  -- a reader is before all lists
+  abbrev pub AreBefore : (Stage S → Type 0) → Bool → Type 0
+  AreBefore stands trusts = IsBefore stands trusts (λ axes. many_at count list_after (prefixed_at after (value axes))) from at
 
   abbrev points_in_lists : List (List A) → List PointValue
   points_in_lists xss = flat_map points_in xss
@@ -244,11 +283,26 @@ module _ {S : Type 0} (step : S → PointValue → S) (at : Stage S) {A : Type 0
   pub lists_begin : (stands : Stage S → Type 0) → stands at → HasReadLists stands 0 from
   lists_begin stands there = record { trail = at.trail; state = at.state; there = there; loop = walk_begins step at.axes list_after a_list points_in (λ s xs. refl) count at.trail at.state from }
 
-  -- no more points than bytes, after a length too
-  pub lists_ready : (stands : Stage S → Type 0) (i : ℕ) (r mid : Reading) (n : ℕ) → at.trail.points ≤ from.place → number_at r ≡ (Ok n, mid) → HasReadLists stands i r → IsReady stands mid
-  lists_ready stands i r mid n few counted h =
-      let ahead = number_ahead n r mid counted in
-      (on at h.trail h.state, h.there, omega (arith, few, ahead, h.loop.walked.points, h.loop.walked.ahead))
+  -- if all lists can be read, the next one can
+  next_list : (i : ℕ) (now : Trail) (t : S) (r : Reading) → i < count → IsWalkLoop step at.axes list_after a_list points_in (λ s xs. refl) count at.trail at.state from i now t r → CanRead lists at from → CanRead a_list (on at now t) r
+  next_list i now t r lt l (xss, stop, e) = next_read list_after a_list count (lists at.trail.last from) l.front i now.last r stop xss e lt l.read
+
+  module _ (old : Stage S → Type 0) (trusts : Bool) (before : AreBefore old trusts) (stands : Stage S → Type 0) (i : ℕ) (r mid : Reading) (lt : i < count) (h : HasReadLists stands i r) where
+    -- after its length, the values of a list are next
+    pub values_before : (n : ℕ) → number_at r ≡ (Ok n, mid) → IsBefore stands trusts (λ axes. many_at n after (value axes)) mid (on at h.trail h.state)
+    values_before n counted =
+        let ahead = number_ahead n r mid counted in
+        record {
+          there = h.there;
+          counted = omega (arith, before.counted, ahead, h.loop.walked.points, h.loop.walked.ahead);
+          readable = λ t. let list = next_list i h.trail h.state r lt h.loop (before.readable t) in (list.0, list.1, sym (ap (λ (a : Answer ℕ). a >>= λ n. many_at n after each h.trail.last) counted) ∙ list.2);
+        }
+
+    -- where a length is malformed, the bytes aren't trusted
+    pub length_untrusted : (m : Malformed) → number_at r ≡ (Err m, mid) → trusts ≡ false
+    length_untrusted m failed = untrusted trusts (λ t.
+        let list = next_list i h.trail h.state r lt h.loop (before.readable t) in
+        ok_not_err list.0 m list.1 mid (sym list.2 ∙ ap (λ (a : Answer ℕ). a >>= λ n. many_at n after each h.trail.last) failed))
 
   -- a length was read, and as many values
   pub lists_go_on : (stands next : Stage S → Type 0) (i : ℕ) (r mid new : Reading) (n : ℕ) → i < count → (h : HasReadLists stands i r) → number_at r ≡ (Ok n, mid) → HasRead (many_at n after each) points_in step next (on at h.trail h.state) mid new

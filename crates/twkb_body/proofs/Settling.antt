@@ -1,8 +1,9 @@
--- Points that are known to be read are passed as numbers: by their ends, or a number by itself.
-use Rattle.std.proofs.Common.{◌≡◌, ℕ, zero, suc, ◌+◌, ◌-◌, ◌*◌, ◌^◌, ◌<◌, ◌≤◌, Bool, true, false, List, [], ◌∷◌, ◌++◌, length, length-append, fold, ℤ, ◌+ℤ◌, Ok, Err, refl, ap, sym, subst, ◌∙◌, arith}
+-- Points that can be read are passed as numbers: by their ends, or a number by itself. Points that change no state may be passed.
+use Rattle.std.proofs.Common.{◌≡◌, ℕ, Option, Some, None, zero, suc, ◌+◌, ◌-◌, ◌*◌, ◌^◌, ◌<◌, ◌≤◌, Bool, true, false, List, [], ◌∷◌, ◌++◌, length, length-append, fold, ℤ, ◌+ℤ◌, Ok, Err, refl, ap, sym, subst, ◌∙◌, arith}
 use Rattle.twkb_num.specs.Cursor.{Reading, passed, IsMoved, IsSound}
 use Rattle.twkb_num.specs.Varint.{SpellsAll, SpellsMany, zigzag_value}
 use Rattle.twkb_num.proofs.CursorLemmas.{IsMoved-here, IsMoved-after, IsSound-moved}
+use Rattle.twkb_head.specs.Header.{axes_with}
 use Rattle.twkb_head.specs.Shared.Plan.{fits}
 use Rattle.twkb_head.specs.Shared.Reader.{Answer, Reader, ◌>>=◌, viewed, many_at, coordinate_at, signed_at, Fails}
 use Rattle.twkb_head.specs.declared.refusal.Malformed.{Malformed}
@@ -15,8 +16,7 @@ use Rattle.twkb_body.specs.declared.trail.Trail.{Trail}
 use Rattle.twkb_body.specs.Geometry.{PointValue}
 use Rattle.twkb_body.specs.Devices.Body.{first_of, behind, add, sums}
 use Rattle.twkb_body.specs.Devices.BodyReader.{point_at, NumbersLead}
-use Rattle.twkb_body.specs.Devices.Walk.{HaveAxes, lasts_from, IsWalked, IsRun, IsStill}
-use Rattle.twkb_body.specs.Devices.Showing.{Progress, at, Showing, Knows, IsShown, Shows}
+use Rattle.twkb_body.specs.Devices.Walk.{HaveAxes, lasts_from, IsRun, IsStill}
 use Rattle.twkb_body.proofs.BareRuns.{peel, moved_none}
 use Rattle.twkb_body.proofs.Coordinates.{coordinate_ahead}
 use Rattle.twkb_body.proofs.Runs.{values_of, goes_far}
@@ -198,29 +198,30 @@ point_is (suc axes) s r mid p e = go (λ q cs is. point_is axes (behind s) q mid
     go more (Err m, q) is e = absurd (ok_not_err p m mid q (sym e))
     go more (Ok z, q) is e = others more z q (coordinate_ahead (first_of s) z r q is) (Others q) refl e
 
-record ArePoints (axes : ℕ) (r stop : Reading) (ps : List PointValue) : Type 0 where
+record ArePoints (axes count : ℕ) (r stop : Reading) (ps : List PointValue) : Type 0 where
+  number : length ps ≡ count
   have : HaveAxes axes ps
   ahead : length ps + r.place ≤ stop.place
 
-points_are : (axes count : ℕ) (s : PointValue) (r stop : Reading) (ps : List PointValue) → 1 ≤ axes → many_at count add (point_at axes) s r ≡ (Ok ps, stop) → ArePoints axes r stop ps
+points_are : (axes count : ℕ) (s : PointValue) (r stop : Reading) (ps : List PointValue) → 1 ≤ axes → many_at count add (point_at axes) s r ≡ (Ok ps, stop) → ArePoints axes count r stop ps
 points_are axes zero s r stop ps some e =
     let here : r.place ≡ stop.place = ap (λ (a : Answer (List PointValue)). a.1.place) e in
     let none : [] ≡ ps = ap values_of e in
-    subst (ArePoints axes r stop) none (record { have = tt; ahead = omega (arith, here) })
+    subst (ArePoints axes 0 r stop) none (record { number = refl; have = tt; ahead = omega (arith, here) })
 points_are axes (suc count) s r stop ps some e = go (λ x q xs is. points_are axes count (add s x) q stop xs some is) (point_at axes s r) refl e
   where
     Others : PointValue → Reader (List PointValue)
     Others x = many_at count add (point_at axes) (add s x)
 
-    others : ((x : PointValue) (q : Reading) (xs : List PointValue) → Others x q ≡ (Ok xs, stop) → ArePoints axes q stop xs) → (x : PointValue) (q : Reading) → IsPoint axes r q x → (b : Answer (List PointValue)) → Others x q ≡ b → viewed (λ xs. x ∷ xs) b ≡ (Ok ps, stop) → ArePoints axes r stop ps
+    others : ((x : PointValue) (q : Reading) (xs : List PointValue) → Others x q ≡ (Ok xs, stop) → ArePoints axes count q stop xs) → (x : PointValue) (q : Reading) → IsPoint axes r q x → (b : Answer (List PointValue)) → Others x q ≡ b → viewed (λ xs. x ∷ xs) b ≡ (Ok ps, stop) → ArePoints axes (suc count) r stop ps
     others more x q one (Err m, t) is e = absurd (ok_not_err ps m stop t (sym e))
     others more x q one (Ok xs, t) is e =
         let at : t ≡ stop = ap (λ (a : Answer (List PointValue)). a.1) e in
         let whole : x ∷ xs ≡ ps = ap values_of e in
         let further = more x q xs (is ∙ ap (λ (y : Reading). (Ok xs, y)) at) in
-        subst (ArePoints axes r stop) whole (record { have = (one.number, further.have); ahead = omega (arith, one.ahead, further.ahead, some) })
+        subst (ArePoints axes (suc count) r stop) whole (record { number = ap suc further.number; have = (one.number, further.have); ahead = omega (arith, one.ahead, further.ahead, some) })
 
-    go : ((x : PointValue) (q : Reading) (xs : List PointValue) → Others x q ≡ (Ok xs, stop) → ArePoints axes q stop xs) → (a : Answer PointValue) → point_at axes s r ≡ a → (a >>= λ x q. viewed (λ xs. x ∷ xs) (Others x q)) ≡ (Ok ps, stop) → ArePoints axes r stop ps
+    go : ((x : PointValue) (q : Reading) (xs : List PointValue) → Others x q ≡ (Ok xs, stop) → ArePoints axes count q stop xs) → (a : Answer PointValue) → point_at axes s r ≡ a → (a >>= λ x q. viewed (λ xs. x ∷ xs) (Others x q)) ≡ (Ok ps, stop) → ArePoints axes (suc count) r stop ps
     go more (Err m, q) is e = absurd (ok_not_err ps m stop q (sym e))
     go more (Ok x, q) is e = others more x q (point_is axes s r q x is) (Others x q) refl e
 
@@ -257,11 +258,11 @@ module _ {S : Type 0} (step : S → PointValue → S) (axes : ℕ) where
   trail_after t ps = record { last = sums t.last ps; points = t.points + length ps }
 
   -- if no point changes the state, points that are passed count as shown
-  pub still_walked : (count : ℕ) (t : Trail) (s : S) (r stop : Reading) (ps : List PointValue) → 1 ≤ axes → many_at count add (point_at axes) t.last r ≡ (Ok ps, stop) → IsStill step s
-      → IsWalked step axes t (trail_after t ps) s s r.place stop.place ps
-  still_walked count t s r stop ps some read still =
+  still_run : (count : ℕ) (t : Trail) (s : S) (r stop : Reading) (ps : List PointValue) → 1 ≤ axes → many_at count add (point_at axes) t.last r ≡ (Ok ps, stop) → IsStill step s
+      → IsRun step axes t (trail_after t ps) s s r stop count
+  still_run count t s r stop ps some read still =
       let are = points_are axes count t.last r stop ps some read in
-      record { last = refl; points = refl; added = sym (stays s (lasts_from t.last ps) still); have = are.have; ahead = are.ahead }
+      record { numbers = ps; many = are.number; read = read; walked = record { last = refl; points = refl; added = sym (stays s (lasts_from t.last ps) still); have = are.have; ahead = are.ahead } }
 
   -- a run is the first turns of a loop over more points
   pub run_loop : (count : ℕ) (start now : Trail) (s t : S) (from r : Reading) (i : ℕ) → i ≤ count → (run : IsRun step axes start now s t from r i)
@@ -293,65 +294,29 @@ module _ {S : Type 0} (step : S → PointValue → S) (axes : ℕ) where
         walked = walked_then step axes start now next s t u from.place r.place new.place run.numbers more.numbers run.walked more.walked;
       }
 
-  -- points are shown, one after another
-  abbrev pub run_of : ℕ → Showing (List PointValue) S
-  run_of count = record { each = many_at count add (point_at axes); points_in = λ points. points; step = step; axes = axes }
-
-  -- points that are known are read from the trail, if it isn't lost
-  pub run_read : (count : ℕ) (now : Progress S) → now.lost ≡ false → (k : Knows (run_of count) now) → many_at count add (point_at axes) now.trail.last now.reading ≡ (Ok k.value, k.stop)
-  run_read count now kept k = subst (λ (u : Trail). many_at count add (point_at axes) u.last now.reading ≡ (Ok k.value, k.stop)) (sym (k.follows.kept kept)) k.read
-
-  -- if a run is all of the points, they were shown
-  pub run_whole : (count i : ℕ) (before after : Progress S) → before.lost ≡ false → after.lost ≡ false → i ≡ count → IsRun step axes before.trail after.trail before.state after.state before.reading after.reading i
-      → Shows (run_of count) before after
-  run_whole count i before after kept keeps end run k =
-      let first = many_at count add (point_at axes) before.trail.last before.reading in
-      let same = one_answer first run.numbers k.value after.reading k.stop (ap (λ (n : ℕ). many_at n add (point_at axes) before.trail.last before.reading) (sym end) ∙ run.read) (run_read count before kept k) in
-      record {
-        there = same.1;
-        trail = after.trail;
-        walked = subst (λ (u : Trail). IsWalked step axes u after.trail before.state after.state before.reading.place after.reading.place k.value) (k.follows.kept kept)
-            (subst (IsWalked step axes before.trail after.trail before.state after.state before.reading.place after.reading.place) same.0 run.walked);
-        follows = record { kept = λ is. refl; still = λ lost. absurd (cc (keeps, lost)) };
-      }
-
-  -- the points that are left after a run are read
-  pub run_rest : (count i : ℕ) (before now : Progress S) → before.lost ≡ false → i ≤ count → (k : Knows (run_of count) before) → (run : IsRun step axes before.trail now.trail before.state now.state before.reading now.reading i)
-      → (ys : List PointValue) × (many_at (count - i) add (point_at axes) now.trail.last now.reading ≡ (Ok ys, k.stop)) × (run.numbers ++ ys ≡ k.value)
-  run_rest count i before now kept le k run =
-      rest_read add (point_at axes) count (many_at count add (point_at axes) before.trail.last before.reading) run.numbers i now.trail.last now.reading k.stop k.value (run_read count before kept k)
-      (run_loop count before.trail now.trail before.state now.state before.reading now.reading i le run)
-
   -- the place is after this many points, whatever they are
   abbrev pub ArePassed : ℕ → Reading → Reading → Type 0
   ArePassed count from new = (s : PointValue) (points : List PointValue) (stop : Reading) → many_at count add (point_at axes) s from ≡ (Ok points, stop) → new ≡ stop
 
-  -- if a run was shown and the points after it were passed, all count as shown
-  pub run_passed : (count i : ℕ) (before now : Progress S) (new : Reading) → 1 ≤ axes → before.lost ≡ false → i ≤ count → IsStill step now.state → ArePassed (count - i) now.reading new
-      → IsRun step axes before.trail now.trail before.state now.state before.reading now.reading i → Shows (run_of count) before (at true now.trail now.state new)
-  run_passed count i before now new some kept le still passes run k =
-      let (ys, left, whole) = run_rest count i before now kept le k run in
-      let there = passes now.trail.last ys k.stop left in
-      let after = trail_after now.trail ys in
-      let joined = walked_then step axes before.trail now.trail after before.state now.state now.state before.reading.place now.reading.place k.stop.place run.numbers ys run.walked (still_walked (count - i) now.trail now.state now.reading k.stop ys some left still) in
-      record {
-        there = there;
-        trail = after;
-        walked = subst (λ (u : Trail). IsWalked step axes u after before.state now.state before.reading.place new.place k.value) (k.follows.kept kept)
-            (subst (λ (q : Reading). IsWalked step axes before.trail after before.state now.state before.reading.place q.place k.value) (sym there) (subst (IsWalked step axes before.trail after before.state now.state before.reading.place k.stop.place) whole joined));
-        follows = record { kept = λ keeps. absurd (cc (keeps)); still = λ lost. still };
-      }
+  -- the points that are left after a run can be read
+  pub run_rest : (count i : ℕ) (start now : Trail) (s t : S) (from r stop : Reading) (ps : List PointValue) → i ≤ count → many_at count add (point_at axes) start.last from ≡ (Ok ps, stop) → IsRun step axes start now s t from r i
+      → (ys : List PointValue) × (many_at (count - i) add (point_at axes) now.last r ≡ (Ok ys, stop))
+  run_rest count i start now s t from r stop ps le e run =
+      let rest = rest_read add (point_at axes) count (many_at count add (point_at axes) start.last from) run.numbers i now.last r stop ps e (run_loop count start now s t from r i le run) in
+      (rest.0, rest.1)
 
-  -- if all points were passed, they count as shown
-  pub all_there : (count : ℕ) (now : Progress S) (lost : Bool) (new : Reading) → 1 ≤ axes → lost ≡ true → IsStill step now.state → (k : Knows (run_of count) now) → new ≡ k.stop
-      → IsShown (run_of count) now (at lost now.trail now.state new) k
-  all_there count now lost new some gone still k there = record {
-    there = there;
-    trail = trail_after k.from k.value;
-    walked = subst (λ (q : Reading). IsWalked step axes k.from (trail_after k.from k.value) now.state now.state now.reading.place q.place k.value) (sym there)
-        (still_walked count k.from now.state now.reading k.stop k.value some k.read still);
-    follows = record { kept = λ keeps. absurd (cc (keeps, gone)); still = λ is. still };
-  }
+  -- if a run was shown and the points after it were passed, all are a run
+  pub run_passed : (count i : ℕ) (start now : Trail) (s t : S) (from r new stop : Reading) (ps : List PointValue) → 1 ≤ axes → i ≤ count → many_at count add (point_at axes) start.last from ≡ (Ok ps, stop) → IsStill step t → ArePassed (count - i) r new
+      → IsRun step axes start now s t from r i → (after : Trail) × IsRun step axes start after s t from new count
+  run_passed count i start now s t from r new stop ps some le e still passes run =
+      let (ys, left) = run_rest count i start now s t from r stop ps le e run in
+      let after = trail_after now ys in
+      let all : i + (count - i) ≡ count = omega (arith, le) in
+      let rest = subst (λ (q : Reading). IsRun step axes now after t t r q (count - i)) (sym (passes now.last ys stop left)) (still_run (count - i) now t r stop ys some left still) in
+      (after, subst (IsRun step axes start after s t from new) all (run_then start now after s t t from r new i (count - i) rest run))
 
-  pub all_passed : (count : ℕ) (now : Progress S) (lost : Bool) (new : Reading) → 1 ≤ axes → lost ≡ true → IsStill step now.state → ArePassed count now.reading new → Shows (run_of count) now (at lost now.trail now.state new)
-  all_passed count now lost new some gone still passes k = all_there count now lost new some gone still k (passes k.from.last k.value k.stop k.read)
+pub axes_some : (z m : Option ℕ) → 1 ≤ axes_with z m
+axes_some None None = omega arith
+axes_some None (Some q) = omega arith
+axes_some (Some p) None = omega arith
+axes_some (Some p) (Some q) = omega arith

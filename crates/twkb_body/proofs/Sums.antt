@@ -10,6 +10,10 @@ use Rattle.twkb_body.specs.Begun.{SumsFit}
 use Rattle.twkb_body.specs.Encoding.{total, Accumulates, SameForm}
 use Rattle.twkb_body.specs.Devices.Body.{zeros, first_of, behind, add, sums, ring_sums, place, map_from, absolute}
 
+-- the points of a part, ring after ring
+abbrev pub part_points : PolygonValue → List PointValue
+part_points part = flat_map (λ ring. ring) part
+
 -- the numbers of a point, of points, of rings and of polygons have sums that fit 64 bits
 abbrev pub FitNumber : PointValue → ℤ → Type 0
 FitNumber s z = fits (first_of s +ℤ z) ≡ true

@@ -16,33 +16,34 @@ use Rattle.twkb_body.specs.Devices.Walk.{precisions_of, lasts_from, IsWalk, IsWa
 use Rattle.twkb_body.proofs.PartPlans.{flat_single}
 use Rattle.twkb_body.proofs.Walks.{IsRingLoop, walk_fails, walk_ends, one_point, add_is_sums}
 
-module _ {S : Type 0} (step : Header → S → PointValue → S) where
-  -- a step by a header that is kept beside the state
-  abbrev pub beside : Header × S → PointValue → Header × S
+module _ {H S : Type 0} (step : H → S → PointValue → S) where
+  -- a step by what is kept beside the state, as a header is
+  abbrev pub beside : H × S → PointValue → H × S
   beside s point = (s.0, step s.0 s.1 point)
 
-  fold_beside : (h : Header) (s : S) (points : List PointValue) → fold beside (h, s) points ≡ (h, fold (step h) s points)
+  pub fold_beside : (h : H) (s : S) (points : List PointValue) → fold beside (h, s) points ≡ (h, fold (step h) s points)
   fold_beside h s [] = refl
   fold_beside h s (p ∷ points) = fold_beside h (step h s p) points
 
-  pub walked_beside : (h : Header) (axes : ℕ) (old new : Trail) (s t : S) (p q : ℕ) (points : List PointValue) → IsWalked (step h) axes old new s t p q points → IsWalked beside axes old new (h, s) (h, t) p q points
+  pub walked_beside : (h : H) (axes : ℕ) (old new : Trail) (s t : S) (p q : ℕ) (points : List PointValue) → IsWalked (step h) axes old new s t p q points → IsWalked beside axes old new (h, s) (h, t) p q points
   walked_beside h axes old new s t p q points w =
       record { last = w.last; points = w.points; added = ap (λ (t : S). (h, t)) w.added ∙ sym (fold_beside h s (lasts_from old.last points)); have = w.have; ahead = w.ahead }
 
-  pub walked_apart : (h : Header) (axes : ℕ) (old new : Trail) (s t : S) (g : Header) (p q : ℕ) (points : List PointValue) → IsWalked beside axes old new (h, s) (g, t) p q points → IsWalked (step h) axes old new s t p q points
+  pub walked_apart : (h : H) (axes : ℕ) (old new : Trail) (s t : S) (g : H) (p q : ℕ) (points : List PointValue) → IsWalked beside axes old new (h, s) (g, t) p q points → IsWalked (step h) axes old new s t p q points
   walked_apart h axes old new s t g p q points w =
-      record { last = w.last; points = w.points; added = ap (λ (z : Header × S). z.1) (w.added ∙ fold_beside h s (lasts_from old.last points)); have = w.have; ahead = w.ahead }
+      record { last = w.last; points = w.points; added = ap (λ (z : H × S). z.1) (w.added ∙ fold_beside h s (lasts_from old.last points)); have = w.have; ahead = w.ahead }
 
+module _ {S : Type 0} (step : Header → S → PointValue → S) where
   -- what was read from the stage of a walk
   pub value_read : {A : Type 0} (each : PointValue → Reader A) (points_in : A → List PointValue) (h : Header) (axes : ℕ) (old : Trail) (s : S) (now : Head) (many : ℕ) (new : Trail) (t : S) (from to : Reading)
-      → HasRead each points_in beside (IsWalking now many new t) (record { axes = axes; trail = old; state = (h, s) }) from to
+      → HasRead each points_in (beside step) (IsWalking now many new t) (record { axes = axes; trail = old; state = (h, s) }) from to
       → (value : A) × (each old.last from ≡ (Ok value, to)) × IsWalked (step h) axes old new s t from.place to.place (points_in value)
   value_read each points_in h axes old s now many new t from to read =
       let is = read.there.at_is in (
         read.value,
         read.read,
-        walked_apart h axes old new s t (of_head now) from.place to.place (points_in read.value)
-            (subst (λ (at : Stage (Header × S)). IsWalked beside axes old at.trail (h, s) at.state from.place to.place (points_in read.value)) is read.walked),
+        walked_apart step h axes old new s t (of_head now) from.place to.place (points_in read.value)
+            (subst (λ (at : Stage (Header × S)). IsWalked (beside step) axes old at.trail (h, s) at.state from.place to.place (points_in read.value)) is read.walked),
       )
 
   module _ (head : Head) (axes : ℕ) (old : Trail) (s : S) (count : ℕ) (from : Reading) where
@@ -60,11 +61,11 @@ module _ {S : Type 0} (step : Header → S → PointValue → S) where
 
     -- the loop has read all points
     pub loop_read : (now : Head) (many : ℕ) (new : Trail) (t : S) (i : ℕ) (r : Reading) → now ≡ head → many ≡ axes → i ≡ count → Loop now many i new t r → (at : Stage (Header × S)) → IsWalking head axes old s at
-        → HasRead (many_at count add (point_at at.axes)) (λ points. points) beside (IsWalking now many new t) at from r
+        → HasRead (many_at count add (point_at at.axes)) (λ points. points) (beside step) (IsWalking now many new t) at from r
     loop_read now many new t i r same axes_same end loop at w =
         let l : Loop head axes i new t r = subst (λ (n : ℕ). Loop head n i new t r) axes_same (subst (λ (h : Head). Loop h many i new t r) same loop) in
         let e = walk_ends (step (of_head head)) axes add (point_at axes) one_point add_is_sums count old s from i new t r end l in
-        subst (λ (at : Stage (Header × S)). HasRead (many_at count add (point_at at.axes)) (λ points. points) beside (IsWalking now many new t) at from r) (sym w.at_is)
+        subst (λ (at : Stage (Header × S)). HasRead (many_at count add (point_at at.axes)) (λ points. points) (beside step) (IsWalking now many new t) at from r) (sym w.at_is)
         (record {
           value = e.0;
           read = e.1;
@@ -72,14 +73,14 @@ module _ {S : Type 0} (step : Header → S → PointValue → S) where
           state = (of_head head, t);
           there = subst (λ (h : Head). IsWalking h many new t (record { axes = axes; trail = new; state = (of_head head, t) })) (sym same)
               (subst (λ (n : ℕ). IsWalking head n new t (record { axes = axes; trail = new; state = (of_head head, t) })) (sym axes_same) (record { precisions = w.precisions; axes_are = w.axes_are; at_is = refl }));
-          walked = walked_beside (of_head head) axes old new s t from.place r.place e.0 (subst (IsWalked (step (of_head head)) axes old new s t from.place r.place) (flat_single e.0) e.2);
+          walked = walked_beside step (of_head head) axes old new s t from.place r.place e.0 (subst (IsWalked (step (of_head head)) axes old new s t from.place r.place) (flat_single e.0) e.2);
         })
 
     -- the next point fails
     pub loop_ended : (now : Head) (many : ℕ) (new : Trail) (t : S) (i : ℕ) (r stop : Reading) (m : Malformed) → now ≡ head → many ≡ axes → i < count → Loop now many i new t r → Fails (point_at many new.last r) m stop → (at : Stage (Header × S)) → IsWalking head axes old s at
-        → EndsEarly (many_at count add (point_at at.axes)) (λ points. points) beside (λ s. ⊥) (Some m) at from stop
+        → EndsEarly (many_at count add (point_at at.axes)) (λ points. points) (beside step) (λ s. ⊥) (Some m) at from stop
     loop_ended now many new t i r stop m same axes_same lt loop fails at w =
         let l : Loop head axes i new t r = subst (λ (n : ℕ). Loop head n i new t r) axes_same (subst (λ (h : Head). Loop h many i new t r) same loop) in
         let f : Fails (point_at axes new.last r) m stop = subst (λ (n : ℕ). Fails (point_at n new.last r) m stop) axes_same fails in
-        subst (λ (at : Stage (Header × S)). EndsEarly (many_at count add (point_at at.axes)) (λ points. points) beside (λ s. ⊥) (Some m) at from stop) (sym w.at_is)
+        subst (λ (at : Stage (Header × S)). EndsEarly (many_at count add (point_at at.axes)) (λ points. points) (beside step) (λ s. ⊥) (Some m) at from stop) (sym w.at_is)
         (walk_fails (step (of_head head)) axes add (point_at axes) one_point add_is_sums count old s from i new t r stop m lt f l)

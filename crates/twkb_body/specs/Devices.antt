@@ -13,7 +13,6 @@ pub mod FurtherLanes
 pub mod Found
 pub mod Seen
 pub mod Inside
-pub mod Showing
 pub mod IdLists
 pub mod Stops
 pub mod Bare

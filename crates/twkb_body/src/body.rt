@@ -65,11 +65,11 @@ pub fn enter_flat<V: Visit>(
         Kind::Point => enter_boxed_point(cursor, axes.xy, ids, visitor),
         Kind::LineString => enter_line(cursor, axes.xy, ids, visitor),
         Kind::GeometryCollection => enter_list(cursor, kind, axes, ids, visitor),
-        _ => enter_flat_body(cursor, kind, axes.xy, ids, visitor),
+        _ => enter_deep_body(cursor, kind, axes, ids, visitor),
     }
 }
 
-// The functions that aren't inlined are copies of `enter_body`, each for the kinds and axes that the compiler knows there.
+// `enter_line` and `enter_deep_body` are copies of `enter_body` that aren't inlined. In the first the compiler knows kind and axes.
 
 /// Enters a line of X and Y alone.
 #[inline(never)]
@@ -81,23 +81,6 @@ fn enter_line<V: Visit>(cursor: &mut Cursor, xy: i8, ids: bool, visitor: &mut V)
         (V.state visitor.old) (V.state visitor.new) cursor.new result }
 {
     enter_body(cursor, Kind::LineString, Axes::flat(xy), ids, visitor)
-}
-
-/// Enters a body of X and Y alone that is neither a point's nor a line's.
-#[inline(never)]
-fn enter_flat_body<V: Visit>(
-    cursor: &mut Cursor,
-    kind: Kind,
-    xy: i8,
-    ids: bool,
-    visitor: &mut V,
-) -> u64
-    requires xy { IsPrecision xy }
-    requires behind { IsThere (IsBehind (V.passes (V.state visitor.old)) kind (flat_axes xy) ids cursor.old) }
-    ensures { Enters V.step V.passes (IsBehind (V.passes (V.state visitor.old)) kind (flat_axes xy) ids cursor.old)
-        (V.state visitor.old) (V.state visitor.new) cursor.new result }
-{
-    enter_body(cursor, kind, Axes::flat(xy), ids, visitor)
 }
 
 /// Enters a body of any axes.

@@ -53,7 +53,7 @@ pub struct LaneTrail<L> {
 }
 
 impl<L: LaneReader> PointReader for LaneTrail<L> {
-    ghost use Rattle.std.specs.Prelude.{None, refl};
+    ghost use Rattle.std.specs.Prelude.{false, None, refl};
     ghost use Rattle.twkb_body.specs.Devices.BoxTest.{Held, held_then};
     ghost use Rattle.twkb_body.specs.Devices.LaneTrail.{StandsInLanes, IsOutside};
 
@@ -65,6 +65,8 @@ impl<L: LaneReader> PointReader for LaneTrail<L> {
 
     ghost stands = { λ trail. StandsInLanes L.axes (λ box. L.place trail.reader box trail.at trail.extent)
         trail.points };
+
+    ghost trusts = { false };
 
     ghost ends = { IsOutside };
 

@@ -1,48 +1,93 @@
-//! The parts of a body: points, lines and polygons. The first reading and the exact audit both read them here, each with its own
-//! [`PointReader`].
+//! The parts of a body: points, lines and polygons. All are read here, each by a [`PointReader`]: the exact audit reads them by a
+//! `Walk`, a skim by a `CertifiedWalk`, and the first reading by a `LaneTrail` or a `Walk`.
 ghost use Rattle.std.specs.Prelude.{◌≡◌, ℕ, List, flat_map, IfOk, IfErr};
 ghost use Rattle.twkb_head.specs.Shared.Reader.{Reader, many_at};
 ghost use Rattle.twkb_body.specs.Geometry.{PointValue, points_of};
 ghost use Rattle.twkb_body.specs.Devices.Body.{add, sums, ring_sums};
-ghost use Rattle.twkb_body.specs.Devices.BodyReader.{point_at, prefixed_at, part_at};
-ghost use Rattle.twkb_body.specs.Devices.PointReader.{Stage, IsReady, HasRead, EndsEarly};
+ghost use Rattle.twkb_body.specs.Devices.BodyReader.{point_at, ring_at, prefixed_at, part_at};
+ghost use Rattle.twkb_body.specs.Devices.PointReader.{IsReady, ReadsAll, StopsEarly};
 
 use crate::point_reader::PointReader;
 use crate::varints::take_number;
 use twkb_head::Kind;
 use twkb_num::Cursor;
 
-/// Reads `count` parts of a kind.
+/// Reads `count` points, lines or polygons, by the kind. Of a collection it reads nothing. `L` says whether the loop over lines is
+/// inlined.
 #[inline(always)]
-pub fn take_parts<R: PointReader>(
+pub fn take_parts<L: LineLoop, R: PointReader>(
     cursor: &mut Cursor,
     kind: Kind,
     count: u64,
     reader: &mut R,
 ) -> Result<(), R::Fault>
-    requires ready { IsReady (R.stands reader.old) cursor.old }
-    ensures read { IfOk result (λ done. (at : Stage R.State) → R.stands reader.old at
-        → HasRead (many_at count ring_sums (part_at kind at.axes)) points_of R.step (R.stands reader.new) at
-        cursor.old cursor.new) }
-    ensures ended { IfErr result (λ fault. (at : Stage R.State) → R.stands reader.old at
-        → EndsEarly (many_at count ring_sums (part_at kind at.axes)) points_of R.step R.ends (R.tells fault) at
-        cursor.old cursor.new) }
+    requires ready { IsReady (R.stands reader.old) R.trusts (λ axes. many_at count ring_sums (part_at kind axes))
+        cursor.old }
+    ensures read { IfOk result (λ done. ReadsAll (λ axes. many_at count ring_sums (part_at kind axes)) points_of R.step
+        R.trusts (R.stands reader.old) (R.stands reader.new) cursor.old cursor.new) }
+    ensures ended { IfErr result (λ fault. StopsEarly (λ axes. many_at count ring_sums (part_at kind axes)) points_of
+        R.step R.trusts (R.stands reader.old) R.ends (R.tells fault) cursor.old cursor.new) }
     ensures bytes { cursor.new.bytes ≡ cursor.old.bytes }
 {
     match kind {
         Kind::Point | Kind::MultiPoint => OutOfLine(Run).take(cursor, count, reader),
-        Kind::LineString | Kind::MultiLineString => Prefixed(Run).take(cursor, count, reader),
-        Kind::Polygon | Kind::MultiPolygon => Prefixed(Prefixed(Run)).take(cursor, count, reader),
+        Kind::LineString | Kind::MultiLineString => L::take(cursor, count, reader),
+        Kind::Polygon | Kind::MultiPolygon => {
+            OutOfLine(Prefixed(OutOfLine(Prefixed(Run)))).take(cursor, count, reader)
+        }
         Kind::GeometryCollection => Ok(()),
     }
 }
 
-/// What a body has many of, one after another: points, or lists of points, or lists of such lists. `R` reads the points.
+/// Whether the loop over lines is inlined. A function of audits that has it inlined is so large that the compiler no longer inlines
+/// what is called most.
+pub trait LineLoop {
+    /// Reads `count` lines.
+    fn take<R: PointReader>(cursor: &mut Cursor, count: u64, reader: &mut R) -> Result<(), R::Fault>
+        requires ready { IsReady (R.stands reader.old) R.trusts (λ axes. many_at count sums (ring_at axes)) cursor.old }
+        ensures read { IfOk result (λ done. ReadsAll (λ axes. many_at count sums (ring_at axes))
+            (λ lines. flat_map (λ line. line) lines) R.step R.trusts (R.stands reader.old) (R.stands reader.new)
+            cursor.old cursor.new) }
+        ensures ended { IfErr result (λ fault. StopsEarly (λ axes. many_at count sums (ring_at axes))
+            (λ lines. flat_map (λ line. line) lines) R.step R.trusts (R.stands reader.old) R.ends (R.tells fault)
+            cursor.old cursor.new) }
+        ensures bytes { cursor.new.bytes ≡ cursor.old.bytes };
+}
+
+/// Lines are read by code that is inlined.
+pub struct LinesInlined;
+
+/// Lines are read by a call.
+pub struct LinesCalled;
+
+impl LineLoop for LinesInlined {
+    #[inline(always)]
+    fn take<R: PointReader>(
+        cursor: &mut Cursor,
+        count: u64,
+        reader: &mut R,
+    ) -> Result<(), R::Fault> {
+        Prefixed(Run).take(cursor, count, reader)
+    }
+}
+
+impl LineLoop for LinesCalled {
+    #[inline(never)]
+    fn take<R: PointReader>(
+        cursor: &mut Cursor,
+        count: u64,
+        reader: &mut R,
+    ) -> Result<(), R::Fault> {
+        Prefixed(Run).take(cursor, count, reader)
+    }
+}
+
+/// Values of which a body has many: points, lists of points, or lists of such lists. `R` reads the points.
 trait Values<R: PointReader> {
     /// The type of a value.
     ghost Value: { Type 0 };
 
-    /// Reads a value, from the sums of the differences before it. The first argument is the number of axes.
+    /// The reader of a value, by the number of axes and the last point before the value.
     ghost each: { ℕ → PointValue → Reader Value };
 
     /// The sums after a value.
@@ -53,13 +98,11 @@ trait Values<R: PointReader> {
 
     /// Reads `count` values.
     fn take(&self, cursor: &mut Cursor, count: u64, reader: &mut R) -> Result<(), R::Fault>
-        requires ready { IsReady (R.stands reader.old) cursor.old }
-        ensures read { IfOk result (λ done. (at : Stage R.State) → R.stands reader.old at
-            → HasRead (many_at count after (each at.axes)) points_in R.step (R.stands reader.new) at cursor.old
-            cursor.new) }
-        ensures ended { IfErr result (λ fault. (at : Stage R.State) → R.stands reader.old at
-            → EndsEarly (many_at count after (each at.axes)) points_in R.step R.ends (R.tells fault) at cursor.old
-            cursor.new) }
+        requires ready { IsReady (R.stands reader.old) R.trusts (λ axes. many_at count after (each axes)) cursor.old }
+        ensures read { IfOk result (λ done. ReadsAll (λ axes. many_at count after (each axes)) points_in R.step
+            R.trusts (R.stands reader.old) (R.stands reader.new) cursor.old cursor.new) }
+        ensures ended { IfErr result (λ fault. StopsEarly (λ axes. many_at count after (each axes)) points_in R.step
+            R.trusts (R.stands reader.old) R.ends (R.tells fault) cursor.old cursor.new) }
         ensures bytes { cursor.new.bytes ≡ cursor.old.bytes };
 }
 
@@ -83,7 +126,7 @@ impl<R: PointReader> Values<R> for Run {
     }
 }
 
-/// Values read by a function that isn't inlined, since the compiler inlines nothing into a function that would grow very large.
+/// Values that are read out of line, because the compiler inlines nothing more into a very large function.
 #[derive(Drop)]
 struct OutOfLine<V>(V);
 
@@ -115,9 +158,8 @@ impl<R: PointReader, V: Values<R>> Values<R> for Prefixed<V> {
 
     ghost points_in = { λ lists. flat_map V.points_in lists };
 
-    /// Reads `count` lists: of each, its length and then as many values.
-    // Out of line for the reason that `OutOfLine` gives.
-    #[inline(never)]
+    /// Reads `count` lists: of each one its length, and then that number of values.
+    #[inline(always)]
     fn take(&self, cursor: &mut Cursor, count: u64, reader: &mut R) -> Result<(), R::Fault> {
         for _ in 0..count {
             match take_number(cursor) {

@@ -1,14 +1,13 @@
 //! [`PointReader`], a trait for what reads the points of a body.
 //!
-//! There are two implementations: [`Walk`](crate::walk::Walk) adds up the coordinates of every point, and
+//! There are three implementations. [`Walk`](crate::walk::Walk) adds up the coordinates of every point.
+//! [`CertifiedWalk`](crate::certified_walk::CertifiedWalk) shows the points of certified bytes to a
+//! visitor until it is settled.
 //! [`LaneTrail`](crate::lane_trail::LaneTrail) stops at the first point outside a box.
-ghost use Rattle.std.specs.Prelude.{◌≡◌, Option, IfOk, IfErr, IfSome};
-ghost use Rattle.twkb_head.specs.Shared.Reader.{many_at};
+ghost use Rattle.std.specs.Prelude.{◌≡◌, Bool, false, Option, IfOk, IfErr, IfSome};
 ghost use Rattle.twkb_head.specs.declared.refusal.Malformed.{Malformed as MalformedOf};
 ghost use Rattle.twkb_body.specs.Geometry.{PointValue};
-ghost use Rattle.twkb_body.specs.Devices.Body.{add};
-ghost use Rattle.twkb_body.specs.Devices.BodyReader.{point_at};
-ghost use Rattle.twkb_body.specs.Devices.PointReader.{Stage, IsReady, HasRead, EndsEarly};
+ghost use Rattle.twkb_body.specs.Devices.PointReader.{Stage, IsReady, ReadsAll, StopsEarly, points_at};
 
 use twkb_head::Malformed;
 use twkb_num::Cursor;
@@ -24,30 +23,32 @@ pub trait PointReader {
     /// The state after a point.
     ghost step: { State → PointValue → State };
 
-    /// A reader has come as far as a stage says.
+    /// A reader is at a stage: its axes, its last point, the number of its points, and its state.
     ghost stands: { Self → Stage State → Type 0 };
 
-    /// At these states reading ends.
+    /// Whether a reader trusts the bytes. Then its caller guarantees that all points can be read.
+    ghost trusts: { Bool };
+
+    /// The states at which reading may end early.
     ghost ends: { State → Type 0 };
 
-    /// Points after an end lead to ends alone.
+    /// After such a state, each point leads to such a state.
     ghost lasts: { (s : State) (point : PointValue) → ends s → ends (step s point) };
 
-    /// The malformed field of a fault. A fault without one says that the points lead to an end, unless a field is malformed.
+    /// The malformed field that a fault names. If it names none, the points lead to an end, or a field is malformed.
     ghost tells: { Self.Fault → Option MalformedOf };
 
     /// Reads `count` points.
     fn take_points(&mut self, cursor: &mut Cursor, count: u64) -> Result<(), Self::Fault>
-        requires ready { IsReady (stands self.old) cursor.old }
-        ensures read { IfOk result (λ done. (at : Stage State) → stands self.old at
-            → HasRead (many_at count add (point_at at.axes)) (λ points. points) step (stands self.new) at cursor.old
-            cursor.new) }
-        ensures ended { IfErr result (λ fault. (at : Stage State) → stands self.old at
-            → EndsEarly (many_at count add (point_at at.axes)) (λ points. points) step ends (tells fault) at
-            cursor.old cursor.new) }
+        requires ready { IsReady (stands self.old) trusts (points_at count) cursor.old }
+        ensures read { IfOk result (λ done. ReadsAll (points_at count) (λ points. points) step trusts (stands self.old)
+            (stands self.new) cursor.old cursor.new) }
+        ensures ended { IfErr result (λ fault. StopsEarly (points_at count) (λ points. points) step trusts
+            (stands self.old) ends (tells fault) cursor.old cursor.new) }
         ensures bytes { cursor.new.bytes ≡ cursor.old.bytes };
 
     /// The fault for a malformed field.
     fn fault_of(malformed: Malformed) -> Self::Fault
+        requires { trusts ≡ false }
         ensures { IfSome (tells result) (λ m. m ≡ malformed) };
 }

@@ -26,18 +26,6 @@ pub fn pass_known(cursor: &mut Cursor, axes: usize, count: u64)
     }
 }
 
-/// Moves past one point.
-// It counts no ends in words, so that the functions which show a point stay small enough to be inlined.
-#[inline(always)]
-pub fn pass_point(cursor: &mut Cursor, axes: usize)
-    requires known { (s : PointValue) × (point : PointValue) × (stop : Reading)
-        × (point_at axes s cursor.old ≡ (Ok point, stop)) }
-    ensures { (s : PointValue) (point : PointValue) (stop : Reading)
-        → point_at axes s cursor.old ≡ (Ok point, stop) → cursor.new ≡ stop }
-{
-    pass_rest(cursor, axes as u64);
-}
-
 /// Moves past `many` numbers: past one by itself, whose end a word doesn't show, then past more by words, and so on.
 #[inline(never)]
 fn pass_rest(cursor: &mut Cursor, many: u64)

@@ -42,7 +42,7 @@ impl<'h, P: Points> Walk<'h, P> {
 }
 
 impl<'h, P: Points> PointReader for Walk<'h, P> {
-    ghost use Rattle.std.specs.Prelude.{◌≡◌, Some};
+    ghost use Rattle.std.specs.Prelude.{◌≡◌, false, Some};
     ghost use Rattle.twkb_head.specs.Header.{Header};
     ghost use Rattle.twkb_body.specs.Devices.PointReader.{IsWalking};
 
@@ -53,6 +53,8 @@ impl<'h, P: Points> PointReader for Walk<'h, P> {
     ghost step = { λ s point. (s.0, P.step s.0 s.1 point) };
 
     ghost stands = { λ walk at. IsWalking walk.head.now walk.axes walk.trail (P.state walk.points) at };
+
+    ghost trusts = { false };
 
     ghost ends = { λ s. ⊥ };
 

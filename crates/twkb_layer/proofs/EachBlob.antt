@@ -212,9 +212,5 @@ module _ {S : Type 0} (step : S → ℕ → ℕ → Geometry → S) where
   pub lent_read : (reads : S → Geometry → ℕ) (trees : List Geometry) (name : GName) (state0 : S) → bytes_read (lent step) (λ l g. reads l.state g) trees (record { name = name; state = state0 }) ≡ bytes_read step reads trees state0
   lent_read reads trees name state0 = lent_reads reads 0 0 trees (record { name = name; state = state0 })
 
--- what is behind a reference that was lent is what it was last
-pub lent_back : {X Y : Type 0} (f : X → Y) (name last : GName) (x now : X) (y : Y) → name ≡ last → f now ≡ y → (name ≡ last → x ≡ now) → f x ≡ y
-lent_back f name last x now y same is back = ap f (back same) ∙ is
-
 pub lent_is : {S : Type 0} (name : GName) (a b : S) → a ≡ b → ◌≡◌ {A = Lent S} (record { name = name; state = a }) (record { name = name; state = b })
 lent_is name a b is = λ j. record { name = name; state = is j }

@@ -1,6 +1,6 @@
 -- Devices of proofs: nothing public names them.
 -- The body of a geometry as it is read: the sums of its numbers, and the geometry that they make.
-use Rattle.std.specs.Prelude.{ℕ, ◌+◌, List, [], ◌∷◌, ℤ, pos, ◌+ℤ◌, Option, None, flat_map}
+use Rattle.std.specs.Prelude.{ℕ, ◌+◌, List, [], ◌∷◌, ℤ, pos, ◌+ℤ◌, Option, None}
 use Rattle.twkb_head.specs.Shared.HeadPlan.{HeadValue}
 use Rattle.twkb_body.specs.Geometry.{Geometry, Lengths, Members, geometry, none, more, PointValue, PolygonValue}
 
@@ -29,10 +29,6 @@ sums s (p ∷ ps) = sums (add s p) ps
 abbrev pub ring_sums : PointValue → PolygonValue → PointValue
 ring_sums s [] = s
 ring_sums s (ring ∷ rings) = ring_sums (sums s ring) rings
-
--- the points of a part, ring after ring
-abbrev pub part_points : PolygonValue → List PointValue
-part_points part = flat_map (λ ring. ring) part
 
 -- differences start from zero in each of the four axes
 abbrev pub zeros : PointValue

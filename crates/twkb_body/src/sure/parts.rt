@@ -16,7 +16,7 @@ use crate::flat_lanes::{FlatLanes, fits_lanes};
 use crate::further_lanes::{FurtherLanes, fits_further};
 use crate::lane_trail::{LaneReader, LaneTrail};
 use crate::lists::take_list;
-use crate::parts::take_parts;
+use crate::parts::{LinesCalled, take_parts};
 use crate::points::Points;
 use crate::rooms::IdRoom;
 use crate::walk::{Walk, bare_head};
@@ -117,7 +117,7 @@ fn take_by_lanes<L: LaneReader + Drop>(
     ensures { (box : RawBoxOf) → L.place trail.reader box trail.at trail.extent zeros
         → HoldsOrLeaves kind L.axes count box cursor.old cursor.new result }
 {
-    match take_parts(cursor, kind, count, &mut trail) {
+    match take_parts::<LinesCalled, _>(cursor, kind, count, &mut trail) {
         Ok(()) => Ok(trail.points),
         Err(_) => Err(Doubt::Refused),
     }
@@ -165,7 +165,7 @@ pub fn take_walk<'h, P: Points + Drop>(
     ensures bytes { cursor.new.bytes ≡ cursor.old.bytes }
 {
     let mut walk = Walk::new(head, axes, points);
-    let Ok(()) = take_parts(cursor, head.kind, count, &mut walk) else {
+    let Ok(()) = take_parts::<LinesCalled, _>(cursor, head.kind, count, &mut walk) else {
         return Err(Doubt::Refused);
     };
     Ok(walk)

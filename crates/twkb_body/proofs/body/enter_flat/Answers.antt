@@ -22,9 +22,3 @@ returns-in-LineString g c = λ t depth before b.
     let flat : c.args.axes ≡ flat_axes (to_z w8 (of_z w8 c.args.axes.xy)) = λ j. record { xy = sym fits j; z = c.requires.z j; m = c.requires.m j } in
     let P : Kind → Axes → Type 0 = λ k a. IsBehind (g.V.Visit.passes (g.V.Visit.state c.args.visitor.now)) k a c.args.ids c.args.cursor.now t depth before in
     c.enter_line.ensures t depth before (subst (λ (a : Axes). P LineString a) flat (subst (λ (k : Kind). P k c.args.axes) c.in-LineString.is b))
-
-pub returns-in_default : goal.returns-in_default
-returns-in_default g c = λ t depth before b.
-    let fits : to_z w8 (of_z w8 c.args.axes.xy) ≡ c.args.axes.xy = omega (arith, ints) in
-    let flat : c.args.axes ≡ flat_axes (to_z w8 (of_z w8 c.args.axes.xy)) = λ j. record { xy = sym fits j; z = c.requires.z j; m = c.requires.m j } in
-    c.enter_flat_body.ensures t depth before (subst (λ (a : Axes). IsBehind (g.V.Visit.passes (g.V.Visit.state c.args.visitor.now)) c.args.kind a c.args.ids c.args.cursor.now t depth before) flat b)

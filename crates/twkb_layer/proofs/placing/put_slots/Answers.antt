@@ -1,8 +1,9 @@
 -- The room has the slots of all blobs.
 use Rattle.std.proofs.Common.{rules, take, drop}
+use Rattle.twkb_body.proofs.CertifiedWalks.{lent_back}
 use Rattle.twkb_layer.specs.Slots.{entries_kept}
 use Rattle.twkb_layer.specs.Devices.Slots.{places}
-use Rattle.twkb_layer.proofs.EachBlob.{lent_ends, lent_back}
+use Rattle.twkb_layer.proofs.EachBlob.{lent_ends}
 use Rattle.twkb_layer.proofs.Entries.{all_put}
 use Rattle.twkb_layer.proofs.placing.put_slots.Goals as goal
 

@@ -9,11 +9,12 @@ use Rattle.twkb_body.proofs.lane_trail.LaneTrailPointReader.take_points.Goals as
 
 pub take_first-first-requires : goal.take_first-first-requires
 take_first-first-requires g c =
-    let s = c.requires.ready.1 in
+    let s = c.requires.ready.1.there in
     record { place = (s.box, s.last, s.there) }
 
 pub returns-then-not-first-clause-ended : goal.returns-then-not-first-clause-ended
-returns-then-not-first-clause-ended g c at s =
+returns-then-not-first-clause-ended g c at before =
+    let s = before.there in
     stands_leave g.L.LaneReader.axes (λ box. g.L.LaneReader.place c.args.self.now.reader box c.args.self.now.at c.args.self.now.extent) c.args.self.now.points at s c.args.cursor.now c.take_first-first.new.cursor c.args.count
     (c.take_first-first.ensures.step.outside (not-true _ c.if-not-first.true) s.box s.last s.there)
 
@@ -28,12 +29,13 @@ loop-left-init g c = record {
 
 pub take_some-step-requires : goal.take_some-step-requires
 take_some-step-requires g c =
-    let s = c.requires.ready.1 in
+    let s = c.requires.ready.1.there in
     let held = c.loop-left.invariant.read c.requires.ready.0 s in
     record { left = omega (arith, c.loop-left-test.true); place = (s.box, held.after.last, held.there) }
 
 pub returns-then-not-step-clause-ended : goal.returns-then-not-step-clause-ended
-returns-then-not-step-clause-ended g c at s =
+returns-then-not-step-clause-ended g c at before =
+    let s = before.there in
     let held = c.loop-left.invariant.read at s in
     let left : c.args.count - (c.args.count - c.loop-left.left) ≡ c.loop-left.left = omega (arith, c.loop-left.invariant.few) in
     stands_leave g.L.LaneReader.axes (λ box. g.L.LaneReader.place c.args.self.now.reader box c.args.self.now.at c.args.self.now.extent) c.args.self.now.points at s c.args.cursor.now c.take_some-step.new.cursor c.args.count
@@ -57,14 +59,15 @@ loop-left-preserved g c = record {
 pub overflow_add-self : goal.overflow_add-self
 overflow_add-self g c =
     let ready = c.requires.ready in
-    let s = ready.1 in
+    let s = ready.1.there in
     let held = c.loop-left.invariant.read ready.0 s in
     let all : c.args.count - c.loop-left.left ≡ c.args.count = omega (arith, c.loop-left-test.false) in
-    let few : c.args.self.now.points ≤ c.args.cursor.now.place = stands_counted g.L.LaneReader.axes (λ box. g.L.LaneReader.place c.args.self.now.reader box c.args.self.now.at c.args.self.now.extent) c.args.self.now.points ready.0 s c.args.cursor.now c.args.cursor.now c.args.count ready.2 in
+    let few : c.args.self.now.points ≤ c.args.cursor.now.place = stands_counted g.L.LaneReader.axes (λ box. g.L.LaneReader.place c.args.self.now.reader box c.args.self.now.at c.args.self.now.extent) c.args.self.now.points ready.0 s c.args.cursor.now c.args.cursor.now c.args.count ready.1.counted in
     subst (λ (n : ℕ). Fits w64 (c.args.self.now.points + n)) all (points_fit held.run.many held.run.walked.ahead few (sym c.place-stop.ensures.value) c.place-stop.type_inv)
 
 pub returns-clause-read : goal.returns-clause-read
-returns-clause-read g c at s =
+returns-clause-read g c at before =
+    let s = before.there in
     stands_read g.L.LaneReader.axes (λ box. g.L.LaneReader.place c.args.self.now.reader box c.args.self.now.at c.args.self.now.extent) c.args.self.now.points at s c.args.cursor.now c.loop-left.cursor c.args.count
     (λ box. g.L.LaneReader.place c.args.self.now.reader box c.loop-left.at c.args.self.now.extent) (c.args.count - c.loop-left.left) (omega (arith, c.loop-left-test.false)) (c.loop-left.invariant.read at s)
 

@@ -1,7 +1,11 @@
 -- Parts that are read in lanes are held, and parts whose reading ends early leave the box.
-use Rattle.std.proofs.Common.{refl, arith}
+use Rattle.std.proofs.Common.{refl}
+use Rattle.twkb_head.specs.Shared.Reader.{many_at}
+use Rattle.twkb_body.specs.Devices.Body.{ring_sums}
+use Rattle.twkb_body.specs.Devices.BodyReader.{part_at}
 use Rattle.twkb_body.specs.Devices.LaneTrail.{StandsInLanes, holding}
 use Rattle.twkb_body.specs.Devices.Walk.{no_points}
+use Rattle.twkb_body.proofs.PointReads.{none_yet}
 use Rattle.twkb_body.proofs.HeldBodies.{parts_held, lanes_begin, lanes_tell}
 use Rattle.twkb_body.proofs.sure.parts.take_by_lanes.Goals as goal
 
@@ -9,7 +13,7 @@ pub take_parts-requires : goal.take_parts-requires
 take_parts-requires g c =
     let box = c.requires.place.0 in
     let L = g.L.LaneReader in
-    record { ready = (record { axes = L.axes; trail = no_points; state = holding box }, lanes_begin L.axes (λ box. L.place c.args.trail.reader box c.args.trail.at c.args.trail.extent) c.args.trail.points box c.requires.points c.requires.place.1, omega arith) }
+    record { ready = (record { axes = L.axes; trail = no_points; state = holding box }, none_yet _ (λ axes. many_at c.args.count ring_sums (part_at c.args.kind axes)) c.args.cursor.now _ (lanes_begin L.axes (λ box. L.place c.args.trail.reader box c.args.trail.at c.args.trail.extent) c.args.trail.points box c.requires.points c.requires.place.1) refl) }
 
 pub returns-in-Ok : goal.returns-in-Ok
 returns-in-Ok g c box place =
@@ -18,7 +22,7 @@ returns-in-Ok g c box place =
     record {
       held = parts_held c.args.kind L.axes c.args.count box c.args.cursor.now c.take_parts.new.cursor (StandsInLanes L.axes (λ box. L.place after.reader box after.at after.extent) after.points) after.points
           (lanes_tell L.axes (λ box. L.place after.reader box after.at after.extent) after.points)
-          (c.in-Ok.ensures.read _ (lanes_begin L.axes (λ box. L.place c.args.trail.reader box c.args.trail.at c.args.trail.extent) c.args.trail.points box c.requires.points place));
+          (c.in-Ok.ensures.read _ (none_yet _ (λ axes. many_at c.args.count ring_sums (part_at c.args.kind axes)) c.args.cursor.now _ (lanes_begin L.axes (λ box. L.place c.args.trail.reader box c.args.trail.at c.args.trail.extent) c.args.trail.points box c.requires.points place) refl));
       leave = tt;
       bytes = c.take_parts.ensures.bytes;
       refused = tt;
@@ -29,7 +33,7 @@ returns g c box place =
     let L = g.L.LaneReader in
     record {
       held = tt;
-      leave = c.in-Err.ensures.ended _ (lanes_begin L.axes (λ box. L.place c.args.trail.reader box c.args.trail.at c.args.trail.extent) c.args.trail.points box c.requires.points place);
+      leave = c.in-Err.ensures.ended _ (none_yet _ (λ axes. many_at c.args.count ring_sums (part_at c.args.kind axes)) c.args.cursor.now _ (lanes_begin L.axes (λ box. L.place c.args.trail.reader box c.args.trail.at c.args.trail.extent) c.args.trail.points box c.requires.points place) refl);
       bytes = c.take_parts.ensures.bytes;
       refused = refl;
     }

@@ -26,7 +26,7 @@ take_run-done-requires g c =
     let ready = c.requires.ready in
     record {
       walk = loop_ready g.P.Points.step c.args.self.now.head.now c.args.self.now.axes c.args.self.now.trail (g.P.Points.state c.args.self.now.points) c.args.count c.args.cursor.now c.loop-done.self.head.now c.loop-done.self.axes c.loop-done.self.trail (g.P.Points.state c.loop-done.self.points) c.loop-done.done c.loop-done.cursor
-          i.head i.axes i.read ready.0 ready.1 ready.2;
+          i.head i.axes i.read ready.0 ready.1.there ready.1.counted;
     }
 
 pub take_point-requires : goal.take_point-requires
@@ -36,7 +36,7 @@ take_point-requires g c =
     let far = ring_goes_far (g.P.Points.step (of_head c.loop-done.self.head.now)) c.loop-done.self.axes c.args.count c.args.self.now.trail (g.P.Points.state c.args.self.now.points) c.args.cursor.now c.loop-done.done c.take_run-done.result _ _ _ _ _ _ (omega (arith, c.if-done-count.true)) c.take_run-done.ensures.run i.read in
     record {
       walk = loop_ready g.P.Points.step c.args.self.now.head.now c.args.self.now.axes c.args.self.now.trail (g.P.Points.state c.args.self.now.points) c.args.count c.args.cursor.now c.loop-done.self.head.now c.loop-done.self.axes c.take_run-done.new.trail (g.P.Points.state c.take_run-done.new.self) (c.loop-done.done + c.take_run-done.result) c.take_run-done.new.cursor
-          i.head i.axes far ready.0 ready.1 ready.2;
+          i.head i.axes far ready.0 ready.1.there ready.1.counted;
     }
 
 pub returns-in_err-take_point-clause-ended : goal.returns-in_err-take_point-clause-ended
@@ -44,8 +44,8 @@ returns-in_err-take_point-clause-ended g c =
     let p = err_from_is_err_and c.from_residual.result c.from_residual.ensures.1 in
     let i = c.loop-done.invariant in
     let far = ring_goes_far (g.P.Points.step (of_head c.loop-done.self.head.now)) c.loop-done.self.axes c.args.count c.args.self.now.trail (g.P.Points.state c.args.self.now.points) c.args.cursor.now c.loop-done.done c.take_run-done.result _ _ _ _ _ _ (omega (arith, c.if-done-count.true)) c.take_run-done.ensures.run i.read in
-    rw (p.1, p.2) (loop_ended g.P.Points.step c.args.self.now.head.now c.args.self.now.axes c.args.self.now.trail (g.P.Points.state c.args.self.now.points) c.args.count c.args.cursor.now c.loop-done.self.head.now c.loop-done.self.axes c.take_run-done.new.trail (g.P.Points.state c.take_run-done.new.self) (c.loop-done.done + c.take_run-done.result) c.take_run-done.new.cursor c.take_point.new.cursor _
-    i.head i.axes c.if-done-count.true far c.in_err-take_point.ensures)
+    rw (p.1, p.2) (λ at before. loop_ended g.P.Points.step c.args.self.now.head.now c.args.self.now.axes c.args.self.now.trail (g.P.Points.state c.args.self.now.points) c.args.count c.args.cursor.now c.loop-done.self.head.now c.loop-done.self.axes c.take_run-done.new.trail (g.P.Points.state c.take_run-done.new.self) (c.loop-done.done + c.take_run-done.result) c.take_run-done.new.cursor c.take_point.new.cursor _
+    i.head i.axes c.if-done-count.true far c.in_err-take_point.ensures at before.there)
 
 pub returns-in_err-take_point-clause-bytes : goal.returns-in_err-take_point-clause-bytes
 returns-in_err-take_point-clause-bytes g c =
@@ -80,9 +80,9 @@ loop-done-preserved g c =
     }
 
 pub returns-clause-read : goal.returns-clause-read
-returns-clause-read g c =
+returns-clause-read g c at before =
     loop_read g.P.Points.step c.args.self.now.head.now c.args.self.now.axes c.args.self.now.trail (g.P.Points.state c.args.self.now.points) c.args.count c.args.cursor.now c.loop-done.self.head.now c.loop-done.self.axes c.loop-done.self.trail (g.P.Points.state c.loop-done.self.points) c.loop-done.done c.loop-done.cursor
-    c.loop-done.invariant.head c.loop-done.invariant.axes (omega (arith, c.loop-done-test.false, c.loop-done.invariant.within)) c.loop-done.invariant.read
+    c.loop-done.invariant.head c.loop-done.invariant.axes (omega (arith, c.loop-done-test.false, c.loop-done.invariant.within)) c.loop-done.invariant.read at before.there
 
 pub returns-clause-bytes : goal.returns-clause-bytes
 returns-clause-bytes g c = c.loop-done.invariant.bytes

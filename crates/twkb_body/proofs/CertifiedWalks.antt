@@ -1,0 +1,124 @@
+-- Walks over certified bytes: points are shown, and those after them are passed, if no point changes the state any more.
+use Rattle.std.proofs.Common.{◌≡◌, ℕ, ◌+◌, ◌-◌, ◌<◌, ◌≤◌, Bool, true, false, List, Ok, refl, sym, ap, subst, ◌∙◌, arith}
+use Rattle.std.specs.Borrow.{GName}
+use Rattle.twkb_num.specs.Cursor.{Reading}
+use Rattle.twkb_head.specs.declared.header.Head.{Head}
+use Rattle.twkb_head.specs.declared.refusal.Malformed.{Malformed}
+use Rattle.twkb_head.specs.Header.{Header}
+use Rattle.twkb_head.specs.Shared.Reader.{Reader, Fails}
+use Rattle.twkb_body.specs.declared.trail.Trail.{Trail}
+use Rattle.twkb_body.specs.Geometry.{PointValue}
+use Rattle.twkb_body.specs.Devices.BodyReader.{point_at}
+use Rattle.twkb_body.specs.Devices.Inside.{of_head}
+use Rattle.twkb_body.specs.Devices.PointReader.{Stage, IsBefore, HasRead, IsWalkingOn, points_at}
+use Rattle.twkb_body.specs.Devices.Walk.{IsWalk, IsWalked, IsRun, IsStill, lasts_from}
+use Rattle.twkb_body.proofs.Keeping.{keeps_points, read_keeps}
+use Rattle.twkb_body.proofs.Runs.{run_none}
+use Rattle.twkb_body.proofs.Settling.{ArePassed, axes_some, run_next, run_passed, run_rest, run_then}
+use Rattle.twkb_body.proofs.WalkReads.{beside, fold_beside, walked_beside, walked_apart}
+
+-- a run under a header that is another's equal
+pub run_under : {S : Type 0} (step : Header → S → PointValue → S) (head now : Head) (axes many : ℕ) (old new : Trail) (s t : S) (from to : Reading) (count : ℕ) → now ≡ head → many ≡ axes
+    → IsRun (step (of_head now)) many old new s t from to count → IsRun (step (of_head head)) axes old new s t from to count
+run_under step head now axes many old new s t from to count same axes_same run =
+    subst (λ (n : ℕ). IsRun (step (of_head head)) n old new s t from to count) axes_same (subst (λ (h : Head). IsRun (step (of_head h)) many old new s t from to count) same run)
+
+module _ {S : Type 0} (step : Header → S → PointValue → S) (head : Head) (axes : ℕ) (lost : Bool) (trail : Trail) (name : GName) (state : S) (count : ℕ) (from : Reading) where
+  -- a walk is at a stage before its points
+  abbrev pub AreBefore : Stage ((Header × GName) × S) → Type 0
+  AreBefore at = IsBefore (IsWalkingOn step head axes lost trail name state) true (points_at count) from at
+
+  module _ (at : Stage ((Header × GName) × S)) (before : AreBefore at) where
+    -- i of the points were shown
+    pub record HasShown (i : ℕ) (gone : Bool) (now : Trail) (t : S) (r : Reading) : Type 0 where
+      pub last : Trail
+      pub run : IsRun (step (of_head head)) axes at.trail last state t from r i
+      pub kept : gone ≡ false → now ≡ last
+      pub still : gone ≡ true → IsStill (step (of_head head)) t
+
+    pub shown_none : HasShown 0 lost trail state from
+    shown_none = record { last = at.trail; run = run_none (step (of_head head)) axes at.trail state from; kept = before.there.kept; still = before.there.still }
+
+    pub shown_more : (i k : ℕ) (gone : Bool) (now next : Trail) (t u : S) (r new : Reading) → gone ≡ false → IsRun (step (of_head head)) axes now next t u r new k → HasShown i gone now t r → HasShown (i + k) gone next u new
+    shown_more i k gone now next t u r new keeps more h = record {
+      last = next;
+      run = run_then (step (of_head head)) axes at.trail h.last next state t u from r new i k (subst (λ (w : Trail). IsRun (step (of_head head)) axes w next t u r new k) (h.kept keeps) more) h.run;
+      kept = λ same. refl;
+      still = λ is. absurd (cc (keeps, is));
+    }
+
+    -- all points can be read
+    readable : (points : List PointValue) × (stop : Reading) × (points_at count axes at.trail.last from ≡ (Ok points, stop))
+    readable =
+        let (points, stop, e) = before.readable refl in
+        (points, stop, ap (λ (s : Stage ((Header × GName) × S)). points_at count s.axes at.trail.last from) (sym before.there.at_is) ∙ e)
+
+    -- so reading the next one doesn't fail
+    pub shown_reads : (i : ℕ) (gone : Bool) (now : Trail) (t : S) (r new : Reading) (m : Malformed) → i < count → gone ≡ false → HasShown i gone now t r → Fails (point_at axes now.last r) m new → ⊥
+    shown_reads i gone now t r new m lt keeps h fails =
+        let (points, stop, e) = readable in
+        run_next (step (of_head head)) axes count at.trail h.last state t from r new stop i points m e lt h.run (subst (λ (w : Trail). Fails (point_at axes w.last r) m new) (h.kept keeps) fails)
+
+    -- a run or a point may follow
+    pub shown_ready : (i : ℕ) (gone : Bool) (now : Trail) (t : S) (r : Reading) → gone ≡ false → HasShown i gone now t r → IsWalk head axes now r
+    shown_ready i gone now t r keeps h =
+        let same = ap (λ (w : Trail). w.points) (h.kept keeps) in
+        (before.there.precisions, before.there.axes_are, omega (arith, before.counted, same, h.run.walked.points, h.run.walked.ahead))
+
+    -- the points after those shown can be read
+    pub shown_rest : (i : ℕ) (gone : Bool) (now : Trail) (t : S) (r : Reading) → i ≤ count → HasShown i gone now t r → (s : PointValue) × (points : List PointValue) × (stop : Reading) × (points_at (count - i) axes s r ≡ (Ok points, stop))
+    shown_rest i gone now t r le h =
+        let (points, stop, e) = readable in
+        let rest = run_rest (step (of_head head)) axes count i at.trail h.last state t from r stop points le e h.run in
+        (h.last.last, rest.0, stop, rest.1)
+
+    -- a run of all points leads to the stage after them
+    all_shown : (gone : Bool) (now last : Trail) (t : S) (to : Reading) → (gone ≡ false → now ≡ last) → (gone ≡ true → IsStill (step (of_head head)) t) → IsRun (step (of_head head)) axes at.trail last state t from to count
+        → HasRead (points_at count at.axes) (λ points. points) (beside (λ h. step h.0)) (IsWalkingOn step head axes gone now name t) at from to
+    all_shown gone now last t to kept still run =
+        let w = before.there in
+        subst (λ (at : Stage ((Header × GName) × S)). HasRead (points_at count at.axes) (λ points. points) (beside (λ h. step h.0)) (IsWalkingOn step head axes gone now name t) at from to) (sym w.at_is)
+        (record {
+          value = run.numbers;
+          read = run.read;
+          trail = last;
+          state = ((of_head head, name), t);
+          there = record { precisions = w.precisions; axes_are = w.axes_are; at_is = refl; kept = kept; still = still };
+          walked = walked_beside (λ h. step h.0) (of_head head, name) axes at.trail last state t from.place to.place run.numbers run.walked;
+        })
+
+    pub shown_ends : (i : ℕ) (gone : Bool) (now : Trail) (t : S) (r : Reading) → i ≡ count → HasShown i gone now t r → HasRead (points_at count at.axes) (λ points. points) (beside (λ h. step h.0)) (IsWalkingOn step head axes gone now name t) at from r
+    shown_ends i gone now t r end h = all_shown gone now h.last t r h.kept h.still (subst (IsRun (step (of_head head)) axes at.trail h.last state t from r) end h.run)
+
+    -- points that are passed count as shown, if no point changes the state
+    pub shown_passed : (i : ℕ) (gone : Bool) (now : Trail) (t : S) (r new : Reading) → i ≤ count → IsStill (step (of_head head)) t → ArePassed (step (of_head head)) axes (count - i) r new → HasShown i gone now t r
+        → HasRead (points_at count at.axes) (λ points. points) (beside (λ h. step h.0)) (IsWalkingOn step head axes true now name t) at from new
+    shown_passed i gone now t r new le still passes h =
+        let (points, stop, e) = readable in
+        let some : 1 ≤ axes = omega (arith, before.there.axes_are, axes_some head.z head.m) in
+        let (after, run) = run_passed (step (of_head head)) axes count i at.trail h.last state t from r new stop points some le e still passes h.run in
+        all_shown true now after t new (λ keeps. absurd (cc (keeps))) (λ is. still) run
+
+    -- what is read is of the bytes before
+    pub read_same_bytes : (stands : Stage ((Header × GName) × S) → Type 0) (new : Reading) → HasRead (points_at count at.axes) (λ points. points) (beside (λ h. step h.0)) stands at from new → new.bytes ≡ from.bytes
+    read_same_bytes stands new read = read_keeps (points_at count at.axes at.trail.last) from new read.value (keeps_points at.axes count at.trail.last) read.read
+
+-- what a walk has shown of a value that was read, by the reference to its visitor that it began with
+pub walk_shown : {A S : Type 0} (step : Header → S → PointValue → S) (each : PointValue → Reader A) (points_in : A → List PointValue) (h : Header) (name : GName) (axes : ℕ) (old : Trail) (s : S)
+    (now : Head) (many : ℕ) (gone : Bool) (new : Trail) (last : GName) (t : S) (from to : Reading)
+    → HasRead each points_in (beside (λ h. step h.0)) (IsWalkingOn step now many gone new last t) (record { axes = axes; trail = old; state = ((h, name), s) }) from to
+    → (value : A) × (each old.last from ≡ (Ok value, to)) × (after : Trail) × IsWalked (step h) axes old after s t from.place to.place (points_in value) × (name ≡ last)
+walk_shown {A} {S} step each points_in h name axes old s now many gone new last t from to read =
+    let end : read.state ≡ ((of_head now, last), t) = ap (λ (at : Stage ((Header × GName) × S)). at.state) read.there.at_is in
+    let walked = subst (λ (u : (Header × GName) × S). IsWalked (beside (λ h. step h.0)) axes old read.trail ((h, name), s) u from.place to.place (points_in read.value)) end read.walked in
+    let kept = sym end ∙ read.walked.added ∙ fold_beside (λ h. step h.0) (h, name) s (lasts_from old.last (points_in read.value)) in (
+      read.value,
+      read.read,
+      read.trail,
+      walked_apart (λ h. step h.0) (h, name) axes old read.trail s t (of_head now, last) from.place to.place (points_in read.value) walked,
+      sym (ap (λ (u : (Header × GName) × S). (u.0).1) kept),
+    )
+
+-- what is behind a reference that was lent is what it was last
+pub lent_back : {X Y : Type 0} (f : X → Y) (name last : GName) (x now : X) (y : Y) → name ≡ last → f now ≡ y → (name ≡ last → x ≡ now) → f x ≡ y
+lent_back f name last x now y same is back = ap f (back same) ∙ is
