@@ -39,8 +39,8 @@ pub fn take_parts<L: LineLoop, R: PointReader>(
     }
 }
 
-/// Whether the loop over lines is inlined. A function of audits that has it inlined is so large that the compiler no longer inlines
-/// what is called most.
+/// Whether the loop over lines is inlined: it is in skims. In audits, the functions that call it would grow so large that the
+/// compiler inlines less into them.
 pub trait LineLoop {
     /// Reads `count` lines.
     fn take<R: PointReader>(cursor: &mut Cursor, count: u64, reader: &mut R) -> Result<(), R::Fault>

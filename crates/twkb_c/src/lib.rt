@@ -1,4 +1,5 @@
-//! The library for C, and for languages that can call C. `bindings/c/twkb.h` declares it.
+//! The library for C, and for languages that can call C. `bindings/c/twkb.h` declares it. Programs in C may
+//! call all functions. The Python package and the Rust crate in `bindings` call all but the three that return names.
 //!
 //! A call takes a slice as a pointer and a length. No call keeps a pointer or a state, and each frees the memory that it allocates,
 //! so any number of threads may call at once.
@@ -185,7 +186,7 @@ pub extern "C" fn twkb_kind_name(number: u32) -> Name
     }
 }
 
-/// The name of a verdict's answer, followed by zeros. It is empty if the number is no answer.
+/// The name of a verdict's answer, followed by zeros. It is all zeros if the number is no answer.
 #[unsafe(no_mangle)]
 pub extern "C" fn twkb_answer_name(number: u32) -> Name
     ensures { result.text ≡ with_zeros (answer_name number) }

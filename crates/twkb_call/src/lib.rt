@@ -1,7 +1,8 @@
 //! The library in a form that other languages can call: bytes as slices, a certified layer as its bytes and two numbers, and
 //! results in memory that the caller lends.
 //!
-//! `twkb_c` exports these functions with the allocator of the C library, and `twkb_web` without one.
+//! `twkb_c` and `twkb_web` export these functions, the first with the allocator of the C library, the second without one.
+//! Directories and names are exported by `twkb_c` alone, and drawing by `twkb_web` alone.
 #![tactic(auto)]
 
 mod directory;

@@ -80,7 +80,7 @@ impl RawRange {
         Span::spelled(self.minimum, self.extent, precision)
     }
 
-    /// The range in units of an axis that may be absent.
+    /// The range in units, by the precision of its axis. `None` if there is no such axis.
     #[inline(always)]
     fn in_units_if(&self, precision: Option<u8>) -> Option<Span>
         requires { IfSome precision (λ p. p ≤ 7) }

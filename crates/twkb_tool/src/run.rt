@@ -75,7 +75,7 @@ pub fn run_in<A: Allocator, S: Source, K: Sink>(
     Ok(verdict)
 }
 
-/// Reads to the end of the source, or one byte past the limit.
+/// Reads the source to its end. If it has a byte more than the limit, that is the fault `TooLarge`.
 fn read_all<A: Allocator, S: Source>(
     alloc: A,
     source: &mut S,
@@ -101,7 +101,8 @@ fn read_all<A: Allocator, S: Source>(
     Err(RunFault::TooLarge)
 }
 
-/// Takes the next bytes after the `held` ones, and returns how many there were. The buffer grows before the source is asked.
+/// Asks the source once for more bytes, puts them after the `held` ones, and returns how many came: none at the end. If the buffer
+/// is full, it grows before the source is asked.
 fn take_piece<A: Allocator, S: Source>(
     source: &mut S,
     bytes: &mut Vec<u8, A>,

@@ -1,6 +1,7 @@
 //! The library for a web page. It has no heap and no state: the page lends all memory that a call needs.
 //!
-//! A call takes a slice as a pointer and a length. The page copies bytes into the module's memory before the call.
+//! A call takes a slice as a pointer and a length. The page copies bytes into the module's memory before the call. In
+//! `bindings/web` the tests (`twkb.mjs`) and our own page call all but `twkb_span_of_decimals`, which is there for other pages.
 #![tactic(auto)]
 
 ghost use Rattle.std.specs.Prelude.{◌≡◌, ◌≢◌, ◌≤◌, if◌then◌else◌, true, false, List, length, map, sum_by, ◌⊎◌};
