@@ -3,7 +3,7 @@ use Rattle.std.proofs.Common.{◌≡◌, ℕ, zero, suc, ◌+◌, ◌-◌, ◌<�
 use Rattle.std.proofs.lemmas.Grind.{flat_map-append}
 use Rattle.std.proofs.lemmas.List.{append-nil, map-id}
 use Rattle.std.proofs.lemmas.List.Sums.{fold-append}
-use Rattle.std.specs.Prelude.{IfSome, ◌⊎◌, Bool, true, false}
+use Rattle.std.specs.Prelude.{IfSome, ◌⊎◌, Bool, false}
 use Rattle.twkb_num.specs.Cursor.{Reading}
 use Rattle.twkb_head.specs.declared.kinds.Kind.{Kind}
 use Rattle.twkb_head.specs.declared.kinds.Kind.TheVariants.{Point, LineString, Polygon, MultiPoint, MultiLineString, MultiPolygon, GeometryCollection}
@@ -117,11 +117,6 @@ parts_before {A} {S} {kind} {f} {after} {each} {points_in} are stands trusts cou
 -- before its first point, a reader that doesn't trust the bytes is before any value
 pub none_yet : {A S : Type 0} (stands : Stage S → Type 0) (each : ℕ → PointValue → Reader A) (r : Reading) (at : Stage S) → stands at → at.trail.points ≡ 0 → IsBefore stands false each r at
 none_yet stands each r at there none = record { there = there; counted = omega (arith, none); readable = λ t. absurd (cc (t)) }
-
--- what is never trusted is not trusted
-pub untrusted : (b : Bool) → (b ≡ true → ⊥) → b ≡ false
-untrusted true not = absurd (not refl)
-untrusted false not = refl
 
 -- a collection has no parts of its own: to read some of them reads nothing
 pub nothing_read : (axes n : ℕ) (s : PointValue) (r : Reading) → many_at n ring_sums (part_at GeometryCollection axes) s r ≡ (Ok (replicate n []), r)
@@ -297,12 +292,6 @@ module _ {S : Type 0} (step : S → PointValue → S) (at : Stage S) {A : Type 0
           counted = omega (arith, before.counted, ahead, h.loop.walked.points, h.loop.walked.ahead);
           readable = λ t. let list = next_list i h.trail h.state r lt h.loop (before.readable t) in (list.0, list.1, sym (ap (λ (a : Answer ℕ). a >>= λ n. many_at n after each h.trail.last) counted) ∙ list.2);
         }
-
-    -- where a length is malformed, the bytes aren't trusted
-    pub length_untrusted : (m : Malformed) → number_at r ≡ (Err m, mid) → trusts ≡ false
-    length_untrusted m failed = untrusted trusts (λ t.
-        let list = next_list i h.trail h.state r lt h.loop (before.readable t) in
-        ok_not_err list.0 m list.1 mid (sym list.2 ∙ ap (λ (a : Answer ℕ). a >>= λ n. many_at n after each h.trail.last) failed))
 
   -- a length was read, and as many values
   pub lists_go_on : (stands next : Stage S → Type 0) (i : ℕ) (r mid new : Reading) (n : ℕ) → i < count → (h : HasReadLists stands i r) → number_at r ≡ (Ok n, mid) → HasRead (many_at n after each) points_in step next (on at h.trail h.state) mid new

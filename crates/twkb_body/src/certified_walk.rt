@@ -56,7 +56,7 @@ impl<'h, 'v, V: Visit> CertifiedWalk<'h, 'v, V> {
 }
 
 impl<'h, 'v, V: Visit> PointReader for CertifiedWalk<'h, 'v, V> {
-    ghost use Rattle.std.specs.Prelude.{◌≡◌, true, false, Some};
+    ghost use Rattle.std.specs.Prelude.{◌≡◌, true, Some};
     ghost use Rattle.std.specs.Borrow.{GName};
     ghost use Rattle.twkb_head.specs.Header.{Header};
     ghost use Rattle.twkb_body.specs.Devices.PointReader.{IsWalkingOn};
@@ -108,9 +108,9 @@ impl<'h, 'v, V: Visit> PointReader for CertifiedWalk<'h, 'v, V> {
     }
 
     #[inline(always)]
-    fn fault_of(_malformed: Malformed) -> Malformed
-        requires { true ≡ false }
+    fn fault_of(malformed: Malformed) -> Malformed
+        ensures { result ≡ malformed }
     {
-        unreachable!()
+        malformed
     }
 }

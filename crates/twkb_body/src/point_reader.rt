@@ -4,7 +4,7 @@
 //! [`CertifiedWalk`](crate::certified_walk::CertifiedWalk) shows the points of certified bytes to a
 //! visitor until it is settled.
 //! [`LaneTrail`](crate::lane_trail::LaneTrail) stops at the first point outside a box.
-ghost use Rattle.std.specs.Prelude.{◌≡◌, Bool, false, Option, IfOk, IfErr, IfSome};
+ghost use Rattle.std.specs.Prelude.{◌≡◌, Bool, Option, IfOk, IfErr, IfSome};
 ghost use Rattle.twkb_head.specs.declared.refusal.Malformed.{Malformed as MalformedOf};
 ghost use Rattle.twkb_body.specs.Geometry.{PointValue};
 ghost use Rattle.twkb_body.specs.Devices.PointReader.{Stage, IsReady, ReadsAll, StopsEarly, points_at};
@@ -49,6 +49,5 @@ pub trait PointReader {
 
     /// The fault for a malformed field.
     fn fault_of(malformed: Malformed) -> Self::Fault
-        requires { trusts ≡ false }
         ensures { IfSome (tells result) (λ m. m ≡ malformed) };
 }

@@ -4,7 +4,7 @@ use Rattle.std.proofs.lemmas.Result.{err_from_is_err_and}
 use Rattle.twkb_head.specs.Shared.Reader.{Answer}
 use Rattle.twkb_body.specs.Devices.PointReader.{on}
 use Rattle.twkb_body.proofs.Keeping.{keeps_number}
-use Rattle.twkb_body.proofs.PointReads.{lists_begin, values_before, length_untrusted, lists_go_on, lists_end, values_fail, length_fails}
+use Rattle.twkb_body.proofs.PointReads.{lists_begin, values_before, lists_go_on, lists_end, values_fail, length_fails}
 use Rattle.twkb_body.proofs.parts.PrefixedValues.take.Goals as goal
 
 pub loop-init : goal.loop-init
@@ -24,12 +24,6 @@ take-requires g c =
             (g.R.PointReader.stands c.args.reader.now) g.R.PointReader.trusts before (g.R.PointReader.stands c.loop.reader) c.loop.counter c.loop.cursor c.take_number.new.cursor c.loop-test.true h c.in-Ok.values c.in-Ok.ensures,
       );
     }
-
-pub fault_of-requires : goal.fault_of-requires
-fault_of-requires g c =
-    let (at, before) = c.requires.ready in
-    length_untrusted g.R.PointReader.step at g.V.Values.after g.V.Values.each g.V.Values.points_in c.args.count c.args.cursor.now
-    (g.R.PointReader.stands c.args.reader.now) g.R.PointReader.trusts before (g.R.PointReader.stands c.loop.reader) c.loop.counter c.loop.cursor c.take_number.new.cursor c.loop-test.true (c.loop.invariant.read at before) c.in-Err.malformed c.in-Err.ensures
 
 pub returns-in_err-take-in-Ok-clause-ended : goal.returns-in_err-take-in-Ok-clause-ended
 returns-in_err-take-in-Ok-clause-ended g c =
