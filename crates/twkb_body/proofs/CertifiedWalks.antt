@@ -18,7 +18,7 @@ use Rattle.twkb_body.proofs.Settling.{ArePassed, axes_some, run_next, run_passed
 use Rattle.twkb_body.proofs.WalkReads.{beside, fold_beside, walked_beside, walked_apart}
 
 -- a run under a header that is another's equal
-pub run_under : {S : Type 0} (step : Header → S → PointValue → S) (head now : Head) (axes many : ℕ) (old new : Trail) (s t : S) (from to : Reading) (count : ℕ) → now ≡ head → many ≡ axes
+run_under : {S : Type 0} (step : Header → S → PointValue → S) (head now : Head) (axes many : ℕ) (old new : Trail) (s t : S) (from to : Reading) (count : ℕ) → now ≡ head → many ≡ axes
     → IsRun (step (of_head now)) many old new s t from to count → IsRun (step (of_head head)) axes old new s t from to count
 run_under step head now axes many old new s t from to count same axes_same run =
     subst (λ (n : ℕ). IsRun (step (of_head head)) n old new s t from to count) axes_same (subst (λ (h : Head). IsRun (step (of_head h)) many old new s t from to count) same run)
@@ -39,13 +39,18 @@ module _ {S : Type 0} (step : Header → S → PointValue → S) (head : Head) (
     pub shown_none : HasShown 0 lost trail state from
     shown_none = record { last = at.trail; run = run_none (step (of_head head)) axes at.trail state from; kept = before.there.kept; still = before.there.still }
 
-    pub shown_more : (i k : ℕ) (gone : Bool) (now next : Trail) (t u : S) (r new : Reading) → gone ≡ false → IsRun (step (of_head head)) axes now next t u r new k → HasShown i gone now t r → HasShown (i + k) gone next u new
+    shown_more : (i k : ℕ) (gone : Bool) (now next : Trail) (t u : S) (r new : Reading) → gone ≡ false → IsRun (step (of_head head)) axes now next t u r new k → HasShown i gone now t r → HasShown (i + k) gone next u new
     shown_more i k gone now next t u r new keeps more h = record {
       last = next;
       run = run_then (step (of_head head)) axes at.trail h.last next state t u from r new i k (subst (λ (w : Trail). IsRun (step (of_head head)) axes w next t u r new k) (h.kept keeps) more) h.run;
       kept = λ same. refl;
       still = λ is. absurd (cc (keeps, is));
     }
+
+    -- a run under an equal header is added to what was shown
+    pub run_shown : (under : Head) (many i k : ℕ) (gone : Bool) (now next : Trail) (t u : S) (r new : Reading) → under ≡ head → many ≡ axes → gone ≡ false → IsRun (step (of_head under)) many now next t u r new k → HasShown i gone now t r → HasShown (i + k) gone next u new
+    run_shown under many i k gone now next t u r new same axes_same keeps more =
+        shown_more i k gone now next t u r new keeps (run_under step head under axes many now next t u r new k same axes_same more)
 
     -- all points can be read
     readable : (points : List PointValue) × (stop : Reading) × (points_at count axes at.trail.last from ≡ (Ok points, stop))

@@ -6,6 +6,7 @@ ghost use Rattle.twkb_body.specs.Devices.Quads.{lanes_at, FromLanes, IsInLane, I
 ghost use Rattle.twkb_body.specs.Devices.Body.{zeros};
 
 use crate::lane_trail::{LaneReader, LaneTrail};
+use crate::parts::LinesCalled;
 use crate::positions::{Reached, Step, distances_in, is_in_lane, is_lane_extent, lanes_of};
 use crate::quads::{next_one, next_points, next_two};
 use crate::varints::take_signed;
@@ -36,6 +37,8 @@ impl FlatLanes {
 
 impl LaneReader for FlatLanes {
     ghost use Rattle.twkb_body.specs.Devices.LaneTrail.{IsFlatPlace};
+
+    type Lines = LinesCalled;
 
     ghost axes = { 2 };
 

@@ -19,7 +19,7 @@ pub struct Frame {
 impl Frame {
     /// The frame of a geometry: its own box or, if it has none, the frame above. `Some(None)` if neither is there.
     ///
-    /// `None` if the geometry has to be read by [`sure/apart`](crate::sure): its own box has numbers far from zero or a negative
+    /// `None` if the geometry has to be read apart, as the exact audit reads it: its own box has numbers far from zero or a negative
     /// extent, or the frame above has other axes or precisions, or doesn't contain that box.
     #[inline(always)]
     pub fn under(above: &Option<Frame>, head: &Head, own: &Option<RawBox>) -> Option<Option<Frame>>

@@ -10,6 +10,7 @@ use crate::box_test::{BoxTest, distances, placed};
 use crate::flat_lanes::fits_lane;
 use crate::lane_trail::{LaneReader, LaneTrail};
 use crate::numbers::{Numbers, take_three};
+use crate::parts::LinesInlined;
 use crate::positions::{
     Reached, Step, four_lanes_of, numbers_in, one_of_four, one_of_three, two_further,
 };
@@ -56,6 +57,8 @@ impl<const AXES: usize> FurtherLanes<AXES> {
 impl<const AXES: usize> LaneReader for FurtherLanes<AXES> {
     ghost use Rattle.twkb_body.specs.Devices.FurtherLanes.{IsFurtherPlace};
     ghost use Rattle.twkb_body.specs.Devices.Numbers.{is_four, axes_by};
+
+    type Lines = LinesInlined;
 
     ghost axes = { axes_by (is_four AXES) };
 

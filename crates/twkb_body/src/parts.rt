@@ -33,14 +33,15 @@ pub fn take_parts<L: LineLoop, R: PointReader>(
         Kind::Point | Kind::MultiPoint => OutOfLine(Run).take(cursor, count, reader),
         Kind::LineString | Kind::MultiLineString => L::take(cursor, count, reader),
         Kind::Polygon | Kind::MultiPolygon => {
-            OutOfLine(Prefixed(OutOfLine(Prefixed(Run)))).take(cursor, count, reader)
+            let rings = OutOfLine(Prefixed(Run));
+            OutOfLine(Prefixed(rings)).take(cursor, count, reader)
         }
         Kind::GeometryCollection => Ok(()),
     }
 }
 
-/// Whether the loop over lines is inlined: it is in skims. In audits, the functions that call it would grow so large that the
-/// compiler inlines less into them.
+/// Whether the loop over lines is inlined: it is in skims, and for points with Z or M that a box has to hold. The other functions of
+/// audits that call it would grow so large that the compiler inlines less into them.
 pub trait LineLoop {
     /// Reads `count` lines.
     fn take<R: PointReader>(cursor: &mut Cursor, count: u64, reader: &mut R) -> Result<(), R::Fault>

@@ -1,4 +1,4 @@
-//! Where points are, in lanes of 32 bits, and whether a box holds them.
+//! Where points are, in lanes of 32 bits, and whether a box holds them. Short differences are added up in lanes of 16 bits first.
 //!
 //! A lane holds a point's distance in one axis from the minimum of the box. One comparison without signs tells whether the point is
 //! in the box, since a distance below zero is a great number then. Points of X and Y alone have each distance in two lanes.
@@ -252,7 +252,7 @@ fn with_half_before(d: u16x8) -> u16x8
     d + d.shuffle(u16x8::splat(0), [8, 9, 10, 11, 0, 1, 2, 3])
 }
 
-/// Adds 2^15 to each lane, so that signed sums become numbers without sign.
+/// Adds 2^15 to each lane, so that signed sums become numbers without sign, in the same order.
 #[inline(always)]
 fn biased(d: u16x8) -> u16x8
     ensures { (a b c d' e f g h : ℕ) → d ≡ a ∷ b ∷ c ∷ d' ∷ e ∷ f ∷ g ∷ h ∷ []

@@ -19,9 +19,9 @@ mod plain;
 mod shapes;
 mod unboxed;
 
-use self::announced::{BOX, FLAT_BOX_BITS, FURTHER_BOX, NO_FIELD, SIZE_ALONE, with_bits};
+use self::announced::{BOX, FLAT_BOX_BITS, FURTHER_BOX, NO_FIELD, with_bits};
 use self::apart::{flat_ranges, take_apart, take_apart_flat};
-use self::plain::{take_plain_line, take_plain_point};
+use self::plain::{pass_point, take_plain};
 use self::shapes::{take_flat_shape, take_further_shape};
 use crate::doubt::Doubt;
 use crate::found::judge_size;
@@ -33,26 +33,26 @@ use twkb_num::Cursor;
 
 /// Reads the blob at the place, and returns how many vertices it has and where it ends. A doubt says that it isn't certified,
 /// or that a list of ids lacks memory.
-// The end of a point is known by its size, so that the next blob needn't wait for the ends of its numbers.
 #[inline(always)]
 pub fn take_blob<R: IdRoom>(room: &mut R, cursor: &mut Cursor) -> Result<(usize, usize), Doubt>
     ensures certified { Certifies 1 None cursor.old (counted_in result) cursor.new }
     ensures stop { IfOk result (λ both. both.1 ≡ cursor.new.place) }
 {
+    if let Some(vertices) = pass_point(cursor) {
+        // The place is computed from the size, so that the next blob needn't wait for the ends of the numbers.
+        return Ok((vertices, cursor.place()));
+    }
     cursor.place_is_within();
     let Some((first, metadata)) = cursor.two_bytes() else {
         return Err(Doubt::Refused);
     };
-    if let Some(begun) = begun_as(cursor, Kind::Point, SIZE_ALONE, first, metadata) {
-        return take_plain_point(cursor, begun);
-    }
-    // These two have a comparison of their own: in a series of three, the compiler would compare sized points last.
     if metadata % 32 == NO_FIELD {
         if let Some(begun) = begun_as(cursor, Kind::Point, NO_FIELD, first, metadata) {
-            return take_plain_point(cursor, begun);
+            let vertices = take_plain(cursor, begun)?;
+            return Ok((vertices, cursor.place()));
         }
         if let Some(begun) = begun_as(cursor, Kind::LineString, NO_FIELD, first, metadata) {
-            let vertices = take_plain_line(cursor, begun)?;
+            let vertices = take_plain(cursor, begun)?;
             return Ok((vertices, cursor.place()));
         }
     }

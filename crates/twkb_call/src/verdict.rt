@@ -33,9 +33,9 @@ const SIZE: usize = std::mem::size_of::<Verdict>();
 // Callers in other languages lay it out by hand.
 const _: () = prove!(SIZE == 40);
 
-/// Certifies the bytes as a layer, with an allocator or with a buffer for the ids of a list, which it may overwrite, and no other memory.
-/// The verdict is "out of memory" only if a list has more than sixteen ids and, with a buffer, more than the buffer has places.
-/// The contract promises the first of these alone.
+/// Certifies the bytes as a layer, with an allocator or with a buffer for the ids of a list, which it may overwrite, and no other
+/// memory. The verdict is "out of memory" only if a list has more than sixteen ids and, with a buffer, more than the buffer has
+/// places. The contract promises the first of these alone.
 pub fn certify<R: AuditRoom>(room: &mut R, bytes: &[u8]) -> Verdict
     ensures says { Says IsTrueClaim result bytes.now }
     ensures complete { (trees : List Geometry) → IsCertifiedLayer trees bytes.now

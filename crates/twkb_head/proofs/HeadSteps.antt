@@ -1,5 +1,5 @@
 -- The steps by which code reads a header, as the reader of headers takes them.
-use Rattle.std.proofs.Common.{◌≡◌, ℕ, ◌+◌, ◌-◌, ◌*◌, ◌/◌, ◌%◌, ◌<◌, ◌==◌, List, [], ◌∷◌, ◌++◌, length, Option, Some, None, option_map, Bool, true, false, ℤ, ◌+ℤ◌, Result, Ok, Err, refl, sym, ap, ap₂, subst, ◌∙◌, arith}
+use Rattle.std.proofs.Common.{◌≡◌, ℕ, ◌+◌, ◌-◌, ◌*◌, ◌/◌, ◌%◌, ◌==◌, List, [], ◌∷◌, ◌++◌, length, Option, Some, None, option_map, Bool, true, false, ℤ, ◌+ℤ◌, Result, Ok, Err, refl, sym, ap, ap₂, subst, ◌∙◌, arith}
 use Rattle.std.specs.Int.Bits.{bit_and}
 use Rattle.std.proofs.lemmas.Nat.{and_block, and_le_r, and_mask}
 use Rattle.std.proofs.lemmas.Grind.{common_steps}
@@ -75,13 +75,6 @@ pub two_back : (old new : Reading) (first metadata : ℕ) → IsMoved old new �
 two_back old new first metadata moved bytes =
     let long : length (passed old new) ≡ new.place - old.place = grind (arith, common_steps, moved.within) in
     omega (arith, ap length bytes, long, moved.ahead)
-
--- the bits of two bytes that tell the kind and the announced fields
-pub kind_and_fields : (first metadata : ℕ) → first < 256 → bit_and (first + 256 * metadata) 0x1f0f ≡ first % 16 + 256 * (metadata % 32)
-kind_and_fields first metadata low =
-    let split : first + 256 * metadata ≡ metadata * 256 + first = omega arith in
-    let both = and_block 8 metadata 0x1f first 0x0f low (omega arith) in
-    ap (λ x. bit_and x 0x1f0f) split ∙ omega (arith, both, and_mask first 4, and_mask metadata 5)
 
 -- the bits of a metadata byte for a box, extended dimensions and no body
 pub box_bits : (metadata : ℕ) → bit_and metadata 0x19 ≡ metadata % 2 + 8 * (metadata / 8 % 4)

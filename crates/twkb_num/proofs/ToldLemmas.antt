@@ -21,10 +21,14 @@ eight_are bytes chunk place is =
 pub long_next : (bytes chunk : List ℕ) (place : ℕ) → chunk ≡ take 8 (slice_range bytes place (length bytes)) → HasLong 4 8 chunk → HasLong 4 8 (drop place bytes)
 long_next bytes chunk place is h = long_in_front 4 8 8 (drop place bytes) chunk (eight_are bytes chunk place is) (omega arith) h
 
-pub once_next : (bytes chunk : List ℕ) (place : ℕ) → chunk ≡ take 8 (slice_range bytes place (length bytes)) → EndsOnce chunk → EndsOnce (drop place bytes)
-once_next bytes chunk place is h =
-    let at : (k : ℕ) → k < 8 → slice_index chunk k ≡ slice_index (drop place bytes) k = λ k l. ap (λ x. slice_index x k) (eight_are bytes chunk place is) ∙ get_or-take 8 (drop place bytes) k 0 l in
+-- if at most one of the first eight bytes ends a varint, this holds of all bytes
+pub once_in_front : (bytes chunk : List ℕ) → chunk ≡ take 8 bytes → EndsOnce chunk → EndsOnce bytes
+once_in_front bytes chunk is h =
+    let at : (k : ℕ) → k < 8 → slice_index chunk k ≡ slice_index bytes k = λ k l. ap (λ x. slice_index x k) is ∙ get_or-take 8 bytes k 0 l in
     λ i k before few ends. omega (arith, at k few, h i k before few (omega (arith, ends, at i (omega (arith, before, few)))))
+
+pub once_next : (bytes chunk : List ℕ) (place : ℕ) → chunk ≡ take 8 (slice_range bytes place (length bytes)) → EndsOnce chunk → EndsOnce (drop place bytes)
+once_next bytes chunk place is = once_in_front (drop place bytes) chunk (eight_are bytes chunk place is)
 
 -- fewer bytes than this are left, or among as many n go on, one after another
 abbrev pub IsTold : ℕ → ℕ → List ℕ → Type 0

@@ -27,6 +27,9 @@ use std::marker::Model;
 ///
 /// - [`Cursor::pass_varint`]: fewer than eight bytes are left, or the next eight all go on (`told`).
 /// - [`Cursor::pass_pair`]: fewer than eight bytes are left, or at most one of the next eight ends a varint (`told`).
+/// - [`Cursor::pass_sized_point`]: fewer than eleven bytes are left, or the first two aren't those of a point with a size and no other
+///   field, or at most one of the eight bytes after the third ends a varint, or the two varints there don't take as many bytes as the
+///   third byte says (`told`).
 /// - [`Cursor::svarint_pair`] and [`Cursor::svarint_mixed_pair`]: fewer than eight bytes are left, or four in a row of the next
 ///   eight go on (`told`).
 /// - [`Cursor::svarint_pair_and_one`]: fewer than twelve bytes are left, or four in a row of the next twelve go on (`told`).
@@ -102,7 +105,7 @@ impl<'a> Cursor<'a> {
         self.place
     }
 
-    /// Does nothing. After it a proof knows that the place is within the bytes, and that each number fits its type.
+    /// Does nothing. After it a proof knows that the place is within the bytes, and that the cursor's own numbers fit their types.
     #[inline(always)]
     pub fn place_is_within(&self)
         ensures { IsSound self.now }
@@ -335,6 +338,7 @@ impl<'a> Cursor<'a> {
 
 mod lanes;
 mod pairs;
+mod point;
 mod runs;
 #[cfg(test)]
 mod tests;

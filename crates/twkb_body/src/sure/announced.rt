@@ -3,11 +3,8 @@ ghost use Rattle.std.specs.Prelude.{◌≡◌, ◌%◌, bit_and};
 
 use twkb_head::Begun;
 
-/// The lowest five bits of a metadata byte that announces a size and no other field, of a geometry that isn't empty (TWKB
-/// specification, "Metadata Header").
-pub const SIZE_ALONE: u8 = 2;
-
-/// The lowest five bits of a metadata byte that announces no field, of a geometry that isn't empty.
+/// The lowest five bits of a metadata byte that announces no field, of a geometry that isn't empty (TWKB specification, "Metadata
+/// Header").
 pub const NO_FIELD: u8 = 0;
 
 /// The bits of a metadata byte for a box, an extended dimensions byte and an empty geometry (TWKB specification, "Metadata

@@ -117,7 +117,7 @@ fn take_by_lanes<L: LaneReader + Drop>(
     ensures { (box : RawBoxOf) → L.place trail.reader box trail.at trail.extent zeros
         → HoldsOrLeaves kind L.axes count box cursor.old cursor.new result }
 {
-    match take_parts::<LinesCalled, _>(cursor, kind, count, &mut trail) {
+    match take_parts::<L::Lines, _>(cursor, kind, count, &mut trail) {
         Ok(()) => Ok(trail.points),
         Err(_) => Err(Doubt::Refused),
     }

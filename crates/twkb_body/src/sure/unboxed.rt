@@ -1,6 +1,6 @@
 //! Bodies that no box asks for, in the first reading. If numbers are short and points are few, no sum can leave 64 bits: then all
 //! numbers are passed by their ends. Otherwise coordinates are summed, from the first.
-ghost use Rattle.std.specs.Prelude.{◌≡◌, ◌≤◌, IfOk, IfErr, IfSome, IfNone, OnErr};
+ghost use Rattle.std.specs.Prelude.{◌≡◌, ◌⊎◌, ◌≤◌, IfOk, IfErr, IfSome, IfNone, OnErr};
 ghost use Rattle.twkb_head.specs.declared.kinds.Kind.TheVariants.{Point, LineString};
 ghost use Rattle.twkb_body.specs.Devices.Bare.{unchanged};
 ghost use Rattle.twkb_body.specs.Devices.Sure.{ReadParts, AreMalformed};
@@ -40,10 +40,24 @@ pub fn take_unboxed(
     }
 }
 
+/// Reads a point or a line of X and Y.
+#[inline(always)]
+pub fn take_bare(cursor: &mut Cursor, kind: Kind) -> Result<usize, Doubt>
+    requires { (kind ≡ Point) ⊎ (kind ≡ LineString) }
+    ensures ok { IfOk result (ReadParts unchanged kind 2 1 cursor.old cursor.new tt tt) }
+    ensures malformed { OnErr result (AreMalformed kind 2 1 cursor.old cursor.new) }
+    ensures refused { IfErr result (λ doubt. doubt ≡ Refused) }
+{
+    match kind {
+        Kind::Point => take_bare_point(cursor),
+        _ => take_flat_line(cursor),
+    }
+}
+
 /// Reads a line of X and Y as [`take_unboxed`] does.
 // It isn't `take_unboxed` with a constant kind, so that the compiled function has no branches for other kinds.
 #[inline(never)]
-pub fn take_flat_line(cursor: &mut Cursor) -> Result<usize, Doubt>
+fn take_flat_line(cursor: &mut Cursor) -> Result<usize, Doubt>
     ensures ok { IfOk result (ReadParts unchanged LineString 2 1 cursor.old cursor.new tt tt) }
     ensures malformed { OnErr result (AreMalformed LineString 2 1 cursor.old cursor.new) }
     ensures refused { IfErr result (λ doubt. doubt ≡ Refused) }
@@ -56,7 +70,7 @@ pub fn take_flat_line(cursor: &mut Cursor) -> Result<usize, Doubt>
 
 /// Reads a point of X and Y.
 #[inline(always)]
-pub fn take_bare_point(cursor: &mut Cursor) -> Result<usize, Doubt>
+fn take_bare_point(cursor: &mut Cursor) -> Result<usize, Doubt>
     ensures ok { IfOk result (ReadParts unchanged Point 2 1 cursor.old cursor.new tt tt) }
     ensures malformed { OnErr result (AreMalformed Point 2 1 cursor.old cursor.new) }
     ensures refused { IfErr result (λ doubt. doubt ≡ Refused) }

@@ -1,26 +1,23 @@
 -- Kind and fields are told by the bits of two bytes that name them.
-use Rattle.std.proofs.Common.{◌≡◌, ℕ, ◌+◌, ◌*◌, ◌/◌, ◌%◌, ◌<◌, bit_and, refl, ap₂, ◌∙◌, arith}
+use Rattle.std.proofs.Common.{◌≡◌, ◌/◌, refl, arith}
 use Rattle.std.proofs.lemmas.Int.{ints}
 use mir.Val.{to_z, of_z}
 use Rattle.std.specs.Int.{w8}
 use Rattle.twkb_num.specs.Varint.{zigzag_value}
-use Rattle.twkb_head.proofs.HeadSteps.{first_allowed, kind_and_fields, two_back}
+use Rattle.twkb_num.proofs.PointBytes.{bits_are}
+use Rattle.twkb_head.proofs.HeadSteps.{first_allowed, two_back}
 use Rattle.twkb_head.proofs.read.begun_as.Goals as goal
-
--- the bits of two bytes in one number that tell kind and fields
-told : (first metadata low high : ℕ) → first < 256 → low ≡ first → high ≡ metadata → bit_and (low + 256 * high) 0x1f0f ≡ first % 16 + 256 * (metadata % 32)
-told first metadata low high fits is more = ap₂ (λ x y. bit_and (x + 256 * y) 0x1f0f) is more ∙ kind_and_fields first metadata fits
 
 pub returns-then-both-from-clause-only : goal.returns-then-both-from-clause-only
 returns-then-both-from-clause-only c =
-    let is = told c.args.first c.args.metadata _ _ c.ranges.first.fits c.from.ensures c.from-2.ensures in (
+    let is = bits_are c.args.first c.args.metadata _ _ c.ranges.first.fits c.from.ensures c.from-2.ensures in (
       λ no. absurd (cc (no)),
       λ both. absurd (c.if-both-from.true (omega (arith, is, c.from-3.ensures, c.from-4.ensures, c.code.ensures, both.0, both.1))),
     )
 
 pub returns-clause-some : goal.returns-clause-some
 returns-clause-some c = λ before sound moved two.
-    let is = told c.args.first c.args.metadata _ _ c.ranges.first.fits c.from.ensures c.from-2.ensures in
+    let is = bits_are c.args.first c.args.metadata _ _ c.ranges.first.fits c.from.ensures c.from-2.ensures in
     let fits : to_z w8 (of_z w8 c.precision_of.result) ≡ zigzag_value (c.args.first / 16) = omega (arith, ints, c.precision_of.ensures.value) in
     record {
       type_byte = c.args.first;
@@ -36,7 +33,7 @@ returns-clause-some c = λ before sound moved two.
 
 pub returns-clause-only : goal.returns-clause-only
 returns-clause-only c =
-    let is = told c.args.first c.args.metadata _ _ c.ranges.first.fits c.from.ensures c.from-2.ensures in (
+    let is = bits_are c.args.first c.args.metadata _ _ c.ranges.first.fits c.from.ensures c.from-2.ensures in (
       λ yes. (
         omega (arith, is, c.if-both-from.false, c.from-3.ensures, c.from-4.ensures, c.code.ensures, c.code.type_inv),
         omega (arith, is, c.if-both-from.false, c.from-3.ensures, c.from-4.ensures, c.code.ensures, c.code.type_inv, c.requires.few),

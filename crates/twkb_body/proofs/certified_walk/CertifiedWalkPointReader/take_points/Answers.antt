@@ -5,7 +5,7 @@ use Rattle.twkb_body.specs.Geometry.{vertex_of}
 use Rattle.twkb_body.specs.Devices.BodyReader.{point_at}
 use Rattle.twkb_body.specs.Devices.Inside.{of_head}
 use Rattle.twkb_body.specs.Devices.Walk.{IsStill, shown}
-use Rattle.twkb_body.proofs.CertifiedWalks.{run_under, shown_none, shown_more, shown_reads, shown_ready, shown_rest, shown_ends, shown_passed, read_same_bytes}
+use Rattle.twkb_body.proofs.CertifiedWalks.{run_shown, shown_none, shown_reads, shown_ready, shown_rest, shown_ends, shown_passed, read_same_bytes}
 use Rattle.twkb_body.proofs.Settling.{ArePassed}
 use Rattle.twkb_body.proofs.Runs.{run_none, run_goes_on}
 use Rattle.twkb_body.proofs.certified_walk.CertifiedWalkPointReader.take_points.Goals.{then-loop-done-test+then-not-self+else-not-is_settled, then-loop-done-test+else-not-self, else-loop-done-test}
@@ -24,16 +24,14 @@ pub take_point-requires : goal.take_point-requires
 take_point-requires g c =
     let i = c.loop-done.invariant in
     let (at, before) = c.requires.ready in
-    let run = run_under (shown g.V.Visit.step) c.args.self.now.head.now c.loop-done.self.head.now c.args.self.now.axes c.loop-done.self.axes _ _ _ _ _ _ _ i.head i.axes c.take_run-run.ensures.run in
-    let far = shown_more _ _ _ _ _ _ _ _ _ at before c.loop-done.done c.take_run-run.result c.loop-done.self.lost _ _ _ _ _ _ c.if-not-self.true run (i.shown at before) in
+    let far = run_shown _ _ _ _ _ _ _ _ _ at before _ _ c.loop-done.done c.take_run-run.result c.loop-done.self.lost _ _ _ _ _ _ i.head i.axes c.if-not-self.true c.take_run-run.ensures.run (i.shown at before) in
     record { walk = rw (i.head, i.axes) (shown_ready _ _ _ _ _ _ _ _ _ at before (c.loop-done.done + c.take_run-run.result) c.loop-done.self.lost _ _ _ c.if-not-self.true far) }
 
 pub unreachable-requires : goal.unreachable-requires
 unreachable-requires g c =
     let i = c.loop-done.invariant in
     let (at, before) = c.requires.ready in
-    let run = run_under (shown g.V.Visit.step) c.args.self.now.head.now c.loop-done.self.head.now c.args.self.now.axes c.loop-done.self.axes _ _ _ _ _ _ _ i.head i.axes c.take_run-run.ensures.run in
-    let far = shown_more _ _ _ _ _ _ _ _ _ at before c.loop-done.done c.take_run-run.result c.loop-done.self.lost _ _ _ _ _ _ c.if-not-self.true run (i.shown at before) in
+    let far = run_shown _ _ _ _ _ _ _ _ _ at before _ _ c.loop-done.done c.take_run-run.result c.loop-done.self.lost _ _ _ _ _ _ i.head i.axes c.if-not-self.true c.take_run-run.ensures.run (i.shown at before) in
     shown_reads _ _ _ _ _ _ _ _ _ at before (c.loop-done.done + c.take_run-run.result) c.loop-done.self.lost _ _ _ _ c.in_default.field-0 (omega (arith, c.loop-done-test.true, c.if-run-eq0.true)) c.if-not-self.true far
     (subst (λ (n : ℕ). Fails (point_at n c.take_run-run.new.trail.last c.take_run-run.new.cursor) c.in_default.field-0 c.take_point.new.cursor) i.axes c.in_default.ensures)
 
@@ -47,11 +45,9 @@ loop-done-preserved-then-run-eq0 g c =
       name = i.name;
       within = omega (arith, c.loop-done-test.true, c.if-run-eq0.true);
       shown = λ at before.
-          let run = run_under (shown g.V.Visit.step) c.args.self.now.head.now c.loop-done.self.head.now c.args.self.now.axes c.loop-done.self.axes _ _ _ _ _ _ _ i.head i.axes c.take_run-run.ensures.run in
-          let far = shown_more _ _ _ _ _ _ _ _ _ at before c.loop-done.done c.take_run-run.result c.loop-done.self.lost _ _ _ _ _ _ c.if-not-self.true run (i.shown at before) in
-          let one = run_under (shown g.V.Visit.step) c.args.self.now.head.now c.loop-done.self.head.now c.args.self.now.axes c.loop-done.self.axes _ _ _ _ _ _ _ i.head i.axes
-          (run_goes_on (shown g.V.Visit.step (of_head c.loop-done.self.head.now)) c.loop-done.self.axes _ _ _ _ _ _ _ _ _ 0 read.0 read.1 read.2 (run_none (shown g.V.Visit.step (of_head c.loop-done.self.head.now)) c.loop-done.self.axes _ _ _)) in
-          shown_more _ _ _ _ _ _ _ _ _ at before (c.loop-done.done + c.take_run-run.result) 1 c.loop-done.self.lost _ _ _ _ _ _ c.if-not-self.true one far;
+          let far = run_shown _ _ _ _ _ _ _ _ _ at before _ _ c.loop-done.done c.take_run-run.result c.loop-done.self.lost _ _ _ _ _ _ i.head i.axes c.if-not-self.true c.take_run-run.ensures.run (i.shown at before) in
+          let one = (run_goes_on (shown g.V.Visit.step (of_head c.loop-done.self.head.now)) c.loop-done.self.axes _ _ _ _ _ _ _ _ _ 0 read.0 read.1 read.2 (run_none (shown g.V.Visit.step (of_head c.loop-done.self.head.now)) c.loop-done.self.axes _ _ _)) in
+          run_shown _ _ _ _ _ _ _ _ _ at before _ _ (c.loop-done.done + c.take_run-run.result) 1 c.loop-done.self.lost _ _ _ _ _ _ i.head i.axes c.if-not-self.true one far;
     }
 
 pub loop-done-preserved : goal.loop-done-preserved
@@ -63,8 +59,7 @@ loop-done-preserved g c =
       name = i.name;
       within = omega (arith, i.within, c.take_run-run.ensures.few);
       shown = λ at before.
-          let run = run_under (shown g.V.Visit.step) c.args.self.now.head.now c.loop-done.self.head.now c.args.self.now.axes c.loop-done.self.axes _ _ _ _ _ _ _ i.head i.axes c.take_run-run.ensures.run in
-          shown_more _ _ _ _ _ _ _ _ _ at before c.loop-done.done c.take_run-run.result c.loop-done.self.lost _ _ _ _ _ _ c.if-not-self.true run (i.shown at before);
+          run_shown _ _ _ _ _ _ _ _ _ at before _ _ c.loop-done.done c.take_run-run.result c.loop-done.self.lost _ _ _ _ _ _ i.head i.axes c.if-not-self.true c.take_run-run.ensures.run (i.shown at before);
     }
 
 pub pass_known-requires : goal.pass_known-requires

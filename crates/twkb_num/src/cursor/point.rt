@@ -1,0 +1,46 @@
+//! Points with a size, passed without decoding their numbers.
+ghost use Rattle.std.specs.Prelude.{◌≡◌, ◌≢◌, ◌<◌, ◌≤◌, ◌%◌, ◌⊎◌, ℕ, List, ◌∷◌, length, take, drop, slice_index, IfNone, OnSome};
+ghost use Rattle.twkb_num.specs.Cursor.{passed, rest, IsMoved};
+ghost use Rattle.twkb_num.specs.Varint.{SpellsMany, EndsOnce};
+
+use super::Cursor;
+use crate::ends::second_end;
+
+/// The bits of the first two bytes of a geometry that tell its type, and which fields its header announces.
+const TYPE_AND_FIELDS: u16 = 0x1f0f;
+
+/// These bits of a point that has a size, and no other field.
+const SIZED_POINT: u16 = 0x0201;
+
+impl<'a> Cursor<'a> {
+    /// Moves past the geometry at the place without decoding its numbers, if it is a point of X and Y that has a size and no other
+    /// field (TWKB specification, "Type & Precision" and "Metadata Header"), the size takes one byte and is true, the two numbers
+    /// take at most eight bytes, and eleven bytes are left. Otherwise it returns `None`, and the cursor is as it was.
+    #[inline(always)]
+    pub fn pass_sized_point(&mut self) -> Option<()>
+        ensures some { OnSome result ((first : ℕ) × (metadata : ℕ) × (numbers : List ℕ)
+            × (passed self.old self.new ≡ first ∷ metadata ∷ length numbers ∷ numbers) × (first % 16 ≡ 1)
+            × (metadata % 32 ≡ 2) × (length numbers ≤ 8) × SpellsMany numbers 2) }
+        ensures told { IfNone result ((length (rest self.old) < 11) ⊎ (slice_index (rest self.old) 0 % 16 ≢ 1)
+            ⊎ (slice_index (rest self.old) 1 % 32 ≢ 2) ⊎ EndsOnce (drop 3 (rest self.old))
+            ⊎ ((taken : ℕ) × (taken ≤ 8) × SpellsMany (take taken (drop 3 (rest self.old))) 2
+            × (taken ≢ slice_index (rest self.old) 2))) }
+        ensures moved { OnSome result (IsMoved self.old self.new) }
+        ensures none { IfNone result (self.new ≡ self.old) }
+    {
+        let bytes = self.bytes[self.place..].first_chunk::<11>()?;
+        let both = u16::from(bytes[0]) + 256 * u16::from(bytes[1]);
+        if both & TYPE_AND_FIELDS != SIZED_POINT {
+            return None;
+        }
+        // The size is read first: of two values that were compared, the compiler goes on with the first. So the place doesn't wait for
+        // the ends of the numbers.
+        let size = usize::from(bytes[2]);
+        let taken = second_end(bytes[3..].first_chunk::<8>()?)?;
+        if taken != size {
+            return None;
+        }
+        self.place += 3 + size;
+        Some(())
+    }
+}
