@@ -15,12 +15,13 @@ const SIZED_POINT: u16 = 0x0201;
 impl<'a> Cursor<'a> {
     /// Moves past the geometry at the place without decoding its numbers, if it is a point of X and Y that has a size and no other
     /// field (TWKB specification, "Type & Precision" and "Metadata Header"), the size takes one byte and is true, the two numbers
-    /// take at most eight bytes, and eleven bytes are left. Otherwise it returns `None`, and the cursor is as it was.
+    /// together take at most eight bytes, and at least eleven bytes are left. Otherwise it returns `None`, and the cursor is as it was.
     #[inline(always)]
     pub fn pass_sized_point(&mut self) -> Option<()>
         ensures some { OnSome result ((first : ℕ) × (metadata : ℕ) × (numbers : List ℕ)
             × (passed self.old self.new ≡ first ∷ metadata ∷ length numbers ∷ numbers) × (first % 16 ≡ 1)
             × (metadata % 32 ≡ 2) × (length numbers ≤ 8) × SpellsMany numbers 2) }
+        ensures far { OnSome result (11 ≤ length (rest self.old)) }
         ensures told { IfNone result ((length (rest self.old) < 11) ⊎ (slice_index (rest self.old) 0 % 16 ≢ 1)
             ⊎ (slice_index (rest self.old) 1 % 32 ≢ 2) ⊎ EndsOnce (drop 3 (rest self.old))
             ⊎ ((taken : ℕ) × (taken ≤ 8) × SpellsMany (take taken (drop 3 (rest self.old))) 2
@@ -33,8 +34,8 @@ impl<'a> Cursor<'a> {
         if both & TYPE_AND_FIELDS != SIZED_POINT {
             return None;
         }
-        // The size is read first: of two values that were compared, the compiler goes on with the first. So the place doesn't wait for
-        // the ends of the numbers.
+        // The size is read before `taken` is computed: of two values that it knows to be equal, the compiler uses the first. So the
+        // next place doesn't wait for the ends of the numbers.
         let size = usize::from(bytes[2]);
         let taken = second_end(bytes[3..].first_chunk::<8>()?)?;
         if taken != size {

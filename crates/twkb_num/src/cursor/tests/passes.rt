@@ -296,7 +296,7 @@ fn passes_a_pair(rt: &impl Abort, bytes: &[u8], passed: Option<usize>) {
     equal(rt, cursor.read_count(), place as u64);
 }
 
-// A header of a point with a size, and three that differ in one of the bits that are compared; and sizes that are one too small,
+// Two headers of a point with a size, and five that differ from them in the bits that are compared; and sizes that are one too small,
 // true, one too great, and go on. After them, varints of one to seven bytes, with ten bytes left, eleven and twelve.
 #[test]
 fn sized_points_are_passed_by_their_ends(rt: HostRuntime) {
