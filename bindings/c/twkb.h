@@ -179,8 +179,8 @@ struct twkb_slot {
 };
 
 /* Writes a directory of the layer to `slots`, which has room for `room` slots, and returns how many slots it has: at most two
- * for each blob. It is written whole or not at all; two slots for each blob always suffice. If it doesn't fit, the result is
- * how many slots are needed, which is more than `room`. */
+ * for each blob. `room` must be at least two for each blob, even where fewer slots would do. If it is less, nothing is written,
+ * and the result is two for each blob, which is more than `room`. What is after the slots is unchanged. */
 size_t twkb_directory_build(const struct twkb_layer *layer, struct twkb_slot *slots, size_t room);
 
 /* Scans as twkb_scan does, and reads nothing of a blob whose box misses the window. The slots are those that

@@ -38,7 +38,8 @@ impl Found {
         }
     }
 
-    /// Adds what was found in the next member of a collection: the sum of the vertices, and the first false claim.
+    /// Joins what was found in the members so far with what was found in the next one: the vertices of both, and the first false
+    /// claim.
     #[inline(always)]
     pub fn then(self, next: Found) -> Found
         requires { self.vertices + next.vertices < 2 ^ 64 }

@@ -17,9 +17,9 @@ const SIZE: usize = std::mem::size_of::<Slot>();
 
 const _: () = prove!(SIZE == 40);
 
-/// Writes a directory of the layer to `room`, and returns how many slots it has: at most two for each blob. It is written whole
-/// or not at all; two places for each blob always suffice. If it doesn't fit, the result is how many places are needed, which
-/// is more than `room` has.
+/// Writes a directory of the layer to `room`, and returns how many slots it has: at most two for each blob. `room` must have two
+/// places for each blob, even where fewer would do. If it has fewer, it is left as it was, and the result is two for each blob,
+/// which is more than `room` has. The places after the slots are unchanged.
 pub fn build_directory(layer: &Layer, room: &mut [Slot]) -> usize
     requires { IsCounted layer.now.bytes.now layer.now.blobs layer.now.vertices }
     ensures directory { result ≤ length room.old

@@ -1,5 +1,5 @@
 //! [`Slot`], 40 bytes in which a directory keeps the offset and the box of a blob.
-ghost use Rattle.std.specs.Prelude.{◌≡◌, ◌+◌, ◌*◌, ◌/◌, ◌%◌, ◌^◌, ◌<◌, ◌≤◌, pos, ◌==◌, ◌||◌, ◌&&◌, true, false, Some, None, IfSome, is_some, option_map};
+ghost use Rattle.std.specs.Prelude.{◌≡◌, ◌+◌, ◌*◌, ◌/◌, ◌%◌, ◌^◌, ◌<◌, ◌≤◌, pos, ◌==◌, ◌||◌, ◌&&◌, true, false, Some, None, IfSome, option_map};
 ghost use Rattle.twkb_num.specs.Units.{IsPrecision};
 ghost use Rattle.twkb_head.specs.Head.{span_at};
 ghost use Rattle.twkb_head.specs.Raw.{ends_of};
@@ -22,8 +22,8 @@ pub const OFFSET_LIMIT: usize = 1 << 57;
 ///
 /// A box is kept in raw integers with its precision, so that a scan compares numbers of 64 bits. Its ends are kept if all its
 /// numbers are at most 2^61 from zero, and otherwise its minima and widths, as the header spells them. So a slot takes 40
-/// bytes, and an `Option<Bounds>` alone would take 176. Z and M, which few layers have, go into a slot of their own before
-/// their blob's slot, because a scan spends its time on reading memory.
+/// bytes, and an `Option<Bounds>` alone would take 176. Few layers have Z or M. These go into a slot of their own before their
+/// blob's slot, so that the other slots stay small: a scan spends its time on reading memory.
 #[repr(C)]
 #[derive(Clone, Copy)]
 pub struct Slot {
@@ -99,7 +99,8 @@ impl Slot {
         }
     }
 
-    /// The slot of a blob with a box, by its ranges in X and in Y.
+    /// The slot of a blob with a box, by its ranges in X and in Y. `offset` is the blob's offset modulo 2^57, and `deep` says that
+    /// the slot before this one says more of the blob ([`Slot::beyond`]).
     #[inline(always)]
     pub(crate) fn boxed(offset: usize, deep: bool, x: RawRange, y: RawRange, precision: i8) -> Slot
         requires offset { offset < 2 ^ 57 }
@@ -221,8 +222,8 @@ impl Slot {
     }
 }
 
-/// The range of an axis that a box may lack: a minimum and a width, and the code of their precision, which is below 8 if there
-/// is no range.
+/// The range of an axis that a box may lack: a minimum and a width, and a code, which is their precision plus 8. A code below 8
+/// says that there is no range.
 #[derive(Drop)]
 pub struct Kept {
     code: u64,
@@ -266,14 +267,6 @@ impl Kept {
             },
             None => Kept::nothing(),
         }
-    }
-
-    /// Whether there is a range.
-    #[inline(always)]
-    pub fn is_some(&self) -> bool
-        ensures { result ≡ is_some self.now }
-    {
-        self.code > 7
     }
 }
 

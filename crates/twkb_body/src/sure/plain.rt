@@ -11,8 +11,8 @@ use crate::doubt::Doubt;
 use twkb_head::{Begun, BoxCalled, take_rest};
 use twkb_num::Cursor;
 
-/// Moves past the blob at the place, and returns how many vertices it has, if it is a point of X and Y with a size and no box, and its
-/// numbers are short. If [`Cursor::pass_sized_point`] passes nothing, it returns `None`, and the cursor is as it was.
+/// Moves past the blob at the place, if [`Cursor::pass_sized_point`] does, and returns 1, its number of vertices. Otherwise it
+/// returns `None`, and the cursor is as it was.
 #[inline(always)]
 pub fn pass_point(cursor: &mut Cursor) -> Option<usize>
     ensures some { IfSome result (λ vertices. Certifies 1 None cursor.old (Ok vertices) cursor.new) }

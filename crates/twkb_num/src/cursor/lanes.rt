@@ -24,7 +24,7 @@ pub struct Eight {
 }
 
 impl Four {
-    /// The four numbers, widened to 64 bits, as two pairs.
+    /// The four numbers, widened to 64 bits, as two pairs. A pair that is read by lanes is the first of these.
     #[inline(always)]
     pub(super) fn two_pairs(self) -> ((i64, i64), (i64, i64))
         ensures { map (cast_signed w32) self.lanes ≡ (result.0).0 ∷ (result.0).1 ∷ (result.1).0 ∷ (result.1).1 ∷ [] }
