@@ -39,7 +39,7 @@ pub fn take_blob<R: IdRoom>(room: &mut R, cursor: &mut Cursor) -> Result<(usize,
     ensures stop { IfOk result (λ both. both.1 ≡ cursor.new.place) }
 {
     if let Some(vertices) = pass_point(cursor) {
-        // The place is computed from the size, so that the next blob needn't wait for the ends of the numbers.
+        // The place is computed from a size, if there is one, so that the next blob needn't wait for the ends of the numbers.
         return Ok((vertices, cursor.place()));
     }
     cursor.place_is_within();

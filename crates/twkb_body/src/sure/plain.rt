@@ -11,7 +11,7 @@ use crate::doubt::Doubt;
 use twkb_head::{Begun, BoxCalled, take_rest};
 use twkb_num::Cursor;
 
-/// Moves past the blob at the place, if [`Cursor::pass_sized_point`] does, and returns 1, its number of vertices. Otherwise it
+/// Moves past the blob at the place, if [`Cursor::pass_short_point`] does, and returns 1, its number of vertices. Otherwise it
 /// returns `None`, and the cursor is as it was.
 #[inline(always)]
 pub fn pass_point(cursor: &mut Cursor) -> Option<usize>
@@ -19,7 +19,7 @@ pub fn pass_point(cursor: &mut Cursor) -> Option<usize>
     ensures none { IfNone result (cursor.new ≡ cursor.old) }
 {
     cursor.place_is_within();
-    cursor.pass_sized_point()?;
+    cursor.pass_short_point()?;
     Some(1)
 }
 

@@ -1,5 +1,5 @@
-//! Points with a size, passed without decoding their numbers.
-ghost use Rattle.std.specs.Prelude.{◌≡◌, ◌≢◌, ◌<◌, ◌≤◌, ◌%◌, ◌⊎◌, ℕ, List, ◌∷◌, length, take, drop, slice_index, IfNone, OnSome};
+//! Points with or without a size, passed without decoding their numbers.
+ghost use Rattle.std.specs.Prelude.{◌≡◌, ◌≢◌, ◌<◌, ◌≤◌, ◌%◌, ◌⊎◌, ℕ, List, [], ◌∷◌, ◌++◌, length, take, drop, slice_index, IfNone, OnSome};
 ghost use Rattle.twkb_num.specs.Cursor.{passed, rest, IsMoved};
 ghost use Rattle.twkb_num.specs.Varint.{SpellsMany, EndsOnce};
 
@@ -12,36 +12,48 @@ const TYPE_AND_FIELDS: u16 = 0x1f0f;
 /// These bits of a point that has a size, and no other field.
 const SIZED_POINT: u16 = 0x0201;
 
+/// These bits of a point that has no field.
+const BARE_POINT: u16 = 0x0001;
+
 impl<'a> Cursor<'a> {
     /// Moves past the geometry at the place without decoding its numbers, if it is a point of X and Y that has a size and no other
-    /// field (TWKB specification, "Type & Precision" and "Metadata Header"), the size takes one byte and is true, the two numbers
-    /// together take at most eight bytes, and at least eleven bytes are left. Otherwise it returns `None`, and the cursor is as it was.
+    /// field, or no field (TWKB specification, "Type & Precision" and "Metadata Header"), its size, if it has one, takes one byte and
+    /// is true, the two numbers together take at most eight bytes, and at least eleven bytes are left. Otherwise it returns `None`,
+    /// and the cursor is as it was.
     #[inline(always)]
-    pub fn pass_sized_point(&mut self) -> Option<()>
-        ensures some { OnSome result ((first : ℕ) × (metadata : ℕ) × (numbers : List ℕ)
-            × (passed self.old self.new ≡ first ∷ metadata ∷ length numbers ∷ numbers) × (first % 16 ≡ 1)
-            × (metadata % 32 ≡ 2) × (length numbers ≤ 8) × SpellsMany numbers 2) }
+    pub fn pass_short_point(&mut self) -> Option<()>
+        ensures some { OnSome result ((first metadata : ℕ) × (size numbers : List ℕ)
+            × (passed self.old self.new ≡ first ∷ metadata ∷ size ++ numbers) × (first % 16 ≡ 1)
+            × (((metadata % 32 ≡ 0) × (size ≡ [])) ⊎ ((metadata % 32 ≡ 2) × (size ≡ length numbers ∷ [])))
+            × (length numbers ≤ 8) × SpellsMany numbers 2) }
         ensures far { OnSome result (11 ≤ length (rest self.old)) }
         ensures told { IfNone result ((length (rest self.old) < 11) ⊎ (slice_index (rest self.old) 0 % 16 ≢ 1)
-            ⊎ (slice_index (rest self.old) 1 % 32 ≢ 2) ⊎ EndsOnce (drop 3 (rest self.old))
+            ⊎ ((slice_index (rest self.old) 1 % 32 ≢ 0) × (slice_index (rest self.old) 1 % 32 ≢ 2))
+            ⊎ ((slice_index (rest self.old) 1 % 32 ≡ 0) × EndsOnce (drop 2 (rest self.old)))
+            ⊎ ((slice_index (rest self.old) 1 % 32 ≡ 2) × (EndsOnce (drop 3 (rest self.old))
             ⊎ ((taken : ℕ) × (taken ≤ 8) × SpellsMany (take taken (drop 3 (rest self.old))) 2
-            × (taken ≢ slice_index (rest self.old) 2))) }
+            × (taken ≢ slice_index (rest self.old) 2))))) }
         ensures moved { OnSome result (IsMoved self.old self.new) }
         ensures none { IfNone result (self.new ≡ self.old) }
     {
         let bytes = self.bytes[self.place..].first_chunk::<11>()?;
         let both = u16::from(bytes[0]) + 256 * u16::from(bytes[1]);
-        if both & TYPE_AND_FIELDS != SIZED_POINT {
-            return None;
+        if both & TYPE_AND_FIELDS == SIZED_POINT {
+            // The size is read before `taken` is computed: of two values that it knows to be equal, the compiler uses the first. So
+            // the next place doesn't wait for the ends of the numbers.
+            let size = usize::from(bytes[2]);
+            let taken = second_end(bytes[3..].first_chunk::<8>()?)?;
+            if taken != size {
+                return None;
+            }
+            self.place += 3 + size;
+            return Some(());
         }
-        // The size is read before `taken` is computed: of two values that it knows to be equal, the compiler uses the first. So the
-        // next place doesn't wait for the ends of the numbers.
-        let size = usize::from(bytes[2]);
-        let taken = second_end(bytes[3..].first_chunk::<8>()?)?;
-        if taken != size {
-            return None;
+        if both & TYPE_AND_FIELDS == BARE_POINT {
+            let taken = second_end(bytes[2..].first_chunk::<8>()?)?;
+            self.place += 2 + taken;
+            return Some(());
         }
-        self.place += 3 + size;
-        Some(())
+        None
     }
 }

@@ -296,60 +296,101 @@ fn passes_a_pair(rt: &impl Abort, bytes: &[u8], passed: Option<usize>) {
     equal(rt, cursor.read_count(), place as u64);
 }
 
-// Two headers of a point with a size, and five that differ from them in the bits that are compared; and sizes that are one too small,
-// true, one too great, and go on. After them, varints of one to seven bytes, with ten bytes left, eleven and twelve.
+// Two headers of a point with a size, and others that differ from them in the bits that are compared; and sizes that are one too small,
+// one too great, and go on. After them, varints of one to seven bytes, with ten bytes left, eleven and twelve.
 #[test]
-fn sized_points_are_passed_by_their_ends(rt: HostRuntime) {
+fn points_with_a_size_are_passed_by_their_ends(rt: HostRuntime) {
     for first_more in 0..7usize {
         for second_more in 0..7usize {
             let many = first_more.saturating_add(second_more).saturating_add(2);
-            let passed = if many <= 8 { Some(many) } else { None };
+            let passed = if many <= 8 {
+                Some(many.saturating_add(3))
+            } else {
+                None
+            };
             for header in [[0x01, 0x02], [0xf1, 0xe2]] {
-                let bytes = sized(header, many, first_more, second_more);
-                passes_a_sized_point(&rt, &bytes[..10], None);
-                passes_a_sized_point(&rt, &bytes[..11], passed);
-                passes_a_sized_point(&rt, &bytes[..12], passed);
+                let bytes = point(header, Some(many), first_more, second_more);
+                passes_a_point(&rt, &bytes[..10], None);
+                passes_a_point(&rt, &bytes[..11], passed);
+                passes_a_point(&rt, &bytes[..12], passed);
             }
+            // A line, a type that there isn't, and a box, ids, more axes or no vertex in addition to the size.
             for header in [
                 [0x02, 0x02],
                 [0x09, 0x02],
                 [0x01, 0x03],
+                [0x01, 0x06],
+                [0x01, 0x0a],
                 [0x01, 0x12],
-                [0x01, 0x00],
             ] {
-                let bytes = sized(header, many, first_more, second_more);
-                passes_a_sized_point(&rt, &bytes[..12], None);
+                let bytes = point(header, Some(many), first_more, second_more);
+                passes_a_point(&rt, &bytes[..12], None);
             }
             for wrong in [0usize, 2, 129] {
                 let size = many.saturating_add(wrong).saturating_sub(1);
-                let bytes = sized([0x01, 0x02], size, first_more, second_more);
-                passes_a_sized_point(&rt, &bytes[..12], None);
+                let bytes = point([0x01, 0x02], Some(size), first_more, second_more);
+                passes_a_point(&rt, &bytes[..12], None);
             }
         }
     }
 }
 
-// Two bytes of a header, a size, and two varints.
-fn sized(header: [u8; 2], size: usize, first_more: usize, second_more: usize) -> [u8; 20] {
+// As above, without a size.
+#[test]
+fn points_without_a_size_are_passed_by_their_ends(rt: HostRuntime) {
+    for first_more in 0..7usize {
+        for second_more in 0..7usize {
+            let many = first_more.saturating_add(second_more).saturating_add(2);
+            let passed = if many <= 8 {
+                Some(many.saturating_add(2))
+            } else {
+                None
+            };
+            for header in [[0x01, 0x00], [0xf1, 0xe0]] {
+                let bytes = point(header, None, first_more, second_more);
+                passes_a_point(&rt, &bytes[..10], None);
+                passes_a_point(&rt, &bytes[..11], passed);
+                passes_a_point(&rt, &bytes[..12], passed);
+            }
+            for header in [
+                [0x02, 0x00],
+                [0x09, 0x00],
+                [0x01, 0x01],
+                [0x01, 0x04],
+                [0x01, 0x08],
+                [0x01, 0x10],
+            ] {
+                let bytes = point(header, None, first_more, second_more);
+                passes_a_point(&rt, &bytes[..12], None);
+            }
+        }
+    }
+}
+
+// Two bytes of a header, a size if one is given, and two varints.
+fn point(header: [u8; 2], size: Option<usize>, first_more: usize, second_more: usize) -> [u8; 20] {
     let mut bytes = [0x01; 20];
     bytes[0] = header[0];
     bytes[1] = header[1];
-    bytes[2] = (size % 256) as u8;
+    let before = match size {
+        Some(size) => {
+            bytes[2] = (size % 256) as u8;
+            3
+        }
+        None => 2,
+    };
     let varints = two_varints(first_more, second_more);
-    for (byte, varint) in bytes.iter_mut().skip(3).zip(varints.iter().skip(1)) {
+    for (byte, varint) in bytes.iter_mut().skip(before).zip(varints.iter().skip(1)) {
         *byte = *varint;
     }
     bytes
 }
 
-// The point at place 0 is passed, whose numbers take `passed` bytes, or for `None` the cursor stays at place 0.
-fn passes_a_sized_point(rt: &impl Abort, bytes: &[u8], passed: Option<usize>) {
+// The point at place 0 takes `passed` bytes and is passed, or for `None` the cursor stays at place 0.
+fn passes_a_point(rt: &impl Abort, bytes: &[u8], passed: Option<usize>) {
     let mut cursor = Cursor::new(bytes);
-    equal(rt, cursor.pass_sized_point().is_some(), passed.is_some());
-    let place = match passed {
-        Some(many) => many.saturating_add(3),
-        None => 0,
-    };
+    equal(rt, cursor.pass_short_point().is_some(), passed.is_some());
+    let place = passed.unwrap_or(0);
     equal(rt, cursor.place(), place);
     equal(rt, cursor.read_count(), place as u64);
 }
