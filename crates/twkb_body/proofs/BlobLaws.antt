@@ -1,5 +1,5 @@
 -- The reader of blobs agrees with the definitions, and the laws of blobs.
-use Rattle.std.proofs.Common.{◌≡◌, ◌≢◌, ℕ, zero, suc, ◌+◌, ◌-◌, ◌%◌, ◌≤◌, Bool, true, false, cond, List, [], ◌∷◌, ◌++◌, Some, None, Result, Ok, Err, ◌⊎◌, inl, inr, ⊎_elim, refl, sym, ap, subst, ◌∙◌, arith}
+use Rattle.std.proofs.Common.{◌≡◌, ◌≢◌, ℕ, zero, suc, ◌+◌, ◌-◌, ◌%◌, ◌≤◌, Bool, true, false, cond, List, [], ◌∷◌, ◌++◌, Some, None, Ok, Err, ◌⊎◌, inl, inr, ⊎_elim, refl, sym, ap, subst, ◌∙◌, arith}
 use Rattle.std.proofs.lemmas.List.{append-nil, append_cancel_right}
 use Rattle.twkb_head.specs.declared.kinds.Kind.TheVariants.{GeometryCollection}
 use Rattle.twkb_head.specs.declared.refusal.Why.{Why}
@@ -206,10 +206,3 @@ fails_none bytes e fails g front behind parts b =
   where
     apart : read_blob bytes ≡ Ok (g, behind) → ⊥
     apart ok = cc (fails, ok)
-
-pub none_fails : (bytes : List ℕ) → BeginsWithNoBlob bytes → (e : Fault) × (read_blob bytes ≡ Err e)
-none_fails bytes none = go (read_blob bytes) refl
-  where
-    go : (r : Result (Geometry × List ℕ) Fault) → read_blob bytes ≡ r → (e : Fault) × (read_blob bytes ≡ Err e)
-    go (Ok x) is = let t = read_takes (deepest - 1) 1 from_top (omega arith) bytes x.1 x.0 is in absurd (none x.0 t.0 x.1 t.1 t.2)
-    go (Err e) is = (e, is)

@@ -1,5 +1,5 @@
 -- What the first reading certifies or doubts of a body: by its kind, the count of its parts, and the parts.
-use Rattle.std.proofs.Common.{◌≡◌, ℕ, ◌+◌, ◌-◌, Bool, true, false, not, Option, Some, None, is_some, Result, Ok, Err, inl, inr, refl, sym, ap, subst, ◌∙◌}
+use Rattle.std.proofs.Common.{◌≡◌, ℕ, ◌+◌, ◌-◌, Bool, true, false, Option, Some, None, is_some, Result, Ok, Err, inl, inr, refl, sym, ap, subst, ◌∙◌}
 use Rattle.std.specs.Prelude.{IfOk, IfErr, OnErr, ◌⊎◌}
 use Rattle.twkb_num.specs.Cursor.{Reading, rest}
 use Rattle.twkb_head.specs.declared.header.Head.{Head}
@@ -47,11 +47,6 @@ pub shape_certifies : (depth : ℕ) (head : Head) (frame : Option Frame) (old ne
 shape_certifies depth head frame old new (Ok vertices) single s = s
 shape_certifies depth head frame old new (Err Refused) single s = s
 shape_certifies depth head frame old new (Err Memory) single s = (s.0, subst (λ (b : Bool). WantsIn b head.empty depth head.ids old) (sym single) s.1)
-
--- a bit is unset if the test of its opposite is true
-pub bit_unset : (test bit : Bool) → test ≡ not bit → test ≡ true → bit ≡ false
-bit_unset test true is told = absurd (cc (is, told))
-bit_unset test false is told = refl
 
 -- points with Z or M have three or four axes
 pub three_or_four : (z m : Option ℕ) (axes : ℕ) → axes ≡ axes_with z m → has_further z m ≡ true → (axes ≡ 3) ⊎ (axes ≡ 4)

@@ -14,7 +14,7 @@ use Rattle.twkb_head.specs.Shared.Plan.{coordinate as coordinate_request, cut_fi
 use Rattle.twkb_head.specs.Shared.Reader.{Answer, read_judged, read_field, read, coordinate_at, Fails}
 use Rattle.twkb_head.proofs.FieldCuts.{field_takes}
 use Rattle.twkb_head.proofs.Readings.{ok_not_err}
-use Rattle.twkb_head.proofs.Loops.{IsLoop, loop_begins, loop_goes_on, loop_fails, loop_ends}
+use Rattle.twkb_head.proofs.Loops.{IsLoop, loop_goes_on, loop_fails, loop_ends}
 use Rattle.twkb_body.specs.declared.trail.Trail.{Trail}
 use Rattle.twkb_body.specs.Geometry.{PointValue, coordinate, vertex_of}
 use Rattle.twkb_body.specs.Devices.Body.{first_of, behind, add, place, map_from}
@@ -86,16 +86,6 @@ module _ (axes : ℕ) (start : Trail) (from : Reading) where
     pub sum : now.last ≡ add start.last front
     pub points : now.points ≡ start.points
     pub ahead : i + from.place ≤ r.place
-
-  pub point_begins : IsPointLoop 0 start from
-  point_begins = record {
-    front = [];
-    read = loop_begins (λ s z. behind s) (λ s. coordinate_at (first_of s)) axes (point_at axes start.last from) start.last from refl;
-    number = refl;
-    sum = refl;
-    points = refl;
-    ahead = omega arith;
-  }
 
   -- the coordinate to which the next number is added is the one of the trail
   next_is : (i : ℕ) (now : Trail) (r : Reading) → i < length start.last → (l : IsPointLoop i now r) → first_of (drop i start.last) ≡ slice_index_or now.last i (pos 0)

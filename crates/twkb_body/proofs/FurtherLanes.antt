@@ -9,21 +9,21 @@ use Rattle.twkb_num.specs.Cursor.{Reading, passed, IsMoved}
 use Rattle.twkb_num.specs.Varint.{SpellsAllSigned, IsShort}
 use Rattle.twkb_head.specs.declared.raw.RawBox.{RawBox}
 use Rattle.twkb_head.specs.declared.raw.RawRange.{RawRange}
-use Rattle.twkb_body.specs.declared.numbers.Numbers.{Numbers}
+use Rattle.twkb_body.specs.declared.per_axis.PerAxis.{PerAxis}
 use Rattle.twkb_body.specs.declared.positions.Reached.{Reached}
 use Rattle.twkb_body.specs.declared.positions.Step.{Step}
 use Rattle.twkb_body.specs.declared.trail.Trail.{Trail}
 use Rattle.twkb_body.specs.Geometry.{PointValue}
 use Rattle.twkb_body.specs.Devices.Body.{add, zeros}
 use Rattle.twkb_body.specs.Devices.BodyReader.{point_at}
-use Rattle.twkb_body.specs.Devices.BoxTest.{reaches, reach_all, is_in_range, is_in_box, Held, held_then, IsClose, IsMet, IsNearZero, AreNear}
+use Rattle.twkb_body.specs.Devices.BoxTest.{reaches, is_in_range, is_in_box, Held, held_then, IsClose, IsMet, IsNearZero, AreNear}
 use Rattle.twkb_body.specs.Devices.FurtherLanes.{four_lanes, fours_of, FromFourLanes, extents, FitsFurther, all_within, after, all_on_the_way, HaveGone, ReadsPoints, IsFurtherStep, IsFarPoint, LeavesByPoint, IsFurtherPlace}
 use Rattle.twkb_body.specs.Devices.LaneTrail.{FitsLane, holding, PointsLeave, IsHeldRun, IsLaneStep}
-use Rattle.twkb_body.specs.Devices.Numbers.{listed, Each, plus, placed_at, IsIn64, axes_by, AreDifferences}
+use Rattle.twkb_body.specs.Devices.PerAxis.{listed, Each, plus, placed_at, IsIn64, axes_by, AreDifferences}
 use Rattle.twkb_body.specs.Devices.Quads.{pairs_of, ReadsPairs, IsInLane, IsLaneExtent, ReadsAtMost}
 use Rattle.twkb_body.specs.Devices.Walk.{IsWalked}
-use Rattle.twkb_body.proofs.BoxRuns.{reaches_decides, both_true}
-use Rattle.twkb_body.proofs.FurtherRuns.{trail_at, IsFurtherRun, further_begins, further_goes_on}
+use Rattle.twkb_body.proofs.BoxDistances.{reaches_decides, both_true}
+use Rattle.twkb_body.proofs.FurtherRuns.{reach_all, trail_at, IsFurtherRun, further_begins, further_goes_on}
 use Rattle.twkb_body.proofs.Keeping.{keeps_point, read_keeps}
 use Rattle.twkb_body.proofs.LaneRuns.{run_leaves, next_leaves}
 use Rattle.twkb_body.proofs.LaneSums.{and_true_right}
@@ -49,17 +49,17 @@ fours_many (p ∷ q ∷ ps) zero even = absurd (omega (arith, even))
 fours_many (p ∷ q ∷ ps) (suc n) even = ap suc (fours_many ps n (omega (arith, even)))
 
 -- reading a point leaves the bytes unchanged
-pub differences_keep : (has_fourth : Bool) (more : Numbers) (old new : Reading) → AreDifferences has_fourth more old new → new.bytes ≡ old.bytes
+pub differences_keep : (has_fourth : Bool) (more : PerAxis) (old new : Reading) → AreDifferences has_fourth more old new → new.bytes ≡ old.bytes
 differences_keep has_fourth more old new d = read_keeps (point_at (axes_by has_fourth) zeros) old new _ (keeps_point (axes_by has_fourth) zeros) (d.read none fit)
   where
-    none : Numbers
+    none : PerAxis
     none = record { x = pos 0; y = pos 0; third = pos 0; fourth = pos 0 }
 
     fit : Each IsIn64 (plus none more)
     fit = record { x = from_zero _ d.short.x; y = from_zero _ d.short.y; third = from_zero _ d.short.third; fourth = from_zero _ d.short.fourth }
 
 -- points that were read, and that lead to lanes, are a step
-pub points_step : (has_fourth : Bool) (ds : List Numbers) (n : ℕ) (at extent : List ℕ) (old new : Reading) (reached : Reached) → length ds ≡ n → 1 ≤ n → new.bytes ≡ old.bytes → ReadsPoints has_fourth ds old new
+pub points_step : (has_fourth : Bool) (ds : List PerAxis) (n : ℕ) (at extent : List ℕ) (old new : Reading) (reached : Reached) → length ds ≡ n → 1 ≤ n → new.bytes ≡ old.bytes → ReadsPoints has_fourth ds old new
     → FromFourLanes at extent (λ apart e. HaveGone e apart ds reached.at reached.inside) → ReadsAtMost n (IsFurtherStep has_fourth at extent) old new (record { points = n; reached = reached })
 points_step has_fourth ds n at extent old new reached many some bytes read lead = record {
   few = omega arith;
@@ -85,7 +85,7 @@ swapped false true = refl
 swapped false false = refl
 
 -- all extents hold the distances exactly if those of the axes that are there do
-pub within_is : (has_fourth : Bool) (box : RawBox) (apart : Numbers) → FitsFurther has_fourth box → (has_fourth ≡ false → apart.fourth ≡ pos 0) → all_within (extents box) apart ≡ reach_all box has_fourth apart
+pub within_is : (has_fourth : Bool) (box : RawBox) (apart : PerAxis) → FitsFurther has_fourth box → (has_fourth ≡ false → apart.fourth ≡ pos 0) → all_within (extents box) apart ≡ reach_all box has_fourth apart
 within_is true box apart fits absent =
     swapped (reaches box.x.extent apart.x && reaches box.y.extent apart.y) (reaches box.third.extent apart.third && reaches box.fourth.extent apart.fourth)
 within_is false box apart fits absent =
@@ -109,12 +109,12 @@ module _ (box : RawBox) (has_fourth : Bool) (fits : FitsFurther has_fourth box) 
   axes = axes_by has_fourth
 
   -- i points were read that the box holds, and these are the last one's distances from its minima
-  record IsAt (apart : Numbers) (r : Reading) (i : ℕ) : Type 0 where
+  record IsAt (apart : PerAxis) (r : Reading) (i : ℕ) : Type 0 where
     pub run : IsFurtherRun start (holding box) from box has_fourth apart true r i
     pub in_lanes : Each IsInLane apart
     pub absent : has_fourth ≡ false → apart.fourth ≡ pos 0
 
-  begins : (apart : Numbers) → start.last ≡ listed (placed_at box apart) → Each IsInLane apart → (has_fourth ≡ false → apart.fourth ≡ pos 0) → IsAt apart from 0
+  begins : (apart : PerAxis) → start.last ≡ listed (placed_at box apart) → Each IsInLane apart → (has_fourth ≡ false → apart.fourth ≡ pos 0) → IsAt apart from 0
   begins apart last in_lanes absent = record {
     run = further_begins start (holding box) from box has_fourth apart true last
         (record { x = in_lane_close _ in_lanes.x; y = in_lane_close _ in_lanes.y; third = in_lane_close _ in_lanes.third; fourth = in_lane_close _ in_lanes.fourth }) refl;
@@ -123,16 +123,16 @@ module _ (box : RawBox) (has_fourth : Bool) (fits : FitsFurther has_fourth box) 
   }
 
   -- one more point
-  next_absent : (apart more : Numbers) (r new : Reading) → AreDifferences has_fourth more r new → (has_fourth ≡ false → apart.fourth ≡ pos 0) → has_fourth ≡ false → apart.fourth +ℤ more.fourth ≡ pos 0
+  next_absent : (apart more : PerAxis) (r new : Reading) → AreDifferences has_fourth more r new → (has_fourth ≡ false → apart.fourth ≡ pos 0) → has_fourth ≡ false → apart.fourth +ℤ more.fourth ≡ pos 0
   next_absent apart more r new d absent e = let before = absent e in let none = d.absent e in omega (arith, ints, before, none)
 
-  one_on : (apart more : Numbers) (inside : Bool) (r new : Reading) (i : ℕ) → AreDifferences has_fourth more r new → inside ≡ all_within (extents box) (plus apart more) → IsAt apart r i
+  one_on : (apart more : PerAxis) (inside : Bool) (r new : Reading) (i : ℕ) → AreDifferences has_fourth more r new → inside ≡ all_within (extents box) (plus apart more) → IsAt apart r i
       → IsFurtherRun start (holding box) from box has_fourth (plus apart more) inside new (i + 1)
   one_on apart more inside r new i d is at =
       further_goes_on start (holding box) from box has_fourth apart more (plus apart more) true inside r new i refl (near_range box.x fits.x, near_range box.y fits.y) (near_range box.third fits.third) (near_range box.fourth fits.fourth) d refl
       (is ∙ within_is has_fourth box (plus apart more) fits (next_absent apart more r new d at.absent)) at.run
 
-  one_inside : (apart more : Numbers) (r new : Reading) (i : ℕ) → AreDifferences has_fourth more r new → all_within (extents box) (plus apart more) ≡ true → IsAt apart r i → IsAt (plus apart more) new (i + 1)
+  one_inside : (apart more : PerAxis) (r new : Reading) (i : ℕ) → AreDifferences has_fourth more r new → all_within (extents box) (plus apart more) ≡ true → IsAt apart r i → IsAt (plus apart more) new (i + 1)
   one_inside apart more r new i d e at =
       let both = both_true (reaches box.x.extent (apart.x +ℤ more.x) && reaches box.y.extent (apart.y +ℤ more.y)) (reaches box.third.extent (apart.third +ℤ more.third) && reaches box.fourth.extent (apart.fourth +ℤ more.fourth)) e in
       let flat = both_true (reaches box.x.extent (apart.x +ℤ more.x)) (reaches box.y.extent (apart.y +ℤ more.y)) both.0 in
@@ -144,14 +144,14 @@ module _ (box : RawBox) (has_fourth : Bool) (fits : FitsFurther has_fourth box) 
       }
 
   -- points that the box holds
-  all_inside : (differences : List Numbers) (apart : Numbers) (r new : Reading) (i : ℕ) → ReadsPoints has_fourth differences r new → all_on_the_way (extents box) apart differences ≡ true → IsAt apart r i → IsAt (after apart differences) new (i + length differences)
+  all_inside : (differences : List PerAxis) (apart : PerAxis) (r new : Reading) (i : ℕ) → ReadsPoints has_fourth differences r new → all_on_the_way (extents box) apart differences ≡ true → IsAt apart r i → IsAt (after apart differences) new (i + length differences)
   all_inside [] apart r new i read e at = subst (λ (q : Reading). IsAt apart q (i + 0)) (sym read) (subst (λ (n : ℕ). IsAt apart r n) (omega arith) at)
   all_inside (d ∷ ds) apart r new i (middle, one, others) e at =
       let both = both_true (all_within (extents box) (plus apart d)) (all_on_the_way (extents box) (plus apart d) ds) e in
       subst (λ (n : ℕ). IsAt (after apart (d ∷ ds)) new n) (omega arith) (all_inside ds (plus apart d) middle new (i + 1) others both.1 (one_inside apart d r middle i one both.0 at))
 
   -- points of which the box doesn't hold one
-  some_outside : (count : ℕ) (differences : List Numbers) (apart : Numbers) (r new : Reading) (i : ℕ) → i + length differences ≤ count → ReadsPoints has_fourth differences r new → all_on_the_way (extents box) apart differences ≡ false → IsAt apart r i → PointsLeave axes count box start.last from
+  some_outside : (count : ℕ) (differences : List PerAxis) (apart : PerAxis) (r new : Reading) (i : ℕ) → i + length differences ≤ count → ReadsPoints has_fourth differences r new → all_on_the_way (extents box) apart differences ≡ false → IsAt apart r i → PointsLeave axes count box start.last from
   some_outside count [] apart r new i le read e at = absurd (cc (e))
   some_outside count (d ∷ ds) apart r new i le (middle, one, others) e at =
       go (all_within (extents box) (plus apart d)) refl
@@ -162,7 +162,7 @@ module _ (box : RawBox) (has_fourth : Bool) (fits : FitsFurther has_fourth box) 
       go false is further = run_leaves axes box start from count (i + 1) _ (record { box = box; inside = false }) middle (omega (arith, le)) (one_on apart d false r middle i one (sym is) at).run refl
 
   -- a point of any differences that the box holds
-  far_inside : (apart : Numbers) (r new : Reading) (next : List ℕ) (i : ℕ) → (far : IsFarPoint has_fourth box apart r new next) → IsAt apart r i → IsAt far.there new (i + 1)
+  far_inside : (apart : PerAxis) (r new : Reading) (next : List ℕ) (i : ℕ) → (far : IsFarPoint has_fourth box apart r new next) → IsAt apart r i → IsAt far.there new (i + 1)
   far_inside apart r new next i far at = record {
     run = record {
       run = run_goes_on (held_then axes) axes start (trail_at start (holding box) from box has_fourth apart i) (trail_at start (holding box) from box has_fourth far.there (i + 1)) (holding box) (holding box) (holding box) from r new i far.point far.read walked at.run.run;
@@ -211,13 +211,13 @@ in_range_lane range c z fits e is =
     (omega (arith, ints, is, there.0), omega (arith, ints, is, there.1, fits.wide.1))
 
 -- what a box that holds a point says of each axis
-record Axes (has_fourth : Bool) (box : RawBox) (point : Numbers) : Type 0 where
+record Axes (has_fourth : Bool) (box : RawBox) (point : PerAxis) : Type 0 where
   pub x : is_in_range box.x point.x ≡ true
   pub y : is_in_range box.y point.y ≡ true
   pub third : is_in_range box.third point.third ≡ true
   pub fourth : has_fourth ≡ true → is_in_range box.fourth point.fourth ≡ true
 
-each_axis : (has_fourth : Bool) (box : RawBox) (point : Numbers) → is_in_box (axes_by has_fourth) box (listed point) ≡ true → Axes has_fourth box point
+each_axis : (has_fourth : Bool) (box : RawBox) (point : PerAxis) → is_in_box (axes_by has_fourth) box (listed point) ≡ true → Axes has_fourth box point
 each_axis true box point e =
     let both = both_true (is_in_range box.third point.third && is_in_range box.fourth point.fourth) (is_in_range box.x point.x && is_in_range box.y point.y) e in
     let further = both_true (is_in_range box.third point.third) (is_in_range box.fourth point.fourth) both.0 in
@@ -229,13 +229,13 @@ each_axis false box point e =
     record { x = flat.0; y = flat.1; third = (both_true (is_in_range box.third point.third) true both.0).0; fourth = λ there. absurd (cc (there)) }
 
 -- a point that was read from these distances on, and that the box holds
-pub record IsHeldPoint (box : RawBox) (has_fourth : Bool) (apart point : Numbers) (p : PointValue) (r new : Reading) : Type 0 where
+pub record IsHeldPoint (box : RawBox) (has_fourth : Bool) (apart point : PerAxis) (p : PointValue) (r new : Reading) : Type 0 where
   pub read : point_at (axes_by has_fourth) (listed (placed_at box apart)) r ≡ (Ok p, new)
   pub is : listed point ≡ add (listed (placed_at box apart)) p
   pub held : is_in_box (axes_by has_fourth) box (listed point) ≡ true
   pub ahead : r.place < new.place
 
-pub held_point : (box : RawBox) (has_fourth : Bool) (apart point : Numbers) (p : PointValue) (r new : Reading) (m n : ℕ) (old next : Trail) (first held : Held) → m ≡ axes_by has_fourth → n ≡ axes_by has_fourth → old.last ≡ listed (placed_at box apart) → first ≡ holding box
+pub held_point : (box : RawBox) (has_fourth : Bool) (apart point : PerAxis) (p : PointValue) (r new : Reading) (m n : ℕ) (old next : Trail) (first held : Held) → m ≡ axes_by has_fourth → n ≡ axes_by has_fourth → old.last ≡ listed (placed_at box apart) → first ≡ holding box
     → point_at m old.last r ≡ (Ok p, new) → IsWalked (held_then n) m old next first held r.place new.place (p ∷ []) → next.last ≡ listed point → held.inside ≡ true → IsHeldPoint box has_fourth apart point p r new
 held_point box has_fourth apart point p r new m n old next first held m_is n_is last first_is read walked next_is inside =
     let there : listed point ≡ add (listed (placed_at box apart)) p = sym next_is ∙ walked.last ∙ ap (λ (s : PointValue). add s p) last in
@@ -247,7 +247,7 @@ held_point box has_fourth apart point p r new m n old next first held m_is n_is 
       ahead = omega (arith, walked.ahead);
     }
 
-module _ (box : RawBox) (has_fourth : Bool) (fits : FitsFurther has_fourth box) (apart point : Numbers) (p : PointValue) (r new : Reading) (in_lanes : Each IsInLane apart) (h : IsHeldPoint box has_fourth apart point p r new) where
+module _ (box : RawBox) (has_fourth : Bool) (fits : FitsFurther has_fourth box) (apart point : PerAxis) (p : PointValue) (r new : Reading) (in_lanes : Each IsInLane apart) (h : IsHeldPoint box has_fourth apart point p r new) where
   -- the coordinate in an axis that isn't there stays as it was
   kept : has_fourth ≡ false → point.fourth ≡ box.fourth.minimum +ℤ apart.fourth
   kept e =
@@ -268,29 +268,29 @@ module _ (box : RawBox) (has_fourth : Bool) (fits : FitsFurther has_fourth box) 
       fourth_near true e = in_range_near box.fourth point.fourth fits.fourth (in_axes.fourth e)
       fourth_near false e = let k = kept e in (omega (arith, ints, k, fits.fourth.low.0, fits.fourth.low.1, in_lanes.fourth.0), omega (arith, ints, k, fits.fourth.low.0, fits.fourth.low.1, in_lanes.fourth.1))
 
-  pub point_in_lanes : (there : Numbers) → point ≡ placed_at box there → Each IsInLane there
+  pub point_in_lanes : (there : PerAxis) → point ≡ placed_at box there → Each IsInLane there
   point_in_lanes there e = record {
-    x = in_range_lane box.x point.x there.x fits.x in_axes.x (ap (λ (n : Numbers). n.x) e);
-    y = in_range_lane box.y point.y there.y fits.y in_axes.y (ap (λ (n : Numbers). n.y) e);
-    third = in_range_lane box.third point.third there.third fits.third in_axes.third (ap (λ (n : Numbers). n.third) e);
+    x = in_range_lane box.x point.x there.x fits.x in_axes.x (ap (λ (n : PerAxis). n.x) e);
+    y = in_range_lane box.y point.y there.y fits.y in_axes.y (ap (λ (n : PerAxis). n.y) e);
+    third = in_range_lane box.third point.third there.third fits.third in_axes.third (ap (λ (n : PerAxis). n.third) e);
     fourth = fourth_lane has_fourth refl;
   }
     where
       fourth_lane : (b : Bool) → has_fourth ≡ b → IsInLane there.fourth
-      fourth_lane true is_there = in_range_lane box.fourth point.fourth there.fourth fits.fourth (in_axes.fourth is_there) (ap (λ (n : Numbers). n.fourth) e)
+      fourth_lane true is_there = in_range_lane box.fourth point.fourth there.fourth fits.fourth (in_axes.fourth is_there) (ap (λ (n : PerAxis). n.fourth) e)
       fourth_lane false is_there =
           let k = kept is_there in
-          let same = ap (λ (n : Numbers). n.fourth) e in
+          let same = ap (λ (n : PerAxis). n.fourth) e in
           (omega (arith, ints, k, same, in_lanes.fourth.0), omega (arith, ints, k, same, in_lanes.fourth.1))
 
   -- the distances of the point, in lanes
-  pub far_point_is : (next : List ℕ) (there : Numbers) → point ≡ placed_at box there → next ≡ four_lanes there → IsFarPoint has_fourth box apart r new next
+  pub far_point_is : (next : List ℕ) (there : PerAxis) → point ≡ placed_at box there → next ≡ four_lanes there → IsFarPoint has_fourth box apart r new next
   far_point_is next there e lanes = record {
     point = p;
     there = there;
     read = h.read;
     placed = ap listed (sym e) ∙ h.is;
-    held = ap (λ (n : Numbers). is_in_box (axes_by has_fourth) box (listed n)) (sym e) ∙ h.held;
+    held = ap (λ (n : PerAxis). is_in_box (axes_by has_fourth) box (listed n)) (sym e) ∙ h.held;
     lanes_are = lanes;
     in_lanes = point_in_lanes there e;
     ahead = h.ahead;
@@ -302,7 +302,7 @@ module _ (has_fourth : Bool) (bounds box : RawBox) (lanes extent : List ℕ) (fr
     begun = begins box has_fourth place.fits start from place.apart place.is place.in_lanes place.absent
 
     -- points in the box end at a place
-    at_held : (apart : Numbers) (next : List ℕ) (new : Reading) (points : ℕ) → next ≡ four_lanes apart → IsAt box has_fourth place.fits start from apart new points → IsHeldRun (axes_by has_fourth) (IsFurtherPlace has_fourth bounds box next extent) box start from new points
+    at_held : (apart : PerAxis) (next : List ℕ) (new : Reading) (points : ℕ) → next ≡ four_lanes apart → IsAt box has_fourth place.fits start from apart new points → IsHeldRun (axes_by has_fourth) (IsFurtherPlace has_fourth bounds box next extent) box start from new points
     at_held apart next new points next_is at = record {
       after = _;
       run = at.run.run;
@@ -346,8 +346,8 @@ module _ (has_fourth : Bool) (bounds : RawBox) (lanes extent : List ℕ) (from n
 
   -- a point of any differences is a step
   pub far_further_step : (reached : Reached) → 1 ≤ left
-      → (reached.inside ≡ true → (apart : Numbers) → lanes ≡ four_lanes apart → Each IsInLane apart → IsFarPoint has_fourth bounds apart from new reached.at)
-      → (reached.inside ≡ false → (apart : Numbers) → lanes ≡ four_lanes apart → Each IsInLane apart → LeavesByPoint has_fourth bounds apart from)
+      → (reached.inside ≡ true → (apart : PerAxis) → lanes ≡ four_lanes apart → Each IsInLane apart → IsFarPoint has_fourth bounds apart from new reached.at)
+      → (reached.inside ≡ false → (apart : PerAxis) → lanes ≡ four_lanes apart → Each IsInLane apart → LeavesByPoint has_fourth bounds apart from)
       → IsLaneStep (axes_by has_fourth) left (IsFurtherPlace has_fourth bounds) lanes extent from new (record { points = 1; reached = reached })
   far_further_step reached one point leaves = record {
     inside = λ so box trail place. far_further_held has_fourth bounds box lanes extent from trail place reached.at new

@@ -1,25 +1,28 @@
 -- Runs of points of three axes or four that a box holds, with a number for each axis.
 use Rattle.std.proofs.Common.{◌≡◌, ℕ, ◌+◌, Bool, true, false, ◌&&◌, [], ◌∷◌, length, take, ℤ, pos, ◌+ℤ◌, refl, sym, ap, subst, ◌∙◌, arith}
+use Rattle.std.specs.Prelude.{if◌then◌else◌}
 use Rattle.std.proofs.lemmas.Int.{ints}
 use Rattle.twkb_num.specs.Cursor.{Reading}
 use Rattle.twkb_num.specs.Varint.{IsShort}
 use Rattle.twkb_head.specs.declared.raw.RawBox.{RawBox}
 use Rattle.twkb_head.specs.declared.raw.RawRange.{RawRange}
-use Rattle.twkb_body.specs.declared.numbers.Numbers.{Numbers}
+use Rattle.twkb_body.specs.declared.per_axis.PerAxis.{PerAxis}
 use Rattle.twkb_body.specs.declared.trail.Trail.{Trail}
 use Rattle.twkb_body.specs.Devices.Body.{add}
-use Rattle.twkb_body.specs.Devices.BoxTest.{reaches, reach_all, is_in_box, Held, held_then, IsClose, IsMet, IsNearRange, IsNearBox}
-use Rattle.twkb_body.specs.Devices.Numbers.{listed, Each, plus, placed_at, IsIn64, axes_by, AreDifferences}
+use Rattle.twkb_body.specs.Devices.BoxTest.{reaches, is_in_box, Held, held_then, IsClose, IsMet, IsNearRange, IsNearBox}
+use Rattle.twkb_body.specs.Devices.PerAxis.{listed, Each, plus, placed_at, IsIn64, axes_by, AreDifferences}
 use Rattle.twkb_body.specs.Devices.Walk.{IsWalked, IsRun}
-use Rattle.twkb_body.proofs.BoxRuns.{reached, met, from_minimum, both_true}
+use Rattle.twkb_body.proofs.BoxDistances.{reached, met, from_minimum, both_true}
 use Rattle.twkb_body.proofs.Runs.{run_none, run_goes_on}
+
+-- distances from the minima of a box lie within its extents, in all axes
+abbrev pub reach_all : RawBox → Bool → PerAxis → Bool
+reach_all box has_fourth apart =
+    (reaches box.third.extent apart.third && (if has_fourth then reaches box.fourth.extent apart.fourth else true)) && (reaches box.x.extent apart.x && reaches box.y.extent apart.y)
 
 -- a coordinate at a distance, plus a short difference, fits 64 bits
 at_in_64 : (range : RawRange) (distance more : ℤ) → IsNearRange range → IsClose distance → IsShort more → IsIn64 ((range.minimum +ℤ distance) +ℤ more)
 at_in_64 range distance more near close short = (omega (arith, ints, near.low, close.0, short.0), omega (arith, ints, near.high, close.1, short.1))
-
-pub close_in_64 : (distance more : ℤ) → IsClose distance → IsShort more → IsIn64 (distance +ℤ more)
-close_in_64 distance more close short = (omega (arith, ints, close.0, short.0), omega (arith, ints, close.1, short.1))
 
 close_met : (z : ℤ) → IsClose z → IsMet z
 close_met z close = (omega (arith, ints, close.0), omega (arith, ints, close.1))
@@ -31,7 +34,7 @@ unmoved : (low distance more : ℤ) → more ≡ pos 0 → low +ℤ (distance +�
 unmoved low distance more e = omega (arith, ints, e)
 
 -- distances within the extents of a box are the distances of a point in the box
-reached_is_in : (has_fourth : Bool) (box : RawBox) (apart : Numbers) → reach_all box has_fourth apart ≡ is_in_box (axes_by has_fourth) box (listed (placed_at box apart))
+reached_is_in : (has_fourth : Bool) (box : RawBox) (apart : PerAxis) → reach_all box has_fourth apart ≡ is_in_box (axes_by has_fourth) box (listed (placed_at box apart))
 reached_is_in true box apart = λ j.
     (reaches box.third.extent (sym (from_minimum box.third.minimum apart.third) j) && reaches box.fourth.extent (sym (from_minimum box.fourth.minimum apart.fourth) j))
     && (reaches box.x.extent (sym (from_minimum box.x.minimum apart.x) j) && reaches box.y.extent (sym (from_minimum box.y.minimum apart.y) j))
@@ -40,33 +43,33 @@ reached_is_in false box apart = λ j.
     && (reaches box.x.extent (sym (from_minimum box.x.minimum apart.x) j) && reaches box.y.extent (sym (from_minimum box.y.minimum apart.y) j))
 
 -- the differences of the next point, added to the distances of a point, are added to its coordinates
-moved_on : (has_fourth : Bool) (box : RawBox) (apart more : Numbers) → (has_fourth ≡ false → more.fourth ≡ pos 0)
+moved_on : (has_fourth : Bool) (box : RawBox) (apart more : PerAxis) → (has_fourth ≡ false → more.fourth ≡ pos 0)
     → listed (placed_at box (plus apart more)) ≡ add (listed (placed_at box apart)) (take (axes_by has_fourth) (listed more))
 moved_on true box apart more absent = λ j.
     grouped box.x.minimum apart.x more.x j ∷ grouped box.y.minimum apart.y more.y j ∷ grouped box.third.minimum apart.third more.third j ∷ grouped box.fourth.minimum apart.fourth more.fourth j ∷ []
 moved_on false box apart more absent = λ j.
     grouped box.x.minimum apart.x more.x j ∷ grouped box.y.minimum apart.y more.y j ∷ grouped box.third.minimum apart.third more.third j ∷ unmoved box.fourth.minimum apart.fourth more.fourth (absent refl) j ∷ []
 
-as_many : (has_fourth : Bool) (more : Numbers) → length (take (axes_by has_fourth) (listed more)) ≡ axes_by has_fourth
+as_many : (has_fourth : Bool) (more : PerAxis) → length (take (axes_by has_fourth) (listed more)) ≡ axes_by has_fourth
 as_many true more = refl
 as_many false more = refl
 
 -- the distance in the fourth axis stays close, also if the axis isn't there
-fourth_close : (has_fourth : Bool) (box : RawBox) (apart more : Numbers) → IsNearRange box.fourth → IsClose apart.fourth → (has_fourth ≡ false → more.fourth ≡ pos 0) → reach_all box has_fourth (plus apart more) ≡ true → IsClose (apart.fourth +ℤ more.fourth)
+fourth_close : (has_fourth : Bool) (box : RawBox) (apart more : PerAxis) → IsNearRange box.fourth → IsClose apart.fourth → (has_fourth ≡ false → more.fourth ≡ pos 0) → reach_all box has_fourth (plus apart more) ≡ true → IsClose (apart.fourth +ℤ more.fourth)
 fourth_close true box apart more near close absent e = reached box.fourth _ near (both_true _ _ (both_true _ _ e).0).1
 fourth_close false box apart more near close absent e = let none = absent refl in (omega (arith, ints, none, close.0), omega (arith, ints, none, close.1))
 
 module _ (start : Trail) (state : Held) (from : Reading) (box : RawBox) (has_fourth : Bool) where
-  abbrev pub trail_at : Numbers → ℕ → Trail
+  abbrev pub trail_at : PerAxis → ℕ → Trail
   trail_at apart i = record { last = listed (placed_at box apart); points = start.points + i }
 
   -- i points were read, and the last one is at these distances from the minima of the box
-  pub record IsFurtherRun (apart : Numbers) (inside : Bool) (r : Reading) (i : ℕ) : Type 0 where
+  pub record IsFurtherRun (apart : PerAxis) (inside : Bool) (r : Reading) (i : ℕ) : Type 0 where
     pub run : IsRun (held_then (axes_by has_fourth)) (axes_by has_fourth) start (trail_at apart i) state (record { box = box; inside = inside }) from r i
     pub met : Each IsMet apart
     pub close : inside ≡ true → Each IsClose apart
 
-  pub further_begins : (apart : Numbers) (inside : Bool) → start.last ≡ listed (placed_at box apart) → Each IsClose apart → state ≡ record { box = box; inside = inside } → IsFurtherRun apart inside from 0
+  pub further_begins : (apart : PerAxis) (inside : Bool) → start.last ≡ listed (placed_at box apart) → Each IsClose apart → state ≡ record { box = box; inside = inside } → IsFurtherRun apart inside from 0
   further_begins apart inside is close state_is = record {
     run = subst (λ (t : Trail). IsRun (held_then (axes_by has_fourth)) (axes_by has_fourth) start t state (record { box = box; inside = inside }) from from 0) same
         (subst (λ (u : Held). IsRun (held_then (axes_by has_fourth)) (axes_by has_fourth) start start state u from from 0) state_is (run_none (held_then (axes_by has_fourth)) (axes_by has_fourth) start state from));
@@ -80,7 +83,7 @@ module _ (start : Trail) (state : Held) (from : Reading) (box : RawBox) (has_fou
       same : start ≡ trail_at apart 0
       same = λ j. record { last = is j; points = points j }
 
-  module _ (apart more : Numbers) (inside : Bool) (r new : Reading) (i : ℕ) (so : inside ≡ true) (near : IsNearBox box) (near_third : IsNearRange box.third) (near_fourth : IsNearRange box.fourth)
+  module _ (apart more : PerAxis) (inside : Bool) (r new : Reading) (i : ℕ) (so : inside ≡ true) (near : IsNearBox box) (near_third : IsNearRange box.third) (near_fourth : IsNearRange box.fourth)
       (d : AreDifferences has_fourth more r new) (l : IsFurtherRun apart inside r i) where
     close : Each IsClose apart
     close = l.close so
@@ -123,8 +126,8 @@ module _ (start : Trail) (state : Held) (from : Reading) (box : RawBox) (has_fou
           ahead = omega (arith, d.ahead);
         }
 
-  pub further_goes_on : (apart more next : Numbers) (inside inside_next : Bool) (r new : Reading) (i : ℕ) → inside ≡ true → IsNearBox box → IsNearRange box.third → IsNearRange box.fourth → AreDifferences has_fourth more r new
+  pub further_goes_on : (apart more next : PerAxis) (inside inside_next : Bool) (r new : Reading) (i : ℕ) → inside ≡ true → IsNearBox box → IsNearRange box.third → IsNearRange box.fourth → AreDifferences has_fourth more r new
       → next ≡ plus apart more → inside_next ≡ reach_all box has_fourth next → IsFurtherRun apart inside r i → IsFurtherRun next inside_next new (i + 1)
   further_goes_on apart more next inside inside_next r new i so near third fourth d next_is inside_is l =
       subst (λ (b : Bool). IsFurtherRun next b new (i + 1)) (sym inside_is)
-      (subst (λ (n : Numbers). IsFurtherRun n (reach_all box has_fourth n) new (i + 1)) (sym next_is) (went_on apart more inside r new i so near third fourth d l))
+      (subst (λ (n : PerAxis). IsFurtherRun n (reach_all box has_fourth n) new (i + 1)) (sym next_is) (went_on apart more inside r new i so near third fourth d l))

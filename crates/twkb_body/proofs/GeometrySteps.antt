@@ -95,11 +95,6 @@ body_of_head head h start size_place box_place stop e members r =
     same false true = refl
     same false false = shape (is_multi h.kind)
 
--- the body after the head of a shape
-pub shape_behind_head : (head : Head) (h : Header) (start size_place box_place stop : ℕ) → head ≡ head_of h start size_place box_place stop → head.empty ≡ false → is_collection head.kind ≡ false
-    → (members : ℕ → Reader Members) (r : Reading) → body_at h.empty (is_collection h.kind) h members r ≡ shape_at (is_multi head.kind) (of_head head) r
-shape_behind_head head h start size_place box_place stop e full single members r = sym (body_of_head head h _ _ _ _ e members r) ∙ shape_body (of_head head) members r full single
-
 -- nothing is found in an empty body, and nothing is seen
 pub nothing_inside : (tight : Bool) (h : Header) (bounds : Option BoxField) (place : ℕ) (above : Seen) (inside : Inside) → inside.found.vertices ≡ 0 → inside.found.refused ≡ None
     → named inside.boxed ≡ box_judged tight h bounds (reach_of []) → inside.ids ≡ None → IsInside tight h bounds no_body place place above above inside

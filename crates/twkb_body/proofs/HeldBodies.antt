@@ -17,7 +17,7 @@ use Rattle.twkb_body.specs.Devices.BodyReader.{part_at}
 use Rattle.twkb_body.specs.Devices.IdLists.{HasManyIdsAfterCount}
 use Rattle.twkb_body.specs.Devices.Inside.{of_head}
 use Rattle.twkb_body.specs.Devices.LaneTrail.{holding, StandsInLanes, LeaveBox}
-use Rattle.twkb_body.specs.Devices.Numbers.{is_four, axes_by}
+use Rattle.twkb_body.specs.Devices.PerAxis.{is_four, axes_by}
 use Rattle.twkb_body.specs.Devices.PointReader.{Stage, HasRead}
 use Rattle.twkb_body.specs.Devices.Walk.{no_points}
 use Rattle.twkb_body.specs.Devices.Sure.{framed, IsCounted, AreHeld, HoldsOrLeaves, IsRefutedBody, CertifiesShape}

@@ -40,13 +40,6 @@ module _ (count : ℕ) (from : Reading) where
     pub so_far : signeds_at i from ≡ (Ok held, r)
     pub number : length held ≡ i
 
-  pub ids_begin : (held : List ℤ) → held ≡ [] → IsIdLoop 0 held from
-  ids_begin held none = subst (λ (xs : List ℤ). IsIdLoop 0 xs from) (sym none) (record {
-    read = loop_begins (λ s z. s) (λ s. signed_at) count (signeds_at count from) (pos 0) from refl;
-    so_far = refl;
-    number = refl;
-  })
-
   pub ids_go_on : (i : ℕ) (held next : List ℤ) (r new : Reading) (id : ℤ) → i < count → signed_at r ≡ (Ok id, new) → next ≡ held ++ id ∷ [] → IsIdLoop i held r → IsIdLoop (i + 1) next new
   ids_go_on i held next r new id lt e more l = subst (λ (xs : List ℤ). IsIdLoop (i + 1) xs new) (sym more) (record {
     read = loop_goes_on (λ s z. s) (λ s. signed_at) count (signeds_at count from) held i (pos 0) r new id lt e l.read;
@@ -57,9 +50,6 @@ module _ (count : ℕ) (from : Reading) where
   pub ids_fail : (i : ℕ) (held : List ℤ) (r new : Reading) (m : Malformed) → i < count → signed_at r ≡ (Err m, new) → IsIdLoop i held r → Fails (signeds_at count from) m new
   ids_fail i held r new m lt e l =
       loop_fails (λ s z. s) (λ s. signed_at) count (signeds_at count from) held i (pos 0) r new m lt (record { left = new; is = e; bytes = refl }) l.read
-
-  pub ids_end : (i : ℕ) (held : List ℤ) (r : Reading) → i ≡ count → IsIdLoop i held r → signeds_at count from ≡ (Ok held, r)
-  ids_end i held r end l = loop_ends (λ s z. s) (λ s. signed_at) count (signeds_at count from) held i (pos 0) r (omega (arith, end)) l.read
 
   -- memory is wanted only for a seventeenth id
   pub ids_many : (i : ℕ) (held : List ℤ) (r new : Reading) (id : ℤ) → IsSound from → i < count → signed_at r ≡ (Ok id, new) → 16 ≤ length held → IsIdLoop i held r
@@ -92,12 +82,6 @@ module _ (count : ℕ) (from : Reading) where
 
   abbrev pub pass_goes_on : (i : ℕ) (r new : Reading) (id : ℤ) → i < count → signed_at r ≡ (Ok id, new) → IsPassLoop i r → IsPassLoop (i + 1) new
   pass_goes_on i r new id lt e l = record { front = l.front ++ id ∷ []; read = loop_goes_on (λ s z. s) (λ s. signed_at) count (signeds_at count from) l.front i (pos 0) r new id lt e l.read }
-
-  pub pass_fails : (i : ℕ) (r new : Reading) (m : Malformed) → i < count → Fails (signed_at r) m new → IsPassLoop i r → Fails (signeds_at count from) m new
-  pass_fails i r new m lt e l = loop_fails (λ s z. s) (λ s. signed_at) count (signeds_at count from) l.front i (pos 0) r new m lt e l.read
-
-  pub pass_ends : (i : ℕ) (r : Reading) → i ≡ count → IsPassLoop i r → (ids : List ℤ) × (signeds_at count from ≡ (Ok ids, r)) × Unit {0}
-  pass_ends i r end l = (l.front, loop_ends (λ s z. s) (λ s. signed_at) count (signeds_at count from) l.front i (pos 0) r (omega (arith, end)) l.read, tt)
 
 -- ---- ids that rise
 -- one more id that differs from all others

@@ -13,7 +13,7 @@ use Rattle.twkb_body.specs.Devices.PointReader.{Stage, HasRead, EndsEarly}
 use Rattle.twkb_body.specs.Devices.Walk.{lasts_from, IsRun}
 use Rattle.twkb_body.proofs.PartPlans.{flat_single}
 use Rattle.twkb_body.proofs.PointReads.{rest_leads, loop_leads, next_leads}
-use Rattle.twkb_body.proofs.Runs.{run_none, run_append, ring_goes_far}
+use Rattle.twkb_body.proofs.Runs.{run_append, ring_goes_far}
 use Rattle.twkb_body.proofs.Walks.{IsRingLoop, walk_begins, one_point, add_is_sums}
 
 -- once a point is outside, no point changes that
@@ -51,10 +51,6 @@ module _ (axes : ℕ) (box : RawBox) (start : Trail) (from : Reading) where
     where
       singly : LeavesBox axes (many_at (count - k) add (point_at axes)) (λ xs. flat_map one_point xs) box now.last r
       singly xs stop e = subst (λ (ps : List PointValue). IsOutside (fold (held_then axes) (holding box) (lasts_from now.last ps))) (sym (flat_single xs)) (leave xs stop e)
-
-  -- no point yet
-  pub held_begins : (place : PointValue → Type 0) → place start.last → IsHeldRun axes place box start from from 0
-  held_begins place there = record { after = start; run = run_none (held_then axes) axes start (holding box) from; there = there }
 
   -- more points that the box holds
   pub held_goes_on : (place next : PointValue → Type 0) (r new : Reading) (i k : ℕ) → (held : IsHeldRun axes place box start from r i) → IsHeldRun axes next box held.after r new k → IsHeldRun axes next box start from new (i + k)

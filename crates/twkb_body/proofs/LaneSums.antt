@@ -8,12 +8,12 @@ use Rattle.std.proofs.lemmas.Bool.Decides.{leb_tells}
 use Rattle.std.specs.Prelude.{if◌then◌else◌, nat_lt, ◌≤◌, ◌⊎◌}
 use lib.Lanes.{Each1, mask_l}
 use Rattle.twkb_num.specs.Varint.{IsBrief, IsShort}
-use Rattle.twkb_body.specs.declared.numbers.Numbers.{Numbers}
+use Rattle.twkb_body.specs.declared.per_axis.PerAxis.{PerAxis}
 use Rattle.twkb_body.specs.Devices.BoxTest.{reaches}
 use Rattle.twkb_body.specs.Devices.FurtherLanes.{four_lanes, all_within, HaveGone}
-use Rattle.twkb_body.specs.Devices.Numbers.{Each, plus}
+use Rattle.twkb_body.specs.Devices.PerAxis.{Each, plus}
 use Rattle.twkb_body.specs.Devices.Quads.{IsInLane, IsLaneExtent}
-use Rattle.twkb_body.proofs.BoxRuns.{reaches_decides, both_true}
+use Rattle.twkb_body.proofs.BoxDistances.{reaches_decides, both_true}
 
 -- a distance to which at most four short differences lead from one that a lane holds
 abbrev pub IsMetInLane : ℤ → Type 0
@@ -217,7 +217,7 @@ four_set false false false true = refl
 four_set false false false false = refl
 
 -- the distances of one point, by the sums of lanes and one comparison without signs
-pub one_gone : (e apart d : Numbers) (place : List ℕ) (inside : Bool) → Each IsShort d → Each IsInLane apart → Each IsLaneExtent e
+pub one_gone : (e apart d : PerAxis) (place : List ℕ) (inside : Bool) → Each IsShort d → Each IsInLane apart → Each IsLaneExtent e
     → place ≡ ((cast_unsigned w32 d.x + cast_unsigned w32 apart.x) % 4294967296) ∷ ((cast_unsigned w32 d.y + cast_unsigned w32 apart.y) % 4294967296)
     ∷ ((cast_unsigned w32 d.third + cast_unsigned w32 apart.third) % 4294967296) ∷ ((cast_unsigned w32 d.fourth + cast_unsigned w32 apart.fourth) % 4294967296) ∷ []
     → (place ≡ four_lanes (plus apart d) → inside ≡ (nat_le (cast_unsigned w32 (apart.x +ℤ d.x)) (cast_unsigned w32 e.x) && nat_le (cast_unsigned w32 (apart.y +ℤ d.y)) (cast_unsigned w32 e.y))

@@ -1,5 +1,5 @@
--- Numbers of 64 bits, axis by axis, and reading a point of them.
-use Rattle.std.proofs.Common.{◌≡◌, ℕ, suc, ◌+◌, ◌^◌, true, false, [], ◌∷◌, length, slice_index_or, ℤ, pos, ◌+ℤ◌, ◌-ℤ◌, ◌<◌, ◌≤◌, Ok, refl, sym, ap, subst, ◌∙◌, arith}
+-- PerAxis of 64 bits, axis by axis, and reading a point of them.
+use Rattle.std.proofs.Common.{◌≡◌, ℕ, suc, ◌+◌, ◌^◌, true, false, [], ◌∷◌, ℤ, pos, ◌+ℤ◌, ◌-ℤ◌, ◌<◌, ◌≤◌, Ok, refl, sym, ap, subst, ◌∙◌, arith}
 use Rattle.std.proofs.lemmas.Int.{ints}
 use mir.Val.{to_z, of_z, SFits, Fits}
 use Rattle.std.specs.Int.{w64}
@@ -12,7 +12,7 @@ use Rattle.twkb_body.specs.Devices.Body.{first_of, behind}
 use Rattle.twkb_body.specs.Devices.BodyReader.{point_at}
 use Rattle.twkb_body.specs.Devices.BoxTest.{IsNearZero, IsNearRange, IsMet, IsClose}
 use Rattle.twkb_body.specs.Geometry.{PointValue}
-use Rattle.twkb_body.specs.Devices.Numbers.{IsIn64, AreDifferences}
+use Rattle.twkb_body.specs.Devices.PerAxis.{IsIn64, AreDifferences}
 use Rattle.twkb_body.proofs.Coordinates.{coordinate_ahead}
 use Rattle.twkb_body.proofs.FlatRuns.{has_64_bits, two_coordinates}
 use Rattle.twkb_body.proofs.PairReads.{pair_read}
@@ -46,22 +46,11 @@ met_is range distance near met =
     let met_in_bits = in_bits distance (omega (arith, ints, met.0), omega (arith, ints, met.1)) in
     sum_in_bits range.minimum distance (near_in_bits range.minimum (near.low, near.high)) met_in_bits (omega (arith, ints, near.low, met.0), omega (arith, ints, near.high, met.1))
 
-pub difference_fits : (a b : ℤ) → IsNearZero a → IsNearZero b → SFits w64 (a -ℤ to_z w64 (of_z w64 b))
-difference_fits a b near near_b = rw (near_in_bits b near_b) (fits_in_64 (a -ℤ b) (omega (arith, ints, near.0, near_b.1), omega (arith, ints, near.1, near_b.0)))
-
 -- the number of points fits 64 bits, since there are no more points than bytes
 pub points_fit : {many done start stop place points : ℕ} → many ≡ done → many + start ≤ stop → points ≤ start → stop ≡ place → place < 2 ^ 64 → Fits w64 (points + done)
 points_fit {many} {done} {start} {stop} {place} {points} is ahead counted at fits = record { fits = omega (arith, is, ahead, counted, at, fits) }
 
 -- ---- a point of four numbers
-pub four_listed : (s : PointValue) → length s ≡ 4 → s ≡ slice_index_or s 0 (pos 0) ∷ slice_index_or s 1 (pos 0) ∷ slice_index_or s 2 (pos 0) ∷ slice_index_or s 3 (pos 0) ∷ []
-four_listed [] e = absurd (omega (arith, e))
-four_listed (a ∷ []) e = absurd (omega (arith, e))
-four_listed (a ∷ b ∷ []) e = absurd (omega (arith, e))
-four_listed (a ∷ b ∷ c ∷ []) e = absurd (omega (arith, e))
-four_listed (a ∷ b ∷ c ∷ d ∷ []) e = refl
-four_listed (a ∷ b ∷ c ∷ d ∷ f ∷ s) e = absurd (omega (arith, e))
-
 -- a point's coordinates after the first two
 then_coordinates : (n : ℕ) (x y x_more y_more : ℤ) (others mores : PointValue) (r middle next new : Reading) → coordinate_at x r ≡ (Ok x_more, middle) → coordinate_at y middle ≡ (Ok y_more, next) → point_at n others next ≡ (Ok mores, new)
     → point_at (suc (suc n)) (x ∷ y ∷ others) r ≡ (Ok (x_more ∷ y_more ∷ mores), new)

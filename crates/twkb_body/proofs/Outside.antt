@@ -14,7 +14,7 @@ use Rattle.twkb_head.specs.Holds.{IsWithin, Holds}
 use Rattle.twkb_head.specs.Raw.{ends_of, ranges_in, raw_bounds}
 use Rattle.twkb_body.specs.Geometry.{PointValue, coordinate, vertex_of}
 use Rattle.twkb_body.specs.Devices.BoxTest.{is_in_range, is_in_axis, is_in_box, Held, held_with}
-use Rattle.twkb_body.proofs.BoxRuns.{reaches_decides}
+use Rattle.twkb_body.proofs.BoxDistances.{reaches_decides}
 use Rattle.twkb_body.proofs.Judging.{le_decides}
 use Rattle.twkb_body.proofs.Scales.{times_suc, times_le}
 

@@ -12,7 +12,7 @@ use Rattle.twkb_body.specs.declared.trail.Trail.{Trail}
 use Rattle.twkb_body.specs.Devices.BoxTest.{reaches, is_in_box, held_then, IsNearRange, IsNearBox}
 use Rattle.twkb_body.specs.Devices.LaneTrail.{FitsLane, FitsLanes, holding}
 use Rattle.twkb_body.specs.Devices.Quads.{lanes_at, x_after, y_after, all_reach, ReadsPairs, IsInLane, IsLaneExtent, IsQuadStep, IsFarStep}
-use Rattle.twkb_body.proofs.BoxRuns.{from_minimum, both_true, reaches_decides}
+use Rattle.twkb_body.proofs.BoxDistances.{from_minimum, both_true, reaches_decides}
 use Rattle.twkb_body.proofs.FlatRuns.{has_64_bits, IsFlatRun, flat_adds, flat_goes_on}
 use Rattle.twkb_body.proofs.LaneSums.{and_true_right}
 

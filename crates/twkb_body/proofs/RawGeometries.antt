@@ -171,7 +171,7 @@ module _ (depth : ℕ) (above : Option Frame) (first metadata : ℕ) (now : Read
       read_from before two = read depth before two.sound (begins before two.sound two.moved two.bytes)
 
       pub header_read : HasBegun depth above first metadata now → raw.empty ≡ false → HasHead depth above raw new
-      header_read before full = record { shallowest = some; deepest = deep; full = full; read = (before.before.0, before.before.1.sound, read_from before.before.0 before.before.1); near = before.near }
+      header_read before full = record { shallowest = some; deepest = deep; full = full; read = (before.before.0, before.before.1.sound, read_from before.before.0 before.before.1); frame = before.frame }
 
       pub header_certifies : (result : Result ℕ Doubt) (stop : Reading) → CertifiesAfterHead depth above raw new result stop → CertifiesAfterTwo depth above first metadata now result stop
       header_certifies result stop certifies before two = certifies before two.sound (read_from before two)

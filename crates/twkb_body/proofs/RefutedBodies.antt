@@ -5,8 +5,6 @@ use Rattle.std.proofs.lemmas.List.{append-nil}
 use Rattle.twkb_num.specs.Cursor.{Reading}
 use Rattle.twkb_head.specs.declared.boxes.Vertex.{Vertex}
 use Rattle.twkb_head.specs.declared.header.Head.{Head}
-use Rattle.twkb_head.specs.declared.kinds.Kind.{Kind}
-use Rattle.twkb_head.specs.declared.raw.RawBox.{RawBox}
 use Rattle.twkb_head.specs.declared.refusal.Malformed.{Malformed}
 use Rattle.twkb_head.specs.BegunHeader.{is_collection}
 use Rattle.twkb_head.specs.Header.{axes_of, is_multi}
@@ -221,7 +219,3 @@ module _ (head : Head) (levels : ℕ) (old : Reading) (frame : Frame) (full : he
       let no : (fold (held_with h) start (lasts_from zeros (points_of m.0))).inside ≡ false =
       ap (λ (k : ℕ). (fold (held_then k) start (lasts_from zeros (points_of m.0))).inside) (sym axes_are) ∙ leave m.0 stop m.1 in
       not_both _ yes no
-
--- parts that can't be read leave any box
-pub malformed_leave : (kind : Kind) (axes count : ℕ) (box : RawBox) (mid new : Reading) → AreMalformed kind axes count mid new → LeaveBox kind axes count box mid
-malformed_leave kind axes count box mid new bad parts stop e = absurd (no_failure (many_at count ring_sums (part_at kind axes) zeros mid) parts stop new bad.0 e bad.1)

@@ -116,7 +116,3 @@ module _ {S : Type 0} (step : S → PointValue → S) (axes : ℕ) where
         read = loop_ends add (point_at axes) (i + k) total (run.numbers ++ more.numbers) (0 + i + k) (after_all add now.last more.numbers) new (omega arith) far;
         walked = walked_then step axes start now next s t u from.place r.place new.place run.numbers more.numbers run.walked more.walked;
       }
-
-  -- no more points than bytes
-  pub run_counted : (start now : Trail) (s t : S) (from r : Reading) (i : ℕ) → start.points ≤ from.place → IsRun step axes start now s t from r i → now.points ≤ r.place
-  run_counted start now s t from r i counted run = omega (arith, counted, run.walked.points, run.walked.ahead)

@@ -146,9 +146,6 @@ passing_goes_on many left done from r mid new z some one sound few spells moved 
     let same : n.1 ≡ mid = (one_answer (signed_at r) n.0 z n.1 mid n.2 one).1 in
     numbers_rest done (left - 1) mid new stop few (run_leads done mid new sound spells moved) (subst (λ (q : Reading). NumbersLead (left - 1) q stop) same n.3)
 
-pub passing_ends : (many left : ℕ) (from r : Reading) → left ≡ 0 → IsPassing many from left r → (stop : Reading) → NumbersLead many from stop → r ≡ stop
-passing_ends many left from r none l stop known = subst (λ (n : ℕ). NumbersLead n r stop) none (l stop known)
-
 -- ---- values that are read one after another
 module _ {A S : Type 0} (after : S → A → S) (each : S → Reader A) (count : ℕ) where
   -- if all values are read, the next one is

@@ -38,7 +38,7 @@ use Rattle.twkb_body.specs.Devices.Pass.{first, false_at, is_within}
 use Rattle.twkb_body.specs.Devices.Ranges.{widened}
 use Rattle.twkb_body.specs.Devices.Sure.{HasReadTwo, LiesIn, LiesInAll, framed, faultless, unseen, frame_bounds, IsHeldBy, IsFrameUnder, body_vertices, IsSureBody, IsSureBehind, IsSure, IsFramed, IsFaultless}
 use Rattle.twkb_body.specs.Devices.Walk.{no_points, HaveAxes, IsWalked, lasts_from}
-use Rattle.twkb_body.proofs.BoxRuns.{reaches_decides, both_true}
+use Rattle.twkb_body.proofs.BoxDistances.{reaches_decides, both_true}
 use Rattle.twkb_body.proofs.Coordinates.{vertices_same}
 use Rattle.twkb_body.proofs.GeometrySteps.{body_gives, empty_body, shape_body, body_of_head, nothing_inside, geometry_found}
 use Rattle.twkb_body.proofs.MemberSteps.{members_of-push, IsMemberLoop, members_read, members_begin, members_go_on, members_end, collection_body, collection_gives, members_inside}
@@ -350,9 +350,6 @@ frame_inside outer inner head same own lies = record {
       (holds_wider head.xy head.z head.m inner.bounds outer.bounds lies vs (subst (λ (f : Frame). All (Holds (frame_bounds f)) vs) own.0 held));
   holds = λ vs own above. own;
 }
-
-pub frame_above : (frame : Frame) (head : Head) → IsFramed head frame → IsFrameUnder (Some frame) head None (Some frame)
-frame_above frame head is = record { framed = is; own_is = tt; above_holds = λ vs held. held; holds = λ vs own above. above }
 
 -- if there is no frame above, a geometry's own frame is the frame
 pub frame_alone : (head : Head) (own : Option Frame) → IfSome own (IsFramed head) → IsFrameUnder None head own own

@@ -7,7 +7,7 @@ pub mod Walk
 pub mod BoxTest
 pub mod Quads
 pub mod PointReader
-pub mod Numbers
+pub mod PerAxis
 pub mod LaneTrail
 pub mod FurtherLanes
 pub mod Found

@@ -1,17 +1,17 @@
 //! [`FlatLanes`], which reads points of X and Y in lanes.
 ghost use Rattle.std.specs.Prelude.{◌≡◌, ◌&&◌, ◌^◌, ℤ, pos, ◌+ℤ◌, ◌<ℤ◌, IsTrue, IfSome, IfNone, false, true};
 ghost use Rattle.twkb_body.specs.Devices.BoxTest.{reaches};
-ghost use Rattle.twkb_body.specs.Devices.LaneTrail.{FitsLane, FitsLanes, IsFlatPlace};
+ghost use Rattle.twkb_body.specs.Devices.LaneTrail.{FitsLanes, IsFlatPlace};
 ghost use Rattle.twkb_body.specs.Devices.Quads.{lanes_at, FromLanes, IsInLane, IsFarStep};
 ghost use Rattle.twkb_body.specs.Devices.Body.{zeros};
 
 use crate::lane_trail::{LaneReader, LaneTrail};
 use crate::parts::LinesCalled;
-use crate::positions::{Reached, Step, distances_in, is_in_lane, is_lane_extent, lanes_of};
+use crate::positions::{Reached, Step, distances_in, extent_bits, lanes_of, minimum_bits};
 use crate::quads::{next_one, next_points, next_two};
 use crate::varints::take_signed;
 use std::simd::prelude::*;
-use twkb_head::{RawBox, RawRange};
+use twkb_head::RawBox;
 use twkb_num::Cursor;
 
 /// Reads points of X and Y alone, whose distances are in lanes twice.
@@ -71,20 +71,16 @@ impl LaneReader for FlatLanes {
     }
 }
 
-/// Whether lanes hold the distances of points from the minima of a box.
+/// Whether lanes hold the distances of points from the minima of a box. Its widths are below 2^30, so that lanes tell these distances
+/// from others, also where lanes wrap around: four short differences lead at most 2^29 further.
 #[inline(always)]
 pub fn fits_lanes(bounds: &RawBox) -> bool
     ensures { IsTrue result → FitsLanes bounds.now }
 {
-    fits_lane(&bounds.x) && fits_lane(&bounds.y)
-}
-
-/// Whether lanes hold the distances of points from the minimum of a range.
-#[inline(always)]
-pub fn fits_lane(range: &RawRange) -> bool
-    ensures { IsTrue result → FitsLane range.now }
-{
-    is_lane_extent(range.extent) && is_in_lane(range.minimum.wrapping_neg())
+    // One comparison for all minima, and one for all widths: a number that doesn't fit sets a higher bit.
+    let minima = minimum_bits(&bounds.x) | minimum_bits(&bounds.y);
+    let extents = extent_bits(&bounds.x) | extent_bits(&bounds.y);
+    minima < 1 << 32 && extents < 1 << 30
 }
 
 /// Reads one point, whose differences may take more than four bytes. `inside` is false if it is malformed, too.

@@ -1,8 +1,7 @@
 //! The box that the vertices of a geometry have to lie in: its own, or the box of a collection around it.
 ghost use Rattle.std.specs.Prelude.{◌≡◌, ◌<◌, ◌^◌, ℕ, true, Option, IfSome, OnSome, IsTrue, not, option_map};
 ghost use Rattle.twkb_head.specs.Raw.{HavePrecisions, raw_bounds};
-ghost use Rattle.twkb_body.specs.Devices.BoxTest.{IsNearRange};
-ghost use Rattle.twkb_body.specs.Devices.Sure.{framed, has_further, IsNear, IsNearFrame, IsFrameUnder, LiesIn, LiesInAll};
+ghost use Rattle.twkb_body.specs.Devices.Sure.{framed, has_further, IsFrameUnder, LiesIn, LiesInAll};
 ghost use Rattle.twkb_body.specs.Devices.Walk.{precisions_of};
 
 use twkb_head::{Axes, Bounds, Head, RawBox, RawRange};
@@ -19,22 +18,16 @@ pub struct Frame {
 impl Frame {
     /// The frame of a geometry: its own box or, if it has none, the frame above. `Some(None)` if neither is there.
     ///
-    /// `None` if the geometry has to be read apart, as the exact audit reads it: its own box has numbers far from zero or a negative
-    /// extent, or the frame above has other axes or precisions, or doesn't contain that box.
+    /// `None` if the geometry has to be read apart, as the exact audit reads it: the frame above has other axes or precisions, or
+    /// doesn't contain its own box.
     #[inline(always)]
     pub fn under(above: &Option<Frame>, head: &Head, own: &Option<RawBox>) -> Option<Option<Frame>>
-        requires near { IfSome above.now IsNearFrame }
-        requires precisions { HavePrecisions (precisions_of head.now) }
+        requires { HavePrecisions (precisions_of head.now) }
         ensures { IfSome result (IsFrameUnder above.now head.now (option_map (framed head.now) own.now)) }
     {
         match (above, own) {
             (None, None) => Some(None),
-            (None, Some(bounds)) => {
-                if !is_near_box(bounds) {
-                    return None;
-                }
-                Some(Some(Frame::of(head, bounds)))
-            }
+            (None, Some(bounds)) => Some(Some(Frame::of(head, bounds))),
             (Some(frame), _) => {
                 if frame.xy != head.xy || frame.z != head.z || frame.m != head.m {
                     return None;
@@ -85,8 +78,7 @@ pub fn further_frame(
     head: &Head,
     own: &Option<RawBox>,
 ) -> Option<Option<Frame>>
-    requires near { IfSome above.now IsNearFrame }
-    requires precisions { HavePrecisions (precisions_of head.now) }
+    requires { HavePrecisions (precisions_of head.now) }
     ensures further { OnSome result (has_further head.now.z head.now.m ≡ true) }
     ensures frame { IfSome result (IsFrameUnder above.now head.now (option_map (framed head.now) own.now)) }
 {
@@ -96,33 +88,10 @@ pub fn further_frame(
     Frame::under(above, head, own)
 }
 
-/// Whether the ranges of a box are near, in all axes. The range of a missing axis is zeros.
-#[inline(always)]
-fn is_near_box(bounds: &RawBox) -> bool
-    ensures { IsTrue result → (z m : Option ℕ) → IsNear z m bounds.now }
-{
-    // One comparison for all numbers: one that is far from zero sets a bit at or above 2^60.
-    let all = bits_of(&bounds.x)
-        | bits_of(&bounds.y)
-        | bits_of(&bounds.third)
-        | bits_of(&bounds.fourth);
-    all < 1 << 60
-}
-
-/// The bits of both numbers. If the result is below 2^60, the range isn't empty, and its minimum and extent are near zero.
-#[inline(always)]
-fn bits_of(range: &RawRange) -> u64
-    ensures { result < 2 ^ 60 → IsNearRange range.now }
-{
-    range.minimum.wrapping_add(1 << 59).cast_unsigned() | range.extent.cast_unsigned()
-}
-
 /// Whether `inner` lies in `outer`, in each axis that the header has.
 #[inline(always)]
 fn lies_in_all(head: &Head, inner: &RawBox, outer: &RawBox) -> bool
-    requires near { IsNear head.now.z head.now.m outer.now }
-    ensures lies { IsTrue result → LiesInAll head.now.z head.now.m inner.now outer.now }
-    ensures near { IsTrue result → IsNear head.now.z head.now.m inner.now }
+    ensures { IsTrue result → LiesInAll head.now.z head.now.m inner.now outer.now }
 {
     lies_in(&inner.x, &outer.x)
         && lies_in(&inner.y, &outer.y)
@@ -140,21 +109,20 @@ fn is_flat(head: &Head) -> bool
 /// Whether a box lies in another in the axes after X and Y. Both have zeros for a missing axis.
 #[inline(always)]
 fn lies_in_further(inner: &RawBox, outer: &RawBox) -> bool
-    requires third { IsNearRange outer.now.third }
-    requires fourth { IsNearRange outer.now.fourth }
-    ensures { IsTrue result → (LiesIn inner.now.third outer.now.third × IsNearRange inner.now.third)
-        × (LiesIn inner.now.fourth outer.now.fourth × IsNearRange inner.now.fourth) }
+    ensures { IsTrue result → LiesIn inner.now.third outer.now.third × LiesIn inner.now.fourth outer.now.fourth }
 {
     lies_in(&inner.third, &outer.third) && lies_in(&inner.fourth, &outer.fourth)
 }
 
 /// Whether `inner` isn't empty, and lies in `outer`.
-// Distances are compared as unsigned numbers, in which a negative one is very great.
+// A distance that isn't negative fits 64 bits without a sign, and a negative extent is then greater than any other.
 #[inline(always)]
 fn lies_in(inner: &RawRange, outer: &RawRange) -> bool
-    requires { IsNearRange outer.now }
-    ensures { IsTrue result → LiesIn inner.now outer.now × IsNearRange inner.now }
+    ensures { IsTrue result → LiesIn inner.now outer.now }
 {
+    if inner.minimum < outer.minimum || outer.extent < 0 {
+        return false;
+    }
     let apart = inner.minimum.wrapping_sub(outer.minimum).cast_unsigned();
     let reach = outer.extent.cast_unsigned();
     apart <= reach && inner.extent.cast_unsigned() <= reach - apart

@@ -1,18 +1,18 @@
 //! [`FurtherLanes`], which reads points of three axes or four in lanes.
-ghost use Rattle.std.specs.Prelude.{◌≡◌, ◌≤◌, true, false, IsTrue};
-ghost use Rattle.twkb_body.specs.declared.numbers.Numbers.{Numbers as NumbersOf};
+ghost use Rattle.std.specs.Prelude.{◌≡◌, ◌≤◌, true, false, IsTrue, IfSome, IfNone};
+ghost use Rattle.twkb_body.specs.declared.per_axis.PerAxis.{PerAxis as PerAxisOf};
 ghost use Rattle.twkb_body.specs.Devices.Body.{zeros};
 ghost use Rattle.twkb_body.specs.Devices.FurtherLanes.{FitsFurther, IsFurtherStep, IsFarPoint, LeavesByPoint, IsFurtherPlace, four_lanes};
-ghost use Rattle.twkb_body.specs.Devices.Numbers.{Each, is_four, axes_by};
+ghost use Rattle.twkb_body.specs.Devices.PerAxis.{Each, is_four, axes_by, AreDifferences};
 ghost use Rattle.twkb_body.specs.Devices.Quads.{IsInLane, ReadsAtMost};
 
-use crate::box_test::{BoxTest, distances, placed};
-use crate::flat_lanes::fits_lane;
+use crate::box_test::BoxTest;
 use crate::lane_trail::{LaneReader, LaneTrail};
-use crate::numbers::{Numbers, take_three};
 use crate::parts::LinesInlined;
+use crate::per_axis::{PerAxis, distances, placed};
 use crate::positions::{
-    Reached, Step, four_lanes_of, numbers_in, one_of_four, one_of_three, two_further,
+    Reached, Step, extent_bits, four_lanes_of, minimum_bits, numbers_in, one_of_four, one_of_three,
+    two_further,
 };
 use crate::trail::{Trail, take_point};
 use crate::walk::bare_head;
@@ -37,13 +37,13 @@ impl<const AXES: usize> FurtherLanes<AXES> {
     {
         LaneTrail {
             reader: FurtherLanes { bounds: *bounds },
-            at: four_lanes_of(&Numbers {
+            at: four_lanes_of(&PerAxis {
                 x: -bounds.x.minimum,
                 y: -bounds.y.minimum,
                 third: -bounds.third.minimum,
                 fourth: -bounds.fourth.minimum,
             }),
-            extent: four_lanes_of(&Numbers {
+            extent: four_lanes_of(&PerAxis {
                 x: bounds.x.extent,
                 y: bounds.y.extent,
                 third: bounds.third.extent,
@@ -56,7 +56,7 @@ impl<const AXES: usize> FurtherLanes<AXES> {
 
 impl<const AXES: usize> LaneReader for FurtherLanes<AXES> {
     ghost use Rattle.twkb_body.specs.Devices.FurtherLanes.{IsFurtherPlace};
-    ghost use Rattle.twkb_body.specs.Devices.Numbers.{is_four, axes_by};
+    ghost use Rattle.twkb_body.specs.Devices.PerAxis.{is_four, axes_by};
 
     type Lines = LinesInlined;
 
@@ -93,11 +93,18 @@ impl<const AXES: usize> LaneReader for FurtherLanes<AXES> {
 pub fn fits_further<const AXES: usize>(bounds: &RawBox) -> bool
     ensures { IsTrue result → FitsFurther (is_four AXES) bounds.now }
 {
-    fits_lane(&bounds.x)
-        && fits_lane(&bounds.y)
-        && fits_lane(&bounds.third)
-        && fits_lane(&bounds.fourth)
-        && (AXES == 4 || bounds.fourth.minimum == 0)
+    if AXES != 4 && bounds.fourth.minimum != 0 {
+        return false;
+    }
+    let minima = minimum_bits(&bounds.x)
+        | minimum_bits(&bounds.y)
+        | minimum_bits(&bounds.third)
+        | minimum_bits(&bounds.fourth);
+    let extents = extent_bits(&bounds.x)
+        | extent_bits(&bounds.y)
+        | extent_bits(&bounds.third)
+        | extent_bits(&bounds.fourth);
+    minima < 1 << 32 && extents < 1 << 30
 }
 
 /// Reads two points at the place, or one, by their distances from the minima of a box, in lanes. It reads none if a difference of
@@ -117,6 +124,21 @@ fn next_further<const AXES: usize>(cursor: &mut Cursor, left: u64, at: u32x4, ex
         }
     }
     point_of_four(cursor, at, extent)
+}
+
+/// Reads the differences of a point of three axes: a pair, and a number after it.
+#[inline(always)]
+fn take_three(cursor: &mut Cursor) -> Option<PerAxis>
+    ensures some { IfSome result (λ more. AreDifferences false more cursor.old cursor.new) }
+    ensures none { IfNone result (cursor.new ≡ cursor.old) }
+{
+    let ((x, y), third) = cursor.svarint_pair_and_one()?;
+    Some(PerAxis {
+        x,
+        y,
+        third,
+        fourth: 0,
+    })
 }
 
 /// Reads one point of three axes, or none.
@@ -174,9 +196,9 @@ fn axes<const AXES: usize>() -> usize
 fn far_point<const AXES: usize>(cursor: &mut Cursor, bounds: &RawBox, at: u32x4) -> Reached
     requires { FitsFurther (is_four AXES) bounds.now }
     ensures bytes { cursor.new.bytes ≡ cursor.old.bytes }
-    ensures inside { result.inside ≡ true → (apart : NumbersOf) → at ≡ four_lanes apart → Each IsInLane apart
+    ensures inside { result.inside ≡ true → (apart : PerAxisOf) → at ≡ four_lanes apart → Each IsInLane apart
         → IsFarPoint (is_four AXES) bounds.now apart cursor.old cursor.new result.at }
-    ensures outside { result.inside ≡ false → (apart : NumbersOf) → at ≡ four_lanes apart → Each IsInLane apart
+    ensures outside { result.inside ≡ false → (apart : PerAxisOf) → at ≡ four_lanes apart → Each IsInLane apart
         → LeavesByPoint (is_four AXES) bounds.now apart cursor.old }
 {
     let axes = axes::<AXES>();
@@ -192,7 +214,7 @@ fn far_point<const AXES: usize>(cursor: &mut Cursor, bounds: &RawBox, at: u32x4)
     if !test.is_inside() {
         return Reached { at, inside: false };
     }
-    let next = distances(bounds, &Numbers::of(&trail.last));
+    let next = distances(bounds, &PerAxis::of(&trail.last));
     Reached {
         at: four_lanes_of(&next),
         inside: true,

@@ -2,23 +2,20 @@
 //!
 //! A lane holds a point's distance in one axis from the minimum of the box. One comparison without signs tells whether the point is
 //! in the box, since a distance below zero is a great number then. Points of X and Y alone have each distance in two lanes.
-ghost use Rattle.std.specs.Prelude.{◌≡◌, true, ◌+◌, ◌-◌, ◌%◌, ◌&&◌, ℕ, ℤ, map, [], ◌∷◌, nat_le, nat_lt, if◌then◌else◌, All, IsTrue};
+ghost use Rattle.std.specs.Prelude.{◌≡◌, true, ◌+◌, ◌-◌, ◌%◌, ◌^◌, ◌<◌, ◌&&◌, neg_ℤ, ℕ, ℤ, map, [], ◌∷◌, nat_le, nat_lt, if◌then◌else◌, All, IsTrue};
 ghost use Rattle.std.specs.Int.{w16, w32, cast_signed, cast_unsigned};
 ghost use Rattle.twkb_num.specs.Varint.{IsBrief, IsShort};
-ghost use Rattle.twkb_body.specs.declared.numbers.Numbers.{Numbers as NumbersOf};
+ghost use Rattle.twkb_body.specs.declared.per_axis.PerAxis.{PerAxis as PerAxisOf};
 ghost use Rattle.twkb_body.specs.Devices.FurtherLanes.{four_lanes, fours_of, FromFourLanes, HaveGone};
-ghost use Rattle.twkb_body.specs.Devices.Numbers.{Each};
+ghost use Rattle.twkb_body.specs.Devices.PerAxis.{Each};
 ghost use Rattle.twkb_body.specs.Devices.Quads.{lanes_at, pairs_of, FromLanes, IsInLane, IsLaneExtent, HaveReached};
 
-use crate::numbers::Numbers;
+use crate::per_axis::PerAxis;
 use std::simd::prelude::*;
+use twkb_head::RawRange;
 
 /// A lane holds distances from -2^31 on and below 2^31.
 const IN_LANE: i64 = 1 << 31;
-
-/// An extent below this is told from every point outside, also where lanes wrap around: four short differences lead at most 2^29
-/// further.
-const WIDEST: i64 = 1 << 30;
 
 /// The last of some points, and whether a box holds them all.
 #[derive(Clone, Copy)]
@@ -50,20 +47,20 @@ impl Step {
     }
 }
 
-/// Whether a lane holds a distance.
+/// Bits that are below 2^32 only if a lane holds the distance of zero from the minimum of a range.
 #[inline(always)]
-pub fn is_in_lane(distance: i64) -> bool
-    ensures { IsTrue result → IsInLane distance }
+pub fn minimum_bits(range: &RawRange) -> u64
+    ensures { result < 2 ^ 32 → IsInLane (neg_ℤ range.now.minimum) }
 {
-    -IN_LANE <= distance && distance < IN_LANE
+    range.minimum.wrapping_add(IN_LANE - 1).cast_unsigned()
 }
 
-/// Whether lanes tell the distances within an extent from others.
+/// Bits that are below 2^30 only if lanes tell the distances within the extent of a range from others.
 #[inline(always)]
-pub fn is_lane_extent(extent: i64) -> bool
-    ensures { IsTrue result → IsLaneExtent extent }
+pub fn extent_bits(range: &RawRange) -> u64
+    ensures { result < 2 ^ 30 → IsLaneExtent range.now.extent }
 {
-    0 <= extent && extent < WIDEST
+    range.extent.cast_unsigned()
 }
 
 /// Two distances in lanes, twice.
@@ -164,7 +161,7 @@ pub fn one_of_four(differences: u32x4, at: u32x4, extent: u32x4) -> Reached
 
 /// One point of three axes more, by differences of at most four bytes. The fourth number is zero.
 #[inline(always)]
-pub fn one_of_three(more: &Numbers, at: u32x4, extent: u32x4) -> Reached
+pub fn one_of_three(more: &PerAxis, at: u32x4, extent: u32x4) -> Reached
     requires { Each IsShort more.now }
     ensures { FromFourLanes at extent (λ apart e. HaveGone e apart (more.now ∷ []) result.at result.inside) }
 {
@@ -177,7 +174,7 @@ pub fn one_of_three(more: &Numbers, at: u32x4, extent: u32x4) -> Reached
 
 /// A number for each axis, in lanes.
 #[inline(always)]
-pub fn four_lanes_of(n: &Numbers) -> u32x4
+pub fn four_lanes_of(n: &PerAxis) -> u32x4
     requires { Each IsInLane n.now }
     ensures { result ≡ four_lanes n.now }
 {
@@ -200,12 +197,12 @@ fn lane_of(number: i64) -> u32
 
 /// The number of each axis, in lanes.
 #[inline(always)]
-pub fn numbers_in(at: u32x4) -> Numbers
-    ensures all { (apart : NumbersOf) → at ≡ four_lanes apart → Each IsInLane apart → result ≡ apart }
+pub fn numbers_in(at: u32x4) -> PerAxis
+    ensures all { (apart : PerAxisOf) → at ≡ four_lanes apart → Each IsInLane apart → result ≡ apart }
     ensures in_lanes { Each IsInLane result }
 {
     let lanes = at.to_array();
-    Numbers {
+    PerAxis {
         x: number_in(lanes[0]),
         y: number_in(lanes[1]),
         third: number_in(lanes[2]),

@@ -162,17 +162,4 @@ impl Points for Ranges {
         self.z.add_if(head.z, point, 2);
         self.m.add_if(head.m, point, head.m_axis());
     }
-
-    // Only the exact audit keeps ranges, and it needn't be fast, so its points are read one by one.
-    #[inline(always)]
-    fn take_run(
-        &mut self,
-        _cursor: &mut Cursor,
-        _head: &Head,
-        _axes: usize,
-        _most: u64,
-        _trail: &mut Trail,
-    ) -> u64 {
-        0
-    }
 }

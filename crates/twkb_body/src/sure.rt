@@ -10,7 +10,7 @@ ghost use Rattle.twkb_head.specs.declared.header.Head.{Head as HeadOf};
 ghost use Rattle.twkb_head.specs.declared.kinds.Kind.TheVariants.{Point, LineString};
 ghost use Rattle.twkb_body.specs.declared.doubt.Doubt.TheVariants.{Refused};
 ghost use Rattle.twkb_body.specs.declared.frame.Frame.{Frame as FrameOf};
-ghost use Rattle.twkb_body.specs.Devices.Sure.{counted_in, has_further, IsFramed, IsNearFrame, IsJudged, HasReadTwo, HasBegun, HasHead, Certifies, CertifiesAfterTwo, CertifiesAfterHead, CertifiesBody};
+ghost use Rattle.twkb_body.specs.Devices.Sure.{counted_in, has_further, IsFramed, IsFrame, IsJudged, HasReadTwo, HasBegun, HasHead, Certifies, CertifiesAfterTwo, CertifiesAfterHead, CertifiesBody};
 
 mod announced;
 mod apart;
@@ -348,7 +348,7 @@ fn take_members<R: IdRoom>(
 ) -> Result<usize, Doubt>
     requires shallowest { 1 ≤ depth }
     requires below { depth + 1 ≤ deepest }
-    requires near { IfSome frame.now IsNearFrame }
+    requires frame { IfSome frame.now IsFrame }
     ensures { (head : HeadOf) → head.empty ≡ false → is_collection head.kind ≡ true → head.ids ≡ has_ids
         → CertifiesBody depth head frame.now cursor.old result cursor.new }
 {

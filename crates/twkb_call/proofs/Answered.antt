@@ -1,5 +1,5 @@
 -- The answers to several windows, one after another in the same rooms.
-use Rattle.std.proofs.Common.{◌≡◌, ◌+◌, ◌-◌, ◌<◌, ◌≤◌, ℕ, List, [], ◌∷◌, ◌++◌, length, map, take, drop, get_or, slice_set, sum_by, arith, ap, sym, ◌∙◌, refl}
+use Rattle.std.proofs.Common.{◌≡◌, ◌+◌, ◌-◌, ◌<◌, ◌≤◌, ℕ, List, [], ◌∷◌, ◌++◌, length, map, take, drop, get_or, slice_set, sum_by, arith, ap, sym, ◌∙◌}
 use Rattle.std.proofs.lemmas.List.{take_more, flat_map_more, map-append, length-append, length-map, length-take-le, take_rest, drop-drop, drop_all, append-nil}
 use borrow.Rule.Slice.PartMut.{put_mid, mid_of}
 use Rattle.twkb_num.specs.Cursor.{added}
@@ -33,9 +33,6 @@ pub record Answered (trees : List Geometry) (windows : List Window) (n used : �
   pub counted : used ≡ length (hits_in_all trees (take n windows))
   pub told : scanned' ≡ filled (map (scanned_with trees) (take n windows)) scanned
   pub shown : room' ≡ filled (hits_in_all trees (take n windows)) room
-
-pub none_answered : (trees : List Geometry) (windows : List Window) (scanned : List Scanned) (room : List Hit) → Answered trees windows 0 0 scanned scanned room room
-none_answered trees windows scanned room = record { counted = refl; told = filled-nil scanned; shown = filled-nil room }
 
 module _ (trees : List Geometry) (windows : List Window) (n : ℕ) (d : Window) where
   -- the windows with the next one, and what is said of them and found in them

@@ -1,5 +1,5 @@
 -- A field at the front of bytes: cutting it off, and what it means that it cannot be cut off.
-use Rattle.std.proofs.Common.{◌≡◌, ℕ, zero, suc, ◌*◌, ◌^◌, ◌<◌, ◌≤◌, Bool, true, false, cond, nat_lt, List, [], ◌∷◌, ◌++◌, length, take, slice_index, All, Result, Ok, Err, ◌⊎◌, inl, inr, ⊎_elim, refl, sym, ap, subst, ◌∙◌, arith}
+use Rattle.std.proofs.Common.{◌≡◌, ℕ, zero, suc, ◌*◌, ◌<◌, ◌≤◌, Bool, true, false, cond, nat_lt, List, [], ◌∷◌, ◌++◌, length, take, slice_index, All, Result, Ok, Err, ◌⊎◌, inl, inr, ⊎_elim, refl, sym, ap, subst, ◌∙◌, arith}
 use Rattle.std.proofs.lemmas.Bool.{ltb-true, ltb-false, lt-ltb, le-ltb}
 use Rattle.std.proofs.lemmas.List.{get_or-take}
 use Rattle.std.proofs.lemmas.Grind.{common_steps}
@@ -25,10 +25,6 @@ Pieces = Result (List ℕ × List ℕ) Why
 limit : ℕ → ℕ
 limit zero = 2
 limit (suc room) = 128 * limit room
-
-limit-9 : limit 9 ≡ 2 ^ 64
-unfolding limit
-limit-9 = refl
 
 -- one varint of at most room + 1 bytes
 record IsVarintWithin (room : ℕ) (bytes : List ℕ) : Type 0 where

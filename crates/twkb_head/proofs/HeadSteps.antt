@@ -135,10 +135,6 @@ begins_goes_on begun depth before now sound begins answer new e =
     head_of_rest levels (record begun { metadata = m }) before now new answer has
     (rest_same begun.kind begun.xy m n begun.start now (bits_same m n 8 eight) (bits_same m n 2 two) (bits_same m n 1 one) (bits_same m n 16 sixteen) (bits_same m n 4 four) ∙ e)
 
--- a field that isn't announced isn't read
-pub not_read : {A : Type 0} (announced : Bool) (f : Reader A) (r : Reading) → announced ≡ false → optional_at announced f r ≡ (Ok None, r)
-not_read announced f r e = ap (λ (b : Bool). optional_at b f r) e
-
 -- a field that is announced is read
 pub is_read : {A : Type 0} (announced : Bool) (f : Reader A) (x : A) (r new : Reading) → announced ≡ true → f r ≡ (Ok x, new) → optional_at announced f r ≡ (Ok (Some x), new)
 is_read announced f x r new e read = ap (λ (b : Bool). optional_at b f r) e ∙ ap (viewed Some) read

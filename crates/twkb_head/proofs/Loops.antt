@@ -1,8 +1,8 @@
 -- Reading many values in a loop: its start, its step and its end.
-use Rattle.std.proofs.Common.{◌≡◌, ℕ, suc, ◌+◌, ◌-◌, ◌<◌, ◌≤◌, List, [], ◌∷◌, ◌++◌, Result, Ok, Err, refl, sym, ap, ◌∙◌, append_assoc, arith}
+use Rattle.std.proofs.Common.{◌≡◌, ℕ, suc, ◌+◌, ◌-◌, ◌<◌, ◌≤◌, List, [], ◌∷◌, ◌++◌, Ok, Err, refl, sym, ap, ◌∙◌, append_assoc, arith}
 use Rattle.std.proofs.lemmas.List.{append-nil}
 use Rattle.twkb_num.specs.Cursor.{Reading}
-use Rattle.twkb_head.specs.Shared.Reader.{Answer, Reader, ◌>>=◌, viewed, many_at, Fails, Reads}
+use Rattle.twkb_head.specs.Shared.Reader.{Answer, Reader, ◌>>=◌, viewed, many_at, Fails}
 use Rattle.twkb_head.specs.declared.refusal.Malformed.{Malformed}
 
 -- an answer with values put in front of the values that were read
@@ -57,9 +57,3 @@ first_fails {A} {B} a k m new e = record { left = e.left; is = ap (λ (q : Answe
 -- if the first read gives a value and the second fails, both reads in turn fail
 pub then_fails : {A B : Type 0} (a : Answer A) (k : A → Reader B) (x : A) (mid : Reading) (m : Malformed) (new : Reading) → a ≡ (Ok x, mid) → Fails (k x mid) m new → Fails (a >>= k) m new
 then_fails {A} {B} a k x mid m new ok e = record { left = e.left; is = ap (λ (q : Answer A). q >>= k) ok ∙ e.is; bytes = e.bytes }
-
--- if the first read gives a value, code that reads as the second does reads as both in turn
-pub reads_then : {A B C : Type 0} (a : Answer A) (k : A → Reader B) (x : A) (mid : Reading) (Gives : B → C → Type 0) (result : Result C Malformed) (new : Reading)
-    → a ≡ (Ok x, mid) → Reads (k x mid) Gives result new → Reads (a >>= k) Gives result new
-reads_then {A} a k x mid Gives (Ok y) new ok (b, is, gives) = (b, ap (λ (q : Answer A). q >>= k) ok ∙ is, gives)
-reads_then a k x mid Gives (Err m) new ok e = then_fails a k x mid m new ok e

@@ -1,6 +1,6 @@
 -- The loop of audits over a layer: what it has counted, and its refusal or its end.
-use Rattle.std.proofs.Common.{◌≡◌, ℕ, ◌+◌, ◌-◌, ◌^◌, ◌<◌, ◌≤◌, Bool, true, false, List, [], ◌∷◌, ◌++◌, length, take, drop, All, refl, sym, ap, subst, ◌∙◌, arith, length-append, inl, inr}
-use Rattle.std.proofs.lemmas.List.{length-take, take_all}
+use Rattle.std.proofs.Common.{◌≡◌, ℕ, ◌+◌, ◌-◌, ◌^◌, ◌<◌, Bool, true, false, List, [], ◌∷◌, ◌++◌, length, take, drop, All, refl, sym, ap, ◌∙◌, arith, length-append, inl, inr}
+use Rattle.std.proofs.lemmas.List.{length-take}
 use Rattle.std.proofs.lemmas.List.Elements.{All-nil, All-cons, All-head, All-tail, All-push}
 use Rattle.std.proofs.lemmas.List.Sums.{sum_by-append, sum_by-cons}
 use Rattle.std.proofs.Math.Seq.{take-add}
@@ -89,10 +89,6 @@ counted_fits true bytes place blobs count c fits = plain_fits bytes place blobs 
 -- an audit moves ahead
 pub audit_ahead : (tight : Bool) (a b : Reading) (audit : Audit) → IsMoved a b → IsAudited (IsTrueBy tight) audit a.place (passed a b) → a.place < b.place
 audit_ahead tight a b audit m h = omega (arith, blob_some h.blob (passed a b) h.is, length-take (b.place - a.place) (drop a.place a.bytes))
-
--- at the end all bytes were counted
-pub counted_all : (tight : Bool) (bytes : List ℕ) (place blobs count : ℕ) → IsCountedBy tight (take place bytes) blobs count → length bytes ≤ place → IsCountedBy tight bytes blobs count
-counted_all tight bytes place blobs count c h = subst (λ (l : List ℕ). IsCountedBy tight l blobs count) (take_all place bytes h) c
 
 -- the blobs that were counted begin the bytes
 tight_trees : (trees : List Geometry) → All IsCertified trees → All HasTightBoxes trees → All (IsCertifiedBy true) trees

@@ -100,9 +100,6 @@ digit_small minus n s is =
     let small = signed_small minus (n % 10) (omega arith) in
     (omega (arith, ints, small.0, is), omega (arith, ints, small.1, is))
 
-pub leaning_small : (d a : ℤ) → a ≡ leaning d → (neg_ℤ (pos 2) ≤ℤ a) × (a ≤ℤ pos 2)
-leaning_small d a is = (grind (arith, ints, is), grind (arith, ints, is))
-
 signed_none : (minus : Bool) (n : ℕ) → n ≡ 0 → signed minus n ≡ pos 0
 signed_none true n e = ap (λ (m : ℕ). neg_ℤ (pos m)) e
 signed_none false n e = ap pos e

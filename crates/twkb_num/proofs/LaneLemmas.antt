@@ -31,10 +31,6 @@ pub flag_place : (len : ℕ) → IsFlag len → len % 16 ≤ 8
 flag_place len (inl low) = omega (arith, low)
 flag_place len (inr far) = omega (arith, far)
 
-pub flag_le : (len : ℕ) → IsFlag len → len ≤ 128
-flag_le len (inl low) = omega (arith, low)
-flag_le len (inr far) = omega (arith, far)
-
 flag_short : (len : ℕ) → IsFlag len → len < 128 → len ≤ 8
 flag_short len (inl low) short = low
 flag_short len (inr far) short = absurd (omega (arith, far, short))

@@ -34,11 +34,6 @@ once_next bytes chunk place is = once_in_front (drop place bytes) chunk (eight_a
 abbrev pub IsTold : ℕ → ℕ → List ℕ → Type 0
 IsTold n within bytes = (length bytes < within) ⊎ HasLong n within bytes
 
--- what is told of some bytes holds of more
-pub told_wider : (n within wider : ℕ) (bytes : List ℕ) → within ≤ wider → IsTold n within bytes → IsTold n wider bytes
-told_wider n within wider bytes more (inl few) = inl (omega (arith, few, more))
-told_wider n within wider bytes more (inr h) = inr (h.0, omega (arith, h.1, more), h.2)
-
 -- what is told after a move of at most eight bytes holds before it, of eight bytes more
 pub told_after : (n within : ℕ) (old new : Reading) → IsMoved old new → new.place ≤ old.place + 8 → IsTold n within (rest new) → IsTold n (within + 8) (rest old)
 told_after n within old new moved few (inl end) = inl (omega (arith, end, few, moved.ahead, moved.within, ap length moved.bytes, length-drop new.place new.bytes, length-drop old.place old.bytes))

@@ -4,8 +4,8 @@ use Rattle.std.specs.Prelude.{ℕ, ◌+◌, ◌^◌, Bool, true, ◌&&◌, if◌
 use Rattle.twkb_head.specs.Header.{Header, axes_of}
 use Rattle.twkb_head.specs.declared.raw.RawBox.{RawBox}
 use Rattle.twkb_head.specs.declared.raw.RawRange.{RawRange}
-use Rattle.twkb_body.specs.declared.numbers.Numbers.{Numbers}
-use Rattle.twkb_body.specs.Devices.Numbers.{Each}
+use Rattle.twkb_body.specs.declared.per_axis.PerAxis.{PerAxis}
+use Rattle.twkb_body.specs.Devices.PerAxis.{Each}
 use Rattle.twkb_body.specs.Geometry.{PointValue, coordinate}
 
 -- a distance from a minimum lies within an extent
@@ -31,18 +31,6 @@ is_in_further axes box point = is_in_axis (nat_lt 2 axes) box.third (coordinate 
 -- a box holds all coordinates of a point that has this many axes
 abbrev pub is_in_box : ℕ → RawBox → PointValue → Bool
 is_in_box axes box point = is_in_further axes box point && is_in_flat box point
-
--- a distance from a minimum lies within an extent, in an axis that may not be there
-abbrev pub reaches_if : Bool → ℤ → ℤ → Bool
-reaches_if is_there extent distance = if is_there then reaches extent distance else true
-
--- distances from the minima of a box lie within its extents, in the axes after Y
-abbrev pub reach_further : RawBox → Bool → Numbers → Bool
-reach_further box has_fourth apart = reaches box.third.extent apart.third && reaches_if has_fourth box.fourth.extent apart.fourth
-
--- distances from the minima of a box lie within its extents, in all axes
-abbrev pub reach_all : RawBox → Bool → Numbers → Bool
-reach_all box has_fourth apart = reach_further box has_fourth apart && (reaches box.x.extent apart.x && reaches box.y.extent apart.y)
 
 -- a box, and whether it holds the points so far
 pub record Held : Type 0 where
@@ -82,7 +70,7 @@ abbrev pub IsNearBox : RawBox → Type 0
 IsNearBox box = IsNearRange box.x × IsNearRange box.y
 
 -- the ranges of a box after Y are `IsNearRange`, and the coordinates of a point are near zero
-pub record AreNear (box : RawBox) (point : Numbers) : Type 0 where
+pub record AreNear (box : RawBox) (point : PerAxis) : Type 0 where
   pub third : IsNearRange box.third
   pub fourth : IsNearRange box.fourth
   pub all : Each IsNearZero point

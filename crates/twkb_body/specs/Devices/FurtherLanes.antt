@@ -4,28 +4,28 @@ use Rattle.std.specs.Prelude.{◌≡◌, ℕ, ◌<◌, Bool, true, false, ◌&&�
 use Rattle.std.specs.Int.{w32, cast_unsigned}
 use Rattle.twkb_num.specs.Cursor.{Reading}
 use Rattle.twkb_head.specs.declared.raw.RawBox.{RawBox}
-use Rattle.twkb_body.specs.declared.numbers.Numbers.{Numbers}
+use Rattle.twkb_body.specs.declared.per_axis.PerAxis.{PerAxis}
 use Rattle.twkb_body.specs.declared.positions.Step.{Step}
 use Rattle.twkb_body.specs.Geometry.{PointValue}
 use Rattle.twkb_body.specs.Devices.Body.{add}
 use Rattle.twkb_body.specs.Devices.BodyReader.{point_at}
 use Rattle.twkb_body.specs.Devices.BoxTest.{reaches, is_in_box}
 use Rattle.twkb_body.specs.Devices.LaneTrail.{FitsLane}
-use Rattle.twkb_body.specs.Devices.Numbers.{listed, Each, plus, placed_at, axes_by, AreDifferences}
+use Rattle.twkb_body.specs.Devices.PerAxis.{listed, Each, plus, placed_at, axes_by, AreDifferences}
 use Rattle.twkb_body.specs.Devices.Quads.{IsInLane, IsLaneExtent}
 
 -- a number for each axis in lanes, in two's complement
-abbrev pub four_lanes : Numbers → List ℕ
+abbrev pub four_lanes : PerAxis → List ℕ
 four_lanes n = cast_unsigned w32 n.x ∷ cast_unsigned w32 n.y ∷ cast_unsigned w32 n.third ∷ cast_unsigned w32 n.fourth ∷ []
 
 -- pairs two by two: the numbers of points of four axes
-abbrev pub fours_of : List (ℤ × ℤ) → List Numbers
+abbrev pub fours_of : List (ℤ × ℤ) → List PerAxis
 fours_of [] = []
 fours_of (p ∷ []) = []
 fours_of (p ∷ q ∷ ps) = record { x = p.0; y = p.1; third = q.0; fourth = q.1 } ∷ fours_of ps
 
 -- the extents of a box
-abbrev pub extents : RawBox → Numbers
+abbrev pub extents : RawBox → PerAxis
 extents box = record { x = box.x.extent; y = box.y.extent; third = box.third.extent; fourth = box.fourth.extent }
 
 -- a box, distances from whose minima lanes hold in each axis; an axis that isn't there has its minimum at zero
@@ -37,45 +37,45 @@ pub record FitsFurther (has_fourth : Bool) (box : RawBox) : Type 0 where
   pub absent : has_fourth ≡ false → box.fourth.minimum ≡ pos 0
 
 -- the distances of a point lie within the extents in all axes
-abbrev pub all_within : Numbers → Numbers → Bool
+abbrev pub all_within : PerAxis → PerAxis → Bool
 all_within e apart = (reaches e.x apart.x && reaches e.y apart.y) && (reaches e.third apart.third && reaches e.fourth apart.fourth)
 
 -- the distances after these differences, each of a point
-abbrev pub after : Numbers → List Numbers → Numbers
+abbrev pub after : PerAxis → List PerAxis → PerAxis
 after apart [] = apart
 after apart (d ∷ ds) = after (plus apart d) ds
 
 -- the distances of each point on the way lie within the extents
-abbrev pub all_on_the_way : Numbers → Numbers → List Numbers → Bool
+abbrev pub all_on_the_way : PerAxis → PerAxis → List PerAxis → Bool
 all_on_the_way e apart [] = true
 all_on_the_way e apart (d ∷ ds) = all_within e (plus apart d) && all_on_the_way e (plus apart d) ds
 
 -- the differences lead to these lanes, and the extents hold all points on the way, or not
-pub record HaveGone (e apart : Numbers) (differences : List Numbers) (at : List ℕ) (inside : Bool) : Type 0 where
+pub record HaveGone (e apart : PerAxis) (differences : List PerAxis) (at : List ℕ) (inside : Bool) : Type 0 where
   pub at_is : at ≡ four_lanes (after apart differences)
   pub inside_is : inside ≡ all_on_the_way e apart differences
 
 -- these differences were read, point after point
-abbrev pub ReadsPoints : Bool → List Numbers → Reading → Reading → Type 0
+abbrev pub ReadsPoints : Bool → List PerAxis → Reading → Reading → Type 0
 ReadsPoints has_fourth [] old new = new ≡ old
 ReadsPoints has_fourth (d ∷ ds) old new = (middle : Reading) × AreDifferences has_fourth d old middle × ReadsPoints has_fourth ds middle new
 
 -- this holds of the distances and the extents in these lanes, with a lane for each axis
-abbrev pub FromFourLanes : List ℕ → List ℕ → (Numbers → Numbers → Type 0) → Type 0
+abbrev pub FromFourLanes : List ℕ → List ℕ → (PerAxis → PerAxis → Type 0) → Type 0
 FromFourLanes at extent follows =
-    (apart e : Numbers) → at ≡ four_lanes apart → extent ≡ four_lanes e → Each IsInLane apart → Each IsLaneExtent e
+    (apart e : PerAxis) → at ≡ four_lanes apart → extent ≡ four_lanes e → Each IsInLane apart → Each IsLaneExtent e
     → follows apart e
 
 -- from the distances in these lanes on, the points of a step were read
 abbrev pub IsFurtherStep : Bool → List ℕ → List ℕ → Reading → Reading → Step → Type 0
-IsFurtherStep has_fourth at extent old new step = FromFourLanes at extent (λ apart e. (differences : List Numbers)
+IsFurtherStep has_fourth at extent old new step = FromFourLanes at extent (λ apart e. (differences : List PerAxis)
     × (length differences ≡ step.points) × ReadsPoints has_fourth differences old new
     × HaveGone e apart differences step.reached.at step.reached.inside)
 
 -- a point was read from these distances on, which the box holds, and its distances are in these lanes
-pub record IsFarPoint (has_fourth : Bool) (box : RawBox) (apart : Numbers) (old new : Reading) (next : List ℕ) : Type 0 where
+pub record IsFarPoint (has_fourth : Bool) (box : RawBox) (apart : PerAxis) (old new : Reading) (next : List ℕ) : Type 0 where
   pub point : PointValue
-  pub there : Numbers
+  pub there : PerAxis
   pub read : point_at (axes_by has_fourth) (listed (placed_at box apart)) old ≡ (Ok point, new)
   pub placed : listed (placed_at box there) ≡ add (listed (placed_at box apart)) point
   pub held : is_in_box (axes_by has_fourth) box (listed (placed_at box there)) ≡ true
@@ -84,14 +84,14 @@ pub record IsFarPoint (has_fourth : Bool) (box : RawBox) (apart : Numbers) (old 
   pub ahead : old.place < new.place
 
 -- if a point can be read from these distances on, the box doesn't hold it
-abbrev pub LeavesByPoint : Bool → RawBox → Numbers → Reading → Type 0
+abbrev pub LeavesByPoint : Bool → RawBox → PerAxis → Reading → Type 0
 LeavesByPoint has_fourth box apart old =
     (point : PointValue) (stop : Reading) → point_at (axes_by has_fourth) (listed (placed_at box apart)) old ≡ (Ok point, stop)
     → is_in_box (axes_by has_fourth) box (add (listed (placed_at box apart)) point) ≡ false
 
 -- lanes hold the distances of a point from the minima of a box, and the extents of the box, with a lane for each axis
 pub record IsFurtherPlace (has_fourth : Bool) (bounds box : RawBox) (lanes extent : List ℕ) (point : PointValue) : Type 0 where
-  pub apart : Numbers
+  pub apart : PerAxis
   pub box_is : bounds ≡ box
   pub is : point ≡ listed (placed_at box apart)
   pub lanes_are : lanes ≡ four_lanes apart

@@ -28,7 +28,7 @@ use Rattle.twkb_body.specs.Claims.{IsTrueClaim, claims, member_claims}
 use Rattle.twkb_body.specs.Audited.{HasLongList}
 use Rattle.twkb_body.specs.declared.doubt.Doubt.{Doubt}
 use Rattle.twkb_body.specs.declared.doubt.Doubt.TheVariants.{Refused, Memory}
-use Rattle.twkb_body.specs.Devices.BoxTest.{Held, held_then, IsNearRange, IsNearBox}
+use Rattle.twkb_body.specs.Devices.BoxTest.{Held, held_then}
 use Rattle.twkb_body.specs.Devices.Body.{Body, ListHead, ring_sums, zeros}
 use Rattle.twkb_body.specs.Devices.BodyReader.{part_at, count_at, geometry_at}
 use Rattle.twkb_body.specs.Extent.{reach_of}
@@ -109,18 +109,13 @@ framed head box = record { xy = head.xy; z = head.z; m = head.m; bounds = box }
 abbrev pub has_further : Option ℕ → Option ℕ → Bool
 has_further z m = is_some z || is_some m
 
--- the numbers of a box are near, in the axes that there are
-pub record IsNear (z m : Option ℕ) (box : RawBox) : Type 0 where
-  pub flat : IsNearBox box
-  pub further : has_further z m ≡ true → IsNearRange box.third × IsNearRange box.fourth
+-- the precisions of a frame lie in their ranges
+abbrev pub IsFrame : Frame → Type 0
+IsFrame frame = HavePrecisions (record { xy = frame.xy; z = frame.z; m = frame.m })
 
--- the numbers of a frame are near, in the axes that there are, and its precisions lie in their ranges
-abbrev pub IsNearFrame : Frame → Type 0
-IsNearFrame frame = IsNear frame.z frame.m frame.bounds × HavePrecisions (record { xy = frame.xy; z = frame.z; m = frame.m })
-
--- the frame is near (`IsNearFrame`) and has the precisions of a header
+-- the frame has the precisions of a header, which lie in their ranges
 abbrev pub IsFramed : Head → Frame → Type 0
-IsFramed head frame = (frame ≡ framed head frame.bounds) × IsNearFrame frame
+IsFramed head frame = (frame ≡ framed head frame.bounds) × IsFrame frame
 
 -- The frame of the vertices of a geometry with this header, its own frame if any, and a frame above if any: it is its own if
 -- there is one. It holds vertices exactly if its own and the frame above do.
@@ -218,20 +213,20 @@ abbrev pub CertifiesAfterTwo : ℕ → Option Frame → ℕ → ℕ → Reading 
 CertifiesAfterTwo depth above first metadata now result new =
     (before : Reading) → HasReadTwo before first metadata now → Certifies depth above before result new
 
--- The first two bytes of a geometry at an allowed depth were read, and the frame above, if there is one, is near.
+-- The first two bytes of a geometry at an allowed depth were read, and there may be a frame above.
 pub record HasBegun (depth : ℕ) (above : Option Frame) (first metadata : ℕ) (now : Reading) : Type 0 where
   pub shallowest : 1 ≤ depth
   pub deepest : depth ≤ deepest
   pub before : (before : Reading) × HasReadTwo before first metadata now
-  pub near : IfSome above IsNearFrame
+  pub frame : IfSome above IsFrame
 
--- The header of a geometry with a body was read at an allowed depth, and the frame above, if there is one, is near.
+-- The header of a geometry with a body was read at an allowed depth, and there may be a frame above.
 pub record HasHead (depth : ℕ) (above : Option Frame) (raw : Fields) (now : Reading) : Type 0 where
   pub shallowest : 1 ≤ depth
   pub deepest : depth ≤ deepest
   pub full : raw.empty ≡ false
   pub read : (before : Reading) × IsSound before × ReadsHead depth before now (Ok raw)
-  pub near : IfSome above IsNearFrame
+  pub frame : IfSome above IsFrame
 
 -- `Certifies`, of a geometry whose header was read before
 abbrev pub CertifiesAfterHead : ℕ → Option Frame → Fields → Reading → Result ℕ Doubt → Reading → Type 0

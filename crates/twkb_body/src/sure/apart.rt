@@ -6,7 +6,7 @@ ghost use Rattle.twkb_head.specs.Raw.{HavePrecisions, flat_box};
 ghost use Rattle.twkb_head.specs.declared.header.Head.{Head as HeadOf};
 ghost use Rattle.twkb_head.specs.declared.raw.RawBox.{RawBox as BoxOf};
 ghost use Rattle.twkb_body.specs.declared.doubt.Doubt.TheVariants.{Refused};
-ghost use Rattle.twkb_body.specs.Devices.Sure.{IsNearFrame, IsApart, CertifiesBehind};
+ghost use Rattle.twkb_body.specs.Devices.Sure.{IsFrame, IsApart, CertifiesBehind};
 
 use crate::doubt::Doubt;
 use crate::frame::Frame;
@@ -50,7 +50,7 @@ pub fn take_apart_flat<R: IdRoom>(
     requires shallowest { 1 ≤ depth }
     requires allowed { IsAllowedAt kind depth }
     requires xy { IsPrecision xy }
-    requires near { IfSome above.now IsNearFrame }
+    requires frame { IfSome above.now IsFrame }
     ensures { (head : HeadOf) (box : Option BoxOf) → is_some box ≡ has_box
         → IfSome box (λ box. box ≡ flat_box x y)
         → IsApart head kind xy None None ids box
@@ -84,7 +84,7 @@ pub fn take_apart<R: IdRoom>(
     requires shallowest { 1 ≤ depth }
     requires allowed { IsAllowedAt kind depth }
     requires precisions { HavePrecisions (record { xy = xy; z = z; m = m }) }
-    requires near { IfSome above.now IsNearFrame }
+    requires frame { IfSome above.now IsFrame }
     ensures { (head : HeadOf) → IsApart head kind xy z m ids bounds.now
         → CertifiesBehind depth head above.now cursor.old result cursor.new }
 {

@@ -2,7 +2,6 @@
 ghost use Rattle.std.specs.Prelude.{◌≡◌, ◌≤◌, ◌⊎◌, IfOk, IfErr, OnErr};
 ghost use Rattle.twkb_head.specs.Header.{axes_with, is_multi};
 ghost use Rattle.twkb_head.specs.Raw.{HavePrecisions};
-ghost use Rattle.twkb_body.specs.Devices.BoxTest.{IsNearBox};
 ghost use Rattle.twkb_body.specs.Devices.Inside.{of_head};
 ghost use Rattle.twkb_body.specs.Devices.Body.{zeros};
 ghost use Rattle.twkb_body.specs.Devices.Sure.{ReadParts, AreMalformed, HoldsOrLeaves, CountsParts};
@@ -52,7 +51,6 @@ pub fn take_flat_boxed(
     count: u64,
     bounds: &RawBox,
 ) -> Result<usize, Doubt>
-    requires { IsNearBox bounds.now }
     ensures { HoldsOrLeaves kind 2 count bounds.now cursor.old cursor.new result }
 {
     if fits_lanes(bounds) {
@@ -74,7 +72,6 @@ pub fn take_boxed(
     bounds: &RawBox,
 ) -> Result<usize, Doubt>
     requires further { (axes ≡ 3) ⊎ (axes ≡ 4) }
-    requires near { IsNearBox bounds.now }
     ensures { HoldsOrLeaves kind axes count bounds.now cursor.old cursor.new result }
 {
     if axes == 4 {
@@ -94,7 +91,6 @@ fn take_further_boxed<const AXES: usize>(
     bounds: &RawBox,
 ) -> Result<usize, Doubt>
     requires further { (AXES ≡ 3) ⊎ (AXES ≡ 4) }
-    requires near { IsNearBox bounds.now }
     ensures { HoldsOrLeaves kind AXES count bounds.now cursor.old cursor.new result }
 {
     if fits_further::<AXES>(bounds) {
@@ -134,7 +130,6 @@ fn take_by_box(
 ) -> Result<usize, Doubt>
     requires some { 2 ≤ axes }
     requires few { axes ≤ 4 }
-    requires near { IsNearBox bounds.now }
     ensures { HoldsOrLeaves kind axes count bounds.now cursor.old cursor.new result }
 {
     let head = bare_head(kind, axes);

@@ -262,3 +262,45 @@ fn boxes_at_each_depth(rt: HostRuntime) -> Result<(), Fail> {
     }
     Ok(())
 }
+
+// Minima and extents about the ends of 64 bits.
+const FAR: [(i64, i64); 9] = [
+    (0, 0),
+    (0, i64::MAX),
+    (i64::MIN, i64::MAX),
+    (i64::MIN, 0),
+    (i64::MAX, 0),
+    (i64::MAX, i64::MAX),
+    (1 << 62, 1 << 62),
+    (0, -1),
+    (i64::MIN, i64::MIN),
+];
+
+// Both audits agree with the plain reader on a point in a box, which is in a collection in a box. The boxes have these ranges in X.
+fn far_agrees(
+    rt: &impl Abort,
+    alloc: Global,
+    (outer, inner): ((i64, i64), (i64, i64)),
+    x: i64,
+) -> Result<(), AllocError> {
+    let mut member = Vec::new(alloc);
+    member.extend_from_slice(&[0x01, 0x01])?;
+    put_bounds(&mut member, &[inner, (0, 0)])?;
+    put(&mut member, x)?;
+    put(&mut member, 0)?;
+    let bytes = collection(alloc, 0x07, &Some([outer, (0, 0)]), None, &[&member])?;
+    both_agree(rt, alloc, &bytes);
+    Ok(())
+}
+
+#[test]
+fn boxes_at_the_ends_of_64_bits(rt: HostRuntime) -> Result<(), Fail> {
+    for &outer in &FAR {
+        for &inner in &FAR {
+            for x in [0, -1, 1 << 62, i64::MIN, i64::MAX] {
+                far_agrees(&rt, rt.alloc(), (outer, inner), x)?;
+            }
+        }
+    }
+    Ok(())
+}

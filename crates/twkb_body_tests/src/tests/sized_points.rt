@@ -1,5 +1,6 @@
-//! Points with a size and nothing else, which have a path of their own, against the plain reader: coordinates of each
-//! length, up to one that exceeds 64 bits, sizes that are false, cuts, all type bytes and metadata bytes, and all depths.
+//! Points with a size and nothing else, and points without fields, which have a path of their own, against the plain reader:
+//! coordinates of each length, up to one that exceeds 64 bits, sizes that are false, cuts, all type bytes and metadata bytes, and all
+//! depths.
 use super::bytes::put_bytes;
 use super::variants::{both_agree, variants_agree};
 use std::alloc::{AllocError, Global};
@@ -47,6 +48,23 @@ fn coordinates_of_each_length(rt: HostRuntime) -> Result<(), Fail> {
                     sized_point(&mut bytes, [x, y, after], size)?;
                     cuts_agree(&rt, rt.alloc(), &bytes);
                 }
+            }
+        }
+    }
+    Ok(())
+}
+
+#[test]
+fn coordinates_of_each_length_without_a_size(rt: HostRuntime) -> Result<(), Fail> {
+    for x in 1..12usize {
+        for y in 1..12usize {
+            for &after in &BEHIND {
+                let mut bytes = Vec::new(rt.alloc());
+                bytes.extend_from_slice(&[0xA1, 0x00])?;
+                put(&mut bytes, x)?;
+                put(&mut bytes, y)?;
+                put_bytes(&mut bytes, 0x00, after)?;
+                cuts_agree(&rt, rt.alloc(), &bytes);
             }
         }
     }

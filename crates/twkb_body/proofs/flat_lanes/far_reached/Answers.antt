@@ -6,7 +6,7 @@ use Rattle.std.proofs.lemmas.Int.{to_z-of_z}
 use Rattle.std.specs.Int.{w64}
 use Rattle.twkb_body.specs.Devices.BoxTest.{reaches}
 use Rattle.twkb_body.specs.Devices.Quads.{lanes_at, IsInLane, IsLaneExtent}
-use Rattle.twkb_body.proofs.BoxRuns.{reaches_decides}
+use Rattle.twkb_body.proofs.BoxDistances.{reaches_decides}
 use Rattle.twkb_body.proofs.flat_lanes.far_reached.Goals as goal
 
 -- a lane holds an extent

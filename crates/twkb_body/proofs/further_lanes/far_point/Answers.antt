@@ -1,9 +1,9 @@
 -- The point is read with its coordinates, and its distances are in lanes if the box holds it.
 use Rattle.std.proofs.Common.{◌∙◌, sym, subst}
-use Rattle.twkb_body.specs.declared.numbers.Numbers.{Numbers}
+use Rattle.twkb_body.specs.declared.per_axis.PerAxis.{PerAxis}
 use Rattle.twkb_body.specs.Devices.BodyReader.{point_at}
 use Rattle.twkb_body.specs.Devices.FurtherLanes.{IsFarPoint}
-use Rattle.twkb_body.specs.Devices.Numbers.{is_four}
+use Rattle.twkb_body.specs.Devices.PerAxis.{is_four}
 use Rattle.twkb_body.proofs.FurtherLanes.{held_point, point_near, point_in_lanes, far_point_is}
 use Rattle.twkb_body.proofs.Keeping.{keeps_point, read_keeps, failure_keeps}
 use Rattle.twkb_body.proofs.QuadRuns.{near_range}
@@ -12,8 +12,8 @@ use Rattle.twkb_body.proofs.further_lanes.far_point.Goals as goal
 pub placed-requires-clause-bounds : goal.placed-requires-clause-bounds
 placed-requires-clause-bounds g c = (near_range _ c.requires.x, near_range _ c.requires.y)
 
-pub new-test-requires : goal.new-test-requires
-new-test-requires g c = (near_range _ c.requires.x, near_range _ c.requires.y)
+pub distances-next-requires-clause-bounds : goal.distances-next-requires-clause-bounds
+distances-next-requires-clause-bounds g c = (near_range _ c.requires.x, near_range _ c.requires.y)
 
 pub returns-in_default-clause-bytes : goal.returns-in_default-clause-bytes
 returns-in_default-clause-bytes g c = failure_keeps (point_at c.axes-axes.result c.placed.result) c.args.cursor.now c.take_point.new.cursor _ (keeps_point c.axes-axes.result c.placed.result) c.in_default.ensures
@@ -50,4 +50,4 @@ returns-clause-inside g c so apart at in_lanes =
     (held_point c.args.bounds.now (is_four g.row.AXES) c.numbers_in.result c.of.result read.0 c.args.cursor.now c.take_point.new.cursor c.axes-axes.result _ _ _ _ _ c.axes-axes.ensures (sym c.bare_head-head.ensures.axes ∙ c.axes-axes.ensures) c.placed.ensures c.new-test.ensures
     read.1 read.2 c.of.ensures (sym c.is_inside.ensures ∙ c.if-not-is_inside.false))
     c.four_lanes_of.result c.distances-next.result c.distances-next.ensures.placed c.four_lanes_of.ensures in
-    subst (λ (n : Numbers). IsFarPoint (is_four g.row.AXES) c.args.bounds.now n c.args.cursor.now c.take_point.new.cursor c.four_lanes_of.result) (c.numbers_in.ensures.all apart at in_lanes) far
+    subst (λ (n : PerAxis). IsFarPoint (is_four g.row.AXES) c.args.bounds.now n c.args.cursor.now c.take_point.new.cursor c.four_lanes_of.result) (c.numbers_in.ensures.all apart at in_lanes) far

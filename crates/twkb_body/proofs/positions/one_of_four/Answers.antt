@@ -2,8 +2,8 @@
 use Rattle.std.proofs.Common.{rules, subst, arith, pos, w32}
 use Rattle.std.specs.Prelude.{All}
 use Rattle.twkb_num.specs.Varint.{IsShort}
-use Rattle.twkb_body.specs.declared.numbers.Numbers.{Numbers}
-use Rattle.twkb_body.specs.Devices.Numbers.{listed}
+use Rattle.twkb_body.specs.declared.per_axis.PerAxis.{PerAxis}
+use Rattle.twkb_body.specs.Devices.PerAxis.{listed}
 use Rattle.twkb_body.proofs.LaneSums.{lanes_are, one_gone}
 use Rattle.twkb_body.proofs.QuadReads.{four_of}
 use Rattle.twkb_body.proofs.positions.one_of_four.Goals as goal
@@ -11,7 +11,7 @@ use Rattle.twkb_body.proofs.positions.one_of_four.Goals as goal
 pub returns : goal.returns
 returns c short apart e at extent in_lanes wide =
     let (x, y, z, m, means) = four_of w32 c.args.differences (search rules) in
-    let d : Numbers = record { x = x; y = y; third = z; fourth = m } in
+    let d : PerAxis = record { x = x; y = y; third = z; fourth = m } in
     let all = subst (All IsShort) means short in
     rw means
     (one_gone e apart d c.summed-place.result c.are_within.result

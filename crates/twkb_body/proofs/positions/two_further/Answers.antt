@@ -4,10 +4,10 @@ use Rattle.std.proofs.lemmas.Int.{ints}
 use Rattle.std.specs.Int.{cast_unsigned}
 use Rattle.std.specs.Prelude.{ℤ, ◌+ℤ◌, All}
 use Rattle.twkb_num.specs.Varint.{IsBrief}
-use Rattle.twkb_body.specs.declared.numbers.Numbers.{Numbers}
+use Rattle.twkb_body.specs.declared.per_axis.PerAxis.{PerAxis}
 use Rattle.twkb_body.specs.Devices.BoxTest.{reaches}
 use Rattle.twkb_body.specs.Devices.FurtherLanes.{four_lanes}
-use Rattle.twkb_body.specs.Devices.Numbers.{listed, plus}
+use Rattle.twkb_body.specs.Devices.PerAxis.{listed, plus}
 use Rattle.twkb_body.specs.Devices.Quads.{IsInLane}
 use Rattle.twkb_body.proofs.LaneSums.{IsMetInLane, lanes_are, first_of_two, second_of_two, lane_reaches, greater_within, each_of_two}
 use Rattle.twkb_body.proofs.QuadReads.{eight_of}
@@ -22,8 +22,8 @@ both_met x a b l one two = (omega (arith, ints, l.0, one.0, two.0), omega (arith
 pub returns : goal.returns
 returns c brief apart e at extent in_lanes wide =
     let (p_x, p_y, p_z, p_m, q_x, q_y, q_z, q_m, means) = eight_of w16 c.args.differences (search rules) in
-    let p : Numbers = record { x = p_x; y = p_y; third = p_z; fourth = p_m } in
-    let q : Numbers = record { x = q_x; y = q_y; third = q_z; fourth = q_m } in
+    let p : PerAxis = record { x = p_x; y = p_y; third = p_z; fourth = p_m } in
+    let q : PerAxis = record { x = q_x; y = q_y; third = q_z; fourth = q_m } in
     let all = subst (All IsBrief) means brief in
     let px : IsBrief p.x = all 0 (pos 0) (omega arith) in
     let py : IsBrief p.y = all 1 (pos 0) (omega arith) in

@@ -171,7 +171,7 @@ pub take_members-take_sure-requires : goal.take_members-take_sure-requires
 take_members-take_sure-requires g t c κs within =
     let before : (before : Reading) × HasReadTwo before c.in-Some.first c.in-Some.metadata c.two_bytes.new.self =
     (c.loop.cursor, record { sound = c.place_is_within-in-loop.ensures; moved = c.in-Some.ensures.moved; bytes = c.in-Some.ensures.some }) in
-    let near = c.requires.near in
+    let frame = c.requires.frame in
     let below = c.requires.below in
     search rules
 

@@ -1,5 +1,5 @@
 -- The frame is the geometry's own, which lies in the frame above, or the frame above. So the frame above holds all that it holds.
-use Rattle.std.proofs.Common.{rules, refl, arith}
+use Rattle.std.proofs.Common.{refl, arith}
 use Rattle.std.proofs.lemmas.Int.{ints}
 use Rattle.twkb_body.specs.Devices.Sure.{framed}
 use Rattle.twkb_body.proofs.SureSteps.{framed_same, frame_inside}
@@ -12,9 +12,4 @@ returns-else-not-lies_in_all c =
     let same = framed_same frame head (omega (arith, ints, c.if-frame-head.false)) c.if-ne.ensures c.if-ne-2.ensures in
     let inner = framed head c.in-Some.bounds in
     let fits = c.if-not-lies_in_all.ensures in
-    rw (c.in-Some-default.is-0, c.in-Some.is, c.of-in-Some.ensures) (frame_inside frame inner head same (refl, (fits.near refl, c.requires.precisions)) (fits.lies refl))
-
-pub returns-else-not-is_near_box : goal.returns-else-not-is_near_box
-returns-else-not-is_near_box c =
-    let near = c.if-not-is_near_box.ensures refl c.args.head.now.z c.args.head.now.m in
-    search rules
+    rw (c.in-Some-default.is-0, c.in-Some.is, c.of-in-Some.ensures) (frame_inside frame inner head same (refl, c.requires) (fits refl))

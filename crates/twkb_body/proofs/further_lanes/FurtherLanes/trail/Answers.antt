@@ -4,7 +4,7 @@ use Rattle.std.proofs.lemmas.Int.{ints}
 use mir.Val.{to_z, of_z}
 use Rattle.std.specs.Prelude.{ℤ}
 use Rattle.twkb_head.specs.declared.raw.RawRange.{RawRange}
-use Rattle.twkb_body.specs.declared.numbers.Numbers.{Numbers}
+use Rattle.twkb_body.specs.declared.per_axis.PerAxis.{PerAxis}
 use Rattle.twkb_body.specs.Devices.FurtherLanes.{four_lanes}
 use Rattle.twkb_body.specs.Devices.LaneTrail.{FitsLane}
 use Rattle.twkb_body.specs.Devices.Quads.{IsInLane}
@@ -32,7 +32,7 @@ pub returns-clause-place : goal.returns-clause-place
 returns-clause-place g c =
     let box = c.args.bounds.now in
     let fits = c.requires in
-    let apart : Numbers = record { x = neg_ℤ box.x.minimum; y = neg_ℤ box.y.minimum; third = neg_ℤ box.third.minimum; fourth = neg_ℤ box.fourth.minimum } in
+    let apart : PerAxis = record { x = neg_ℤ box.x.minimum; y = neg_ℤ box.y.minimum; third = neg_ℤ box.third.minimum; fourth = neg_ℤ box.fourth.minimum } in
     record {
       apart = apart;
       box_is = refl;

@@ -1,7 +1,7 @@
 -- No point is read, or one is.
 use Rattle.std.proofs.Common.{◌≡◌, Bool, true, sym, ap, subst, arith}
 use Rattle.twkb_body.specs.Devices.FurtherLanes.{IsFurtherStep}
-use Rattle.twkb_body.specs.Devices.Numbers.{is_four}
+use Rattle.twkb_body.specs.Devices.PerAxis.{is_four}
 use Rattle.twkb_body.proofs.FurtherLanes.{further_step}
 use Rattle.twkb_body.proofs.further_lanes.FurtherLanesLaneReader.take_first.Goals as goal
 

@@ -1,5 +1,5 @@
 -- One point or two are read by vectors, or one of any differences.
-use Rattle.twkb_body.specs.Devices.Numbers.{is_four}
+use Rattle.twkb_body.specs.Devices.PerAxis.{is_four}
 use Rattle.twkb_body.proofs.FurtherLanes.{further_step, far_further_step}
 use Rattle.twkb_body.proofs.further_lanes.FurtherLanesLaneReader.take_some.Goals as goal
 

@@ -9,8 +9,8 @@ returns-in_err-count g c = λ levels.
     let p = err_from_is_err_and c.from_residual.result c.from_residual.ensures.1 in
     rw (p.1, p.2) (shape_count_doubts c.args.head.now levels c.args.frame.now c.args.cursor.now c.take_count.new.cursor _ c.requires.shape.full c.requires.shape.kind c.in_err-count.ensures)
 
-pub take_boxed-requires-clause-further : goal.take_boxed-requires-clause-further
-take_boxed-requires-clause-further g c = three_or_four c.args.head.now.z c.args.head.now.m c.axes.result c.axes.ensures.value c.requires.further
+pub take_boxed-requires : goal.take_boxed-requires
+take_boxed-requires g c = record { further = three_or_four c.args.head.now.z c.args.head.now.m c.axes.result c.axes.ensures.value c.requires.further }
 
 pub returns-in-Some : goal.returns-in-Some
 returns-in-Some g c = λ levels.

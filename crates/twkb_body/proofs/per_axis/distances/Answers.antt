@@ -1,6 +1,6 @@
 -- The differences of numbers near zero are exact in 64 bits.
 use Rattle.twkb_body.proofs.NumberSteps.{distance_is}
-use Rattle.twkb_body.proofs.box_test.distances.Goals as goal
+use Rattle.twkb_body.proofs.per_axis.distances.Goals as goal
 
 pub returns-clause-placed : goal.returns-clause-placed
 returns-clause-placed c =

@@ -6,7 +6,7 @@ use mir.Val.{to_z, of_z}
 use Rattle.std.specs.Int.{w64}
 use Rattle.twkb_body.specs.Devices.BoxTest.{is_in_range}
 use Rattle.twkb_body.specs.Geometry.{coordinate}
-use Rattle.twkb_body.proofs.box_test.holding.is_in_flat.Goals as goal
+use Rattle.twkb_body.proofs.box_test.is_in_flat.Goals as goal
 
 pub returns-then-is_in_range : goal.returns-then-is_in_range
 returns-then-is_in_range c =

@@ -4,7 +4,7 @@ use Rattle.std.proofs.lemmas.Int.{ints}
 use mir.Val.{to_z, of_z}
 use Rattle.std.specs.Int.{w64}
 use Rattle.twkb_body.proofs.NumberSteps.{three_read}
-use Rattle.twkb_body.proofs.numbers.take_three.Goals as goal
+use Rattle.twkb_body.proofs.further_lanes.take_three.Goals as goal
 
 pub returns-clause-some : goal.returns-clause-some
 returns-clause-some c =

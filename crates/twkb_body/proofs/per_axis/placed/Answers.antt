@@ -1,7 +1,7 @@
 -- A minimum near zero and a distance that was met give a sum of 64 bits.
 use Rattle.std.proofs.Common.{[], ◌∷◌}
 use Rattle.twkb_body.proofs.NumberSteps.{met_is}
-use Rattle.twkb_body.proofs.box_test.placed.Goals as goal
+use Rattle.twkb_body.proofs.per_axis.placed.Goals as goal
 
 pub returns : goal.returns
 returns c =
