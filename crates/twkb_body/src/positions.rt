@@ -186,7 +186,7 @@ pub fn four_lanes_of(n: &PerAxis) -> u32x4
     ])
 }
 
-/// A number, in a lane.
+/// The 32 bits of a number in a lane, for [`four_lanes_of`].
 #[inline(always)]
 fn lane_of(number: i64) -> u32
     requires { IsInLane number }

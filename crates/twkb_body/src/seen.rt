@@ -24,7 +24,7 @@ impl Seen {
         }
     }
 
-    /// Nothing seen yet of the members of a geometry; `box_test` says that it has a box of its own.
+    /// Nothing seen yet of the members of a geometry; `boxed` says that it has a box of its own.
     #[inline(always)]
     pub fn for_members(&self, boxed: bool) -> Seen
         ensures asked { result.asked ≡ (self.now.asked || boxed) }

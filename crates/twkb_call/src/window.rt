@@ -1,4 +1,4 @@
-//! [`Window`], a window in numbers of 64 bits, the parser of its text, and ranges of decimal numbers.
+//! [`Window`], a window whose ends are two words of 64 bits each, the parser of its text, and ranges of decimal numbers.
 ghost use Rattle.std.specs.Prelude.{◌≡◌, ◌≢◌, ◌≤◌, if◌then◌else◌, true, false};
 ghost use Rattle.twkb_head.specs.declared.boxes.Bounds.{Bounds};
 ghost use Rattle.twkb_layer.specs.Decimals.{Decimal, IsDecimalText, is_less, rational_of, span_of_decimals};
@@ -13,7 +13,7 @@ use twkb_layer::{BadRange, BadWindow, Span};
 #[derive(Clone, Copy, Debug, PartialEq, Eq)]
 pub struct Units {
     pub low: u64,
-    /// The high word, which counts 2^64 each.
+    /// The high word, each step of which is 2^64.
     pub high: i64,
 }
 

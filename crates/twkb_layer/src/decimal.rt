@@ -103,14 +103,14 @@ impl<'t> Decimal<'t> {
         })
     }
 
-    /// The value rounded up to units, at most [`FARTHEST`] from 0.
+    /// The value rounded up to units, at most 10^34 from 0.
     pub fn rounded_up(&self) -> i128
         ensures { result ≡ rounded_up (rational_of self.now) }
     {
         self.rounded(!self.minus)
     }
 
-    /// The value rounded down to units, at most [`FARTHEST`] from 0.
+    /// The value rounded down to units, at most 10^34 from 0.
     pub fn rounded_down(&self) -> i128
         ensures { result ≡ rounded_down (rational_of self.now) }
     {
@@ -132,7 +132,7 @@ impl<'t> Decimal<'t> {
         ahead > 0
     }
 
-    /// The value rounded to units, away from 0 or towards it, at most [`FARTHEST`] from 0.
+    /// The value rounded to units, away from 0 or towards it, at most 10^34 from 0.
     fn rounded(&self, away: bool) -> i128
         ensures { result ≡ signed self.now.minus
             (min (whole_units self.now + cond (away && is_between_units self.now) 1 0) farthest) }

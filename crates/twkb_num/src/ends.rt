@@ -50,9 +50,10 @@ pub struct FirstVarints {
     pub size: usize,
 }
 
-/// Finds the first varints, at most `many`, in words of eight bytes. It stops before a word without an end in its first half, or
-/// of the first word in its first seven bytes. It also stops before a word without an end in its second half, unless the last
-/// varint ends in the word. So each varint takes at most seven bytes. Ends are counted, and no step waits for a varint's length.
+/// Finds the first varints, at most `many`, in words of eight bytes. It stops where fewer than eight bytes are left, and before a
+/// word without an end in its first half, or of the first word in its first seven bytes. It also stops before a word without an end
+/// in its second half, unless the last varint ends in the word. So each varint takes at most seven bytes. Ends are counted, and no
+/// step waits for a varint's length.
 #[inline(always)]
 pub fn first_varints(bytes: &[u8], many: u64) -> FirstVarints
     ensures few { result.many ≤ many }
