@@ -9,16 +9,18 @@ the table of times in README.md, which it takes from docs/SPEED.md. The exit sta
 - a page that should have the headline lacks it, or README.md is too large
 - a link leads to a file or heading that doesn't exist, or its text is a name that the file doesn't have
 - a table cites a clause that the function doesn't have
+- the first lines of a module don't name the modules that use it
 """
 import os
 import re
 import sys
 
 from sources import code, definitions
-from sources.files import TOP, text_of, write
+from sources.files import CRATES, TOP, text_of, write
 from sources.markdown import Page, pages_in
 from sources.reach import QUESTIONS, Reach
 from sources.sizes import KINDS, all_sizes
+from sources.users import unsaid
 
 SPEED = os.path.join("docs", "SPEED.md")
 ARCHITECTURE = os.path.join("docs", "ARCHITECTURE.md")
@@ -179,7 +181,7 @@ def main():
     for page, parts in ((Page(TOP, name), parts) for name, parts in PARTS.items() if "--write" in sys.argv):
         if not page.lacks(parts):
             write(written(reach, page, parts), TOP, page.name)
-    wrong = [*stale(reach), *astray()]
+    wrong = [*stale(reach), *astray(), *(error for crate in CRATES for error in unsaid(TOP, crate))]
     print("\n".join(wrong) or "The pages are as the crates are, and no link goes astray")
     return 1 if wrong else 0
 

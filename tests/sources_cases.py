@@ -13,7 +13,7 @@ import borders
 from bodies import Check
 from harness import count, counts
 from pages import astray
-from sources import code, definitions, edits, files, markdown, names, public, sizes
+from sources import code, definitions, edits, files, markdown, names, public, sizes, users
 from sources.reach import Reach
 from trusted import HEADS, borrowed, headless, misplaced, too_long
 
@@ -322,6 +322,22 @@ def markdown_cases():
     count("a part", page.with_parts({"part": "new"}), PAGE.replace("\nold\n", "\nnew\n"))
 
 
+def users_cases():
+    texts = {
+        "lib": "mod bag;\nmod low;\npub use bag::Bag;\n",
+        "bag": "//! A bag. Used by other crates, and here by `bag/inner` and\n//! `row`.\nuse crate::low::{self, Low};\n",
+        "bag/inner": "//! Inside.\nuse super::super::low::few;\nuse super::Bag;\n",
+        "low": "//! Low. Used by `row`.\nghost use Rattle.made.specs.Plain.{IsSaid};\n",
+        "row": "//! A row.\nuse crate::bag::{\n    Bag,\n};\nuse std::mem;\n",
+        "tests": "use crate::row::Row;\n",
+    }
+    with made({f"crates/made/src/{name}.rt": text for name, text in texts.items()}) as top:
+        found = users.users(top, "made")
+        count("users", found, {"bag": {"other crates", "row"}, "bag/inner": set(), "low": {"bag", "bag/inner"}, "row": set()})
+        wrong = [error.partition(" ")[0] for error in users.unsaid(top, "made")]
+        count("users that aren't said", wrong, [f"crates/made/src/{name}.rt" for name in ("bag", "low")])
+
+
 def files_cases():
     numbers = {"src/lib.rt": 3, "src/tests.rt": 1, "src/tests/a.rt": 2, "specs/Plain.antt": 4, "specs/Devices.antt": 1}
     numbers |= {"specs/Shared/A.antt": 4, "proofs/a/A.antt": 2, f"{edits.APART}/a.edit": 3, f"{edits.TWINS}/b.edit": 0}
@@ -375,7 +391,8 @@ def script_cases():
 
 
 def main():
-    for cases in (code_cases, names_cases, definitions_cases, public_cases, edits_cases, markdown_cases, files_cases, script_cases):
+    first = code_cases, names_cases, definitions_cases, public_cases, edits_cases
+    for cases in (*first, markdown_cases, users_cases, files_cases, script_cases):
         cases()
     print(f"{counts['passed']} passed, {counts['failed']} failed")
     return 1 if counts["failed"] else 0

@@ -1,4 +1,4 @@
--- PerAxis of 64 bits, axis by axis, and reading a point of them.
+-- Numbers of 64 bits, axis by axis, and reading a point of them.
 use Rattle.std.proofs.Common.{◌≡◌, ℕ, suc, ◌+◌, ◌^◌, true, false, [], ◌∷◌, ℤ, pos, ◌+ℤ◌, ◌-ℤ◌, ◌<◌, ◌≤◌, Ok, refl, sym, ap, subst, ◌∙◌, arith}
 use Rattle.std.proofs.lemmas.Int.{ints}
 use mir.Val.{to_z, of_z, SFits, Fits}

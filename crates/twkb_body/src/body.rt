@@ -1,5 +1,5 @@
 //! The body of a certified geometry that a step of a skim doesn't hop over: its points are shown, or its list of members is
-//! opened.
+//! opened. Used by `step`.
 ghost use Rattle.std.specs.Prelude.{◌≡◌, true, false, None};
 ghost use Rattle.twkb_head.specs.declared.kinds.Kind.TheVariants.{Point, LineString};
 ghost use Rattle.twkb_head.specs.BegunHeader.{is_collection};

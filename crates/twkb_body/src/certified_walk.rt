@@ -1,5 +1,5 @@
 //! [`CertifiedWalk`], which shows the points of a certified body to a visitor until the visitor is settled. Then it moves past the
-//! other points without decoding them.
+//! other points without decoding them. Used by `shape`.
 ghost use Rattle.std.specs.Prelude.{◌≡◌};
 ghost use Rattle.twkb_head.specs.Header.{axes_with};
 ghost use Rattle.twkb_head.specs.Raw.{HavePrecisions};

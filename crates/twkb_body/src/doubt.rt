@@ -1,4 +1,5 @@
 //! [`Doubt`], the reasons why the first reading doesn't certify a blob.
+//! Used by `auditing`, `sure`, `sure/apart`, `sure/parts`, `sure/plain`, `sure/shapes` and `sure/unboxed`.
 ghost use Rattle.std.specs.Prelude.{◌≡◌};
 ghost use Rattle.twkb_body.specs.Devices.Sure.{doubt_of};
 ghost use Rattle.twkb_body.specs.declared.doubt.Doubt.TheVariants.{Refused as IsRefused};

@@ -1,4 +1,4 @@
-//! [`FlatLanes`], which reads points of X and Y in lanes.
+//! [`FlatLanes`], which reads points of X and Y in lanes. Used by `sure/parts`.
 ghost use Rattle.std.specs.Prelude.{◌≡◌, ◌&&◌, ◌^◌, ℤ, pos, ◌+ℤ◌, ◌<ℤ◌, IsTrue, IfSome, IfNone, false, true};
 ghost use Rattle.twkb_body.specs.Devices.BoxTest.{reaches};
 ghost use Rattle.twkb_body.specs.Devices.LaneTrail.{FitsLanes, IsFlatPlace};
@@ -71,8 +71,8 @@ impl LaneReader for FlatLanes {
     }
 }
 
-/// Whether lanes hold the distances of points from the minima of a box. Its widths are below 2^30, so that lanes tell these distances
-/// from others, also where lanes wrap around: four short differences lead at most 2^29 further.
+/// Whether lanes hold the distances of points from the minima of a box. Widths have to be below 2^30: four short differences lead at
+/// most 2^29 beyond what a lane holds, and wrapped around such a distance is still above 2^30.
 #[inline(always)]
 pub fn fits_lanes(bounds: &RawBox) -> bool
     ensures { IsTrue result → FitsLanes bounds.now }

@@ -1,5 +1,6 @@
 //! The box that the vertices of a geometry have to lie in: its own, or the box of a collection around it.
-ghost use Rattle.std.specs.Prelude.{◌≡◌, ◌<◌, ◌^◌, ℕ, true, Option, IfSome, OnSome, IsTrue, not, option_map};
+//! Used by `sure`, `sure/apart` and `sure/shapes`.
+ghost use Rattle.std.specs.Prelude.{◌≡◌, ◌<◌, true, Option, IfSome, OnSome, IsTrue, not, option_map};
 ghost use Rattle.twkb_head.specs.Raw.{HavePrecisions, raw_bounds};
 ghost use Rattle.twkb_body.specs.Devices.Sure.{framed, has_further, IsFrameUnder, LiesIn, LiesInAll};
 ghost use Rattle.twkb_body.specs.Devices.Walk.{precisions_of};
@@ -18,8 +19,8 @@ pub struct Frame {
 impl Frame {
     /// The frame of a geometry: its own box or, if it has none, the frame above. `Some(None)` if neither is there.
     ///
-    /// `None` if the geometry has to be read apart, as the exact audit reads it: the frame above has other axes or precisions, or
-    /// doesn't contain its own box.
+    /// `None` if the geometry has to be read apart, as the exact audit reads it: the frame above has other axes or precisions, or the
+    /// geometry has a box that is empty or isn't inside that frame.
     #[inline(always)]
     pub fn under(above: &Option<Frame>, head: &Head, own: &Option<RawBox>) -> Option<Option<Frame>>
         requires { HavePrecisions (precisions_of head.now) }
@@ -114,7 +115,7 @@ fn lies_in_further(inner: &RawBox, outer: &RawBox) -> bool
     lies_in(&inner.third, &outer.third) && lies_in(&inner.fourth, &outer.fourth)
 }
 
-/// Whether `inner` isn't empty, and lies in `outer`.
+/// Whether `inner` lies in `outer`. `false` says nothing, and is the answer for a negative extent.
 // A distance that isn't negative fits 64 bits without a sign, and a negative extent is then greater than any other.
 #[inline(always)]
 fn lies_in(inner: &RawRange, outer: &RawRange) -> bool

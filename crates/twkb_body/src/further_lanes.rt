@@ -1,4 +1,4 @@
-//! [`FurtherLanes`], which reads points of three axes or four in lanes.
+//! [`FurtherLanes`], which reads points of three axes or four in lanes. Used by `sure/parts`.
 ghost use Rattle.std.specs.Prelude.{◌≡◌, ◌≤◌, true, false, IsTrue, IfSome, IfNone};
 ghost use Rattle.twkb_body.specs.declared.per_axis.PerAxis.{PerAxis as PerAxisOf};
 ghost use Rattle.twkb_body.specs.Devices.Body.{zeros};

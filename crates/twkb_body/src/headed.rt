@@ -1,4 +1,4 @@
-//! Certified blobs whose headers are handed back, each read once.
+//! Certified blobs whose headers are handed back, each read once. Used by other crates.
 ghost use Rattle.std.specs.Prelude.{◌≡◌, ◌+◌, ◌≤◌, is_some, IfSome, fold};
 ghost use Rattle.twkb_num.specs.Cursor.{Reading, added};
 ghost use Rattle.twkb_head.specs.Raw.{HasZeros, HavePrecisions, head_said};

@@ -1,4 +1,4 @@
-//! Whether the ids of a list are distinct, judged by sorting them.
+//! Whether the ids of a list are distinct, judged by sorting them. Used by `rooms`.
 ghost use Rattle.std.specs.Prelude.{◌≢◌, ◌↔◌, ◌<◌, IsTrue, AllPairs};
 ghost use Rattle.std.specs.List.Sorted.{IsSorted};
 ghost use Rattle.std.specs.Ordering.{int_cmp};

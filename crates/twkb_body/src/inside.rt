@@ -1,4 +1,4 @@
-//! What was found inside a geometry, and the result for the whole geometry.
+//! What was found inside a geometry, and the result for the whole geometry. Used by `geometry` and `shape`.
 ghost use Rattle.std.specs.Prelude.{◌≡◌, ◌≤◌, IfSome};
 ghost use Rattle.twkb_body.specs.Devices.Pass.{first};
 ghost use Rattle.twkb_body.specs.Devices.Found.{named, size_judged};

@@ -1,4 +1,4 @@
-//! Ranges of the box of a certified geometry, which are known to be at the place.
+//! Ranges of the box of a certified geometry, which are known to be at the place. Used by `step`.
 ghost use Rattle.std.specs.Prelude.{◌≡◌, ◌≢◌, Ok, Err, true, IfSome, IfNone};
 ghost use Rattle.twkb_num.specs.Cursor.{Reading};
 ghost use Rattle.twkb_head.specs.Raw.{ends_of, IsNear};

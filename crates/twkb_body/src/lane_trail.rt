@@ -2,6 +2,7 @@
 //! doesn't hold.
 //!
 //! A [`LaneReader`] reads the points. There is one for X and Y alone, and one for three axes or four.
+//! Used by `flat_lanes`, `further_lanes` and `sure/parts`.
 ghost use Rattle.std.specs.Prelude.{◌≡◌, ◌≤◌, ℕ, List};
 ghost use Rattle.twkb_head.specs.declared.raw.RawBox.{RawBox};
 ghost use Rattle.twkb_body.specs.Geometry.{PointValue};

@@ -1,4 +1,5 @@
 //! Reading the count and the ids of a list: an audit judges the ids, and a skim passes them.
+//! Used by `body`, `geometry`, `shape`, `sure` and `sure/parts`.
 ghost use Rattle.std.specs.Prelude.{◌≡◌, Ok};
 ghost use Rattle.twkb_head.specs.Shared.Reader.{signeds_at, Reads};
 ghost use Rattle.twkb_body.specs.Devices.Stops.{ReadsList};

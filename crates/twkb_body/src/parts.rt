@@ -1,5 +1,6 @@
 //! The parts of a body: points, lines and polygons. All are read here, each by a [`PointReader`]: the exact audit reads them by a
 //! `Walk`, a skim by a `CertifiedWalk`, and the first reading by a `LaneTrail` or a `Walk`.
+//! Used by `flat_lanes`, `further_lanes`, `lane_trail`, `shape` and `sure/parts`.
 ghost use Rattle.std.specs.Prelude.{◌≡◌, ℕ, List, flat_map, IfOk, IfErr};
 ghost use Rattle.twkb_head.specs.Shared.Reader.{Reader, many_at};
 ghost use Rattle.twkb_body.specs.Geometry.{PointValue, points_of};

@@ -1,5 +1,5 @@
 //! A number for each axis of a point that has Z or M: differences from the point before, or distances from the minima of a
-//! box.
+//! box. Used by `further_lanes` and `positions`.
 ghost use Rattle.std.specs.Prelude.{◌≡◌};
 ghost use Rattle.twkb_body.specs.Devices.BoxTest.{IsClose, IsMet, IsNearRange, IsNearBox, AreNear};
 ghost use Rattle.twkb_body.specs.Devices.PerAxis.{listed, Each, placed_at};

@@ -4,6 +4,7 @@
 //! [`CertifiedWalk`](crate::certified_walk::CertifiedWalk) shows the points of certified bytes to a
 //! visitor until it is settled.
 //! [`LaneTrail`](crate::lane_trail::LaneTrail) stops at the first point outside a box.
+//! Used by `certified_walk`, `lane_trail`, `parts` and `walk`.
 ghost use Rattle.std.specs.Prelude.{◌≡◌, Bool, Option, IfOk, IfErr, IfSome};
 ghost use Rattle.twkb_head.specs.declared.refusal.Malformed.{Malformed as MalformedOf};
 ghost use Rattle.twkb_body.specs.Geometry.{PointValue};

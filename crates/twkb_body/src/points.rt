@@ -1,4 +1,5 @@
 //! [`Points`], the trait of what the points under one header are added to.
+//! Used by `box_test`, `certified_walk`, `range`, `sure/parts`, `trail`, `vertices` and `walk`.
 ghost use Rattle.std.specs.Prelude.{◌≡◌, ◌≤◌};
 ghost use Rattle.twkb_head.specs.Header.{Header};
 ghost use Rattle.twkb_head.specs.Raw.{HavePrecisions};
@@ -25,8 +26,8 @@ pub trait Points {
         requires precisions { HavePrecisions (precisions_of head.now) }
         ensures { state self.new ≡ step (of_head head.now) (state self.old) point.now };
 
-    /// Reads some of the points at the place, `_most` of them or fewer, by words of eight bytes or by vectors. Returns how many it
-    /// read. If it reads none, as it does if it isn't overridden, the next point is read alone.
+    /// Reads some of the points at the place, `_most` of them or fewer, by words of eight bytes. Returns how many it read.
+    /// If it reads none, as it does if it isn't overridden, the next point is read alone.
     #[inline(always)]
     fn take_run(
         &mut self,

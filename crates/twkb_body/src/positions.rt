@@ -1,8 +1,9 @@
 //! Where points are, in lanes of 32 bits, and whether a box holds them. Short differences are added up in lanes of 16 bits first.
 //!
 //! A lane holds a point's distance in one axis from the minimum of the box. One comparison without signs tells whether the point is
-//! in the box, since a distance below zero is a great number then. Points of X and Y alone have each distance in two lanes.
-ghost use Rattle.std.specs.Prelude.{◌≡◌, true, ◌+◌, ◌-◌, ◌%◌, ◌^◌, ◌<◌, ◌&&◌, neg_ℤ, ℕ, ℤ, map, [], ◌∷◌, nat_le, nat_lt, if◌then◌else◌, All, IsTrue};
+//! in the box, since a distance below zero is a great number then. For points of X and Y alone, lanes of differences hold four points
+//! in 16 bits or two in 32, and the last point and the widths of the box are in lanes twice. Used by `flat_lanes`, `further_lanes`, `lane_trail` and `quads`.
+ghost use Rattle.std.specs.Prelude.{◌≡◌, true, ◌+◌, ◌-◌, ◌%◌, ◌^◌, ◌<◌, ◌&&◌, neg_ℤ, ℕ, ℤ, map, [], ◌∷◌, nat_le, nat_lt, if◌then◌else◌, All};
 ghost use Rattle.std.specs.Int.{w16, w32, cast_signed, cast_unsigned};
 ghost use Rattle.twkb_num.specs.Varint.{IsBrief, IsShort};
 ghost use Rattle.twkb_body.specs.declared.per_axis.PerAxis.{PerAxis as PerAxisOf};

@@ -1,4 +1,4 @@
-//! Points of X and Y read up to four at once, and compared with a box.
+//! Points of X and Y read up to four at once, and compared with a box. Used by `flat_lanes`.
 ghost use Rattle.twkb_body.specs.Devices.Quads.{ReadsAtMost, StepsInLanes};
 
 use crate::positions::{Step, four_more, one_more, two_more};

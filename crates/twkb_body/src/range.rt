@@ -1,7 +1,7 @@
 //! [`Ranges`], the least and the greatest raw coordinate of each axis of one header.
 //!
 //! Raw coordinates have 64 bits and one precision per axis, so within a header two comparisons serve a coordinate, with
-//! no 128-bit arithmetic; the ends are scaled to units once.
+//! no 128-bit arithmetic; the ends are scaled to units once. Used by `shape`.
 ghost use Rattle.std.specs.Prelude.{◌≡◌, ◌≤◌, IfSome, None, [], ◌∷◌, option_map};
 ghost use Rattle.std.specs.List.{cons_option};
 ghost use Rattle.twkb_num.specs.Units.{IsPrecision};
@@ -12,10 +12,9 @@ ghost use Rattle.twkb_body.specs.Devices.Ranges.{scaled, scaled_if, reach_in_uni
 
 use crate::extent::Extent;
 use crate::points::Points;
-use crate::trail::Trail;
 use std::marker::Model;
 use twkb_head::{Head, Span};
-use twkb_num::{Cursor, units};
+use twkb_num::units;
 
 /// The least and the greatest of raw coordinates; the least is above the greatest where there are none.
 #[derive(Drop)]

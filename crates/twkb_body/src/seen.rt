@@ -1,4 +1,5 @@
 //! [`Seen`], the extent of vertices, handed up to the geometries with a box that has to hold them.
+//! Used by `auditing`, `geometry`, `shape` and `sure/apart`.
 ghost use Rattle.std.specs.Prelude.{◌≡◌, ◌||◌, [], false};
 ghost use Rattle.twkb_body.specs.Extent.{reach_of};
 ghost use Rattle.twkb_body.specs.Devices.Seen.{HasSeen};

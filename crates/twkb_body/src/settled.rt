@@ -1,4 +1,4 @@
-//! Passing points of a certified body by the ends of their numbers. No coordinate is computed.
+//! Passing points of a certified body by the ends of their numbers. No coordinate is computed. Used by `certified_walk`.
 ghost use Rattle.std.specs.Prelude.{◌≡◌, List, Ok};
 ghost use Rattle.twkb_num.specs.Cursor.{Reading};
 ghost use Rattle.twkb_head.specs.Shared.Reader.{many_at};

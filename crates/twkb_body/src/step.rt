@@ -1,4 +1,5 @@
 //! One step of a skim: past the header of a certified geometry, which is then hopped over, read whole or opened.
+//! Used by `headed` and `skimming`.
 ghost use Rattle.std.specs.Prelude.{◌≡◌, ℕ, ◌+◌, ◌<◌, ◌^◌, true, None, IfSome};
 ghost use Rattle.twkb_num.specs.Units.{IsPrecision};
 ghost use Rattle.twkb_head.specs.declared.kinds.Kind.TheVariants.{Point};

@@ -1,5 +1,5 @@
 //! The first reading of a blob, which certifies it or ends in a doubt. It hands down the innermost box, and hands up the number of
-//! vertices.
+//! vertices. Used by `auditing`.
 ghost use Rattle.std.specs.Prelude.{◌≡◌, ◌≤◌, ◌+◌, ◌-◌, bit_and, true, false, Option, None, Some, IfSome, IfOk, Ok};
 ghost use Rattle.twkb_num.specs.Cursor.{Reading};
 ghost use Rattle.twkb_num.specs.Units.{IsPrecision};

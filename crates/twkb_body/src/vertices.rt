@@ -1,4 +1,4 @@
-//! The points under one header as vertices, each shown to a visitor.
+//! The points under one header as vertices, each shown to a visitor. Used by other crates, and here by `visit`.
 ghost use Rattle.std.specs.Prelude.{◌≡◌, ◌≤◌, ◌≤ℤ◌, ◌+◌, ◌^◌, ◌∷◌, IfSome, IsTrue, ◌↔◌, pos, neg_ℤ, option_map};
 ghost use Rattle.twkb_num.specs.Units.{IsPrecision, units_of};
 ghost use Rattle.twkb_head.specs.Header.{axes_with};

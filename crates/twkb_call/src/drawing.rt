@@ -1,4 +1,5 @@
 //! X and Y of the vertices of layers, put into memory that the caller lends. `twkb_web` exports it, for a page that draws the layer.
+//! Used by other crates.
 ghost use Rattle.std.specs.Prelude.{◌≡◌, map};
 ghost use Rattle.twkb_layer.specs.Hits.{filled};
 ghost use Rattle.twkb_layer.specs.Layer.{IsCounted, OfLayer, vertex_count};

@@ -1,4 +1,5 @@
 //! [`Layer`], a layer that was certified before, in the caller's storage.
+//! Used by other crates, and here by `directory`, `drawing`, `rows` and `scans`.
 ghost use Rattle.std.specs.Prelude.{◌≡◌};
 ghost use Rattle.twkb_layer.specs.Layer.{IsCounted};
 

@@ -1,5 +1,5 @@
 //! Words for the numbers of types, kinds and answers, as the program prints them. Each has zeros after it, up to 24 bytes.
-//! `twkb_c` exports them, for programs in C.
+//! `twkb_c` exports them, for programs in C. Used by other crates.
 ghost use Rattle.std.specs.Prelude.{◌≡◌};
 ghost use Rattle.twkb_call.specs.Names.{type_name, kind_name, answer_name, with_zeros};
 

@@ -1,4 +1,4 @@
-//! Lists of layers, in memory that the caller lends: a row of numbers and flags for each blob.
+//! Lists of layers, in memory that the caller lends: a row of numbers and flags for each blob. Used by other crates.
 ghost use Rattle.std.specs.Prelude.{◌≡◌, length, map};
 ghost use Rattle.twkb_layer.specs.Hits.{filled};
 ghost use Rattle.twkb_layer.specs.Layer.{IsCounted, OfLayer};

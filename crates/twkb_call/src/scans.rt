@@ -1,4 +1,5 @@
 //! Scans of a layer for a window. The hits are written to memory that the caller lends.
+//! Used by other crates, and here by `directory`.
 ghost use Rattle.std.specs.Prelude.{◌≡◌, length, map, sum_by};
 ghost use Rattle.twkb_num.specs.Cursor.{added};
 ghost use Rattle.twkb_layer.specs.Hits.{hits, found_blobs, cost, filled};

@@ -1,4 +1,4 @@
-//! [`Verdict`], the result of certifying bytes, in numbers, and the two functions that return it.
+//! [`Verdict`], the result of certifying bytes, in numbers, and the two public functions that return it. Used by other crates.
 ghost use Rattle.std.specs.Prelude.{◌≡◌, List, ◌⊎◌};
 ghost use Rattle.twkb_body.specs.Claims.{IsTrueClaim};
 ghost use Rattle.twkb_body.specs.Geometry.{Geometry};

@@ -1,4 +1,5 @@
 //! [`Window`], a window whose ends are two words of 64 bits each, the parser of its text, and ranges of decimal numbers.
+//! Used by other crates, and here by `directory`, `drawing` and `scans`.
 ghost use Rattle.std.specs.Prelude.{◌≡◌, ◌≢◌, ◌≤◌, if◌then◌else◌, true, false};
 ghost use Rattle.twkb_head.specs.declared.boxes.Bounds.{Bounds};
 ghost use Rattle.twkb_layer.specs.Decimals.{Decimal, IsDecimalText, is_less, rational_of, span_of_decimals};

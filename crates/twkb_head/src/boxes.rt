@@ -1,6 +1,7 @@
 //! [`Vertex`] and [`Bounds`], vertices and boxes in units.
 //!
 //! A unit is 10^-7 of a coordinate unit: coordinates of every precision are whole numbers of units, and compare as such.
+//! Used by other crates, and here by `header` and `raw`.
 ghost use Rattle.std.specs.Prelude.{◌≡◌, ◌↔◌, ◌+ℤ◌, IsTrue};
 ghost use Rattle.twkb_num.specs.Units.{IsPrecision};
 ghost use Rattle.twkb_head.specs.Head.{span_at};

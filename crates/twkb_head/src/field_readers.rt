@@ -1,7 +1,7 @@
 //! The fields of a header, each read by itself.
 //!
 //! Each reader answers as the one of `specs/` does that its contract names (`byte_at`, `number_at`, ..): a value, with the cursor
-//! after the field, or the place of the field and why it is malformed.
+//! after the field, or the place of the field and why it is malformed. Used by other crates, and here by `ranges` and `read`.
 ghost use Rattle.std.specs.Prelude.{◌≡◌, ◌≤◌, ◌-◌, IfOk};
 ghost use Rattle.twkb_num.specs.Units.{IsPrecision};
 ghost use Rattle.twkb_head.specs.BegunHeader.{deepest};

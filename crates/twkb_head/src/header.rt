@@ -1,4 +1,4 @@
-//! [`Head`], what a header says and where its parts are.
+//! [`Head`], what a header says and where its parts are. Used by other crates, and here by `raw` and `read`.
 ghost use Rattle.std.specs.Prelude.{◌≡◌, ◌≤◌};
 ghost use Rattle.twkb_head.specs.Head.{m_axis};
 ghost use Rattle.twkb_head.specs.Header.{axes_with};

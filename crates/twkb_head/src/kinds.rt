@@ -1,4 +1,5 @@
 //! [`Kind`], the seven types of a geometry, and how deep each may be.
+//! Used by other crates, and here by `bits`, `field_readers`, `header`, `raw` and `read`.
 ghost use Rattle.std.specs.Prelude.{◌≡◌, ◌%◌, ◌≤◌, ◌-◌, IfOk, IfErr};
 ghost use Rattle.twkb_head.specs.BegunHeader.{is_collection, deepest};
 ghost use Rattle.twkb_head.specs.Header.{is_multi, code_of};

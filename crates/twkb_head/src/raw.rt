@@ -1,4 +1,5 @@
 //! Boxes and headers in raw integers. Numbers of one precision compare without units. `ranges` and `read` read them.
+//! Used by other crates, and here by `header`, `ranges` and `read`.
 ghost use Rattle.std.specs.Prelude.{◌≡◌, ◌≤◌, ◌^◌, ◌≤ℤ◌, pos, neg_ℤ, None, true, option_map, IfSome};
 ghost use Rattle.twkb_num.specs.Units.{IsPrecision};
 ghost use Rattle.twkb_head.specs.Raw.{HavePrecisions, ends_of, ranges_in, flat_box, raw_bounds, head_said, boxless, IsNear, HasNearRanges};
@@ -93,7 +94,7 @@ impl RawRange {
     }
 }
 
-/// If `true`, the number is at most 2^61 from zero, so a sum of two such numbers fits 64 bits.
+/// If `true`, the number is at most 2^61 from zero, so a sum of two such numbers fits 64 bits. `false` says nothing.
 #[inline(always)]
 fn is_near(number: i64) -> bool
     ensures { result ≡ true → (neg_ℤ (pos (2 ^ 61)) ≤ℤ number) × (number ≤ℤ pos (2 ^ 61)) }

@@ -1,4 +1,4 @@
-//! [`read_head`] and the other functions that read a header, whole or in two steps.
+//! [`read_head`] and the other functions that read a header, whole or in two steps. Used by other crates.
 ghost use Rattle.std.specs.Prelude.{◌≡◌, ◌≢◌, ◌↔◌, ◌⊎◌, is_some, ℕ, ◌+◌, ◌-◌, ◌≤◌, ◌<◌, ◌%◌, [], ◌∷◌, true, false, not, None, Err, option_map, IfOk, OnOk, IfErr, IfSome, IfNone, IsOk, IsSome};
 ghost use Rattle.twkb_num.specs.Cursor.{Reading, rest, passed, counted, IsMoved, IsSound};
 ghost use Rattle.twkb_num.specs.Units.{IsPrecision};

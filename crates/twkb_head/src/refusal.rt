@@ -1,4 +1,5 @@
 //! Why bytes are malformed, and where. The numbers of malformations are this project's choice.
+//! Used by other crates, and here by `field_readers`, `kinds`, `ranges` and `read`.
 
 /// Why bytes are malformed.
 #[derive(Clone, Copy, Debug, PartialEq, Eq)]

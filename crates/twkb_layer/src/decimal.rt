@@ -1,4 +1,4 @@
-//! Decimals of any length, as bounds of windows.
+//! Decimals of any length, as bounds of windows. Used by other crates.
 ghost use Rattle.std.specs.Prelude.{◌≡◌, ◌+◌, ◌*◌, ◌/◌, ◌%◌, ◌^◌, ◌&&◌, min, cond, not, pos, neg_ℤ, ◌+ℤ◌, ◌-ℤ◌, ◌*ℤ◌, ◌≤ℤ◌, if◌then◌else◌, Ok, Err, IfOk, Some, IfSome, true, false};
 ghost use Rattle.std.specs.Str.Parse.{digits_value, AllDigits};
 ghost use Rattle.twkb_layer.specs.Devices.Decimals.{is_between_units, leaning, whole_units};

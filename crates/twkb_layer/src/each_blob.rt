@@ -1,4 +1,5 @@
 //! The loop over the blobs of a certified layer, which scans, lists, directories and visits share.
+//! Used by `certified`, `placing`, `row`, `scans` and `showing`.
 ghost use Rattle.std.specs.Prelude.{◌≡◌, ℕ, ◌+◌, ◌≤◌, nat_lt, ◌&&◌, List, length};
 ghost use Rattle.twkb_num.specs.Cursor.{added};
 ghost use Rattle.twkb_body.specs.Geometry.{Geometry};
@@ -38,8 +39,8 @@ pub trait EachBlob {
         ensures few { OfBlob cursor.old.bytes cursor.old.place (λ g. reads (state self.old) g ≤ size_of g) };
 }
 
-/// Calls [`take_blob`](EachBlob::take_blob) for each blob of a certified layer, in file order, or only for the first `limit`
-/// blobs.
+/// Goes to the first byte, and calls [`take_blob`](EachBlob::take_blob) for each blob of a certified layer, in file order, or only
+/// for the first `limit` blobs.
 #[inline(always)]
 pub fn for_each_blob<B: EachBlob>(each: &mut B, cursor: &mut Cursor, limit: Option<usize>)
     requires { (trees : List Geometry) × IsCertifiedLayer trees cursor.old.bytes

@@ -1,4 +1,4 @@
-//! The slots of a blob, put into memory: into a vector, or into room that a caller lends.
+//! The slots of a blob, put into memory: into a vector, or into room that a caller lends. Used by `certified`.
 ghost use Rattle.std.specs.Prelude.{◌≡◌, ◌+◌, ◌-◌, ◌*◌, ◌<◌, ◌≤◌, ◌++◌, ◌∷◌, [], List, length, take, drop, vec_len, vec_capacity};
 ghost use Rattle.twkb_head.specs.Raw.{HavePrecisions};
 ghost use Rattle.twkb_body.specs.Geometry.{Geometry};

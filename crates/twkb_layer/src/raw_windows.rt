@@ -1,4 +1,5 @@
 //! [`RawWindows`], a window in raw integers at each precision: in the numbers that headers and bodies have.
+//! Used by `entry`, `scans`, `seeker`, `slots` and `window`.
 ghost use Rattle.std.specs.Prelude.{◌≡◌, ◌<◌, ◌<ℤ◌, ◌*ℤ◌, ◌||◌, ◌∷◌, [], ℤ, pos, int_lt, true, IfSome};
 ghost use Rattle.std.specs.Int.RustNames.{int_div, int_rem};
 ghost use Rattle.twkb_num.specs.Units.{IsPrecision};

@@ -1,4 +1,4 @@
-//! [`Refusal`], why bytes aren't a certified layer.
+//! [`Refusal`], why bytes aren't a certified layer. Used by other crates, and here by `audits` and `certified`.
 use thiserror::Error;
 
 /// Why bytes aren't a certified layer.

@@ -1,4 +1,4 @@
-//! The vertices of a certified layer, shown to a visitor.
+//! The vertices of a certified layer, shown to a visitor. Used by `certified`.
 ghost use Rattle.std.specs.Prelude.{◌≡◌, ◌≤◌, List, length, fold, ⊤};
 ghost use Rattle.twkb_num.specs.Cursor.{added};
 ghost use Rattle.twkb_body.specs.Geometry.{Geometry, vertices};

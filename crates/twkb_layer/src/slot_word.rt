@@ -1,4 +1,4 @@
-//! [`Word`], the 64 bits of a directory's slot besides its ranges.
+//! [`Word`], the 64 bits of a directory's slot besides its ranges. Used by `slots`.
 ghost use Rattle.std.specs.Prelude.{◌≡◌, ◌<◌, ◌^◌};
 ghost use Rattle.twkb_layer.specs.Slots.{unpacked};
 

@@ -1,4 +1,5 @@
 //! [`Slot`], 40 bytes in which a directory keeps the offset and the box of a blob.
+//! Used by other crates, and here by `certified`, `directory`, `entry`, `placing` and `scans`.
 ghost use Rattle.std.specs.Prelude.{◌≡◌, ◌+◌, ◌*◌, ◌/◌, ◌%◌, ◌^◌, ◌<◌, ◌≤◌, pos, ◌==◌, ◌||◌, ◌&&◌, true, false, Some, None, IfSome, option_map};
 ghost use Rattle.twkb_num.specs.Units.{IsPrecision};
 ghost use Rattle.twkb_head.specs.Head.{span_at};

@@ -1,4 +1,4 @@
-//! [`TextReader`], which reads the text of a window or of a decimal, piece by piece.
+//! [`TextReader`], which reads the text of a window or of a decimal, piece by piece. Used by `decimal` and `window`.
 ghost use Rattle.std.specs.Prelude.{◌≡◌, ◌-◌, ◌*◌, ◌^◌, ◌<◌, ◌≤◌, ℕ, true, false, List, [], ◌++◌, take, drop, length, Option, Some, None, IfSome, unsigned_abs};
 ghost use Rattle.std.specs.Bool.{OnTrue, OnFalse};
 ghost use Rattle.std.specs.Str.Parse.{digits_value, AllDigits};

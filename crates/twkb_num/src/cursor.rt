@@ -1,4 +1,4 @@
-//! A cursor over bytes, which counts what it reads.
+//! A cursor over bytes, which counts what it reads. Used by other crates.
 ghost use Rattle.std.specs.Prelude.{◌≡◌, ◌+◌, ◌-◌, ◌<◌, ◌≤◌, ◌^◌, ◌↔◌, ◌⊎◌, ℕ, ℤ, List, [], ◌∷◌, ◌++◌, length, take, IsNone, IfOk, IfErr, IfSome, IfNone, OnOk, OnSome};
 ghost use Rattle.twkb_num.specs.Cursor.{rest, passed, counted, IsMoved, IsSound};
 ghost use Rattle.twkb_num.specs.Devices.Ends.{IsFirstEnd};
@@ -23,14 +23,15 @@ use std::marker::Model;
 /// or passes fewer numbers than requested, its caller learns something about bytes that aren't counted: a number is too long
 /// for the call, the end is near, no point of the right form is there ([`Cursor::pass_short_point`]), or (the last two calls below)
 /// a count can't be read or is too large. This list says when a call may fail, and which clause says so. Where a call may fail, no
-/// clause says whether it does, except for [`Cursor::pass_short_point`] (`far`); only the code shows that this choice tells nothing
+/// clause says whether it does, except for [`Cursor::pass_short_point`] (`some`, `far`); only the code shows that this choice tells nothing
 /// else. A byte *goes on* if it is at least 128.
 ///
 /// - [`Cursor::pass_varint`]: fewer than eight bytes are left, or the next eight all go on (`told`).
 /// - [`Cursor::pass_pair`]: fewer than eight bytes are left, or at most one of the next eight ends a varint (`told`).
 /// - [`Cursor::pass_short_point`]: fewer than eleven bytes are left, or the first two aren't those of a point with no field or with a
-///   size alone, or at most one of the eight bytes after them ends a varint. If they announce a size, then it is at most one of the
-///   eight bytes after the third, or the first two varints there don't take as many bytes as the third byte says (`told`).
+///   size alone. Without a size, it may also be that at most one of the eight bytes after the first two ends a varint. With a size, it
+///   may be that at most one of the eight after the third does, or that the first two varints there don't take as many bytes as the
+///   third byte says (`told`).
 /// - [`Cursor::svarint_pair`] and [`Cursor::svarint_mixed_pair`]: fewer than eight bytes are left, or four in a row of the next
 ///   eight go on (`told`).
 /// - [`Cursor::svarint_pair_and_one`]: fewer than twelve bytes are left, or four in a row of the next twelve go on (`told`).

@@ -1,4 +1,4 @@
-//! Where varints end, found in words of eight bytes.
+//! Where varints end, found in words of eight bytes. Used by `cursor`, `cursor/pairs` and `cursor/point`.
 ghost use Rattle.std.specs.Prelude.{◌≡◌, ◌↔◌, ◌+◌, ◌*◌, ◌-◌, ◌≤◌, ◌<◌, ◌^◌, ℕ, slice_index, IsTrue, IfSome, IfNone};
 ghost use Rattle.twkb_num.specs.Varint.{IsStuck, EndsOnce};
 ghost use Rattle.twkb_num.specs.Devices.Ends.{IsFirstEnd, ended, ends_to, eight_bytes, IsEnd, IsLastEnd, IsFrontOf};

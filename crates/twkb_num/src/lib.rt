@@ -6,9 +6,9 @@
 //! - [`Cursor::uvarint`] and [`Cursor::svarint`] read the number at the cursor's place, or return one of two faults
 //!   ([`NumFault`]). They are the hot path: numbers of one and of two bytes take no loop.
 //! - [`Cursor::svarint_pair`] reads two signed numbers from one word of eight bytes, if both are short. [`Cursor::pass_varint`]
-//!   moves past one number without decoding it, [`Cursor::pass_pair`] past two, and [`Cursor::pass_short_point`] past a point with its
-//!   header and its size, if it has one, if the numbers end in such a word. Otherwise these calls return `None`. [`Cursor::pass_varints`] moves past
-//!   many, and returns how many.
+//!   moves past one number without decoding it, and [`Cursor::pass_pair`] past two. [`Cursor::pass_short_point`] moves past a point
+//!   with its header, and with its size if it has one. The numbers have to end in such a word; otherwise these calls return `None`.
+//!   [`Cursor::pass_varints`] moves past many, and returns how many.
 //! - [`Cursor::svarint_four`] and [`Cursor::svarint_eight`] read four or eight short signed numbers into the lanes of a vector, or
 //!   none.
 //! - [`Cursor::pass_short_varints`] moves past a given number of varints or past none. [`Cursor::pass_short_runs`] and

@@ -1,4 +1,4 @@
-//! Coordinates in units, and back.
+//! Coordinates in units, and back. Used by other crates.
 ghost use Rattle.std.specs.Prelude.{◌≡◌, ◌^◌, ◌<◌, ◌≤◌, ◌≤ℤ◌, ◌-ℤ◌, ℤ, pos, neg_ℤ, unsigned_abs};
 ghost use Rattle.twkb_num.specs.Units.{units_of, IsPrecision, IsCoordinate};
 

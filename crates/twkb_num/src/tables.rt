@@ -2,6 +2,7 @@
 //!
 //! A row of places is eight bytes, the lowest first: in each the place of the byte that belongs there, or 255 for none. A length is
 //! of all numbers of the row, or 128 if one is longer than its lane takes, or doesn't end. Both are proved of all 256 rows.
+//! Used by `vectors`.
 
 mod narrow;
 mod wide;

@@ -1,4 +1,4 @@
-//! Unsigned varints of any length, and why there is none.
+//! Unsigned varints of any length, and why there is none. Used by other crates, and here by `cursor`.
 ghost use Rattle.std.specs.Prelude.{◌≡◌, ◌+◌, ◌<◌, ◌≤◌, ◌↔◌, length, take, IfOk};
 ghost use Rattle.twkb_num.specs.Varint.{Spells, Faults};
 ghost use Rattle.twkb_num.specs.Devices.Varint.{IsBegunBy};

@@ -1,4 +1,4 @@
-//! Varints at the front of 16 or 32 bytes, read into the lanes of vectors.
+//! Varints at the front of 16 or 32 bytes, read into the lanes of vectors. Used by `cursor/lanes`.
 ghost use Rattle.std.specs.Prelude.{◌≡◌, ◌+◌, ◌<◌, ◌≤◌, ◌/◌, ◌%◌, ◌^◌, ℕ, ℤ, List, [], ◌∷◌, map, slice_index, take, All};
 ghost use Rattle.std.specs.Int.{w16, w32, cast_signed};
 ghost use Rattle.twkb_num.specs.Varint.{zigzag_value, SpellsAll, SpellsAllSigned, IsShort, IsBrief, HasLong};

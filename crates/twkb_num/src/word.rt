@@ -1,4 +1,4 @@
-//! Two varints from the next eight bytes, read as one word.
+//! Two varints from the next eight bytes, read as one word. Used by `cursor/pairs`.
 ghost use Rattle.std.specs.Prelude.{◌≡◌, ◌<◌, ◌≤◌, ◌^◌, take, IfSome, IfNone};
 ghost use Rattle.twkb_num.specs.Varint.{IsShort, SpellsTwo, SpellsTwoSigned, zigzag_value, HasLong};
 ghost use Rattle.twkb_num.specs.Devices.Word.{LowBitsSpell, AllGoOn};

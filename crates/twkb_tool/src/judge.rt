@@ -1,4 +1,4 @@
-//! Whether a file is a certified layer, and the text that says so.
+//! Whether a file is a certified layer, and the text that says so. Used by `run` and `status`.
 ghost use Rattle.std.specs.Prelude.{◌≡◌, ◌≤◌, List, length, IfOk, IfErr, IsOkUnless};
 ghost use Rattle.twkb_body.specs.Geometry.{Geometry};
 ghost use Rattle.twkb_layer.specs.Refusal.{IsRefusedFor, NamesKind};

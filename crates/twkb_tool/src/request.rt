@@ -1,4 +1,4 @@
-//! [`Request`], what the command line asks the program to do with a file.
+//! [`Request`], what the command line asks the program to do with a file. Used by `judge`, `main`, `run`, `text` and `words`.
 use twkb_layer::Window;
 
 /// What the program is asked to do with the file.

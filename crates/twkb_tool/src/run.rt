@@ -1,4 +1,4 @@
-//! [`run`], a whole run from the bytes that come in to the text that goes out.
+//! [`run`], a whole run from the bytes that come in to the text that goes out. Used by `judge`, `main`, `status` and `text`.
 ghost use Rattle.std.specs.Prelude.{◌≡◌, ◌+◌, ◌<◌, ◌≤◌, [], take, false, IfOk, IfErr, OnOk, IsTrue, vec_len};
 ghost use Rattle.twkb_tool.specs.Ran.{GivesAll, StopsReading, PutsAll, Ran};
 ghost use Rattle.twkb_tool.specs.Devices.Ran.{AddsPiece, StopsPiece, StopsWriting};

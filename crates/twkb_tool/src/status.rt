@@ -1,4 +1,4 @@
-//! The exit status of the program, by what it did.
+//! The exit status of the program, by what it did. Used by `main`.
 ghost use Rattle.std.specs.Prelude.{◌≡◌};
 ghost use Rattle.twkb_tool.specs.Status.{status_of_host, status_of_run, status_of_usage};
 

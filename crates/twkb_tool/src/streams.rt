@@ -1,4 +1,4 @@
-//! [`Source`] and [`Sink`], the streams that bytes come from and go to.
+//! [`Source`] and [`Sink`], the streams that bytes come from and go to. Used by `run`.
 ghost use Rattle.std.specs.Prelude.{◌≡◌, ◌<◌, ◌≤◌, length, [], take, IfOk, OnOk, OnErr, IsTrue, true, false, is_err};
 ghost use Rattle.twkb_tool.specs.Streams.{SourceState, SinkState, Gives, Takes};
 
@@ -31,7 +31,7 @@ pub trait Source {
         ensures ok { OnOk result ((state self.new).failed ≡ false) }
         ensures err { OnErr result (state self.new ≡ record (state self.old) { failed = true }) };
 
-    /// Whether the last `take` failed.
+    /// Whether the last `take` failed. Only tests call this.
     fn failed(&self) -> bool
         ensures { result ≡ (state self.now).failed };
 
@@ -57,7 +57,7 @@ pub trait Sink {
     fn flush(&mut self) -> Result<(), SinkFailed>
         ensures { state self.new ≡ record (state self.old) { failed = is_err result; flushing = true } };
 
-    /// Whether the last `put` or `flush` failed.
+    /// Whether the last `put` or `flush` failed. Only tests call this.
     fn failed(&self) -> bool
         ensures { result ≡ (state self.now).failed };
 

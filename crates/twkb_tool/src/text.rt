@@ -1,4 +1,4 @@
-//! The text that is printed for a certified layer.
+//! The text that is printed for a certified layer. Used by `judge`.
 ghost use Rattle.std.specs.Prelude.{◌≡◌, ◌+◌, ◌-◌, ◌*◌, ◌^◌, ◌<◌, ◌≤◌, ◌++◌, List, length, flat_map, take, IfOk, OnOk, vec_len};
 ghost use Rattle.twkb_body.specs.Geometry.{Geometry};
 ghost use Rattle.twkb_layer.specs.Directory.{IsDirectoryOf, directory_cost};

@@ -1,7 +1,8 @@
 //! What a command line requests.
 //!
-//! `clap` parses the words as the module `command` says. The module `found` makes a [`Line`] of what it found, and the module
-//! `windows` parses the windows. `specs/Words.antt` defines what the functions of all three return.
+//! `clap` parses the words as the module `command` says. The module `found` reads what it found, the module `windows` parses the
+//! windows, and the functions here make a [`Line`] of them. `specs/Words.antt` defines what all these functions return. Used by `main`
+//! and `status`.
 ghost use Rattle.std.specs.List.{list_all};
 ghost use Rattle.std.specs.Prelude.{◌≡◌, ◌≢◌, List, [], ◌∷◌, map, codes, true, IfOk, IfErr, OnOk, IsErrAnd};
 ghost use Rattle.clap.specs.Words.{Text, fault_of, found_of, rows_of, subcommand_of, subcommand_rows_of};

@@ -280,7 +280,7 @@ CountsParts multi ids old result new =
     IsSureOr (IsCounted multi ids old new) (IsWrongCount multi ids old new)
     (HasManyIdsAfterCount ids (rest old)) old result new
 
--- The header is of a geometry that has a body and is no collection. The frame, if there is one, has its precisions and is near zero.
+-- The header is of a geometry that has a body and is no collection. The frame, if there is one, has its precisions, which lie in their ranges.
 pub record IsShapeHead (head : Head) (frame : Option Frame) : Type 0 where
   pub full : head.empty ≡ false
   pub kind : is_collection head.kind ≡ false

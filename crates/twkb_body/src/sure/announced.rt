@@ -1,4 +1,4 @@
-//! What the second byte of a header announces.
+//! What the second byte of a header announces. Used by `sure`.
 ghost use Rattle.std.specs.Prelude.{◌≡◌, ◌%◌, bit_and};
 
 use twkb_head::Begun;

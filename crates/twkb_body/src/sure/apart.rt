@@ -1,4 +1,5 @@
 //! Geometries that break the chain of frames: the first reading reads each as the exact audit does, with its extent.
+//! Used by `sure`.
 ghost use Rattle.std.specs.Prelude.{◌≡◌, ◌≤◌, ◌-◌, false, Option, None, Some, is_some, IfSome, Ok};
 ghost use Rattle.twkb_num.specs.Units.{IsPrecision};
 ghost use Rattle.twkb_head.specs.BegunHeader.{IsAllowedAt};

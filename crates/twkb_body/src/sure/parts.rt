@@ -1,4 +1,5 @@
 //! The parts of a body in the first reading: their count, and whether a box holds their points.
+//! Used by `sure/shapes` and `sure/unboxed`.
 ghost use Rattle.std.specs.Prelude.{◌≡◌, ◌≤◌, ◌⊎◌, IfOk, IfErr, OnErr};
 ghost use Rattle.twkb_head.specs.Header.{axes_with, is_multi};
 ghost use Rattle.twkb_head.specs.Raw.{HavePrecisions};

@@ -1,4 +1,4 @@
-//! Blobs that are points or lines of X and Y without a box, in the first reading.
+//! Blobs that are points or lines of X and Y without a box, in the first reading. Used by `sure`.
 ghost use Rattle.std.specs.Prelude.{◌≡◌, ◌⊎◌, None, IfNone, IfSome, Ok};
 ghost use Rattle.twkb_num.specs.Cursor.{Reading, IsSound};
 ghost use Rattle.twkb_head.specs.Raw.{BeginsHead};

@@ -1,4 +1,4 @@
-//! The bodies of geometries that are no collections, in the first reading.
+//! The bodies of geometries that are no collections, in the first reading. Used by `sure`.
 ghost use Rattle.std.specs.Prelude.{◌≡◌, ℕ, true, None};
 ghost use Rattle.twkb_body.specs.Devices.Sure.{has_further, IsShapeHead, CertifiesShape};
 

@@ -1,5 +1,5 @@
 //! Bodies that no box asks for, in the first reading. If numbers are short and points are few, no sum can leave 64 bits: then all
-//! numbers are passed by their ends. Otherwise coordinates are summed, from the first.
+//! numbers are passed by their ends. Otherwise coordinates are summed, from the first. Used by `sure/plain` and `sure/shapes`.
 ghost use Rattle.std.specs.Prelude.{◌≡◌, ◌⊎◌, ◌≤◌, IfOk, IfErr, IfSome, IfNone, OnErr};
 ghost use Rattle.twkb_head.specs.declared.kinds.Kind.TheVariants.{Point, LineString};
 ghost use Rattle.twkb_body.specs.Devices.Bare.{unchanged};

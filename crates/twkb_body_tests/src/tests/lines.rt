@@ -5,7 +5,7 @@ use std::alloc::{AllocError, Global};
 use std::process::Abort;
 use std::test::Fail;
 
-// Up to here, on both sides of zero, numbers are near.
+// A number of which four times as much leaves 64 bits, and sums of two don't.
 const NEAR: i64 = 1 << 61;
 
 const MINIMA: [i64; 11] = [
@@ -120,7 +120,7 @@ fn ends_of_near_boxes_and_far_ones(rt: HostRuntime) -> Result<(), Fail> {
     Ok(())
 }
 
-// Boxes that hold numbers about once and twice as far as is near.
+// Boxes that hold numbers about once and twice as far from zero as `NEAR`.
 const FAR_BOXES: [(i64, i64); 10] = [
     (0, NEAR),
     (NEAR, NEAR),

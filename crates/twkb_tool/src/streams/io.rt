@@ -1,4 +1,4 @@
-//! A source over std's `Read` and a sink over std's `Write`, which don't state their bytes.
+//! A source over std's `Read` and a sink over std's `Write`, which don't state their bytes. Used by `main`.
 
 mod reader;
 mod writer;
