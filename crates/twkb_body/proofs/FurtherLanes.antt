@@ -16,13 +16,13 @@ use Rattle.twkb_body.specs.declared.trail.Trail.{Trail}
 use Rattle.twkb_body.specs.Geometry.{PointValue}
 use Rattle.twkb_body.specs.Devices.Body.{add, zeros}
 use Rattle.twkb_body.specs.Devices.BodyReader.{point_at}
-use Rattle.twkb_body.specs.Devices.BoxTest.{reaches, is_in_range, is_in_box, Held, held_then, IsClose, IsMet, IsNearZero, AreNear}
+use Rattle.twkb_body.specs.Devices.BoxTest.{reaches, is_in_range, is_in_box, Held, held_then}
 use Rattle.twkb_body.specs.Devices.FurtherLanes.{four_lanes, fours_of, FromFourLanes, extents, FitsFurther, all_within, after, all_on_the_way, HaveGone, ReadsPoints, IsFurtherStep, IsFarPoint, LeavesByPoint, IsFurtherPlace}
 use Rattle.twkb_body.specs.Devices.LaneTrail.{FitsLane, holding, PointsLeave, IsHeldRun, IsLaneStep}
-use Rattle.twkb_body.specs.Devices.PerAxis.{listed, Each, plus, placed_at, IsIn64, axes_by, AreDifferences}
+use Rattle.twkb_body.specs.Devices.PerAxis.{listed, Each, plus, minima, placed_at, IsIn63, IsIn64, axes_by, AreDifferences}
 use Rattle.twkb_body.specs.Devices.Quads.{pairs_of, ReadsPairs, IsInLane, IsLaneExtent, ReadsAtMost}
 use Rattle.twkb_body.specs.Devices.Walk.{IsWalked}
-use Rattle.twkb_body.proofs.BoxDistances.{reaches_decides, both_true}
+use Rattle.twkb_body.proofs.BoxDistances.{reaches_decides, reached_lane, both_true}
 use Rattle.twkb_body.proofs.FurtherRuns.{reach_all, trail_at, IsFurtherRun, further_begins, further_goes_on}
 use Rattle.twkb_body.proofs.Keeping.{keeps_point, read_keeps}
 use Rattle.twkb_body.proofs.LaneRuns.{run_leaves, next_leaves}
@@ -30,7 +30,6 @@ use Rattle.twkb_body.proofs.LaneSums.{and_true_right}
 use Rattle.twkb_body.proofs.NumberSteps.{four_read, from_zero}
 use Rattle.twkb_body.proofs.PointAxes.{point_has}
 use Rattle.twkb_body.proofs.QuadReads.{pairs_read, pairs_many}
-use Rattle.twkb_body.proofs.QuadRuns.{near_range, reached_lane}
 use Rattle.twkb_body.proofs.Runs.{run_goes_on}
 
 -- pairs that were read are points of four axes that were read
@@ -101,23 +100,19 @@ three_of (a ∷ b ∷ []) e = absurd (omega (arith, e))
 three_of (a ∷ b ∷ c ∷ []) e = (a, b, c, refl)
 three_of (a ∷ b ∷ c ∷ d ∷ p) e = absurd (omega (arith, e))
 
-in_lane_close : (z : ℤ) → IsInLane z → IsClose z
-in_lane_close z l = (omega (arith, ints, l.0), omega (arith, ints, l.1))
-
 module _ (box : RawBox) (has_fourth : Bool) (fits : FitsFurther has_fourth box) (start : Trail) (from : Reading) where
   abbrev axes : ℕ
   axes = axes_by has_fourth
 
   -- i points were read that the box holds, and these are the last one's distances from its minima
   record IsAt (apart : PerAxis) (r : Reading) (i : ℕ) : Type 0 where
-    pub run : IsFurtherRun start (holding box) from box has_fourth apart true r i
+    pub run : IsFurtherRun start from box has_fourth apart true r i
     pub in_lanes : Each IsInLane apart
     pub absent : has_fourth ≡ false → apart.fourth ≡ pos 0
 
   begins : (apart : PerAxis) → start.last ≡ listed (placed_at box apart) → Each IsInLane apart → (has_fourth ≡ false → apart.fourth ≡ pos 0) → IsAt apart from 0
   begins apart last in_lanes absent = record {
-    run = further_begins start (holding box) from box has_fourth apart true last
-        (record { x = in_lane_close _ in_lanes.x; y = in_lane_close _ in_lanes.y; third = in_lane_close _ in_lanes.third; fourth = in_lane_close _ in_lanes.fourth }) refl;
+    run = further_begins start from box has_fourth apart last;
     in_lanes = in_lanes;
     absent = absent;
   }
@@ -127,10 +122,9 @@ module _ (box : RawBox) (has_fourth : Bool) (fits : FitsFurther has_fourth box) 
   next_absent apart more r new d absent e = let before = absent e in let none = d.absent e in omega (arith, ints, before, none)
 
   one_on : (apart more : PerAxis) (inside : Bool) (r new : Reading) (i : ℕ) → AreDifferences has_fourth more r new → inside ≡ all_within (extents box) (plus apart more) → IsAt apart r i
-      → IsFurtherRun start (holding box) from box has_fourth (plus apart more) inside new (i + 1)
+      → IsFurtherRun start from box has_fourth (plus apart more) inside new (i + 1)
   one_on apart more inside r new i d is at =
-      further_goes_on start (holding box) from box has_fourth apart more (plus apart more) true inside r new i refl (near_range box.x fits.x, near_range box.y fits.y) (near_range box.third fits.third) (near_range box.fourth fits.fourth) d refl
-      (is ∙ within_is has_fourth box (plus apart more) fits (next_absent apart more r new d at.absent)) at.run
+      further_goes_on start from box has_fourth apart more r new i fits at.in_lanes d inside (is ∙ within_is has_fourth box (plus apart more) fits (next_absent apart more r new d at.absent)) at.run
 
   one_inside : (apart more : PerAxis) (r new : Reading) (i : ℕ) → AreDifferences has_fourth more r new → all_within (extents box) (plus apart more) ≡ true → IsAt apart r i → IsAt (plus apart more) new (i + 1)
   one_inside apart more r new i d e at =
@@ -159,30 +153,23 @@ module _ (box : RawBox) (has_fourth : Bool) (fits : FitsFurther has_fourth box) 
     where
       go : (b : Bool) → all_within (extents box) (plus apart d) ≡ b → (all_within (extents box) (plus apart d) ≡ true → all_on_the_way (extents box) (plus apart d) ds ≡ false → PointsLeave axes count box start.last from) → PointsLeave axes count box start.last from
       go true is further = further is (ap (λ (b : Bool). b && all_on_the_way (extents box) (plus apart d) ds) (sym is) ∙ e)
-      go false is further = run_leaves axes box start from count (i + 1) _ (record { box = box; inside = false }) middle (omega (arith, le)) (one_on apart d false r middle i one (sym is) at).run refl
+      go false is further = run_leaves axes box start from count (i + 1) _ (record { box = box; inside = false }) middle (omega (arith, le)) (one_on apart d false r middle i one (sym is) at) refl
 
   -- a point of any differences that the box holds
   far_inside : (apart : PerAxis) (r new : Reading) (next : List ℕ) (i : ℕ) → (far : IsFarPoint has_fourth box apart r new next) → IsAt apart r i → IsAt far.there new (i + 1)
   far_inside apart r new next i far at = record {
-    run = record {
-      run = run_goes_on (held_then axes) axes start (trail_at start (holding box) from box has_fourth apart i) (trail_at start (holding box) from box has_fourth far.there (i + 1)) (holding box) (holding box) (holding box) from r new i far.point far.read walked at.run.run;
-      met = record { x = met _ far.in_lanes.x; y = met _ far.in_lanes.y; third = met _ far.in_lanes.third; fourth = met _ far.in_lanes.fourth };
-      close = λ e. record { x = in_lane_close _ far.in_lanes.x; y = in_lane_close _ far.in_lanes.y; third = in_lane_close _ far.in_lanes.third; fourth = in_lane_close _ far.in_lanes.fourth };
-    };
+    run = run_goes_on (held_then axes) axes start (trail_at start from box has_fourth apart i) (trail_at start from box has_fourth far.there (i + 1)) (holding box) (holding box) (holding box) from r new i far.point far.read walked at.run;
     in_lanes = far.in_lanes;
     absent = λ e. absent e;
   }
     where
-      met : (z : ℤ) → IsInLane z → IsMet z
-      met z l = (omega (arith, ints, l.0), omega (arith, ints, l.1))
-
       many : length far.point ≡ axes
       many = point_has axes (listed (placed_at box apart)) r new far.point far.read
 
       held : true ≡ is_in_box axes box (add (listed (placed_at box apart)) far.point)
       held = sym far.held ∙ ap (is_in_box axes box) far.placed
 
-      walked : IsWalked (held_then axes) axes (trail_at start (holding box) from box has_fourth apart i) (trail_at start (holding box) from box has_fourth far.there (i + 1)) (holding box) (holding box) r.place new.place (far.point ∷ [])
+      walked : IsWalked (held_then axes) axes (trail_at start from box has_fourth apart i) (trail_at start from box has_fourth far.there (i + 1)) (holding box) (holding box) r.place new.place (far.point ∷ [])
       walked = record {
         last = far.placed;
         points = omega arith;
@@ -200,8 +187,20 @@ module _ (box : RawBox) (has_fourth : Bool) (fits : FitsFurther has_fourth box) 
           omega (arith, ints, same, none)
 
 -- ---- a point that is read with its coordinates
-in_range_near : (range : RawRange) (c : ℤ) → FitsLane range → is_in_range range c ≡ true → IsNearZero c
-in_range_near range c fits e =
+pub minima_in_63 : (has_fourth : Bool) (box : RawBox) → FitsFurther has_fourth box → Each IsIn63 (minima box)
+minima_in_63 has_fourth box fits = record { x = low box.x fits.x; y = low box.y fits.y; third = low box.third fits.third; fourth = low box.fourth fits.fourth }
+  where
+    low : (range : RawRange) → FitsLane range → IsIn63 range.minimum
+    low range fit = (omega (arith, ints, fit.low.1), omega (arith, ints, fit.low.0))
+
+pub lanes_in_63 : (apart : PerAxis) → Each IsInLane apart → Each IsIn63 apart
+lanes_in_63 apart in_lanes = record { x = in_63 _ in_lanes.x; y = in_63 _ in_lanes.y; third = in_63 _ in_lanes.third; fourth = in_63 _ in_lanes.fourth }
+  where
+    in_63 : (z : ℤ) → IsInLane z → IsIn63 z
+    in_63 z l = (omega (arith, ints, l.0), omega (arith, ints, l.1))
+
+in_range_63 : (range : RawRange) (c : ℤ) → FitsLane range → is_in_range range c ≡ true → IsIn63 c
+in_range_63 range c fits e =
     let there = (reaches_decides range.extent (c -ℤ range.minimum)).0 e in
     (omega (arith, ints, fits.low.0, fits.low.1, there.0), omega (arith, ints, fits.low.0, fits.low.1, fits.wide.1, there.1))
 
@@ -257,16 +256,12 @@ module _ (box : RawBox) (has_fourth : Bool) (fits : FitsFurther has_fourth box) 
   in_axes : Axes has_fourth box point
   in_axes = each_axis has_fourth box point h.held
 
-  pub point_near : AreNear box point
-  point_near = record {
-    third = near_range box.third fits.third;
-    fourth = near_range box.fourth fits.fourth;
-    all = record { x = in_range_near box.x point.x fits.x in_axes.x; y = in_range_near box.y point.y fits.y in_axes.y; third = in_range_near box.third point.third fits.third in_axes.third; fourth = fourth_near has_fourth refl };
-  }
+  pub point_in_63 : Each IsIn63 point
+  point_in_63 = record { x = in_range_63 box.x point.x fits.x in_axes.x; y = in_range_63 box.y point.y fits.y in_axes.y; third = in_range_63 box.third point.third fits.third in_axes.third; fourth = fourth_in_63 has_fourth refl }
     where
-      fourth_near : (b : Bool) → has_fourth ≡ b → IsNearZero point.fourth
-      fourth_near true e = in_range_near box.fourth point.fourth fits.fourth (in_axes.fourth e)
-      fourth_near false e = let k = kept e in (omega (arith, ints, k, fits.fourth.low.0, fits.fourth.low.1, in_lanes.fourth.0), omega (arith, ints, k, fits.fourth.low.0, fits.fourth.low.1, in_lanes.fourth.1))
+      fourth_in_63 : (b : Bool) → has_fourth ≡ b → IsIn63 point.fourth
+      fourth_in_63 true e = in_range_63 box.fourth point.fourth fits.fourth (in_axes.fourth e)
+      fourth_in_63 false e = let k = kept e in (omega (arith, ints, k, fits.fourth.low.0, fits.fourth.low.1, in_lanes.fourth.0), omega (arith, ints, k, fits.fourth.low.0, fits.fourth.low.1, in_lanes.fourth.1))
 
   pub point_in_lanes : (there : PerAxis) → point ≡ placed_at box there → Each IsInLane there
   point_in_lanes there e = record {
@@ -305,7 +300,7 @@ module _ (has_fourth : Bool) (bounds box : RawBox) (lanes extent : List ℕ) (fr
     at_held : (apart : PerAxis) (next : List ℕ) (new : Reading) (points : ℕ) → next ≡ four_lanes apart → IsAt box has_fourth place.fits start from apart new points → IsHeldRun (axes_by has_fourth) (IsFurtherPlace has_fourth bounds box next extent) box start from new points
     at_held apart next new points next_is at = record {
       after = _;
-      run = at.run.run;
+      run = at.run;
       there = record { apart = apart; box_is = place.box_is; is = refl; lanes_are = next_is; extent_is = place.extent_is; in_lanes = at.in_lanes; absent = at.absent; fits = place.fits };
     }
 

@@ -9,10 +9,13 @@ use Rattle.twkb_head.specs.declared.raw.RawRange.{RawRange}
 use Rattle.twkb_body.specs.declared.per_axis.PerAxis.{PerAxis}
 use Rattle.twkb_body.specs.declared.trail.Trail.{Trail}
 use Rattle.twkb_body.specs.Devices.Body.{add}
-use Rattle.twkb_body.specs.Devices.BoxTest.{reaches, is_in_box, Held, held_then, IsClose, IsMet, IsNearRange, IsNearBox}
+use Rattle.twkb_body.specs.Devices.BoxTest.{reaches, is_in_box, held_then}
+use Rattle.twkb_body.specs.Devices.FurtherLanes.{FitsFurther}
+use Rattle.twkb_body.specs.Devices.LaneTrail.{FitsLane, holding}
 use Rattle.twkb_body.specs.Devices.PerAxis.{listed, Each, plus, placed_at, IsIn64, axes_by, AreDifferences}
+use Rattle.twkb_body.specs.Devices.Quads.{IsInLane}
 use Rattle.twkb_body.specs.Devices.Walk.{IsWalked, IsRun}
-use Rattle.twkb_body.proofs.BoxDistances.{reached, met, from_minimum, both_true}
+use Rattle.twkb_body.proofs.BoxDistances.{from_minimum}
 use Rattle.twkb_body.proofs.Runs.{run_none, run_goes_on}
 
 -- distances from the minima of a box lie within its extents, in all axes
@@ -20,12 +23,9 @@ abbrev pub reach_all : RawBox → Bool → PerAxis → Bool
 reach_all box has_fourth apart =
     (reaches box.third.extent apart.third && (if has_fourth then reaches box.fourth.extent apart.fourth else true)) && (reaches box.x.extent apart.x && reaches box.y.extent apart.y)
 
--- a coordinate at a distance, plus a short difference, fits 64 bits
-at_in_64 : (range : RawRange) (distance more : ℤ) → IsNearRange range → IsClose distance → IsShort more → IsIn64 ((range.minimum +ℤ distance) +ℤ more)
-at_in_64 range distance more near close short = (omega (arith, ints, near.low, close.0, short.0), omega (arith, ints, near.high, close.1, short.1))
-
-close_met : (z : ℤ) → IsClose z → IsMet z
-close_met z close = (omega (arith, ints, close.0), omega (arith, ints, close.1))
+-- a coordinate at a distance in a lane, plus a short difference, fits 64 bits
+at_in_64 : (range : RawRange) (distance more : ℤ) → FitsLane range → IsInLane distance → IsShort more → IsIn64 ((range.minimum +ℤ distance) +ℤ more)
+at_in_64 range distance more fits in_lane short = (omega (arith, ints, fits.low.1, in_lane.0, short.0), omega (arith, ints, fits.low.0, in_lane.1, short.1))
 
 grouped : (low distance more : ℤ) → low +ℤ (distance +ℤ more) ≡ (low +ℤ distance) +ℤ more
 grouped low distance more = omega (arith, ints)
@@ -54,28 +54,17 @@ as_many : (has_fourth : Bool) (more : PerAxis) → length (take (axes_by has_fou
 as_many true more = refl
 as_many false more = refl
 
--- the distance in the fourth axis stays close, also if the axis isn't there
-fourth_close : (has_fourth : Bool) (box : RawBox) (apart more : PerAxis) → IsNearRange box.fourth → IsClose apart.fourth → (has_fourth ≡ false → more.fourth ≡ pos 0) → reach_all box has_fourth (plus apart more) ≡ true → IsClose (apart.fourth +ℤ more.fourth)
-fourth_close true box apart more near close absent e = reached box.fourth _ near (both_true _ _ (both_true _ _ e).0).1
-fourth_close false box apart more near close absent e = let none = absent refl in (omega (arith, ints, none, close.0), omega (arith, ints, none, close.1))
-
-module _ (start : Trail) (state : Held) (from : Reading) (box : RawBox) (has_fourth : Bool) where
+module _ (start : Trail) (from : Reading) (box : RawBox) (has_fourth : Bool) where
   abbrev pub trail_at : PerAxis → ℕ → Trail
   trail_at apart i = record { last = listed (placed_at box apart); points = start.points + i }
 
-  -- i points were read, and the last one is at these distances from the minima of the box
-  pub record IsFurtherRun (apart : PerAxis) (inside : Bool) (r : Reading) (i : ℕ) : Type 0 where
-    pub run : IsRun (held_then (axes_by has_fourth)) (axes_by has_fourth) start (trail_at apart i) state (record { box = box; inside = inside }) from r i
-    pub met : Each IsMet apart
-    pub close : inside ≡ true → Each IsClose apart
+  -- i points were read, the last one is at these distances from the minima of the box, and the box holds them all or not
+  abbrev pub IsFurtherRun : PerAxis → Bool → Reading → ℕ → Type 0
+  IsFurtherRun apart inside r i = IsRun (held_then (axes_by has_fourth)) (axes_by has_fourth) start (trail_at apart i) (holding box) (record { box = box; inside = inside }) from r i
 
-  pub further_begins : (apart : PerAxis) (inside : Bool) → start.last ≡ listed (placed_at box apart) → Each IsClose apart → state ≡ record { box = box; inside = inside } → IsFurtherRun apart inside from 0
-  further_begins apart inside is close state_is = record {
-    run = subst (λ (t : Trail). IsRun (held_then (axes_by has_fourth)) (axes_by has_fourth) start t state (record { box = box; inside = inside }) from from 0) same
-        (subst (λ (u : Held). IsRun (held_then (axes_by has_fourth)) (axes_by has_fourth) start start state u from from 0) state_is (run_none (held_then (axes_by has_fourth)) (axes_by has_fourth) start state from));
-    met = record { x = close_met _ close.x; y = close_met _ close.y; third = close_met _ close.third; fourth = close_met _ close.fourth };
-    close = λ e. close;
-  }
+  pub further_begins : (apart : PerAxis) → start.last ≡ listed (placed_at box apart) → IsFurtherRun apart true from 0
+  further_begins apart is =
+      subst (λ (t : Trail). IsRun (held_then (axes_by has_fourth)) (axes_by has_fourth) start t (holding box) (holding box) from from 0) same (run_none (held_then (axes_by has_fourth)) (axes_by has_fourth) start (holding box) from)
     where
       points : start.points ≡ start.points + 0
       points = omega arith
@@ -83,40 +72,24 @@ module _ (start : Trail) (state : Held) (from : Reading) (box : RawBox) (has_fou
       same : start ≡ trail_at apart 0
       same = λ j. record { last = is j; points = points j }
 
-  module _ (apart more : PerAxis) (inside : Bool) (r new : Reading) (i : ℕ) (so : inside ≡ true) (near : IsNearBox box) (near_third : IsNearRange box.third) (near_fourth : IsNearRange box.fourth)
-      (d : AreDifferences has_fourth more r new) (l : IsFurtherRun apart inside r i) where
-    close : Each IsClose apart
-    close = l.close so
-
-    went_on : IsFurtherRun (plus apart more) (reach_all box has_fourth (plus apart more)) new (i + 1)
-    went_on = record {
-      run = run_goes_on (held_then (axes_by has_fourth)) (axes_by has_fourth) start (trail_at apart i) (trail_at (plus apart more) (i + 1)) state (record { box = box; inside = inside }) (record { box = box; inside = reach_all box has_fourth (plus apart more) })
-          from r new i (take (axes_by has_fourth) (listed more)) (d.read (placed_at box apart) fit) walked l.run;
-      met = record { x = met _ _ close.x d.short.x; y = met _ _ close.y d.short.y; third = met _ _ close.third d.short.third; fourth = met _ _ close.fourth d.short.fourth };
-      close = λ e.
-          let all = both_true _ _ e in
-          let two = both_true _ _ all.1 in
-          record {
-            x = reached box.x _ near.0 two.0;
-            y = reached box.y _ near.1 two.1;
-            third = reached box.third _ near_third (both_true _ _ all.0).0;
-            fourth = fourth_close has_fourth box apart more near_fourth close.fourth d.absent e;
-          };
-    }
+  module _ (apart more : PerAxis) (r new : Reading) (i : ℕ) (fits : FitsFurther has_fourth box) (in_lanes : Each IsInLane apart) (d : AreDifferences has_fourth more r new) where
+    went_on : IsFurtherRun apart true r i → IsFurtherRun (plus apart more) (reach_all box has_fourth (plus apart more)) new (i + 1)
+    went_on =
+        run_goes_on (held_then (axes_by has_fourth)) (axes_by has_fourth) start (trail_at apart i) (trail_at (plus apart more) (i + 1)) (holding box) (holding box) (record { box = box; inside = reach_all box has_fourth (plus apart more) })
+        from r new i (take (axes_by has_fourth) (listed more)) (d.read (placed_at box apart) fit) walked
       where
         fit : Each IsIn64 (plus (placed_at box apart) more)
         fit = record {
-          x = at_in_64 box.x apart.x more.x near.0 close.x d.short.x;
-          y = at_in_64 box.y apart.y more.y near.1 close.y d.short.y;
-          third = at_in_64 box.third apart.third more.third near_third close.third d.short.third;
-          fourth = at_in_64 box.fourth apart.fourth more.fourth near_fourth close.fourth d.short.fourth;
+          x = at_in_64 box.x apart.x more.x fits.x in_lanes.x d.short.x;
+          y = at_in_64 box.y apart.y more.y fits.y in_lanes.y d.short.y;
+          third = at_in_64 box.third apart.third more.third fits.third in_lanes.third d.short.third;
+          fourth = at_in_64 box.fourth apart.fourth more.fourth fits.fourth in_lanes.fourth d.short.fourth;
         }
 
-        judged : reach_all box has_fourth (plus apart more) ≡ (inside && is_in_box (axes_by has_fourth) box (add (listed (placed_at box apart)) (take (axes_by has_fourth) (listed more))))
+        judged : reach_all box has_fourth (plus apart more) ≡ is_in_box (axes_by has_fourth) box (add (listed (placed_at box apart)) (take (axes_by has_fourth) (listed more)))
         judged = reached_is_in has_fourth box (plus apart more) ∙ ap (is_in_box (axes_by has_fourth) box) (moved_on has_fourth box apart more d.absent)
-            ∙ ap (λ (b : Bool). b && is_in_box (axes_by has_fourth) box (add (listed (placed_at box apart)) (take (axes_by has_fourth) (listed more)))) (sym so)
 
-        walked : IsWalked (held_then (axes_by has_fourth)) (axes_by has_fourth) (trail_at apart i) (trail_at (plus apart more) (i + 1)) (record { box = box; inside = inside }) (record { box = box; inside = reach_all box has_fourth (plus apart more) }) r.place new.place
+        walked : IsWalked (held_then (axes_by has_fourth)) (axes_by has_fourth) (trail_at apart i) (trail_at (plus apart more) (i + 1)) (holding box) (record { box = box; inside = reach_all box has_fourth (plus apart more) }) r.place new.place
             (take (axes_by has_fourth) (listed more) ∷ [])
         walked = record {
           last = moved_on has_fourth box apart more d.absent;
@@ -126,8 +99,5 @@ module _ (start : Trail) (state : Held) (from : Reading) (box : RawBox) (has_fou
           ahead = omega (arith, d.ahead);
         }
 
-  pub further_goes_on : (apart more next : PerAxis) (inside inside_next : Bool) (r new : Reading) (i : ℕ) → inside ≡ true → IsNearBox box → IsNearRange box.third → IsNearRange box.fourth → AreDifferences has_fourth more r new
-      → next ≡ plus apart more → inside_next ≡ reach_all box has_fourth next → IsFurtherRun apart inside r i → IsFurtherRun next inside_next new (i + 1)
-  further_goes_on apart more next inside inside_next r new i so near third fourth d next_is inside_is l =
-      subst (λ (b : Bool). IsFurtherRun next b new (i + 1)) (sym inside_is)
-      (subst (λ (n : PerAxis). IsFurtherRun n (reach_all box has_fourth n) new (i + 1)) (sym next_is) (went_on apart more inside r new i so near third fourth d l))
+    pub further_goes_on : (inside : Bool) → inside ≡ reach_all box has_fourth (plus apart more) → IsFurtherRun apart true r i → IsFurtherRun (plus apart more) inside new (i + 1)
+    further_goes_on inside is l = subst (λ (b : Bool). IsFurtherRun (plus apart more) b new (i + 1)) (sym is) (went_on l)

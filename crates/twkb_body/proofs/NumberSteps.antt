@@ -1,18 +1,16 @@
 -- Numbers of 64 bits, axis by axis, and reading a point of them.
-use Rattle.std.proofs.Common.{◌≡◌, ℕ, suc, ◌+◌, ◌^◌, true, false, [], ◌∷◌, ℤ, pos, ◌+ℤ◌, ◌-ℤ◌, ◌<◌, ◌≤◌, Ok, refl, sym, ap, subst, ◌∙◌, arith}
+use Rattle.std.proofs.Common.{◌≡◌, ℕ, suc, ◌+◌, ◌^◌, true, false, [], ◌∷◌, ℤ, pos, ◌+ℤ◌, ◌-ℤ◌, ◌<◌, ◌≤◌, Ok, refl, sym, ap, ◌∙◌, arith}
 use Rattle.std.proofs.lemmas.Int.{ints}
 use mir.Val.{to_z, of_z, SFits, Fits}
 use Rattle.std.specs.Int.{w64}
 use Rattle.twkb_num.specs.Cursor.{Reading, passed, IsMoved}
 use Rattle.twkb_num.specs.Varint.{IsSigned, SpellsTwoSigned, IsShort}
-use Rattle.twkb_head.specs.declared.raw.RawRange.{RawRange}
 use Rattle.twkb_head.specs.Shared.Reader.{Answer, ◌>>=◌, viewed, many_at, coordinate_at}
 use Rattle.twkb_head.proofs.Steps.{read_signed, coordinate_ok, fits_true}
 use Rattle.twkb_body.specs.Devices.Body.{first_of, behind}
 use Rattle.twkb_body.specs.Devices.BodyReader.{point_at}
-use Rattle.twkb_body.specs.Devices.BoxTest.{IsNearZero, IsNearRange, IsMet, IsClose}
 use Rattle.twkb_body.specs.Geometry.{PointValue}
-use Rattle.twkb_body.specs.Devices.PerAxis.{IsIn64, AreDifferences}
+use Rattle.twkb_body.specs.Devices.PerAxis.{IsIn63, IsIn64, AreDifferences}
 use Rattle.twkb_body.proofs.Coordinates.{coordinate_ahead}
 use Rattle.twkb_body.proofs.FlatRuns.{has_64_bits, two_coordinates}
 use Rattle.twkb_body.proofs.PairReads.{pair_read}
@@ -27,24 +25,21 @@ sum_in_bits a b a_is b_is h = rw (a_is, b_is) (in_bits (a +ℤ b) h)
 pub fits_in_64 : (z : ℤ) → IsIn64 z → SFits w64 z
 fits_in_64 z h = has_64_bits z h.0 h.1
 
--- ---- numbers near zero
-near_in_bits : (z : ℤ) → IsNearZero z → to_z w64 (of_z w64 z) ≡ z
-near_in_bits z near = in_bits z (omega (arith, ints, near.0), omega (arith, ints, near.1))
+-- ---- numbers of 63 bits
+few_in_bits : (z : ℤ) → IsIn63 z → to_z w64 (of_z w64 z) ≡ z
+few_in_bits z fits = in_bits z (omega (arith, ints, fits.0), omega (arith, ints, fits.1))
 
--- the distance between two numbers near zero fits 64 bits
-pub distance_is : (a b : ℤ) → IsNearZero a → IsNearZero b → (a ≡ b +ℤ to_z w64 (of_z w64 (to_z w64 (of_z w64 a) -ℤ to_z w64 (of_z w64 b)))) × IsClose (to_z w64 (of_z w64 (to_z w64 (of_z w64 a) -ℤ to_z w64 (of_z w64 b))))
-distance_is a b near near_b =
-    let within : IsIn64 (a -ℤ b) = (omega (arith, ints, near.0, near_b.1), omega (arith, ints, near.1, near_b.0)) in
-    let bits : to_z w64 (of_z w64 (to_z w64 (of_z w64 a) -ℤ to_z w64 (of_z w64 b))) ≡ a -ℤ b = rw (near_in_bits a near, near_in_bits b near_b) (in_bits (a -ℤ b) within) in
-    let close : IsClose (a -ℤ b) = (omega (arith, ints, near.0, near_b.1), omega (arith, ints, near.1, near_b.0)) in
+-- the distance between two numbers fits 64 bits
+pub distance_is : (a b : ℤ) → IsIn63 a → IsIn63 b → a ≡ b +ℤ to_z w64 (of_z w64 (to_z w64 (of_z w64 a) -ℤ to_z w64 (of_z w64 b)))
+distance_is a b fits fit =
+    let within : IsIn64 (a -ℤ b) = (omega (arith, ints, fits.0, fit.1), omega (arith, ints, fits.1, fit.0)) in
+    let bits : to_z w64 (of_z w64 (to_z w64 (of_z w64 a) -ℤ to_z w64 (of_z w64 b))) ≡ a -ℤ b = rw (few_in_bits a fits, few_in_bits b fit) (in_bits (a -ℤ b) within) in
     let back : b +ℤ (a -ℤ b) ≡ a = omega (arith, ints) in
-    (sym (ap (λ (z : ℤ). b +ℤ z) bits ∙ back), subst IsClose (sym bits) close)
+    sym (ap (λ (z : ℤ). b +ℤ z) bits ∙ back)
 
--- the coordinate at a distance that is met, from the minimum of a near range, fits 64 bits
-pub met_is : (range : RawRange) (distance : ℤ) → IsNearRange range → IsMet distance → to_z w64 (of_z w64 (to_z w64 (of_z w64 range.minimum) +ℤ to_z w64 (of_z w64 distance))) ≡ range.minimum +ℤ distance
-met_is range distance near met =
-    let met_in_bits = in_bits distance (omega (arith, ints, met.0), omega (arith, ints, met.1)) in
-    sum_in_bits range.minimum distance (near_in_bits range.minimum (near.low, near.high)) met_in_bits (omega (arith, ints, near.low, met.0), omega (arith, ints, near.high, met.1))
+-- the number at a distance from another fits 64 bits
+pub place_is : (a b : ℤ) → IsIn63 a → IsIn63 b → to_z w64 (of_z w64 (to_z w64 (of_z w64 a) +ℤ to_z w64 (of_z w64 b))) ≡ a +ℤ b
+place_is a b fits fit = sum_in_bits a b (few_in_bits a fits) (few_in_bits b fit) (omega (arith, ints, fits.0, fit.0), omega (arith, ints, fits.1, fit.1))
 
 -- the number of points fits 64 bits, since there are no more points than bytes
 pub points_fit : {many done start stop place points : ℕ} → many ≡ done → many + start ≤ stop → points ≤ start → stop ≡ place → place < 2 ^ 64 → Fits w64 (points + done)

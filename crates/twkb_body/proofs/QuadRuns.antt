@@ -9,10 +9,10 @@ use Rattle.twkb_head.proofs.Steps.{coordinate_ok, fits_true}
 use Rattle.twkb_head.specs.declared.raw.RawBox.{RawBox}
 use Rattle.twkb_head.specs.declared.raw.RawRange.{RawRange}
 use Rattle.twkb_body.specs.declared.trail.Trail.{Trail}
-use Rattle.twkb_body.specs.Devices.BoxTest.{reaches, is_in_box, held_then, IsNearRange, IsNearBox}
+use Rattle.twkb_body.specs.Devices.BoxTest.{reaches, is_in_box, held_then}
 use Rattle.twkb_body.specs.Devices.LaneTrail.{FitsLane, FitsLanes, holding}
 use Rattle.twkb_body.specs.Devices.Quads.{lanes_at, x_after, y_after, all_reach, ReadsPairs, IsInLane, IsLaneExtent, IsQuadStep, IsFarStep}
-use Rattle.twkb_body.proofs.BoxDistances.{from_minimum, both_true, reaches_decides}
+use Rattle.twkb_body.proofs.BoxDistances.{from_minimum, both_true, reached_lane}
 use Rattle.twkb_body.proofs.FlatRuns.{has_64_bits, IsFlatRun, flat_adds, flat_goes_on}
 use Rattle.twkb_body.proofs.LaneSums.{and_true_right}
 
@@ -28,29 +28,9 @@ pub within_more : (k : ℕ) (z d : ℤ) → IsWithin k z → IsShort d → IsWit
 within_more k z d w short = record { low = omega (arith, ints, w.low, short.0); high = omega (arith, ints, w.high, short.1) }
 
 -- the coordinate at such a distance, plus a short difference, fits 64 bits
-coordinate_fits : (range : RawRange) (k : ℕ) (z d : ℤ) → k ≤ 4 → IsNearRange range → IsWithin k z → IsShort d → SFits w64 ((range.minimum +ℤ z) +ℤ d)
-coordinate_fits range k z d few near w short =
-    has_64_bits ((range.minimum +ℤ z) +ℤ d) (omega (arith, ints, few, near.low, w.low, short.0)) (omega (arith, ints, few, near.high, w.high, short.1))
-
--- a range that fits a lane is near
-pub near_range : (range : RawRange) → FitsLane range → IsNearRange range
-near_range range fits = record {
-  low = omega (arith, ints, fits.low.0, fits.low.1);
-  high = omega (arith, ints, fits.low.0, fits.low.1);
-  some = fits.wide.0;
-  few = omega (arith, ints, fits.wide.1);
-  top = omega (arith, ints, fits.low.0, fits.low.1, fits.wide.1);
-}
-
--- a box that fits lanes is near
-pub near_box : (box : RawBox) → FitsLanes box → IsNearBox box
-near_box box fits = (near_range box.x fits.0, near_range box.y fits.1)
-
--- a distance within an extent is in a lane
-pub reached_lane : (extent z : ℤ) → IsLaneExtent extent → reaches extent z ≡ true → IsInLane z
-reached_lane extent z fits e =
-    let there = (reaches_decides extent z).0 e in
-    (omega (arith, ints, there.0), omega (arith, ints, there.1, fits.1))
+coordinate_fits : (range : RawRange) (k : ℕ) (z d : ℤ) → k ≤ 4 → FitsLane range → IsWithin k z → IsShort d → SFits w64 ((range.minimum +ℤ z) +ℤ d)
+coordinate_fits range k z d few fits w short =
+    has_64_bits ((range.minimum +ℤ z) +ℤ d) (omega (arith, ints, few, fits.low.1, w.low, short.0)) (omega (arith, ints, few, fits.low.0, w.high, short.1))
 
 and_assoc : (a b c : Bool) → (a && b) && c ≡ a && (b && c)
 and_assoc false b c = refl
@@ -65,28 +45,28 @@ module _ (start : Trail) (from : Reading) (box : RawBox) where
   judged : (across up : ℤ) (inside : Bool) → inside && (reaches box.x.extent across && reaches box.y.extent up) ≡ (inside && is_in_box 2 box ((box.x.minimum +ℤ across) ∷ (box.y.minimum +ℤ up) ∷ drop 2 start.last))
   judged across up inside = ap₂ (λ (a b : ℤ). inside && (reaches box.x.extent a && reaches box.y.extent b)) (sym (from_minimum box.x.minimum across)) (sym (from_minimum box.y.minimum up))
 
-  one_more : (k : ℕ) (across up : ℤ) (inside : Bool) (d : ℤ × ℤ) (ds : List (ℤ × ℤ)) (r new : Reading) (i : ℕ) → k ≤ 4 → IsNearBox box → IsWithin k across → IsWithin k up
+  one_more : (k : ℕ) (across up : ℤ) (inside : Bool) (d : ℤ × ℤ) (ds : List (ℤ × ℤ)) (r new : Reading) (i : ℕ) → k ≤ 4 → FitsLanes box → IsWithin k across → IsWithin k up
       → (read : ReadsPairs (d ∷ ds) r new) → IsRunAt across up inside r i
       → IsRunAt (across +ℤ d.0) (up +ℤ d.1) (inside && (reaches box.x.extent (across +ℤ d.0) && reaches box.y.extent (up +ℤ d.1))) read.0 (i + 1)
-  one_more k across up inside d ds r new i few near in_x in_y read run =
+  one_more k across up inside d ds r new i few fits in_x in_y read run =
       flat_goes_on (held_then 2) start (holding box) from (box.x.minimum +ℤ across) (box.y.minimum +ℤ up) d.0 d.1 (box.x.minimum +ℤ (across +ℤ d.0)) (box.y.minimum +ℤ (up +ℤ d.1))
       (record { box = box; inside = inside }) (record { box = box; inside = inside && (reaches box.x.extent (across +ℤ d.0) && reaches box.y.extent (up +ℤ d.1)) })
-      r read.0 i read.1 read.2 (coordinate_fits box.x k across d.0 few near.0 in_x read.3) (coordinate_fits box.y k up d.1 few near.1 in_y read.4)
+      r read.0 i read.1 read.2 (coordinate_fits box.x k across d.0 few fits.0 in_x read.3) (coordinate_fits box.y k up d.1 few fits.1 in_y read.4)
       (omega (arith, ints)) (omega (arith, ints)) (ap (λ (b : Bool). record { box = box; inside = b }) (judged (across +ℤ d.0) (up +ℤ d.1) inside)) run
 
   -- a run goes on by the points of these differences
-  pairs_go_on : (differences : List (ℤ × ℤ)) (k : ℕ) (across up : ℤ) (inside : Bool) (r new : Reading) (i : ℕ) → length differences + k ≤ 4 → IsNearBox box → IsWithin k across → IsWithin k up
+  pairs_go_on : (differences : List (ℤ × ℤ)) (k : ℕ) (across up : ℤ) (inside : Bool) (r new : Reading) (i : ℕ) → length differences + k ≤ 4 → FitsLanes box → IsWithin k across → IsWithin k up
       → ReadsPairs differences r new → IsRunAt across up inside r i
       → IsRunAt (x_after across differences) (y_after up differences) (inside && all_reach box.x.extent box.y.extent across up differences) new (i + length differences)
-  pairs_go_on [] k across up inside r new i few near in_x in_y read run =
+  pairs_go_on [] k across up inside r new i few fits in_x in_y read run =
       subst (λ (q : Reading). IsRunAt across up (inside && true) q (i + 0)) (sym read)
       (subst (λ (n : ℕ). IsRunAt across up (inside && true) r n) (omega arith)
       (subst (λ (b : Bool). IsRunAt across up b r i) (and_true_right inside) run))
-  pairs_go_on (d ∷ ds) k across up inside r new i few near in_x in_y read run =
-      let next = one_more k across up inside d ds r new i (omega (arith, few)) near in_x in_y read run in
+  pairs_go_on (d ∷ ds) k across up inside r new i few fits in_x in_y read run =
+      let next = one_more k across up inside d ds r new i (omega (arith, few)) fits in_x in_y read run in
       let reached : Bool = reaches box.x.extent (across +ℤ d.0) && reaches box.y.extent (up +ℤ d.1) in
       let others : Bool = all_reach box.x.extent box.y.extent (across +ℤ d.0) (up +ℤ d.1) ds in
-      let far = pairs_go_on ds (k + 1) (across +ℤ d.0) (up +ℤ d.1) (inside && reached) read.0 new (i + 1) (omega (arith, few)) near (within_more k across d.0 in_x read.3) (within_more k up d.1 in_y read.4) read.5 next in
+      let far = pairs_go_on ds (k + 1) (across +ℤ d.0) (up +ℤ d.1) (inside && reached) read.0 new (i + 1) (omega (arith, few)) fits (within_more k across d.0 in_x read.3) (within_more k up d.1 in_y read.4) read.5 next in
       subst (λ (n : ℕ). IsRunAt (x_after across (d ∷ ds)) (y_after up (d ∷ ds)) (inside && all_reach box.x.extent box.y.extent across up (d ∷ ds)) new n) (omega arith)
       (subst (λ (b : Bool). IsRunAt (x_after across (d ∷ ds)) (y_after up (d ∷ ds)) b new (i + 1 + length ds)) (and_assoc inside reached others) far)
 
@@ -114,7 +94,7 @@ module _ (start : Trail) (from : Reading) (box : RawBox) where
         → IsRunAt (x_after l.across step.differences) (y_after l.up step.differences) inside new (i + points)
     stepped next inside new points step =
         let ds = step.differences in
-        let far = pairs_go_on ds 0 l.across l.up true r new i (omega (arith, step.many, step.few)) (near_box box fits) (within_none l.across l.in_x) (within_none l.up l.in_y) step.read l.run in
+        let far = pairs_go_on ds 0 l.across l.up true r new i (omega (arith, step.many, step.few)) fits (within_none l.across l.in_x) (within_none l.up l.in_y) step.read l.run in
         subst (λ (n : ℕ). IsRunAt (x_after l.across ds) (y_after l.up ds) inside new (i + n)) step.many
         (subst (λ (b : Bool). IsRunAt (x_after l.across ds) (y_after l.up ds) b new (i + length ds)) (sym step.reached.inside_is) far)
 
@@ -146,9 +126,8 @@ module _ (start : Trail) (from : Reading) (box : RawBox) where
             let both = both_true (reaches box.x.extent (l.across +ℤ a)) (reaches box.y.extent (l.up +ℤ b)) held in
             let in_x = reached_lane box.x.extent (l.across +ℤ a) fits.0.wide both.0 in
             let in_y = reached_lane box.y.extent (l.up +ℤ b) fits.1.wide both.1 in
-            let near = near_box box fits in
-            let x_fits : SFits w64 ((box.x.minimum +ℤ l.across) +ℤ a) = has_64_bits _ (omega (arith, ints, in_x.0, near.0.low)) (omega (arith, ints, in_x.1, near.0.high)) in
-            let y_fits : SFits w64 ((box.y.minimum +ℤ l.up) +ℤ b) = has_64_bits _ (omega (arith, ints, in_y.0, near.1.low)) (omega (arith, ints, in_y.1, near.1.high)) in
+            let x_fits : SFits w64 ((box.x.minimum +ℤ l.across) +ℤ a) = has_64_bits _ (omega (arith, ints, in_x.0, fits.0.low.1)) (omega (arith, ints, in_x.1, fits.0.low.0)) in
+            let y_fits : SFits w64 ((box.y.minimum +ℤ l.up) +ℤ b) = has_64_bits _ (omega (arith, ints, in_y.0, fits.1.low.1)) (omega (arith, ints, in_y.1, fits.1.low.0)) in
             record {
               across = l.across +ℤ a;
               up = l.up +ℤ b;

@@ -96,22 +96,10 @@ fn is_in_further(axes: usize, bounds: &RawBox, point: &[i64; 4]) -> bool
     is_in_axis(2 < axes, &bounds.third, point[2]) && is_in_axis(3 < axes, &bounds.fourth, point[3])
 }
 
-/// Whether the third range and the fourth hold the coordinates of a point, for the axes that it has.
-#[inline(always)]
-fn is_in_others(axes: usize, bounds: &RawBox, point: &[i64; 4]) -> bool
-    ensures { result ≡ is_in_further axes bounds.now point.now }
-{
-    if axes <= 2 {
-        true
-    } else {
-        is_in_further(axes, bounds, point)
-    }
-}
-
 /// Whether a box holds all coordinates of a point that has `axes` axes.
 #[inline(always)]
 fn is_in_box(axes: usize, bounds: &RawBox, point: &[i64; 4]) -> bool
     ensures { result ≡ is_in_box axes bounds.now point.now }
 {
-    is_in_others(axes, bounds, point) && is_in_flat(bounds, point)
+    (axes <= 2 || is_in_further(axes, bounds, point)) && is_in_flat(bounds, point)
 }

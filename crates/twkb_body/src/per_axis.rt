@@ -1,8 +1,7 @@
 //! A number for each axis of a point that has Z or M: differences from the point before, or distances from the minima of a
 //! box. Used by `further_lanes` and `positions`.
 ghost use Rattle.std.specs.Prelude.{◌≡◌};
-ghost use Rattle.twkb_body.specs.Devices.BoxTest.{IsClose, IsMet, IsNearRange, IsNearBox, AreNear};
-ghost use Rattle.twkb_body.specs.Devices.PerAxis.{listed, Each, placed_at};
+ghost use Rattle.twkb_body.specs.Devices.PerAxis.{listed, Each, minima, placed_at, IsIn63};
 
 use twkb_head::RawBox;
 
@@ -35,10 +34,9 @@ impl PerAxis {
 /// How far the coordinates of a point are from the minima of a box.
 #[inline(always)]
 pub fn distances(bounds: &RawBox, point: &PerAxis) -> PerAxis
-    requires bounds { IsNearBox bounds.now }
-    requires near { AreNear bounds.now point.now }
-    ensures placed { point.now ≡ placed_at bounds.now result }
-    ensures close { Each IsClose result }
+    requires minima { Each IsIn63 (minima bounds.now) }
+    requires point { Each IsIn63 point.now }
+    ensures { point.now ≡ placed_at bounds.now result }
 {
     PerAxis {
         x: point.x - bounds.x.minimum,
@@ -51,10 +49,8 @@ pub fn distances(bounds: &RawBox, point: &PerAxis) -> PerAxis
 /// The coordinates at these distances from the minima of a box.
 #[inline(always)]
 pub fn placed(bounds: &RawBox, distances: &PerAxis) -> [i64; 4]
-    requires bounds { IsNearBox bounds.now }
-    requires third { IsNearRange bounds.now.third }
-    requires fourth { IsNearRange bounds.now.fourth }
-    requires met { Each IsMet distances.now }
+    requires minima { Each IsIn63 (minima bounds.now) }
+    requires distances { Each IsIn63 distances.now }
     ensures { result ≡ listed (placed_at bounds.now distances.now) }
 {
     [

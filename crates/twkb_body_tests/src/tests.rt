@@ -23,7 +23,7 @@ mod random_frames;
 mod random_runs;
 mod ranges;
 mod runs;
-mod sized_points;
+mod short_points;
 mod skims;
 mod steps;
 mod tight;

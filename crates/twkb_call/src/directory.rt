@@ -44,7 +44,7 @@ pub fn scan_directory(layer: &Layer, slots: &[Slot], window: &Window, room: &mut
         result.bytes_read ≡ added 0 (sum_by (directory_cost (ranges_of window.now)) trees)) }
 {
     let mut certified = layer.as_certified();
-    let hits = certified.scan_at_into(slots, &window.checked(), room);
+    let hits = certified.scan_at_into(slots, &window.in_units(), room);
     Scanned {
         hits,
         bytes_read: certified.read_count(),

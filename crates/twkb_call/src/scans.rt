@@ -62,7 +62,7 @@ pub fn scan(layer: &Layer, window: &Window, room: &mut [Hit]) -> Scanned
         result.bytes_read ≡ added 0 (sum_by (cost (ranges_of window.now)) trees)) }
 {
     let mut certified = layer.as_certified();
-    let hits = certified.scan_into(&window.checked(), room);
+    let hits = certified.scan_into(&window.in_units(), room);
     Scanned {
         hits,
         bytes_read: certified.read_count(),

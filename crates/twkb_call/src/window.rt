@@ -109,7 +109,7 @@ impl Window {
     }
 
     /// The window in units. An axis without a flag has no range.
-    pub(crate) fn checked(&self) -> twkb_layer::Window
+    pub(crate) fn in_units(&self) -> twkb_layer::Window
         ensures { result ≡ ranges_of self.now }
     {
         let mut window = twkb_layer::Window::new(self.x.span(), self.y.span());

@@ -20,7 +20,7 @@ use crate::kinds::{Kind, kind_at};
 use crate::ranges::{BoxCalled, RangeReader, take_box};
 use crate::raw::{Axes, Fields};
 use crate::refusal::Malformed;
-use twkb_num::Cursor;
+use twkb_num::{Cursor, TYPE_AND_FIELDS};
 
 /// Reads the header at the place, of a geometry at `depth`, where a blob has depth 1.
 ///
@@ -224,7 +224,7 @@ pub fn begun_as(cursor: &Cursor, kind: Kind, fields: u8, first: u8, metadata: u8
     ensures xy { IfSome result (λ begun. IsPrecision begun.xy) }
 {
     let both = u16::from(first) + 256 * u16::from(metadata);
-    if both & 0x1f0f != u16::from(kind.code()) + 256 * u16::from(fields) {
+    if both & TYPE_AND_FIELDS != u16::from(kind.code()) + 256 * u16::from(fields) {
         return None;
     }
     Some(Begun {

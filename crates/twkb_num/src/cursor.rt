@@ -346,3 +346,4 @@ mod runs;
 mod tests;
 
 pub use lanes::{Eight, Four};
+pub use point::TYPE_AND_FIELDS;

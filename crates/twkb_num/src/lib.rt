@@ -38,7 +38,7 @@ mod varint;
 mod vectors;
 mod word;
 
-pub use cursor::{Cursor, Eight, Four};
+pub use cursor::{Cursor, Eight, Four, TYPE_AND_FIELDS};
 pub use scale::{coordinate_of, units};
 pub use signed::{unzigzag, zigzag};
 pub use varint::NumFault;

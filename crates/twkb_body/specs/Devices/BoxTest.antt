@@ -1,11 +1,9 @@
 -- Devices of proofs: nothing public names them.
 -- Whether a box of raw numbers holds points, of which nothing else is asked.
-use Rattle.std.specs.Prelude.{ℕ, ◌+◌, ◌^◌, Bool, true, ◌&&◌, if◌then◌else◌, nat_lt, ℤ, pos, neg_ℤ, ◌+ℤ◌, ◌-ℤ◌, ◌≤ℤ◌, int_le}
+use Rattle.std.specs.Prelude.{ℕ, Bool, true, ◌&&◌, if◌then◌else◌, nat_lt, ℤ, pos, ◌-ℤ◌, int_le}
 use Rattle.twkb_head.specs.Header.{Header, axes_of}
 use Rattle.twkb_head.specs.declared.raw.RawBox.{RawBox}
 use Rattle.twkb_head.specs.declared.raw.RawRange.{RawRange}
-use Rattle.twkb_body.specs.declared.per_axis.PerAxis.{PerAxis}
-use Rattle.twkb_body.specs.Devices.PerAxis.{Each}
 use Rattle.twkb_body.specs.Geometry.{PointValue, coordinate}
 
 -- a distance from a minimum lies within an extent
@@ -44,33 +42,3 @@ held_then axes held point = record { box = held.box; inside = held.inside && is_
 -- `Held` after one more point, which has the axes of a header
 abbrev pub held_with : Header → Held → PointValue → Held
 held_with h = held_then (axes_of h)
-
--- a number near zero
-abbrev pub IsNearZero : ℤ → Type 0
-IsNearZero z = (neg_ℤ (pos (2 ^ 61)) ≤ℤ z) × (z ≤ℤ pos (2 ^ 61))
-
--- a distance between two numbers near zero
-abbrev pub IsClose : ℤ → Type 0
-IsClose z = (neg_ℤ (pos (2 ^ 62)) ≤ℤ z) × (z ≤ℤ pos (2 ^ 62))
-
--- a distance near zero (`IsClose`), plus a short difference
-abbrev pub IsMet : ℤ → Type 0
-IsMet z = (neg_ℤ (pos (2 ^ 62 + 2 ^ 27)) ≤ℤ z) × (z ≤ℤ pos (2 ^ 62 + 2 ^ 27))
-
--- a range whose ends are so near to zero that distances between its coordinates and others as near fit 64 bits
-pub record IsNearRange (range : RawRange) : Type 0 where
-  pub low : neg_ℤ (pos (2 ^ 61)) ≤ℤ range.minimum
-  pub high : range.minimum ≤ℤ pos (2 ^ 61)
-  pub some : pos 0 ≤ℤ range.extent
-  pub few : range.extent ≤ℤ pos (2 ^ 62)
-  pub top : (range.minimum +ℤ range.extent) ≤ℤ pos (2 ^ 61)
-
--- X and Y of a box are such ranges (`IsNearRange`)
-abbrev pub IsNearBox : RawBox → Type 0
-IsNearBox box = IsNearRange box.x × IsNearRange box.y
-
--- the ranges of a box after Y are `IsNearRange`, and the coordinates of a point are near zero
-pub record AreNear (box : RawBox) (point : PerAxis) : Type 0 where
-  pub third : IsNearRange box.third
-  pub fourth : IsNearRange box.fourth
-  pub all : Each IsNearZero point

@@ -23,9 +23,17 @@ pub record Each (P : ℤ → Type 0) (n : PerAxis) : Type 0 where
 abbrev pub plus : PerAxis → PerAxis → PerAxis
 plus a b = record { x = a.x +ℤ b.x; y = a.y +ℤ b.y; third = a.third +ℤ b.third; fourth = a.fourth +ℤ b.fourth }
 
+-- the minima of a box
+abbrev pub minima : RawBox → PerAxis
+minima box = record { x = box.x.minimum; y = box.y.minimum; third = box.third.minimum; fourth = box.fourth.minimum }
+
 -- the numbers at these distances from the minima of a box
 abbrev pub placed_at : RawBox → PerAxis → PerAxis
-placed_at box n = plus (record { x = box.x.minimum; y = box.y.minimum; third = box.third.minimum; fourth = box.fourth.minimum }) n
+placed_at box n = plus (minima box) n
+
+-- a number of 63 bits; the sum and the difference of two of them have 64
+abbrev pub IsIn63 : ℤ → Type 0
+IsIn63 z = (neg_ℤ (pos (2 ^ 62)) ≤ℤ z) × (z <ℤ pos (2 ^ 62))
 
 -- a number of 64 bits
 abbrev pub IsIn64 : ℤ → Type 0

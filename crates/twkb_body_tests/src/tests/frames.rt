@@ -276,29 +276,72 @@ const FAR: [(i64, i64); 9] = [
     (i64::MIN, i64::MIN),
 ];
 
-// Both audits agree with the plain reader on a point in a box, which is in a collection in a box. The boxes have these ranges in X.
+// Puts a header of this many axes, with a box, or for `None` without one. The box has this range in one axis, and only zero in the
+// others.
+fn put_header(
+    out: &mut Vec<u8>,
+    kind: u8,
+    [axes, axis]: [usize; 2],
+    range: Option<(i64, i64)>,
+) -> Result<(), AllocError> {
+    let (extended, bytes): (u8, &[u8]) = match axes {
+        3 => (8, &[0x01]),
+        4 => (8, &[0x03]),
+        _ => (0, &[]),
+    };
+    out.extend_from_slice(&[kind, extended | u8::from(range.is_some())])?;
+    out.extend_from_slice(bytes)?;
+    let Some(range) = range else {
+        return Ok(());
+    };
+    for k in 0..axes {
+        put_bounds(out, &[if k == axis { range } else { (0, 0) }])?;
+    }
+    Ok(())
+}
+
+// Both audits agree with the plain reader on a point in a box or without one, which is in a collection in a box.
 fn far_agrees(
     rt: &impl Abort,
     alloc: Global,
-    (outer, inner): ((i64, i64), (i64, i64)),
-    x: i64,
+    [axes, axis]: [usize; 2],
+    (outer, inner): ((i64, i64), Option<(i64, i64)>),
+    number: i64,
 ) -> Result<(), AllocError> {
-    let mut member = Vec::new(alloc);
-    member.extend_from_slice(&[0x01, 0x01])?;
-    put_bounds(&mut member, &[inner, (0, 0)])?;
-    put(&mut member, x)?;
-    put(&mut member, 0)?;
-    let bytes = collection(alloc, 0x07, &Some([outer, (0, 0)]), None, &[&member])?;
+    let mut bytes = Vec::new(alloc);
+    put_header(&mut bytes, 0x07, [axes, axis], Some(outer))?;
+    bytes.push(1)?;
+    put_header(&mut bytes, 0x01, [axes, axis], inner)?;
+    for k in 0..axes {
+        put(&mut bytes, if k == axis { number } else { 0 })?;
+    }
     both_agree(rt, alloc, &bytes);
     Ok(())
 }
 
+// These boxes and numbers, in one axis.
+fn far_boxes_agree(
+    rt: &impl Abort,
+    alloc: Global,
+    axes: [usize; 2],
+    outer: (i64, i64),
+) -> Result<(), AllocError> {
+    for number in [0, -1, 1 << 62, i64::MIN, i64::MAX] {
+        far_agrees(rt, alloc, axes, (outer, None), number)?;
+        for &inner in &FAR {
+            far_agrees(rt, alloc, axes, (outer, Some(inner)), number)?;
+        }
+    }
+    Ok(())
+}
+
+// Each axis of X and Y, of X, Y and Z, and of all four.
 #[test]
 fn boxes_at_the_ends_of_64_bits(rt: HostRuntime) -> Result<(), Fail> {
-    for &outer in &FAR {
-        for &inner in &FAR {
-            for x in [0, -1, 1 << 62, i64::MIN, i64::MAX] {
-                far_agrees(&rt, rt.alloc(), (outer, inner), x)?;
+    for axes in 2..5usize {
+        for axis in 0..axes {
+            for &outer in &FAR {
+                far_boxes_agree(&rt, rt.alloc(), [axes, axis], outer)?;
             }
         }
     }
