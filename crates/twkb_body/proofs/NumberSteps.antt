@@ -26,20 +26,20 @@ pub fits_in_64 : (z : ℤ) → IsIn64 z → SFits w64 z
 fits_in_64 z h = has_64_bits z h.0 h.1
 
 -- ---- numbers of 63 bits
-few_in_bits : (z : ℤ) → IsIn63 z → to_z w64 (of_z w64 z) ≡ z
-few_in_bits z fits = in_bits z (omega (arith, ints, fits.0), omega (arith, ints, fits.1))
+in_63_in_bits : (z : ℤ) → IsIn63 z → to_z w64 (of_z w64 z) ≡ z
+in_63_in_bits z fits = in_bits z (omega (arith, ints, fits.0), omega (arith, ints, fits.1))
 
--- the distance between two numbers fits 64 bits
+-- the difference of two numbers of 63 bits is exact in 64 bits
 pub distance_is : (a b : ℤ) → IsIn63 a → IsIn63 b → a ≡ b +ℤ to_z w64 (of_z w64 (to_z w64 (of_z w64 a) -ℤ to_z w64 (of_z w64 b)))
-distance_is a b fits fit =
-    let within : IsIn64 (a -ℤ b) = (omega (arith, ints, fits.0, fit.1), omega (arith, ints, fits.1, fit.0)) in
-    let bits : to_z w64 (of_z w64 (to_z w64 (of_z w64 a) -ℤ to_z w64 (of_z w64 b))) ≡ a -ℤ b = rw (few_in_bits a fits, few_in_bits b fit) (in_bits (a -ℤ b) within) in
+distance_is a b a_fits b_fits =
+    let within : IsIn64 (a -ℤ b) = (omega (arith, ints, a_fits.0, b_fits.1), omega (arith, ints, a_fits.1, b_fits.0)) in
+    let bits : to_z w64 (of_z w64 (to_z w64 (of_z w64 a) -ℤ to_z w64 (of_z w64 b))) ≡ a -ℤ b = rw (in_63_in_bits a a_fits, in_63_in_bits b b_fits) (in_bits (a -ℤ b) within) in
     let back : b +ℤ (a -ℤ b) ≡ a = omega (arith, ints) in
     sym (ap (λ (z : ℤ). b +ℤ z) bits ∙ back)
 
--- the number at a distance from another fits 64 bits
-pub place_is : (a b : ℤ) → IsIn63 a → IsIn63 b → to_z w64 (of_z w64 (to_z w64 (of_z w64 a) +ℤ to_z w64 (of_z w64 b))) ≡ a +ℤ b
-place_is a b fits fit = sum_in_bits a b (few_in_bits a fits) (few_in_bits b fit) (omega (arith, ints, fits.0, fit.0), omega (arith, ints, fits.1, fit.1))
+-- the sum of two numbers of 63 bits is exact in 64 bits
+pub sum_is : (a b : ℤ) → IsIn63 a → IsIn63 b → to_z w64 (of_z w64 (to_z w64 (of_z w64 a) +ℤ to_z w64 (of_z w64 b))) ≡ a +ℤ b
+sum_is a b a_fits b_fits = sum_in_bits a b (in_63_in_bits a a_fits) (in_63_in_bits b b_fits) (omega (arith, ints, a_fits.0, b_fits.0), omega (arith, ints, a_fits.1, b_fits.1))
 
 -- the number of points fits 64 bits, since there are no more points than bytes
 pub points_fit : {many done start stop place points : ℕ} → many ≡ done → many + start ≤ stop → points ≤ start → stop ≡ place → place < 2 ^ 64 → Fits w64 (points + done)

@@ -44,8 +44,8 @@ impl LaneReader for FlatLanes {
 
     ghost place = { λ reader. IsFlatPlace };
 
-    /// Reads one point of an odd number and two of an even one, or none. Where numbers are short, steps of four and of two read all
-    /// others.
+    /// Reads one point of an odd number and two of an even one, or none. If their numbers are short, steps of four and of two points
+    /// read all other points.
     #[inline(always)]
     fn take_first(&self, cursor: &mut Cursor, left: u64, at: u32x4, extent: u32x4) -> Step {
         if left % 2 == 1 {

@@ -5,7 +5,7 @@ use Rattle.twkb_head.specs.Head.{span_at}
 use Rattle.twkb_head.specs.Raw.{ends_of, zero_range, raw_bounds}
 use Rattle.twkb_head.specs.Shared.Reader.{Answer, Reader, ◌>>=◌, viewed, range_from}
 use Rattle.twkb_head.specs.Devices.HeadReader.{axis_from, bounds_from, two_ranges_from}
-use Rattle.twkb_head.specs.Devices.Raw.{IsRangeIf, two_ranges_result, bounds_result}
+use Rattle.twkb_head.specs.Devices.Raw.{IsRangeIf, two_ranges_result}
 use Rattle.twkb_head.specs.declared.boxes.Bounds.{Bounds}
 use Rattle.twkb_head.specs.declared.boxes.Span.{Span}
 use Rattle.twkb_head.specs.declared.raw.RawBox.{RawBox}
@@ -43,6 +43,11 @@ module _ (xy : ℤ) (z m : Option ℕ) where
   pub flat_first : (r b : Reading) (both : Result (RawRange × RawRange) Malformed) → two_ranges_from r ≡ (two_ranges_result both, b) → bounds_from xy z m r ≡ box_after xy z m both b
   flat_first r b (Ok both) read = by_two r ∙ ap go_on read
   flat_first r b (Err w) read = by_two r ∙ ap go_on read
+
+-- a box in units, or the fault
+abbrev pub bounds_result : ℤ → Option ℕ → Option ℕ → Result RawBox Malformed → Result Bounds Malformed
+bounds_result xy z m (Ok box) = Ok (raw_bounds xy z m box)
+bounds_result xy z m (Err w) = Err w
 
 -- the ranges of Z and M are two more
 module _ (xy : ℤ) (p q : ℕ) (x y : RawRange) where

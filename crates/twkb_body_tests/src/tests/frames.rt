@@ -276,54 +276,59 @@ const FAR: [(i64, i64); 9] = [
     (i64::MIN, i64::MIN),
 ];
 
-// Puts a header of this many axes, with a box, or for `None` without one. The box has this range in one axis, and only zero in the
-// others.
+// How many axes there are: X, Y, and those that an extended dimensions byte announces.
+fn axes_of(extended: u8) -> usize {
+    2 + usize::from(extended % 2) + usize::from(extended / 2 % 2)
+}
+
+// Puts a header with an extended dimensions byte, unless it is 0, and with a box, if there is a range. The box has this range in the
+// axis of this number, and holds only zero in the others.
 fn put_header(
     out: &mut Vec<u8>,
     kind: u8,
-    [axes, axis]: [usize; 2],
+    (extended, axis): (u8, usize),
     range: Option<(i64, i64)>,
 ) -> Result<(), AllocError> {
-    let (extended, bytes): (u8, &[u8]) = match axes {
-        3 => (8, &[0x01]),
-        4 => (8, &[0x03]),
-        _ => (0, &[]),
-    };
-    out.extend_from_slice(&[kind, extended | u8::from(range.is_some())])?;
-    out.extend_from_slice(bytes)?;
+    let has_box = u8::from(range.is_some());
+    if extended == 0 {
+        out.extend_from_slice(&[kind, has_box])?;
+    } else {
+        out.extend_from_slice(&[kind, has_box | 8, extended])?;
+    }
     let Some(range) = range else {
         return Ok(());
     };
-    for k in 0..axes {
+    for k in 0..axes_of(extended) {
         put_bounds(out, &[if k == axis { range } else { (0, 0) }])?;
     }
     Ok(())
 }
 
-// Both audits agree with the plain reader on a point in a box or without one, which is in a collection in a box.
+// Both audits agree with the plain reader on a point in a box or without one, which is in a collection in a box. The number is the
+// point's coordinate in the axis of the ranges.
 fn far_agrees(
     rt: &impl Abort,
     alloc: Global,
-    [axes, axis]: [usize; 2],
+    (extended, axis): (u8, usize),
     (outer, inner): ((i64, i64), Option<(i64, i64)>),
     number: i64,
 ) -> Result<(), AllocError> {
     let mut bytes = Vec::new(alloc);
-    put_header(&mut bytes, 0x07, [axes, axis], Some(outer))?;
+    put_header(&mut bytes, 0x07, (extended, axis), Some(outer))?;
     bytes.push(1)?;
-    put_header(&mut bytes, 0x01, [axes, axis], inner)?;
-    for k in 0..axes {
+    put_header(&mut bytes, 0x01, (extended, axis), inner)?;
+    for k in 0..axes_of(extended) {
         put(&mut bytes, if k == axis { number } else { 0 })?;
     }
     both_agree(rt, alloc, &bytes);
     Ok(())
 }
 
-// These boxes and numbers, in one axis.
+// They agree on each of five coordinates, in this box of the collection, and in each box of the point or without one.
 fn far_boxes_agree(
     rt: &impl Abort,
     alloc: Global,
-    axes: [usize; 2],
+    axes: (u8, usize),
     outer: (i64, i64),
 ) -> Result<(), AllocError> {
     for number in [0, -1, 1 << 62, i64::MIN, i64::MAX] {
@@ -335,13 +340,13 @@ fn far_boxes_agree(
     Ok(())
 }
 
-// Each axis of X and Y, of X, Y and Z, and of all four.
+// Each axis of X and Y alone, with Z, with M, and with both.
 #[test]
 fn boxes_at_the_ends_of_64_bits(rt: HostRuntime) -> Result<(), Fail> {
-    for axes in 2..5usize {
-        for axis in 0..axes {
+    for extended in 0..4u8 {
+        for axis in 0..axes_of(extended) {
             for &outer in &FAR {
-                far_boxes_agree(&rt, rt.alloc(), [axes, axis], outer)?;
+                far_boxes_agree(&rt, rt.alloc(), (extended, axis), outer)?;
             }
         }
     }

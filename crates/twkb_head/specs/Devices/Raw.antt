@@ -1,6 +1,6 @@
 -- Devices of proofs: nothing public names them.
 -- The fields of a header whose box is raw integers, as they are read.
-use Rattle.std.specs.Prelude.{◌≡◌, ℕ, ℤ, Bool, true, false, Option, Some, is_some, option_map, Result, Ok, Err}
+use Rattle.std.specs.Prelude.{◌≡◌, ℕ, ℤ, Bool, true, false, Option, is_some, option_map, Result, Ok, Err}
 use Rattle.twkb_head.specs.declared.refusal.Malformed.{Malformed}
 use Rattle.twkb_head.specs.declared.raw.RawBox.{RawBox}
 use Rattle.twkb_num.specs.Cursor.{Reading}
@@ -28,11 +28,6 @@ abbrev pub two_ranges_result : Result (RawRange × RawRange) Malformed → Resul
 two_ranges_result (Ok both) = Ok (ends_of both.0, ends_of both.1)
 two_ranges_result (Err m) = Err m
 
--- a box in units, or the fault
-abbrev pub bounds_result : ℤ → Option ℕ → Option ℕ → Result RawBox Malformed → Result Bounds Malformed
-bounds_result xy z m (Ok box) = Ok (raw_bounds xy z m box)
-bounds_result xy z m (Err w) = Err w
-
 -- a box in units, where there is one, or the fault
 abbrev pub bounds_result_if : ℤ → Option ℕ → Option ℕ → Result (Option RawBox) Malformed
     → Result (Option Bounds) Malformed
@@ -48,11 +43,6 @@ head_result (Err m) = Err m
 abbrev pub ReadsIf : Bool → Result RawRange Malformed → Reading → Reading → Type 0
 ReadsIf there (Ok range) old new = IsRangeIf there range old new
 ReadsIf there (Err m) old new = (there ≡ true) × (range_from old ≡ (Err m, new))
-
--- a box of all four axes was read, whatever their precisions, or its fault
-abbrev pub ReadsFullBox : Result RawBox Malformed → Reading → Reading → Type 0
-ReadsFullBox result old new =
-    (xy : ℤ) (z m : ℕ) → bounds_from xy (Some z) (Some m) old ≡ (bounds_result xy (Some z) (Some m) result, new)
 
 -- a box was read if it is announced, whatever the precisions of its axes, or its fault
 abbrev pub ReadsBoxIf : Bool → Bool → Bool → Result (Option RawBox) Malformed → Reading → Reading → Type 0

@@ -6,8 +6,8 @@ ghost use Rattle.twkb_num.specs.Varint.{SpellsMany, EndsOnce};
 use super::Cursor;
 use crate::ends::second_end;
 
-/// The bits of a geometry's first two bytes, as one number with the first byte lowest, that tell its type, and which fields its
-/// header announces (TWKB specification, "Type & Precision" and "Metadata Header").
+/// A mask for the first two bytes of a geometry, as one number whose low byte is the first. It keeps the bits that tell the type, which
+/// fields follow, and whether the geometry is empty (TWKB specification, "Type & Precision" and "Metadata Header").
 pub const TYPE_AND_FIELDS: u16 = 0x1f0f;
 
 /// These bits of a point that has a size, and no other field.

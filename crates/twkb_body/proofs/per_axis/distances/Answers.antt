@@ -7,10 +7,10 @@ returns c =
     let a = c.args.point.now in
     let b = c.args.bounds.now in
     let point = c.requires.point in
-    let low = c.requires.minima in
+    let minima = c.requires.minima in
     λ j. record {
-      x = distance_is a.x b.x.minimum point.x low.x j;
-      y = distance_is a.y b.y.minimum point.y low.y j;
-      third = distance_is a.third b.third.minimum point.third low.third j;
-      fourth = distance_is a.fourth b.fourth.minimum point.fourth low.fourth j;
+      x = distance_is a.x b.x.minimum point.x minima.x j;
+      y = distance_is a.y b.y.minimum point.y minima.y j;
+      third = distance_is a.third b.third.minimum point.third minima.third j;
+      fourth = distance_is a.fourth b.fourth.minimum point.fourth minima.fourth j;
     }
