@@ -40,7 +40,7 @@ impl<'a> Cursor<'a> {
             ahead.pass_short_varints(count * each)?;
             groups += count;
         }
-        *self = ahead;
+        self.place = ahead.place;
         Some(groups)
     }
 
@@ -67,7 +67,7 @@ impl<'a> Cursor<'a> {
             return None;
         }
         let groups = ahead.pass_short_runs(runs, each, most)?;
-        *self = ahead;
+        self.place = ahead.place;
         Some(groups)
     }
 }

@@ -1,8 +1,8 @@
 -- Each turn of the loop passes one more run.
-use Rattle.std.proofs.Common.{ℕ, inr, refl, subst, arith}
-use Rattle.twkb_num.specs.Cursor.{Reading, IsMoved}
+use Rattle.std.proofs.Common.{◌≡◌, ◌-◌, ℕ, inr, refl, ap, sym, subst, arith}
+use Rattle.twkb_num.specs.Cursor.{Reading, added, IsMoved}
 use Rattle.twkb_num.specs.Runs.{PassesRuns, StopsBeforeRun}
-use Rattle.twkb_num.proofs.CursorLemmas.{IsMoved-here, IsMoved-after}
+use Rattle.twkb_num.proofs.CursorLemmas.{IsMoved-here, IsMoved-after, moved_by_place}
 use Rattle.twkb_num.proofs.RunLemmas.{one_run_more}
 use Rattle.twkb_num.proofs.cursor.Cursor.pass_short_runs.Goals as goal
 
@@ -22,14 +22,24 @@ loop-preserved c =
       moved = IsMoved-after _ _ _ (IsMoved-after _ _ _ c.loop.invariant.moved c.in-Ok.ensures.moved) numbers.moved;
     }
 
+-- the cursor is as its copy, since they are at one place
+ends_as_copied : (c : goal.After-self-1) → c.loop.ahead ≡ record { bytes = c.self.inside.bytes.now; place = c.ahead-2.inside.place; count = added c.self.inside.counted_before (c.ahead-2.inside.place - c.self.inside.start) }
+ends_as_copied c =
+    let there : c.ahead-2.inside.place ≡ c.loop.ahead.place = ap (λ (r : Reading). r.place) c.ahead-2.view_is in
+    let inside = c.self.inside in
+    let moved = moved_by_place inside.bytes.now inside.place inside.start inside.counted_before c.loop.ahead c.self.invariant.0 (subst (λ (r : Reading). IsMoved r c.loop.ahead) (sym c.self.view_is) c.loop.invariant.moved) in
+    rw there moved
+
 pub returns-clause-some : goal.returns-clause-some
-returns-clause-some c = subst (λ (n : ℕ). PassesRuns c.args.each n c.args.self.now c.loop.ahead c.loop.groups) (omega arith) c.loop.invariant.runs
+returns-clause-some c =
+    let all = subst (λ (n : ℕ). PassesRuns c.args.each n c.args.self.now c.loop.ahead c.loop.groups) (omega arith) c.loop.invariant.runs in
+    subst (λ (r : Reading). PassesRuns c.args.each c.args.runs c.args.self.now r c.loop.groups) (ends_as_copied c) all
 
 pub returns-clause-few : goal.returns-clause-few
 returns-clause-few c = c.loop.invariant.few
 
 pub returns-clause-moved : goal.returns-clause-moved
-returns-clause-moved c = c.loop.invariant.moved
+returns-clause-moved c = subst (λ (r : Reading). IsMoved c.args.self.now r) (ends_as_copied c) c.loop.invariant.moved
 
 pub returns-in_err-pass_short_varints-clause-told : goal.returns-in_err-pass_short_varints-clause-told
 returns-in_err-pass_short_varints-clause-told c =
