@@ -202,8 +202,7 @@ BORDERS = (
     ("mod a;\npub use a::A;\npub use low::Low;\n", "use low::Low;\n\npub struct A {\n    pub low: Low,\n}\n", []),
     ("mod a;\npub use a::A;\npub use low::Shown;\n", "use low::Shown;\n\npub fn A(a: Shown) {\n}\n", ["Low"]),
 )
-# A line of the output of `rt check`, its exit status and its verdict; and whether the crate then counts as proved, and a wrong body
-# of `size` in src/code/inner.rt as rejected.
+# A line, an exit status and a verdict of `rt check`, and whether they prove the crate and reject a wrong `size` in code/inner.rt.
 CHECKS = (
     ("logic=proved low", 0, "proved", (True, False)),
     ("fn made::code::Bag::size: not proved: goal 1", 1, "not-proved", (False, True)),
@@ -342,8 +341,7 @@ def files_cases():
     numbers = {"src/lib.rt": 3, "src/tests.rt": 1, "src/tests/a.rt": 2, "specs/Plain.antt": 4, "specs/Devices.antt": 1}
     numbers |= {"specs/Shared/A.antt": 4, "proofs/a/A.antt": 2, f"{edits.APART}/a.edit": 3, f"{edits.TWINS}/b.edit": 0}
     texts = {f"crates/made/{path}": "a\n" * number for path, number in numbers.items()}
-    listed = "# A comment.\nmade staticlib: low lower\n\nlow:\n"
-    with made(texts | {"crates.txt": listed, "crates/no.txt": ""}) as top:
+    with made(texts | {"crates.txt": "# A comment.\nmade staticlib: low lower\n\nlow:\n", "crates/no.txt": ""}) as top:
         count("sizes", [sizes.size(top, "made", folder, pattern) for _, folder, pattern in sizes.KINDS], [3, 3, 4, 5, 2, 0, 1, 1])
         count("crates", [name for name, _ in sizes.all_sizes(top)], [*files.CRATES, "made"])
         found = [os.path.basename(path) for path in files.files(top, "made", "src", ".rt")]
