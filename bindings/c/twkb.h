@@ -167,7 +167,7 @@ struct twkb_scanned {
 };
 
 /* Writes a hit for each blob with a vertex inside the window to `hits`, in file order, as many as fit; `room` is how many
- * fit. */
+ * fit. The layer has to be certified first. */
 struct twkb_scanned twkb_scan(const struct twkb_layer *layer, const struct twkb_window *window,
                               struct twkb_hit *hits, size_t room);
 

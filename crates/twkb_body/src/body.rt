@@ -45,7 +45,7 @@ fn enter_boxed_point<V: Visit>(cursor: &mut Cursor, xy: i8, ids: bool, visitor: 
     enter_point(cursor, Axes::flat(xy), ids, visitor)
 }
 
-/// Enters a body of X and Y alone.
+/// Enters a body of X and Y alone. Returns how many members follow: 0 if the geometry is no collection.
 #[inline(always)]
 pub fn enter_flat<V: Visit>(
     cursor: &mut Cursor,
@@ -83,7 +83,7 @@ fn enter_line<V: Visit>(cursor: &mut Cursor, xy: i8, ids: bool, visitor: &mut V)
     enter_body(cursor, Kind::LineString, Axes::flat(xy), ids, visitor)
 }
 
-/// Enters a body of any axes.
+/// Enters a body of any axes. Returns how many members follow: 0 if the geometry is no collection.
 #[inline(never)]
 pub fn enter_deep_body<V: Visit>(
     cursor: &mut Cursor,

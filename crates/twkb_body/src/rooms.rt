@@ -20,7 +20,7 @@ pub trait IdRoom {
 }
 
 /// Room for the ids of one list at a time, which an audit judges: an allocator, or a slice that is lent.
-// Its methods are those of `IdRoom`, which other crates can't name.
+// It has only the methods of `IdRoom`, which other crates can't name.
 pub trait AuditRoom: IdRoom {}
 
 impl<A: Allocator> AuditRoom for &A {}

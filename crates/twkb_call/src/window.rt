@@ -93,7 +93,7 @@ impl Range {
 }
 
 impl Window {
-    /// A window of `twkb_layer`, in numbers of 64 bits.
+    /// A window of `twkb_layer`, with each end of a range as two words of 64 bits: the end is `high` * 2^64 + `low`.
     fn of(window: &twkb_layer::Window) -> Window
         ensures { ranges_of result ≡ window.now }
     {

@@ -16,7 +16,7 @@ pub fn limits_may_be_raised()
     ensures begun { BegunUnderGreater }
 {}
 
-/// Given bytes begin with at most one header, which has one end.
+/// A sequence of bytes begins with at most one header, and this header ends at only one place.
 pub fn headers_are_unique()
     ensures { OneHeader }
 {}

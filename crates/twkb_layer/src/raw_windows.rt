@@ -214,8 +214,9 @@ impl<'w> RawWindows<'w> {
         self.window.misses_in_z_or_m(bounds.z, bounds.m)
     }
 
-    /// Whether a vertex in raw numbers is inside. X and Y are compared in raw numbers, unless one is `i64::MIN` or
-    /// `i64::MAX`.
+    /// Whether a vertex in raw numbers is inside. If X or Y is `i64::MIN` or `i64::MAX`, the vertex is compared in units. Otherwise
+    /// X and Y are compared in raw numbers, and if both are inside and the window has a range in Z or M, the vertex is compared in
+    /// units too.
     #[inline(always)]
     pub fn holds(&self, axes: Axes, point: &[i64; 4]) -> bool
         requires { HavePrecisions axes }

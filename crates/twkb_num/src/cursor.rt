@@ -28,10 +28,10 @@ use std::marker::Model;
 ///
 /// - [`Cursor::pass_varint`]: fewer than eight bytes are left, or the next eight all go on (`told`).
 /// - [`Cursor::pass_pair`]: fewer than eight bytes are left, or at most one of the next eight ends a varint (`told`).
-/// - [`Cursor::pass_short_point`]: fewer than eleven bytes are left, or the first two aren't those of a point with no field or with a
-///   size alone. Without a size, it may also be that at most one of the eight bytes after the first two ends a varint. With a size, it
-///   may be that at most one of the eight after the third does, or that the first two varints there don't take as many bytes as the
-///   third byte says (`told`).
+/// - [`Cursor::pass_short_point`]: fewer than eleven bytes are left, or the first two don't begin a point with no field or with a
+///   size alone. Without a size, it may also be that at most one of the eight bytes after the first two ends a varint. With a size,
+///   it may be that at most one of the eight after the third does, or that the first two varints there don't take as many bytes as
+///   the third byte says (`told`).
 /// - [`Cursor::svarint_pair`] and [`Cursor::svarint_mixed_pair`]: fewer than eight bytes are left, or four in a row of the next
 ///   eight go on (`told`).
 /// - [`Cursor::svarint_pair_and_one`]: fewer than twelve bytes are left, or four in a row of the next twelve go on (`told`).

@@ -68,7 +68,7 @@ fn run_line(rt: &HostRuntime, line: &Line) -> u8
 
 // A message that can't be written to standard error is lost.
 
-/// Says what the host refused, and gives the program's status.
+/// Says that the words can't be read or that the file can't be opened, and gives the program's status.
 fn stopped(rt: &impl Eprint, fault: HostFault) -> u8
     ensures { result ≡ status_of_host fault }
 {

@@ -87,7 +87,7 @@ pub extern "C" fn twkb_span_of_decimals(lo: &[u8], hi: &[u8], span: &mut Range) 
 }
 
 /// Finds the blobs that have a vertex inside the window, and writes them to `room` in file order, as many as fit. Returns how many
-/// there are, and how many bytes were read.
+/// there are, and how many bytes were read. The layer has to be certified first, with `blobs` and `vertices` taken from the verdict.
 #[unsafe(no_mangle)]
 pub extern "C" fn twkb_scan(layer: &Layer, window: &Window, room: &mut [Hit]) -> Scanned
     requires { IsCounted layer.now.bytes.now layer.now.blobs layer.now.vertices }

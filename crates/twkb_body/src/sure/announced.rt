@@ -14,7 +14,7 @@ pub const FLAT_BOX_BITS: u8 = 0x19;
 /// Of these bits, the one of a box.
 pub const BOX: u8 = 1;
 
-/// Of these bits, those of a box and of an extended dimensions byte.
+/// Of these bits, the two for a box and for an extended dimensions byte.
 pub const FURTHER_BOX: u8 = 9;
 
 /// The other two of the lowest five bits, for a size and ids.

@@ -47,8 +47,8 @@ impl<'a> Cursor<'a> {
     /// Moves past a count of runs and that many runs, as [`Cursor::pass_short_runs`] does, or past nothing. Returns how many
     /// groups there were in all.
     ///
-    /// It returns `None` for more than 65,536 runs, too. `None` tells one bit about bytes that aren't
-    /// counted: those of the number of runs, or those about which [`Cursor::pass_short_runs`] tells one.
+    /// It returns `None` for more than 65,536 runs, too. `None` tells one bit about bytes that aren't counted: the bytes of the
+    /// number of runs, or the bytes about which [`Cursor::pass_short_runs`] tells one bit.
     #[inline(always)]
     pub fn pass_counted_runs(&mut self, each: u64, most: u64) -> Option<u64>
         requires each { each ≤ 4 }
