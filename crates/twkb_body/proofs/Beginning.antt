@@ -180,3 +180,7 @@ module _ {S : Type 0} (step : S → Vertex → S) (passes : S → Bounds → Boo
   -- if the box isn't skipped, the body follows
   pub box_behind : passes s (raw_bounds xy None None (flat_box x y)) ≡ false → (axes : Axes) → axes ≡ flat_axes xy → IsBehind (passes s) begun.kind axes false f g depth before
   box_behind stays axes is = flat_behind (passes s) begun g depth before f size x y axes read (is ∙ ap flat_axes fits) (judged false stays)
+
+  -- its size leads to its end
+  pub box_leads : IsSizedEnd g before f size
+  box_leads = sized_end g depth before f (flat_fields begun size x y f.place) size read refl

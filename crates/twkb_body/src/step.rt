@@ -1,6 +1,6 @@
 //! One step of a skim: past the header of a certified geometry, which is then hopped over, read whole or opened.
 //! Used by `headed` and `skimming`.
-ghost use Rattle.std.specs.Prelude.{◌≡◌, ℕ, ◌+◌, ◌<◌, ◌^◌, true, None, IfSome};
+ghost use Rattle.std.specs.Prelude.{◌≡◌, ℕ, ◌+◌, ◌<◌, ◌^◌, true, None, IfSome, option_map};
 ghost use Rattle.twkb_num.specs.Units.{IsPrecision};
 ghost use Rattle.twkb_head.specs.declared.kinds.Kind.TheVariants.{Point};
 ghost use Rattle.twkb_body.specs.Geometry.{Geometry};
@@ -115,9 +115,47 @@ fn enter_sized_point<V: Visit>(cursor: &mut Cursor, begun: Begun, visitor: &mut 
     members
 }
 
-/// Enters a geometry whose header was read.
+/// Enters a geometry whose header was read. If it has a size and no members, the next geometry begins where the size says, as in
+/// [`enter_sized_point`].
 #[inline(always)]
 pub fn enter_headed<V: Visit>(cursor: &mut Cursor, raw: Fields, visitor: &mut V) -> u64
+    requires axes { HavePrecisions raw.axes }
+    requires come { IsThere (HasRead raw cursor.old) }
+    ensures { Enters V.step V.passes (HasRead raw cursor.old)
+        (V.state visitor.old) (V.state visitor.new) cursor.new result }
+{
+    let stop = end_by_size(&raw);
+    let members = enter_after_header(cursor, raw, visitor);
+    go_on_after(cursor, members, stop);
+    members
+}
+
+/// The end that the size of a certified geometry says, if it has a size.
+#[inline(always)]
+fn end_by_size(raw: &Fields) -> Option<usize>
+    requires { IfSome raw.now.size (λ size. size.after + size.value < 2 ^ 64) }
+    ensures { result ≡ option_map (λ size. size.after + size.value) raw.now.size }
+{
+    let size = raw.size?;
+    Some(size.after + size.value as usize)
+}
+
+/// Goes on from the end of a geometry, of which `members` follow. If none does, the place is the end already, and is set to the end
+/// that the size says, which was known earlier ([`Cursor::go_on_from`]).
+#[inline(always)]
+fn go_on_after(cursor: &mut Cursor, members: u64, stop: Option<usize>)
+    requires { members ≡ 0 → IfSome stop (λ stop. stop ≡ cursor.old.place) }
+    ensures { cursor.new ≡ cursor.old }
+{
+    match stop {
+        Some(stop) if members == 0 => cursor.go_on_from(stop),
+        _ => {}
+    }
+}
+
+/// Enters a geometry whose header was read, up to its first member.
+#[inline(always)]
+fn enter_after_header<V: Visit>(cursor: &mut Cursor, raw: Fields, visitor: &mut V) -> u64
     requires axes { HavePrecisions raw.axes }
     requires come { IsThere (HasRead raw cursor.old) }
     ensures { Enters V.step V.passes (HasRead raw cursor.old)
@@ -146,10 +184,9 @@ fn hop<V: Visit>(raw: &Fields, visitor: &V) -> Option<usize>
     requires fits { IfSome raw.now.size (λ size. size.after + size.value < 2 ^ 64) }
     ensures { result ≡ hop_of (V.passes (V.state visitor.now)) (head_said raw.now).size (head_said raw.now).bounds }
 {
-    match (raw.size, &raw.bounds) {
-        (Some(size), Some(bounds)) if skips(visitor, raw.axes, bounds) => {
-            Some(size.after + size.value as usize)
-        }
+    let end = end_by_size(raw)?;
+    match &raw.bounds {
+        Some(bounds) if skips(visitor, raw.axes, bounds) => Some(end),
         _ => None,
     }
 }
@@ -167,7 +204,8 @@ fn skips<V: Visit>(visitor: &V, axes: Axes, b: &RawBox) -> bool
     }
 }
 
-/// Enters a geometry that has a size and a box in X and Y, and no other field.
+/// Enters a geometry that has a size and a box in X and Y, and no other field. If it has no members, the next geometry begins where
+/// the size says, as in [`enter_sized_point`].
 #[inline(always)]
 fn enter_boxed<V: Visit>(cursor: &mut Cursor, begun: Begun, visitor: &mut V) -> u64
     requires xy { IsPrecision begun.xy }
@@ -184,7 +222,9 @@ fn enter_boxed<V: Visit>(cursor: &mut Cursor, begun: Begun, visitor: &mut V) -> 
         cursor.go_to(stop);
         return 0;
     }
-    enter_flat(cursor, begun.kind, Axes::flat(begun.xy), false, visitor)
+    let members = enter_flat(cursor, begun.kind, Axes::flat(begun.xy), false, visitor);
+    go_on_after(cursor, members, Some(stop));
+    members
 }
 
 /// Reads a box in X and Y, and says whether the visitor skips it.

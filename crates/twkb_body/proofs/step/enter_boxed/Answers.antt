@@ -1,9 +1,12 @@
 -- A box that is skipped leads to the geometry's end, and any other to its body.
-use Rattle.std.proofs.Common.{sym, ◌∙◌, arith}
+use Rattle.std.proofs.Common.{◌≡◌, sym, ap, ◌∙◌, arith}
 use Rattle.std.proofs.lemmas.Int.{ints}
 use mir.Val.{to_z, of_z}
 use Rattle.std.specs.Int.{w8}
-use Rattle.twkb_body.proofs.Beginning.{size_stands, size_fits, x_stands, y_stands, box_hop_within, box_hop_enters, box_behind}
+use Rattle.twkb_body.specs.Geometry.{member_count}
+use Rattle.twkb_body.specs.Devices.Skimmed.{Config}
+use Rattle.twkb_body.proofs.Beginning.{size_stands, size_fits, x_stands, y_stands, box_hop_within, box_hop_enters, box_behind, box_leads}
+use Rattle.twkb_body.proofs.Remaining.{none_left}
 use Rattle.twkb_body.proofs.step.enter_boxed.Goals as goal
 
 pub unreachable-requires : goal.unreachable-requires
@@ -37,8 +40,8 @@ returns-then-skips_box g c = λ t depth before come.
     box_hop_enters g.V.Visit.step g.V.Visit.passes (g.V.Visit.state c.args.visitor.now) come c.requires.boxed c.in-Ok.ensures x y read.x_read read.y_read
     (to_z w8 (of_z w8 c.args.begun.xy)) (omega (arith, ints)) (sym is ∙ c.if-skips_box.true) _ c.place.ensures.value g.met.V.Visit.sound _ c.go_to.ensures
 
-pub enter_flat-requires-clause-behind : goal.enter_flat-requires-clause-behind
-enter_flat-requires-clause-behind g c =
+pub enter_flat-members-requires-clause-behind : goal.enter_flat-members-requires-clause-behind
+enter_flat-members-requires-clause-behind g c =
     let (t, depth, before, come) = c.requires.come in
     let (x, y, read, is) = c.skips_box.ensures in (
       t,
@@ -48,8 +51,20 @@ enter_flat-requires-clause-behind g c =
           (to_z w8 (of_z w8 c.args.begun.xy)) (omega (arith, ints)) (sym is ∙ c.if-skips_box.false) _ c.flat.ensures,
     )
 
+pub go_on_after-requires : goal.go_on_after-requires
+go_on_after-requires g c = λ last.
+    let (t, depth, before, come) = c.requires.come in
+    let (x, y, read, is) = c.skips_box.ensures in
+    let xy = to_z w8 (of_z w8 c.args.begun.xy) in
+    let leads = box_leads g.V.Visit.step g.V.Visit.passes (g.V.Visit.state c.args.visitor.now) come c.requires.boxed c.in-Ok.ensures x y read.x_read read.y_read xy (omega (arith, ints)) in
+    let entered = c.enter_flat-members.ensures t depth before (box_behind g.V.Visit.step g.V.Visit.passes (g.V.Visit.state c.args.visitor.now) come c.requires.boxed c.in-Ok.ensures x y read.x_read read.y_read
+    xy (omega (arith, ints)) (sym is ∙ c.if-skips_box.false) _ c.flat.ensures) in
+    let none : member_count entered.below ≡ 0 = sym entered.count ∙ last in
+    let end = ap (λ (d : Config g.V.Visit.State). d.reading.place) (none_left _ _ _ _ none ∙ entered.left) in
+    omega (arith, c.place.ensures.value, leads.stop, end)
+
 pub returns : goal.returns
 returns g c = λ t depth before come.
     let (x, y, read, is) = c.skips_box.ensures in
-    c.enter_flat.ensures t depth before (box_behind g.V.Visit.step g.V.Visit.passes (g.V.Visit.state c.args.visitor.now) come c.requires.boxed c.in-Ok.ensures x y read.x_read read.y_read
-    (to_z w8 (of_z w8 c.args.begun.xy)) (omega (arith, ints)) (sym is ∙ c.if-skips_box.false) _ c.flat.ensures)
+    rw c.go_on_after.ensures (c.enter_flat-members.ensures t depth before (box_behind g.V.Visit.step g.V.Visit.passes (g.V.Visit.state c.args.visitor.now) come c.requires.boxed c.in-Ok.ensures x y read.x_read read.y_read
+    (to_z w8 (of_z w8 c.args.begun.xy)) (omega (arith, ints)) (sym is ∙ c.if-skips_box.false) _ c.flat.ensures))
