@@ -1,5 +1,5 @@
 -- Sums in lanes, in two's complement.
-use Rattle.std.proofs.Common.{◌≡◌, ℕ, ◌+◌, ◌-◌, ◌%◌, List, [], ◌∷◌, map, ◌^◌, ℤ, pos, negsuc, neg_ℤ, ◌+ℤ◌, ◌≤ℤ◌, ◌<ℤ◌, inl, inr, refl, sym, ap, ap₂, ◌∙◌, arith, Fits, w16, w32, Bool, true, false, ◌&&◌, nat_eq, nat_le}
+use Rattle.std.proofs.Common.{◌≡◌, ℕ, ◌+◌, ◌%◌, List, [], ◌∷◌, map, ◌^◌, ℤ, pos, negsuc, neg_ℤ, ◌+ℤ◌, ◌≤ℤ◌, ◌<ℤ◌, inl, inr, refl, sym, ap, ap₂, ◌∙◌, arith, Fits, w16, w32, Bool, true, false, ◌&&◌, nat_eq, nat_le}
 use Rattle.std.proofs.lemmas.Int.{ints, of_z-to_z}
 use Rattle.std.specs.Int.{cast_signed, cast_unsigned}
 use mir.Syntax.{Width}
@@ -36,70 +36,10 @@ four_fits w (n ∷ d) fits = ap₂ (λ (m : ℕ) (ms : List ℕ). m ∷ ms) (of_
 pub lanes_are : (w : Width) (d : List ℕ) (zs : List ℤ) → Each1 (Fits w) d → map (cast_signed w) d ≡ zs → d ≡ map (cast_unsigned w) zs
 lanes_are w d zs fits e = sym (four_fits w d fits) ∙ ap (map (cast_unsigned w)) e
 
--- a lane of 16 bits has the sum of two numbers that two bytes can spell
-sum_16 : (p q : ℤ) → neg_ℤ (pos 16384) ≤ℤ p → p <ℤ pos 16384 → neg_ℤ (pos 16384) ≤ℤ q → q <ℤ pos 16384 → (cast_unsigned w16 p + cast_unsigned w16 q) % 65536 ≡ cast_unsigned w16 (p +ℤ q)
-sum_16 p q h i j k = omega (arith, ints, h, i, j, k)
-
-none_16 : (p : ℤ) → neg_ℤ (pos 32768) ≤ℤ p → p <ℤ pos 32768 → (cast_unsigned w16 p + 0) % 65536 ≡ cast_unsigned w16 p
-none_16 p h i = omega (arith, ints, h, i)
-
 -- a lane of 32 bits holds a distance, or one that wraps around
 wrapped : (z : ℤ) → neg_ℤ (pos 4294967296) ≤ℤ z → ((pos 0 ≤ℤ z) × (pos (cast_unsigned w32 z) ≡ z)) ⊎ ((z <ℤ pos 0) × (pos (cast_unsigned w32 z) ≡ z +ℤ pos 4294967296))
 wrapped (pos n) low = inl (omega (arith, ints), refl)
 wrapped (negsuc n) low = inr (omega (arith, ints), omega (arith, ints, low))
-
--- a lane of 32 bits has the sum of a distance and a lane of 16 bits
-lane_sum : (z x y : ℤ) → neg_ℤ (pos 32768) ≤ℤ z → z <ℤ pos 32768 → IsInLane x → y ≡ x +ℤ z → ((cast_unsigned w16 z + 32768) % 65536 + (cast_unsigned w32 x + (4294967296 - 32768)) % 4294967296) % 4294967296 ≡ cast_unsigned w32 y
-lane_sum z x y h i l e =
-    let value : pos ((cast_unsigned w16 z + 32768) % 65536) ≡ z +ℤ pos 32768 = omega (arith, ints, h, i) in
-    let before = wrapped x (omega (arith, ints, l.0)) in
-    let after = wrapped y (omega (arith, ints, e, h, l.0)) in
-    omega (arith, ints, value, h, i, l.0, l.1, e, before, after)
-
--- the lanes of four points, from the first to the last
-pub first_lane : (a x : ℤ) → IsBrief a → IsInLane x → ((((cast_unsigned w16 a + 0) % 65536 + 0) % 65536 + 32768) % 65536 + (cast_unsigned w32 x + (4294967296 - 32768)) % 4294967296) % 4294967296 ≡ cast_unsigned w32 (x +ℤ a)
-first_lane a x brief l =
-    let one = none_16 a (omega (arith, ints, brief.0)) (omega (arith, ints, brief.1)) in
-    ap (λ (s : ℕ). ((s + 32768) % 65536 + (cast_unsigned w32 x + (4294967296 - 32768)) % 4294967296) % 4294967296) (ap (λ (s : ℕ). (s + 0) % 65536) one ∙ one)
-    ∙ lane_sum a x (x +ℤ a) (omega (arith, ints, brief.0)) (omega (arith, ints, brief.1)) l refl
-
-pub second_lane : (a b x : ℤ) → IsBrief a → IsBrief b → IsInLane x → ((((cast_unsigned w16 b + cast_unsigned w16 a) % 65536 + 0) % 65536 + 32768) % 65536 + (cast_unsigned w32 x + (4294967296 - 32768)) % 4294967296) % 4294967296 ≡ cast_unsigned w32 ((x +ℤ a) +ℤ b)
-second_lane a b x one two l =
-    let both = sum_16 b a (omega (arith, ints, two.0)) (omega (arith, ints, two.1)) (omega (arith, ints, one.0)) (omega (arith, ints, one.1)) in
-    let none = none_16 (b +ℤ a) (omega (arith, ints, one.0, two.0)) (omega (arith, ints, one.1, two.1)) in
-    ap (λ (s : ℕ). ((s + 32768) % 65536 + (cast_unsigned w32 x + (4294967296 - 32768)) % 4294967296) % 4294967296) (ap (λ (s : ℕ). (s + 0) % 65536) both ∙ none)
-    ∙ lane_sum (b +ℤ a) x ((x +ℤ a) +ℤ b) (omega (arith, ints, one.0, two.0)) (omega (arith, ints, one.1, two.1)) l (omega (arith, ints))
-
-pub third_lane : (a b c x : ℤ) → IsBrief a → IsBrief b → IsBrief c → IsInLane x
-    → ((((cast_unsigned w16 c + cast_unsigned w16 b) % 65536 + (cast_unsigned w16 a + 0) % 65536) % 65536 + 32768) % 65536 + (cast_unsigned w32 x + (4294967296 - 32768)) % 4294967296) % 4294967296 ≡ cast_unsigned w32 (((x +ℤ a) +ℤ b) +ℤ c)
-third_lane a b c x one two three l =
-    let both = sum_16 c b (omega (arith, ints, three.0)) (omega (arith, ints, three.1)) (omega (arith, ints, two.0)) (omega (arith, ints, two.1)) in
-    let none = none_16 a (omega (arith, ints, one.0)) (omega (arith, ints, one.1)) in
-    let all = sum_16 (c +ℤ b) a (omega (arith, ints, two.0, three.0)) (omega (arith, ints, two.1, three.1)) (omega (arith, ints, one.0)) (omega (arith, ints, one.1)) in
-    ap (λ (s : ℕ). ((s + 32768) % 65536 + (cast_unsigned w32 x + (4294967296 - 32768)) % 4294967296) % 4294967296) (ap₂ (λ (s t : ℕ). (s + t) % 65536) both none ∙ all)
-    ∙ lane_sum ((c +ℤ b) +ℤ a) x (((x +ℤ a) +ℤ b) +ℤ c) (omega (arith, ints, one.0, two.0, three.0)) (omega (arith, ints, one.1, two.1, three.1)) l (omega (arith, ints))
-
-pub fourth_lane : (a b c d x : ℤ) → IsBrief a → IsBrief b → IsBrief c → IsBrief d → IsInLane x
-    → ((((cast_unsigned w16 d + cast_unsigned w16 c) % 65536 + (cast_unsigned w16 b + cast_unsigned w16 a) % 65536) % 65536 + 32768) % 65536 + (cast_unsigned w32 x + (4294967296 - 32768)) % 4294967296) % 4294967296 ≡ cast_unsigned w32 ((((x +ℤ a) +ℤ b) +ℤ c) +ℤ d)
-fourth_lane a b c d x one two three four l =
-    let front = sum_16 b a (omega (arith, ints, two.0)) (omega (arith, ints, two.1)) (omega (arith, ints, one.0)) (omega (arith, ints, one.1)) in
-    let back = sum_16 d c (omega (arith, ints, four.0)) (omega (arith, ints, four.1)) (omega (arith, ints, three.0)) (omega (arith, ints, three.1)) in
-    let all : (cast_unsigned w16 (d +ℤ c) + cast_unsigned w16 (b +ℤ a)) % 65536 ≡ cast_unsigned w16 ((d +ℤ c) +ℤ (b +ℤ a)) = omega (arith, ints, one.0, one.1, two.0, two.1, three.0, three.1, four.0, four.1) in
-    ap (λ (s : ℕ). ((s + 32768) % 65536 + (cast_unsigned w32 x + (4294967296 - 32768)) % 4294967296) % 4294967296) (ap₂ (λ (s t : ℕ). (s + t) % 65536) back front ∙ all)
-    ∙ lane_sum ((d +ℤ c) +ℤ (b +ℤ a)) x ((((x +ℤ a) +ℤ b) +ℤ c) +ℤ d) (omega (arith, ints, one.0, two.0, three.0, four.0)) (omega (arith, ints, one.1, two.1, three.1, four.1)) l (omega (arith, ints))
-
--- the lanes of two points of four axes, from the first to the last
-pub first_of_two : (a x : ℤ) → IsBrief a → IsInLane x → (((cast_unsigned w16 a + 0) % 65536 + 32768) % 65536 + (cast_unsigned w32 x + (4294967296 - 32768)) % 4294967296) % 4294967296 ≡ cast_unsigned w32 (x +ℤ a)
-first_of_two a x brief l =
-    let none = none_16 a (omega (arith, ints, brief.0)) (omega (arith, ints, brief.1)) in
-    ap (λ (s : ℕ). ((s + 32768) % 65536 + (cast_unsigned w32 x + (4294967296 - 32768)) % 4294967296) % 4294967296) none
-    ∙ lane_sum a x (x +ℤ a) (omega (arith, ints, brief.0)) (omega (arith, ints, brief.1)) l refl
-
-pub second_of_two : (a b x : ℤ) → IsBrief a → IsBrief b → IsInLane x → (((cast_unsigned w16 b + cast_unsigned w16 a) % 65536 + 32768) % 65536 + (cast_unsigned w32 x + (4294967296 - 32768)) % 4294967296) % 4294967296 ≡ cast_unsigned w32 ((x +ℤ a) +ℤ b)
-second_of_two a b x one two l =
-    let both = sum_16 b a (omega (arith, ints, two.0)) (omega (arith, ints, two.1)) (omega (arith, ints, one.0)) (omega (arith, ints, one.1)) in
-    ap (λ (s : ℕ). ((s + 32768) % 65536 + (cast_unsigned w32 x + (4294967296 - 32768)) % 4294967296) % 4294967296) both
-    ∙ lane_sum (b +ℤ a) x ((x +ℤ a) +ℤ b) (omega (arith, ints, one.0, two.0)) (omega (arith, ints, one.1, two.1)) l (omega (arith, ints))
 
 -- the lanes of one point
 pub one_lane : (a x : ℤ) → IsShort a → IsInLane x → (cast_unsigned w32 a + cast_unsigned w32 x) % 4294967296 ≡ cast_unsigned w32 (x +ℤ a)
@@ -108,6 +48,29 @@ one_lane a x short l =
     let before = wrapped x (omega (arith, ints, l.0)) in
     let after = wrapped (x +ℤ a) (omega (arith, ints, short.0, l.0)) in
     omega (arith, ints, short.0, short.1, l.0, l.1, more, before, after)
+
+-- a lane of 32 bits has the sum of a distance and a lane of 16 bits, widened with its sign, which has the sum of two numbers
+widened_sum : (p q x y : ℤ) → (neg_ℤ (pos 16384) ≤ℤ p) × (p <ℤ pos 16384) → (neg_ℤ (pos 16384) ≤ℤ q) × (q <ℤ pos 16384) → IsInLane x → y ≡ x +ℤ (p +ℤ q)
+    → (cast_unsigned w32 (cast_signed w16 ((cast_unsigned w16 p + cast_unsigned w16 q) % 65536)) + cast_unsigned w32 x) % 4294967296 ≡ cast_unsigned w32 y
+widened_sum p q x y f g l e =
+    let sum : (cast_unsigned w16 p + cast_unsigned w16 q) % 65536 ≡ cast_unsigned w16 (p +ℤ q) = omega (arith, ints, f.0, f.1, g.0, g.1) in
+    let back : cast_signed w16 (cast_unsigned w16 (p +ℤ q)) ≡ p +ℤ q = omega (arith, ints, f.0, f.1, g.0, g.1) in
+    rw (sum, back, e) (one_lane (p +ℤ q) x (omega (arith, ints, f.0, g.0), omega (arith, ints, f.1, g.1)) l)
+
+-- the numbers are differences of at most two bytes
+pub sum_of_two : (a b x y : ℤ) → IsBrief a → IsBrief b → IsInLane x → y ≡ (x +ℤ a) +ℤ b
+    → (cast_unsigned w32 (cast_signed w16 ((cast_unsigned w16 b + cast_unsigned w16 a) % 65536)) + cast_unsigned w32 x) % 4294967296 ≡ cast_unsigned w32 y
+sum_of_two a b x y one two l e =
+    widened_sum b a x y (omega (arith, ints, two.0), omega (arith, ints, two.1)) (omega (arith, ints, one.0), omega (arith, ints, one.1)) l (omega (arith, ints, e))
+
+-- the numbers are sums of two such differences
+pub sum_of_four : (a b c d x y : ℤ) → IsBrief a → IsBrief b → IsBrief c → IsBrief d → IsInLane x → y ≡ (((x +ℤ a) +ℤ b) +ℤ c) +ℤ d
+    → (cast_unsigned w32 (cast_signed w16 (((cast_unsigned w16 d + cast_unsigned w16 c) % 65536 + (cast_unsigned w16 b + cast_unsigned w16 a) % 65536) % 65536)) + cast_unsigned w32 x) % 4294967296 ≡ cast_unsigned w32 y
+sum_of_four a b c d x y one two three four l e =
+    let front : (cast_unsigned w16 b + cast_unsigned w16 a) % 65536 ≡ cast_unsigned w16 (b +ℤ a) = omega (arith, ints, one.0, one.1, two.0, two.1) in
+    let back : (cast_unsigned w16 d + cast_unsigned w16 c) % 65536 ≡ cast_unsigned w16 (d +ℤ c) = omega (arith, ints, three.0, three.1, four.0, four.1) in
+    rw (front, back)
+    (widened_sum (d +ℤ c) (b +ℤ a) x y (omega (arith, ints, three.0, four.0), omega (arith, ints, three.1, four.1)) (omega (arith, ints, one.0, two.0), omega (arith, ints, one.1, two.1)) l (omega (arith, ints, e)))
 
 -- the lanes of two points
 pub first_wide : (a x : ℤ) → IsShort a → IsInLane x → ((cast_unsigned w32 a + 0) % 4294967296 + cast_unsigned w32 x) % 4294967296 ≡ cast_unsigned w32 (x +ℤ a)

@@ -96,9 +96,9 @@ pub fn four_more(differences: u16x8, at: u32x4, extent: u32x4) -> Reached
     ensures { All IsBrief (map (cast_signed w16) differences) → FromLanes at extent (λ x y w h.
         HaveReached w h x y (pairs_of (map (cast_signed w16) differences)) result.at result.inside) }
 {
-    let sums = biased(with_half_before(with_pair_before(differences)));
-    let first = unbiased_sum(first_half(sums), at);
-    let second = unbiased_sum(second_half(sums), at);
+    let sums = with_half_before(with_pair_before(differences));
+    let first = summed(widened(sums.extract::<0, 4>()), at);
+    let second = summed(widened(sums.extract::<4, 4>()), at);
     Reached {
         at: last_twice(second),
         inside: are_within(greater(first, second), extent),
@@ -138,9 +138,9 @@ pub fn two_further(differences: u16x8, at: u32x4, extent: u32x4) -> Reached
     ensures { All IsBrief (map (cast_signed w16) differences) → FromFourLanes at extent (λ apart e.
         HaveGone e apart (fours_of (pairs_of (map (cast_signed w16) differences))) result.at result.inside) }
 {
-    let sums = biased(with_half_before(differences));
-    let near = unbiased_sum(first_half(sums), at);
-    let far = unbiased_sum(second_half(sums), at);
+    let sums = with_half_before(differences);
+    let near = summed(widened(sums.extract::<0, 4>()), at);
+    let far = summed(widened(sums.extract::<4, 4>()), at);
     Reached {
         at: far,
         inside: are_within(greater(near, far), extent),
@@ -250,42 +250,12 @@ fn with_half_before(d: u16x8) -> u16x8
     d + d.shuffle(u16x8::splat(0), [8, 9, 10, 11, 0, 1, 2, 3])
 }
 
-/// Adds 2^15 to each lane, so that signed sums become numbers without sign, in the same order.
+/// Lanes, widened with their signs. The compiler makes one instruction of the three steps.
 #[inline(always)]
-fn biased(d: u16x8) -> u16x8
-    ensures { (a b c d' e f g h : ℕ) → d ≡ a ∷ b ∷ c ∷ d' ∷ e ∷ f ∷ g ∷ h ∷ []
-        → result ≡ ((a + 32768) % 65536) ∷ ((b + 32768) % 65536) ∷ ((c + 32768) % 65536) ∷ ((d' + 32768) % 65536)
-        ∷ ((e + 32768) % 65536) ∷ ((f + 32768) % 65536) ∷ ((g + 32768) % 65536) ∷ ((h + 32768) % 65536) ∷ [] }
+fn widened(d: u16x4) -> u32x4
+    ensures { result ≡ map (λ n. cast_unsigned w32 (cast_signed w16 n)) d }
 {
-    d + u16x8::splat(0x8000)
-}
-
-/// The first four lanes, widened.
-#[inline(always)]
-fn first_half(d: u16x8) -> u32x4
-    ensures { (a b c d' e f g h : ℕ) → d ≡ a ∷ b ∷ c ∷ d' ∷ e ∷ f ∷ g ∷ h ∷ [] → result ≡ a ∷ b ∷ c ∷ d' ∷ [] }
-{
-    d.extract::<0, 4>().cast::<u32>()
-}
-
-/// The last four lanes, widened.
-#[inline(always)]
-fn second_half(d: u16x8) -> u32x4
-    ensures { (a b c d' e f g h : ℕ) → d ≡ a ∷ b ∷ c ∷ d' ∷ e ∷ f ∷ g ∷ h ∷ [] → result ≡ e ∷ f ∷ g ∷ h ∷ [] }
-{
-    d.extract::<4, 4>().cast::<u32>()
-}
-
-/// The sums of lanes, less 2^15.
-#[inline(always)]
-fn unbiased_sum(d: u32x4, at: u32x4) -> u32x4
-    ensures { (a b c d' w x y z : ℕ) → d ≡ a ∷ b ∷ c ∷ d' ∷ [] → at ≡ w ∷ x ∷ y ∷ z ∷ []
-        → result ≡ ((a + (w + (4294967296 - 32768)) % 4294967296) % 4294967296)
-        ∷ ((b + (x + (4294967296 - 32768)) % 4294967296) % 4294967296)
-        ∷ ((c + (y + (4294967296 - 32768)) % 4294967296) % 4294967296)
-        ∷ ((d' + (z + (4294967296 - 32768)) % 4294967296) % 4294967296) ∷ [] }
-{
-    d + (at - u32x4::splat(0x8000))
+    (d + u16x4::splat(0x8000)).cast::<u32>() - u32x4::splat(0x8000)
 }
 
 /// The greater of each two lanes.

@@ -1,10 +1,11 @@
-use Rattle.std.proofs.Common.{rules, ◌≡◌, ◌&&◌, [], ◌∷◌, subst, ◌∙◌, w16, w32, arith, pos}
+use Rattle.std.proofs.Common.{rules, ℕ, List, map, ap, ◌++◌, ◌≡◌, ◌&&◌, [], ◌∷◌, subst, refl, ◌∙◌, w16, w32, arith, pos}
 use Rattle.std.proofs.lemmas.Int.{ints}
-use Rattle.std.specs.Int.{cast_unsigned}
+use Rattle.std.specs.Int.{cast_signed, cast_unsigned}
+use lib.Lanes.{pick_l}
 use Rattle.std.specs.Prelude.{◌+ℤ◌, All}
 use Rattle.twkb_num.specs.Varint.{IsBrief}
 use Rattle.twkb_body.specs.Devices.BoxTest.{reaches}
-use Rattle.twkb_body.proofs.LaneSums.{IsMetInLane, lanes_are, first_lane, second_lane, third_lane, fourth_lane, lane_reaches, greater_within, each_of_four}
+use Rattle.twkb_body.proofs.LaneSums.{IsMetInLane, lanes_are, sum_of_four, lane_reaches, greater_within, each_of_four}
 use Rattle.twkb_body.proofs.QuadReads.{eight_of}
 use Rattle.twkb_body.proofs.positions.four_more.Goals as goal
 
@@ -21,19 +22,21 @@ returns k short x y w h at extent x_in y_in w_fits h_fits =
     let a4_short : IsBrief a4 = all 6 (pos 0) (omega arith) in
     let b4_short : IsBrief b4 = all 7 (pos 0) (omega arith) in
     let more = lanes_are w16 k.args.differences (a1 ∷ b1 ∷ a2 ∷ b2 ∷ a3 ∷ b3 ∷ a4 ∷ b4 ∷ []) k.fits-differences.1 means in
-    let sums = k.biased-sums.ensures _ _ _ _ _ _ _ _ (k.with_half_before.ensures _ _ _ _ _ _ _ _ (k.with_pair_before.ensures _ _ _ _ _ _ _ _ more)) in
-    let x1 = first_lane a1 x a1_short x_in in
-    let y1 = first_lane b1 y b1_short y_in in
-    let x2 = second_lane a1 a2 x a1_short a2_short x_in in
-    let y2 = second_lane b1 b2 y b1_short b2_short y_in in
-    let x3 = third_lane a1 a2 a3 x a1_short a2_short a3_short x_in in
-    let y3 = third_lane b1 b2 b3 y b1_short b2_short b3_short y_in in
-    let x4 = fourth_lane a1 a2 a3 a4 x a1_short a2_short a3_short a4_short x_in in
-    let y4 = fourth_lane b1 b2 b3 b4 y b1_short b2_short b3_short b4_short y_in in
-    let first : k.unbiased_sum-first.result ≡ cast_unsigned w32 (x +ℤ a1) ∷ cast_unsigned w32 (y +ℤ b1) ∷ cast_unsigned w32 ((x +ℤ a1) +ℤ a2) ∷ cast_unsigned w32 ((y +ℤ b1) +ℤ b2) ∷ []
-    = k.unbiased_sum-first.ensures _ _ _ _ _ _ _ _ (k.first_half.ensures _ _ _ _ _ _ _ _ sums) at ∙ (λ j. x1 j ∷ y1 j ∷ x2 j ∷ y2 j ∷ []) in
-    let second : k.unbiased_sum-second.result ≡ cast_unsigned w32 (((x +ℤ a1) +ℤ a2) +ℤ a3) ∷ cast_unsigned w32 (((y +ℤ b1) +ℤ b2) +ℤ b3) ∷ cast_unsigned w32 ((((x +ℤ a1) +ℤ a2) +ℤ a3) +ℤ a4) ∷ cast_unsigned w32 ((((y +ℤ b1) +ℤ b2) +ℤ b3) +ℤ b4) ∷ []
-    = k.unbiased_sum-second.ensures _ _ _ _ _ _ _ _ (k.second_half.ensures _ _ _ _ _ _ _ _ sums) at ∙ (λ j. x3 j ∷ y3 j ∷ x4 j ∷ y4 j ∷ []) in
+    let sums = k.with_half_before-sums.ensures _ _ _ _ _ _ _ _ (k.with_pair_before.ensures _ _ _ _ _ _ _ _ more) in
+    let widen = λ (ks : List ℕ). ap (λ (s : List ℕ). map (λ (n : ℕ). cast_unsigned w32 (cast_signed w16 n)) (pick_l 0 (s ++ s) ks)) sums in
+    let none : IsBrief (pos 0) = (omega (arith, ints), omega (arith, ints)) in
+    let x1 = sum_of_four (pos 0) (pos 0) (pos 0) a1 x (x +ℤ a1) none none none a1_short x_in (omega (arith, ints)) in
+    let y1 = sum_of_four (pos 0) (pos 0) (pos 0) b1 y (y +ℤ b1) none none none b1_short y_in (omega (arith, ints)) in
+    let x2 = sum_of_four (pos 0) (pos 0) a1 a2 x ((x +ℤ a1) +ℤ a2) none none a1_short a2_short x_in (omega (arith, ints)) in
+    let y2 = sum_of_four (pos 0) (pos 0) b1 b2 y ((y +ℤ b1) +ℤ b2) none none b1_short b2_short y_in (omega (arith, ints)) in
+    let x3 = sum_of_four (pos 0) a1 a2 a3 x (((x +ℤ a1) +ℤ a2) +ℤ a3) none a1_short a2_short a3_short x_in (omega (arith, ints)) in
+    let y3 = sum_of_four (pos 0) b1 b2 b3 y (((y +ℤ b1) +ℤ b2) +ℤ b3) none b1_short b2_short b3_short y_in (omega (arith, ints)) in
+    let x4 = sum_of_four a1 a2 a3 a4 x ((((x +ℤ a1) +ℤ a2) +ℤ a3) +ℤ a4) a1_short a2_short a3_short a4_short x_in refl in
+    let y4 = sum_of_four b1 b2 b3 b4 y ((((y +ℤ b1) +ℤ b2) +ℤ b3) +ℤ b4) b1_short b2_short b3_short b4_short y_in refl in
+    let first : k.summed-first.result ≡ cast_unsigned w32 (x +ℤ a1) ∷ cast_unsigned w32 (y +ℤ b1) ∷ cast_unsigned w32 ((x +ℤ a1) +ℤ a2) ∷ cast_unsigned w32 ((y +ℤ b1) +ℤ b2) ∷ []
+    = k.summed-first.ensures _ _ _ _ _ _ _ _ (k.widened.ensures ∙ widen (0 ∷ 1 ∷ 2 ∷ 3 ∷ [])) at ∙ (λ j. x1 j ∷ y1 j ∷ x2 j ∷ y2 j ∷ []) in
+    let second : k.summed-second.result ≡ cast_unsigned w32 (((x +ℤ a1) +ℤ a2) +ℤ a3) ∷ cast_unsigned w32 (((y +ℤ b1) +ℤ b2) +ℤ b3) ∷ cast_unsigned w32 ((((x +ℤ a1) +ℤ a2) +ℤ a3) +ℤ a4) ∷ cast_unsigned w32 ((((y +ℤ b1) +ℤ b2) +ℤ b3) +ℤ b4) ∷ []
+    = k.summed-second.ensures _ _ _ _ _ _ _ _ (k.widened-2.ensures ∙ widen (4 ∷ 5 ∷ 6 ∷ 7 ∷ [])) at ∙ (λ j. x3 j ∷ y3 j ∷ x4 j ∷ y4 j ∷ []) in
     let x1_met : IsMetInLane (x +ℤ a1) = (omega (arith, ints, x_in.0, a1_short.0), omega (arith, ints, x_in.1, a1_short.1)) in
     let y1_met : IsMetInLane (y +ℤ b1) = (omega (arith, ints, y_in.0, b1_short.0), omega (arith, ints, y_in.1, b1_short.1)) in
     let x2_met : IsMetInLane ((x +ℤ a1) +ℤ a2) = (omega (arith, ints, x_in.0, a1_short.0, a2_short.0), omega (arith, ints, x_in.1, a1_short.1, a2_short.1)) in

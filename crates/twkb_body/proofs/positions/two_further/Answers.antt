@@ -1,7 +1,8 @@
 -- The sums are the points' distances, and one comparison without signs tells whether the extents hold both.
-use Rattle.std.proofs.Common.{rules, ◌≡◌, ◌&&◌, ◌++◌, [], ◌∷◌, ◌∙◌, subst, arith, pos, w16, w32}
+use Rattle.std.proofs.Common.{rules, ℕ, List, map, ap, ◌++◌, ◌≡◌, ◌&&◌, [], ◌∷◌, ◌∙◌, subst, refl, arith, pos, w16, w32}
 use Rattle.std.proofs.lemmas.Int.{ints}
-use Rattle.std.specs.Int.{cast_unsigned}
+use Rattle.std.specs.Int.{cast_signed, cast_unsigned}
+use lib.Lanes.{pick_l}
 use Rattle.std.specs.Prelude.{ℤ, ◌+ℤ◌, All}
 use Rattle.twkb_num.specs.Varint.{IsBrief}
 use Rattle.twkb_body.specs.declared.per_axis.PerAxis.{PerAxis}
@@ -9,7 +10,7 @@ use Rattle.twkb_body.specs.Devices.BoxTest.{reaches}
 use Rattle.twkb_body.specs.Devices.FurtherLanes.{four_lanes}
 use Rattle.twkb_body.specs.Devices.PerAxis.{listed, plus}
 use Rattle.twkb_body.specs.Devices.Quads.{IsInLane}
-use Rattle.twkb_body.proofs.LaneSums.{IsMetInLane, lanes_are, first_of_two, second_of_two, lane_reaches, greater_within, each_of_two}
+use Rattle.twkb_body.proofs.LaneSums.{IsMetInLane, lanes_are, sum_of_two, lane_reaches, greater_within, each_of_two}
 use Rattle.twkb_body.proofs.QuadReads.{eight_of}
 use Rattle.twkb_body.proofs.positions.two_further.Goals as goal
 
@@ -34,17 +35,19 @@ returns c brief apart e at extent in_lanes wide =
     let qz : IsBrief q.third = all 6 (pos 0) (omega arith) in
     let qm : IsBrief q.fourth = all 7 (pos 0) (omega arith) in
     let more = lanes_are w16 c.args.differences (listed p ++ listed q) c.fits-differences.1 means in
-    let sums = c.biased-sums.ensures _ _ _ _ _ _ _ _ (c.with_half_before.ensures _ _ _ _ _ _ _ _ more) in
-    let x1 = first_of_two p.x apart.x px in_lanes.x in
-    let y1 = first_of_two p.y apart.y py in_lanes.y in
-    let z1 = first_of_two p.third apart.third pz in_lanes.third in
-    let m1 = first_of_two p.fourth apart.fourth pm in_lanes.fourth in
-    let x2 = second_of_two p.x q.x apart.x px qx in_lanes.x in
-    let y2 = second_of_two p.y q.y apart.y py qy in_lanes.y in
-    let z2 = second_of_two p.third q.third apart.third pz qz in_lanes.third in
-    let m2 = second_of_two p.fourth q.fourth apart.fourth pm qm in_lanes.fourth in
-    let first : c.unbiased_sum-near.result ≡ four_lanes (plus apart p) = c.unbiased_sum-near.ensures _ _ _ _ _ _ _ _ (c.first_half.ensures _ _ _ _ _ _ _ _ sums) at ∙ (λ j. x1 j ∷ y1 j ∷ z1 j ∷ m1 j ∷ []) in
-    let second : c.unbiased_sum-far.result ≡ four_lanes (plus (plus apart p) q) = c.unbiased_sum-far.ensures _ _ _ _ _ _ _ _ (c.second_half.ensures _ _ _ _ _ _ _ _ sums) at ∙ (λ j. x2 j ∷ y2 j ∷ z2 j ∷ m2 j ∷ []) in
+    let sums = c.with_half_before-sums.ensures _ _ _ _ _ _ _ _ more in
+    let widen = λ (ks : List ℕ). ap (λ (s : List ℕ). map (λ (n : ℕ). cast_unsigned w32 (cast_signed w16 n)) (pick_l 0 (s ++ s) ks)) sums in
+    let none : IsBrief (pos 0) = (omega (arith, ints), omega (arith, ints)) in
+    let x1 = sum_of_two (pos 0) p.x apart.x (apart.x +ℤ p.x) none px in_lanes.x (omega (arith, ints)) in
+    let y1 = sum_of_two (pos 0) p.y apart.y (apart.y +ℤ p.y) none py in_lanes.y (omega (arith, ints)) in
+    let z1 = sum_of_two (pos 0) p.third apart.third (apart.third +ℤ p.third) none pz in_lanes.third (omega (arith, ints)) in
+    let m1 = sum_of_two (pos 0) p.fourth apart.fourth (apart.fourth +ℤ p.fourth) none pm in_lanes.fourth (omega (arith, ints)) in
+    let x2 = sum_of_two p.x q.x apart.x ((apart.x +ℤ p.x) +ℤ q.x) px qx in_lanes.x refl in
+    let y2 = sum_of_two p.y q.y apart.y ((apart.y +ℤ p.y) +ℤ q.y) py qy in_lanes.y refl in
+    let z2 = sum_of_two p.third q.third apart.third ((apart.third +ℤ p.third) +ℤ q.third) pz qz in_lanes.third refl in
+    let m2 = sum_of_two p.fourth q.fourth apart.fourth ((apart.fourth +ℤ p.fourth) +ℤ q.fourth) pm qm in_lanes.fourth refl in
+    let first : c.summed-near.result ≡ four_lanes (plus apart p) = c.summed-near.ensures _ _ _ _ _ _ _ _ (c.widened.ensures ∙ widen (0 ∷ 1 ∷ 2 ∷ 3 ∷ [])) at ∙ (λ j. x1 j ∷ y1 j ∷ z1 j ∷ m1 j ∷ []) in
+    let second : c.summed-far.result ≡ four_lanes (plus (plus apart p) q) = c.summed-far.ensures _ _ _ _ _ _ _ _ (c.widened-2.ensures ∙ widen (4 ∷ 5 ∷ 6 ∷ 7 ∷ [])) at ∙ (λ j. x2 j ∷ y2 j ∷ z2 j ∷ m2 j ∷ []) in
     let rx1 = lane_reaches e.x (apart.x +ℤ p.x) wide.x (one_met apart.x p.x in_lanes.x px) in
     let ry1 = lane_reaches e.y (apart.y +ℤ p.y) wide.y (one_met apart.y p.y in_lanes.y py) in
     let rz1 = lane_reaches e.third (apart.third +ℤ p.third) wide.third (one_met apart.third p.third in_lanes.third pz) in

@@ -1,5 +1,0 @@
-use Rattle.std.proofs.Common.{refl}
-use Rattle.twkb_body.proofs.positions.first_half.Goals as goal
-
-pub returns : goal.returns
-returns k a b c d' e f g h is = rw is refl
