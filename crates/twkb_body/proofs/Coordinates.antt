@@ -1,5 +1,5 @@
 -- Points as sums, coordinate by coordinate: the loop over axes.
-use Rattle.std.proofs.Common.{◌≡◌, ℕ, zero, suc, ◌+◌, ◌<◌, ◌≤◌, true, cond, List, [], ◌∷◌, ◌++◌, length, drop, set, map, slice_index_or, ℤ, pos, ◌+ℤ◌, Option, Some, None, is_some, option_map, Result, Ok, Err, refl, sym, ap, ap₂, subst, ◌∙◌, arith, length-append}
+use Rattle.std.proofs.Common.{◌≡◌, ℕ, zero, suc, ◌+◌, ◌<◌, ◌≤◌, Bool, true, false, cond, List, [], ◌∷◌, ◌++◌, length, drop, set, map, slice_index_or, ℤ, pos, ◌+ℤ◌, Option, Some, None, is_some, option_map, Result, Ok, Err, refl, sym, ap, ap₂, subst, ◌∙◌, arith, length-append}
 use Rattle.std.proofs.lemmas.Int.{ints}
 use Rattle.twkb_num.specs.Cursor.{Reading, rest}
 use Rattle.twkb_num.specs.Units.{units_of}
@@ -7,13 +7,15 @@ use Rattle.twkb_num.specs.Varint.{zigzag_value, sum_of_groups}
 use Rattle.twkb_head.specs.declared.boxes.Vertex.{Vertex}
 use Rattle.twkb_head.specs.declared.refusal.Malformed.{Malformed}
 use Rattle.twkb_head.specs.declared.refusal.Why.{Why}
+use Rattle.twkb_head.specs.declared.refusal.Why.TheVariants.{Range}
 use Rattle.twkb_head.specs.BegunHeader.{coordinate_field, IsField}
 use Rattle.twkb_head.specs.Header.{Header, axes_with, axes_of}
 use Rattle.twkb_head.specs.Head.{m_axis}
-use Rattle.twkb_head.specs.Shared.Plan.{coordinate as coordinate_request, cut_field, judge, done}
-use Rattle.twkb_head.specs.Shared.Reader.{Answer, read_judged, read_field, read, coordinate_at, Fails}
+use Rattle.twkb_head.specs.Shared.Plan.{coordinate as coordinate_request, cut_field, fits, judge, done}
+use Rattle.twkb_head.specs.Shared.Reader.{Answer, read_judged, read_field, read, signed_at, coordinate_at, Fails}
 use Rattle.twkb_head.proofs.FieldCuts.{field_takes}
-use Rattle.twkb_head.proofs.Readings.{ok_not_err}
+use Rattle.twkb_head.proofs.Readings.{ok_not_err, one_answer}
+use Rattle.twkb_head.proofs.Steps.{coordinate_no_signed, coordinate_ok, coordinate_refused}
 use Rattle.twkb_head.proofs.Loops.{IsLoop, loop_goes_on, loop_fails, loop_ends}
 use Rattle.twkb_body.specs.declared.trail.Trail.{Trail}
 use Rattle.twkb_body.specs.Geometry.{PointValue, coordinate, vertex_of}
@@ -49,6 +51,20 @@ coordinate_ahead before z r new e = go (cut_field coordinate_field (rest r)) ref
         → read_field {A = ℤ} (coordinate_request before) c (λ (field : List ℕ). read (done (zigzag_value (sum_of_groups 0 field)))) r ≡ (Ok z, new) → r.place < new.place
     go (Ok x) cut e = whole x (field_takes coordinate_field (rest r) x cut).1 (judge (coordinate_request before) x.0) e
     go (Err w) cut e = absurd (ok_not_err z _ new _ (sym e))
+
+-- a coordinate that is read is a signed number that is read
+pub signed_back : (before : ℤ) (r stop : Reading) (z : ℤ) → coordinate_at before r ≡ (Ok z, stop) → signed_at r ≡ (Ok z, stop)
+signed_back before r stop z e = go (signed_at r) refl
+  where
+    fitting : (n : ℤ) (q : Reading) → signed_at r ≡ (Ok n, q) → (f : Bool) → fits (before +ℤ n) ≡ f → signed_at r ≡ (Ok z, stop)
+    fitting n q is true fit =
+        let same = one_answer (coordinate_at before r) n z q stop (coordinate_ok before r q n fit is) e in
+        is ∙ ap₂ (λ (m : ℤ) (s : Reading). (Ok m, s)) same.0 same.1
+    fitting n q is false fit = absurd (ok_not_err z _ stop _ (sym e ∙ coordinate_refused before r q n (record { offset = r.place; why = Range }) (record q { place = r.place }) fit refl refl refl is))
+
+    go : (a : Answer ℤ) → signed_at r ≡ a → signed_at r ≡ (Ok z, stop)
+    go (Err m, q) is = absurd (ok_not_err z m stop q (sym e ∙ coordinate_no_signed before r q m is))
+    go (Ok n, q) is = fitting n q is (fits (before +ℤ n)) refl
 
 -- the first of the coordinates from i on is the coordinate at i
 pub first_of-drop : (s : PointValue) (i : ℕ) → first_of (drop i s) ≡ slice_index_or s i (pos 0)

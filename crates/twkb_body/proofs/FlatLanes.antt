@@ -3,11 +3,8 @@ use Rattle.std.proofs.Common.{◌≡◌, ℕ, ◌+◌, ◌≤◌, Bool, true, fa
 use Rattle.std.proofs.lemmas.Int.{ints}
 use Rattle.twkb_num.specs.Cursor.{Reading}
 use Rattle.twkb_head.specs.declared.raw.RawBox.{RawBox}
-use Rattle.twkb_head.specs.declared.refusal.Why.TheVariants.{Range}
-use Rattle.twkb_head.specs.Shared.Plan.{fits}
 use Rattle.twkb_head.specs.Shared.Reader.{Answer, ◌>>=◌, viewed, signed_at, coordinate_at, many_at}
-use Rattle.twkb_head.proofs.Readings.{ok_not_err, one_answer}
-use Rattle.twkb_head.proofs.Steps.{coordinate_no_signed, coordinate_ok, coordinate_refused}
+use Rattle.twkb_head.proofs.Readings.{ok_not_err}
 use Rattle.twkb_body.specs.declared.positions.Reached.{Reached}
 use Rattle.twkb_body.specs.declared.positions.Step.{Step}
 use Rattle.twkb_body.specs.declared.trail.Trail.{Trail}
@@ -18,25 +15,12 @@ use Rattle.twkb_body.specs.Devices.BoxTest.{reaches, held_then}
 use Rattle.twkb_body.specs.Devices.LaneTrail.{holding, LeavesBox, PointsLeave, IsHeldRun, IsLaneStep, IsFlatPlace}
 use Rattle.twkb_body.specs.Devices.Quads.{FromLanes, IsQuadStep, StepsInLanes, IsFarStep}
 use Rattle.twkb_body.specs.Devices.Walk.{lasts_from}
+use Rattle.twkb_body.proofs.Coordinates.{signed_back}
 use Rattle.twkb_body.proofs.FlatRuns.{flat_begins}
 use Rattle.twkb_body.proofs.LaneRuns.{run_leaves, next_leaves}
 use Rattle.twkb_body.proofs.QuadRuns.{IsLaneRun, step_inside, step_outside, far_inside}
 use Rattle.twkb_body.proofs.RefutedBodies.{viewed_back}
 use Rattle.twkb_body.proofs.Walks.{one_point}
-
--- a coordinate that is read is a signed number that is read
-signed_back : (before : ℤ) (r stop : Reading) (z : ℤ) → coordinate_at before r ≡ (Ok z, stop) → signed_at r ≡ (Ok z, stop)
-signed_back before r stop z e = go (signed_at r) refl
-  where
-    fitting : (n : ℤ) (q : Reading) → signed_at r ≡ (Ok n, q) → (f : Bool) → fits (before +ℤ n) ≡ f → signed_at r ≡ (Ok z, stop)
-    fitting n q is true fit =
-        let same = one_answer (coordinate_at before r) n z q stop (coordinate_ok before r q n fit is) e in
-        is ∙ ap₂ (λ (m : ℤ) (s : Reading). (Ok m, s)) same.0 same.1
-    fitting n q is false fit = absurd (ok_not_err z _ stop _ (sym e ∙ coordinate_refused before r q n (record { offset = r.place; why = Range }) (record q { place = r.place }) fit refl refl refl is))
-
-    go : (a : Answer ℤ) → signed_at r ≡ a → signed_at r ≡ (Ok z, stop)
-    go (Err m, q) is = absurd (ok_not_err z m stop q (sym e ∙ coordinate_no_signed before r q m is))
-    go (Ok n, q) is = fitting n q is (fits (before +ℤ n)) refl
 
 -- a point of two axes that is read is two signed numbers that are read
 record IsPair (x y : ℤ) (r stop : Reading) (p : PointValue) : Type 0 where

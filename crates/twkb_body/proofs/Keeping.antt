@@ -22,7 +22,7 @@ keeps_then : {A B : Type 0} (a : Answer A) (k : A → Reader B) → ((x : A) →
 keeps_then (Ok x, r) k each = each x r
 keeps_then (Err m, r) k each = refl
 
-keeps_viewed : {A B : Type 0} (f : A → B) (a : Answer A) → (viewed f a).1.bytes ≡ a.1.bytes
+pub keeps_viewed : {A B : Type 0} (f : A → B) (a : Answer A) → (viewed f a).1.bytes ≡ a.1.bytes
 keeps_viewed f (Ok x, r) = refl
 keeps_viewed f (Err m, r) = refl
 
@@ -64,6 +64,9 @@ keeps_many (suc n) after f s each r =
     keeps_then (f s r) (λ x q. viewed (λ xs. x ∷ xs) (many_at n after f (after s x) q)) (λ x q. keeps_viewed (λ xs. x ∷ xs) (many_at n after f (after s x) q) ∙ keeps_many n after f (after s x) each q)
     ∙ each s r
 
+pub keeps_signeds : (n : ℕ) → Keeps (signeds_at n)
+keeps_signeds n = keeps_many n (λ (s z : ℤ). s) (λ (s : ℤ). signed_at) (pos 0) (λ s. keeps_signed)
+
 -- ---- bodies
 pub keeps_point : (axes : ℕ) (s : PointValue) → Keeps (point_at axes s)
 keeps_point axes s = keeps_many axes (λ (s : PointValue) (z : ℤ). behind s) (λ s. coordinate_at (first_of s)) s (λ s. keeps_coordinate (first_of s))
@@ -94,7 +97,7 @@ unfolding list_at
 keeps_list ids r =
     keeps_then (spanned r (number_at r)) (λ n a. viewed (λ list. (n, list)) (spanned a (optional_at ids (signeds_at n.0) a)))
     (λ n a. keeps_viewed (λ list. (n, list)) (spanned a (optional_at ids (signeds_at n.0) a)) ∙ keeps_spanned a (optional_at ids (signeds_at n.0) a)
-    ∙ keeps_optional ids (signeds_at n.0) (keeps_many n.0 (λ (s z : ℤ). s) (λ (s : ℤ). signed_at) (pos 0) (λ s. keeps_signed)) a)
+    ∙ keeps_optional ids (signeds_at n.0) (keeps_signeds n.0) a)
     ∙ keeps_spanned r (number_at r) ∙ keeps_number r
 
 pub keeps_count : (multi ids : Bool) → Keeps (count_at multi ids)

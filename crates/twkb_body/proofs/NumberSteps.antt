@@ -1,94 +1,132 @@
--- Numbers of 64 bits, axis by axis, and reading a point of them.
-use Rattle.std.proofs.Common.{◌≡◌, ℕ, suc, ◌+◌, ◌^◌, true, false, [], ◌∷◌, ℤ, pos, ◌+ℤ◌, ◌-ℤ◌, ◌<◌, ◌≤◌, Ok, refl, sym, ap, ◌∙◌, arith}
+-- Reading a point of three axes or four, by the differences of its numbers.
+use Rattle.std.proofs.Common.{◌≡◌, ℕ, zero, suc, ◌+◌, ◌≤◌, ◌^◌, Bool, true, false, List, [], ◌∷◌, length, ℤ, pos, ◌+ℤ◌, ◌<◌, Ok, Err, refl, sym, ap, subst, ◌∙◌, arith}
 use Rattle.std.proofs.lemmas.Int.{ints}
-use mir.Val.{to_z, of_z, SFits, Fits}
+use mir.Val.{SFits, Fits}
 use Rattle.std.specs.Int.{w64}
 use Rattle.twkb_num.specs.Cursor.{Reading, passed, IsMoved}
-use Rattle.twkb_num.specs.Varint.{IsSigned, SpellsTwoSigned, IsShort}
-use Rattle.twkb_head.specs.Shared.Reader.{Answer, ◌>>=◌, viewed, many_at, coordinate_at}
+use Rattle.twkb_num.specs.Varint.{IsSigned, SpellsTwoSigned}
+use Rattle.twkb_head.specs.Shared.Reader.{Answer, ◌>>=◌, viewed, signed_at, coordinate_at, signeds_at}
+use Rattle.twkb_head.proofs.Readings.{ok_not_err}
 use Rattle.twkb_head.proofs.Steps.{read_signed, coordinate_ok, fits_true}
-use Rattle.twkb_body.specs.Devices.Body.{first_of, behind}
-use Rattle.twkb_body.specs.Devices.BodyReader.{point_at}
+use Rattle.twkb_body.specs.declared.per_axis.PerAxis.{PerAxis}
 use Rattle.twkb_body.specs.Geometry.{PointValue}
-use Rattle.twkb_body.specs.Devices.PerAxis.{IsIn63, IsIn64, AreDifferences}
-use Rattle.twkb_body.proofs.Coordinates.{coordinate_ahead}
-use Rattle.twkb_body.proofs.FlatRuns.{has_64_bits, two_coordinates}
-use Rattle.twkb_body.proofs.PairReads.{pair_read}
-
--- ---- numbers of 64 bits lose nothing in 64 bits
-pub in_bits : (z : ℤ) → IsIn64 z → to_z w64 (of_z w64 z) ≡ z
-in_bits z h = omega (arith, ints, h.0, h.1)
-
-pub sum_in_bits : (a b : ℤ) → to_z w64 (of_z w64 a) ≡ a → to_z w64 (of_z w64 b) ≡ b → IsIn64 (a +ℤ b) → to_z w64 (of_z w64 (to_z w64 (of_z w64 a) +ℤ to_z w64 (of_z w64 b))) ≡ a +ℤ b
-sum_in_bits a b a_is b_is h = rw (a_is, b_is) (in_bits (a +ℤ b) h)
-
-pub fits_in_64 : (z : ℤ) → IsIn64 z → SFits w64 z
-fits_in_64 z h = has_64_bits z h.0 h.1
-
--- ---- numbers of 63 bits
-in_63_in_bits : (z : ℤ) → IsIn63 z → to_z w64 (of_z w64 z) ≡ z
-in_63_in_bits z fits = in_bits z (omega (arith, ints, fits.0), omega (arith, ints, fits.1))
-
--- the difference of two numbers of 63 bits is exact in 64 bits
-pub distance_is : (a b : ℤ) → IsIn63 a → IsIn63 b → a ≡ b +ℤ to_z w64 (of_z w64 (to_z w64 (of_z w64 a) -ℤ to_z w64 (of_z w64 b)))
-distance_is a b a_fits b_fits =
-    let within : IsIn64 (a -ℤ b) = (omega (arith, ints, a_fits.0, b_fits.1), omega (arith, ints, a_fits.1, b_fits.0)) in
-    let bits : to_z w64 (of_z w64 (to_z w64 (of_z w64 a) -ℤ to_z w64 (of_z w64 b))) ≡ a -ℤ b = rw (in_63_in_bits a a_fits, in_63_in_bits b b_fits) (in_bits (a -ℤ b) within) in
-    let back : b +ℤ (a -ℤ b) ≡ a = omega (arith, ints) in
-    sym (ap (λ (z : ℤ). b +ℤ z) bits ∙ back)
-
--- the sum of two numbers of 63 bits is exact in 64 bits
-pub sum_is : (a b : ℤ) → IsIn63 a → IsIn63 b → to_z w64 (of_z w64 (to_z w64 (of_z w64 a) +ℤ to_z w64 (of_z w64 b))) ≡ a +ℤ b
-sum_is a b a_fits b_fits = sum_in_bits a b (in_63_in_bits a a_fits) (in_63_in_bits b b_fits) (omega (arith, ints, a_fits.0, b_fits.0), omega (arith, ints, a_fits.1, b_fits.1))
+use Rattle.twkb_body.specs.Devices.Body.{first_of, behind, add}
+use Rattle.twkb_body.specs.Devices.BodyReader.{point_at}
+use Rattle.twkb_body.specs.Devices.PerAxis.{listed, Each, plus, axes_by, by_axis, differences_at}
+use Rattle.twkb_body.proofs.Coordinates.{coordinate_ahead, signed_back}
+use Rattle.twkb_body.proofs.PairReads.{pair_signed}
+use Rattle.twkb_body.proofs.PointAxes.{all_read, point_has}
+use Rattle.twkb_body.proofs.RefutedBodies.{viewed_back}
 
 -- the number of points fits 64 bits, since there are no more points than bytes
 pub points_fit : {many done start stop place points : ℕ} → many ≡ done → many + start ≤ stop → points ≤ start → stop ≡ place → place < 2 ^ 64 → Fits w64 (points + done)
 points_fit {many} {done} {start} {stop} {place} {points} is ahead counted at fits = record { fits = omega (arith, is, ahead, counted, at, fits) }
 
--- ---- a point of four numbers
--- a point's coordinates after the first two
-then_coordinates : (n : ℕ) (x y x_more y_more : ℤ) (others mores : PointValue) (r middle next new : Reading) → coordinate_at x r ≡ (Ok x_more, middle) → coordinate_at y middle ≡ (Ok y_more, next) → point_at n others next ≡ (Ok mores, new)
-    → point_at (suc (suc n)) (x ∷ y ∷ others) r ≡ (Ok (x_more ∷ y_more ∷ mores), new)
-then_coordinates n x y x_more y_more others mores r middle next new first second rest =
-    ap (λ (a : Answer ℤ). a >>= λ c q. viewed (λ cs. c ∷ cs) (coordinate_at y q >>= λ d q. viewed (λ cs. d ∷ cs) (point_at n others q))) first
-    ∙ ap (λ (a : Answer ℤ). viewed (λ cs. x_more ∷ cs) (a >>= λ d q. viewed (λ cs. d ∷ cs) (point_at n others q))) second
-    ∙ ap (λ (a : Answer PointValue). viewed (λ cs. x_more ∷ cs) (viewed (λ cs. y_more ∷ cs) a)) rest
+-- ---- numbers, one after another
+-- a number is read before others
+then_signed : (n : ℕ) (z : ℤ) (r mid : Reading) (others : Answer (List ℤ)) → signed_at r ≡ (Ok z, mid) → signeds_at n mid ≡ others → signeds_at (suc n) r ≡ viewed (λ zs. z ∷ zs) others
+then_signed n z r mid others one e = ap (λ (a : Answer ℤ). a >>= λ x q. viewed (λ xs. x ∷ xs) (signeds_at n q)) one ∙ ap (viewed (λ zs. z ∷ zs)) e
 
--- a short number added to zero is one of 64 bits
-pub from_zero : (z : ℤ) → IsShort z → IsIn64 (pos 0 +ℤ z)
-from_zero z short = (omega (arith, ints, short.0), omega (arith, ints, short.1))
-
--- ---- the numbers of a point, from the varints that were read
-pub four_read : (x y third fourth : ℤ) (old middle new : Reading) → SpellsTwoSigned (passed old middle) x y → IsShort x × IsShort y → IsMoved old middle
-    → SpellsTwoSigned (passed middle new) third fourth → IsShort third × IsShort fourth → IsMoved middle new → AreDifferences true (record { x = x; y = y; third = third; fourth = fourth }) old new
-four_read x y third fourth old middle new first first_short first_moved second second_short second_moved = record {
-  read = λ last fit.
-      let a = pair_read last.x last.y x y old middle first first_moved (fits_in_64 _ fit.x) (fits_in_64 _ fit.y) in
-      let b = pair_read last.third last.fourth third fourth middle new second second_moved (fits_in_64 _ fit.third) (fits_in_64 _ fit.fourth) in
-      then_coordinates 2 last.x last.y x y (last.third ∷ last.fourth ∷ []) (third ∷ fourth ∷ []) old a.0 middle new a.1 a.2 (two_coordinates last.third last.fourth third fourth [] middle b.0 new b.1 b.2);
-  short = record { x = first_short.0; y = first_short.1; third = second_short.0; fourth = second_short.1 };
-  absent = λ e. cc;
-  ahead =
-      let a = pair_read (pos 0) (pos 0) x y old middle first first_moved (fits_in_64 _ (from_zero x first_short.0)) (fits_in_64 _ (from_zero y first_short.1)) in
-      let b = pair_read (pos 0) (pos 0) third fourth middle new second second_moved (fits_in_64 _ (from_zero third second_short.0)) (fits_in_64 _ (from_zero fourth second_short.1)) in
-      omega (arith, coordinate_ahead _ _ _ _ a.1, coordinate_ahead _ _ _ _ a.2, coordinate_ahead _ _ _ _ b.1, coordinate_ahead _ _ _ _ b.2);
-}
-
-pub three_read : (x y third : ℤ) (old middle new : Reading) → SpellsTwoSigned (passed old middle) x y → IsShort x × IsShort y → IsMoved old middle → IsSigned third (passed middle new) → IsShort third → IsMoved middle new
-    → AreDifferences false (record { x = x; y = y; third = third; fourth = pos 0 }) old new
-three_read x y third old middle new first first_short first_moved second second_short second_moved = record {
-  read = λ last fit.
-      let a = pair_read last.x last.y x y old middle first first_moved (fits_in_64 _ fit.x) (fits_in_64 _ fit.y) in
-      then_coordinates 1 last.x last.y x y (last.third ∷ last.fourth ∷ []) (third ∷ []) old a.0 middle new a.1 a.2 (one_more last.third last.fourth (single last.third fit.third));
-  short = record { x = first_short.0; y = first_short.1; third = second_short; fourth = (omega (arith, ints), omega (arith, ints)) };
-  absent = λ e. refl;
-  ahead =
-      let a = pair_read (pos 0) (pos 0) x y old middle first first_moved (fits_in_64 _ (from_zero x first_short.0)) (fits_in_64 _ (from_zero y first_short.1)) in
-      omega (arith, coordinate_ahead _ _ _ _ a.1, coordinate_ahead _ _ _ _ a.2, coordinate_ahead _ _ _ _ (single (pos 0) (from_zero third second_short)));
-}
+-- a point that is read is numbers that are read
+point_signeds : (n : ℕ) (s : PointValue) (r new : Reading) (zs : List ℤ) → point_at n s r ≡ (Ok zs, new) → signeds_at n r ≡ (Ok zs, new)
+point_signeds zero s r new zs e = e
+point_signeds (suc n) s r new zs e = go (point_signeds n (behind s)) (coordinate_at (first_of s) r) refl e
   where
-    single : (before : ℤ) → IsIn64 (before +ℤ third) → coordinate_at before middle ≡ (Ok third, new)
-    single before fit = coordinate_ok before middle new third (fits_true (before +ℤ third) (fits_in_64 _ fit)) (read_signed middle new third second second_moved)
+    go : ((q t : Reading) (ys : List ℤ) → point_at n (behind s) q ≡ (Ok ys, t) → signeds_at n q ≡ (Ok ys, t)) → (a : Answer ℤ) → coordinate_at (first_of s) r ≡ a
+        → (a >>= λ x q. viewed (λ xs. x ∷ xs) (point_at n (behind s) q)) ≡ (Ok zs, new) → signeds_at (suc n) r ≡ (Ok zs, new)
+    go more (Err m, q) one e = absurd (ok_not_err zs m new q (sym e))
+    go more (Ok z, q) one e =
+        let b = viewed_back (λ xs. z ∷ xs) (point_at n (behind s) q) zs new e in
+        then_signed n z r q (Ok b.0, new) (signed_back (first_of s) r q z one) (more q new b.0 b.1) ∙ ap (λ (ys : List ℤ). (Ok ys, new)) b.2
 
-    one_more : (c d : ℤ) → coordinate_at c middle ≡ (Ok third, new) → point_at 1 (c ∷ d ∷ []) middle ≡ (Ok (third ∷ []), new)
-    one_more c d e = ap (λ (a : Answer ℤ). a >>= λ z q. viewed (λ cs. z ∷ cs) (many_at 0 (λ (s : PointValue) (z : ℤ). behind s) (λ s. coordinate_at (first_of s)) (d ∷ []) q)) e
+-- the sums of coordinates and numbers fit 64 bits
+abbrev SumsFit : PointValue → List ℤ → Type 0
+SumsFit s [] = Unit {0}
+SumsFit s (z ∷ zs) = SFits w64 (first_of s +ℤ z) × SumsFit (behind s) zs
+
+-- numbers that are read are a point, if the sums fit
+signeds_point : (n : ℕ) (s : PointValue) (r new : Reading) (zs : List ℤ) → signeds_at n r ≡ (Ok zs, new) → SumsFit s zs → (point_at n s r ≡ (Ok zs, new)) × (n + r.place ≤ new.place)
+signeds_point zero s r new zs e fit = let at : r.place ≡ new.place = ap (λ (a : Answer (List ℤ)). a.1.place) e in (e, omega (arith, at))
+signeds_point (suc n) s r new zs e fit = go (signeds_point n (behind s)) (signed_at r) refl e
+  where
+    go : ((q t : Reading) (ys : List ℤ) → signeds_at n q ≡ (Ok ys, t) → SumsFit (behind s) ys → (point_at n (behind s) q ≡ (Ok ys, t)) × (n + q.place ≤ t.place)) → (a : Answer ℤ) → signed_at r ≡ a
+        → (a >>= λ x q. viewed (λ xs. x ∷ xs) (signeds_at n q)) ≡ (Ok zs, new) → (point_at (suc n) s r ≡ (Ok zs, new)) × (suc n + r.place ≤ new.place)
+    go more (Err m, q) one e = absurd (ok_not_err zs m new q (sym e))
+    go more (Ok z, q) one e =
+        let b = viewed_back (λ xs. z ∷ xs) (signeds_at n q) zs new e in
+        let fits = subst (SumsFit s) (sym b.2) fit in
+        let first = coordinate_ok (first_of s) r q z (fits_true (first_of s +ℤ z) fits.0) one in
+        let others = more q new b.0 b.1 fits.1 in (
+          ap (λ (a : Answer ℤ). a >>= λ x q. viewed (λ xs. x ∷ xs) (point_at n (behind s) q)) first ∙ ap (viewed (λ xs. z ∷ xs)) others.0 ∙ ap (λ (ys : List ℤ). (Ok ys, new)) b.2,
+          omega (arith, coordinate_ahead (first_of s) z r q first, others.1),
+        )
+
+-- ---- the differences of a point
+-- what adding numbers axis by axis means
+record AreByAxis (s : PerAxis) (zs : List ℤ) : Type 0 where
+  pub added : listed (plus s (by_axis zs)) ≡ add (listed s) zs
+  pub fit : Each (SFits w64) (plus s (by_axis zs)) → SumsFit (listed s) zs
+  pub absent : length zs ≡ 3 → (by_axis zs).fourth ≡ pos 0
+
+three_or_four : (s : PerAxis) (zs : List ℤ) (has_fourth : Bool) → length zs ≡ axes_by has_fourth → AreByAxis s zs
+three_or_four s (a ∷ b ∷ c ∷ []) has_fourth many = record {
+  added = let none : s.fourth +ℤ pos 0 ≡ s.fourth = omega (arith, ints) in λ j. (s.x +ℤ a) ∷ (s.y +ℤ b) ∷ (s.third +ℤ c) ∷ none j ∷ [];
+  fit = λ f. (f.x, (f.y, (f.third, tt)));
+  absent = λ three. refl;
+}
+three_or_four s (a ∷ b ∷ c ∷ d ∷ []) has_fourth many = record { added = refl; fit = λ f. (f.x, (f.y, (f.third, (f.fourth, tt)))); absent = λ three. absurd (omega (arith, three)) }
+three_or_four s zs true many = absurd (omega (arith, many))
+three_or_four s zs false many = absurd (omega (arith, many))
+
+-- if the differences of a point can be read, there are as many as axes
+by_axis_back : (has_fourth : Bool) (more : PerAxis) (r stop : Reading) → differences_at has_fourth r ≡ (Ok more, stop)
+    → (zs : List ℤ) × (signeds_at (axes_by has_fourth) r ≡ (Ok zs, stop)) × (by_axis zs ≡ more) × (length zs ≡ axes_by has_fourth)
+by_axis_back has_fourth more r stop e =
+    let b = viewed_back by_axis (signeds_at (axes_by has_fourth) r) more stop e in
+    (b.0, b.1, b.2, all_read (λ (s z : ℤ). s) (λ (s : ℤ). signed_at) (λ n zs. length zs ≡ n) refl (λ n s r stop x xs one l. ap suc l) (axes_by has_fourth) (pos 0) r stop b.0 b.1)
+
+-- without a fourth axis, its difference is zero
+pub differences_absent : (has_fourth : Bool) (more : PerAxis) (r stop : Reading) → differences_at has_fourth r ≡ (Ok more, stop) → has_fourth ≡ false → more.fourth ≡ pos 0
+differences_absent has_fourth more r stop e is =
+    let b = by_axis_back has_fourth more r stop e in
+    ap (λ (n : PerAxis). n.fourth) (sym b.2) ∙ (three_or_four more b.0 has_fourth b.3).absent (b.3 ∙ ap axes_by is)
+
+-- a point was read, and its numbers are these differences
+pub record IsReadPoint (has_fourth : Bool) (last more : PerAxis) (r stop : Reading) (point : PointValue) : Type 0 where
+  pub read : point_at (axes_by has_fourth) (listed last) r ≡ (Ok point, stop)
+  pub differences : differences_at has_fourth r ≡ (Ok more, stop)
+  pub added : listed (plus last more) ≡ add (listed last) point
+  pub many : length point ≡ axes_by has_fourth
+
+module _ (has_fourth : Bool) (last : PerAxis) (r stop : Reading) where
+  -- a point that is read has differences
+  pub point_back : (point : PointValue) → point_at (axes_by has_fourth) (listed last) r ≡ (Ok point, stop) → IsReadPoint has_fourth last (by_axis point) r stop point
+  point_back point e =
+      let many = point_has (axes_by has_fourth) (listed last) r stop point e in
+      record { read = e; differences = ap (viewed by_axis) (point_signeds (axes_by has_fourth) (listed last) r stop point e); added = (three_or_four last point has_fourth many).added; many = many }
+
+  -- differences that are read are a point, if the sums fit 64 bits
+  pub differences_point : (more : PerAxis) → differences_at has_fourth r ≡ (Ok more, stop) → Each (SFits w64) (plus last more) → (point : PointValue) × IsReadPoint has_fourth last more r stop point × (r.place < stop.place)
+  differences_point more e fit =
+      let b = by_axis_back has_fourth more r stop e in
+      let p = three_or_four last b.0 has_fourth b.3 in
+      let read = signeds_point (axes_by has_fourth) (listed last) r stop b.0 b.1 (p.fit (subst (λ (n : PerAxis). Each (SFits w64) (plus last n)) (sym b.2) fit)) in
+      (b.0, record { read = read.0; differences = e; added = ap (λ (n : PerAxis). listed (plus last n)) (sym b.2) ∙ p.added; many = b.3 }, ahead has_fourth read.1)
+    where
+      ahead : (b : Bool) → axes_by b + r.place ≤ stop.place → r.place < stop.place
+      ahead true le = omega (arith, le)
+      ahead false le = omega (arith, le)
+
+-- ---- the differences of a point, from the varints that were read
+pub four_read : (x y third fourth : ℤ) (old middle new : Reading) → SpellsTwoSigned (passed old middle) x y → IsMoved old middle → SpellsTwoSigned (passed middle new) third fourth → IsMoved middle new
+    → differences_at true old ≡ (Ok (record { x = x; y = y; third = third; fourth = fourth }), new)
+four_read x y third fourth old middle new first first_moved second second_moved =
+    let a = pair_signed x y old middle first first_moved in
+    let b = pair_signed third fourth middle new second second_moved in
+    ap (viewed by_axis) (then_signed 3 x old a.0 _ a.1 (then_signed 2 y a.0 middle _ a.2 (then_signed 1 third middle b.0 _ b.1 (then_signed 0 fourth b.0 new _ b.2 refl))))
+
+pub three_read : (x y third : ℤ) (old middle new : Reading) → SpellsTwoSigned (passed old middle) x y → IsMoved old middle → IsSigned third (passed middle new) → IsMoved middle new
+    → differences_at false old ≡ (Ok (record { x = x; y = y; third = third; fourth = pos 0 }), new)
+three_read x y third old middle new first first_moved second second_moved =
+    let a = pair_signed x y old middle first first_moved in
+    ap (viewed by_axis) (then_signed 2 x old a.0 _ a.1 (then_signed 1 y a.0 middle _ a.2 (then_signed 0 third middle new _ (read_signed middle new third second second_moved) refl)))

@@ -1,50 +1,27 @@
 -- Points that can be read are passed as numbers: by their ends, or a number by itself. Points that change no state may be passed.
-use Rattle.std.proofs.Common.{◌≡◌, ℕ, Option, Some, None, zero, suc, ◌+◌, ◌-◌, ◌*◌, ◌^◌, ◌<◌, ◌≤◌, Bool, true, false, List, [], ◌∷◌, ◌++◌, length, length-append, fold, ℤ, ◌+ℤ◌, Ok, Err, refl, ap, sym, subst, ◌∙◌, arith}
+use Rattle.std.proofs.Common.{◌≡◌, ℕ, Option, Some, None, zero, suc, ◌+◌, ◌-◌, ◌*◌, ◌^◌, ◌<◌, ◌≤◌, List, [], ◌∷◌, ◌++◌, length, length-append, fold, ℤ, Ok, Err, refl, ap, sym, subst, ◌∙◌, arith}
 use Rattle.twkb_num.specs.Cursor.{Reading, passed, IsMoved, IsSound}
 use Rattle.twkb_num.specs.Varint.{SpellsAll, SpellsMany, zigzag_value}
 use Rattle.twkb_num.proofs.CursorLemmas.{IsMoved-here, IsMoved-after, IsSound-moved}
 use Rattle.twkb_head.specs.Header.{axes_with}
-use Rattle.twkb_head.specs.Shared.Plan.{fits}
 use Rattle.twkb_head.specs.Shared.Reader.{Answer, Reader, ◌>>=◌, viewed, many_at, coordinate_at, signed_at, Fails}
 use Rattle.twkb_head.specs.declared.refusal.Malformed.{Malformed}
-use Rattle.twkb_head.specs.declared.refusal.Why.TheVariants.{Range}
 use Rattle.twkb_head.proofs.Combinators.{after_all}
 use Rattle.twkb_head.proofs.Loops.{IsLoop, loop_begins, loop_fails, loop_ends, behind_front}
 use Rattle.twkb_head.proofs.Readings.{ok_not_err, one_answer, no_failure}
-use Rattle.twkb_head.proofs.Steps.{read_signed, signed_moved, coordinate_ok, coordinate_no_signed, coordinate_refused}
+use Rattle.twkb_head.proofs.Steps.{read_signed, signed_moved}
 use Rattle.twkb_body.specs.declared.trail.Trail.{Trail}
 use Rattle.twkb_body.specs.Geometry.{PointValue}
 use Rattle.twkb_body.specs.Devices.Body.{first_of, behind, add, sums}
 use Rattle.twkb_body.specs.Devices.BodyReader.{point_at, NumbersLead}
 use Rattle.twkb_body.specs.Devices.Walk.{HaveAxes, lasts_from, IsRun, IsStill}
 use Rattle.twkb_body.proofs.BareRuns.{peel, moved_none}
-use Rattle.twkb_body.proofs.Coordinates.{coordinate_ahead}
+use Rattle.twkb_body.proofs.Coordinates.{coordinate_ahead, signed_back}
 use Rattle.twkb_body.proofs.Runs.{values_of, goes_far}
 use Rattle.twkb_body.proofs.Sums.{after_points}
 use Rattle.twkb_body.proofs.Walks.{walked_then}
 
 -- ---- numbers, one after another
--- a coordinate that is read has a number
-signed_reads : (c z : ℤ) (m : Malformed) (r mid new : Reading) → coordinate_at c r ≡ (Ok z, mid) → signed_at r ≡ (Err m, new) → ⊥
-signed_reads c z m r mid new e fault = ok_not_err z m mid new (sym e ∙ coordinate_no_signed c r new m fault)
-
-signed_end : (c z n : ℤ) (r mid new : Reading) → coordinate_at c r ≡ (Ok z, mid) → signed_at r ≡ (Ok n, new) → new ≡ mid
-signed_end c z n r mid new e signed = go (fits (c +ℤ n)) refl
-  where
-    go : (b : Bool) → fits (c +ℤ n) ≡ b → new ≡ mid
-    go true fit = (one_answer (coordinate_at c r) n z new mid (coordinate_ok c r new n fit signed) e).1
-    go false fit =
-        let m : Malformed = record { offset = r.place; why = Range } in
-        let back : Reading = record new { place = r.place } in
-        absurd (ok_not_err z m mid back (sym e ∙ coordinate_refused c r new n m back fit refl refl refl signed))
-
-coordinate_signed : (c z : ℤ) (r mid : Reading) → coordinate_at c r ≡ (Ok z, mid) → (n : ℤ) × (signed_at r ≡ (Ok n, mid))
-coordinate_signed c z r mid e = go (signed_at r) refl
-  where
-    go : (a : Answer ℤ) → signed_at r ≡ a → (n : ℤ) × (signed_at r ≡ (Ok n, mid))
-    go (Err m, q) is = absurd (signed_reads c z m r mid q e is)
-    go (Ok n, q) is = (n, is ∙ ap (λ (y : Reading). (Ok n, y)) (signed_end c z n r mid q e is))
-
 -- some numbers and then more are all of them
 NumbersLead-append : (n m : ℕ) (r mid stop : Reading) → NumbersLead n r mid → NumbersLead m mid stop → NumbersLead (n + m) r stop
 NumbersLead-append zero m r mid stop here more =
@@ -87,15 +64,15 @@ point_numbers (suc axes) s r mid p e = go (λ q t cs is. point_numbers axes (beh
     Others : Reader PointValue
     Others = many_at axes (λ (s : PointValue) (z : ℤ). behind s) (λ s. coordinate_at (first_of s)) (behind s)
 
-    others : ((q t : Reading) (cs : PointValue) → Others q ≡ (Ok cs, t) → NumbersLead axes q t) → (z n : ℤ) (q : Reading) → signed_at r ≡ (Ok n, q) → (b : Answer PointValue) → Others q ≡ b → viewed (λ cs. z ∷ cs) b ≡ (Ok p, mid) → NumbersLead (suc axes) r mid
-    others more z n q one (Err m, t) is e = absurd (ok_not_err p m mid t (sym e))
-    others more z n q one (Ok cs, t) is e =
+    others : ((q t : Reading) (cs : PointValue) → Others q ≡ (Ok cs, t) → NumbersLead axes q t) → (z : ℤ) (q : Reading) → signed_at r ≡ (Ok z, q) → (b : Answer PointValue) → Others q ≡ b → viewed (λ cs. z ∷ cs) b ≡ (Ok p, mid) → NumbersLead (suc axes) r mid
+    others more z q one (Err m, t) is e = absurd (ok_not_err p m mid t (sym e))
+    others more z q one (Ok cs, t) is e =
         let at : t ≡ mid = ap (λ (a : Answer PointValue). a.1) e in
-        (n, q, one, subst (NumbersLead axes q) at (more q t cs is))
+        (z, q, one, subst (NumbersLead axes q) at (more q t cs is))
 
     go : ((q t : Reading) (cs : PointValue) → Others q ≡ (Ok cs, t) → NumbersLead axes q t) → (a : Answer ℤ) → coordinate_at (first_of s) r ≡ a → (a >>= λ z q. viewed (λ cs. z ∷ cs) (Others q)) ≡ (Ok p, mid) → NumbersLead (suc axes) r mid
     go more (Err m, q) is e = absurd (ok_not_err p m mid q (sym e))
-    go more (Ok z, q) is e = let one = coordinate_signed (first_of s) z r q is in others more z one.0 q one.1 (Others q) refl e
+    go more (Ok z, q) is e = others more z q (signed_back (first_of s) r q z is) (Others q) refl e
 
 -- points that are read are a number for each axis of each
 points_numbers : (axes count : ℕ) (s : PointValue) (r stop : Reading) (ps : List PointValue) → many_at count add (point_at axes) s r ≡ (Ok ps, stop) → NumbersLead (count * axes) r stop

@@ -1,5 +1,5 @@
 //! Whether a box of raw numbers holds all points under one header, of which nothing else is asked.
-//! Used by `further_lanes` and `sure/parts`.
+//! Used by `sure/parts`.
 ghost use Rattle.std.specs.Prelude.{◌≡◌, true};
 ghost use Rattle.twkb_body.specs.Devices.BoxTest.{is_in_range, is_in_axis, is_in_flat, is_in_further, is_in_box};
 

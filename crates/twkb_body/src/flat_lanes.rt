@@ -1,13 +1,15 @@
 //! [`FlatLanes`], which reads points of X and Y in lanes. Used by `sure/parts`.
-ghost use Rattle.std.specs.Prelude.{◌≡◌, ◌&&◌, ◌^◌, ℤ, pos, ◌+ℤ◌, ◌<ℤ◌, IsTrue, IfSome, IfNone, false, true};
+ghost use Rattle.std.specs.Prelude.{◌≡◌, ◌&&◌, ◌+ℤ◌, IsTrue, true};
 ghost use Rattle.twkb_body.specs.Devices.BoxTest.{reaches};
 ghost use Rattle.twkb_body.specs.Devices.LaneTrail.{FitsLanes, IsFlatPlace};
-ghost use Rattle.twkb_body.specs.Devices.Quads.{lanes_at, FromLanes, IsInLane, IsFarStep};
+ghost use Rattle.twkb_body.specs.Devices.Quads.{lanes_at, FromLanes, IsFarStep};
 ghost use Rattle.twkb_body.specs.Devices.Body.{zeros};
 
 use crate::lane_trail::{LaneReader, LaneTrail};
 use crate::parts::LinesCalled;
-use crate::positions::{Reached, Step, distances_in, extent_bits, lanes_of, minimum_bits};
+use crate::positions::{
+    Reached, Step, distances_in, extent_bits, lanes_of, minimum_bits, moved_within,
+};
 use crate::quads::{next_one, next_points, next_two};
 use crate::varints::take_signed;
 use std::simd::prelude::*;
@@ -118,21 +120,5 @@ fn far_reached(at: u32x4, extent: u32x4, x_more: i64, y_more: i64) -> Reached
     Reached {
         at: lanes_of(x, y),
         inside: true,
-    }
-}
-
-/// A distance and a difference added up, if the sum lies within an extent.
-#[inline(always)]
-fn moved_within(distance: i64, more: i64, extent: i64) -> Option<i64>
-    requires distance { IsInLane distance }
-    requires extent { extent <ℤ pos (2 ^ 31) }
-    ensures some { IfSome result (λ sum. (sum ≡ distance +ℤ more) × (reaches extent sum ≡ true)) }
-    ensures none { IfNone result (reaches extent (distance +ℤ more) ≡ false) }
-{
-    let sum = distance.checked_add(more)?;
-    if 0 <= sum && sum <= extent {
-        Some(sum)
-    } else {
-        None
     }
 }

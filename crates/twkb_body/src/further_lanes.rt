@@ -1,31 +1,26 @@
 //! [`FurtherLanes`], which reads points of three axes or four in lanes. Used by `sure/parts`.
-ghost use Rattle.std.specs.Prelude.{◌≡◌, ◌≤◌, true, false, IsTrue, IfSome, IfNone};
-ghost use Rattle.twkb_body.specs.declared.per_axis.PerAxis.{PerAxis as PerAxisOf};
+ghost use Rattle.std.specs.Prelude.{◌≡◌, ◌≤◌, true, false, IsTrue, IfSome, IfNone, Ok};
+ghost use Rattle.twkb_num.specs.Varint.{IsShort};
 ghost use Rattle.twkb_body.specs.Devices.Body.{zeros};
-ghost use Rattle.twkb_body.specs.Devices.FurtherLanes.{FitsFurther, IsFurtherStep, IsFarPoint, LeavesByPoint, IsFurtherPlace, four_lanes};
-ghost use Rattle.twkb_body.specs.Devices.PerAxis.{Each, is_four, axes_by, AreDifferences};
+ghost use Rattle.twkb_body.specs.Devices.FurtherLanes.{FitsFurther, all_within, FromFourLanes, IsFurtherStep, IsFarPoint, IsFurtherPlace};
+ghost use Rattle.twkb_body.specs.Devices.PerAxis.{Each, plus, is_four, differences_at};
 ghost use Rattle.twkb_body.specs.Devices.Quads.{IsInLane, ReadsAtMost};
 
-use crate::box_test::BoxTest;
 use crate::lane_trail::{LaneReader, LaneTrail};
 use crate::parts::LinesInlined;
-use crate::per_axis::{PerAxis, distances, placed};
+use crate::per_axis::PerAxis;
 use crate::positions::{
-    Reached, Step, extent_bits, four_lanes_of, minimum_bits, numbers_in, one_of_four, one_of_three,
-    two_further,
+    Reached, Step, extent_bits, four_lanes_of, minimum_bits, moved_within, numbers_in, one_of_four,
+    one_of_three, two_further,
 };
-use crate::trail::{Trail, take_point};
-use crate::walk::bare_head;
+use crate::varints::take_signed;
 use std::simd::prelude::*;
-use twkb_head::{Kind, RawBox};
+use twkb_head::{Malformed, RawBox};
 use twkb_num::Cursor;
 
 /// Reads points of `AXES` axes, three or four, with a lane for each axis.
 #[derive(Drop)]
-pub struct FurtherLanes<const AXES: usize> {
-    /// The box from whose minima the distances are.
-    bounds: RawBox,
-}
+pub struct FurtherLanes<const AXES: usize>;
 
 impl<const AXES: usize> FurtherLanes<AXES> {
     /// A trail of no points yet.
@@ -33,10 +28,10 @@ impl<const AXES: usize> FurtherLanes<AXES> {
     pub fn trail(bounds: &RawBox) -> LaneTrail<FurtherLanes<AXES>>
         requires { FitsFurther (is_four AXES) bounds.now }
         ensures points { result.points ≡ 0 }
-        ensures place { IsFurtherPlace (is_four AXES) result.reader.bounds bounds.now result.at result.extent zeros }
+        ensures place { IsFurtherPlace (is_four AXES) bounds.now result.at result.extent zeros }
     {
         LaneTrail {
-            reader: FurtherLanes { bounds: *bounds },
+            reader: FurtherLanes,
             at: four_lanes_of(&PerAxis {
                 x: -bounds.x.minimum,
                 y: -bounds.y.minimum,
@@ -62,7 +57,7 @@ impl<const AXES: usize> LaneReader for FurtherLanes<AXES> {
 
     ghost axes = { axes_by (is_four AXES) };
 
-    ghost place = { λ reader. IsFurtherPlace (is_four AXES) reader.bounds };
+    ghost place = { λ reader. IsFurtherPlace (is_four AXES) };
 
     /// Reads one point of four axes, or none.
     #[inline(always)]
@@ -83,7 +78,7 @@ impl<const AXES: usize> LaneReader for FurtherLanes<AXES> {
         }
         Step {
             points: 1,
-            reached: far_point::<AXES>(cursor, &self.bounds, at),
+            reached: far_point::<AXES>(cursor, at, extent),
         }
     }
 }
@@ -129,7 +124,7 @@ fn next_further<const AXES: usize>(cursor: &mut Cursor, left: u64, at: u32x4, ex
 /// Reads the differences of a point of three axes: a pair, and a number after it.
 #[inline(always)]
 fn take_three(cursor: &mut Cursor) -> Option<PerAxis>
-    ensures some { IfSome result (λ more. AreDifferences false more cursor.old cursor.new) }
+    ensures some { IfSome result (λ more. (differences_at false cursor.old ≡ (Ok more, cursor.new)) × Each IsShort more) }
     ensures none { IfNone result (cursor.new ≡ cursor.old) }
 {
     let ((x, y), third) = cursor.svarint_pair_and_one()?;
@@ -182,41 +177,59 @@ fn two_points(cursor: &mut Cursor, at: u32x4, extent: u32x4) -> Step
     Step { points: 2, reached }
 }
 
-/// How many axes there are.
-#[inline(always)]
-fn axes<const AXES: usize>() -> usize
-    ensures { result ≡ axes_by (is_four AXES) }
-{
-    if AXES == 4 { 4 } else { 3 }
-}
-
 /// Reads one point, whose differences may take more than four bytes. `inside` is false if it is malformed, too.
 // Out of line: most points are read by vectors.
 #[inline(never)]
-fn far_point<const AXES: usize>(cursor: &mut Cursor, bounds: &RawBox, at: u32x4) -> Reached
-    requires { FitsFurther (is_four AXES) bounds.now }
+fn far_point<const AXES: usize>(cursor: &mut Cursor, at: u32x4, extent: u32x4) -> Reached
     ensures bytes { cursor.new.bytes ≡ cursor.old.bytes }
-    ensures inside { result.inside ≡ true → (apart : PerAxisOf) → at ≡ four_lanes apart → Each IsInLane apart
-        → IsFarPoint (is_four AXES) bounds.now apart cursor.old cursor.new result.at }
-    ensures outside { result.inside ≡ false → (apart : PerAxisOf) → at ≡ four_lanes apart → Each IsInLane apart
-        → LeavesByPoint (is_four AXES) bounds.now apart cursor.old }
+    ensures step { FromFourLanes at extent (λ apart e. IsFarPoint (is_four AXES) e apart cursor.old cursor.new result.at
+        result.inside) }
 {
-    let axes = axes::<AXES>();
-    let head = bare_head(Kind::Point, axes);
-    let mut trail = Trail {
-        last: placed(bounds, &numbers_in(at)),
-        points: 0,
-    };
-    let mut test = BoxTest::new(bounds);
-    let Ok(()) = take_point(cursor, &head, axes, &mut trail, &mut test) else {
+    let Ok(more) = take_differences::<AXES>(cursor) else {
         return Reached { at, inside: false };
     };
-    if !test.is_inside() {
-        return Reached { at, inside: false };
+    match all_moved_within(&numbers_in(at), &more, &numbers_in(extent)) {
+        Some(next) => Reached {
+            at: four_lanes_of(&next),
+            inside: true,
+        },
+        None => Reached { at, inside: false },
     }
-    let next = distances(bounds, &PerAxis::of(&trail.last));
-    Reached {
-        at: four_lanes_of(&next),
-        inside: true,
-    }
+}
+
+/// Reads the differences of a point, each of any length.
+#[inline(always)]
+fn take_differences<const AXES: usize>(cursor: &mut Cursor) -> Result<PerAxis, Malformed>
+    ensures { differences_at (is_four AXES) cursor.old ≡ (result, cursor.new) }
+{
+    let x = take_signed(cursor)?;
+    let y = take_signed(cursor)?;
+    let third = take_signed(cursor)?;
+    let fourth = if AXES == 4 { take_signed(cursor)? } else { 0 };
+    Ok(PerAxis {
+        x,
+        y,
+        third,
+        fourth,
+    })
+}
+
+/// The sums of distances and differences, if each lies within the extent of its axis.
+#[inline(always)]
+fn all_moved_within(apart: &PerAxis, more: &PerAxis, extents: &PerAxis) -> Option<PerAxis>
+    requires apart { Each IsInLane apart.now }
+    requires extents { Each IsInLane extents.now }
+    ensures some { IfSome result (λ sums. (sums ≡ plus apart.now more.now) × (all_within extents.now sums ≡ true)) }
+    ensures none { IfNone result (all_within extents.now (plus apart.now more.now) ≡ false) }
+{
+    let x = moved_within(apart.x, more.x, extents.x)?;
+    let y = moved_within(apart.y, more.y, extents.y)?;
+    let third = moved_within(apart.third, more.third, extents.third)?;
+    let fourth = moved_within(apart.fourth, more.fourth, extents.fourth)?;
+    Some(PerAxis {
+        x,
+        y,
+        third,
+        fourth,
+    })
 }

@@ -3,10 +3,11 @@
 //! A lane holds a point's distance in one axis from the minimum of the box. One comparison without signs tells whether the point is
 //! in the box, since a distance below zero is a great number then. For points of X and Y alone, lanes of differences hold four points
 //! in 16 bits or two in 32, and the last point and the widths of the box are in lanes twice. Used by `flat_lanes`, `further_lanes`, `lane_trail` and `quads`.
-ghost use Rattle.std.specs.Prelude.{◌≡◌, true, ◌+◌, ◌-◌, ◌%◌, ◌^◌, ◌<◌, ◌&&◌, neg_ℤ, ℕ, ℤ, map, [], ◌∷◌, nat_le, nat_lt, if◌then◌else◌, All};
+ghost use Rattle.std.specs.Prelude.{◌≡◌, true, ◌+◌, ◌-◌, ◌%◌, ◌^◌, ◌<◌, ◌&&◌, ◌+ℤ◌, ◌<ℤ◌, pos, neg_ℤ, ℕ, ℤ, map, [], ◌∷◌, nat_le, nat_lt, if◌then◌else◌, All, false, IfSome, IfNone};
 ghost use Rattle.std.specs.Int.{w16, w32, cast_signed, cast_unsigned};
 ghost use Rattle.twkb_num.specs.Varint.{IsBrief, IsShort};
 ghost use Rattle.twkb_body.specs.declared.per_axis.PerAxis.{PerAxis as PerAxisOf};
+ghost use Rattle.twkb_body.specs.Devices.BoxTest.{reaches};
 ghost use Rattle.twkb_body.specs.Devices.FurtherLanes.{four_lanes, fours_of, FromFourLanes, HaveGone};
 ghost use Rattle.twkb_body.specs.Devices.PerAxis.{Each};
 ghost use Rattle.twkb_body.specs.Devices.Quads.{lanes_at, pairs_of, FromLanes, IsInLane, IsLaneExtent, HaveReached};
@@ -88,6 +89,22 @@ pub fn distances_in(at: u32x4) -> (i64, i64)
         i64::from(lanes[0].cast_signed()),
         i64::from(lanes[1].cast_signed()),
     )
+}
+
+/// A distance and a difference added up, if the sum lies within an extent.
+#[inline(always)]
+pub fn moved_within(distance: i64, more: i64, extent: i64) -> Option<i64>
+    requires distance { IsInLane distance }
+    requires extent { extent <ℤ pos (2 ^ 31) }
+    ensures some { IfSome result (λ sum. (sum ≡ distance +ℤ more) × (reaches extent sum ≡ true)) }
+    ensures none { IfNone result (reaches extent (distance +ℤ more) ≡ false) }
+{
+    let sum = distance.checked_add(more)?;
+    if 0 <= sum && sum <= extent {
+        Some(sum)
+    } else {
+        None
+    }
 }
 
 /// Four points more, by differences of at most two bytes.

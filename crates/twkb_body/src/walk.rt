@@ -1,5 +1,5 @@
 //! [`Walk`], which reads points one after another, adds up their differences, and shows each point to a [`Points`].
-//! Used by `further_lanes`, `shape`, `sure/parts` and `sure/unboxed`.
+//! Used by `shape`, `sure/parts` and `sure/unboxed`.
 ghost use Rattle.std.specs.Prelude.{◌≡◌, ◌≤◌, None, false};
 ghost use Rattle.twkb_head.specs.Header.{Header, axes_with};
 ghost use Rattle.twkb_head.specs.Raw.{HavePrecisions};

@@ -1,17 +1,15 @@
 -- Devices of proofs: nothing public names them.
 -- Points of three axes or four in lanes, with a lane for each axis.
-use Rattle.std.specs.Prelude.{◌≡◌, ℕ, ◌<◌, Bool, true, false, ◌&&◌, List, [], ◌∷◌, length, ℤ, pos, Ok}
+use Rattle.std.specs.Prelude.{◌≡◌, ℕ, Bool, true, false, ◌&&◌, List, [], ◌∷◌, length, ℤ, pos, Ok}
 use Rattle.std.specs.Int.{w32, cast_unsigned}
 use Rattle.twkb_num.specs.Cursor.{Reading}
 use Rattle.twkb_head.specs.declared.raw.RawBox.{RawBox}
 use Rattle.twkb_body.specs.declared.per_axis.PerAxis.{PerAxis}
 use Rattle.twkb_body.specs.declared.positions.Step.{Step}
 use Rattle.twkb_body.specs.Geometry.{PointValue}
-use Rattle.twkb_body.specs.Devices.Body.{add}
-use Rattle.twkb_body.specs.Devices.BodyReader.{point_at}
-use Rattle.twkb_body.specs.Devices.BoxTest.{reaches, is_in_box}
+use Rattle.twkb_body.specs.Devices.BoxTest.{reaches}
 use Rattle.twkb_body.specs.Devices.LaneTrail.{FitsLane}
-use Rattle.twkb_body.specs.Devices.PerAxis.{listed, Each, plus, placed_at, axes_by, AreDifferences}
+use Rattle.twkb_body.specs.Devices.PerAxis.{listed, Each, plus, placed_at, differences_at}
 use Rattle.twkb_body.specs.Devices.Quads.{IsInLane, IsLaneExtent}
 
 -- a number for each axis in lanes, in two's complement
@@ -58,7 +56,7 @@ pub record HaveGone (e apart : PerAxis) (differences : List PerAxis) (at : List 
 -- these differences were read, point after point
 abbrev pub ReadsPoints : Bool → List PerAxis → Reading → Reading → Type 0
 ReadsPoints has_fourth [] old new = new ≡ old
-ReadsPoints has_fourth (d ∷ ds) old new = (middle : Reading) × AreDifferences has_fourth d old middle × ReadsPoints has_fourth ds middle new
+ReadsPoints has_fourth (d ∷ ds) old new = (middle : Reading) × (differences_at has_fourth old ≡ (Ok d, middle)) × ReadsPoints has_fourth ds middle new
 
 -- this holds of the distances and the extents in these lanes, with a lane for each axis
 abbrev pub FromFourLanes : List ℕ → List ℕ → (PerAxis → PerAxis → Type 0) → Type 0
@@ -72,27 +70,18 @@ IsFurtherStep has_fourth at extent old new step = FromFourLanes at extent (λ ap
     × (length differences ≡ step.points) × ReadsPoints has_fourth differences old new
     × HaveGone e apart differences step.reached.at step.reached.inside)
 
--- a point was read from these distances on, which the box holds, and its distances are in these lanes
-pub record IsFarPoint (has_fourth : Bool) (box : RawBox) (apart : PerAxis) (old new : Reading) (next : List ℕ) : Type 0 where
-  pub point : PointValue
-  pub there : PerAxis
-  pub read : point_at (axes_by has_fourth) (listed (placed_at box apart)) old ≡ (Ok point, new)
-  pub placed : listed (placed_at box there) ≡ add (listed (placed_at box apart)) point
-  pub held : is_in_box (axes_by has_fourth) box (listed (placed_at box there)) ≡ true
-  pub lanes_are : next ≡ four_lanes there
-  pub in_lanes : Each IsInLane there
-  pub ahead : old.place < new.place
+-- if the differences of a point can be read, they lead from these distances to a point outside the extents
+abbrev pub LeadsOut : Bool → PerAxis → PerAxis → Reading → Type 0
+LeadsOut has_fourth e apart old = (more : PerAxis) (stop : Reading) → differences_at has_fourth old ≡ (Ok more, stop) → all_within e (plus apart more) ≡ false
 
--- if a point can be read from these distances on, the box doesn't hold it
-abbrev pub LeavesByPoint : Bool → RawBox → PerAxis → Reading → Type 0
-LeavesByPoint has_fourth box apart old =
-    (point : PointValue) (stop : Reading) → point_at (axes_by has_fourth) (listed (placed_at box apart)) old ≡ (Ok point, stop)
-    → is_in_box (axes_by has_fourth) box (add (listed (placed_at box apart)) point) ≡ false
+-- the differences of a point were read and lead from these distances to lanes, and the extents hold the point; or `LeadsOut`
+abbrev pub IsFarPoint : Bool → PerAxis → PerAxis → Reading → Reading → List ℕ → Bool → Type 0
+IsFarPoint has_fourth e apart old new at true = (more : PerAxis) × (differences_at has_fourth old ≡ (Ok more, new)) × HaveGone e apart (more ∷ []) at true
+IsFarPoint has_fourth e apart old new at false = LeadsOut has_fourth e apart old
 
 -- lanes hold the distances of a point from the minima of a box, and the extents of the box, with a lane for each axis
-pub record IsFurtherPlace (has_fourth : Bool) (bounds box : RawBox) (lanes extent : List ℕ) (point : PointValue) : Type 0 where
+pub record IsFurtherPlace (has_fourth : Bool) (box : RawBox) (lanes extent : List ℕ) (point : PointValue) : Type 0 where
   pub apart : PerAxis
-  pub box_is : bounds ≡ box
   pub is : point ≡ listed (placed_at box apart)
   pub lanes_are : lanes ≡ four_lanes apart
   pub extent_is : extent ≡ four_lanes (extents box)

@@ -1,38 +1,13 @@
 -- A point is inside exactly if both its distances lie within the extents; then lanes hold them.
-use Rattle.std.proofs.Common.{◌≡◌, ◌&&◌, true, false, Bool, ℤ, ◌+ℤ◌, refl, sym, ap, ap₂, subst, ◌∙◌, arith}
-use Rattle.std.proofs.lemmas.Int.{ints}
-use mir.Val.{SFits, to_z, of_z}
-use Rattle.std.proofs.lemmas.Int.{to_z-of_z}
-use Rattle.std.specs.Int.{w64}
+use Rattle.std.proofs.Common.{◌≡◌, ◌&&◌, true, false, Bool, ◌+ℤ◌, refl, sym, ap, ap₂, subst, ◌∙◌}
 use Rattle.twkb_body.specs.Devices.BoxTest.{reaches}
-use Rattle.twkb_body.specs.Devices.Quads.{lanes_at, IsInLane, IsLaneExtent}
-use Rattle.twkb_body.proofs.BoxDistances.{reaches_decides}
+use Rattle.twkb_body.specs.Devices.Quads.{lanes_at, IsInLane}
+use Rattle.twkb_body.proofs.BoxDistances.{extent_lane, kept, in_bits, in_range}
 use Rattle.twkb_body.proofs.flat_lanes.far_reached.Goals as goal
-
--- a lane holds an extent
-extent_lane : (w : ℤ) → IsLaneExtent w → IsInLane w
-extent_lane w fits = (omega (arith, ints, fits.0), omega (arith, ints, fits.1))
 
 and_none : (a : Bool) → false ≡ (a && false)
 and_none true = refl
 and_none false = refl
-
--- the sum of a distance and a difference, if it is within an extent
-kept : (d w m x e n sum : ℤ) → d ≡ x → w ≡ e → m ≡ n → IsInLane e → sum ≡ d +ℤ m → reaches w sum ≡ true → (sum ≡ x +ℤ n) × (reaches e (x +ℤ n) ≡ true) × IsInLane sum
-kept d w m x e n sum d_is w_is m_is lane sum_is e_reached =
-    let r = (reaches_decides w sum).0 e_reached in (
-      omega (arith, ints, d_is, m_is, sum_is),
-      (reaches_decides e (x +ℤ n)).1 (omega (arith, ints, d_is, m_is, sum_is, w_is, r.0), omega (arith, ints, d_is, m_is, sum_is, w_is, r.1)),
-      (omega (arith, ints, r.0), omega (arith, ints, r.1, w_is, lane.1)),
-    )
-
--- the numbers that vectors hand over lose nothing in 64 bits
-in_bits : (z : ℤ) → IsInLane z → to_z w64 (of_z w64 z) ≡ z
-in_bits z lane = omega (arith, ints, lane.0, lane.1)
-
--- a number of 64 bits loses nothing in 64 bits
-in_range : (z : ℤ) → SFits w64 z → to_z w64 (of_z w64 z) ≡ z
-in_range z fits = to_z-of_z w64 z fits
 
 pub lanes_of-requires-clause-x : goal.lanes_of-requires-clause-x
 lanes_of-requires-clause-x c =

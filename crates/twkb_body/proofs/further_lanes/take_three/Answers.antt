@@ -13,4 +13,7 @@ returns-clause-some c =
     let x : to_z w64 (of_z w64 three.x) ≡ three.x = omega (arith, ints, e.pair.0.0, e.pair.0.1) in
     let y : to_z w64 (of_z w64 three.y) ≡ three.y = omega (arith, ints, e.pair.1.0, e.pair.1.1) in
     let third : to_z w64 (of_z w64 three.third) ≡ three.third = omega (arith, ints, e.one.0, e.one.1) in
-    rw (x, y, third) (three_read _ _ _ c.args.cursor.now e.some.0 c.svarint_pair_and_one.new.self e.some.1 e.pair e.some.2 e.some.3 e.one e.some.4)
+    rw (x, y, third) (
+      three_read _ _ _ c.args.cursor.now e.some.0 c.svarint_pair_and_one.new.self e.some.1 e.some.2 e.some.3 e.some.4,
+      record { x = e.pair.0; y = e.pair.1; third = e.one; fourth = (omega (arith, ints), omega (arith, ints)) },
+    )

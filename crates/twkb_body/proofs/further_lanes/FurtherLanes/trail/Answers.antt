@@ -1,5 +1,5 @@
 -- The first distances are those of the origin, from which the first differences go.
-use Rattle.std.proofs.Common.{◌≡◌, ◌∷◌, [], pos, neg_ℤ, ◌+ℤ◌, ◌-ℤ◌, refl, sym, ap, subst, ◌∙◌, arith, w64}
+use Rattle.std.proofs.Common.{◌≡◌, ◌∷◌, [], pos, neg_ℤ, ◌+ℤ◌, ◌-ℤ◌, sym, ap, subst, ◌∙◌, arith, w64}
 use Rattle.std.proofs.lemmas.Int.{ints}
 use mir.Val.{to_z, of_z}
 use Rattle.std.specs.Prelude.{ℤ}
@@ -35,7 +35,6 @@ returns-clause-place g c =
     let apart : PerAxis = record { x = neg_ℤ box.x.minimum; y = neg_ℤ box.y.minimum; third = neg_ℤ box.third.minimum; fourth = neg_ℤ box.fourth.minimum } in
     record {
       apart = apart;
-      box_is = refl;
       is = λ j. from_origin box.x.minimum j ∷ from_origin box.y.minimum j ∷ from_origin box.third.minimum j ∷ from_origin box.fourth.minimum j ∷ [];
       lanes_are = c.four_lanes_of.ensures ∙ (λ j. four_lanes (record { x = negated box.x fits.x j; y = negated box.y fits.y j; third = negated box.third fits.third j; fourth = negated box.fourth fits.fourth j }));
       extent_is = c.four_lanes_of-2.ensures ∙ (λ j. four_lanes (record { x = wide box.x fits.x j; y = wide box.y fits.y j; third = wide box.third fits.third j; fourth = wide box.fourth fits.fourth j }));

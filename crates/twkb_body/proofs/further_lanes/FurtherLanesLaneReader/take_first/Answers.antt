@@ -9,5 +9,5 @@ pub returns-then-left-ge1-clause-step : goal.returns-then-left-ge1-clause-step
 returns-then-left-ge1-clause-step g c =
     let step = c.point_of_four in
     let four : is_four g.row.AXES ≡ true = ap is_four c.if-this-eq4.true in
-    further_step (is_four g.row.AXES) c.args.self.now.bounds c.args.at c.args.extent c.args.cursor.now step.new.cursor c.args.left step.result (omega (arith, step.ensures.few, c.if-left-ge1.true))
+    further_step (is_four g.row.AXES) c.args.at c.args.extent c.args.cursor.now step.new.cursor c.args.left step.result (omega (arith, step.ensures.few, c.if-left-ge1.true))
     (subst (λ (b : Bool). IsFurtherStep b c.args.at c.args.extent c.args.cursor.now step.new.cursor step.result) (sym four) step.ensures.step)

@@ -6,16 +6,11 @@ use Rattle.twkb_body.proofs.further_lanes.FurtherLanesLaneReader.take_some.Goals
 pub returns-then-step-ne0-clause-step : goal.returns-then-step-ne0-clause-step
 returns-then-step-ne0-clause-step g c =
     let step = c.next_further-step in
-    further_step (is_four g.row.AXES) c.args.self.now.bounds c.args.at c.args.extent c.args.cursor.now step.new.cursor c.args.left step.result step.ensures.few step.ensures.step
-
-pub far_point-requires : goal.far_point-requires
-far_point-requires g c =
-    let place = c.requires.place.2 in
-    rw place.box_is place.fits
+    further_step (is_four g.row.AXES) c.args.at c.args.extent c.args.cursor.now step.new.cursor c.args.left step.result step.ensures.few step.ensures.step
 
 pub returns-clause-step : goal.returns-clause-step
 returns-clause-step g c =
     let far = c.far_point in
     let same = c.next_further-step.ensures.none c.if-step-ne0.false in
-    let step = far_further_step (is_four g.row.AXES) c.args.self.now.bounds c.args.at c.args.extent c.next_further-step.new.cursor far.new.cursor c.args.left far.result c.requires.left far.ensures.inside far.ensures.outside in
+    let step = far_further_step (is_four g.row.AXES) c.args.at c.args.extent c.next_further-step.new.cursor far.new.cursor c.args.left far.result c.requires.left far.ensures.step in
     rw same at step
