@@ -1,25 +1,24 @@
 -- Points of X and Y that a box has to hold, read in lanes.
-use Rattle.std.proofs.Common.{◌≡◌, ℕ, ◌+◌, ◌≤◌, Bool, true, false, ◌&&◌, List, [], ◌∷◌, length, drop, slice_index_or, fold, ℤ, pos, ◌+ℤ◌, ◌-ℤ◌, Ok, Err, refl, sym, ap, ap₂, subst, ◌∙◌, arith}
+use Rattle.std.proofs.Common.{◌≡◌, ℕ, ◌+◌, ◌≤◌, Bool, true, false, ◌&&◌, List, [], ◌∷◌, length, drop, slice_index_or, fold, ℤ, pos, ◌+ℤ◌, ◌-ℤ◌, Ok, refl, sym, ap, ap₂, subst, ◌∙◌, arith}
 use Rattle.std.proofs.lemmas.Int.{ints}
 use Rattle.twkb_num.specs.Cursor.{Reading}
 use Rattle.twkb_head.specs.declared.raw.RawBox.{RawBox}
-use Rattle.twkb_head.specs.Shared.Reader.{Answer, ◌>>=◌, viewed, signed_at, coordinate_at, many_at}
-use Rattle.twkb_head.proofs.Readings.{ok_not_err}
+use Rattle.twkb_head.specs.Shared.Reader.{Answer, signed_at}
 use Rattle.twkb_body.specs.declared.positions.Reached.{Reached}
 use Rattle.twkb_body.specs.declared.positions.Step.{Step}
 use Rattle.twkb_body.specs.declared.trail.Trail.{Trail}
 use Rattle.twkb_body.specs.Geometry.{PointValue}
-use Rattle.twkb_body.specs.Devices.Body.{first_of, behind}
 use Rattle.twkb_body.specs.Devices.BodyReader.{point_at}
 use Rattle.twkb_body.specs.Devices.BoxTest.{reaches, held_then}
 use Rattle.twkb_body.specs.Devices.LaneTrail.{holding, LeavesBox, PointsLeave, IsHeldRun, IsLaneStep, IsFlatPlace}
 use Rattle.twkb_body.specs.Devices.Quads.{FromLanes, IsQuadStep, StepsInLanes, IsFarStep}
 use Rattle.twkb_body.specs.Devices.Walk.{lasts_from}
-use Rattle.twkb_body.proofs.Coordinates.{signed_back}
 use Rattle.twkb_body.proofs.FlatRuns.{flat_begins}
 use Rattle.twkb_body.proofs.LaneRuns.{run_leaves, next_leaves}
+use Rattle.twkb_body.proofs.NumberSteps.{point_signeds}
 use Rattle.twkb_body.proofs.QuadRuns.{IsLaneRun, step_inside, step_outside, far_inside}
-use Rattle.twkb_body.proofs.RefutedBodies.{viewed_back}
+use Rattle.twkb_body.proofs.Runs.{values_of}
+use Rattle.twkb_body.proofs.Tracing.{many_back}
 use Rattle.twkb_body.proofs.Walks.{one_point}
 
 -- a point of two axes that is read is two signed numbers that are read
@@ -32,31 +31,17 @@ record IsPair (x y : ℤ) (r stop : Reading) (p : PointValue) : Type 0 where
   pub is : a ∷ b ∷ [] ≡ p
 
 pair_back : (x y : ℤ) (others : PointValue) (r stop : Reading) (p : PointValue) → point_at 2 (x ∷ y ∷ others) r ≡ (Ok p, stop) → IsPair x y r stop p
-pair_back x y others r stop p e = go (coordinate_at x r) refl e
-  where
-    second : (a : ℤ) (middle : Reading) → coordinate_at x r ≡ (Ok a, middle) → (c : Answer ℤ) → coordinate_at y middle ≡ c → (ys : PointValue)
-        → (c >>= λ b q. viewed (λ zs. b ∷ zs) (many_at 0 (λ (s : PointValue) (z : ℤ). behind s) (λ s. coordinate_at (first_of s)) others q)) ≡ (Ok ys, stop) → a ∷ ys ≡ p → IsPair x y r stop p
-    second a middle one (Err m, q) two ys e is = absurd (ok_not_err ys m stop q (sym e))
-    second a middle one (Ok b, q) two ys e is = record {
-      a = a;
-      b = b;
-      middle = middle;
-      first = signed_back x r middle a one;
-      second = signed_back y middle stop b (two ∙ ap (λ (s : Reading). (Ok b, s)) (ap (λ (z : Answer PointValue). z.1) e));
-      is = ap (λ (zs : PointValue). a ∷ zs) (ap values e) ∙ is;
+pair_back x y others r stop p e =
+    let one = many_back (λ (s z : ℤ). s) (λ (s : ℤ). signed_at) 1 (pos 0) r stop p (point_signeds 2 (x ∷ y ∷ others) r stop p e) in
+    let two = many_back (λ (s z : ℤ). s) (λ (s : ℤ). signed_at) 0 (pos 0) one.middle stop one.others one.rest in
+    record {
+      a = one.first;
+      b = two.first;
+      middle = one.middle;
+      first = one.one;
+      second = two.one ∙ ap (λ (q : Reading). (Ok two.first, q)) (ap (λ (a : Answer (List ℤ)). a.1) two.rest);
+      is = ap (λ (zs : List ℤ). one.first ∷ zs) (ap (λ (zs : List ℤ). two.first ∷ zs) (ap values_of two.rest) ∙ two.all) ∙ one.all;
     }
-      where
-        values : Answer PointValue → PointValue
-        values (Ok zs, s) = zs
-        values (Err m, s) = []
-
-    go : (c : Answer ℤ) → coordinate_at x r ≡ c
-        → (c >>= λ a q. viewed (λ ys. a ∷ ys) (coordinate_at y q >>= λ b q. viewed (λ zs. b ∷ zs) (many_at 0 (λ (s : PointValue) (z : ℤ). behind s) (λ s. coordinate_at (first_of s)) others q))) ≡ (Ok p, stop)
-        → IsPair x y r stop p
-    go (Err m, q) one e = absurd (ok_not_err p m stop q (sym e))
-    go (Ok a, middle) one e =
-        let b = viewed_back (λ ys. a ∷ ys) (coordinate_at y middle >>= λ b q. viewed (λ zs. b ∷ zs) (many_at 0 (λ (s : PointValue) (z : ℤ). behind s) (λ s. coordinate_at (first_of s)) others q)) p stop e in
-        second a middle one (coordinate_at y middle) refl b.0 b.1 b.2
 
 -- a distance from a minimum is known from the distance before it
 from_there : (low distance more : ℤ) → ((low +ℤ distance) +ℤ more) -ℤ low ≡ distance +ℤ more

@@ -22,7 +22,7 @@ use Rattle.twkb_body.proofs.BoxDistances.{reaches_decides, from_minimum, both_tr
 use Rattle.twkb_body.proofs.FlatRuns.{has_64_bits}
 use Rattle.twkb_body.proofs.LaneRuns.{next_leaves, rest_leaves}
 use Rattle.twkb_body.proofs.LaneSums.{and_true_right}
-use Rattle.twkb_body.proofs.NumberSteps.{differences_absent, IsReadPoint, point_back, differences_point}
+use Rattle.twkb_body.proofs.NumberSteps.{differences_absent, IsReadPoint, point_read, differences_point}
 use Rattle.twkb_body.proofs.Runs.{run_none, run_goes_on}
 use Rattle.twkb_body.proofs.Walks.{one_point}
 
@@ -76,7 +76,7 @@ module _ (has_fourth : Bool) (box : RawBox) (fits : FitsFurther has_fourth box) 
   -- a point that leads out of the extents leaves the box
   pub leads_out : (apart : PerAxis) (r : Reading) → IsAbsent apart → LeadsOut has_fourth (extents box) apart r → LeavesBox axes (point_at axes) one_point box (listed (placed_at box apart)) r
   leads_out apart r absent out p stop e =
-      let back = point_back has_fourth (placed_at box apart) r stop p e in
+      let back = point_read has_fourth (placed_at box apart) r stop p e in
       let more = by_axis p in
       ap (is_in_box axes box) (sym back.added ∙ ap listed (sym (placed_on box apart more)))
       ∙ within_is has_fourth box (plus apart more) fits (next_absent has_fourth apart more r stop back.differences absent) ∙ out more stop back.differences

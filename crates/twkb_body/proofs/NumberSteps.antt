@@ -1,22 +1,22 @@
 -- Reading a point of three axes or four, by the differences of its numbers.
-use Rattle.std.proofs.Common.{◌≡◌, ℕ, zero, suc, ◌+◌, ◌≤◌, ◌^◌, Bool, true, false, List, [], ◌∷◌, length, ℤ, pos, ◌+ℤ◌, ◌<◌, Ok, Err, refl, sym, ap, subst, ◌∙◌, arith}
+use Rattle.std.proofs.Common.{◌≡◌, ℕ, zero, suc, ◌+◌, ◌≤◌, ◌^◌, Bool, true, false, List, [], ◌∷◌, length, ℤ, pos, ◌+ℤ◌, ◌<◌, Ok, refl, sym, ap, subst, ◌∙◌, arith}
 use Rattle.std.proofs.lemmas.Int.{ints}
 use mir.Val.{SFits, Fits}
 use Rattle.std.specs.Int.{w64}
 use Rattle.twkb_num.specs.Cursor.{Reading, passed, IsMoved}
 use Rattle.twkb_num.specs.Varint.{IsSigned, SpellsTwoSigned}
-use Rattle.twkb_head.specs.Shared.Reader.{Answer, ◌>>=◌, viewed, signed_at, coordinate_at, signeds_at}
-use Rattle.twkb_head.proofs.Readings.{ok_not_err}
+use Rattle.twkb_head.specs.Shared.Reader.{Answer, viewed, signed_at, coordinate_at, signeds_at}
 use Rattle.twkb_head.proofs.Steps.{read_signed, coordinate_ok, fits_true}
 use Rattle.twkb_body.specs.declared.per_axis.PerAxis.{PerAxis}
 use Rattle.twkb_body.specs.Geometry.{PointValue}
 use Rattle.twkb_body.specs.Devices.Body.{first_of, behind, add}
 use Rattle.twkb_body.specs.Devices.BodyReader.{point_at}
 use Rattle.twkb_body.specs.Devices.PerAxis.{listed, Each, plus, axes_by, by_axis, differences_at}
-use Rattle.twkb_body.proofs.Coordinates.{coordinate_ahead, signed_back}
+use Rattle.twkb_body.proofs.Coordinates.{signed_back}
 use Rattle.twkb_body.proofs.PairReads.{pair_signed}
-use Rattle.twkb_body.proofs.PointAxes.{all_read, point_has}
-use Rattle.twkb_body.proofs.RefutedBodies.{viewed_back}
+use Rattle.twkb_body.proofs.PointAxes.{all_read}
+use Rattle.twkb_body.proofs.Settling.{point_is}
+use Rattle.twkb_body.proofs.Tracing.{viewed_back, many_back, many_then, point_back}
 
 -- the number of points fits 64 bits, since there are no more points than bytes
 pub points_fit : {many done start stop place points : ℕ} → many ≡ done → many + start ≤ stop → points ≤ start → stop ≡ place → place < 2 ^ 64 → Fits w64 (points + done)
@@ -25,19 +25,14 @@ points_fit {many} {done} {start} {stop} {place} {points} is ahead counted at fit
 -- ---- numbers, one after another
 -- a number is read before others
 then_signed : (n : ℕ) (z : ℤ) (r mid : Reading) (others : Answer (List ℤ)) → signed_at r ≡ (Ok z, mid) → signeds_at n mid ≡ others → signeds_at (suc n) r ≡ viewed (λ zs. z ∷ zs) others
-then_signed n z r mid others one e = ap (λ (a : Answer ℤ). a >>= λ x q. viewed (λ xs. x ∷ xs) (signeds_at n q)) one ∙ ap (viewed (λ zs. z ∷ zs)) e
+then_signed n z r mid others one e = many_then (λ (s z : ℤ). s) (λ (s : ℤ). signed_at) n (pos 0) r mid z others one e
 
 -- a point that is read is numbers that are read
-point_signeds : (n : ℕ) (s : PointValue) (r new : Reading) (zs : List ℤ) → point_at n s r ≡ (Ok zs, new) → signeds_at n r ≡ (Ok zs, new)
+pub point_signeds : (n : ℕ) (s : PointValue) (r new : Reading) (zs : List ℤ) → point_at n s r ≡ (Ok zs, new) → signeds_at n r ≡ (Ok zs, new)
 point_signeds zero s r new zs e = e
-point_signeds (suc n) s r new zs e = go (point_signeds n (behind s)) (coordinate_at (first_of s) r) refl e
-  where
-    go : ((q t : Reading) (ys : List ℤ) → point_at n (behind s) q ≡ (Ok ys, t) → signeds_at n q ≡ (Ok ys, t)) → (a : Answer ℤ) → coordinate_at (first_of s) r ≡ a
-        → (a >>= λ x q. viewed (λ xs. x ∷ xs) (point_at n (behind s) q)) ≡ (Ok zs, new) → signeds_at (suc n) r ≡ (Ok zs, new)
-    go more (Err m, q) one e = absurd (ok_not_err zs m new q (sym e))
-    go more (Ok z, q) one e =
-        let b = viewed_back (λ xs. z ∷ xs) (point_at n (behind s) q) zs new e in
-        then_signed n z r q (Ok b.0, new) (signed_back (first_of s) r q z one) (more q new b.0 b.1) ∙ ap (λ (ys : List ℤ). (Ok ys, new)) b.2
+point_signeds (suc n) s r new zs e =
+    let b = point_back n s r new zs e in
+    then_signed n b.first r b.middle (Ok b.others, new) (signed_back (first_of s) r b.middle b.first b.one) (point_signeds n (behind s) b.middle new b.others b.rest) ∙ ap (λ (ys : List ℤ). (Ok ys, new)) b.all
 
 -- the sums of coordinates and numbers fit 64 bits
 abbrev SumsFit : PointValue → List ℤ → Type 0
@@ -45,21 +40,13 @@ SumsFit s [] = Unit {0}
 SumsFit s (z ∷ zs) = SFits w64 (first_of s +ℤ z) × SumsFit (behind s) zs
 
 -- numbers that are read are a point, if the sums fit
-signeds_point : (n : ℕ) (s : PointValue) (r new : Reading) (zs : List ℤ) → signeds_at n r ≡ (Ok zs, new) → SumsFit s zs → (point_at n s r ≡ (Ok zs, new)) × (n + r.place ≤ new.place)
-signeds_point zero s r new zs e fit = let at : r.place ≡ new.place = ap (λ (a : Answer (List ℤ)). a.1.place) e in (e, omega (arith, at))
-signeds_point (suc n) s r new zs e fit = go (signeds_point n (behind s)) (signed_at r) refl e
-  where
-    go : ((q t : Reading) (ys : List ℤ) → signeds_at n q ≡ (Ok ys, t) → SumsFit (behind s) ys → (point_at n (behind s) q ≡ (Ok ys, t)) × (n + q.place ≤ t.place)) → (a : Answer ℤ) → signed_at r ≡ a
-        → (a >>= λ x q. viewed (λ xs. x ∷ xs) (signeds_at n q)) ≡ (Ok zs, new) → (point_at (suc n) s r ≡ (Ok zs, new)) × (suc n + r.place ≤ new.place)
-    go more (Err m, q) one e = absurd (ok_not_err zs m new q (sym e))
-    go more (Ok z, q) one e =
-        let b = viewed_back (λ xs. z ∷ xs) (signeds_at n q) zs new e in
-        let fits = subst (SumsFit s) (sym b.2) fit in
-        let first = coordinate_ok (first_of s) r q z (fits_true (first_of s +ℤ z) fits.0) one in
-        let others = more q new b.0 b.1 fits.1 in (
-          ap (λ (a : Answer ℤ). a >>= λ x q. viewed (λ xs. x ∷ xs) (point_at n (behind s) q)) first ∙ ap (viewed (λ xs. z ∷ xs)) others.0 ∙ ap (λ (ys : List ℤ). (Ok ys, new)) b.2,
-          omega (arith, coordinate_ahead (first_of s) z r q first, others.1),
-        )
+signeds_point : (n : ℕ) (s : PointValue) (r new : Reading) (zs : List ℤ) → signeds_at n r ≡ (Ok zs, new) → SumsFit s zs → point_at n s r ≡ (Ok zs, new)
+signeds_point zero s r new zs e fit = e
+signeds_point (suc n) s r new zs e fit =
+    let b = many_back (λ (s z : ℤ). s) (λ (s : ℤ). signed_at) n (pos 0) r new zs e in
+    let fits = subst (SumsFit s) (sym b.all) fit in
+    many_then (λ (s : PointValue) (z : ℤ). behind s) (λ s. coordinate_at (first_of s)) n s r b.middle b.first (Ok b.others, new) (coordinate_ok (first_of s) r b.middle b.first (fits_true (first_of s +ℤ b.first) fits.0) b.one)
+    (signeds_point n (behind s) b.middle new b.others b.rest fits.1) ∙ ap (λ (ys : List ℤ). (Ok ys, new)) b.all
 
 -- ---- the differences of a point
 -- what adding numbers axis by axis means
@@ -100,9 +87,9 @@ pub record IsReadPoint (has_fourth : Bool) (last more : PerAxis) (r stop : Readi
 
 module _ (has_fourth : Bool) (last : PerAxis) (r stop : Reading) where
   -- a point that is read has differences
-  pub point_back : (point : PointValue) → point_at (axes_by has_fourth) (listed last) r ≡ (Ok point, stop) → IsReadPoint has_fourth last (by_axis point) r stop point
-  point_back point e =
-      let many = point_has (axes_by has_fourth) (listed last) r stop point e in
+  pub point_read : (point : PointValue) → point_at (axes_by has_fourth) (listed last) r ≡ (Ok point, stop) → IsReadPoint has_fourth last (by_axis point) r stop point
+  point_read point e =
+      let many = (point_is (axes_by has_fourth) (listed last) r stop point e).number in
       record { read = e; differences = ap (viewed by_axis) (point_signeds (axes_by has_fourth) (listed last) r stop point e); added = (three_or_four last point has_fourth many).added; many = many }
 
   -- differences that are read are a point, if the sums fit 64 bits
@@ -111,7 +98,7 @@ module _ (has_fourth : Bool) (last : PerAxis) (r stop : Reading) where
       let b = by_axis_back has_fourth more r stop e in
       let p = three_or_four last b.0 has_fourth b.3 in
       let read = signeds_point (axes_by has_fourth) (listed last) r stop b.0 b.1 (p.fit (subst (λ (n : PerAxis). Each (SFits w64) (plus last n)) (sym b.2) fit)) in
-      (b.0, record { read = read.0; differences = e; added = ap (λ (n : PerAxis). listed (plus last n)) (sym b.2) ∙ p.added; many = b.3 }, ahead has_fourth read.1)
+      (b.0, record { read = read; differences = e; added = ap (λ (n : PerAxis). listed (plus last n)) (sym b.2) ∙ p.added; many = b.3 }, ahead has_fourth (point_is (axes_by has_fourth) (listed last) r stop b.0 read).ahead)
     where
       ahead : (b : Bool) → axes_by b + r.place ≤ stop.place → r.place < stop.place
       ahead true le = omega (arith, le)

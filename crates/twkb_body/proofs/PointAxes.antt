@@ -3,17 +3,17 @@ use Rattle.std.proofs.Common.{◌≡◌, ℕ, zero, suc, List, [], ◌∷◌, le
 use Rattle.twkb_num.specs.Cursor.{Reading}
 use Rattle.twkb_head.specs.declared.kinds.Kind.{Kind}
 use Rattle.twkb_head.specs.declared.kinds.Kind.TheVariants.{Point, LineString, Polygon, MultiPoint, MultiLineString, MultiPolygon, GeometryCollection}
-use Rattle.twkb_head.specs.Shared.Reader.{Answer, Reader, ◌>>=◌, viewed, number_at, coordinate_at, many_at}
+use Rattle.twkb_head.specs.Shared.Reader.{Answer, Reader, ◌>>=◌, number_at, coordinate_at, many_at}
 use Rattle.twkb_head.proofs.Readings.{ok_not_err}
 use Rattle.twkb_body.specs.Geometry.{PointValue, PolygonValue, points_of}
 use Rattle.twkb_body.specs.Devices.Body.{first_of, behind, add, sums, ring_sums}
 use Rattle.twkb_body.specs.Devices.BodyReader.{point_at, prefixed_at, ring_at, polygon_at, part_at}
 use Rattle.twkb_body.specs.Devices.Walk.{HaveAxes}
 use Rattle.twkb_body.proofs.PartPlans.{flat_single}
-use Rattle.twkb_body.proofs.RefutedBodies.{viewed_back}
 use Rattle.twkb_body.proofs.Runs.{values_of}
 use Rattle.twkb_body.proofs.Walks.{HaveAxes-append, one_point, ring_points}
 use Rattle.twkb_body.proofs.Sums.{part_points}
+use Rattle.twkb_body.proofs.Tracing.{viewed_back, many_back}
 
 -- of many values that are read, each was read from some state
 module _ {A S : Type 0} (after : S → A → S) (each : S → Reader A) where
@@ -24,14 +24,9 @@ module _ {A S : Type 0} (after : S → A → S) (each : S → Reader A) where
     where
       values : (let a : Answer (List A) = (Ok [], r) in a ≡ (Ok xs, stop)) → [] ≡ xs
       values e = ap values_of e
-  all_read P none more (suc n) s r stop xs e = go (each s r) refl e (λ x mid ys read. all_read P none more n (after s x) mid stop ys read)
-    where
-      go : (a : Answer A) → each s r ≡ a → (a >>= λ x q. viewed (λ ys. x ∷ ys) (many_at n after each (after s x) q)) ≡ (Ok xs, stop)
-          → ((x : A) (mid : Reading) (ys : List A) → many_at n after each (after s x) mid ≡ (Ok ys, stop) → P n ys) → P (suc n) xs
-      go (Err m, q) one e others = absurd (ok_not_err xs m stop q (sym e))
-      go (Ok x, mid) one e others =
-          let b = viewed_back (λ ys. x ∷ ys) (many_at n after each (after s x) mid) xs stop e in
-          subst (P (suc n)) b.2 (more n s r mid x b.0 one (others x mid b.0 b.1))
+  all_read P none more (suc n) s r stop xs e =
+      let b = many_back after each n s r stop xs e in
+      subst (P (suc n)) b.all (more n s r b.middle b.first b.others b.one (all_read P none more n (after s b.first) b.middle stop b.others b.rest))
 
 -- a point has a coordinate for each axis
 pub point_has : (axes : ℕ) (s : PointValue) (r stop : Reading) (p : PointValue) → point_at axes s r ≡ (Ok p, stop) → length p ≡ axes

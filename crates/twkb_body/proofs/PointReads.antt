@@ -17,9 +17,9 @@ use Rattle.twkb_body.specs.Devices.Body.{add, sums, ring_sums}
 use Rattle.twkb_body.specs.Devices.BodyReader.{point_at, prefixed_at, ring_at, polygon_at, part_at}
 use Rattle.twkb_body.specs.Devices.PointReader.{Stage, on, CanRead, IsBefore, HasRead, Leads, EndsEarly}
 use Rattle.twkb_body.specs.Devices.Walk.{lasts_from, IsWalked}
-use Rattle.twkb_body.proofs.RefutedBodies.{viewed_back}
 use Rattle.twkb_body.proofs.Settling.{next_read}
 use Rattle.twkb_body.proofs.Sums.{part_points, rings_sums_flat}
+use Rattle.twkb_body.proofs.Tracing.{viewed_back, many_back}
 use Rattle.twkb_body.proofs.Walks.{number_ahead, walked_from, IsWalkLoop, walk_begins, walk_goes_on, walk_fails, walk_ends, lasts_from-append}
 
 -- a fault is kept where f is applied to the value of an answer
@@ -232,7 +232,8 @@ module _ {S : Type 0} (step : S → PointValue → S) (at : Stage S) where
         next_leads lt leads xs stop e =
             let o = others xs stop e in
             let k : count - i ≡ suc (count - (i + 1)) = omega arith in
-            subst ends (sym o.2) (go (each now.last r) refl o.0 (ap (λ (n : ℕ). many_at n after each now.last r) (sym k) ∙ o.1))
+            let b = many_back after each (count - (i + 1)) now.last r stop o.0 (ap (λ (n : ℕ). many_at n after each now.last r) (sym k) ∙ o.1) in
+            subst ends (sym o.2) (subst (λ (zs : List A). ends (all_from t now.last zs)) b.all (first b.first b.middle b.one b.others))
           where
             first : (x : A) (mid : Reading) → each now.last r ≡ (Ok x, mid) → (zs : List A) → ends (all_from t now.last (x ∷ zs))
             first x mid one zs =
@@ -240,12 +241,6 @@ module _ {S : Type 0} (step : S → PointValue → S) (at : Stage S) where
                 ap (fold step t) (lasts_from-append now.last (points_in x) (flat_map points_in zs))
                 ∙ fold-append step t (lasts_from now.last (points_in x)) (lasts_from (sums now.last (points_in x)) (flat_map points_in zs)) in
                 subst ends (sym all) (ends_on (fold step t (lasts_from now.last (points_in x))) (lasts_from (sums now.last (points_in x)) (flat_map points_in zs)) (leads x mid one))
-
-            go : (a : Answer A) → each now.last r ≡ a → (ys : List A) → (a >>= λ x q. viewed (λ zs. x ∷ zs) (many_at (count - (i + 1)) after each (after now.last x) q)) ≡ (Ok ys, stop) → ends (all_from t now.last ys)
-            go (Err m, q) one ys e = absurd (ok_not_err ys m stop q (sym e))
-            go (Ok x, mid) one ys e =
-                let b = viewed_back (λ zs. x ∷ zs) (many_at (count - (i + 1)) after each (after now.last x) mid) ys stop e in
-                subst (λ (zs : List A). ends (all_from t now.last zs)) b.2 (first x mid one b.0)
 
 -- ---- lists of values, one after another, each after its length
 module _ {S : Type 0} (step : S → PointValue → S) (at : Stage S) {A : Type 0} (after : PointValue → A → PointValue) (value : ℕ → PointValue → Reader A) (points_in : List A → List PointValue) (count : ℕ) (from : Reading) where

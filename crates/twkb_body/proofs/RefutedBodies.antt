@@ -39,12 +39,8 @@ use Rattle.twkb_body.proofs.MemberSteps.{collection_body, behind_list}
 use Rattle.twkb_body.proofs.Passes.{right_of, left_of, all_left, all_right}
 use Rattle.twkb_body.proofs.Repeats.{repeated}
 use Rattle.twkb_body.proofs.SureSteps.{IsSureLoop}
+use Rattle.twkb_body.proofs.Tracing.{viewed_back}
 use Rattle.twkb_body.proofs.TreeSums.{member_total}
-
--- a value with f applied comes from a value that was read
-pub viewed_back : {A B : Type 0} (f : A → B) (a : Answer A) (y : B) (new : Reading) → viewed f a ≡ (Ok y, new) → (x : A) × (a ≡ (Ok x, new)) × (f x ≡ y)
-viewed_back {A} {B} f (Ok x, r) y new e = (x, ap (λ (s : Reading). (Ok x, s)) (ap (λ (z : Answer B). z.1) e), ok_is {A = B} {E = Malformed} (f x) y (ap (λ (z : Answer B). z.0) e))
-viewed_back f (Err m, r) y new e = absurd (ok_not_err y m new r (sym e))
 
 -- ---- one of many
 -- of many values that are read, one is read where the values before it end

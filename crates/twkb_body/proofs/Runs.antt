@@ -3,10 +3,9 @@ use Rattle.std.proofs.Common.{◌≡◌, ℕ, zero, suc, ◌+◌, ◌≤◌, Lis
 use Rattle.std.proofs.lemmas.List.{append-nil}
 use Rattle.std.proofs.lemmas.Grind.{flat_map-append}
 use Rattle.twkb_num.specs.Cursor.{Reading}
-use Rattle.twkb_head.specs.Shared.Reader.{Answer, Reader, ◌>>=◌, viewed, many_at}
+use Rattle.twkb_head.specs.Shared.Reader.{Answer, Reader, many_at}
 use Rattle.twkb_head.proofs.Combinators.{after_all}
 use Rattle.twkb_head.proofs.Loops.{IsLoop, loop_begins, loop_goes_on, loop_ends}
-use Rattle.twkb_head.proofs.Readings.{ok_not_err}
 use Rattle.twkb_body.specs.declared.trail.Trail.{Trail}
 use Rattle.twkb_body.specs.Geometry.{PointValue}
 use Rattle.twkb_body.specs.Devices.Body.{add}
@@ -14,6 +13,7 @@ use Rattle.twkb_body.specs.Devices.BodyReader.{point_at}
 use Rattle.twkb_body.specs.Devices.Walk.{IsWalked, IsRun}
 use Rattle.twkb_body.proofs.PartPlans.{flat_single}
 use Rattle.twkb_body.proofs.Sums.{after_points}
+use Rattle.twkb_body.proofs.Tracing.{many_back}
 use Rattle.twkb_body.proofs.Walks.{IsRingLoop, one_point, walked_none, walked_then}
 
 -- the values of an answer, if any
@@ -37,26 +37,13 @@ module _ {A S : Type 0} (after : S → A → S) (read : S → Reader A) (count :
       (subst (λ (zs : List A). IsLoop after read count total (front ++ zs) (i + 0) (after_all after s zs) r) none start)
 
   far_more : (k : ℕ) → Far k → Far (suc k)
-  far_more k far front i s r new xs le e l = go (read s r) refl e
-    where
-      others : (x : A) (mid : Reading) → read s r ≡ (Ok x, mid) → (b : Answer (List A)) → many_at k after read (after s x) mid ≡ b → viewed (λ ys. x ∷ ys) b ≡ (Ok xs, new)
-          → IsLoop after read count total (front ++ xs) (i + suc k) (after_all after s xs) new
-      others x mid one (Err m, q) many e = absurd (ok_not_err xs m new q (sym e))
-      others x mid one (Ok ys, q) many e =
-          let whole : x ∷ ys ≡ xs = ap values_of e in
-          let same : q ≡ new = ap (λ (a : Answer (List A)). a.1) e in
-          let more = far (front ++ x ∷ []) (i + 1) (after s x) mid q ys (omega (arith, le)) many (loop_goes_on after read count total front i s r mid x (omega (arith, le)) one l) in
-          let joined : IsLoop after read count total (front ++ (x ∷ ys)) (i + 1 + k) (after_all after s (x ∷ ys)) q =
-          subst (λ (zs : List A). IsLoop after read count total zs (i + 1 + k) (after_all after (after s x) ys) q) (append_assoc front (x ∷ []) ys) more in
-          let counted : IsLoop after read count total (front ++ (x ∷ ys)) (i + suc k) (after_all after s (x ∷ ys)) q =
-          subst (λ (n : ℕ). IsLoop after read count total (front ++ (x ∷ ys)) n (after_all after s (x ∷ ys)) q) (omega arith) joined in
-          subst (λ (z : Reading). IsLoop after read count total (front ++ xs) (i + suc k) (after_all after s xs) z) same
-          (subst (λ (zs : List A). IsLoop after read count total (front ++ zs) (i + suc k) (after_all after s zs) q) whole counted)
-
-      go : (a : Answer A) → read s r ≡ a → (a >>= λ x q. viewed (λ ys. x ∷ ys) (many_at k after read (after s x) q)) ≡ (Ok xs, new)
-          → IsLoop after read count total (front ++ xs) (i + suc k) (after_all after s xs) new
-      go (Err m, q) one e = absurd (ok_not_err xs m new q (sym e))
-      go (Ok x, mid) one e = others x mid one (many_at k after read (after s x) mid) refl e
+  far_more k far front i s r new xs le e l =
+      let b = many_back after read k s r new xs e in
+      let more = far (front ++ b.first ∷ []) (i + 1) (after s b.first) b.middle new b.others (omega (arith, le)) b.rest (loop_goes_on after read count total front i s r b.middle b.first (omega (arith, le)) b.one l) in
+      let joined : IsLoop after read count total (front ++ (b.first ∷ b.others)) (i + 1 + k) (after_all after s (b.first ∷ b.others)) new =
+      subst (λ (zs : List A). IsLoop after read count total zs (i + 1 + k) (after_all after (after s b.first) b.others) new) (append_assoc front (b.first ∷ []) b.others) more in
+      subst (λ (n : ℕ). IsLoop after read count total (front ++ xs) n (after_all after s xs) new) (omega arith)
+      (subst (λ (zs : List A). IsLoop after read count total (front ++ zs) (i + 1 + k) (after_all after s zs) new) b.all joined)
 
   pub goes_far : (k : ℕ) → Far k
   goes_far zero = far_none

@@ -4,7 +4,7 @@ use Rattle.twkb_num.specs.Cursor.{Reading, passed, IsMoved, IsSound}
 use Rattle.twkb_num.specs.Varint.{SpellsAll, SpellsMany, zigzag_value}
 use Rattle.twkb_num.proofs.CursorLemmas.{IsMoved-here, IsMoved-after, IsSound-moved}
 use Rattle.twkb_head.specs.Header.{axes_with}
-use Rattle.twkb_head.specs.Shared.Reader.{Answer, Reader, ◌>>=◌, viewed, many_at, coordinate_at, signed_at, Fails}
+use Rattle.twkb_head.specs.Shared.Reader.{Answer, Reader, many_at, signed_at, Fails}
 use Rattle.twkb_head.specs.declared.refusal.Malformed.{Malformed}
 use Rattle.twkb_head.proofs.Combinators.{after_all}
 use Rattle.twkb_head.proofs.Loops.{IsLoop, loop_begins, loop_fails, loop_ends, behind_front}
@@ -19,6 +19,7 @@ use Rattle.twkb_body.proofs.BareRuns.{peel, moved_none}
 use Rattle.twkb_body.proofs.Coordinates.{coordinate_ahead, signed_back}
 use Rattle.twkb_body.proofs.Runs.{values_of, goes_far}
 use Rattle.twkb_body.proofs.Sums.{after_points}
+use Rattle.twkb_body.proofs.Tracing.{many_back, point_back}
 use Rattle.twkb_body.proofs.Walks.{walked_then}
 
 -- ---- numbers, one after another
@@ -59,41 +60,17 @@ numbers_moved (suc n) r stop sound (z, mid, one, others) =
 -- a point that is read is a number for each axis
 pub point_numbers : (axes : ℕ) (s : PointValue) (r mid : Reading) (p : PointValue) → point_at axes s r ≡ (Ok p, mid) → NumbersLead axes r mid
 point_numbers zero s r mid p e = ap (λ (a : Answer PointValue). a.1) e
-point_numbers (suc axes) s r mid p e = go (λ q t cs is. point_numbers axes (behind s) q t cs is) (coordinate_at (first_of s) r) refl e
-  where
-    Others : Reader PointValue
-    Others = many_at axes (λ (s : PointValue) (z : ℤ). behind s) (λ s. coordinate_at (first_of s)) (behind s)
-
-    others : ((q t : Reading) (cs : PointValue) → Others q ≡ (Ok cs, t) → NumbersLead axes q t) → (z : ℤ) (q : Reading) → signed_at r ≡ (Ok z, q) → (b : Answer PointValue) → Others q ≡ b → viewed (λ cs. z ∷ cs) b ≡ (Ok p, mid) → NumbersLead (suc axes) r mid
-    others more z q one (Err m, t) is e = absurd (ok_not_err p m mid t (sym e))
-    others more z q one (Ok cs, t) is e =
-        let at : t ≡ mid = ap (λ (a : Answer PointValue). a.1) e in
-        (z, q, one, subst (NumbersLead axes q) at (more q t cs is))
-
-    go : ((q t : Reading) (cs : PointValue) → Others q ≡ (Ok cs, t) → NumbersLead axes q t) → (a : Answer ℤ) → coordinate_at (first_of s) r ≡ a → (a >>= λ z q. viewed (λ cs. z ∷ cs) (Others q)) ≡ (Ok p, mid) → NumbersLead (suc axes) r mid
-    go more (Err m, q) is e = absurd (ok_not_err p m mid q (sym e))
-    go more (Ok z, q) is e = others more z q (signed_back (first_of s) r q z is) (Others q) refl e
+point_numbers (suc axes) s r mid p e =
+    let b = point_back axes s r mid p e in
+    (b.first, b.middle, signed_back (first_of s) r b.middle b.first b.one, point_numbers axes (behind s) b.middle mid b.others b.rest)
 
 -- points that are read are a number for each axis of each
 points_numbers : (axes count : ℕ) (s : PointValue) (r stop : Reading) (ps : List PointValue) → many_at count add (point_at axes) s r ≡ (Ok ps, stop) → NumbersLead (count * axes) r stop
 points_numbers axes zero s r stop ps e = let none : 0 * axes ≡ 0 = omega arith in rw none (ap (λ (a : Answer (List PointValue)). a.1) e)
-points_numbers axes (suc count) s r stop ps e = go (λ x q t xs is. points_numbers axes count (add s x) q t xs is) (point_at axes s r) refl e
-  where
-    Others : PointValue → Reader (List PointValue)
-    Others x = many_at count add (point_at axes) (add s x)
-
-    all : suc count * axes ≡ axes + count * axes
-    all = omega arith
-
-    others : ((x : PointValue) (q t : Reading) (xs : List PointValue) → Others x q ≡ (Ok xs, t) → NumbersLead (count * axes) q t) → (x : PointValue) (q : Reading) → NumbersLead axes r q → (b : Answer (List PointValue)) → Others x q ≡ b → viewed (λ xs. x ∷ xs) b ≡ (Ok ps, stop) → NumbersLead (suc count * axes) r stop
-    others more x q one (Err m, t) is e = absurd (ok_not_err ps m stop t (sym e))
-    others more x q one (Ok xs, t) is e =
-        let at : t ≡ stop = ap (λ (a : Answer (List PointValue)). a.1) e in
-        rw all (NumbersLead-append axes (count * axes) r q stop one (subst (NumbersLead (count * axes) q) at (more x q t xs is)))
-
-    go : ((x : PointValue) (q t : Reading) (xs : List PointValue) → Others x q ≡ (Ok xs, t) → NumbersLead (count * axes) q t) → (a : Answer PointValue) → point_at axes s r ≡ a → (a >>= λ x q. viewed (λ xs. x ∷ xs) (Others x q)) ≡ (Ok ps, stop) → NumbersLead (suc count * axes) r stop
-    go more (Err m, q) is e = absurd (ok_not_err ps m stop q (sym e))
-    go more (Ok x, q) is e = others more x q (point_numbers axes s r q x is) (Others x q) refl e
+points_numbers axes (suc count) s r stop ps e =
+    let b = many_back add (point_at axes) count s r stop ps e in
+    let all : suc count * axes ≡ axes + count * axes = omega arith in
+    rw all (NumbersLead-append axes (count * axes) r b.middle stop (point_numbers axes s r b.middle b.first b.one) (points_numbers axes count (add s b.first) b.middle stop b.others b.rest))
 
 -- numbers that are passed by their ends lead on
 run_leads : (done : ℕ) (r mid : Reading) → IsSound r → SpellsMany (passed r mid) done → IsMoved r mid → NumbersLead done r mid
@@ -146,31 +123,19 @@ module _ {A S : Type 0} (after : S → A → S) (each : S → Reader A) (count :
           (ys, is ∙ ap (λ (z : Reading). (Ok ys, z)) there, ap values_of e)
 
 -- ---- points that are read
-record IsPoint (axes : ℕ) (r mid : Reading) (p : PointValue) : Type 0 where
-  number : length p ≡ axes
-  ahead : axes + r.place ≤ mid.place
+pub record IsPoint (axes : ℕ) (r mid : Reading) (p : PointValue) : Type 0 where
+  pub number : length p ≡ axes
+  pub ahead : axes + r.place ≤ mid.place
 
-point_is : (axes : ℕ) (s : PointValue) (r mid : Reading) (p : PointValue) → point_at axes s r ≡ (Ok p, mid) → IsPoint axes r mid p
+pub point_is : (axes : ℕ) (s : PointValue) (r mid : Reading) (p : PointValue) → point_at axes s r ≡ (Ok p, mid) → IsPoint axes r mid p
 point_is zero s r mid p e =
     let here : r.place ≡ mid.place = ap (λ (a : Answer PointValue). a.1.place) e in
     let none : [] ≡ p = ap values_of e in
     record { number = ap length (sym none); ahead = omega (arith, here) }
-point_is (suc axes) s r mid p e = go (λ q cs is. point_is axes (behind s) q mid cs is) (coordinate_at (first_of s) r) refl e
-  where
-    Others : Reader PointValue
-    Others = many_at axes (λ (s : PointValue) (z : ℤ). behind s) (λ s. coordinate_at (first_of s)) (behind s)
-
-    others : ((q : Reading) (cs : PointValue) → Others q ≡ (Ok cs, mid) → IsPoint axes q mid cs) → (z : ℤ) (q : Reading) → r.place < q.place → (b : Answer PointValue) → Others q ≡ b → viewed (λ cs. z ∷ cs) b ≡ (Ok p, mid) → IsPoint (suc axes) r mid p
-    others more z q before (Err m, t) is e = absurd (ok_not_err p m mid t (sym e))
-    others more z q before (Ok cs, t) is e =
-        let at : t ≡ mid = ap (λ (a : Answer PointValue). a.1) e in
-        let whole : z ∷ cs ≡ p = ap values_of e in
-        let one = more q cs (is ∙ ap (λ (y : Reading). (Ok cs, y)) at) in
-        record { number = ap length (sym whole) ∙ ap suc one.number; ahead = omega (arith, before, one.ahead) }
-
-    go : ((q : Reading) (cs : PointValue) → Others q ≡ (Ok cs, mid) → IsPoint axes q mid cs) → (a : Answer ℤ) → coordinate_at (first_of s) r ≡ a → (a >>= λ z q. viewed (λ cs. z ∷ cs) (Others q)) ≡ (Ok p, mid) → IsPoint (suc axes) r mid p
-    go more (Err m, q) is e = absurd (ok_not_err p m mid q (sym e))
-    go more (Ok z, q) is e = others more z q (coordinate_ahead (first_of s) z r q is) (Others q) refl e
+point_is (suc axes) s r mid p e =
+    let b = point_back axes s r mid p e in
+    let one = point_is axes (behind s) b.middle mid b.others b.rest in
+    record { number = ap length (sym b.all) ∙ ap suc one.number; ahead = omega (arith, coordinate_ahead (first_of s) b.first r b.middle b.one, one.ahead) }
 
 record ArePoints (axes count : ℕ) (r stop : Reading) (ps : List PointValue) : Type 0 where
   number : length ps ≡ count
@@ -182,38 +147,18 @@ points_are axes zero s r stop ps some e =
     let here : r.place ≡ stop.place = ap (λ (a : Answer (List PointValue)). a.1.place) e in
     let none : [] ≡ ps = ap values_of e in
     subst (ArePoints axes 0 r stop) none (record { number = refl; have = tt; ahead = omega (arith, here) })
-points_are axes (suc count) s r stop ps some e = go (λ x q xs is. points_are axes count (add s x) q stop xs some is) (point_at axes s r) refl e
-  where
-    Others : PointValue → Reader (List PointValue)
-    Others x = many_at count add (point_at axes) (add s x)
-
-    others : ((x : PointValue) (q : Reading) (xs : List PointValue) → Others x q ≡ (Ok xs, stop) → ArePoints axes count q stop xs) → (x : PointValue) (q : Reading) → IsPoint axes r q x → (b : Answer (List PointValue)) → Others x q ≡ b → viewed (λ xs. x ∷ xs) b ≡ (Ok ps, stop) → ArePoints axes (suc count) r stop ps
-    others more x q one (Err m, t) is e = absurd (ok_not_err ps m stop t (sym e))
-    others more x q one (Ok xs, t) is e =
-        let at : t ≡ stop = ap (λ (a : Answer (List PointValue)). a.1) e in
-        let whole : x ∷ xs ≡ ps = ap values_of e in
-        let further = more x q xs (is ∙ ap (λ (y : Reading). (Ok xs, y)) at) in
-        subst (ArePoints axes (suc count) r stop) whole (record { number = ap suc further.number; have = (one.number, further.have); ahead = omega (arith, one.ahead, further.ahead, some) })
-
-    go : ((x : PointValue) (q : Reading) (xs : List PointValue) → Others x q ≡ (Ok xs, stop) → ArePoints axes count q stop xs) → (a : Answer PointValue) → point_at axes s r ≡ a → (a >>= λ x q. viewed (λ xs. x ∷ xs) (Others x q)) ≡ (Ok ps, stop) → ArePoints axes (suc count) r stop ps
-    go more (Err m, q) is e = absurd (ok_not_err ps m stop q (sym e))
-    go more (Ok x, q) is e = others more x q (point_is axes s r q x is) (Others x q) refl e
+points_are axes (suc count) s r stop ps some e =
+    let b = many_back add (point_at axes) count s r stop ps e in
+    let one = point_is axes s r b.middle b.first b.one in
+    let further = points_are axes count (add s b.first) b.middle stop b.others some b.rest in
+    subst (ArePoints axes (suc count) r stop) b.all (record { number = ap suc further.number; have = (one.number, further.have); ahead = omega (arith, one.ahead, further.ahead, some) })
 
 -- each number of points takes at least a byte
 points_long : (axes count : ℕ) (s : PointValue) (r stop : Reading) (ps : List PointValue) → many_at count add (point_at axes) s r ≡ (Ok ps, stop) → count * axes + r.place ≤ stop.place
 points_long axes zero s r stop ps e = let here : r.place ≡ stop.place = ap (λ (a : Answer (List PointValue)). a.1.place) e in omega (arith, here)
-points_long axes (suc count) s r stop ps e = go (λ x q t xs is. points_long axes count (add s x) q t xs is) (point_at axes s r) refl e
-  where
-    Others : PointValue → Reader (List PointValue)
-    Others x = many_at count add (point_at axes) (add s x)
-
-    others : ((x : PointValue) (q t : Reading) (xs : List PointValue) → Others x q ≡ (Ok xs, t) → count * axes + q.place ≤ t.place) → (x : PointValue) (q : Reading) → IsPoint axes r q x → (b : Answer (List PointValue)) → Others x q ≡ b → viewed (λ xs. x ∷ xs) b ≡ (Ok ps, stop) → suc count * axes + r.place ≤ stop.place
-    others more x q one (Err m, t) is e = absurd (ok_not_err ps m stop t (sym e))
-    others more x q one (Ok xs, t) is e = let at : t.place ≡ stop.place = ap (λ (a : Answer (List PointValue)). a.1.place) e in omega (arith, one.ahead, more x q t xs is, at)
-
-    go : ((x : PointValue) (q t : Reading) (xs : List PointValue) → Others x q ≡ (Ok xs, t) → count * axes + q.place ≤ t.place) → (a : Answer PointValue) → point_at axes s r ≡ a → (a >>= λ x q. viewed (λ xs. x ∷ xs) (Others x q)) ≡ (Ok ps, stop) → suc count * axes + r.place ≤ stop.place
-    go more (Err m, q) is e = absurd (ok_not_err ps m stop q (sym e))
-    go more (Ok x, q) is e = others more x q (point_is axes s r q x is) (Others x q) refl e
+points_long axes (suc count) s r stop ps e =
+    let b = many_back add (point_at axes) count s r stop ps e in
+    omega (arith, (point_is axes s r b.middle b.first b.one).ahead, points_long axes count (add s b.first) b.middle stop b.others b.rest)
 
 -- points have fewer than 2^64 numbers
 pub points_fit : (axes count : ℕ) (s : PointValue) (r stop : Reading) (ps : List PointValue) → IsSound r → many_at count add (point_at axes) s r ≡ (Ok ps, stop) → count * axes < 2 ^ 64
