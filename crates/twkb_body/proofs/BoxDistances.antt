@@ -1,8 +1,8 @@
 -- Distances of points from the minima of a box.
-use Rattle.std.proofs.Common.{◌≡◌, Bool, true, false, ◌&&◌, ℤ, pos, ◌+ℤ◌, ◌-ℤ◌, ◌≤ℤ◌, refl, arith}
+use Rattle.std.proofs.Common.{◌≡◌, Bool, true, false, ◌&&◌, ℤ, pos, ◌+ℤ◌, ◌-ℤ◌, ◌≤ℤ◌, refl, sym, ap, ◌∙◌, arith}
 use Rattle.std.proofs.lemmas.Bool.Decides.{Decides-and}
-use Rattle.std.proofs.lemmas.Int.{ints, to_z-of_z}
-use mir.Val.{SFits, to_z, of_z}
+use Rattle.std.proofs.lemmas.Int.{ints}
+use mir.Val.{to_z, of_z}
 use Rattle.std.specs.Bool.{Decides}
 use Rattle.std.specs.Int.{w64}
 use Rattle.twkb_body.specs.declared.per_axis.PerAxis.{PerAxis}
@@ -33,22 +33,25 @@ both_true false b e = absurd (cc (e))
 pub extent_lane : (w : ℤ) → IsLaneExtent w → IsInLane w
 extent_lane w fits = (omega (arith, ints, fits.0), omega (arith, ints, fits.1))
 
--- the sum of a distance and a difference, if it is within an extent
-pub kept : (d w m x e n sum : ℤ) → d ≡ x → w ≡ e → m ≡ n → IsInLane e → sum ≡ d +ℤ m → reaches w sum ≡ true → (sum ≡ x +ℤ n) × (reaches e (x +ℤ n) ≡ true) × IsInLane sum
-kept d w m x e n sum d_is w_is m_is lane sum_is e_reached =
-    let r = (reaches_decides w sum).0 e_reached in (
-      omega (arith, ints, d_is, m_is, sum_is),
-      (reaches_decides e (x +ℤ n)).1 (omega (arith, ints, d_is, m_is, sum_is, w_is, r.0), omega (arith, ints, d_is, m_is, sum_is, w_is, r.1)),
-      (omega (arith, ints, r.0), omega (arith, ints, r.1, w_is, lane.1)),
-    )
+-- what is left of a number in 64 bits
+abbrev pub bits : ℤ → ℤ
+bits z = to_z w64 (of_z w64 z)
 
--- the numbers that vectors hand over lose nothing in 64 bits
-pub in_bits : (z : ℤ) → IsInLane z → to_z w64 (of_z w64 z) ≡ z
-in_bits z lane = omega (arith, ints, lane.0, lane.1)
+-- a distance plus a difference lies within an extent, all in 64 bits
+pub moved : (distance extent more sum : ℤ) → (sum ≡ bits distance +ℤ bits more) × (reaches (bits extent) sum ≡ true) → bits distance ≡ distance → bits extent ≡ extent → bits more ≡ more → bits sum ≡ sum
+    → (bits sum ≡ distance +ℤ more) × (reaches extent (distance +ℤ more) ≡ true)
+moved distance extent more sum (is, e) distance_is extent_is more_is sum_is = (
+  sum_is ∙ is ∙ (λ j. distance_is j +ℤ more_is j),
+  (λ j. reaches (sym extent_is j) (sym distance_is j +ℤ sym more_is j)) ∙ ap (reaches (bits extent)) (sym is) ∙ e,
+)
 
--- a number of 64 bits loses nothing in 64 bits
-pub in_range : (z : ℤ) → SFits w64 z → to_z w64 (of_z w64 z) ≡ z
-in_range z fits = to_z-of_z w64 z fits
+-- or it doesn't
+pub missed : (distance extent more : ℤ) → reaches (bits extent) (bits distance +ℤ bits more) ≡ false → bits distance ≡ distance → bits extent ≡ extent → bits more ≡ more → reaches extent (distance +ℤ more) ≡ false
+missed distance extent more out distance_is extent_is more_is = (λ j. reaches (sym extent_is j) (sym distance_is j +ℤ sym more_is j)) ∙ out
+
+-- a distance within an extent in a lane is in a lane
+pub within_lane : (extent z : ℤ) → IsInLane extent → reaches extent z ≡ true → IsInLane z
+within_lane extent z wide e = let there = (reaches_decides extent z).0 e in (omega (arith, ints, there.0), omega (arith, ints, there.1, wide.1))
 
 pub extents_in_lanes : (e : PerAxis) → Each IsLaneExtent e → Each IsInLane e
 extents_in_lanes e wide = record { x = extent_lane _ wide.x; y = extent_lane _ wide.y; third = extent_lane _ wide.third; fourth = extent_lane _ wide.fourth }
@@ -59,7 +62,4 @@ all_in_lanes e apart wide is =
     let both = both_true (reaches e.x apart.x && reaches e.y apart.y) (reaches e.third apart.third && reaches e.fourth apart.fourth) is in
     let flat = both_true (reaches e.x apart.x) (reaches e.y apart.y) both.0 in
     let further = both_true (reaches e.third apart.third) (reaches e.fourth apart.fourth) both.1 in
-    record { x = lane _ _ wide.x flat.0; y = lane _ _ wide.y flat.1; third = lane _ _ wide.third further.0; fourth = lane _ _ wide.fourth further.1 }
-  where
-    lane : (extent z : ℤ) → IsInLane extent → reaches extent z ≡ true → IsInLane z
-    lane extent z wide e = let there = (reaches_decides extent z).0 e in (omega (arith, ints, there.0), omega (arith, ints, there.1, wide.1))
+    record { x = within_lane _ _ wide.x flat.0; y = within_lane _ _ wide.y flat.1; third = within_lane _ _ wide.third further.0; fourth = within_lane _ _ wide.fourth further.1 }

@@ -4,7 +4,7 @@ ghost use Rattle.twkb_num.specs.Varint.{IsShort};
 ghost use Rattle.twkb_body.specs.Devices.Body.{zeros};
 ghost use Rattle.twkb_body.specs.Devices.FurtherLanes.{FitsFurther, all_within, FromFourLanes, IsFurtherStep, IsFarPoint, IsFurtherPlace};
 ghost use Rattle.twkb_body.specs.Devices.PerAxis.{Each, plus, is_four, differences_at};
-ghost use Rattle.twkb_body.specs.Devices.Quads.{IsInLane, ReadsAtMost};
+ghost use Rattle.twkb_body.specs.Devices.Quads.{ReadsAtMost};
 
 use crate::lane_trail::{LaneReader, LaneTrail};
 use crate::parts::LinesInlined;
@@ -217,8 +217,6 @@ fn take_differences<const AXES: usize>(cursor: &mut Cursor) -> Result<PerAxis, M
 /// The sums of distances and differences, if each lies within the extent of its axis.
 #[inline(always)]
 fn all_moved_within(apart: &PerAxis, more: &PerAxis, extents: &PerAxis) -> Option<PerAxis>
-    requires apart { Each IsInLane apart.now }
-    requires extents { Each IsInLane extents.now }
     ensures some { IfSome result (λ sums. (sums ≡ plus apart.now more.now) × (all_within extents.now sums ≡ true)) }
     ensures none { IfNone result (all_within extents.now (plus apart.now more.now) ≡ false) }
 {

@@ -3,7 +3,7 @@
 //! A lane holds a point's distance in one axis from the minimum of the box. One comparison without signs tells whether the point is
 //! in the box, since a distance below zero is a great number then. For points of X and Y alone, lanes of differences hold four points
 //! in 16 bits or two in 32, and the last point and the widths of the box are in lanes twice. Used by `flat_lanes`, `further_lanes`, `lane_trail` and `quads`.
-ghost use Rattle.std.specs.Prelude.{◌≡◌, true, ◌+◌, ◌-◌, ◌%◌, ◌^◌, ◌<◌, ◌&&◌, ◌+ℤ◌, ◌<ℤ◌, pos, neg_ℤ, ℕ, ℤ, map, [], ◌∷◌, nat_le, nat_lt, if◌then◌else◌, All, false, IfSome, IfNone};
+ghost use Rattle.std.specs.Prelude.{◌≡◌, true, ◌+◌, ◌-◌, ◌%◌, ◌^◌, ◌<◌, ◌&&◌, ◌+ℤ◌, neg_ℤ, ℕ, ℤ, map, [], ◌∷◌, nat_le, nat_lt, if◌then◌else◌, All, false, IfSome, IfNone};
 ghost use Rattle.std.specs.Int.{w16, w32, cast_signed, cast_unsigned};
 ghost use Rattle.twkb_num.specs.Varint.{IsBrief, IsShort};
 ghost use Rattle.twkb_body.specs.declared.per_axis.PerAxis.{PerAxis as PerAxisOf};
@@ -94,8 +94,6 @@ pub fn distances_in(at: u32x4) -> (i64, i64)
 /// A distance and a difference added up, if the sum lies within an extent.
 #[inline(always)]
 pub fn moved_within(distance: i64, more: i64, extent: i64) -> Option<i64>
-    requires distance { IsInLane distance }
-    requires extent { extent <ℤ pos (2 ^ 31) }
     ensures some { IfSome result (λ sum. (sum ≡ distance +ℤ more) × (reaches extent sum ≡ true)) }
     ensures none { IfNone result (reaches extent (distance +ℤ more) ≡ false) }
 {
