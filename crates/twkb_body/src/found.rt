@@ -1,5 +1,5 @@
 //! [`Found`], what the exact audit keeps of the geometries it has read, and the judging of claims.
-//! Used by `geometry`, `inside`, `lists`, `shape` and `sure`.
+//! Used by `geometry`, `inside`, `lists` and `shape`.
 ghost use Rattle.std.specs.Prelude.{◌≡◌, ◌+◌, ◌^◌, ◌<◌, ◌≤◌, IfSome, None};
 ghost use Rattle.twkb_head.specs.Raw.{HavePrecisions};
 ghost use Rattle.twkb_body.specs.Devices.Inside.{of_head};

@@ -24,7 +24,6 @@ use self::apart::{flat_ranges, take_apart, take_apart_flat};
 use self::plain::{pass_point, take_plain};
 use self::shapes::{take_flat_shape, take_further_shape};
 use crate::doubt::Doubt;
-use crate::found::judge_size;
 use crate::frame::{Frame, further_frame};
 use crate::lists::take_list;
 use crate::rooms::IdRoom;
@@ -163,10 +162,10 @@ fn take_flat_headed<R: IdRoom>(
             x,
             y,
         )?;
-        return judged(&head, cursor.place(), vertices);
+        return judged(&head, cursor, vertices);
     };
     let vertices = take_flat_body(room, cursor, depth, &head, &frame)?;
-    judged(&head, cursor.place(), vertices)
+    judged(&head, cursor, vertices)
 }
 
 /// Reads a geometry as [`take_sure`] does, which has an extended dimensions byte or is empty.
@@ -246,10 +245,10 @@ fn take_further_headed<R: IdRoom>(
             ..
         } = head;
         let vertices = take_apart(room, cursor, depth, above, kind, xy, z, m, ids, &bounds)?;
-        return judged(&head, cursor.place(), vertices);
+        return judged(&head, cursor, vertices);
     };
     let vertices = take_further_body(room, cursor, depth, &head, &frame)?;
-    judged(&head, cursor.place(), vertices)
+    judged(&head, cursor, vertices)
 }
 
 /// Reads an empty geometry at `depth`, after its first two bytes.
@@ -268,17 +267,23 @@ fn take_empty(cursor: &mut Cursor, depth: u8, first: u8, metadata: u8) -> Result
         return Err(Doubt::Refused);
     };
     let head = raw.boxless();
-    judged(&head, cursor.place(), 0)
+    judged(&head, cursor, 0)
 }
 
-/// The number of vertices of a geometry that ends at `stop`, if its size is true.
+/// The number of vertices of a geometry that ends at the place, if its size is true.
 #[inline(always)]
-fn judged(head: &Head, stop: usize, vertices: usize) -> Result<usize, Doubt>
-    requires { IfSome head.now.size (λ size. size.after ≤ stop) }
-    ensures { IsJudged head.now stop vertices result }
+fn judged(head: &Head, cursor: &mut Cursor, vertices: usize) -> Result<usize, Doubt>
+    requires { IfSome head.now.size (λ size. size.after ≤ cursor.old.place) }
+    ensures judged { IsJudged head.now cursor.old.place vertices result }
+    ensures still { cursor.new ≡ cursor.old }
 {
-    if judge_size(head.size, stop).is_some() {
-        return Err(Doubt::Refused);
+    if let Some(size) = head.size {
+        if (cursor.place() - size.after) as u64 != size.value {
+            return Err(Doubt::Refused);
+        }
+        // So the processor can begin the next geometry before it knows the lengths of all numbers of this one. If the end were
+        // compared with the place, instead of the size with the length, the compiler would leave this out, since it changes nothing.
+        cursor.go_on_from(size.after + size.value as usize);
     }
     Ok(vertices)
 }

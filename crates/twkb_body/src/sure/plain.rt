@@ -36,5 +36,5 @@ pub fn take_plain(cursor: &mut Cursor, begun: Begun) -> Result<usize, Doubt>
     };
     let head = raw.boxless();
     let vertices = take_bare(cursor, begun.kind)?;
-    judged(&head, cursor.place(), vertices)
+    judged(&head, cursor, vertices)
 }

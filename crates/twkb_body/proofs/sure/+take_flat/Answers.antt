@@ -15,7 +15,7 @@ use Rattle.twkb_body.specs.Devices.BodyReader.{list_at}
 use Rattle.twkb_body.specs.Devices.Found.{named}
 use Rattle.twkb_body.specs.Devices.IdLists.{HasManyIdsAfterCount}
 use Rattle.twkb_body.specs.Devices.Stops.{own_ids, member_ids, WantsBehind}
-use Rattle.twkb_body.specs.Devices.Sure.{HasReadTwo, IsJudged, IsRefuted, IsRefutedBody}
+use Rattle.twkb_body.specs.Devices.Sure.{HasReadTwo, IsRefuted, IsRefutedBody}
 use Rattle.twkb_body.proofs.Keeping.{keeps_list, read_keeps}
 use Rattle.twkb_body.proofs.MemberSteps.{member_bytes}
 use Rattle.twkb_body.proofs.SureSteps.{two_read, sure_begins, sure_goes_on, members_sure}
@@ -60,12 +60,12 @@ take_flat_headed-returns-in_err-vertices-2 g t c = λ before sound read.
 
 pub take_flat_headed-judged-requires-2 : goal.take_flat_headed-judged-requires-2
 take_flat_headed-judged-requires-2 g t c =
-    size_ahead c.requires.head c.boxless-head.result c.boxless-head.ensures _ (omega (arith, c.in_ok-vertices-2.ensures.inside.few, c.place-2.ensures.value))
+    size_ahead c.requires.head c.boxless-head.result c.boxless-head.ensures _ (omega (arith, c.in_ok-vertices-2.ensures.inside.few))
 
 pub take_flat_headed-returns : goal.take_flat_headed-returns
 take_flat_headed-returns g t c = λ before sound read.
-    judged_certifies c.args.raw c.args.depth c.args.above.now before c.args.cursor.now c.requires.head.shallowest c.requires.head.deepest sound read.0 read.1 c.boxless-head.result c.boxless-head.ensures c.in-Some.frame c.in-Some.ensures c.take_flat_body.new.cursor
-    c.in_ok-vertices-2.vertices c.judged-2.result c.in_ok-vertices-2.ensures (subst (λ (stop : ℕ). IsJudged c.boxless-head.result stop c.in_ok-vertices-2.vertices c.judged-2.result) c.place-2.ensures.value c.judged-2.ensures)
+    rw c.judged-2.ensures.still (judged_certifies c.args.raw c.args.depth c.args.above.now before c.args.cursor.now c.requires.head.shallowest c.requires.head.deepest sound read.0 read.1 c.boxless-head.result c.boxless-head.ensures c.in-Some.frame c.in-Some.ensures c.take_flat_body.new.cursor
+    c.in_ok-vertices-2.vertices c.judged-2.result c.in_ok-vertices-2.ensures c.judged-2.ensures.judged)
 
 pub take_further-returns-in_default-take_rest : goal.take_further-returns-in_default-take_rest
 take_further-returns-in_default-take_rest g t c =
@@ -93,12 +93,12 @@ take_further_headed-returns-in_err-vertices-2 g t c = λ before sound read.
 
 pub take_further_headed-judged-requires-2 : goal.take_further_headed-judged-requires-2
 take_further_headed-judged-requires-2 g t c =
-    size_ahead c.requires.head c.boxless-head.result c.boxless-head.ensures _ (omega (arith, c.in_ok-vertices-2.ensures.inside.few, c.place-2.ensures.value))
+    size_ahead c.requires.head c.boxless-head.result c.boxless-head.ensures _ (omega (arith, c.in_ok-vertices-2.ensures.inside.few))
 
 pub take_further_headed-returns : goal.take_further_headed-returns
 take_further_headed-returns g t c = λ before sound read.
-    judged_certifies c.args.raw c.args.depth c.args.above.now before c.args.cursor.now c.requires.head.shallowest c.requires.head.deepest sound read.0 read.1 c.boxless-head.result c.boxless-head.ensures c.in-Some.frame c.in-Some.ensures.frame c.take_further_body.new.cursor
-    c.in_ok-vertices-2.vertices c.judged-2.result c.in_ok-vertices-2.ensures (subst (λ (stop : ℕ). IsJudged c.boxless-head.result stop c.in_ok-vertices-2.vertices c.judged-2.result) c.place-2.ensures.value c.judged-2.ensures)
+    rw c.judged-2.ensures.still (judged_certifies c.args.raw c.args.depth c.args.above.now before c.args.cursor.now c.requires.head.shallowest c.requires.head.deepest sound read.0 read.1 c.boxless-head.result c.boxless-head.ensures c.in-Some.frame c.in-Some.ensures.frame c.take_further_body.new.cursor
+    c.in_ok-vertices-2.vertices c.judged-2.result c.in_ok-vertices-2.ensures c.judged-2.ensures.judged)
 
 pub take_flat_body-returns-else-is_collection : goal.take_flat_body-returns-else-is_collection
 take_flat_body-returns-else-is_collection g t c =
@@ -201,14 +201,14 @@ pub take_flat_headed-judged-requires : goal.take_flat_headed-judged-requires
 take_flat_headed-judged-requires g t c =
     let (box, there, ranges, apart) = flat_apart c.args.raw c.boxless-head.result c.is_some.result c.flat_ranges.result.0 c.flat_ranges.result.1 c.requires.xy c.boxless-head.ensures c.requires.z c.requires.m c.requires.head.full c.is_some.ensures c.flat_ranges.ensures in
     let sure = c.in_ok-vertices.ensures (head_said c.args.raw) box there ranges apart in
-    size_ahead c.requires.head c.boxless-head.result c.boxless-head.ensures _ (omega (arith, sure.inside.few, c.place.ensures.value))
+    size_ahead c.requires.head c.boxless-head.result c.boxless-head.ensures _ (omega (arith, sure.inside.few))
 
 pub take_flat_headed-returns-in_default : goal.take_flat_headed-returns-in_default
 take_flat_headed-returns-in_default g t c = λ before sound read.
     let (box, there, ranges, apart) = flat_apart c.args.raw c.boxless-head.result c.is_some.result c.flat_ranges.result.0 c.flat_ranges.result.1 c.requires.xy c.boxless-head.ensures c.requires.z c.requires.m c.requires.head.full c.is_some.ensures c.flat_ranges.ensures in
     let sure = c.in_ok-vertices.ensures (head_said c.args.raw) box there ranges apart in
-    apart_certifies c.args.raw c.args.depth c.args.above.now before c.args.cursor.now c.requires.head.shallowest c.requires.head.deepest sound read.0 read.1 c.boxless-head.result c.boxless-head.ensures c.take_apart_flat.new.cursor c.in_ok-vertices.vertices c.judged.result sure
-    (subst (λ (stop : ℕ). IsJudged c.boxless-head.result stop c.in_ok-vertices.vertices c.judged.result) c.place.ensures.value c.judged.ensures)
+    rw c.judged.ensures.still (apart_certifies c.args.raw c.args.depth c.args.above.now before c.args.cursor.now c.requires.head.shallowest c.requires.head.deepest sound read.0 read.1 c.boxless-head.result c.boxless-head.ensures c.take_apart_flat.new.cursor c.in_ok-vertices.vertices c.judged.result sure
+    c.judged.ensures.judged)
 
 pub take_further_headed-returns-in_err-vertices : goal.take_further_headed-returns-in_err-vertices
 take_further_headed-returns-in_err-vertices g t c = λ before sound read.
@@ -220,14 +220,14 @@ pub take_further_headed-judged-requires : goal.take_further_headed-judged-requir
 take_further_headed-judged-requires g t c =
     let apart = any_apart c.args.raw c.boxless-head.result c.requires.axes.0 c.boxless-head.ensures c.requires.head.full in
     let sure = c.in_ok-vertices.ensures (head_said c.args.raw) apart in
-    size_ahead c.requires.head c.boxless-head.result c.boxless-head.ensures _ (omega (arith, sure.inside.few, c.place.ensures.value))
+    size_ahead c.requires.head c.boxless-head.result c.boxless-head.ensures _ (omega (arith, sure.inside.few))
 
 pub take_further_headed-returns-in_default : goal.take_further_headed-returns-in_default
 take_further_headed-returns-in_default g t c = λ before sound read.
     let apart = any_apart c.args.raw c.boxless-head.result c.requires.axes.0 c.boxless-head.ensures c.requires.head.full in
     let sure = c.in_ok-vertices.ensures (head_said c.args.raw) apart in
-    apart_certifies c.args.raw c.args.depth c.args.above.now before c.args.cursor.now c.requires.head.shallowest c.requires.head.deepest sound read.0 read.1 c.boxless-head.result c.boxless-head.ensures c.take_apart.new.cursor c.in_ok-vertices.vertices c.judged.result sure
-    (subst (λ (stop : ℕ). IsJudged c.boxless-head.result stop c.in_ok-vertices.vertices c.judged.result) c.place.ensures.value c.judged.ensures)
+    rw c.judged.ensures.still (apart_certifies c.args.raw c.args.depth c.args.above.now before c.args.cursor.now c.requires.head.shallowest c.requires.head.deepest sound read.0 read.1 c.boxless-head.result c.boxless-head.ensures c.take_apart.new.cursor c.in_ok-vertices.vertices c.judged.result sure
+    c.judged.ensures.judged)
 
 pub take_flat_headed-take_apart_flat-requires-clause-allowed : goal.take_flat_headed-take_apart_flat-requires-clause-allowed
 take_flat_headed-take_apart_flat-requires-clause-allowed g t c = kind_allowed c.requires.head c.boxless-head.result c.boxless-head.ensures

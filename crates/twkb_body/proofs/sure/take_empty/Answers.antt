@@ -1,9 +1,8 @@
 -- Only the size of an empty geometry can be false: its box has no vertices to hold.
-use Rattle.std.proofs.Common.{◌≡◌, ◌-◌, ℕ, true, ap, subst, ◌∙◌, arith}
+use Rattle.std.proofs.Common.{◌≡◌, ◌-◌, ℕ, true, ap, ◌∙◌, arith}
 use Rattle.twkb_head.specs.BegunHeader.{deepest}
 use Rattle.twkb_head.specs.Header.{has_bit}
 use Rattle.twkb_head.specs.Raw.{head_said}
-use Rattle.twkb_body.specs.Devices.Sure.{IsJudged}
 use Rattle.twkb_body.proofs.RawGeometries.{flat_ends, apart_certifies, none_begins, rest_unread}
 use Rattle.twkb_body.proofs.SureSteps.{two_read, empty_sure}
 use Rattle.twkb_body.proofs.sure.take_empty.Goals as goal
@@ -22,7 +21,7 @@ pub judged-requires : goal.judged-requires
 judged-requires c =
     let b = c.requires.before in
     let s = c.in-Ok.ensures.read c.args.depth b.0 b.1.sound (c.in-Some.ensures.some b.0 b.1.sound b.1.moved b.1.bytes) in
-    flat_ends c.boxless-head.result c.in-Ok.raw c.args.depth b.0 c.take_rest.new.cursor c.boxless-head.ensures s.0 s.1 _ (omega (arith, c.place.ensures.value))
+    flat_ends c.boxless-head.result c.in-Ok.raw c.args.depth b.0 c.take_rest.new.cursor c.boxless-head.ensures s.0 s.1 _ (omega arith)
 
 pub returns : goal.returns
 returns c = λ above before two.
@@ -31,6 +30,6 @@ returns c = λ above before two.
     let raw = c.in-Ok.raw in
     let mid = c.take_rest.new.cursor in
     let empty : raw.empty ≡ true = c.in-Ok.ensures.empty ∙ ap (λ (n : ℕ). has_bit n 16) c.in-Some.ensures.metadata ∙ c.requires.empty in
-    apart_certifies raw c.args.depth above before mid c.requires.shallowest c.requires.deepest two.sound s.0 s.1 c.boxless-head.result c.boxless-head.ensures mid 0 c.judged.result
+    rw c.judged.ensures.still (apart_certifies raw c.args.depth above before mid c.requires.shallowest c.requires.deepest two.sound s.0 s.1 c.boxless-head.result c.boxless-head.ensures mid 0 c.judged.result
     (empty_sure (deepest - c.args.depth) (head_said raw) above mid empty)
-    (subst (λ (stop : ℕ). IsJudged c.boxless-head.result stop 0 c.judged.result) c.place.ensures.value c.judged.ensures)
+    c.judged.ensures.judged)
