@@ -121,7 +121,7 @@ fn next_further<const AXES: usize>(cursor: &mut Cursor, left: u64, at: u32x4, ex
     point_of_four(cursor, at, extent)
 }
 
-/// Reads the differences of a point of three axes: a pair, and a number after it.
+/// Reads the differences of a point of three axes, a pair and a number after it, if each takes at most four bytes, or nothing.
 #[inline(always)]
 fn take_three(cursor: &mut Cursor) -> Option<PerAxis>
     ensures some { IfSome result (λ more. (differences_at false cursor.old ≡ (Ok more, cursor.new)) × Each IsShort more) }

@@ -1,5 +1,5 @@
-//! A number for each axis of a point that has Z or M: differences from the point before, or distances from the minima of a
-//! box. Used by `further_lanes` and `positions`.
+//! A number for each axis of a point that has Z or M: a difference from the point before, a distance from the minimum of a box, or an
+//! extent of the box. Used by `further_lanes` and `positions`.
 
 /// A number for each axis, in the order X, Y, Z, M.
 #[derive(Clone, Copy, Debug)]

@@ -265,7 +265,8 @@ fn with_half_before(d: u16x8) -> u16x8
     d + d.shuffle(u16x8::splat(0), [8, 9, 10, 11, 0, 1, 2, 3])
 }
 
-/// Lanes, widened with their signs. The compiler makes one instruction of the three steps.
+/// Lanes, widened with their signs.
+// The compiler makes one instruction of these steps. A cast to signed lanes would have to be proved to fit.
 #[inline(always)]
 fn widened(d: u16x4) -> u32x4
     ensures { result ≡ map (λ n. cast_unsigned w32 (cast_signed w16 n)) d }

@@ -115,8 +115,8 @@ fn enter_sized_point<V: Visit>(cursor: &mut Cursor, begun: Begun, visitor: &mut 
     members
 }
 
-/// Enters a geometry whose header was read. If it has a size and no members, the next geometry begins where the size says, as in
-/// [`enter_sized_point`].
+/// Enters a geometry whose header was read. If no members are left to read, and there is a size, the place is set to the end that the
+/// size says, as in [`enter_sized_point`].
 #[inline(always)]
 pub fn enter_headed<V: Visit>(cursor: &mut Cursor, raw: Fields, visitor: &mut V) -> u64
     requires axes { HavePrecisions raw.axes }
@@ -140,8 +140,8 @@ fn end_by_size(raw: &Fields) -> Option<usize>
     Some(size.after + size.value as usize)
 }
 
-/// Goes on from the end of a geometry, of which `members` follow. If none does, the place is the end already, and is set to the end
-/// that the size says, which was known earlier ([`Cursor::go_on_from`]).
+/// Goes on after a geometry with `members` members still to be read. If there are none, the place is the geometry's end, and is set to
+/// `stop`, the end that its size says, which was known earlier ([`Cursor::go_on_from`]).
 #[inline(always)]
 fn go_on_after(cursor: &mut Cursor, members: u64, stop: Option<usize>)
     requires { members ≡ 0 → IfSome stop (λ stop. stop ≡ cursor.old.place) }
@@ -204,8 +204,8 @@ fn skips<V: Visit>(visitor: &V, axes: Axes, b: &RawBox) -> bool
     }
 }
 
-/// Enters a geometry that has a size and a box in X and Y, and no other field. If it has no members, the next geometry begins where
-/// the size says, as in [`enter_sized_point`].
+/// Enters a geometry that has a size and a box in X and Y, and no other field. If no members are left to read, the place is set to the
+/// end that the size says, as in [`enter_sized_point`].
 #[inline(always)]
 fn enter_boxed<V: Visit>(cursor: &mut Cursor, begun: Begun, visitor: &mut V) -> u64
     requires xy { IsPrecision begun.xy }

@@ -38,7 +38,7 @@ pub fn take_blob<R: IdRoom>(room: &mut R, cursor: &mut Cursor) -> Result<(usize,
     ensures stop { IfOk result (λ both. both.1 ≡ cursor.new.place) }
 {
     if let Some(vertices) = pass_point(cursor) {
-        // The place is computed from a size, if there is one, so that the next blob needn't wait for the ends of the numbers.
+        // As after other geometries (`judged`), the place is computed from the size, if there is one.
         return Ok((vertices, cursor.place()));
     }
     cursor.place_is_within();
@@ -270,7 +270,7 @@ fn take_empty(cursor: &mut Cursor, depth: u8, first: u8, metadata: u8) -> Result
     judged(&head, cursor, 0)
 }
 
-/// The number of vertices of a geometry that ends at the place, if its size is true.
+/// The number of vertices of a geometry that ends at the place, if its size is true. The cursor is as it was.
 #[inline(always)]
 fn judged(head: &Head, cursor: &mut Cursor, vertices: usize) -> Result<usize, Doubt>
     requires { IfSome head.now.size (λ size. size.after ≤ cursor.old.place) }
@@ -281,8 +281,8 @@ fn judged(head: &Head, cursor: &mut Cursor, vertices: usize) -> Result<usize, Do
         if (cursor.place() - size.after) as u64 != size.value {
             return Err(Doubt::Refused);
         }
-        // So the processor can begin the next geometry before it knows the lengths of all numbers of this one. If the end were
-        // compared with the place, instead of the size with the length, the compiler would leave this out, since it changes nothing.
+        // The place is set to what it is already, so that the processor can begin the next geometry before it knows the lengths of all
+        // numbers of this one. The test above compares lengths: if it compared ends, the compiler would leave out this store.
         cursor.go_on_from(size.after + size.value as usize);
     }
     Ok(vertices)

@@ -1,6 +1,6 @@
 -- Devices of proofs: nothing public names them.
--- A number for each axis of a point that has Z or M: differences from the point before, or distances from the minima of a
--- box.
+-- A number for each axis of a point that has Z or M: a difference from the point before, a distance from the minimum of a box, or
+-- an extent of the box.
 use Rattle.std.specs.Prelude.{ℕ, ◌==◌, if◌then◌else◌, Bool, List, [], ◌∷◌, ℤ, ◌+ℤ◌}
 use Rattle.twkb_head.specs.declared.raw.RawBox.{RawBox}
 use Rattle.twkb_head.specs.Shared.Reader.{Reader, viewed, signeds_at}
