@@ -8,7 +8,7 @@ ghost use Rattle.twkb_layer.specs.Layer.{IsCertifiedLayer, AddsAtMost, OfLayer, 
 ghost use Rattle.twkb_layer.specs.Devices.Layer.{OfBlob, past_blob};
 ghost use Rattle.twkb_layer.specs.Devices.EachBlob.{is_among, first_blobs, after_blobs, bytes_read};
 
-use twkb_num::Cursor;
+use twkb_num::{Cursor, Prefetch};
 
 /// What [`for_each_blob`] does at each blob of a layer.
 pub trait EachBlob {
@@ -55,8 +55,10 @@ pub fn for_each_blob<B: EachBlob>(each: &mut B, cursor: &mut Cursor, limit: Opti
 {
     cursor.place_is_within();
     cursor.go_to(0);
+    let mut prefetch = Prefetch::new(cursor);
     let mut blob = 0;
     while has_next(cursor, blob, limit) {
+        prefetch.advance(cursor);
         each.take_blob(cursor, blob);
         blob += 1;
     }

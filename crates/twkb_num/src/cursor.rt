@@ -328,6 +328,15 @@ impl<'a> Cursor<'a> {
         Some(())
     }
 
+    // The byte at this distance after the place, or 0 after the end. It isn't counted, so only `Prefetch` may read it.
+    #[inline(always)]
+    pub(crate) fn uncounted_byte(&self, distance: usize) -> u8 {
+        match self.bytes[self.place..].get(distance) {
+            Some(&byte) => byte,
+            None => 0,
+        }
+    }
+
     // How many bytes the varint at the place takes, where eight bytes are left and it takes no more.
     #[inline(always)]
     fn short_length(&self) -> Option<usize>

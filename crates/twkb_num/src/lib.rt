@@ -31,6 +31,7 @@
 
 mod cursor;
 mod ends;
+mod prefetch;
 mod scale;
 mod signed;
 mod tables;
@@ -41,6 +42,7 @@ mod vectors;
 mod word;
 
 pub use cursor::{Cursor, Eight, Four, TYPE_AND_FIELDS};
+pub use prefetch::Prefetch;
 pub use scale::{coordinate_of, units};
 pub use signed::{unzigzag, zigzag};
 pub use varint::NumFault;
