@@ -58,8 +58,8 @@ pub fn for_each_blob<B: EachBlob>(each: &mut B, cursor: &mut Cursor, limit: Opti
     let mut prefetch = Prefetch::new(cursor);
     let mut blob = 0;
     while has_next(cursor, blob, limit) {
-        prefetch.advance(cursor);
         each.take_blob(cursor, blob);
+        prefetch.advance(cursor);
         blob += 1;
     }
 }

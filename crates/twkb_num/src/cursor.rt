@@ -62,6 +62,8 @@ pub struct Cursor<'a> {
     // A jump moves `start` too. A fault adds to `counted_before`, since the bytes looked at aren't passed.
     start: usize,
     counted_before: u64,
+    // Bits of bytes that `touch_pages` has read. Nothing reads them.
+    touched: u8,
 }
 
 impl<'a> Model for Cursor<'a> {
@@ -94,6 +96,7 @@ impl<'a> Cursor<'a> {
             place: 0,
             start: 0,
             counted_before: 0,
+            touched: 0,
         }
     }
 
@@ -328,15 +331,6 @@ impl<'a> Cursor<'a> {
         Some(())
     }
 
-    // The byte at this distance after the place, or 0 after the end. It isn't counted, so only `Prefetch` may read it.
-    #[inline(always)]
-    pub(crate) fn uncounted_byte(&self, distance: usize) -> u8 {
-        match self.bytes[self.place..].get(distance) {
-            Some(&byte) => byte,
-            None => 0,
-        }
-    }
-
     // How many bytes the varint at the place takes, where eight bytes are left and it takes no more.
     #[inline(always)]
     fn short_length(&self) -> Option<usize>
@@ -348,6 +342,7 @@ impl<'a> Cursor<'a> {
 }
 
 mod lanes;
+mod pages;
 mod pairs;
 mod point;
 mod runs;
@@ -355,4 +350,5 @@ mod runs;
 mod tests;
 
 pub use lanes::{Eight, Four};
+pub use pages::Prefetch;
 pub use point::TYPE_AND_FIELDS;

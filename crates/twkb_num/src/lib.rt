@@ -31,7 +31,6 @@
 
 mod cursor;
 mod ends;
-mod prefetch;
 mod scale;
 mod signed;
 mod tables;
@@ -41,8 +40,7 @@ mod varint;
 mod vectors;
 mod word;
 
-pub use cursor::{Cursor, Eight, Four, TYPE_AND_FIELDS};
-pub use prefetch::Prefetch;
+pub use cursor::{Cursor, Eight, Four, Prefetch, TYPE_AND_FIELDS};
 pub use scale::{coordinate_of, units};
 pub use signed::{unzigzag, zigzag};
 pub use varint::NumFault;

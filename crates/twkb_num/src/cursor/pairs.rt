@@ -127,6 +127,7 @@ impl<'a> Cursor<'a> {
             place: self.place,
             start: self.start,
             counted_before: self.counted_before,
+            touched: self.touched,
         }
     }
 

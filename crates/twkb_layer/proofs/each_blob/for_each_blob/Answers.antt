@@ -35,7 +35,7 @@ pub loop-limit-smaller : goal.loop-limit-smaller
 loop-limit-smaller g c =
     let inv = c.loop-limit.invariant in
     let turn = turn_of inv.going.0 _ _ _ _ _ inv.going.1.left inv.bytes c.has_next.ensures c.loop-limit-test.true in
-    let moved = c.take_blob.ensures.cursor turn.next.tree turn.stands in
+    let moved = c.advance.ensures ∙ c.take_blob.ensures.cursor turn.next.tree turn.stands in
     omega (arith, ap (λ (r : Reading). r.place) moved, ap (λ (r : Reading). length r.bytes) moved, ap length inv.bytes, turn.next.ahead, turn.next.within)
 
 pub loop-limit-preserved : goal.loop-limit-preserved
@@ -43,7 +43,7 @@ loop-limit-preserved g c =
     let inv = c.loop-limit.invariant in
     let turn = turn_of inv.going.0 _ _ _ _ _ inv.going.1.left inv.bytes c.has_next.ensures c.loop-limit-test.true in
     let took = c.take_blob.ensures in
-    let moved = took.cursor turn.next.tree turn.stands in
+    let moved = c.advance.ensures ∙ took.cursor turn.next.tree turn.stands in
     record {
       bytes = ap (λ (r : Reading). r.bytes) moved ∙ inv.bytes;
       small = inv.small;
