@@ -13,7 +13,7 @@ use crate::point_reader::PointReader;
 use crate::positions::Step;
 use std::simd::prelude::*;
 use twkb_head::Malformed;
-use twkb_num::Cursor;
+use twkb_num::{Cursor, Prefetch};
 
 /// What reads points by their distances from the minima of a box, in lanes, and compares them with the box.
 pub trait LaneReader {
@@ -88,6 +88,7 @@ impl<L: LaneReader> PointReader for LaneTrail<L> {
         }
         let mut at = first.reached.at;
         let mut left = count - first.points;
+        let mut prefetch = Prefetch::new(cursor);
         while left > 0 {
             let step = self.reader.take_some(cursor, left, at, self.extent);
             if !step.reached.inside {
@@ -95,6 +96,7 @@ impl<L: LaneReader> PointReader for LaneTrail<L> {
             }
             at = step.reached.at;
             left -= step.points;
+            prefetch.advance(cursor);
         }
         // The proof knows from here that the place fits its type, and so does the number of points.
         let _stop = cursor.place();

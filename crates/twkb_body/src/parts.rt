@@ -41,15 +41,6 @@ pub fn take_parts<L: LineLoop, R: PointReader>(
     }
 }
 
-/// A page of memory holds about this many points, of two numbers of two bytes each.
-const POINTS_A_PAGE: u64 = 1 << 10;
-
-/// From this many points on, the pages of a run are touched first.
-const LONG_RUN: u64 = 4 * POINTS_A_PAGE;
-
-/// How many pages of a run are touched at most: processors remember the addresses of more.
-const MOST_PAGES: u64 = 512;
-
 /// Whether the loop over lines is inlined: it is in skims, and for points with Z or M that a box has to hold. The other functions of
 /// audits that call it would grow so large that the compiler inlines less into them.
 pub trait LineLoop {
@@ -130,21 +121,10 @@ impl<R: PointReader> Values<R> for Run {
 
     ghost points_in = { λ points. points };
 
-    /// Reads all points as one run. The pages of a long run are touched first.
+    /// Reads all points as one run.
     #[inline(always)]
     fn take(&self, cursor: &mut Cursor, count: u64, reader: &mut R) -> Result<(), R::Fault> {
-        touch_long_run(cursor, count);
         reader.take_points(cursor, count)
-    }
-}
-
-/// Touches the pages of a run of that many points, if it is long.
-#[inline(always)]
-fn touch_long_run(cursor: &mut Cursor, count: u64)
-    ensures { cursor.new ≡ cursor.old }
-{
-    if count >= LONG_RUN {
-        cursor.touch_pages((count / POINTS_A_PAGE).min(MOST_PAGES) as usize);
     }
 }
 

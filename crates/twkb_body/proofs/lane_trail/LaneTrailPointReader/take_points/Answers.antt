@@ -46,7 +46,7 @@ pub returns-then-not-step-clause-bytes : goal.returns-then-not-step-clause-bytes
 returns-then-not-step-clause-bytes g c = c.take_some-step.ensures.bytes ∙ c.loop-left.invariant.bytes
 
 pub loop-left-preserved : goal.loop-left-preserved
-loop-left-preserved g c = record {
+loop-left-preserved g c = rw c.advance.ensures (record {
   few = omega (arith, c.loop-left.invariant.few);
   bytes = c.take_some-step.ensures.bytes ∙ c.loop-left.invariant.bytes;
   read = λ at s.
@@ -54,7 +54,7 @@ loop-left-preserved g c = record {
       let more : c.args.count - (c.loop-left.left - c.take_some-step.result.points) ≡ (c.args.count - c.loop-left.left) + c.take_some-step.result.points = omega (arith, c.take_some-step.ensures.few, c.loop-left.invariant.few) in
       rw more (held_goes_on g.L.LaneReader.axes s.box (record { last = s.last; points = c.args.self.now.points }) c.args.cursor.now (g.L.LaneReader.place c.args.self.now.reader s.box c.loop-left.at c.args.self.now.extent) (g.L.LaneReader.place c.args.self.now.reader s.box c.take_some-step.result.reached.at c.args.self.now.extent)
       c.loop-left.cursor c.take_some-step.new.cursor (c.args.count - c.loop-left.left) c.take_some-step.result.points held (c.take_some-step.ensures.step.inside (not-false _ c.if-not-step.false) s.box held.after held.there));
-}
+})
 
 pub overflow_add-self : goal.overflow_add-self
 overflow_add-self g c =
