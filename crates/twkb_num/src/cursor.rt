@@ -52,6 +52,8 @@ use std::marker::Model;
 /// `pass_short_runs(1, 0, 126)` returns `None` exactly if b is 127 or 255, and `pass_short_runs(2, 0, 127)` exactly if b is at
 /// least 128: both do exactly if b is 255. No contract here excludes such code.
 ///
+/// [`Prefetch`] reads one byte of each of the next pages of memory, and tells nothing about it.
+///
 /// Contracts see a cursor as a `Reading`. Each call takes constant space. Calls that pass many varints take time in proportion to
 /// the bytes that they look at. All others take constant time, since a varint has at most ten bytes.
 #[derive(Drop)]
@@ -62,7 +64,7 @@ pub struct Cursor<'a> {
     // A jump moves `start` too. A fault adds to `counted_before`, since the bytes looked at aren't passed.
     start: usize,
     counted_before: u64,
-    // Bits of bytes that `touch_pages` has read. Nothing reads them.
+    // Bits of the bytes that `Prefetch` touched last. No call reads them.
     touched: u8,
 }
 

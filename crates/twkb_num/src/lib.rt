@@ -13,6 +13,7 @@
 //!   none.
 //! - [`Cursor::pass_short_varints`] moves past a given number of varints or past none. [`Cursor::pass_short_runs`] and
 //!   [`Cursor::pass_counted_runs`] do this with counts among the numbers, as a line and a polygon have them.
+//! - [`Prefetch`] has the processor look up pages of memory before a cursor reads them.
 //! - [`TYPE_AND_FIELDS`] is the mask by which [`Cursor::pass_short_point`] and `twkb_head` compare the first two bytes of a
 //!   geometry with a type and the fields that follow.
 //! - [`zigzag`] and [`unzigzag`] map signed numbers to unsigned ones and back.

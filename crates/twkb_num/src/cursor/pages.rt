@@ -1,4 +1,4 @@
-//! Pages of memory after a cursor's place, looked up by the processor before they are read.
+//! [`Prefetch`], by which the processor looks up pages of memory before a cursor reads them.
 ghost use Rattle.std.specs.Prelude.{◌≡◌};
 
 use super::Cursor;
@@ -7,31 +7,16 @@ use std::marker::Model;
 /// The bytes of a page of memory.
 const PAGE: usize = 4096;
 
-/// How many pages a [`Prefetch`] touches at once.
+/// How many pages are touched at once.
 const PAGES: usize = 16;
 
-impl<'a> Cursor<'a> {
-    /// Has the processor look up the next pages of memory, `pages` at most, by reading a byte of each. What is read is neither
-    /// returned nor counted, and the cursor is as it was.
-    ///
-    /// A processor fetches bytes that are read in order before they are needed, but only up to the end of a page of memory. At the
-    /// first read of the next page it has to look up the page's address, which is slow in a virtual machine. It looks up many
-    /// addresses at once if it is asked for them together.
-    #[inline(never)]
-    pub fn touch_pages(&mut self, pages: usize)
-        ensures { self.new ≡ self.old }
-    {
-        let ahead = &self.bytes[self.place..];
-        let mut bits = 0;
-        for page in 0..pages.min(ahead.len() / PAGE) {
-            bits |= ahead[page * PAGE];
-        }
-        // The compiler would leave out reads whose results aren't used.
-        self.touched = bits;
-    }
-}
-
-/// Touches the pages that a cursor comes to, some at once, as it goes on.
+/// Touches the pages of memory that a cursor comes to, sixteen at a time.
+///
+/// A processor fetches bytes that are read in order before they are needed, but only up to the end of a page of memory. At the first
+/// read of the next page it has to look up the page's address, which is slow in a virtual machine. If it is asked for several pages
+/// together, it looks up their addresses at the same time.
+///
+/// The byte that is read of each page is neither returned nor counted, and contracts say that the cursor stays as it was.
 #[derive(Drop)]
 pub struct Prefetch {
     /// The place from which on the next pages are touched.
@@ -53,15 +38,31 @@ impl Prefetch {
         }
     }
 
-    /// Touches the next sixteen pages, if the cursor has come to the last of those that were touched before.
+    /// Touches the next pages, if the cursor has come to the last of those that were touched before.
     // A sum that wraps around only touches pages too early.
     #[inline(always)]
     pub fn advance(&mut self, cursor: &mut Cursor)
         ensures { cursor.new ≡ cursor.old }
     {
         if self.due <= cursor.place() {
-            cursor.touch_pages(PAGES);
+            cursor.touch_pages();
             self.due = cursor.place().wrapping_add((PAGES - 1) * PAGE);
         }
+    }
+}
+
+impl<'a> Cursor<'a> {
+    // Reads the byte at the place and one of each page after it, up to the last of sixteen or the last whole page.
+    #[inline(never)]
+    fn touch_pages(&mut self)
+        ensures { self.new ≡ self.old }
+    {
+        let ahead = &self.bytes[self.place..];
+        let mut bits = 0;
+        for page in 0..PAGES.min(ahead.len() / PAGE) {
+            bits |= ahead[page * PAGE];
+        }
+        // The compiler would leave out reads whose results aren't used.
+        self.touched = bits;
     }
 }
