@@ -57,6 +57,7 @@ fn the_greatest_count_stays(rt: HostRuntime) {
         place: 0,
         start: 0,
         counted_before: u64::MAX - 1,
+        touched: 0,
     };
     equal(&rt, cursor.byte(), Some(1));
     equal(&rt, cursor.read_count(), u64::MAX);
