@@ -157,10 +157,20 @@ static void directory(const struct twkb_layer *layer) {
     }
     struct twkb_slot *slots = guarded(room * sizeof *slots);
     size_t count = twkb_directory_build(layer, slots, room);
-    CHECK(layer->blobs <= count && count <= room);
+    CHECK(layer->blobs <= 2 * count && count <= room);
     CHECK(still(slots + count, (room - count) * sizeof *slots));
     slots_windows(layer, slots, count);
     free_guarded(slots, room * sizeof *slots);
+}
+
+/* Equal points share slots, two by two. */
+static void shared_slots(void) {
+    static const uint8_t points[] = {1, 0, 2, 2, 1, 0, 2, 2, 1, 0, 2, 2, 1, 0, 2, 2, 1, 0, 2, 2};
+    for (size_t blobs = 1; blobs <= 5; blobs++) {
+        struct twkb_layer layer = certified(points, 4 * blobs);
+        struct twkb_slot slots[10];
+        CHECK(twkb_directory_build(&layer, slots, 2 * blobs) == (blobs + 1) / 2);
+    }
 }
 
 /* ---- fronts and changes */
@@ -298,6 +308,7 @@ int main(int argc, char **argv) {
     struct twkb_layer layer = certified(bytes, len);
     rooms(&layer);
     directory(&layer);
+    shared_slots();
     fronts(&layer);
     small_stack(argc > 2 ? (size_t)atoi(argv[2]) : 192);
     threads(&layer);

@@ -1,18 +1,21 @@
 -- The slots of a directory, as blobs are added one at a time.
-use Rattle.std.proofs.Common.{◌≡◌, ℕ, ◌+◌, ◌*◌, ◌/◌, ◌%◌, ◌^◌, ◌<◌, ◌≤◌, ◌||◌, nat_le, arith, Bool, true, false, cond, List, [], ◌∷◌, ◌++◌, length, map, take, drop, slice_set, Option, Some, None, is_some, refl, ap, sym, ◌∙◌, append_assoc}
+use Rattle.std.proofs.Common.{◌≡◌, ℕ, ◌+◌, ◌*◌, ◌/◌, ◌%◌, ◌^◌, ◌<◌, ◌≤◌, ◌||◌, nat_le, arith, Bool, true, false, cond, List, [], ◌∷◌, ◌++◌, length, flat_map, get_or, ◌-◌, take, slice_set, Option, Some, None, is_some, refl, ap, sym, ◌∙◌, append_assoc}
 use Rattle.std.proofs.lemmas.Bool.Decides.{nat_tests}
-use Rattle.std.proofs.lemmas.List.{map-append, take_more_set, length-set, append-nil, drop-drop}
+use Rattle.std.proofs.lemmas.Grind.{flat_map-append}
+use Rattle.std.proofs.lemmas.List.{take_more_set, take_all, length-set, append-nil, drop_all, drop_more, take-append-drop}
 use Rattle.twkb_head.specs.declared.boxes.Span.{Span}
 use Rattle.twkb_head.specs.declared.boxes.Bounds.{Bounds}
 use Rattle.twkb_num.specs.Cursor.{Reading}
 use Rattle.twkb_body.specs.Geometry.{Geometry}
-use Rattle.twkb_layer.specs.Directory.{Entry, box_of, entry_of, entries}
-use Rattle.twkb_layer.specs.Layer.{size_of, told_from}
-use Rattle.twkb_layer.specs.Devices.EachBlob.{after_from}
+use Rattle.twkb_layer.specs.Directory.{Entry, entry_of}
 use Rattle.twkb_head.specs.declared.raw.Fields.{Fields}
-use Rattle.twkb_layer.specs.Devices.Slots.{box_said, entry_said, box_z, box_m, passes_a_slot, own_said, said_before, slots_for, Placed, places}
-use Rattle.twkb_layer.specs.Slots.{Said, Written, slot_says, entry_with, entries_from, entries_of, entries_kept, unboxed}
+use Rattle.twkb_layer.specs.Devices.Slots.{box_m, box_z, entry_said, half_says, is_pair, own_said, passes_a_slot, said_before, slot_says, unboxed, IsPairOf, says_by, unpacked}
+use Rattle.twkb_layer.specs.Slots.{Said, Written, entry_with, entries_from, entries_kept, says_of, half}
 use Rattle.twkb_layer.proofs.Keeping.{SaysOf}
+
+-- the entries of the blobs of slots, of which no slot precedes the first
+abbrev pub entries_of : List Said → List Entry
+entries_of slots = entries_from (unboxed 0) slots
 
 -- what is appended to both branches may be appended to the choice
 cond-append : {A : Type 0} (b : Bool) (xs ys zs : List A) (x : A) → cond b (xs ++ zs) (x ∷ (ys ++ zs)) ≡ (cond b xs (x ∷ ys) ++ zs)
@@ -43,42 +46,83 @@ entries_deep slots said slot place before own is =
     entries_from-append (said ∷ slot ∷ []) (place ∷ []) (λ beyond. deep_entry said slot beyond before own ∙ ap (λ (p : Entry). p ∷ []) is) (unboxed 0) slots
 
 -- the entries of slots in memory, appended
-kept-append : (slots more : List Written) → entries_kept (slots ++ more) ≡ entries_of (map slot_says slots ++ map slot_says more)
-kept-append slots more = ap entries_of (map-append slot_says slots more)
+kept-append : (slots more : List Written) → entries_kept (slots ++ more) ≡ entries_of (flat_map says_of slots ++ flat_map says_of more)
+kept-append slots more = ap entries_of (flat_map-append says_of slots more)
 
-kept_flat : (slots : List Written) (slot : Written) (said : Said) (place : Entry) → slot_says slot ≡ said → said.beyond ≡ false → said.deep ≡ false → entry_with (unboxed 0) said ≡ place → entries_kept (slots ++ slot ∷ []) ≡ entries_kept slots ++ place ∷ []
-kept_flat slots slot said place is own flat e = kept-append slots (slot ∷ []) ∙ (ap (λ (l : Said). entries_of (map slot_says slots ++ l ∷ [])) is ∙ entries_flat (map slot_says slots) said place own flat e)
+-- a slot that isn't of two blobs
+pub says_alone : (slot : Written) → is_pair slot ≡ false → says_of slot ≡ slot_says slot ∷ []
+says_alone slot alone = ap (λ (b : Bool). cond b (half_says false slot ∷ half_says true slot ∷ []) (slot_says slot ∷ [])) alone
 
-kept_deep : (slots : List Written) (before slot : Written) (beyond said : Said) (place : Entry) → slot_says before ≡ beyond → slot_says slot ≡ said → beyond.beyond ≡ true → said.beyond ≡ false → entry_with beyond said ≡ place
-    → entries_kept (slots ++ before ∷ slot ∷ []) ≡ entries_kept slots ++ place ∷ []
-kept_deep slots before slot beyond said place was is first own e =
-    kept-append slots (before ∷ slot ∷ []) ∙ ((λ j. entries_of (map slot_says slots ++ was j ∷ is j ∷ [])) ∙ entries_deep (map slot_says slots) beyond said place first own e)
+-- a slot of two blobs
+pub says_two : (slot : Written) → is_pair slot ≡ true → says_of slot ≡ half_says false slot ∷ half_says true slot ∷ []
+says_two slot pair = ap (λ (b : Bool). cond b (half_says false slot ∷ half_says true slot ∷ []) (slot_says slot ∷ [])) pair
+
+-- a slot that says what two slots say, if its word is of both of theirs and its numbers have theirs in their halves
+pub pair_says : (first second pair : Written) → IsPairOf (unpacked first.word) (unpacked second.word) (unpacked pair.word) → half false pair.first ≡ first.first → half false pair.second ≡ first.second → half true pair.first ≡ second.first
+    → half true pair.second ≡ second.second → says_of pair ≡ says_of first ++ says_of second
+pair_says first second pair is a b c d =
+    says_two pair is.form
+    ∙ ((λ j. says_by (is.first_is j) (a j) (b j) ∷ says_by (is.second_is j) (c j) (d j) ∷ [])
+    ∙ (λ j. sym (says_alone first is.first_alone) j ++ sym (says_alone second is.second_alone) j))
+
+one_says : (slot : Written) (said : Said) → is_pair slot ≡ false → slot_says slot ≡ said → flat_map says_of (slot ∷ []) ≡ said ∷ []
+one_says slot said alone is = append-nil (says_of slot) ∙ (says_alone slot alone ∙ ap (λ (l : Said). l ∷ []) is)
+
+kept_flat : (slots : List Written) (slot : Written) (said : Said) (place : Entry) → is_pair slot ≡ false → slot_says slot ≡ said → said.beyond ≡ false → said.deep ≡ false → entry_with (unboxed 0) said ≡ place → entries_kept (slots ++ slot ∷ []) ≡ entries_kept slots ++ place ∷ []
+kept_flat slots slot said place alone is own flat e =
+    kept-append slots (slot ∷ []) ∙ (ap (λ ls. entries_of (flat_map says_of slots ++ ls)) (one_says slot said alone is) ∙ entries_flat (flat_map says_of slots) said place own flat e)
+
+kept_deep : (slots : List Written) (before slot : Written) (beyond said : Said) (place : Entry) → is_pair before ≡ false → is_pair slot ≡ false → slot_says before ≡ beyond → slot_says slot ≡ said → beyond.beyond ≡ true → said.beyond ≡ false
+    → entry_with beyond said ≡ place → entries_kept (slots ++ before ∷ slot ∷ []) ≡ entries_kept slots ++ place ∷ []
+kept_deep slots before slot beyond said place alone_before alone was is first own e =
+    kept-append slots (before ∷ slot ∷ [])
+    ∙ ((λ j. entries_of (flat_map says_of slots ++ ((says_alone before alone_before ∙ ap (λ (l : Said). l ∷ []) was) j ++ one_says slot said alone is j))) ∙ entries_deep (flat_map says_of slots) beyond said place first own e)
+
+-- a slot that says what two slots say, in their place
+says_both : (slots : List Written) (last own pair : Written) → says_of pair ≡ says_of last ++ says_of own → flat_map says_of (slots ++ pair ∷ []) ≡ flat_map says_of ((slots ++ last ∷ []) ++ own ∷ [])
+says_both slots last own pair says =
+    flat_map-append says_of slots (pair ∷ [])
+    ∙ (ap (λ ls. flat_map says_of slots ++ (ls ++ [])) says
+    ∙ (ap (λ ls. flat_map says_of slots ++ ls) (append_assoc (says_of last) (says_of own) [])
+    ∙ (sym (flat_map-append says_of slots (last ∷ own ∷ [])) ∙ ap (flat_map says_of) (sym (append_assoc slots (last ∷ []) (own ∷ []))))))
+
+-- a slot in place of the last one that says what that one and a further one say
+pub kept_pair : (slots : List Written) (last own pair : Written) → 0 < length slots → last ≡ get_or slots (length slots - 1) last → says_of pair ≡ says_of last ++ says_of own → entries_kept (slice_set slots (length slots - 1) pair) ≡ entries_kept (slots ++ own ∷ [])
+kept_pair slots last own pair some is says =
+    let at = length slots - 1 in
+    let within : at < length slots = omega (arith, some) in
+    let all : length slots ≤ at + 1 = omega (arith, some) in
+    let set_all : length (slice_set slots at pair) ≤ at + 1 = rw (length-set slots at pair) all in
+    let put : slice_set slots at pair ≡ take at slots ++ pair ∷ [] = sym (take_all (at + 1) (slice_set slots at pair) set_all) ∙ take_more_set slots at pair within in
+    let split : slots ≡ take at slots ++ last ∷ [] =
+    sym (take-append-drop at slots) ∙ ap (λ ls. take at slots ++ ls) (drop_more slots at last within ∙ (λ j. sym is j ∷ drop_all (at + 1) slots all j)) in
+    ap entries_of (ap (flat_map says_of) put ∙ (says_both (take at slots) last own pair says ∙ ap (λ ls. flat_map says_of (ls ++ own ∷ [])) (sym split)))
 
 -- ---- the entry of a blob, by its slots
 
--- a blob that doesn't pass a slot has neither Z nor M, and an offset below 2^57
-nothing_beyond : (z m : Option Span) (offset : ℕ) → (is_some z || (is_some m || nat_le (2 ^ 57) offset)) ≡ false → (z ≡ None) × (m ≡ None) × (offset < 2 ^ 57)
+-- a blob that doesn't pass a slot has neither Z nor M, and an offset below 2^56
+nothing_beyond : (z m : Option Span) (offset : ℕ) → (is_some z || (is_some m || nat_le (2 ^ 56) offset)) ≡ false → (z ≡ None) × (m ≡ None) × (offset < 2 ^ 56)
 nothing_beyond None None offset is = (refl, refl, grind (arith, nat_tests))
 nothing_beyond (Some z) m offset is = absurd (cc (is))
 nothing_beyond None (Some m) offset is = absurd (cc (is))
 
-entry_flat : (offset : ℕ) (deep : Bool) (box : Option Bounds) → deep ≡ false → (box_z box ≡ None) × (box_m box ≡ None) × (offset < 2 ^ 57) → entry_with (unboxed 0) (own_said offset deep box) ≡ record { offset = offset; bounds = box }
-entry_flat offset deep None is near = let all : offset % 2 ^ 57 + 0 ≡ offset = omega (arith, near.2) in rw is (λ j. record { offset = all j; bounds = None })
+entry_flat : (offset : ℕ) (deep : Bool) (box : Option Bounds) → deep ≡ false → (box_z box ≡ None) × (box_m box ≡ None) × (offset < 2 ^ 56) → entry_with (unboxed 0) (own_said offset deep box) ≡ record { offset = offset; bounds = box }
+entry_flat offset deep None is near = let all : offset % 2 ^ 56 + 0 ≡ offset = omega (arith, near.2) in rw is (λ j. record { offset = all j; bounds = None })
 entry_flat offset deep (Some box) is near =
-    let all : offset % 2 ^ 57 + 0 ≡ offset = omega (arith, near.2) in
+    let all : offset % 2 ^ 56 + 0 ≡ offset = omega (arith, near.2) in
     rw is (λ j. record { offset = all j; bounds = Some (record { x = box.x; y = box.y; z = sym near.0 j; m = sym near.1 j }) })
 
 entry_deep : (offset : ℕ) (deep : Bool) (box : Option Bounds) → deep ≡ true → entry_with (said_before offset box) (own_said offset deep box) ≡ record { offset = offset; bounds = box }
-entry_deep offset deep None is = let all : offset % 2 ^ 57 + offset / 2 ^ 57 * 2 ^ 57 ≡ offset = omega arith in rw is (λ j. record { offset = all j; bounds = None })
-entry_deep offset deep (Some box) is = let all : offset % 2 ^ 57 + offset / 2 ^ 57 * 2 ^ 57 ≡ offset = omega arith in rw is (λ j. record { offset = all j; bounds = Some box })
+entry_deep offset deep None is = let all : offset % 2 ^ 56 + offset / 2 ^ 56 * 2 ^ 56 ≡ offset = omega arith in rw is (λ j. record { offset = all j; bounds = None })
+entry_deep offset deep (Some box) is = let all : offset % 2 ^ 56 + offset / 2 ^ 56 * 2 ^ 56 ≡ offset = omega arith in rw is (λ j. record { offset = all j; bounds = Some box })
 
 -- one more slot is the blob's if the blob doesn't pass a slot; otherwise two are
-module _ (slots : List Written) (offset : ℕ) (deep : Bool) (box : Option Bounds) (passes : deep ≡ passes_a_slot offset box) (slot : Written) (says : slot_says slot ≡ own_said offset deep box) where
+module _ (slots : List Written) (offset : ℕ) (deep : Bool) (box : Option Bounds) (passes : deep ≡ passes_a_slot offset box) (slot : Written) (alone : is_pair slot ≡ false) (says : slot_says slot ≡ own_said offset deep box) where
   pub kept_one : deep ≡ false → entries_kept (slots ++ slot ∷ []) ≡ entries_kept slots ++ record { offset = offset; bounds = box } ∷ []
-  kept_one is = kept_flat slots slot (own_said offset deep box) _ says refl is (entry_flat offset deep box is (nothing_beyond (box_z box) (box_m box) offset (sym passes ∙ is)))
+  kept_one is = kept_flat slots slot (own_said offset deep box) _ alone says refl is (entry_flat offset deep box is (nothing_beyond (box_z box) (box_m box) offset (sym passes ∙ is)))
 
-  pub kept_two : (before : Written) → slot_says before ≡ said_before offset box → deep ≡ true → entries_kept (slots ++ before ∷ slot ∷ []) ≡ entries_kept slots ++ record { offset = offset; bounds = box } ∷ []
-  kept_two before was is = kept_deep slots before slot (said_before offset box) (own_said offset deep box) _ was says refl refl (entry_deep offset deep box is)
+  pub kept_two : (before : Written) → is_pair before ≡ false → slot_says before ≡ said_before offset box → deep ≡ true → entries_kept (slots ++ before ∷ slot ∷ []) ≡ entries_kept slots ++ record { offset = offset; bounds = box } ∷ []
+  kept_two before before_alone was is = kept_deep slots before slot (said_before offset box) (own_said offset deep box) _ before_alone alone was says refl refl (entry_deep offset deep box is)
 
 -- the entry of a blob whose header was read
 pub entry_read : (offset : ℕ) (r : Reading) (g : Geometry) (raw : Fields) → offset ≡ r.place → SaysOf raw g → entry_said offset raw ≡ entry_of 0 r.place g
@@ -95,38 +139,3 @@ pub room_two : (room : List Written) (at : ℕ) (before slot : Written) → at +
 room_two room at before slot fits =
     take_more_set (slice_set room at before) (at + 1) slot (rw (length-set room at before) fits)
     ∙ (ap (λ xs. xs ++ slot ∷ []) (take_more_set room at before (omega (arith, fits))) ∙ append_assoc (take at room) (before ∷ []) (slot ∷ []))
-
--- the slots of a blob whose header was read
-pub places_read : (used0 : ℕ) (room0 room : List Written) (used offset blob : ℕ) (r : Reading) (g : Geometry) (raw : Fields) → offset ≡ r.place → SaysOf raw g
-    → entries_kept (take used room) ≡ entries_kept (take used0 room0) ++ entry_said offset raw ∷ [] → used ≡ used0 + slots_for offset (box_said raw) → drop used room ≡ drop used room0
-    → ◌≡◌ {A = Placed} (record { kept = entries_kept (take used room); used = used; left = drop used room })
-    (places (record { kept = entries_kept (take used0 room0); used = used0; left = drop used0 room0 }) blob r.place g)
-places_read used0 room0 room used offset blob r g raw at says kept is left =
-    let many : slots_for offset (box_said raw) ≡ slots_for r.place (box_of g) = λ j. slots_for (at j) (says.box j) in
-    let all = is ∙ ap (λ (n : ℕ). used0 + n) many in
-    let entries = kept ∙ ap (λ (e : Entry). entries_kept (take used0 room0) ++ e ∷ []) (entry_read offset r g raw at says) in
-    let behind = left ∙ (ap (λ (n : ℕ). drop n room0) all ∙ sym (drop-drop (slots_for r.place (box_of g)) used0 room0)) in
-    λ j. record { kept = entries j; used = all j; left = behind j }
-
-slots_few : (offset : ℕ) (box : Option Bounds) → slots_for offset box ≤ 2
-slots_few offset box = go (passes_a_slot offset box)
-  where
-    go : (b : Bool) → cond b 2 1 ≤ 2
-    go true = omega arith
-    go false = omega arith
-
--- the slots of blobs are put after the others, at most two for each, and what stands after them is unchanged
-slots_put : (room0 : List Written) (blob offset : ℕ) (trees : List Geometry) (s end : Placed) → end ≡ after_from places blob offset trees s → s.left ≡ drop s.used room0
-    → (end.kept ≡ s.kept ++ told_from entry_of blob offset trees) × (end.used ≤ s.used + 2 * length trees) × (end.left ≡ drop end.used room0)
-slots_put room0 blob offset [] s end is left = rw is (sym (append-nil s.kept), omega arith, left)
-slots_put room0 blob offset (t ∷ ts) s end is left =
-    let many = slots_for offset (box_of t) in
-    let rest = slots_put room0 (blob + 1) (offset + size_of t) ts (places s blob offset t) end is (ap (drop many) left ∙ drop-drop many s.used room0) in (
-      rest.0 ∙ append_assoc s.kept (entry_of blob offset t ∷ []) (told_from entry_of (blob + 1) (offset + size_of t) ts),
-      omega (arith, rest.1, slots_few offset (box_of t)),
-      rest.2,
-    )
-
-pub all_put : (room0 : List Written) (trees : List Geometry) (end : Placed) → end ≡ after_from places 0 0 trees (record { kept = []; used = 0; left = room0 })
-    → (end.kept ≡ entries trees) × (end.used ≤ 2 * length trees) × (end.left ≡ drop end.used room0)
-all_put room0 trees end is = let all = slots_put room0 0 0 trees _ end is refl in (all.0, omega (arith, all.1), all.2)

@@ -1,6 +1,7 @@
 -- The loop of a scan with the slots of a directory, from slot to slot.
-use Rattle.std.proofs.Common.{◌≡◌, ℕ, ℤ, ◌+◌, ◌^◌, ◌<◌, ◌≤◌, Bool, true, false, cond, List, [], ◌∷◌, length, map, take, drop, get_or, Option, Some, None, option_map, refl, ap, subst, sym, ◌∙◌, arith, sum_by, slice_set, length-drop}
+use Rattle.std.proofs.Common.{◌≡◌, ℕ, ℤ, ◌+◌, ◌^◌, ◌<◌, ◌≤◌, Bool, true, false, cond, List, [], ◌∷◌, ◌++◌, length, flat_map, map, take, drop, get_or, Option, Some, None, option_map, refl, ap, subst, sym, ◌∙◌, arith, sum_by, slice_set, length-drop}
 use Rattle.std.specs.List.{list_any, AllByRecursion}
+use Rattle.std.proofs.lemmas.Bool.Decides.{nat_tests}
 use Rattle.std.proofs.lemmas.List.{drop_more, drop_all, length-take}
 use Rattle.std.proofs.lemmas.List.Elements.{recursion_from_All}
 use Rattle.twkb_num.specs.Cursor.{added}
@@ -15,15 +16,17 @@ use Rattle.twkb_body.proofs.Entering.{reaches, boxed_holds}
 use Rattle.twkb_layer.specs.Directory.{Entry, box_of, entry_of, entries, directory_cost}
 use Rattle.twkb_layer.specs.Hits.{hits, found_blobs, cost, filled}
 use Rattle.twkb_layer.specs.Layer.{IsCertifiedLayer, size_of, told_from}
-use Rattle.twkb_layer.specs.Slots.{Said, Written, slot_says, unboxed, entry_with, entries_from, entries_of}
+use Rattle.twkb_layer.specs.Devices.Slots.{half_says, is_pair, slot_says, unboxed}
+use Rattle.twkb_layer.specs.Slots.{Said, Written, entry_with, entries_from, says_of}
 use Rattle.twkb_layer.specs.Devices.Seeking.{outside}
 use Rattle.twkb_layer.specs.Window.{is_inside, box_misses, is_missed}
 use Rattle.twkb_layer.specs.declared.hits.Found.{Found}
 use Rattle.twkb_layer.proofs.Layers.{blob_some, layer_short}
 use Rattle.twkb_layer.proofs.EachBlob.{Next, next_of, Walking, walk_begins, walk_goes_on, walk_fits, blob_few, walk_ends}
-use Rattle.twkb_layer.proofs.Scanning.{scan_ends, scan_reads, finds_if, found_fits}
+use Rattle.twkb_layer.proofs.Scanning.{scan_ends, scan_reads}
 use Rattle.twkb_layer.proofs.Costs.{directory_cost_few}
-use Rattle.twkb_layer.specs.Devices.Scanning.{finds}
+use Rattle.twkb_layer.specs.Devices.Scanning.{Scan, finds}
+use Rattle.twkb_layer.proofs.Entries.{entries_of, says_alone, says_two}
 
 -- ---- a box that misses
 
@@ -47,6 +50,20 @@ missed_none w (geometry h l ids polygons members) bytes place at miss =
     let k = missed_has w h h.box refl miss in
     let boxed = boxed_holds h l ids polygons members 1 bytes place k.ranges at k.box in
     none_of w (bounds_of h.xy h.z h.m k.ranges) (vertices (geometry h l ids polygons members)) k.misses (recursion_from_All (Holds (bounds_of h.xy h.z h.m k.ranges)) (vertices (geometry h l ids polygons members)) boxed)
+
+-- a blob that isn't found leaves the scan as it is
+pub finds_none : {S : Type 0} (of : Found → S) (s : Scan S) (blob offset : ℕ) (g : Geometry) → list_any (is_inside s.window) (vertices g) ≡ false → finds of s blob offset g ≡ s
+finds_none of s blob offset g none = ap (λ (b : Bool). cond b (record { window = s.window; found = s.found + 1; room = slice_set s.room s.found (of (record { blob = blob; offset = offset; bytes = size_of g })) }) s) none
+
+-- at most one more is found
+found_few : {S : Type 0} (b : Bool) (found : ℕ) (more same : Scan S) → more.found ≡ found + 1 → same.found ≡ found → (cond b more same).found ≤ found + 1
+found_few true found more same one none = omega (arith, one)
+found_few false found more same one none = omega (arith, none)
+
+-- neither of two blobs is a slot of Z and M
+pub half_own : (second : Bool) (slot : Written) → false ≡ (half_says second slot).beyond
+half_own true slot = grind (arith, nat_tests)
+half_own false slot = grind (arith, nat_tests)
 
 -- ---- a scan with slots
 -- the blob of a slot
@@ -101,10 +118,19 @@ module _ {S : Type 0} (of : Found → S) (w : Bounds) (bytes : List ℕ) (count0
   }
 
   -- the slot of this number, and the slots after it
-  pub slot_next : (beyond : Said) (slots : List Written) (at : ℕ) (count blob found : ℕ) (room : List S) → Looking beyond (map slot_says (drop at slots)) count blob found room
-      → (slot : Written) → slot ≡ get_or slots at slot → at < length slots → Looking beyond (slot_says slot ∷ map slot_says (drop (at + 1) slots)) count blob found room
+  pub slot_next : (beyond : Said) (slots : List Written) (at : ℕ) (count blob found : ℕ) (room : List S) → Looking beyond (flat_map says_of (drop at slots)) count blob found room
+      → (slot : Written) → slot ≡ get_or slots at slot → at < length slots → Looking beyond (says_of slot ++ flat_map says_of (drop (at + 1) slots)) count blob found room
   slot_next beyond slots at count blob found room s slot is lt =
-      subst (λ ls. Looking beyond (map slot_says ls) count blob found room) (drop_more slots at slot lt ∙ ap (λ (l : Written). l ∷ drop (at + 1) slots) (sym is)) s
+      subst (λ ls. Looking beyond (flat_map says_of ls) count blob found room) (drop_more slots at slot lt ∙ ap (λ (l : Written). l ∷ drop (at + 1) slots) (sym is)) s
+
+  -- what a slot says, if it isn't of two blobs, and if it is
+  pub one_next : (beyond : Said) (slot : Written) (more : List Said) (count blob found : ℕ) (room : List S) → Looking beyond (says_of slot ++ more) count blob found room → false ≡ is_pair slot → Looking beyond (slot_says slot ∷ more) count blob found room
+  one_next beyond slot more count blob found room s alone =
+      subst (λ ls. Looking beyond (ls ++ more) count blob found room) (says_alone slot (sym alone)) s
+
+  pub two_next : (beyond : Said) (slot : Written) (more : List Said) (count blob found : ℕ) (room : List S) → Looking beyond (says_of slot ++ more) count blob found room → true ≡ is_pair slot → Looking beyond (half_says false slot ∷ half_says true slot ∷ more) count blob found room
+  two_next beyond slot more count blob found room s pair =
+      subst (λ ls. Looking beyond (ls ++ more) count blob found room) (says_two slot (sym pair)) s
 
   module _ (beyond slot : Said) (slots : List Said) (count blob found : ℕ) (room : List S) (s : Looking beyond (slot ∷ slots) count blob found room) (e : Entry) where
     pub here_of : e ≡ entry_with beyond slot → false ≡ slot.beyond → Here s.rest bytes s.place beyond slots blob e
@@ -116,23 +142,24 @@ module _ {S : Type 0} (of : Found → S) (w : Bounds) (bytes : List ℕ) (count0
     pub here_fits : Here s.rest bytes s.place beyond slots blob e → (blob < length bytes) × (found + 1 < 2 ^ 64)
     here_fits h = (blob_few _ _ _ bytes count0 _ s.rest blob s.place count _ _ s.on h.next, let more = (walk_fits _ _ _ bytes count0 _ s.rest blob s.place count _ _ s.on h.next refl) in omega (arith, more.1))
 
-    pub look_goes_on : (h : Here s.rest bytes s.place beyond slots blob e) (reported : S) → reported ≡ of (record { blob = blob; offset = e.offset; bytes = size_of h.next.tree }) → (new : ℕ) → new ≡ added count (directory_cost w h.next.tree) → (b : Bool) → b ≡ list_any (is_inside w) (vertices h.next.tree)
-        → Looking beyond slots new (blob + 1) (cond b (found + 1) found) (cond b (slice_set room found reported) room)
-    look_goes_on h reported is_hit new adds b is =
+    pub look_goes_on : (h : Here s.rest bytes s.place beyond slots blob e) (new : ℕ) → new ≡ added count (directory_cost w h.next.tree) → (more : ℕ) (put : List S)
+        → finds of (record { window = w; found = found; room = room }) blob e.offset h.next.tree ≡ record { window = w; found = more; room = put } → Looking beyond slots new (blob + 1) more put
+    look_goes_on h new adds more put is =
         let n = h.next in
-        let named : reported ≡ of (record { blob = blob; offset = s.place; bytes = size_of n.tree }) = is_hit ∙ (λ j. of (record { blob = blob; offset = h.offset j; bytes = size_of n.tree })) in
+        let few : more ≤ found + 1 = subst (λ (k : ℕ). k ≤ found + 1) (ap (λ (k : Scan S). k.found) is) (found_few (list_any (is_inside w) (vertices n.tree)) found (record { window = w; found = found + 1; room = slice_set room found (of (record { blob = blob; offset = e.offset; bytes = size_of n.tree })) }) (record { window = w; found = found; room = room }) refl refl) in
         record {
           place = s.place + size_of n.tree;
           rest = n.after;
-          on = rw adds (walk_goes_on (finds of) (λ s g. directory_cost s.window g) None bytes count0 _ s.rest blob s.place count (record { window = w; found = found; room = room }) _ s.on n refl (directory_cost_few w n.tree bytes s.place n.stands) _ (finds_if of w found room blob s.place n.tree reported named b is) (λ blob more. cond b (found + 1) found + more < 2 ^ 64) (found_fits b found));
+          on = rw adds (walk_goes_on (finds of) (λ s g. directory_cost s.window g) None bytes count0 _ s.rest blob s.place count (record { window = w; found = found; room = room }) _ s.on n refl (directory_cost_few w n.tree bytes s.place n.stands) _
+              (sym is ∙ (λ j. finds of (record { window = w; found = found; room = room }) blob (h.offset j) n.tree)) (λ blob many. more + many < 2 ^ 64) (λ many fits. omega (arith, fits, few)));
           entries_are = h.others;
         }
 
   -- the result of a scan with slots
-  pub look_ends : (beyond : Said) (slots : List Written) (at count blob found : ℕ) (room : List S) → Looking beyond (map slot_says (drop at slots)) count blob found room → length slots ≤ at → (trees : List Geometry) → IsCertifiedLayer trees bytes
+  pub look_ends : (beyond : Said) (slots : List Written) (at count blob found : ℕ) (room : List S) → Looking beyond (flat_map says_of (drop at slots)) count blob found room → length slots ≤ at → (trees : List Geometry) → IsCertifiedLayer trees bytes
       → (found ≡ length (hits trees w)) × (room ≡ filled (map of (found_blobs trees w)) room0) × (count ≡ added count0 (sum_by (directory_cost w) trees))
   look_ends beyond slots at count blob found room s le trees h =
-      let none = no_entries blob s.place s.rest (sym (ap (λ ls. entries_from beyond (map slot_says ls)) (drop_all at slots le)) ∙ s.entries_are) in
+      let none = no_entries blob s.place s.rest (sym (ap (λ ls. entries_from beyond (flat_map says_of ls)) (drop_all at slots le)) ∙ s.entries_are) in
       let all = walk_ends _ _ None bytes count0 _ s.rest blob s.place count _ _ s.on none trees h in
       let ends = scan_ends of w room0 trees _ all.0 in
       (ends.0, ends.1, all.1 ∙ ap (added count0) (scan_reads of directory_cost 0 0 trees _))

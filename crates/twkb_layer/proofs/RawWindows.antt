@@ -1,5 +1,5 @@
 -- Raw integers against units: quotients rounded up and down, and boxes that miss a window.
-use Rattle.std.proofs.Common.{◌≡◌, ℕ, zero, suc, negsuc, ◌+◌, ◌*◌, ◌%◌, ◌^◌, ◌<◌, ◌≤◌, ◌-◌, ◌==◌, if◌then◌else◌, unsigned_abs, ◌⊎◌, inl, inr, true, false, ◌||◌, List, length, get_or, set, subst, ℤ, pos, ◌<ℤ◌, ◌≤ℤ◌, ◌+ℤ◌, ◌-ℤ◌, ◌*ℤ◌, neg_ℤ, int_lt, sym, ap, ◌∙◌, to_z, of_z, mul_assoc, arith}
+use Rattle.std.proofs.Common.{◌≡◌, ℕ, zero, suc, negsuc, ◌+◌, ◌*◌, ◌^◌, ◌<◌, ◌≤◌, ◌-◌, unsigned_abs, ◌⊎◌, inl, inr, true, false, ◌||◌, List, length, get_or, set, subst, ℤ, pos, ◌<ℤ◌, ◌≤ℤ◌, ◌+ℤ◌, ◌-ℤ◌, ◌*ℤ◌, neg_ℤ, int_lt, sym, ap, ◌∙◌, to_z, of_z, mul_assoc, arith}
 use Rattle.std.proofs.Math.IntN.{*ℤ-zero, zero-*ℤ, pos-*ℤ-pos, negsuc-*ℤ-pos}
 use Rattle.std.proofs.lemmas.Nat.{pow-add}
 use Rattle.std.proofs.lemmas.Bool.{cases_eq}
@@ -15,8 +15,8 @@ use Rattle.twkb_body.proofs.Scales.{times_suc, times_le}
 use Rattle.twkb_layer.specs.declared.raw_windows.RawEnds.{RawEnds}
 use Rattle.twkb_layer.specs.declared.raw_windows.RawWindow.{RawWindow}
 use Rattle.twkb_layer.specs.Devices.RawWindows.{IsRawEnds, IsRawWindow, IsExactEnds, IsExactWindow, raw_range_misses, raw_box_misses}
-use Rattle.twkb_layer.specs.Devices.Slots.{IsInner, AreInner, HasInnerEnds, IsJudgedByEnds}
-use Rattle.twkb_layer.specs.Slots.{precision_of, Said, Written, range_in, slot_says, unpacked}
+use Rattle.twkb_layer.specs.Devices.Slots.{IsInner, AreInner}
+use Rattle.twkb_layer.specs.Slots.{precision_of}
 use Rattle.twkb_layer.specs.Window.{lie_apart}
 
 is_less : (a b : ℤ) → a <ℤ b → int_lt a b ≡ true
@@ -148,17 +148,6 @@ apart p range raw is ends inner = sym (λ j. is.below ends.1 inner.second j || i
 pub misses_raw : (p : ℤ) (window : Bounds) (raw : RawWindow) → IsRawWindow p window raw → (x y : ℤ × ℤ) → AreInner x → AreInner y
     → raw_box_misses raw x y ≡ (lie_apart (span_at p x) window.x || lie_apart (span_at p y) window.y)
 misses_raw p window raw is x y x_inner y_inner = (λ j. apart p window.x raw.x is.x x x_inner j || apart p window.y raw.y is.y y y_inner j)
-
--- a slot that keeps ends is judged by comparing them
-pub judged : (window : Bounds) (l : Written) (slot : Said) → slot ≡ slot_says l → HasInnerEnds l → (unpacked l.word).form ≡ 0 → (raw : RawWindow) → IsRawWindow (precision_of (unpacked l.word).code) window raw
-    → IsJudgedByEnds window slot (raw_box_misses raw l.first l.second)
-judged window l slot is inner near raw at = record {
-  x = span_at (precision_of (unpacked l.word).code) l.first;
-  y = span_at (precision_of (unpacked l.word).code) l.second;
-  first = ap (λ (s : Said). s.first) is ∙ ap (λ (form : ℕ). range_in form (unpacked l.word).code l.first) near;
-  second = ap (λ (s : Said). s.second) is ∙ ap (λ (form : ℕ). range_in form (if form == 3 then (unpacked l.word).rest % 16 else (unpacked l.word).code) l.second) near;
-  answer = misses_raw (precision_of (unpacked l.word).code) window raw at l.first l.second (inner.first near) (inner.second near);
-}
 
 -- ---- the windows at all precisions
 

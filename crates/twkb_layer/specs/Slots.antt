@@ -1,5 +1,6 @@
 -- The slots of a directory: boxes in raw integers, with their precisions.
-use Rattle.std.specs.Prelude.{ℕ, ◌+◌, ◌*◌, ◌/◌, ◌%◌, ◌^◌, ◌==◌, nat_lt, ℤ, pos, ◌+ℤ◌, ◌-ℤ◌, cond, if◌then◌else◌, ◌&&◌, ◌||◌, Bool, false, List, [], ◌∷◌, map, Option, Some, None}
+use Rattle.std.specs.Prelude.{ℕ, ◌+◌, ◌*◌, ◌/◌, ◌%◌, ◌^◌, ◌==◌, nat_lt, ℤ, pos, ◌+ℤ◌, ◌-ℤ◌, cond, if◌then◌else◌, ◌&&◌, ◌||◌, Bool, true, false, List, [], ◌∷◌, flat_map, Option, Some, None}
+use Rattle.std.specs.Int.{int_div_euclid, int_rem_euclid}
 use Rattle.twkb_head.specs.declared.boxes.Span.{Span}
 use Rattle.twkb_head.specs.declared.boxes.Bounds.{Bounds}
 use Rattle.twkb_head.specs.Head.{span_at}
@@ -9,38 +10,22 @@ use Rattle.twkb_layer.specs.Directory.{Entry}
 abbrev pub precision_of : ℕ → ℤ
 precision_of code = pos code -ℤ pos 8
 
--- the range of a minimum and a width
-abbrev pub range_at : ℤ → ℤ × ℤ → Span
-range_at p numbers = span_at p (numbers.0, numbers.0 +ℤ numbers.1)
-
 -- The range in a slot of this form, with this code of a precision and two numbers: its ends in form 0, otherwise a minimum
--- and a width. Form 2 has no range, and in form 3 a code below 8 says that there is none.
+-- and a width. Form 1 has no range, and in form 3 a code below 8 says that there is none.
 abbrev pub range_in : ℕ → ℕ → ℤ × ℤ → Option Span
 range_in form code numbers =
     if form == 0 then Some (span_at (precision_of code) numbers)
-    else if (form == 1) || ((form == 3) && nat_lt 7 code) then Some (range_at (precision_of code) numbers)
-    else None
+    else if (form == 2) || ((form == 3) && nat_lt 7 code)
+    then Some (span_at (precision_of code) (numbers.0, numbers.0 +ℤ numbers.1)) else None
 
--- what a slot says: X and Y of its blob's box; or, in form 3, Z and M of the box of the next slot's blob
+-- What a slot says of a blob: its offset, X and Y of its box, and whether the slot before says more of it (`deep`); or, in form 3
+-- (`beyond`), Z and M of the box of the next slot's blob, and what is added to the offset there.
 pub record Said : Type 0 where
   pub beyond : Bool
-  -- whether the slot before has more of its blob's box
   pub deep : Bool
-  -- the offset of the blob, or what is added to the offset in the next slot
   pub offset : ℕ
   pub first : Option Span
   pub second : Option Span
-
--- a code of four bits, a form of two, whether the slot before says more, and the rest
-pub record Packed : Type 0 where
-  pub code : ℕ
-  pub form : ℕ
-  pub deep : Bool
-  pub rest : ℕ
-
--- the parts of a word, from the lowest bit on
-abbrev pub unpacked : ℕ → Packed
-unpacked word = record { code = word % 16; form = (word / 16) % 4; deep = (word / 64) % 2 == 1; rest = word / 128 }
 
 -- the contents of a slot's memory: a word, and two pairs of numbers
 pub record Written : Type 0 where
@@ -48,23 +33,36 @@ pub record Written : Type 0 where
   pub first : ℤ × ℤ
   pub second : ℤ × ℤ
 
--- what a slot says, by its form; in form 3, seven bits of the word are the bits of an offset above its lowest 57
-abbrev pub says_by : Packed → ℤ × ℤ → ℤ × ℤ → Said
-says_by word first second = record {
-  beyond = word.form == 3;
-  deep = word.deep;
-  offset = if word.form == 3 then (word.rest / 16) % 128 * 2 ^ 57 else word.rest;
-  first = range_in word.form word.code first;
-  second = range_in word.form (if word.form == 3 then word.rest % 16 else word.code) second;
+-- what a slot with this code and form says, whether the slot before says more, and the rest of its word; in form 3, eight bits of
+-- the rest are the bits of an offset above its lowest 56
+abbrev pub says_with : ℕ → ℕ → Bool → ℕ → ℤ × ℤ → ℤ × ℤ → Said
+says_with code form deep rest first second = record {
+  beyond = form == 3;
+  deep = deep;
+  offset = if form == 3 then (rest / 16) % 256 * 2 ^ 56 else rest;
+  first = range_in form code first;
+  second = range_in form (if form == 3 then rest % 16 else code) second;
 }
 
--- what a slot says, by the contents of its memory
-abbrev pub slot_says : Written → Said
-slot_says slot = says_by (unpacked slot.word) slot.first slot.second
+-- the numbers in the upper halves of two numbers of 64 bits, or in their lower halves, where 2^31 is added to them
+abbrev pub half : Bool → ℤ × ℤ → ℤ × ℤ
+half true (a, b) = (int_div_euclid a (pos (2 ^ 32)), int_div_euclid b (pos (2 ^ 32)))
+half false (a, b) = (int_rem_euclid a (pos (2 ^ 32)) -ℤ pos (2 ^ 31), int_rem_euclid b (pos (2 ^ 32)) -ℤ pos (2 ^ 31))
 
--- what a slot says of a blob without a box
-abbrev pub unboxed : ℕ → Said
-unboxed offset = record { beyond = false; deep = false; offset = offset; first = None; second = None }
+-- What a slot says, of one blob or of two. Its word has four bits of a code, three of a form, one that says whether the slot before
+-- says more, and the rest. If the form is 4 or more, its lower two bits are the forms of two blobs, and the rest is the offset of
+-- the first one, in 38 bits, and how much further the second one begins. Their ends are in halves.
+abbrev pub says_of : Written → List Said
+says_of slot =
+    let code = slot.word % 16 in
+    let form = (slot.word / 16) % 8 in
+    let rest = slot.word / 256 in
+    let offset = rest % 2 ^ 38 in
+    let only = says_with code form ((slot.word / 128) % 2 == 1) rest slot.first slot.second in
+    let first = says_with code (form % 2) false offset (half false slot.first) (half false slot.second) in
+    let further = offset + rest / 2 ^ 38 in
+    let second = says_with code ((form / 2) % 2) false further (half true slot.first) (half true slot.second) in
+    cond (nat_lt 3 form) (first ∷ second ∷ []) (only ∷ [])
 
 -- the box of these ranges, or none if X or Y is missing
 abbrev pub box_with : Option Span → Option Span → Option Span → Option Span → Option Bounds
@@ -84,10 +82,7 @@ entries_from beyond [] = []
 entries_from beyond (slot ∷ slots) =
     cond slot.beyond (entries_from slot slots) (entry_with beyond slot ∷ entries_from beyond slots)
 
--- `entries_from` the first slot on, which no slot precedes
-abbrev pub entries_of : List Said → List Entry
-entries_of slots = entries_from (unboxed 0) slots
-
--- `entries_of` the slots in memory
+-- `entries_from` the first slot in memory on, which no slot precedes
 abbrev pub entries_kept : List Written → List Entry
-entries_kept slots = entries_of (map slot_says slots)
+entries_kept slots =
+    entries_from (record { beyond = false; deep = false; offset = 0; first = None; second = None }) (flat_map says_of slots)

@@ -1,15 +1,15 @@
 //! The slots of a blob, put into memory: into a vector, or into room that a caller lends. Used by `certified`.
-ghost use Rattle.std.specs.Prelude.{◌≡◌, ◌+◌, ◌-◌, ◌*◌, ◌<◌, ◌≤◌, ◌++◌, ◌∷◌, [], List, length, take, drop, vec_len, vec_capacity};
+ghost use Rattle.std.specs.Prelude.{◌≡◌, ◌+◌, ◌-◌, ◌*◌, ◌<◌, ◌≤◌, ◌++◌, ◌∷◌, [], List, length, take, drop, slice_set, vec_len, vec_capacity, false, IfSome};
 ghost use Rattle.twkb_head.specs.Raw.{HavePrecisions};
 ghost use Rattle.twkb_body.specs.Geometry.{Geometry};
 ghost use Rattle.twkb_body.specs.Visit.{bytes_to_pass};
 ghost use Rattle.twkb_layer.specs.Directory.{Entry, IsDirectoryOf, entry_of};
 ghost use Rattle.twkb_layer.specs.Layer.{IsCertifiedLayer, AddsAtMost, OfLayer};
-ghost use Rattle.twkb_layer.specs.Devices.EachBlob.{Lent, adds, lent};
-ghost use Rattle.twkb_layer.specs.Devices.Slots.{box_said, entry_said, Placed, own_said, passes_a_slot, places, said_before, slots_for};
-ghost use Rattle.twkb_layer.specs.Slots.{entries_kept, slot_says};
+ghost use Rattle.twkb_layer.specs.Devices.EachBlob.{adds};
+ghost use Rattle.twkb_layer.specs.Devices.Slots.{box_said, entry_said, is_pair, own_said, passes_a_slot, said_before, slot_says};
+ghost use Rattle.twkb_layer.specs.Slots.{entries_kept};
 
-use crate::each_blob::{EachBlob, for_each_blob};
+use crate::each_blob::EachBlob;
 use crate::slots::{Kept, OFFSET_LIMIT, Slot};
 use std::alloc::Allocator;
 use twkb_body::read_and_pass;
@@ -35,35 +35,6 @@ impl<A: Allocator> EachBlob for Vec<Slot, A> {
     }
 }
 
-/// Room for slots that a caller lends, and how many of its places are used.
-#[derive(Drop)]
-struct LentSlots<'r> {
-    room: &'r mut [Slot],
-    used: usize,
-}
-
-impl<'r> EachBlob for LentSlots<'r> {
-    ghost State = { Lent Placed };
-
-    ghost state = { λ s. record {
-      name = s.room.ghost_name;
-      state = record { kept = entries_kept (take s.used s.room.now); used = s.used; left = drop s.used s.room.now };
-    } };
-
-    ghost step = { lent places };
-
-    ghost reads = { λ s g. bytes_to_pass g };
-
-    ghost fits = { λ s blob more. s.used + 2 * more ≤ length s.room.now };
-
-    #[inline(always)]
-    fn take_blob(&mut self, cursor: &mut Cursor, _blob: usize) {
-        let offset = cursor.place();
-        let raw = read_and_pass(cursor);
-        self.used = put(self.room, self.used, offset, &raw);
-    }
-}
-
 /// Puts the slots of a certified layer into the room, which has two places for each blob, and returns how many there are.
 pub fn put_slots(room: &mut [Slot], cursor: &mut Cursor) -> usize
     requires { (trees : List Geometry) × IsCertifiedLayer trees cursor.old.bytes
@@ -75,34 +46,45 @@ pub fn put_slots(room: &mut [Slot], cursor: &mut Cursor) -> usize
     ensures once { AddsAtMost (length cursor.old.bytes) cursor.old.count cursor.new.count }
     ensures grows { cursor.old.count ≤ cursor.new.count }
 {
-    let mut slots = LentSlots { room, used: 0 };
-    for_each_blob(&mut slots, cursor, None);
-    slots.used
+    cursor.place_is_within();
+    cursor.go_to(0);
+    let mut used = 0;
+    while cursor.place() < cursor.len() {
+        let offset = cursor.place();
+        let raw = read_and_pass(cursor);
+        used = put(room, used, offset, &raw);
+    }
+    used
 }
 
-/// Puts the slots of a blob that begins at the offset with this header after the `used` ones of the room. Returns how many are
-/// used then.
+/// Puts the slots of a blob that begins at the offset with this header after the `used` ones of the room, or its slot and the last
+/// one into one. Returns how many are used then.
 #[inline(always)]
 fn put(room: &mut [Slot], used: usize, offset: usize, raw: &Fields) -> usize
     requires axes { HavePrecisions raw.now.axes }
     requires spare { used + 1 < length room.old }
     ensures says { entries_kept (take result room.new)
         ≡ entries_kept (take used room.old) ++ entry_said offset raw.now ∷ [] }
-    ensures used { result ≡ used + slots_for offset (box_said raw.now) }
+    ensures more { used ≤ result }
+    ensures few { result ≤ used + 2 }
     ensures room { length room.new ≡ length room.old }
     ensures left { drop result room.new ≡ drop result room.old }
 {
     let deep = passes_a_slot(offset, raw);
+    let own = own_slot(offset, deep, raw);
     let mut place = used;
     if deep {
         room[place] = slot_before(offset, raw);
         place += 1;
+    } else if let Some(pair) = paired(&room[..used], &own) {
+        room[used - 1] = pair;
+        return used;
     }
-    room[place] = own_slot(offset, deep, raw);
+    room[place] = own;
     place + 1
 }
 
-/// Pushes the slots of a blob that begins at the offset with this header.
+/// Pushes the slots of a blob that begins at the offset with this header, or puts its slot and the last one into one.
 #[inline(always)]
 fn push<A: Allocator>(slots: &mut Vec<Slot, A>, offset: usize, raw: &Fields)
     requires axes { HavePrecisions raw.now.axes }
@@ -112,10 +94,24 @@ fn push<A: Allocator>(slots: &mut Vec<Slot, A>, offset: usize, raw: &Fields)
     ensures len { vec_len slots.new ≤ vec_len slots.old + 2 }
 {
     let deep = passes_a_slot(offset, raw);
+    let own = own_slot(offset, deep, raw);
     if deep {
         slots.push_reserved(slot_before(offset, raw));
+    } else if let Some(pair) = paired(slots, &own) {
+        let last = slots.len() - 1;
+        slots[last] = pair;
+        return;
     }
-    slots.push_reserved(own_slot(offset, deep, raw));
+    slots.push_reserved(own);
+}
+
+/// A slot in place of the last one that says what the last one and `own` say, if there is one.
+#[inline(always)]
+fn paired(slots: &[Slot], own: &Slot) -> Option<Slot>
+    ensures { IfSome result (λ pair. (0 < length slots.now)
+        × (entries_kept (slice_set slots.now (length slots.now - 1) pair) ≡ entries_kept (slots.now ++ own.now ∷ []))) }
+{
+    slots.last()?.pair(own)
 }
 
 /// Whether a blob has something that its own slot has no place for.
@@ -130,10 +126,11 @@ fn passes_a_slot(offset: usize, raw: &Fields) -> bool
 #[inline(always)]
 fn own_slot(offset: usize, deep: bool, raw: &Fields) -> Slot
     requires { HavePrecisions raw.now.axes }
-    ensures { slot_says result ≡ own_said offset deep (box_said raw.now) }
+    ensures says { slot_says result ≡ own_said offset deep (box_said raw.now) }
+    ensures alone { is_pair result ≡ false }
 {
     match &raw.bounds {
-        None => Slot::unboxed(offset % OFFSET_LIMIT, deep),
+        None => Slot::unboxed(offset % OFFSET_LIMIT, deep, raw.axes.xy),
         Some(bounds) => Slot::boxed(offset % OFFSET_LIMIT, deep, bounds.x, bounds.y, raw.axes.xy),
     }
 }
@@ -142,7 +139,8 @@ fn own_slot(offset: usize, deep: bool, raw: &Fields) -> Slot
 #[inline(always)]
 fn slot_before(offset: usize, raw: &Fields) -> Slot
     requires { HavePrecisions raw.now.axes }
-    ensures { slot_says result ≡ said_before offset (box_said raw.now) }
+    ensures says { slot_says result ≡ said_before offset (box_said raw.now) }
+    ensures alone { is_pair result ≡ false }
 {
     match &raw.bounds {
         None => Slot::beyond(offset, Kept::nothing(), Kept::nothing()),

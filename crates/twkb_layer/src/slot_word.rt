@@ -1,17 +1,24 @@
 //! [`Word`], the 64 bits of a directory's slot besides its ranges. Used by `slots`.
-ghost use Rattle.std.specs.Prelude.{◌≡◌, ◌<◌, ◌^◌};
-ghost use Rattle.twkb_layer.specs.Slots.{unpacked};
+ghost use Rattle.std.specs.Prelude.{◌≡◌, ◌<◌, ◌^◌, false, true, IfSome};
+ghost use Rattle.twkb_layer.specs.Devices.Slots.{IsPairOf, half_of, unpacked};
 
 /// A slot of a blob whose box is kept by its ends.
 pub const ENDS: u64 = 0;
-/// A slot of a blob whose box is kept by least numbers and widths.
-pub const WIDTHS: u64 = 1;
 /// A slot of a blob without a box.
-pub const UNBOXED: u64 = 2;
+pub const UNBOXED: u64 = 1;
+/// A slot of a blob whose box is kept by least numbers and widths.
+pub const WIDTHS: u64 = 2;
 /// A slot of what the next slot has no place for.
 pub const BEYOND: u64 = 3;
+/// The first form of a slot of two blobs, both with a box: 1 is added if the first has none, and 2 if the second has none.
+pub const PAIR: u64 = 4;
 
-/// From the lowest bit on: four bits of a code, two of a form, one that says whether the slot before says more, and the rest.
+/// The first distance from a blob to the next one that a slot of both can't hold.
+const DISTANCE_LIMIT: u64 = 1 << 18;
+/// The first offset of a blob that a slot of two can't hold.
+const PAIR_LIMIT: u64 = 1 << 38;
+
+/// From the lowest bit on: four bits of a code, three of a form, one that says whether the slot before says more, and the rest.
 #[repr(C)]
 #[derive(Clone, Copy)]
 pub struct Word {
@@ -20,14 +27,15 @@ pub struct Word {
 
 impl Word {
     /// The word of these parts.
+    #[inline(always)]
     pub fn new(code: u64, form: u64, deep: bool, rest: u64) -> Word
         requires code { code < 16 }
-        requires form { form < 4 }
-        requires rest { rest < 2 ^ 57 }
+        requires form { form < 8 }
+        requires rest { rest < 2 ^ 56 }
         ensures { unpacked result.bits ≡ record { code = code; form = form; deep = deep; rest = rest } }
     {
         Word {
-            bits: code + 16 * form + 64 * u64::from(deep) + 128 * rest,
+            bits: code + 16 * form + 128 * u64::from(deep) + 256 * rest,
         }
     }
 
@@ -40,12 +48,12 @@ impl Word {
         (self.bits % 16) as usize
     }
 
-    /// What the slot keeps: [`ENDS`], [`WIDTHS`], [`UNBOXED`] or [`BEYOND`].
+    /// What the slot keeps: [`ENDS`], [`UNBOXED`], [`WIDTHS`], [`BEYOND`], or two blobs from [`PAIR`] on.
     #[inline(always)]
     pub fn form(&self) -> u64
         ensures { result ≡ (unpacked self.now.bits).form }
     {
-        self.bits / 16 % 4
+        self.bits / 16 % 8
     }
 
     /// Whether the slot before says more of the blob.
@@ -53,15 +61,71 @@ impl Word {
     pub fn is_deep(&self) -> bool
         ensures { result ≡ (unpacked self.now.bits).deep }
     {
-        self.bits / 64 % 2 == 1
+        self.bits / 128 % 2 == 1
     }
 
-    /// The highest 57 bits: the blob's offset, except in a slot of the form [`BEYOND`].
+    /// The highest 56 bits: the blob's offset, if the form is below [`BEYOND`].
     #[inline(always)]
     pub fn rest(&self) -> u64
         ensures value { result ≡ (unpacked self.now.bits).rest }
-        ensures few { result < 2 ^ 57 }
+        ensures few { result < 2 ^ 56 }
     {
-        self.bits / 128
+        self.bits / 256
+    }
+
+    /// The word of a slot of two blobs, if their own slots have this word and the next one, and it has place for both.
+    #[inline(always)]
+    pub fn pair(&self, next: &Word) -> Option<Word>
+        ensures { IfSome result (λ pair.
+            IsPairOf (unpacked self.now.bits) (unpacked next.now.bits) (unpacked pair.bits)) }
+    {
+        let (first, second) = (self.rest(), next.rest());
+        if !self.may_pair() || !next.may_pair() || self.code() != next.code() {
+            return None;
+        }
+        if first < PAIR_LIMIT && first <= second && second - first < DISTANCE_LIMIT {
+            Some(Word {
+                bits: self.bits
+                    + 16 * (PAIR + 2 * next.form())
+                    + 256 * PAIR_LIMIT * (second - first),
+            })
+        } else {
+            None
+        }
+    }
+
+    /// Whether the slot is of a blob without a box, or with a box that is kept by its ends, and no slot before says more.
+    #[inline(always)]
+    fn may_pair(&self) -> bool
+        ensures { result ≡ true → ((unpacked self.now.bits).form < 2) × ((unpacked self.now.bits).deep ≡ false) }
+    {
+        self.bits % 256 < 16 * WIDTHS
+    }
+
+    /// The word of the first of two blobs.
+    #[inline(always)]
+    pub fn first_of_pair(&self) -> Word
+        ensures { unpacked result.bits ≡ half_of false (unpacked self.now.bits) }
+    {
+        Word::new(
+            self.code() as u64,
+            self.form() % 2,
+            false,
+            self.rest() % PAIR_LIMIT,
+        )
+    }
+
+    /// The word of the second of two blobs.
+    #[inline(always)]
+    pub fn second_of_pair(&self) -> Word
+        ensures { unpacked result.bits ≡ half_of true (unpacked self.now.bits) }
+    {
+        let rest = self.rest();
+        Word::new(
+            self.code() as u64,
+            self.form() / 2 % 2,
+            false,
+            rest % PAIR_LIMIT + rest / PAIR_LIMIT,
+        )
     }
 }

@@ -1,15 +1,16 @@
-//! [`Slot`], 40 bytes in which a directory keeps the offset and the box of a blob.
+//! [`Slot`], 40 bytes in which a directory keeps the offset and the box of a blob, or of two.
 //! Used by other crates, and here by `certified`, `directory`, `entry`, `placing` and `scans`.
-ghost use Rattle.std.specs.Prelude.{◌≡◌, ◌+◌, ◌*◌, ◌/◌, ◌%◌, ◌^◌, ◌<◌, ◌≤◌, pos, ◌==◌, ◌||◌, ◌&&◌, true, false, Some, None, IfSome, option_map};
+ghost use Rattle.std.specs.Prelude.{◌≡◌, ◌++◌, ◌+◌, ◌*◌, ◌/◌, ◌%◌, ◌^◌, ◌<◌, ◌≤◌, pos, ◌==◌, ◌||◌, ◌&&◌, true, false, Some, None, IfSome, option_map};
 ghost use Rattle.twkb_num.specs.Units.{IsPrecision};
 ghost use Rattle.twkb_head.specs.Head.{span_at};
 ghost use Rattle.twkb_head.specs.Raw.{ends_of};
-ghost use Rattle.twkb_layer.specs.Devices.Slots.{AreInner, IsJudgedByEnds};
-ghost use Rattle.twkb_layer.specs.Slots.{range_in, slot_says, unboxed};
-ghost use Rattle.twkb_layer.specs.Window.{lie_apart_if_both};
+ghost use Rattle.twkb_layer.specs.Devices.Slots.{AreInner, IsJudgedByEnds, half_entry, is_pair, slot_says};
+ghost use Rattle.twkb_layer.specs.Slots.{precision_of, range_in, says_of};
+ghost use Rattle.twkb_layer.specs.Window.{is_missed, lie_apart, lie_apart_if_both};
 
 use crate::raw_windows::RawWindows;
-use crate::slot_word::{BEYOND, ENDS, UNBOXED, WIDTHS, Word};
+use crate::slot_range::SlotRange;
+use crate::slot_word::{BEYOND, ENDS, PAIR, UNBOXED, WIDTHS, Word};
 use crate::window::Window;
 use std::marker::Model;
 use twkb_body::Span;
@@ -17,14 +18,15 @@ use twkb_head::RawRange;
 use twkb_num::units;
 
 /// The first offset that a slot can't hold. The rest of such an offset goes into a slot before it, as Z and M do.
-pub const OFFSET_LIMIT: usize = 1 << 57;
+pub const OFFSET_LIMIT: usize = 1 << 56;
 
 /// A slot of a directory.
 ///
 /// A box is kept in raw integers with its precision, so that a scan compares numbers of 64 bits. Its ends are kept if all its
 /// numbers are at most 2^61 from zero, and otherwise its minima and widths, as the header spells them. So a slot takes 40
-/// bytes, and an `Option<Bounds>` alone would take 176. Few layers have Z or M. These go into a slot of their own before their
-/// blob's slot, so that the other slots stay small: a scan spends its time on reading memory.
+/// bytes, and an `Option<Bounds>` alone would take 176. Two blobs share a slot if their precisions are equal and 32 bits hold each
+/// end of their boxes, and if there is place for the distance between their offsets. Few layers have Z or M. These go into a slot
+/// of their own before their blob's slot, so that the other slots stay small: a scan spends its time on reading memory.
 #[repr(C)]
 #[derive(Clone, Copy)]
 pub struct Slot {
@@ -33,14 +35,6 @@ pub struct Slot {
     first: SlotRange,
     /// The range in Y, or in M.
     second: SlotRange,
-}
-
-/// Both ends of a range, or its minimum and its width.
-#[repr(C)]
-#[derive(Clone, Copy)]
-struct SlotRange {
-    low: i64,
-    high: i64,
 }
 
 impl Model for Slot {
@@ -60,59 +54,42 @@ impl Model for Slot {
     ghost invariant = { λ s. HasInnerEnds (written s) };
 }
 
-impl SlotRange {
-    /// The range from the first number to the second.
-    #[inline(always)]
-    fn of(numbers: (i64, i64)) -> SlotRange
-        ensures { (result.low, result.high) ≡ numbers }
-    {
-        SlotRange {
-            low: numbers.0,
-            high: numbers.1,
-        }
-    }
-
-    /// The least and the greatest number of the range.
-    #[inline(always)]
-    fn numbers(self) -> (i64, i64)
-        ensures { result ≡ (self.low, self.high) }
-    {
-        (self.low, self.high)
-    }
-}
-
 impl Slot {
     /// The slot of a blob without a box.
-    pub(crate) fn unboxed(offset: usize, deep: bool) -> Slot
-        requires { offset < 2 ^ 57 }
-        ensures { slot_says result ≡ record {
+    #[inline(always)]
+    pub(crate) fn unboxed(offset: usize, deep: bool, precision: i8) -> Slot
+        requires offset { offset < 2 ^ 56 }
+        requires precision { IsPrecision precision }
+        ensures says { slot_says result ≡ record {
           beyond = false;
           deep = deep;
           offset = offset;
           first = None;
           second = None;
         } }
+        ensures alone { is_pair result ≡ false }
     {
         Slot {
-            word: Word::new(0, UNBOXED, deep, offset as u64),
+            word: Word::new((precision + 8) as u64, UNBOXED, deep, offset as u64),
             first: SlotRange::of((0, 0)),
             second: SlotRange::of((0, 0)),
         }
     }
 
-    /// The slot of a blob with a box, by its ranges in X and in Y. `offset` is the blob's offset modulo 2^57, and `deep` says that
+    /// The slot of a blob with a box, by its ranges in X and in Y. `offset` is the blob's offset modulo 2^56, and `deep` says that
     /// the slot before this one says more of the blob ([`Slot::beyond`]).
     #[inline(always)]
     pub(crate) fn boxed(offset: usize, deep: bool, x: RawRange, y: RawRange, precision: i8) -> Slot
-        requires offset { offset < 2 ^ 57 }
+        requires offset { offset < 2 ^ 56 }
         requires precision { IsPrecision precision }
-        ensures { slot_says result ≡ record {
+        ensures says { slot_says result ≡ record {
           beyond = false;
           deep = deep;
           offset = offset;
           first = Some (span_at precision (ends_of x));
           second = Some (span_at precision (ends_of y));
         } }
+        ensures alone { is_pair result ≡ false }
     {
         let code = (precision + 8) as u64;
         match (near_ends(x), near_ends(y)) {
@@ -132,13 +109,14 @@ impl Slot {
     /// The slot before a blob's own slot: the box's ranges in Z and M, and the part of the offset that is beyond a slot's
     /// reach.
     pub(crate) fn beyond(offset: usize, z: Kept, m: Kept) -> Slot
-        ensures { slot_says result ≡ record {
+        ensures says { slot_says result ≡ record {
           beyond = true;
           deep = false;
-          offset = offset / 2 ^ 57 * 2 ^ 57;
+          offset = offset / 2 ^ 56 * 2 ^ 56;
           first = z;
           second = m;
         } }
+        ensures alone { is_pair result ≡ false }
     {
         let passed = (offset / OFFSET_LIMIT) as u64;
         Slot {
@@ -146,6 +124,82 @@ impl Slot {
             first: SlotRange::of(z.numbers),
             second: SlotRange::of(m.numbers),
         }
+    }
+
+    /// A slot that says what this slot and the next one say, if one can.
+    #[inline(always)]
+    pub(crate) fn pair(&self, next: &Slot) -> Option<Slot>
+        ensures { IfSome result (λ slot. says_of slot ≡ says_of self.now ++ says_of next.now) }
+    {
+        let word = self.word.pair(&next.word)?;
+        let (first, second) = (self.first, self.second);
+        if first.is_narrow()
+            & second.is_narrow()
+            & next.first.is_narrow()
+            & next.second.is_narrow()
+        {
+            Some(Slot {
+                word,
+                first: first.beside(next.first),
+                second: second.beside(next.second),
+            })
+        } else {
+            None
+        }
+    }
+
+    /// Whether the slot is of two blobs.
+    #[inline(always)]
+    pub(crate) fn is_pair(&self) -> bool
+        ensures { result ≡ is_pair self.now }
+    {
+        self.word.form() >= PAIR
+    }
+
+    /// Where the first of two blobs begins.
+    #[inline(always)]
+    pub(crate) fn first_offset(&self) -> usize
+        ensures { result ≡ (half_entry false self.now).offset }
+    {
+        self.word.first_of_pair().rest() as usize
+    }
+
+    /// Where the second of two blobs begins.
+    #[inline(always)]
+    pub(crate) fn second_offset(&self) -> usize
+        ensures { result ≡ (half_entry true self.now).offset }
+    {
+        self.word.second_of_pair().rest() as usize
+    }
+
+    /// Whether the first of two blobs has a box, and it misses the window.
+    #[inline(always)]
+    pub(crate) fn first_misses(&self, windows: &RawWindows) -> bool
+        ensures { result ≡ is_missed windows.now (half_entry false self.now).bounds }
+    {
+        let word = self.word.first_of_pair();
+        word.form() == ENDS
+            && ends_miss(
+                windows,
+                word.code(),
+                self.first.lower(),
+                self.second.lower(),
+            )
+    }
+
+    /// Whether the second of two blobs has a box, and it misses the window.
+    #[inline(always)]
+    pub(crate) fn second_misses(&self, windows: &RawWindows) -> bool
+        ensures { result ≡ is_missed windows.now (half_entry true self.now).bounds }
+    {
+        let word = self.word.second_of_pair();
+        word.form() == ENDS
+            && ends_miss(
+                windows,
+                word.code(),
+                self.first.upper(),
+                self.second.upper(),
+            )
     }
 
     /// Whether the slot says what the next slot has no place for.
@@ -168,12 +222,12 @@ impl Slot {
     #[inline(always)]
     pub(crate) fn offset(&self) -> usize
         ensures value { result ≡ (slot_says self.now).offset }
-        ensures far { result ≤ 127 * 2 ^ 57 }
-        ensures near { (slot_says self.now).beyond ≡ false → result < 2 ^ 57 }
+        ensures far { result ≤ 255 * 2 ^ 56 }
+        ensures near { (slot_says self.now).beyond ≡ false → result < 2 ^ 56 }
     {
         let rest = self.word.rest() as usize;
         if self.is_beyond() {
-            rest / 16 % 128 * OFFSET_LIMIT
+            rest / 16 % 256 * OFFSET_LIMIT
         } else {
             rest
         }
@@ -185,11 +239,12 @@ impl Slot {
         ensures { IfSome result (IsJudgedByEnds windows.now (slot_says self.now)) }
     {
         if self.word.form() == ENDS {
-            Some(
-                windows
-                    .at(self.word.code())
-                    .misses(self.first.numbers(), self.second.numbers()),
-            )
+            Some(ends_miss(
+                windows,
+                self.word.code(),
+                self.first.numbers(),
+                self.second.numbers(),
+            ))
         } else {
             None
         }
@@ -269,6 +324,17 @@ impl Kept {
             None => Kept::nothing(),
         }
     }
+}
+
+/// Whether a box with these ends in X and in Y, and with this code of a precision, misses the window there.
+#[inline(always)]
+fn ends_miss(windows: &RawWindows, code: usize, x: (i64, i64), y: (i64, i64)) -> bool
+    requires code { code < 16 }
+    requires inner { AreInner x × AreInner y }
+    ensures { result ≡ (lie_apart (span_at (precision_of code) x) windows.now.x
+        || lie_apart (span_at (precision_of code) y) windows.now.y) }
+{
+    windows.at(code).misses(x, y)
 }
 
 /// The range in a slot of this form, if it has one.

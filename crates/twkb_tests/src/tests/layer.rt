@@ -17,6 +17,7 @@ mod lists;
 mod long_lists;
 mod memory;
 mod northernmost;
+mod pairs;
 mod plain_scans;
 mod random;
 mod scans;

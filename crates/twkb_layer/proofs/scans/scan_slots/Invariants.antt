@@ -1,6 +1,7 @@
 -- Hits and cost so far are the ones of the blobs of the slots before; the other slots are of the blobs still to come.
-use Rattle.std.proofs.Common.{◌≡◌, ◌<◌, ◌^◌, length, drop, map}
-use Rattle.twkb_layer.specs.Slots.{slot_says}
+use Rattle.std.proofs.Common.{◌≡◌, ◌<◌, ◌^◌, length, drop, flat_map}
+use Rattle.twkb_layer.specs.Devices.Slots.{slot_says}
+use Rattle.twkb_layer.specs.Slots.{says_of}
 use Rattle.twkb_layer.proofs.Looking.{Looking}
 use Rattle.twkb_layer.proofs.scans.scan_slots.Given as goal
 
@@ -8,5 +9,5 @@ abbrev pub invariant-loop-slot : goal.invariant-loop-slot
 invariant-loop-slot g l = record {
   bytes : l.cursor.bytes ≡ l.fn.cursor.bytes;
   small : length l.fn.cursor.bytes < 2 ^ 64;
-  going : Looking g.R.FromFound.of l.window l.fn.cursor.bytes l.fn.cursor.count l.fn.room (slot_says l.beyond) (map slot_says (drop l.slot-index l.slots)) l.cursor.count l.blob l.found l.room;
+  going : Looking g.R.FromFound.of l.window l.fn.cursor.bytes l.fn.cursor.count l.fn.room (slot_says l.beyond) (flat_map says_of (drop l.slot-index l.slots)) l.cursor.count l.blob l.found l.room;
 }

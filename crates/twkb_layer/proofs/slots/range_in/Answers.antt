@@ -1,11 +1,11 @@
 -- In each form the range is the range of the definition.
-use Rattle.std.proofs.Common.{◌≡◌, inl, inr, ℕ, pos, ◌-ℤ◌, FitsSigned, to_z, of_z, Some, None, Bool, true, false, nat_lt, ◌==◌, ◌||◌, ◌&&◌, if◌then◌else◌, ap, sym, ◌∙◌, arith, rules}
+use Rattle.std.proofs.Common.{◌≡◌, inl, inr, ℕ, pos, ◌+ℤ◌, ◌-ℤ◌, FitsSigned, to_z, of_z, Some, None, Bool, true, false, nat_lt, ◌==◌, ◌||◌, ◌&&◌, if◌then◌else◌, ap, sym, ◌∙◌, arith, rules}
 use Rattle.std.specs.Int.{w8, w64, w128}
 use Rattle.std.proofs.lemmas.Int.{ints, to_z-of_z}
 use Rattle.std.proofs.lemmas.Bool.Decides.{nat_tests}
 use Rattle.twkb_num.specs.Units.{units_of}
 use Rattle.twkb_head.specs.Head.{span_at}
-use Rattle.twkb_layer.specs.Slots.{precision_of, range_at, range_in}
+use Rattle.twkb_layer.specs.Slots.{precision_of, range_in}
 use Rattle.twkb_layer.proofs.slots.range_in.Goals as goal
 
 pub units-requires-clause-least : goal.units-requires-clause-least
@@ -41,7 +41,7 @@ returns-then-code-gt7 c =
       | inl wide ↦ sym (ap (λ (form : ℕ). range_in form c.args.code c.args.numbers) wide)
       | inr beyond ↦
           let has : nat_lt 7 c.args.code ≡ true = let more = beyond.2 in grind (arith, nat_tests) in
-          sym (ap (λ (form : ℕ). range_in form c.args.code c.args.numbers) beyond.1 ∙ ap (λ (b : Bool). if b then Some (range_at (precision_of c.args.code) c.args.numbers) else None) has)
+          sym (ap (λ (form : ℕ). range_in form c.args.code c.args.numbers) beyond.1 ∙ ap (λ (b : Bool). if b then Some (span_at (precision_of c.args.code) (c.args.numbers.0, c.args.numbers.0 +ℤ c.args.numbers.1)) else None) has)
     ]
 
 pub returns-else-code-gt7 : goal.returns-else-code-gt7
@@ -49,10 +49,10 @@ returns-else-code-gt7 c =
     elim c.if-code-gt7.either [
       | inl beyond ↦
           let none : nat_lt 7 c.args.code ≡ false = let few = beyond.2 in grind (arith, nat_tests) in
-          sym (ap (λ (form : ℕ). range_in form c.args.code c.args.numbers) beyond.1 ∙ ap (λ (b : Bool). if b then Some (range_at (precision_of c.args.code) c.args.numbers) else None) none)
+          sym (ap (λ (form : ℕ). range_in form c.args.code c.args.numbers) beyond.1 ∙ ap (λ (b : Bool). if b then Some (span_at (precision_of c.args.code) (c.args.numbers.0, c.args.numbers.0 +ℤ c.args.numbers.1)) else None) none)
       | inr other ↦
           let near : (c.args.form == 0) ≡ false = grind (arith, nat_tests) in
-          let wide : (c.args.form == 1) ≡ false = let no = other.0 in grind (arith, nat_tests) in
+          let wide : (c.args.form == 2) ≡ false = let no = other.0 in grind (arith, nat_tests) in
           let beyond : (c.args.form == 3) ≡ false = let no = other.1 in grind (arith, nat_tests) in
-          (λ j. if sym near j then Some (span_at (precision_of c.args.code) c.args.numbers) else if (sym wide j) || ((sym beyond j) && nat_lt 7 c.args.code) then Some (range_at (precision_of c.args.code) c.args.numbers) else None)
+          (λ j. if sym near j then Some (span_at (precision_of c.args.code) c.args.numbers) else if (sym wide j) || ((sym beyond j) && nat_lt 7 c.args.code) then Some (span_at (precision_of c.args.code) (c.args.numbers.0, c.args.numbers.0 +ℤ c.args.numbers.1)) else None)
     ]

@@ -14,7 +14,7 @@ fn looked_up(rt: &impl Abort, alloc: Global, bytes: &[u8], ranges: &Bounds) -> (
     (found, layer.read_count().saturating_sub(before))
 }
 
-fn in_units(x: (i128, i128), y: (i128, i128)) -> Bounds {
+pub fn in_units(x: (i128, i128), y: (i128, i128)) -> Bounds {
     Bounds {
         x: Span { lo: x.0, hi: x.1 },
         y: Span { lo: y.0, hi: y.1 },

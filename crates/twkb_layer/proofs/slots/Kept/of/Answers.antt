@@ -1,12 +1,12 @@
 -- The range is the range of the definition, at its precision.
-use Rattle.std.proofs.Common.{◌≡◌, ℕ, ◌+◌, ◌<◌, ◌≤◌, FitsSigned, to_z, of_z, nat_lt, true, if◌then◌else◌, Option, Some, None, IfSome, option_map, pos, subst, ap, sym, ◌∙◌, arith, rules}
+use Rattle.std.proofs.Common.{◌≡◌, ℕ, ◌+◌, ◌<◌, ◌≤◌, FitsSigned, to_z, of_z, nat_lt, true, if◌then◌else◌, Option, Some, None, IfSome, option_map, pos, ◌+ℤ◌, subst, ap, sym, ◌∙◌, arith, rules}
 use Rattle.std.specs.Int.{w64}
 use Rattle.std.proofs.lemmas.Bool.Decides.{nat_tests}
 use Rattle.std.proofs.lemmas.Int.{ints}
 use Rattle.twkb_head.specs.Head.{span_at}
 use Rattle.twkb_head.specs.Raw.{ends_of}
 use Rattle.twkb_layer.proofs.slots.Kept.of.Goals as goal
-use Rattle.twkb_layer.specs.Slots.{precision_of, range_at}
+use Rattle.twkb_layer.specs.Slots.{precision_of}
 
 pub returns-in-Some : goal.returns-in-Some
 returns-in-Some c =
@@ -20,5 +20,5 @@ returns-in-Some c =
     let is : c.from.result ≡ some.precision = c.from.ensures in
     let has : nat_lt 7 (c.from.result + 8) ≡ true = grind (arith, nat_tests, is) in
     let precision : precision_of (c.from.result + 8) ≡ pos some.precision = omega (arith, ints, is, high) in
-    (λ j. if has j then Some (range_at (precision j) (minimum j, extent j)) else None)
+    (λ j. if has j then Some (span_at (precision j) (minimum j, minimum j +ℤ extent j)) else None)
     ∙ sym (ap (λ (o : Option ℕ). option_map (λ p. span_at (pos p) (ends_of range)) o) some.is)

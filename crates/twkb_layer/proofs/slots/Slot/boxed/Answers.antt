@@ -3,8 +3,8 @@ use Rattle.std.proofs.Common.{◌≡◌, pos, ◌+ℤ◌, FitsSigned, false, Som
 use Rattle.std.specs.Int.{w8, w64}
 use Rattle.std.proofs.lemmas.Int.{ints}
 use Rattle.twkb_head.specs.Head.{span_at}
-use Rattle.twkb_layer.specs.Devices.Slots.{AreInner}
-use Rattle.twkb_layer.specs.Slots.{Packed, precision_of, range_at, says_by}
+use Rattle.twkb_layer.specs.Devices.Slots.{AreInner, Packed, says_by}
+use Rattle.twkb_layer.specs.Slots.{precision_of}
 use Rattle.twkb_layer.proofs.slots.Slot.boxed.Goals as goal
 
 pub new-requires-clause-code : goal.new-requires-clause-code
@@ -13,15 +13,15 @@ new-requires-clause-code c = omega (arith, ints, c.requires.precision)
 pub new-requires-in_default-clause-code : goal.new-requires-in_default-clause-code
 new-requires-in_default-clause-code c = omega (arith, ints, c.requires.precision)
 
-pub returns-in-Some-Some : goal.returns-in-Some-Some
-returns-in-Some-Some c =
+pub returns-in-Some-Some-clause-says : goal.returns-in-Some-Some-clause-says
+returns-in-Some-Some-clause-says c =
     let both = c.in-Some-Some in
     let precision : precision_of (unsigned_abs (to_z w8 (of_z w8 (to_z w8 (of_z w8 c.args.precision) +ℤ pos 8)))) ≡ c.args.precision = omega (arith, ints, c.requires.precision) in
     (λ j. says_by (c.new.ensures j) (c.of.ensures j) (c.of-in-Some-Some.ensures j))
     ∙ (λ j. record { beyond = false; deep = c.args.deep; offset = c.args.offset; first = Some (span_at (precision j) (both.ensures.1 j)); second = Some (span_at (precision j) (both.ensures'.1 j)) })
 
-pub returns-in_default : goal.returns-in_default
-returns-in_default c =
+pub returns-in_default-clause-says : goal.returns-in_default-clause-says
+returns-in_default-clause-says c =
     let precision : precision_of (unsigned_abs (to_z w8 (of_z w8 (to_z w8 (of_z w8 c.args.precision) +ℤ pos 8)))) ≡ c.args.precision = omega (arith, ints, c.requires.precision) in
     let x_minimum_fits : FitsSigned w64 c.args.x.minimum = search rules in
     let x_extent_fits : FitsSigned w64 c.args.x.extent = search rules in
@@ -36,8 +36,8 @@ returns-in_default c =
       beyond = false;
       deep = c.args.deep;
       offset = c.args.offset;
-      first = Some (range_at (precision j) (x_minimum j, x_extent j));
-      second = Some (range_at (precision j) (y_minimum j, y_extent j));
+      first = Some (span_at (precision j) (x_minimum j, x_minimum j +ℤ x_extent j));
+      second = Some (span_at (precision j) (y_minimum j, y_minimum j +ℤ y_extent j));
     })
 
 pub invariant_of-t-12 : goal.invariant_of-t-12
