@@ -1,8 +1,8 @@
 -- The slots of a directory, as blobs are added one at a time.
-use Rattle.std.proofs.Common.{◌≡◌, ℕ, ◌+◌, ◌*◌, ◌/◌, ◌%◌, ◌^◌, ◌<◌, ◌≤◌, ◌||◌, nat_le, arith, Bool, true, false, cond, List, [], ◌∷◌, ◌++◌, length, flat_map, get_or, ◌-◌, take, slice_set, Option, Some, None, is_some, refl, ap, sym, ◌∙◌, append_assoc}
+use Rattle.std.proofs.Common.{◌≡◌, ℕ, ◌+◌, ◌*◌, ◌/◌, ◌%◌, ◌^◌, ◌<◌, ◌≤◌, ◌||◌, nat_le, arith, Bool, true, false, cond, List, [], ◌∷◌, ◌++◌, length, flat_map, get_or, ◌-◌, take, drop, slice_set, Option, Some, None, is_some, refl, ap, sym, ◌∙◌, append_assoc}
 use Rattle.std.proofs.lemmas.Bool.Decides.{nat_tests}
 use Rattle.std.proofs.lemmas.Grind.{flat_map-append}
-use Rattle.std.proofs.lemmas.List.{take_more_set, take_all, length-set, append-nil, drop_all, drop_more, take-append-drop}
+use Rattle.std.proofs.lemmas.List.{drop-drop, take_more_set, take_all, length-set, append-nil, drop_all, drop_more, take-append-drop}
 use Rattle.twkb_head.specs.declared.boxes.Span.{Span}
 use Rattle.twkb_head.specs.declared.boxes.Bounds.{Bounds}
 use Rattle.twkb_num.specs.Cursor.{Reading}
@@ -139,3 +139,10 @@ pub room_two : (room : List Written) (at : ℕ) (before slot : Written) → at +
 room_two room at before slot fits =
     take_more_set (slice_set room at before) (at + 1) slot (rw (length-set room at before) fits)
     ∙ (ap (λ xs. xs ++ slot ∷ []) (take_more_set room at before (omega (arith, fits))) ∙ append_assoc (take at room) (before ∷ []) (slot ∷ []))
+
+-- what is equal after some places is equal after more
+pub later : (used more : ℕ) (a b : List Written) → used ≤ more → drop used a ≡ drop used b → drop more a ≡ drop more b
+later used more a b le same =
+    let many = more - used in
+    let all : used + many ≡ more = omega (arith, le) in
+    (λ j. drop (sym all j) a) ∙ (sym (drop-drop many used a) ∙ (ap (drop many) same ∙ (drop-drop many used b ∙ (λ j. drop (all j) b))))

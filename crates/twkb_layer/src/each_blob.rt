@@ -27,6 +27,9 @@ pub trait EachBlob {
     /// There is room for `many` blobs more, the first of which has the number: `fits self number many`.
     ghost fits: { Self → ℕ → ℕ → Type 0 };
 
+    /// What a value has kept of what it was before `many` blobs: `keeps before many self`.
+    ghost keeps: { Self → ℕ → Self → Type 0 };
+
     /// Reads the blob at the place, which has this number, and moves past it.
     fn take_blob(&mut self, cursor: &mut Cursor, blob: usize)
         requires stands { (g : Geometry) × StandsAt g 1 cursor.old.bytes cursor.old.place }
@@ -34,6 +37,7 @@ pub trait EachBlob {
         ensures state { OfBlob cursor.old.bytes cursor.old.place (λ g.
             state self.new ≡ step (state self.old) blob cursor.old.place g) }
         ensures fits { (more : ℕ) → fits self.old blob (more + 1) → fits self.new (blob + 1) more }
+        ensures keeps { (before : Self) (many : ℕ) → keeps before many self.old → keeps before (many + 1) self.new }
         ensures cursor { OfBlob cursor.old.bytes cursor.old.place (λ g.
             cursor.new ≡ past_blob (reads (state self.old) g) g cursor.old) }
         ensures few { OfBlob cursor.old.bytes cursor.old.place (λ g. reads (state self.old) g ≤ size_of g) };
@@ -47,6 +51,8 @@ pub fn for_each_blob<B: EachBlob>(each: &mut B, cursor: &mut Cursor, limit: Opti
         × B.fits each.old 0 (length (first_blobs limit trees)) }
     ensures state { OfLayer cursor.old.bytes (λ trees.
         B.state each.new ≡ after_blobs B.step (first_blobs limit trees) (B.state each.old)) }
+    ensures keeps { OfLayer cursor.old.bytes (λ trees.
+        B.keeps each.old 0 each.old → (many : ℕ) × (many ≤ length trees) × B.keeps each.old many each.new) }
     ensures bytes { cursor.new.bytes ≡ cursor.old.bytes }
     ensures count { OfLayer cursor.old.bytes (λ trees. cursor.new.count
         ≡ added cursor.old.count (bytes_read B.step B.reads (first_blobs limit trees) (B.state each.old))) }

@@ -5,11 +5,11 @@ ghost use Rattle.twkb_body.specs.Geometry.{Geometry};
 ghost use Rattle.twkb_body.specs.Visit.{bytes_to_pass};
 ghost use Rattle.twkb_layer.specs.Directory.{Entry, IsDirectoryOf, entry_of};
 ghost use Rattle.twkb_layer.specs.Layer.{IsCertifiedLayer, AddsAtMost, OfLayer};
-ghost use Rattle.twkb_layer.specs.Devices.EachBlob.{adds};
+ghost use Rattle.twkb_layer.specs.Devices.EachBlob.{Lent, adds, lent};
 ghost use Rattle.twkb_layer.specs.Devices.Slots.{box_said, entry_said, is_pair, own_said, passes_a_slot, said_before, slot_says};
 ghost use Rattle.twkb_layer.specs.Slots.{entries_kept};
 
-use crate::each_blob::EachBlob;
+use crate::each_blob::{EachBlob, for_each_blob};
 use crate::slots::{Kept, OFFSET_LIMIT, Slot};
 use std::alloc::Allocator;
 use twkb_body::read_and_pass;
@@ -27,11 +27,42 @@ impl<A: Allocator> EachBlob for Vec<Slot, A> {
 
     ghost fits = { λ slots blob more. 2 * more ≤ vec_capacity slots - vec_len slots };
 
+    ghost keeps = { λ before many slots. Unit {0} };
+
     #[inline(always)]
     fn take_blob(&mut self, cursor: &mut Cursor, _blob: usize) {
         let offset = cursor.place();
         let raw = read_and_pass(cursor);
         push(self, offset, &raw);
+    }
+}
+
+/// Room for slots that a caller lends, and how many of its places are used.
+#[derive(Drop)]
+struct LentSlots<'r> {
+    room: &'r mut [Slot],
+    used: usize,
+}
+
+impl<'r> EachBlob for LentSlots<'r> {
+    ghost State = { Lent (List Entry) };
+
+    ghost state = { λ s. record { name = s.room.ghost_name; state = entries_kept (take s.used s.room.now) } };
+
+    ghost step = { lent (adds entry_of) };
+
+    ghost reads = { λ s g. bytes_to_pass g };
+
+    ghost fits = { λ s blob more. s.used + 2 * more ≤ length s.room.now };
+
+    ghost keeps = { λ before many s. (s.used ≤ before.used + 2 * many)
+        × (drop s.used s.room.now ≡ drop s.used before.room.now) };
+
+    #[inline(always)]
+    fn take_blob(&mut self, cursor: &mut Cursor, _blob: usize) {
+        let offset = cursor.place();
+        let raw = read_and_pass(cursor);
+        self.used = put(self.room, self.used, offset, &raw);
     }
 }
 
@@ -46,15 +77,9 @@ pub fn put_slots(room: &mut [Slot], cursor: &mut Cursor) -> usize
     ensures once { AddsAtMost (length cursor.old.bytes) cursor.old.count cursor.new.count }
     ensures grows { cursor.old.count ≤ cursor.new.count }
 {
-    cursor.place_is_within();
-    cursor.go_to(0);
-    let mut used = 0;
-    while cursor.place() < cursor.len() {
-        let offset = cursor.place();
-        let raw = read_and_pass(cursor);
-        used = put(room, used, offset, &raw);
-    }
-    used
+    let mut slots = LentSlots { room, used: 0 };
+    for_each_blob(&mut slots, cursor, None);
+    slots.used
 }
 
 /// Puts the slots of a blob that begins at the offset with this header after the `used` ones of the room, or its slot and the last

@@ -42,6 +42,8 @@ impl<'v, V: Visit> EachBlob for Shown<'v, V> {
 
     ghost fits = { λ s blob more. ⊤ };
 
+    ghost keeps = { λ before many s. Unit {0} };
+
     #[inline(always)]
     fn take_blob(&mut self, cursor: &mut Cursor, _blob: usize) {
         skim(cursor, self.visitor);

@@ -2,6 +2,7 @@
 use Rattle.std.proofs.Common.{ap, arith, length, ◌∙◌}
 use Rattle.twkb_num.specs.Cursor.{Reading}
 use Rattle.twkb_layer.proofs.EachBlob.{turn_of, no_turn, walk_begins, walk_goes_on, walk_fits, walk_done, walk_ends, blob_few}
+use Rattle.twkb_layer.proofs.Layers.{layer_once}
 use Rattle.twkb_layer.proofs.each_blob.for_each_blob.Goals as goal
 
 pub loop-limit-init : goal.loop-limit-init
@@ -9,6 +10,7 @@ loop-limit-init g c =
     let first = c.place_is_within.ensures in
     record {
       bytes = ap (λ (r : Reading). r.bytes) c.go_to.ensures;
+      kept = λ kept. kept;
       small = first.length_fits;
       going = (c.requires.0, rw c.go_to.ensures (walk_begins _ _ _ _ _ _ _ _ c.requires.1 c.requires.2 (omega (arith, first.count_fits))));
     }
@@ -46,6 +48,7 @@ loop-limit-preserved g c =
     let moved = c.advance.ensures ∙ took.cursor turn.next.tree turn.stands in
     record {
       bytes = ap (λ (r : Reading). r.bytes) moved ∙ inv.bytes;
+      kept = λ kept. took.keeps c.args.each.now c.loop-limit.blob (inv.kept kept);
       small = inv.small;
       going = (turn.next.after, rw moved (walk_goes_on _ _ _ _ _ _ _ _ _ _ _ _ inv.going.1 turn.next turn.is_taken (took.few turn.next.tree turn.stands) _ (took.state turn.next.tree turn.stands) _ took.fits));
     }
@@ -54,6 +57,12 @@ pub returns-clause-state : goal.returns-clause-state
 returns-clause-state g c = λ trees h.
     let inv = c.loop-limit.invariant in
     (walk_ends _ _ _ _ _ _ _ _ _ _ _ _ inv.going.1 (walk_done _ _ _ _ _ _ _ _ _ _ _ _ inv.going.1 (no_turn _ _ _ _ _ inv.bytes c.has_next.ensures c.loop-limit-test.false)) trees h).0
+
+pub returns-clause-keeps : goal.returns-clause-keeps
+returns-clause-keeps g c = λ trees h kept.
+    let inv = c.loop-limit.invariant in
+    let w = inv.going.1 in
+    (c.loop-limit.blob, omega (arith, w.blob_is, ap length (layer_once w.trees trees _ w.whole.layer h.layer)), inv.kept kept)
 
 pub returns-clause-count : goal.returns-clause-count
 returns-clause-count g c = λ trees h.

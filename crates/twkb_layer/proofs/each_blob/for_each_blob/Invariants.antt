@@ -7,6 +7,7 @@ use Rattle.twkb_layer.proofs.each_blob.for_each_blob.Given as goal
 abbrev pub invariant-loop-limit : goal.invariant-loop-limit
 invariant-loop-limit g l = record {
   bytes : l.cursor.bytes ≡ l.fn.cursor.bytes;
+  kept : g.B.EachBlob.keeps l.fn.each 0 l.fn.each → g.B.EachBlob.keeps l.fn.each l.blob l.each;
   small : length l.fn.cursor.bytes < 2 ^ 64;
   going : (rest : List Geometry) × Walking g.B.EachBlob.step g.B.EachBlob.reads l.limit l.fn.cursor.bytes l.fn.cursor.count (g.B.EachBlob.state l.fn.each) rest l.blob l.cursor.place l.cursor.count (g.B.EachBlob.state l.each) (g.B.EachBlob.fits l.each);
 }
