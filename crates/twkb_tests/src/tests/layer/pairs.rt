@@ -38,9 +38,11 @@ impl Point {
 
     /// X in units.
     fn units(self) -> i128 {
-        match self {
-            Point::Coarse(x) => i128::from(x) * 10,
-            Point::Boxed(x) | Point::Bare(x) | Point::High(x) => i128::from(x),
+        let (_, x) = self.parts();
+        if matches!(self, Point::Coarse(_)) {
+            i128::from(x) * 10
+        } else {
+            i128::from(x)
         }
     }
 
