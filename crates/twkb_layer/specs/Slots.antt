@@ -44,14 +44,15 @@ says_with code form deep rest first second = record {
   second = range_in form (if form == 3 then rest % 16 else code) second;
 }
 
--- the numbers in the upper halves of two numbers of 64 bits, or in their lower halves, where 2^31 is added to them
+-- of each of two numbers of 64 bits, the upper 32 bits with their sign (`true`), or the lower 32 bits less 2^31 (`false`)
 abbrev pub half : Bool → ℤ × ℤ → ℤ × ℤ
 half true (a, b) = (int_div_euclid a (pos (2 ^ 32)), int_div_euclid b (pos (2 ^ 32)))
 half false (a, b) = (int_rem_euclid a (pos (2 ^ 32)) -ℤ pos (2 ^ 31), int_rem_euclid b (pos (2 ^ 32)) -ℤ pos (2 ^ 31))
 
--- What a slot says, of one blob or of two. Its word has four bits of a code, three of a form, one that says whether the slot before
--- says more, and the rest. If the form is 4 or more, its lower two bits are the forms of two blobs, and the rest is the offset of
--- the first one, in 38 bits, and how much further the second one begins. Their ends are in halves.
+-- What a slot says, of one blob or of two. From the lowest bit on, its word has four bits of a code, three of a form, one that says
+-- whether a slot before says more, and the rest. A form of 4 or more is of two blobs with this code: its lowest bit is the form of
+-- the first, and the next bit of the second. The lowest 38 bits of the rest are the offset of the first, and the others say how much
+-- further the second begins. The ends of the first are in the lower halves, and of the second in the upper ones (`half`).
 abbrev pub says_of : Written → List Said
 says_of slot =
     let code = slot.word % 16 in

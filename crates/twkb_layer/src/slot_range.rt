@@ -4,12 +4,12 @@ ghost use Rattle.std.specs.Int.{int_div_euclid, int_rem_euclid};
 ghost use Rattle.twkb_layer.specs.Devices.Slots.{AreInner, IsInner, IsNarrow};
 ghost use Rattle.twkb_layer.specs.Slots.{half};
 
-/// What a number of the upper half is multiplied by.
+/// [`beside`] multiplies the number that goes into the upper 32 bits by this.
 const HALF: i64 = 1 << 32;
-/// What is added to a number of the lower half, so that it isn't negative.
+/// [`beside`] adds this to the number that goes into the lower 32 bits, so that the sum isn't negative.
 const BIAS: i64 = 1 << 31;
 
-/// Both ends of a range, or its minimum and its width.
+/// Both ends of a range, or its minimum and its width; or two such pairs of ends, in halves.
 #[repr(C)]
 #[derive(Clone, Copy)]
 pub struct SlotRange {

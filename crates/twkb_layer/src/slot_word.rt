@@ -13,9 +13,9 @@ pub const BEYOND: u64 = 3;
 /// The first form of a slot of two blobs, both with a box: 1 is added if the first has none, and 2 if the second has none.
 pub const PAIR: u64 = 4;
 
-/// The first distance from a blob to the next one that a slot of both can't hold.
+/// A slot of two blobs can't hold this distance between their offsets, nor a greater one.
 const DISTANCE_LIMIT: u64 = 1 << 18;
-/// The first offset of a blob that a slot of two can't hold.
+/// A slot of two blobs can't hold this offset of its first blob, nor a greater one.
 const PAIR_LIMIT: u64 = 1 << 38;
 
 /// From the lowest bit on: four bits of a code, three of a form, one that says whether the slot before says more, and the rest.
