@@ -5,7 +5,7 @@
 //! so any number of threads may call at once.
 #![tactic(auto)]
 
-ghost use Rattle.std.specs.Prelude.{◌≡◌, ◌≢◌, ◌+◌, ◌*◌, ◌<◌, ◌≤◌, if◌then◌else◌, true, false, List, length, map, take, sum_by, ◌⊎◌};
+ghost use Rattle.std.specs.Prelude.{◌≡◌, ◌≢◌, ◌+◌, ◌*◌, ◌<◌, ◌≤◌, if◌then◌else◌, true, false, List, length, map, take, drop, sum_by, ◌⊎◌};
 ghost use Rattle.twkb_num.specs.Cursor.{added};
 ghost use Rattle.twkb_head.specs.declared.boxes.Bounds.{Bounds};
 ghost use Rattle.twkb_body.specs.Claims.{IsTrueClaim};
@@ -115,6 +115,7 @@ pub extern "C" fn twkb_directory_build(layer: &Layer, room: &mut [Slot]) -> usiz
         2 * length trees ≤ length room.old → result ≤ length room.old) }
     ensures few { OfLayer layer.now.bytes.now (λ trees. result ≤ 2 * length trees) }
     ensures kept { length room.old < result → room.new ≡ room.old }
+    ensures rest { drop result room.new ≡ drop result room.old }
 {
     twkb_call::build_directory(layer, room)
 }

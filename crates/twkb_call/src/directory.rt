@@ -1,6 +1,6 @@
 //! Directories of layers in memory that the caller lends, and scans with them for one window or for many. `twkb_c` exports them.
 //! Used by other crates.
-ghost use Rattle.std.specs.Prelude.{◌≡◌, ◌+◌, ◌*◌, ◌<◌, ◌≤◌, length, map, take, sum_by, slice_set};
+ghost use Rattle.std.specs.Prelude.{◌≡◌, ◌+◌, ◌*◌, ◌<◌, ◌≤◌, length, map, take, drop, sum_by, slice_set};
 ghost use Rattle.twkb_num.specs.Cursor.{added};
 ghost use Rattle.twkb_layer.specs.Directory.{IsDirectoryOf, directory_cost};
 ghost use Rattle.twkb_layer.specs.Hits.{hits, found_blobs, filled};
@@ -29,6 +29,7 @@ pub fn build_directory(layer: &Layer, room: &mut [Slot]) -> usize
         2 * length trees ≤ length room.old → result ≤ length room.old) }
     ensures few { OfLayer layer.now.bytes.now (λ trees. result ≤ 2 * length trees) }
     ensures kept { length room.old < result → room.new ≡ room.old }
+    ensures rest { drop result room.new ≡ drop result room.old }
 {
     layer.as_certified().directory_into(room)
 }
