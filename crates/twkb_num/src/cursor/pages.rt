@@ -39,14 +39,22 @@ impl Prefetch {
     }
 
     /// Touches the next pages, if the cursor has come to the last of those that were touched before.
-    // A sum that wraps around only touches pages too early.
+    ///
+    /// If the cursor is already sixteen pages past that one, it has just passed a long blob. A scan that skips such blobs would skip
+    /// most of the next pages too. So none is touched, and it starts again as in [`new`](Prefetch::new).
+    // A sum that wraps around is too small, so that pages are touched too early, or not at all. With a difference instead of the
+    // second sum, each call takes an instruction more.
     #[inline(always)]
     pub fn advance(&mut self, cursor: &mut Cursor)
         ensures { cursor.new ≡ cursor.old }
     {
         if self.due <= cursor.place() {
-            cursor.touch_pages();
-            self.due = cursor.place().wrapping_add((PAGES - 1) * PAGE);
+            if cursor.place() < self.due.wrapping_add(PAGES * PAGE) {
+                cursor.touch_pages();
+                self.due = cursor.place().wrapping_add((PAGES - 1) * PAGE);
+            } else {
+                *self = Prefetch::new(cursor);
+            }
         }
     }
 }
