@@ -155,8 +155,8 @@ pair_spelled bytes v lanes len zs others x y v_is flag short spelled means is =
     let all = signed_all (take len bytes) (values 4 2 lanes 0) (at_front bytes v (values 4 2 lanes 0) len v_is (omega (arith, few)) spelled) in
     subst (λ (p : ℤ × ℤ). SpellsAllSigned (take len bytes) (p.0 ∷ p.1 ∷ [])) (λ j. (sym first j, sym second j)) all
 
--- eight lanes of two
-narrow_lanes : (bytes : List ℕ) → length bytes ≡ 16 → ((i : ℕ) → i < 16 → get_or bytes i 0 < 256) → map two_groups (digits_l 65536 8 (number_l 256 bytes)) ≡ values 2 8 bytes 0
+-- eight lanes of two bytes
+pub narrow_lanes : (bytes : List ℕ) → length bytes ≡ 16 → ((i : ℕ) → i < 16 → get_or bytes i 0 < 256) → map two_groups (digits_l 65536 8 (number_l 256 bytes)) ≡ values 2 8 bytes 0
 narrow_lanes bytes long fit =
     let fits = Each1-from_get_or (λ x. x < 256) bytes 0 (λ i h. fit i (omega (arith, h, long))) in
     let listed = sym (pick_l_whole 0 bytes 16 long) in
@@ -171,24 +171,18 @@ narrow_lanes bytes long fit =
     (cons_same _ _ _ _ (ap two_groups (lane 6 (omega arith)) ∙ narrow_lane (g 12) (g 13) (fit 12 (omega arith)) (fit 13 (omega arith)))
     (cons_same _ _ _ _ (ap two_groups (lane 7 (omega arith)) ∙ narrow_lane (g 14) (g 15) (fit 14 (omega arith)) (fit 15 (omega arith))) refl)))))))
 
--- sixteen bytes: the first eight of `lo`, and then the first eight of `hi`
-pub record IsJoined (both lo hi : List ℕ) : Type 0 where
-  pub long : length both ≡ 16
-  pub fit : (i : ℕ) → i < 16 → get_or both i 0 < 256
-  pub low : (i : ℕ) → i < 8 → get_or both i 0 ≡ get_or lo i 0
-  pub high : (i : ℕ) → i < 8 → get_or both (8 + i) 0 ≡ get_or hi i 0
-
-pub wide_values : (all lo hi : List ℕ) → IsJoined all lo hi → map four_groups (digits_l 4294967296 4 (number_l 256 all)) ≡ values 4 2 lo 0 ++ values 4 2 hi 0
-wide_values all lo hi j =
-    let low = value_same all lo 0 (λ i h. let e : 0 + i ≡ i = omega arith in ap (λ k. get_or all k 0) e ∙ j.low i h) 4 in
-    let high = value_same all hi 8 j.high 4 in
-    wide_lanes all j.long j.fit ∙
+-- numbers in eight bytes of `lo` and then eight of `hi`
+pub wide_values : (both lo hi : List ℕ) → ((i : ℕ) → i < 8 → get_or both i 0 ≡ get_or lo i 0) → ((i : ℕ) → i < 8 → get_or both (8 + i) 0 ≡ get_or hi i 0)
+    → values 4 4 both 0 ≡ values 4 2 lo 0 ++ values 4 2 hi 0
+wide_values both lo hi in_low in_high =
+    let low = value_same both lo 0 (λ i h. let e : 0 + i ≡ i = omega arith in ap (λ k. get_or both k 0) e ∙ in_low i h) 4 in
+    let high = value_same both hi 8 in_high 4 in
     cons_same _ _ _ _ (low 0 (omega arith)) (cons_same _ _ _ _ (low 4 (omega arith)) (cons_same _ _ _ _ (high 0 (omega arith)) (cons_same _ _ _ _ (high 4 (omega arith)) refl)))
 
-pub narrow_values : (all lo hi : List ℕ) → IsJoined all lo hi → map two_groups (digits_l 65536 8 (number_l 256 all)) ≡ values 2 4 lo 0 ++ values 2 4 hi 0
-narrow_values all lo hi j =
-    let low = value_same all lo 0 (λ i h. let e : 0 + i ≡ i = omega arith in ap (λ k. get_or all k 0) e ∙ j.low i h) 2 in
-    let high = value_same all hi 8 j.high 2 in
-    narrow_lanes all j.long j.fit ∙
+pub narrow_values : (both lo hi : List ℕ) → ((i : ℕ) → i < 8 → get_or both i 0 ≡ get_or lo i 0) → ((i : ℕ) → i < 8 → get_or both (8 + i) 0 ≡ get_or hi i 0)
+    → values 2 8 both 0 ≡ values 2 4 lo 0 ++ values 2 4 hi 0
+narrow_values both lo hi in_low in_high =
+    let low = value_same both lo 0 (λ i h. let e : 0 + i ≡ i = omega arith in ap (λ k. get_or both k 0) e ∙ in_low i h) 2 in
+    let high = value_same both hi 8 in_high 2 in
     cons_same _ _ _ _ (low 0 (omega arith)) (cons_same _ _ _ _ (low 2 (omega arith)) (cons_same _ _ _ _ (low 4 (omega arith)) (cons_same _ _ _ _ (low 6 (omega arith))
     (cons_same _ _ _ _ (high 0 (omega arith)) (cons_same _ _ _ _ (high 2 (omega arith)) (cons_same _ _ _ _ (high 4 (omega arith)) (cons_same _ _ _ _ (high 6 (omega arith)) refl)))))))

@@ -2,7 +2,7 @@
 ghost use Rattle.std.specs.Prelude.{◌≡◌, ◌+◌, ◌<◌, ◌≤◌, ◌/◌, ◌%◌, ◌^◌, ℕ, ℤ, List, [], ◌∷◌, map, slice_index, take, All};
 ghost use Rattle.std.specs.Int.{w16, w32, cast_signed};
 ghost use Rattle.twkb_num.specs.Varint.{zigzag_value, SpellsAll, SpellsAllSigned, IsShort, IsBrief, HasLong};
-ghost use Rattle.twkb_num.specs.Devices.Lanes.{two_groups, four_groups, byte_or_zero, IsTops, IsFlag, values};
+ghost use Rattle.twkb_num.specs.Devices.Lanes.{two_groups, four_groups, ones_if_odd, byte_or_zero, IsTops, IsFlag, values};
 
 use crate::tables::{narrow_len, narrow_places, wide_len, wide_places};
 use std::simd::prelude::*;
@@ -46,9 +46,8 @@ pub fn wide_four(bytes: &[u8; 32]) -> Wide
         u8x16::from_slice(&bytes[start..start + 16]),
         bits_from(tops, first.len),
     );
-    let lanes = u32x4::from_le_bytes(low_halves(first.lanes, second.lanes));
     Wide {
-        lanes: unzigzag_wide(packed_wide(lanes)),
+        lanes: meant_wide(low_halves(first.lanes, second.lanes)),
         len: first.len + second.len,
     }
 }
@@ -86,9 +85,8 @@ pub fn narrow_eight(bytes: &[u8; 32]) -> Narrow
     let rest = bits_from(tops, first.len);
     let second = narrow_four(u8x16::from_slice(&bytes[start..start + 16]), rest);
     let len = first.len + second.len;
-    let all = u16x8::from_le_bytes(low_halves(first.lanes, second.lanes));
     Narrow {
-        lanes: unzigzag_narrow(packed_narrow(all)),
+        lanes: meant_narrow(low_halves(first.lanes, second.lanes)),
         len,
     }
 }
@@ -155,26 +153,8 @@ fn picked(v: u8x16, places: u8x16) -> u8x16
 fn low_halves(lo: u8x16, hi: u8x16) -> u8x16
     ensures low { (i : ℕ) → i < 8 → slice_index result i ≡ slice_index lo i }
     ensures high { (i : ℕ) → i < 8 → slice_index result (8 + i) ≡ slice_index hi i }
-    ensures fit { (i : ℕ) → i < 16 → slice_index result i < 256 }
 {
     lo.shuffle(hi, [0, 1, 2, 3, 4, 5, 6, 7, 16, 17, 18, 19, 20, 21, 22, 23])
-}
-
-/// The groups of seven bits of each lane's four bytes, pushed together.
-#[inline(always)]
-fn packed_wide(v: u32x4) -> u32x4
-    ensures { result ≡ map four_groups v }
-{
-    let v = (v & u32x4::splat(0x007f_007f)) + ((v >> u32x4::splat(1)) & u32x4::splat(0x3f80_3f80));
-    (v & u32x4::splat(0x3fff)) + ((v >> u32x4::splat(2)) & u32x4::splat(0x0fff_c000))
-}
-
-/// The groups of seven bits of each lane's two bytes, pushed together.
-#[inline(always)]
-fn packed_narrow(v: u16x8) -> u16x8
-    ensures { result ≡ map two_groups v }
-{
-    (v & u16x8::splat(0x7f)) + ((v & u16x8::splat(0x7f00)) >> u16x8::splat(1))
 }
 
 /// What the groups of each lane's four bytes mean by zigzag, in two's complement.
@@ -183,21 +163,53 @@ fn meant_wide(groups: u8x16) -> u32x4
     ensures meaning { map (cast_signed w32) result ≡ map zigzag_value (values 4 4 groups 0) }
     ensures short { All IsShort (map (cast_signed w32) result) }
 {
-    unzigzag_wide(packed_wide(u32x4::from_le_bytes(groups)))
+    let lanes = u32x4::from_le_bytes(groups);
+    halves_wide(lanes) ^ signs_wide(lanes)
 }
 
-/// What each lane means by zigzag, in two's complement.
+/// What the groups of each lane's two bytes mean by zigzag, in two's complement.
 #[inline(always)]
-fn unzigzag_wide(v: u32x4) -> u32x4
-    ensures { map (cast_signed w32) result ≡ map zigzag_value v }
+fn meant_narrow(groups: u8x16) -> u16x8
+    ensures meaning { map (cast_signed w16) result ≡ map zigzag_value (values 2 8 groups 0) }
+    ensures brief { All IsBrief (map (cast_signed w16) result) }
 {
-    (v >> u32x4::splat(1)) ^ (u32x4::splat(0) - (v & u32x4::splat(1)))
+    let lanes = u16x8::from_le_bytes(groups);
+    halves_narrow(lanes) ^ signs_narrow(lanes)
 }
 
-/// What each lane means by zigzag, in two's complement.
+/// Half of the number that the groups of seven bits of each lane's four bytes make, rounded down.
 #[inline(always)]
-fn unzigzag_narrow(v: u16x8) -> u16x8
-    ensures { map (cast_signed w16) result ≡ map zigzag_value v }
+fn halves_wide(v: u32x4) -> u32x4
+    ensures { result ≡ map (λ n. four_groups n / 2) v }
 {
-    (v >> u16x8::splat(1)) ^ (u16x8::splat(0) - (v & u16x8::splat(1)))
+    // Each two bytes as twice the number of their groups: added once more, the lower group moves up to the other.
+    let twice = (v & u32x4::splat(0x7f7f_7f7f)) + (v & u32x4::splat(0x007f_007f));
+    ((twice >> u32x4::splat(2)) & u32x4::splat(0x1fff))
+        + ((twice >> u32x4::splat(4)) & u32x4::splat(0x07ff_e000))
+}
+
+/// Half of the number that the groups of seven bits of each lane's two bytes make, rounded down.
+#[inline(always)]
+fn halves_narrow(v: u16x8) -> u16x8
+    ensures { result ≡ map (λ n. two_groups n / 2) v }
+{
+    // Twice the number: added once more, the lower group moves up to the other.
+    let twice = (v & u16x8::splat(0x7f7f)) + (v & u16x8::splat(0x7f));
+    twice >> u16x8::splat(2)
+}
+
+/// All bits of each odd lane, and none of an even one: by zigzag, odd numbers are the negative ones.
+#[inline(always)]
+fn signs_wide(v: u32x4) -> u32x4
+    ensures { result ≡ map (ones_if_odd 32) v }
+{
+    u32x4::splat(0) - (v & u32x4::splat(1))
+}
+
+/// All bits of each odd lane, and none of an even one: by zigzag, odd numbers are the negative ones.
+#[inline(always)]
+fn signs_narrow(v: u16x8) -> u16x8
+    ensures { result ≡ map (ones_if_odd 16) v }
+{
+    u16x8::splat(0) - (v & u16x8::splat(1))
 }

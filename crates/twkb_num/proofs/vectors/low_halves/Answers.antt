@@ -1,7 +1,6 @@
 -- The first halves of two vectors.
-use Rattle.std.proofs.Common.{map, subst, sym, w8, inl, inr, ◌≡◌, ℕ, ◌+◌, ◌-◌, ◌<◌, List, [], ◌∷◌, ◌++◌, true, ◌&&◌, eqb, get_or, ap, ◌∙◌, refl, arith}
-use Rattle.std.proofs.lemmas.Bool.{and_parts, eqb-true, cases_lt}
-use Rattle.std.proofs.lemmas.Simd.{Each1-get_or, below_from_Fits}
+use Rattle.std.proofs.Common.{◌≡◌, ℕ, ◌+◌, ◌-◌, ◌<◌, List, [], ◌∷◌, ◌++◌, true, ◌&&◌, eqb, get_or, ap, ◌∙◌, refl, arith}
+use Rattle.std.proofs.lemmas.Bool.{and_parts, eqb-true}
 use Rattle.std.proofs.lemmas.List.{get_or-map, get_or_append_left, get_or-append_right}
 use Rattle.twkb_num.proofs.Below.{true_below}
 use Rattle.twkb_num.proofs.vectors.low_halves.Goals as goal
@@ -24,19 +23,3 @@ returns-clause-high c i h =
     let at = eqb-true (get_or ks (8 + i) 0) (16 + i) (and_parts (eqb (get_or ks i 0) i) (eqb (get_or ks (8 + i) 0) (16 + i)) (places i h)).1 in
     let back : 16 + i - 16 ≡ i = omega arith in
     get_or-map (λ k. get_or all k 0) ks (8 + i) 0 0 (omega (arith, h)) ∙ ap (λ k. get_or all k 0) at ∙ get_or-append_right c.args.lo c.args.hi 16 (16 + i) 0 c.fits-lo.0 (omega arith) ∙ ap (λ k. get_or c.args.hi k 0) back
-
-pub returns-clause-fit : goal.returns-clause-fit
-returns-clause-fit c i h =
-    elim (cases_lt i 8) [
-      | inl low ↦
-          let is = returns-clause-low c i low in
-          let fits = Each1-get_or (λ x. x < 256) c.args.lo i 0 (omega (arith, low, c.fits-lo.0)) (below_from_Fits w8 c.args.lo c.fits-lo.1) in
-          subst (λ x. x < 256) (sym is) fits
-      | inr high ↦
-          let j : ℕ = i - 8 in
-          let few : j < 8 = omega (arith, h, high) in
-          let at : 8 + j ≡ i = omega (arith, high) in
-          let is = returns-clause-high c j few in
-          let fits = Each1-get_or (λ x. x < 256) c.args.hi j 0 (omega (arith, few, c.fits-hi.0)) (below_from_Fits w8 c.args.hi c.fits-hi.1) in
-          subst (λ k. get_or (map (λ n. get_or (c.args.lo ++ c.args.hi) n 0) ks) k 0 < 256) at (subst (λ x. x < 256) (sym is) fits)
-    ]

@@ -1,12 +1,9 @@
 -- Two rows, one after the other, are eight numbers.
-use Rattle.std.proofs.Common.{rules, ◌≡◌, ℕ, ◌%◌, List, ◌++◌, map, ap, ◌∙◌, sym, subst, w16}
-use Rattle.std.specs.Prelude.{All}
+use Rattle.std.proofs.Common.{◌≡◌, ℕ, ◌%◌, List, ◌++◌, map, ap, ◌∙◌, w16}
 use Rattle.std.specs.Int.{cast_signed}
-use lib.Lanes.{number_l, digits_l}
-use Rattle.twkb_num.specs.Varint.{IsBrief, zigzag_value}
+use Rattle.twkb_num.specs.Varint.{zigzag_value}
 use Rattle.twkb_num.specs.Devices.Lanes.{values}
-use Rattle.twkb_num.proofs.LaneLaws.{all_brief}
-use Rattle.twkb_num.proofs.LaneLemmas.{first_tops, second_tops, first_piece, second_piece, flag_place, lanes_spell, IsJoined, narrow_values}
+use Rattle.twkb_num.proofs.LaneLemmas.{first_tops, second_tops, first_piece, second_piece, flag_place, lanes_spell, narrow_values}
 use Rattle.twkb_num.proofs.LongLemmas.{long_of}
 use Rattle.twkb_num.proofs.vectors.narrow_eight.Goals as goal
 
@@ -26,18 +23,10 @@ returns-clause-spelled c short =
     let second = c.narrow_four-second in
     let ns : List ℕ = values 2 4 first.result.lanes 0 in
     let ms : List ℕ = values 2 4 second.result.lanes 0 in
-    let j : IsJoined c.low_halves-all.result first.result.lanes second.result.lanes = record {
-      long = search rules;
-      fit = c.low_halves-all.ensures.fit;
-      low = c.low_halves-all.ensures.low;
-      high = c.low_halves-all.ensures.high;
-    } in
-    let means : map (cast_signed w16) c.unzigzag_narrow.result ≡ map zigzag_value (ns ++ ms) = c.unzigzag_narrow.ensures ∙ ap (map zigzag_value) (c.packed_narrow.ensures ∙ narrow_values _ _ _ j) in
+    let both = c.low_halves.ensures in
+    let means : map (cast_signed w16) c.meant_narrow.result ≡ map zigzag_value (ns ++ ms) = c.meant_narrow.ensures.meaning ∙ ap (map zigzag_value) (narrow_values _ _ _ both.low both.high) in
     lanes_spell bytes _ _ ns ms first.result.len second.result.len _ (first_piece bytes) (second_piece (first.result.len % 16) bytes)
     first.ensures.flag second.ensures.flag first.ensures.spelled second.ensures.spelled means short
-
-pub returns-clause-brief : goal.returns-clause-brief
-returns-clause-brief c = subst (All IsBrief) (sym (c.unzigzag_narrow.ensures ∙ ap (map zigzag_value) c.packed_narrow.ensures)) (all_brief (digits_l 65536 8 (number_l 256 c.low_halves-all.result)))
 
 pub returns-clause-long : goal.returns-clause-long
 returns-clause-long c = long_of 2 c.args.bytes.now _ _ _ _ (first_piece c.args.bytes.now) (second_piece _ c.args.bytes.now) c.narrow_four-first.ensures.flag c.narrow_four-second.ensures.flag c.narrow_four-first.ensures.long c.narrow_four-second.ensures.long
