@@ -41,6 +41,9 @@ announced_same begun other depth m before now same is begins = subst (λ (b : Be
   start = begins.start;
 })
 
+pub come_same : (begun other : Begun) (g : Geometry) (depth m : ℕ) (before now : Reading) → begun.metadata % 32 ≡ m → other ≡ record begun { metadata = m } → HasCome begun now g depth before → HasCome other now g depth before
+come_same begun other g depth m before now same is come = record { stands = come.stands; sound = come.sound; begins = announced_same begun other 1 m before now same is come.begins }
+
 module _ (begun : Begun) (g : Geometry) (depth : ℕ) (before now new : Reading) (come : HasCome begun now g depth before) where
   head_there : (head : Head) → rest_at begun.kind begun.xy begun.metadata begun.start now ≡ (Ok head, new) → IsHeadAt head 1 before.place (passed before new) × IsMoved before new
   head_there head e =
@@ -91,7 +94,7 @@ pub flat_hop : (passes : Bounds → Bool) (begun : Begun) (size : SizeField) (x 
 flat_hop passes begun size x y stop b e = ap (λ (b : Bool). cond b (Some (size.after + size.value)) None) e
 
 -- a metadata byte that announces a size and a box alone announces no ids
-no_ids : (kind : Kind) → has_ids kind 3 ≡ false
+pub no_ids : (kind : Kind) → has_ids kind 3 ≡ false
 no_ids kind = and-false (is_multi kind)
 
 -- after the header of a geometry with a size and a box in X and Y that isn't skipped

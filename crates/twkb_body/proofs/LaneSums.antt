@@ -37,7 +37,7 @@ pub lanes_are : (w : Width) (d : List ℕ) (zs : List ℤ) → Each1 (Fits w) d 
 lanes_are w d zs fits e = sym (four_fits w d fits) ∙ ap (map (cast_unsigned w)) e
 
 -- a lane of 32 bits holds a distance, or one that wraps around
-wrapped : (z : ℤ) → neg_ℤ (pos 4294967296) ≤ℤ z → ((pos 0 ≤ℤ z) × (pos (cast_unsigned w32 z) ≡ z)) ⊎ ((z <ℤ pos 0) × (pos (cast_unsigned w32 z) ≡ z +ℤ pos 4294967296))
+pub wrapped : (z : ℤ) → neg_ℤ (pos 4294967296) ≤ℤ z → ((pos 0 ≤ℤ z) × (pos (cast_unsigned w32 z) ≡ z)) ⊎ ((z <ℤ pos 0) × (pos (cast_unsigned w32 z) ≡ z +ℤ pos 4294967296))
 wrapped (pos n) low = inl (omega (arith, ints), refl)
 wrapped (negsuc n) low = inr (omega (arith, ints), omega (arith, ints, low))
 

@@ -1,15 +1,17 @@
-//! Ranges of the box of a certified geometry, which are known to be at the place. Used by `step`.
-ghost use Rattle.std.specs.Prelude.{◌≡◌, ◌≢◌, Ok, Err, true, IfSome, IfNone};
+//! Ranges of the box of a certified geometry, which are known to be at the place. Used by `headed` and `step`.
+ghost use Rattle.std.specs.Prelude.{◌≡◌, ◌≢◌, [], ◌∷◌, All, Err, IfNone, IfSome, IsTrue, Ok, map, true};
+ghost use Rattle.std.specs.Int.{w32, cast_signed};
 ghost use Rattle.twkb_num.specs.Cursor.{Reading};
+ghost use Rattle.twkb_num.specs.Varint.{IsShort};
 ghost use Rattle.twkb_head.specs.Raw.{ends_of, IsNear};
 ghost use Rattle.twkb_head.specs.declared.raw.RawRange.{RawRange};
 ghost use Rattle.twkb_head.specs.declared.refusal.Malformed.{Malformed};
 ghost use Rattle.twkb_head.specs.Shared.Reader.{range_from};
-ghost use Rattle.twkb_body.specs.Devices.Known.{ReadsFlatBox};
+ghost use Rattle.twkb_body.specs.Devices.Known.{HasFlatBox, ReadsFlatBox};
 
 use crate::varints::take_signed;
 use twkb_head::RawRange;
-use twkb_num::Cursor;
+use twkb_num::{Cursor, Four};
 
 /// Reads minimum and extent of an axis, and says whether both are known to be near zero.
 // Numbers of at most four bytes are near zero, so the compiler knows the answer where they are read from one word.
@@ -38,16 +40,49 @@ pub fn short_ranges(cursor: &mut Cursor) -> Option<(RawRange, RawRange)>
     ensures none { IfNone result (cursor.new ≡ cursor.old) }
 {
     let (x, y) = cursor.svarint_two_pairs()?;
-    Some((
-        RawRange {
-            minimum: x.0,
-            extent: x.1,
-        },
-        RawRange {
-            minimum: y.0,
-            extent: y.1,
-        },
-    ))
+    Some((ranged(x), ranged(y)))
+}
+
+/// Reads the ranges of X and Y: together, if their four numbers are short and 32 bytes are left, and then it returns them in lanes too.
+#[inline(always)]
+pub fn lane_box(cursor: &mut Cursor) -> (Four, RawRange, RawRange)
+    requires { HasFlatBox cursor.old }
+    ensures read { ReadsFlatBox result.1 result.2 cursor.old cursor.new }
+    ensures lanes { IsTrue result.0.is_read → map (cast_signed w32) result.0.lanes
+        ≡ result.1.minimum ∷ result.1.extent ∷ result.2.minimum ∷ result.2.extent ∷ [] }
+    ensures short { All IsShort (map (cast_signed w32) result.0.lanes) }
+{
+    let four = cursor.svarint_four();
+    if four.is_read {
+        let (x, y) = four.two_pairs();
+        (four, ranged(x), ranged(y))
+    } else {
+        let (x, y) = long_box(cursor);
+        (four, x, y)
+    }
+}
+
+/// Reads the ranges of X and Y, one after the other.
+// It isn't inlined, since few boxes have long numbers.
+#[inline(never)]
+fn long_box(cursor: &mut Cursor) -> (RawRange, RawRange)
+    requires { HasFlatBox cursor.old }
+    ensures { ReadsFlatBox result.0 result.1 cursor.old cursor.new }
+{
+    let (x, _) = known_range(cursor);
+    let (y, _) = known_range(cursor);
+    (x, y)
+}
+
+/// A minimum and an extent, as a range.
+#[inline(always)]
+fn ranged(pair: (i64, i64)) -> RawRange
+    ensures { result ≡ record { minimum = pair.0; extent = pair.1 } }
+{
+    RawRange {
+        minimum: pair.0,
+        extent: pair.1,
+    }
 }
 
 /// Moves past minimum and extent of an axis, by their ends if both end in the next eight bytes.

@@ -1,5 +1,5 @@
 -- The slots of a directory, as blobs are added one at a time.
-use Rattle.std.proofs.Common.{◌≡◌, ℕ, ◌+◌, ◌*◌, ◌/◌, ◌%◌, ◌^◌, ◌<◌, ◌≤◌, ◌||◌, nat_le, arith, Bool, true, false, cond, List, [], ◌∷◌, ◌++◌, length, flat_map, get_or, ◌-◌, take, drop, slice_set, Option, Some, None, is_some, refl, ap, sym, ◌∙◌, append_assoc}
+use Rattle.std.proofs.Common.{◌≡◌, ℕ, ◌+◌, ◌*◌, ◌/◌, ◌%◌, ◌^◌, ◌<◌, ◌≤◌, ◌||◌, ◌==◌, if◌then◌else◌, nat_le, nat_lt, arith, Bool, true, false, cond, List, [], ◌∷◌, ◌++◌, length, flat_map, get_or, ◌-◌, take, drop, slice_set, Option, Some, None, is_some, refl, ap, sym, ◌∙◌, append_assoc}
 use Rattle.std.proofs.lemmas.Bool.Decides.{nat_tests}
 use Rattle.std.proofs.lemmas.Grind.{flat_map-append}
 use Rattle.std.proofs.lemmas.List.{drop-drop, take_more_set, take_all, length-set, append-nil, drop_all, drop_more, take-append-drop}
@@ -9,9 +9,14 @@ use Rattle.twkb_num.specs.Cursor.{Reading}
 use Rattle.twkb_body.specs.Geometry.{Geometry}
 use Rattle.twkb_layer.specs.Directory.{Entry, entry_of}
 use Rattle.twkb_head.specs.declared.raw.Fields.{Fields}
-use Rattle.twkb_layer.specs.Devices.Slots.{box_m, box_z, entry_said, half_says, is_pair, own_said, passes_a_slot, said_before, slot_says, unboxed, IsPairOf, says_by, unpacked}
-use Rattle.twkb_layer.specs.Slots.{Said, Written, entry_with, entries_from, entries_kept, says_of, half}
+use Rattle.twkb_layer.specs.Devices.Slots.{IsPairOf, box_m, box_z, entry_said, half_says, is_pair, own_said, passes_a_slot, said_before, slot_says, unpacked}
+use Rattle.twkb_layer.specs.Slots.{Said, Written, entry_with, entries_from, entries_kept, long, says_of, says_with, short_says}
+use Rattle.twkb_layer.specs.declared.slot_numbers.SlotNumbers.{SlotNumbers}
 use Rattle.twkb_layer.proofs.Keeping.{SaysOf}
+
+-- what a slot says of a blob without a box
+abbrev pub unboxed : ℕ → Said
+unboxed offset = record { beyond = false; deep = false; offset = offset; first = None; second = None }
 
 -- the entries of the blobs of slots, of which no slot precedes the first
 abbrev pub entries_of : List Said → List Entry
@@ -49,21 +54,51 @@ entries_deep slots said slot place before own is =
 kept-append : (slots more : List Written) → entries_kept (slots ++ more) ≡ entries_of (flat_map says_of slots ++ flat_map says_of more)
 kept-append slots more = ap entries_of (flat_map-append says_of slots more)
 
+-- a choice between lists of one
+either_alone : {A : Type 0} (b : Bool) (x y : A) → (if b then x ∷ [] else y ∷ []) ≡ (if b then x else y) ∷ []
+either_alone true x y = refl
+either_alone false x y = refl
+
 -- a slot that isn't of two blobs
 pub says_alone : (slot : Written) → is_pair slot ≡ false → says_of slot ≡ slot_says slot ∷ []
-says_alone slot alone = ap (λ (b : Bool). cond b (half_says false slot ∷ half_says true slot ∷ []) (slot_says slot ∷ [])) alone
+says_alone slot alone =
+    let word = unpacked slot.word in
+    let short = short_says word.code word.deep word.rest slot.first in
+    let wide = says_with word.code word.form word.deep word.rest (long slot.first) (long slot.second) in
+    ap (λ (b : Bool). if word.form == 0 then short ∷ [] else if b then half_says false slot ∷ half_says true slot ∷ [] else wide ∷ []) alone ∙ either_alone (word.form == 0) short wide
 
 -- a slot of two blobs
 pub says_two : (slot : Written) → is_pair slot ≡ true → says_of slot ≡ half_says false slot ∷ half_says true slot ∷ []
-says_two slot pair = ap (λ (b : Bool). cond b (half_says false slot ∷ half_says true slot ∷ []) (slot_says slot ∷ [])) pair
+says_two slot pair =
+    let word = unpacked slot.word in
+    let short = short_says word.code word.deep word.rest slot.first in
+    let wide = says_with word.code word.form word.deep word.rest (long slot.first) (long slot.second) in
+    let other : (word.form == 0) ≡ false = grind (arith, nat_tests) in
+    (λ j. if other j then short ∷ [] else if pair j then half_says false slot ∷ half_says true slot ∷ [] else wide ∷ [])
 
--- a slot that says what two slots say, if its word is of both of theirs and its numbers have theirs in their halves
-pub pair_says : (first second pair : Written) → IsPairOf (unpacked first.word) (unpacked second.word) (unpacked pair.word) → half false pair.first ≡ first.first → half false pair.second ≡ first.second → half true pair.first ≡ second.first
-    → half true pair.second ≡ second.second → says_of pair ≡ says_of first ++ says_of second
-pair_says first second pair is a b c d =
-    says_two pair is.form
-    ∙ ((λ j. says_by (is.first_is j) (a j) (b j) ∷ says_by (is.second_is j) (c j) (d j) ∷ [])
-    ∙ (λ j. sym (says_alone first is.first_alone) j ++ sym (says_alone second is.second_alone) j))
+-- what a slot says by numbers of 32 bits
+pub says_short : (slot : Written) → (unpacked slot.word).form ≡ 0 → slot_says slot ≡ short_says (unpacked slot.word).code (unpacked slot.word).deep (unpacked slot.word).rest slot.first
+says_short slot is =
+    let word = unpacked slot.word in
+    ap (λ (form : ℕ). if form == 0 then short_says word.code word.deep word.rest slot.first else says_with word.code form word.deep word.rest (long slot.first) (long slot.second)) is
+
+-- a blob that is kept by numbers of 32 bits has its own slot, or shares one
+no_other : (b : Bool) → nat_lt 3 (if b then 1 else 2) ≡ false
+no_other true = refl
+no_other false = refl
+
+pub short_own : (code : ℕ) (deep : Bool) (offset : ℕ) (n : SlotNumbers) → (short_says code deep offset n).beyond ≡ false
+short_own code deep offset n = no_other (n.x_least == 0)
+
+-- a slot that says what two slots say, if its word is of both of theirs and it has their numbers
+pub pair_says : (first second pair : Written) → IsPairOf (unpacked first.word) (unpacked second.word) (unpacked pair.word) → pair.first ≡ first.first → pair.second ≡ second.first → says_of pair ≡ says_of first ++ says_of second
+pair_says first second pair is a b =
+    let one : is_pair pair ≡ true = ap (λ (form : ℕ). form == 1) is.form in
+    let first_alone : is_pair first ≡ false = ap (λ (form : ℕ). form == 1) is.first_form in
+    let second_alone : is_pair second ≡ false = ap (λ (form : ℕ). form == 1) is.second_form in
+    let x : half_says false pair ≡ slot_says first = (λ j. short_says (sym is.first_code j) (sym is.first_flat j) (sym is.first_rest j) (a j)) ∙ sym (says_short first is.first_form) in
+    let y : half_says true pair ≡ slot_says second = (λ j. short_says (sym is.second_code j) (sym is.second_flat j) (sym is.second_rest j) (b j)) ∙ sym (says_short second is.second_form) in
+    says_two pair one ∙ ((λ j. x j ∷ y j ∷ []) ∙ (λ j. sym (says_alone first first_alone) j ++ sym (says_alone second second_alone) j))
 
 one_says : (slot : Written) (said : Said) → is_pair slot ≡ false → slot_says slot ≡ said → flat_map says_of (slot ∷ []) ≡ said ∷ []
 one_says slot said alone is = append-nil (says_of slot) ∙ (says_alone slot alone ∙ ap (λ (l : Said). l ∷ []) is)

@@ -1,7 +1,6 @@
 -- The loop of a scan with the slots of a directory, from slot to slot.
 use Rattle.std.proofs.Common.{◌≡◌, ℕ, ℤ, ◌+◌, ◌^◌, ◌<◌, ◌≤◌, Bool, true, false, cond, List, [], ◌∷◌, ◌++◌, length, flat_map, map, take, drop, get_or, Option, Some, None, option_map, refl, ap, subst, sym, ◌∙◌, arith, sum_by, slice_set, length-drop}
 use Rattle.std.specs.List.{list_any, AllByRecursion}
-use Rattle.std.proofs.lemmas.Bool.Decides.{nat_tests}
 use Rattle.std.proofs.lemmas.List.{drop_more, drop_all, length-take}
 use Rattle.std.proofs.lemmas.List.Elements.{recursion_from_All}
 use Rattle.twkb_num.specs.Cursor.{added}
@@ -16,7 +15,7 @@ use Rattle.twkb_body.proofs.Entering.{reaches, boxed_holds}
 use Rattle.twkb_layer.specs.Directory.{Entry, box_of, entry_of, entries, directory_cost}
 use Rattle.twkb_layer.specs.Hits.{hits, found_blobs, cost, filled}
 use Rattle.twkb_layer.specs.Layer.{IsCertifiedLayer, size_of, told_from}
-use Rattle.twkb_layer.specs.Devices.Slots.{half_says, is_pair, slot_says, unboxed}
+use Rattle.twkb_layer.specs.Devices.Slots.{half_offset, half_says, is_pair, slot_says, unpacked}
 use Rattle.twkb_layer.specs.Slots.{Said, Written, entry_with, entries_from, says_of}
 use Rattle.twkb_layer.specs.Devices.Seeking.{outside}
 use Rattle.twkb_layer.specs.Window.{is_inside, box_misses, is_missed}
@@ -25,8 +24,9 @@ use Rattle.twkb_layer.proofs.Layers.{blob_some, layer_short}
 use Rattle.twkb_layer.proofs.EachBlob.{Next, next_of, Walking, walk_begins, walk_goes_on, walk_fits, blob_few, walk_ends}
 use Rattle.twkb_layer.proofs.Scanning.{scan_ends, scan_reads}
 use Rattle.twkb_layer.proofs.Costs.{directory_cost_few}
+use Rattle.twkb_layer.specs.Devices.Layer.{OfEntry}
 use Rattle.twkb_layer.specs.Devices.Scanning.{Scan, finds}
-use Rattle.twkb_layer.proofs.Entries.{entries_of, says_alone, says_two}
+use Rattle.twkb_layer.proofs.Entries.{entries_of, says_alone, says_two, short_own, unboxed}
 
 -- ---- a box that misses
 
@@ -61,9 +61,8 @@ found_few true found more same one none = omega (arith, one)
 found_few false found more same one none = omega (arith, none)
 
 -- neither of two blobs is a slot of Z and M
-pub half_own : (second : Bool) (slot : Written) → false ≡ (half_says second slot).beyond
-half_own true slot = grind (arith, nat_tests)
-half_own false slot = grind (arith, nat_tests)
+pub half_own : (second : Bool) (slot : Written) → (half_says second slot).beyond ≡ false
+half_own second slot = short_own (unpacked slot.word).code false (half_offset second (unpacked slot.word).rest) (cond second slot.second slot.first)
 
 -- ---- a scan with slots
 -- the blob of a slot
@@ -84,7 +83,7 @@ first_of_entries rest bytes place beyond slots blob e is n =
     record { next = n; offset = ap (λ (p : Entry). p.offset) first; bounds = ap (λ (p : Entry). p.bounds) first; others = cc (both) }
 
 -- the blob of a slot is a certified geometry at its offset
-pub here_stands : (rest : List Geometry) (bytes now : List ℕ) (place : ℕ) (beyond : Said) (slots : List Said) (blob : ℕ) (e : Entry) (h : Here rest bytes place beyond slots blob e) → now ≡ bytes → StandsAt h.next.tree 1 now e.offset
+here_stands : (rest : List Geometry) (bytes now : List ℕ) (place : ℕ) (beyond : Said) (slots : List Said) (blob : ℕ) (e : Entry) (h : Here rest bytes place beyond slots blob e) → now ≡ bytes → StandsAt h.next.tree 1 now e.offset
 here_stands rest bytes now place beyond slots blob e h same = rw (same, h.offset) h.next.stands
 
 no_entries : (blob place : ℕ) (rest : List Geometry) → [] ≡ told_from entry_of blob place rest → rest ≡ []
@@ -133,16 +132,16 @@ module _ {S : Type 0} (of : Found → S) (w : Bounds) (bytes : List ℕ) (count0
       subst (λ ls. Looking beyond (ls ++ more) count blob found room) (says_two slot (sym pair)) s
 
   module _ (beyond slot : Said) (slots : List Said) (count blob found : ℕ) (room : List S) (s : Looking beyond (slot ∷ slots) count blob found room) (e : Entry) where
-    pub here_of : e ≡ entry_with beyond slot → false ≡ slot.beyond → Here s.rest bytes s.place beyond slots blob e
+    here_of : e ≡ entry_with beyond slot → false ≡ slot.beyond → Here s.rest bytes s.place beyond slots blob e
     here_of is own =
         let left : e ∷ entries_from beyond slots ≡ told_from entry_of blob s.place s.rest = ap (λ (p : Entry). p ∷ entries_from beyond slots) is ∙ (ap (λ (b : Bool). cond b (entries_from slot slots) (entry_with beyond slot ∷ entries_from beyond slots)) own ∙ s.entries_are) in
         first_of_entries s.rest bytes s.place beyond slots blob e left (next_of s.rest bytes s.place s.on.left (some_left s.rest bytes blob s.place _ _ left s.on.left))
 
     -- the numbers of the blob and of one more hit fit their types
-    pub here_fits : Here s.rest bytes s.place beyond slots blob e → (blob < length bytes) × (found + 1 < 2 ^ 64)
+    here_fits : Here s.rest bytes s.place beyond slots blob e → (blob < length bytes) × (found + 1 < 2 ^ 64)
     here_fits h = (blob_few _ _ _ bytes count0 _ s.rest blob s.place count _ _ s.on h.next, let more = (walk_fits _ _ _ bytes count0 _ s.rest blob s.place count _ _ s.on h.next refl) in omega (arith, more.1))
 
-    pub look_goes_on : (h : Here s.rest bytes s.place beyond slots blob e) (new : ℕ) → new ≡ added count (directory_cost w h.next.tree) → (more : ℕ) (put : List S)
+    look_goes_on : (h : Here s.rest bytes s.place beyond slots blob e) (new : ℕ) → new ≡ added count (directory_cost w h.next.tree) → (more : ℕ) (put : List S)
         → finds of (record { window = w; found = found; room = room }) blob e.offset h.next.tree ≡ record { window = w; found = more; room = put } → Looking beyond slots new (blob + 1) more put
     look_goes_on h new adds more put is =
         let n = h.next in
@@ -154,6 +153,25 @@ module _ {S : Type 0} (of : Found → S) (w : Bounds) (bytes : List ℕ) (count0
               (sym is ∙ (λ j. finds of (record { window = w; found = found; room = room }) blob (h.offset j) n.tree)) (λ blob many. more + many < 2 ^ 64) (λ many fits. omega (arith, fits, few)));
           entries_are = h.others;
         }
+
+  -- the blob of the next slot, which says this entry, and the scan after it
+  module _ {beyond slot : Said} {slots : List Said} {count blob found : ℕ} {room : List S} (s : Looking beyond (slot ∷ slots) count blob found room) {now : List ℕ} (same : now ≡ bytes) {e : Entry} (is : e ≡ entry_with beyond slot) (own : slot.beyond ≡ false) where
+    here : Here s.rest bytes s.place beyond slots blob e
+    here = here_of beyond slot slots count blob found room s e is (sym own)
+
+    pub slot_stands : (g : Geometry) × StandsAt g 1 now e.offset
+    slot_stands = (here.next.tree, here_stands s.rest bytes now s.place beyond slots blob e here same)
+
+    pub slot_fits : (blob < length bytes) × (found + 1 < 2 ^ 64)
+    slot_fits = here_fits beyond slot slots count blob found room s e here
+
+    pub look_past : {v : Bounds} → v ≡ w → {new more : ℕ} {put : List S}
+        → OfEntry now e (λ g. finds of (record { window = v; found = found; room = room }) blob e.offset g ≡ record { window = v; found = more; room = put })
+        → OfEntry now e (λ g. new ≡ added count (directory_cost v g)) → Looking beyond slots new (blob + 1) more put
+    look_past v_is {new} {more} {put} found_is adds =
+        let stands = here_stands s.rest bytes now s.place beyond slots blob e here same in
+        look_goes_on beyond slot slots count blob found room s e here new (adds here.next.tree stands here.bounds ∙ ap (λ (v : Bounds). added count (directory_cost v here.next.tree)) v_is) more put
+        (subst (λ (v : Bounds). finds of (record { window = v; found = found; room = room }) blob e.offset here.next.tree ≡ record { window = v; found = more; room = put }) v_is (found_is here.next.tree stands here.bounds))
 
   -- the result of a scan with slots
   pub look_ends : (beyond : Said) (slots : List Written) (at count blob found : ℕ) (room : List S) → Looking beyond (flat_map says_of (drop at slots)) count blob found room → length slots ≤ at → (trees : List Geometry) → IsCertifiedLayer trees bytes

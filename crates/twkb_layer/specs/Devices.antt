@@ -7,5 +7,6 @@ pub mod Seeking
 pub mod Scanning
 pub mod RawWindows
 pub mod Slots
+pub mod ShortWindows
 pub mod TextReader
 pub mod Decimals

@@ -1,18 +1,18 @@
 //! The slots of a blob, put into memory: into a vector, or into room that a caller lends. Used by `certified`.
-ghost use Rattle.std.specs.Prelude.{◌≡◌, ◌+◌, ◌-◌, ◌*◌, ◌<◌, ◌≤◌, ◌++◌, ◌∷◌, [], List, length, take, drop, slice_set, vec_len, vec_capacity, false, IfSome};
+ghost use Rattle.std.specs.Prelude.{◌≡◌, ◌+◌, ◌-◌, ◌*◌, ◌<◌, ◌≤◌, ◌++◌, ◌∷◌, [], List, length, take, drop, vec_len, vec_capacity, false, true, IfSome};
 ghost use Rattle.twkb_head.specs.Raw.{HavePrecisions};
 ghost use Rattle.twkb_body.specs.Geometry.{Geometry};
 ghost use Rattle.twkb_body.specs.Visit.{bytes_to_pass};
 ghost use Rattle.twkb_layer.specs.Directory.{Entry, IsDirectoryOf, entry_of};
 ghost use Rattle.twkb_layer.specs.Layer.{IsCertifiedLayer, AddsAtMost, OfLayer};
 ghost use Rattle.twkb_layer.specs.Devices.EachBlob.{Lent, adds, lent};
-ghost use Rattle.twkb_layer.specs.Devices.Slots.{box_said, entry_said, is_pair, own_said, passes_a_slot, said_before, slot_says};
+ghost use Rattle.twkb_layer.specs.Devices.Slots.{HasItsLanes, box_said, entry_said, is_pair, own_said, passes_a_slot, said_before, slot_says};
 ghost use Rattle.twkb_layer.specs.Slots.{entries_kept};
 
 use crate::each_blob::{EachBlob, for_each_blob};
 use crate::slots::{Kept, OFFSET_LIMIT, Slot};
 use std::alloc::Allocator;
-use twkb_body::read_and_pass;
+use twkb_body::{Passed, read_and_pass};
 use twkb_head::Fields;
 use twkb_num::Cursor;
 
@@ -32,8 +32,8 @@ impl<A: Allocator> EachBlob for Vec<Slot, A> {
     #[inline(always)]
     fn take_blob(&mut self, cursor: &mut Cursor, _blob: usize) {
         let offset = cursor.place();
-        let raw = read_and_pass(cursor);
-        push(self, offset, &raw);
+        let passed = read_and_pass(cursor);
+        push(self, offset, &passed);
     }
 }
 
@@ -61,8 +61,8 @@ impl<'r> EachBlob for LentSlots<'r> {
     #[inline(always)]
     fn take_blob(&mut self, cursor: &mut Cursor, _blob: usize) {
         let offset = cursor.place();
-        let raw = read_and_pass(cursor);
-        self.used = put(self.room, self.used, offset, &raw);
+        let passed = read_and_pass(cursor);
+        self.used = put(self.room, self.used, offset, &passed);
     }
 }
 
@@ -85,58 +85,116 @@ pub fn put_slots(room: &mut [Slot], cursor: &mut Cursor) -> usize
 /// Puts the slots of a blob that begins at the offset with this header after the `used` ones of the room, or its slot and the last
 /// one into one. Returns how many are used then.
 #[inline(always)]
-fn put(room: &mut [Slot], used: usize, offset: usize, raw: &Fields) -> usize
-    requires axes { HavePrecisions raw.now.axes }
+fn put(room: &mut [Slot], used: usize, offset: usize, passed: &Passed) -> usize
+    requires axes { HavePrecisions passed.now.header.axes }
+    requires lanes { HasItsLanes passed.now }
     requires spare { used + 1 < length room.old }
     ensures says { entries_kept (take result room.new)
-        ≡ entries_kept (take used room.old) ++ entry_said offset raw.now ∷ [] }
+        ≡ entries_kept (take used room.old) ++ entry_said offset passed.now.header ∷ [] }
     ensures more { used ≤ result }
     ensures few { result ≤ used + 2 }
     ensures room { length room.new ≡ length room.old }
     ensures left { drop result room.new ≡ drop result room.old }
 {
+    if let Some(slot) = lane_slot(offset, passed) {
+        return put_one(room, used, slot);
+    }
+    let raw = &passed.header;
     let deep = passes_a_slot(offset, raw);
     let own = own_slot(offset, deep, raw);
-    let mut place = used;
-    if deep {
-        room[place] = slot_before(offset, raw);
-        place += 1;
-    } else if let Some(pair) = paired(&room[..used], &own) {
-        room[used - 1] = pair;
+    if !deep {
+        return put_one(room, used, own);
+    }
+    room[used] = slot_before(offset, raw);
+    room[used + 1] = own;
+    used + 2
+}
+
+/// Adds the blob of a slot to the last of the `used` slots of the room, if that has place for it. Otherwise puts the slot after them.
+/// Returns how many are used then.
+#[inline(always)]
+fn put_one(room: &mut [Slot], used: usize, own: Slot) -> usize
+    requires spare { used < length room.old }
+    ensures says { entries_kept (take result room.new) ≡ entries_kept (take used room.old ++ own ∷ []) }
+    ensures more { used ≤ result }
+    ensures few { result ≤ used + 1 }
+    ensures room { length room.new ≡ length room.old }
+    ensures left { drop result room.new ≡ drop result room.old }
+{
+    if takes_in(&mut room[..used], &own) {
         return used;
     }
-    room[place] = own;
-    place + 1
+    room[used] = own;
+    used + 1
 }
 
 /// Pushes the slots of a blob that begins at the offset with this header, or puts its slot and the last one into one.
 #[inline(always)]
-fn push<A: Allocator>(slots: &mut Vec<Slot, A>, offset: usize, raw: &Fields)
-    requires axes { HavePrecisions raw.now.axes }
+fn push<A: Allocator>(slots: &mut Vec<Slot, A>, offset: usize, passed: &Passed)
+    requires axes { HavePrecisions passed.now.header.axes }
+    requires lanes { HasItsLanes passed.now }
     requires spare { vec_len slots.old + 1 < vec_capacity slots.old }
-    ensures says { entries_kept slots.new.items ≡ entries_kept slots.old.items ++ entry_said offset raw.now ∷ [] }
+    ensures says { entries_kept slots.new.items
+        ≡ entries_kept slots.old.items ++ entry_said offset passed.now.header ∷ [] }
     ensures capacity { vec_capacity slots.new ≡ vec_capacity slots.old }
     ensures len { vec_len slots.new ≤ vec_len slots.old + 2 }
 {
+    if let Some(slot) = lane_slot(offset, passed) {
+        push_one(slots, slot);
+        return;
+    }
+    let raw = &passed.header;
     let deep = passes_a_slot(offset, raw);
     let own = own_slot(offset, deep, raw);
     if deep {
         slots.push_reserved(slot_before(offset, raw));
-    } else if let Some(pair) = paired(slots, &own) {
-        let last = slots.len() - 1;
-        slots[last] = pair;
-        return;
+        slots.push_reserved(own);
+    } else {
+        push_one(slots, own);
     }
-    slots.push_reserved(own);
 }
 
-/// A slot in place of the last one that says what the last one and `own` say, if there is one.
+/// Adds the blob of a slot to the last slot, if that has place for it. Otherwise pushes the slot.
 #[inline(always)]
-fn paired(slots: &[Slot], own: &Slot) -> Option<Slot>
-    ensures { IfSome result (λ pair. (0 < length slots.now)
-        × (entries_kept (slice_set slots.now (length slots.now - 1) pair) ≡ entries_kept (slots.now ++ own.now ∷ []))) }
+fn push_one<A: Allocator>(slots: &mut Vec<Slot, A>, own: Slot)
+    requires spare { vec_len slots.old < vec_capacity slots.old }
+    ensures says { entries_kept slots.new.items ≡ entries_kept (slots.old.items ++ own ∷ []) }
+    ensures capacity { vec_capacity slots.new ≡ vec_capacity slots.old }
+    ensures len { vec_len slots.new ≤ vec_len slots.old + 1 }
 {
-    slots.last()?.pair(own)
+    if !takes_in(slots, &own) {
+        slots.push_reserved(own);
+    }
+}
+
+/// Adds the blob of a slot to the last slot, if there is one, and it has place for it.
+#[inline(always)]
+fn takes_in(slots: &mut [Slot], own: &Slot) -> bool
+    ensures both { result ≡ true → entries_kept slots.new ≡ entries_kept (slots.old ++ own.now ∷ []) }
+    ensures same { result ≡ false → slots.new ≡ slots.old }
+    ensures len { length slots.new ≡ length slots.old }
+{
+    match slots.last_mut() {
+        Some(last) => last.takes_in(own),
+        None => false,
+    }
+}
+
+/// The slot of a blob whose box was read into lanes. `None` if it wasn't, or the blob begins beyond the reach of a slot.
+// Most blobs with a box are such, and go to their slot by a path of their own, in which the compiler keeps the box in lanes.
+#[inline(always)]
+fn lane_slot(offset: usize, passed: &Passed) -> Option<Slot>
+    requires axes { HavePrecisions passed.now.header.axes }
+    requires lanes { HasItsLanes passed.now }
+    ensures says { IfSome result (λ slot. slot_says slot ≡ own_said offset false (box_said passed.now.header)) }
+    ensures deep { IfSome result (λ slot. passes_a_slot offset (box_said passed.now.header) ≡ false) }
+    ensures alone { IfSome result (λ slot. is_pair slot ≡ false) }
+{
+    if passed.short.is_read && offset < OFFSET_LIMIT {
+        Some(Slot::of_lanes(offset, passed.short.lanes, passed.header.axes.xy))
+    } else {
+        None
+    }
 }
 
 /// Whether a blob has something that its own slot has no place for.

@@ -1,11 +1,10 @@
 //! [`RawWindows`], a window in raw integers at each precision: in the numbers that headers and bodies have.
-//! Used by `entry`, `scans`, `seeker`, `slots` and `window`.
+//! Used by `scans`, `seeker`, `short_windows`, `slots` and `window`.
 ghost use Rattle.std.specs.Prelude.{◌≡◌, ◌<◌, ◌<ℤ◌, ◌*ℤ◌, ◌||◌, ◌∷◌, [], ℤ, pos, int_lt, true, IfSome};
 ghost use Rattle.std.specs.Int.RustNames.{int_div, int_rem};
 ghost use Rattle.twkb_num.specs.Units.{IsPrecision};
 ghost use Rattle.twkb_layer.specs.Devices.RawWindows.{IsRawEnds, IsRawWindow, IsExactEnds, IsExactWindow, AreCoarserEnds, IsCoarserWindow, AreRawWindows, raw_range_misses, raw_box_misses, misses_in_z_or_m};
-ghost use Rattle.twkb_layer.specs.Devices.Slots.{IsInner};
-ghost use Rattle.twkb_layer.specs.Slots.{precision_of};
+ghost use Rattle.twkb_layer.specs.Devices.Slots.{IsInner, precision_of};
 ghost use Rattle.twkb_layer.specs.Window.{is_inside, box_misses};
 ghost use Rattle.twkb_head.specs.Head.{span_at};
 ghost use Rattle.twkb_head.specs.Raw.{HavePrecisions, ends_of, raw_bounds, IsNear, HasNearRanges};

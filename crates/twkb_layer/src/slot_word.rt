@@ -2,16 +2,16 @@
 ghost use Rattle.std.specs.Prelude.{◌≡◌, ◌<◌, ◌^◌, false, true, IfSome};
 ghost use Rattle.twkb_layer.specs.Devices.Slots.{IsPairOf, half_of, unpacked};
 
+/// A slot of a blob without a box, or whose box has ends of 32 bits.
+pub const SHORT: u64 = 0;
+/// A slot of two such blobs.
+pub const PAIR: u64 = 1;
 /// A slot of a blob whose box is kept by its ends.
-pub const ENDS: u64 = 0;
-/// A slot of a blob without a box.
-pub const UNBOXED: u64 = 1;
+pub const ENDS: u64 = 2;
 /// A slot of a blob whose box is kept by least numbers and widths.
-pub const WIDTHS: u64 = 2;
+pub const WIDTHS: u64 = 3;
 /// A slot of what the next slot has no place for.
-pub const BEYOND: u64 = 3;
-/// The first form of a slot of two blobs, both with a box: 1 is added if the first has none, and 2 if the second has none.
-pub const PAIR: u64 = 4;
+pub const BEYOND: u64 = 4;
 
 /// A slot of two blobs can't hold this distance between their offsets, nor a greater one.
 const DISTANCE_LIMIT: u64 = 1 << 18;
@@ -48,7 +48,7 @@ impl Word {
         (self.bits % 16) as usize
     }
 
-    /// What the slot keeps: [`ENDS`], [`UNBOXED`], [`WIDTHS`], [`BEYOND`], or two blobs from [`PAIR`] on.
+    /// What the slot keeps: [`SHORT`], [`PAIR`], [`ENDS`], [`WIDTHS`] or, from [`BEYOND`] on, what another slot has no place for.
     #[inline(always)]
     pub fn form(&self) -> u64
         ensures { result ≡ (unpacked self.now.bits).form }
@@ -80,52 +80,29 @@ impl Word {
             IsPairOf (unpacked self.now.bits) (unpacked next.now.bits) (unpacked pair.bits)) }
     {
         let (first, second) = (self.rest(), next.rest());
-        if !self.may_pair() || !next.may_pair() || self.code() != next.code() {
-            return None;
-        }
-        if first < PAIR_LIMIT && first <= second && second - first < DISTANCE_LIMIT {
+        // Neither has another form than SHORT, or a slot before it, and their codes are equal.
+        let are_alike = self.bits % 256 < 16 && next.bits % 256 == self.bits % 256;
+        if are_alike && first < PAIR_LIMIT && first <= second && second - first < DISTANCE_LIMIT {
             Some(Word {
-                bits: self.bits
-                    + 16 * (PAIR + 2 * next.form())
-                    + 256 * PAIR_LIMIT * (second - first),
+                bits: self.bits + 16 * PAIR + 256 * PAIR_LIMIT * (second - first),
             })
         } else {
             None
         }
     }
 
-    /// Whether the slot is of a blob without a box, or with a box that is kept by its ends, and no slot before says more.
+    /// The word of the second or the first of two blobs, in a slot of its own.
     #[inline(always)]
-    fn may_pair(&self) -> bool
-        ensures { result ≡ true → ((unpacked self.now.bits).form < 2) × ((unpacked self.now.bits).deep ≡ false) }
-    {
-        self.bits % 256 < 16 * WIDTHS
-    }
-
-    /// The word of the first of two blobs.
-    #[inline(always)]
-    pub fn first_of_pair(&self) -> Word
-        ensures { unpacked result.bits ≡ half_of false (unpacked self.now.bits) }
-    {
-        Word::new(
-            self.code() as u64,
-            self.form() % 2,
-            false,
-            self.rest() % PAIR_LIMIT,
-        )
-    }
-
-    /// The word of the second of two blobs.
-    #[inline(always)]
-    pub fn second_of_pair(&self) -> Word
-        ensures { unpacked result.bits ≡ half_of true (unpacked self.now.bits) }
+    pub fn half(&self, is_second: bool) -> Word
+        ensures { unpacked result.bits ≡ half_of is_second (unpacked self.now.bits) }
     {
         let rest = self.rest();
+        let further = if is_second { rest / PAIR_LIMIT } else { 0 };
         Word::new(
             self.code() as u64,
-            self.form() / 2 % 2,
+            SHORT,
             false,
-            rest % PAIR_LIMIT + rest / PAIR_LIMIT,
+            rest % PAIR_LIMIT + further,
         )
     }
 }

@@ -1,18 +1,23 @@
 //! [`Slot`], 40 bytes in which a directory keeps the offset and the box of a blob, or of two.
 //! Used by other crates, and here by `certified`, `directory`, `entry`, `placing` and `scans`.
-ghost use Rattle.std.specs.Prelude.{◌≡◌, ◌++◌, ◌+◌, ◌*◌, ◌/◌, ◌%◌, ◌^◌, ◌<◌, ◌≤◌, pos, ◌==◌, ◌||◌, ◌&&◌, true, false, Some, None, IfSome, option_map};
+ghost use Rattle.std.specs.Prelude.{◌≡◌, ◌++◌, ◌+ℤ◌, pos, unsigned_abs, ◌/◌, ◌*◌, ◌^◌, ◌<◌, ◌≤◌, ◌||◌, if◌then◌else◌, [], ◌∷◌, All, false, true, IfSome, None, Some, is_some, map, option_map};
+ghost use Rattle.std.specs.Int.{w32, cast_signed};
 ghost use Rattle.twkb_num.specs.Units.{IsPrecision};
+ghost use Rattle.twkb_num.specs.Varint.{IsShort};
 ghost use Rattle.twkb_head.specs.Head.{span_at};
 ghost use Rattle.twkb_head.specs.Raw.{ends_of};
-ghost use Rattle.twkb_layer.specs.Devices.Slots.{AreInner, IsJudgedByEnds, half_entry, is_pair, slot_says};
-ghost use Rattle.twkb_layer.specs.Slots.{precision_of, range_in, says_of};
-ghost use Rattle.twkb_layer.specs.Window.{is_missed, lie_apart, lie_apart_if_both};
+ghost use Rattle.twkb_head.specs.declared.raw.RawRange.{RawRange as RawRangeOf};
+ghost use Rattle.twkb_layer.specs.Devices.Slots.{IsOwn, IsShortBox, half_says, is_pair, misses_in_x_or_y, slot_says, short_ends};
+ghost use Rattle.twkb_layer.specs.Slots.{range_in, says_of, short_says};
+ghost use Rattle.twkb_layer.specs.Window.{lie_apart_if_both};
 
 use crate::raw_windows::RawWindows;
-use crate::slot_range::SlotRange;
-use crate::slot_word::{BEYOND, ENDS, PAIR, UNBOXED, WIDTHS, Word};
+use crate::short_windows::SlotWindows;
+use crate::slot_numbers::{BIAS, SlotNumbers};
+use crate::slot_word::{BEYOND, ENDS, PAIR, SHORT, WIDTHS, Word};
 use crate::window::Window;
 use std::marker::Model;
+use std::simd::prelude::*;
 use twkb_body::Span;
 use twkb_head::RawRange;
 use twkb_num::units;
@@ -22,36 +27,32 @@ pub const OFFSET_LIMIT: usize = 1 << 56;
 
 /// A slot of a directory.
 ///
-/// A box is kept in raw integers with its precision, so that a scan compares numbers of 64 bits. Its ends are kept if all its
-/// numbers are at most 2^61 from zero, and otherwise its minima and widths, as the header spells them. So a slot takes 40
-/// bytes, and an `Option<Bounds>` alone would take 176. Two blobs share a slot if their precisions are equal and 32 bits hold each
-/// end of their boxes, and if there is place for the distance between their offsets. Few layers have Z or M. These go into a slot
-/// of their own before their blob's slot, so that the other slots stay small: a scan spends its time on reading memory.
+/// A box is kept in raw integers with its precision. Most boxes have ends of 32 bits: a scan compares the four of them at once, and
+/// two such blobs share a slot if their precisions are equal and there is place for the distance between their offsets. Ends
+/// of 64 bits are kept if all numbers of the box are at most 2^61 from zero, and otherwise its minima and widths, as the header
+/// spells them. So a slot takes 40 bytes, and an `Option<Bounds>` alone would take 176. Few layers have Z or M. These go into a slot of
+/// their own before their blob's slot, so that the other slots stay small: a scan spends its time on reading memory.
 #[repr(C)]
 #[derive(Clone, Copy)]
 pub struct Slot {
     word: Word,
-    /// The range in X, or in Z.
-    first: SlotRange,
-    /// The range in Y, or in M.
-    second: SlotRange,
+    /// A box, or its range in X, or a range in Z.
+    first: SlotNumbers,
+    /// The box of a second blob, or the range in Y of the first, or a range in M.
+    second: SlotNumbers,
 }
 
 impl Model for Slot {
-    ghost use Rattle.twkb_layer.specs.Devices.Slots.{written, HasInnerEnds};
+    ghost use Rattle.twkb_layer.specs.Devices.Slots.{written, KeepsBoxes};
     ghost use Rattle.twkb_layer.specs.Slots.{Written};
 
     ghost Value = { Written };
 
     ghost view = { written };
 
-    ghost inverse = { λ w. record {
-      word = record { bits = w.word };
-      first = record { low = w.first.0; high = w.first.1 };
-      second = record { low = w.second.0; high = w.second.1 };
-    } };
+    ghost inverse = { λ w. record { word = record { bits = w.word }; first = w.first; second = w.second } };
 
-    ghost invariant = { λ s. HasInnerEnds (written s) };
+    ghost invariant = { λ s. KeepsBoxes (written s) };
 }
 
 impl Slot {
@@ -69,11 +70,7 @@ impl Slot {
         } }
         ensures alone { is_pair result ≡ false }
     {
-        Slot {
-            word: Word::new((precision + 8) as u64, UNBOXED, deep, offset as u64),
-            first: SlotRange::of((0, 0)),
-            second: SlotRange::of((0, 0)),
-        }
+        Slot::kept(precision, deep, offset, SlotNumbers::no_box())
     }
 
     /// The slot of a blob with a box, by its ranges in X and in Y. `offset` is the blob's offset modulo 2^56, and `deep` says that
@@ -91,18 +88,56 @@ impl Slot {
         } }
         ensures alone { is_pair result ≡ false }
     {
-        let code = (precision + 8) as u64;
-        match (near_ends(x), near_ends(y)) {
-            (Some(first), Some(second)) => Slot {
-                word: Word::new(code, ENDS, deep, offset as u64),
-                first: SlotRange::of(first),
-                second: SlotRange::of(second),
-            },
-            _ => Slot {
-                word: Word::new(code, WIDTHS, deep, offset as u64),
-                first: SlotRange::of((x.minimum, x.extent)),
-                second: SlotRange::of((y.minimum, y.extent)),
-            },
+        if !x.is_near() || !y.is_near() {
+            return Slot {
+                word: Word::new((precision + 8) as u64, WIDTHS, deep, offset as u64),
+                first: SlotNumbers::long((x.minimum, x.extent)),
+                second: SlotNumbers::long((y.minimum, y.extent)),
+            };
+        }
+        if let Some(ends) = SlotNumbers::short(x.ends(), y.ends()) {
+            return Slot::kept(precision, deep, offset, ends);
+        }
+        Slot {
+            word: Word::new((precision + 8) as u64, ENDS, deep, offset as u64),
+            first: SlotNumbers::long(x.ends()),
+            second: SlotNumbers::long(y.ends()),
+        }
+    }
+
+    /// The slot of a blob whose box has only X and Y, by the numbers of its box in lanes: minimum and extent in X, and then in Y.
+    #[inline(always)]
+    pub(crate) fn of_lanes(offset: usize, lanes: u32x4, precision: i8) -> Slot
+        requires offset { offset < 2 ^ 56 }
+        requires precision { IsPrecision precision }
+        requires short { All IsShort (map (cast_signed w32) lanes) }
+        ensures says { (x y : RawRangeOf)
+            → map (cast_signed w32) lanes ≡ x.minimum ∷ x.extent ∷ y.minimum ∷ y.extent ∷ []
+            → slot_says result ≡ record {
+              beyond = false;
+              deep = false;
+              offset = offset;
+              first = Some (span_at precision (ends_of x));
+              second = Some (span_at precision (ends_of y));
+            } }
+        ensures alone { is_pair result ≡ false }
+    {
+        Slot::kept(precision, false, offset, SlotNumbers::of_lanes(lanes))
+    }
+
+    /// The slot of a blob by numbers of 32 bits.
+    #[inline(always)]
+    fn kept(precision: i8, deep: bool, offset: usize, first: SlotNumbers) -> Slot
+        requires precision { IsPrecision precision }
+        requires offset { offset < 2 ^ 56 }
+        requires first { IsShortBox first }
+        ensures says { slot_says result ≡ short_says (unsigned_abs (precision +ℤ pos 8)) deep offset first }
+        ensures alone { is_pair result ≡ false }
+    {
+        Slot {
+            word: Word::new((precision + 8) as u64, SHORT, deep, offset as u64),
+            first,
+            second: SlotNumbers::no_box(),
         }
     }
 
@@ -121,30 +156,24 @@ impl Slot {
         let passed = (offset / OFFSET_LIMIT) as u64;
         Slot {
             word: Word::new(z.code, BEYOND, false, m.code + 16 * passed),
-            first: SlotRange::of(z.numbers),
-            second: SlotRange::of(m.numbers),
+            first: SlotNumbers::long(z.numbers),
+            second: SlotNumbers::long(m.numbers),
         }
     }
 
-    /// A slot that says what this slot and the next one say, if one can.
+    /// Adds the blob of the next slot to this slot, if there is place for it. Otherwise this slot stays as it is.
     #[inline(always)]
-    pub(crate) fn pair(&self, next: &Slot) -> Option<Slot>
-        ensures { IfSome result (λ slot. says_of slot ≡ says_of self.now ++ says_of next.now) }
+    pub(crate) fn takes_in(&mut self, next: &Slot) -> bool
+        ensures both { result ≡ true → says_of self.new ≡ says_of self.old ++ says_of next.now }
+        ensures same { result ≡ false → self.new ≡ self.old }
     {
-        let word = self.word.pair(&next.word)?;
-        let (first, second) = (self.first, self.second);
-        if first.is_narrow()
-            & second.is_narrow()
-            & next.first.is_narrow()
-            & next.second.is_narrow()
-        {
-            Some(Slot {
-                word,
-                first: first.beside(next.first),
-                second: second.beside(next.second),
-            })
-        } else {
-            None
+        match self.word.pair(&next.word) {
+            Some(word) => {
+                self.word = word;
+                self.second = next.first;
+                true
+            }
+            None => false,
         }
     }
 
@@ -153,53 +182,21 @@ impl Slot {
     pub(crate) fn is_pair(&self) -> bool
         ensures { result ≡ is_pair self.now }
     {
-        self.word.form() >= PAIR
+        self.word.form() == PAIR
     }
 
-    /// Where the first of two blobs begins.
+    /// The slot that the second or the first of two blobs would have alone.
     #[inline(always)]
-    pub(crate) fn first_offset(&self) -> usize
-        ensures { result ≡ (half_entry false self.now).offset }
+    pub(crate) fn half(&self, is_second: bool) -> Slot
+        requires { is_pair self.now ≡ true }
+        ensures says { slot_says result ≡ half_says is_second self.now }
+        ensures alone { is_pair result ≡ false }
     {
-        self.word.first_of_pair().rest() as usize
-    }
-
-    /// Where the second of two blobs begins.
-    #[inline(always)]
-    pub(crate) fn second_offset(&self) -> usize
-        ensures { result ≡ (half_entry true self.now).offset }
-    {
-        self.word.second_of_pair().rest() as usize
-    }
-
-    /// Whether the first of two blobs has a box, and it misses the window.
-    #[inline(always)]
-    pub(crate) fn first_misses(&self, windows: &RawWindows) -> bool
-        ensures { result ≡ is_missed windows.now (half_entry false self.now).bounds }
-    {
-        let word = self.word.first_of_pair();
-        word.form() == ENDS
-            && ends_miss(
-                windows,
-                word.code(),
-                self.first.lower(),
-                self.second.lower(),
-            )
-    }
-
-    /// Whether the second of two blobs has a box, and it misses the window.
-    #[inline(always)]
-    pub(crate) fn second_misses(&self, windows: &RawWindows) -> bool
-        ensures { result ≡ is_missed windows.now (half_entry true self.now).bounds }
-    {
-        let word = self.word.second_of_pair();
-        word.form() == ENDS
-            && ends_miss(
-                windows,
-                word.code(),
-                self.first.upper(),
-                self.second.upper(),
-            )
+        Slot {
+            word: self.word.half(is_second),
+            first: if is_second { self.second } else { self.first },
+            second: SlotNumbers::no_box(),
+        }
     }
 
     /// Whether the slot says what the next slot has no place for.
@@ -207,7 +204,7 @@ impl Slot {
     pub(crate) fn is_beyond(&self) -> bool
         ensures { result ≡ (slot_says self.now).beyond }
     {
-        self.word.form() == BEYOND
+        self.word.form() >= BEYOND
     }
 
     /// Whether the slot before this one says more of its blob.
@@ -233,28 +230,51 @@ impl Slot {
         }
     }
 
-    /// Whether the box misses the window in X or in Y, if the slot keeps the ends of a box. Otherwise `None`.
+    /// Whether the slot says a box.
     #[inline(always)]
-    pub(crate) fn misses_by_ends(&self, windows: &RawWindows) -> Option<bool>
-        ensures { IfSome result (IsJudgedByEnds windows.now (slot_says self.now)) }
+    pub(crate) fn is_boxed(&self) -> bool
+        requires { IsOwn self.now }
+        ensures first { result ≡ is_some (slot_says self.now).first }
+        ensures second { result ≡ is_some (slot_says self.now).second }
+    {
+        self.word.form() != SHORT || self.first.x_least != 0
+    }
+
+    /// Whether the box misses the window in X or in Y. Numbers of 32 bits are compared in lanes.
+    #[inline(always)]
+    pub(crate) fn misses_in_x_or_y(&self, windows: &SlotWindows) -> bool
+        ensures { result ≡ misses_in_x_or_y windows.now (slot_says self.now) }
+    {
+        if self.word.form() == SHORT {
+            windows.misses(self.word.code(), self.first)
+        } else {
+            self.misses_by_long(windows.raws())
+        }
+    }
+
+    /// Whether the box misses the window in X or in Y, by numbers of 64 bits. Ends are compared in raw integers, and widths in units.
+    #[inline(never)]
+    fn misses_by_long(&self, windows: &RawWindows) -> bool
+        ensures { result ≡ misses_in_x_or_y windows.now (slot_says self.now) }
     {
         if self.word.form() == ENDS {
-            Some(ends_miss(
-                windows,
-                self.word.code(),
-                self.first.numbers(),
-                self.second.numbers(),
-            ))
-        } else {
-            None
+            let raw = windows.at(self.word.code());
+            return raw.misses(self.first.numbers(), self.second.numbers());
         }
+        windows
+            .window()
+            .misses_in_x_or_y(self.first(), self.second())
     }
 
     /// The range in X, or in Z.
     pub(crate) fn first(&self) -> Option<Span>
         ensures { result ≡ (slot_says self.now).first }
     {
-        range_in(self.word.form(), self.word.code(), self.first.numbers())
+        let (code, first) = (self.word.code(), self.first);
+        match self.word.form() {
+            SHORT => short_range(code, first.x_least != 0, first.x_least, first.x_greatest),
+            form => range_in(form, code, self.first.numbers()),
+        }
     }
 
     /// The range in Y, or in M.
@@ -266,7 +286,13 @@ impl Slot {
         } else {
             self.word.code()
         };
-        range_in(self.word.form(), code, self.second.numbers())
+        match self.word.form() {
+            SHORT => {
+                let first = self.first;
+                short_range(code, first.x_least != 0, first.y_least, first.y_greatest)
+            }
+            form => range_in(form, code, self.second.numbers()),
+        }
     }
 
     /// Whether the ranges in Z and M that the slot says miss the window.
@@ -293,7 +319,7 @@ impl Model for Kept {
 
     ghost Value = { Option Span };
 
-    ghost view = { λ k. range_in 3 k.code k.numbers };
+    ghost view = { λ k. range_in 4 k.code k.numbers };
 
     ghost invariant = { λ k. k.code < 16 };
 }
@@ -326,15 +352,14 @@ impl Kept {
     }
 }
 
-/// Whether a box with these ends in X and in Y, and with this code of a precision, misses the window there.
-#[inline(always)]
-fn ends_miss(windows: &RawWindows, code: usize, x: (i64, i64), y: (i64, i64)) -> bool
-    requires code { code < 16 }
-    requires inner { AreInner x × AreInner y }
-    ensures { result ≡ (lie_apart (span_at (precision_of code) x) windows.now.x
-        || lie_apart (span_at (precision_of code) y) windows.now.y) }
+/// A range in 32 bits, if there is a box.
+fn short_range(code: usize, is_boxed: bool, least: u32, greatest: u32) -> Option<Span>
+    requires { code < 16 }
+    ensures { result ≡ range_in (if is_boxed then 2 else 1) code (short_ends least greatest) }
 {
-    windows.at(code).misses(x, y)
+    let form = if is_boxed { ENDS } else { PAIR };
+    let ends = (i64::from(least) - BIAS, BIAS - 1 - i64::from(greatest));
+    range_in(form, code, ends)
 }
 
 /// The range in a slot of this form, if it has one.
@@ -348,20 +373,8 @@ fn range_in(form: u64, code: usize, numbers: (i64, i64)) -> Option<Span>
             lo: units(i128::from(numbers.0), precision),
             hi: units(i128::from(numbers.1), precision),
         })
-    } else if form == WIDTHS || (form == BEYOND && code > 7) {
+    } else if form == WIDTHS || (form >= BEYOND && code > 7) {
         Some(Span::spelled(numbers.0, numbers.1, precision))
-    } else {
-        None
-    }
-}
-
-/// The ends of a range, if its numbers are at most 2^61 from zero.
-#[inline(always)]
-fn near_ends(range: RawRange) -> Option<(i64, i64)>
-    ensures { IfSome result (λ ends. AreInner ends × (ends ≡ ends_of range)) }
-{
-    if range.is_near() {
-        Some(range.ends())
     } else {
         None
     }

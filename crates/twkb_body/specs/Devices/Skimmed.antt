@@ -14,10 +14,10 @@ use Rattle.twkb_head.specs.declared.read.Begun.{Begun}
 use Rattle.twkb_head.specs.declared.raw.Fields.{Fields}
 use Rattle.twkb_head.specs.Raw.{head_said, BeginsHead}
 use Rattle.twkb_head.specs.Head.{IsHeadAt}
-use Rattle.twkb_body.specs.Standing.{StandsAt}
+use Rattle.twkb_body.specs.Standing.{StandsAt, head_standing}
 use Rattle.twkb_body.specs.Geometry.{Geometry, Members, none, more, lengths_of, member_count, vertices}
 use Rattle.twkb_body.specs.Devices.Standing.{StandAt}
-use Rattle.twkb_body.specs.Visit.{walk}
+use Rattle.twkb_body.specs.Visit.{bytes_to_pass, walk}
 
 -- a cursor and the state of a visitor
 pub record Config (S : Type 0) : Type 0 where
@@ -70,6 +70,14 @@ pub record HasRead (raw : Fields) (now : Reading) (g : Geometry) (depth : ℕ) (
   pub sound : IsSound before
   pub at : IsHeadAt (head_said raw) 1 before.place (passed before now)
   pub moved : IsMoved before now
+
+-- A certified blob, which began at the place of `before`, was passed, and its header read.
+pub record HasPassed (header : Fields) (now : Reading) (g : Geometry) (before : Reading) : Type 0 where
+  pub header_is : head_said header ≡ head_standing g before.place
+  pub bytes : now.bytes ≡ before.bytes
+  pub place : now.place ≡ before.place + (lengths_of g).whole
+  pub count : now.count ≡ added before.count (bytes_to_pass g)
+  pub few : bytes_to_pass g ≤ (lengths_of g).whole
 
 -- the axes X and Y alone, at a precision
 abbrev pub flat_axes : ℤ → Axes

@@ -5,8 +5,7 @@ use Rattle.twkb_num.specs.Units.{units_of}
 use Rattle.twkb_head.specs.declared.boxes.Span.{Span}
 use Rattle.twkb_head.specs.declared.boxes.Bounds.{Bounds}
 use Rattle.twkb_layer.specs.Window.{lie_apart_if_both}
-use Rattle.twkb_layer.specs.Devices.Slots.{IsInner}
-use Rattle.twkb_layer.specs.Slots.{precision_of}
+use Rattle.twkb_layer.specs.Devices.Slots.{IsInner, precision_of}
 use Rattle.twkb_layer.specs.declared.raw_windows.RawEnds.{RawEnds}
 use Rattle.twkb_layer.specs.declared.raw_windows.RawWindow.{RawWindow}
 

@@ -24,9 +24,21 @@ pub struct Eight {
 }
 
 impl Four {
+    /// No numbers were read.
+    #[inline(always)]
+    pub fn nothing() -> Four
+        ensures read { result.is_read ≡ false }
+        ensures zero { result.lanes ≡ replicate 4 0 }
+    {
+        Four {
+            lanes: u32x4::splat(0),
+            is_read: false,
+        }
+    }
+
     /// The four numbers, widened to 64 bits, as two pairs. A pair that is read by lanes is the first of these.
     #[inline(always)]
-    pub(super) fn two_pairs(self) -> ((i64, i64), (i64, i64))
+    pub fn two_pairs(self) -> ((i64, i64), (i64, i64))
         ensures { map (cast_signed w32) self.lanes ≡ (result.0).0 ∷ (result.0).1 ∷ (result.1).0 ∷ (result.1).1 ∷ [] }
     {
         let lanes = self.lanes.to_array();
@@ -68,10 +80,7 @@ impl<'a> Cursor<'a> {
                 };
             }
         }
-        Four {
-            lanes: u32x4::splat(0),
-            is_read: false,
-        }
+        Four::nothing()
     }
 
     /// Reads the two signed varints at the place, if each takes at most four bytes and sixteen bytes are left. Otherwise it reads

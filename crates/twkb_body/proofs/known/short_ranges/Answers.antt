@@ -1,6 +1,6 @@
 -- Two pairs of signed varints are two ranges.
-use Rattle.std.proofs.Common.{arith}
-use Rattle.std.proofs.lemmas.Int.{ints}
+use Rattle.std.proofs.Common.{ap}
+use Rattle.twkb_head.specs.declared.raw.RawRange.{RawRange}
 use Rattle.twkb_head.proofs.HeadSteps.{pair_range_held}
 use Rattle.twkb_body.proofs.known.short_ranges.Goals as goal
 
@@ -11,6 +11,6 @@ returns-clause-read c =
     let two = c.in_ok-x.ensures.some in
     record {
       between = two.0;
-      x_read = pair_range_held x.0 x.1 _ _ _ _ (omega (arith, ints)) (omega (arith, ints)) two.1 two.2;
-      y_read = pair_range_held y.0 y.1 _ _ _ _ (omega (arith, ints)) (omega (arith, ints)) two.3 two.4;
+      x_read = pair_range_held x.0 x.1 _ _ _ _ (ap (λ (r : RawRange). r.minimum) c.ranged.ensures) (ap (λ (r : RawRange). r.extent) c.ranged.ensures) two.1 two.2;
+      y_read = pair_range_held y.0 y.1 _ _ _ _ (ap (λ (r : RawRange). r.minimum) c.ranged-2.ensures) (ap (λ (r : RawRange). r.extent) c.ranged-2.ensures) two.3 two.4;
     }

@@ -137,6 +137,30 @@ fn ends_of_32_bits(rt: HostRuntime) -> Result<(), Fail> {
     Ok(())
 }
 
+/// The first number that four bytes of a varint don't spell.
+const LONG: i64 = 1 << 27;
+
+const NEAR_FOUR_BYTES: [i64; 4] = [-LONG - 1, -LONG, LONG - 1, LONG];
+
+// Boxes whose numbers are read together into lanes, or are just too long for it. Three more points follow, since no box in the
+// last 32 bytes of a layer is read so.
+#[test]
+fn numbers_of_four_bytes(rt: HostRuntime) -> Result<(), Fail> {
+    for &first in &NEAR_FOUR_BYTES {
+        for &second in &NEAR_FOUR_BYTES {
+            let points = [
+                Point::Boxed(first),
+                Point::Boxed(second),
+                Point::Boxed(1),
+                Point::Boxed(-2),
+                Point::Boxed(first),
+            ];
+            agrees(&rt, rt.alloc(), &points)?;
+        }
+    }
+    Ok(())
+}
+
 const KINDS: [Point; 5] = [
     Point::Boxed(3),
     Point::Coarse(-4),

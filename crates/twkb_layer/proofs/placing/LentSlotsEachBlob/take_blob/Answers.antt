@@ -9,10 +9,10 @@ use Rattle.twkb_layer.proofs.placing.LentSlotsEachBlob.take_blob.Goals as goal
 
 pub returns-clause-state : goal.returns-clause-state
 returns-clause-state c = λ g at.
-    let raw = c.read_and_pass-raw in
+    let passed = c.read_and_pass-passed in
     let slots = c.args.self.now in
-    let says = says_of g c.args.cursor.now.place raw.result (raw.ensures.header g at) in
-    lent_is slots.room.ghost_name _ _ (c.put-self.ensures.says ∙ ap (λ (e : Entry). entries_kept (take slots.used slots.room.now) ++ e ∷ []) (entry_read c.place-offset.result c.args.cursor.now g raw.result c.place-offset.ensures.value says))
+    let says = says_of g c.args.cursor.now.place passed.result.header (passed.ensures.header g at) in
+    lent_is slots.room.ghost_name _ _ (c.put-self.ensures.says ∙ ap (λ (e : Entry). entries_kept (take slots.used slots.room.now) ++ e ∷ []) (entry_read c.place-offset.result c.args.cursor.now g passed.result.header c.place-offset.ensures.value says))
 
 pub returns-clause-keeps : goal.returns-clause-keeps
 returns-clause-keeps c = λ before many kept.

@@ -4,17 +4,13 @@ use Rattle.twkb_layer.specs.Devices.Slots.{Packed, says_by}
 use Rattle.twkb_layer.specs.Slots.{range_in}
 use Rattle.twkb_layer.proofs.slots.Slot.beyond.Goals as goal
 
-pub invariant_of-result : goal.invariant_of-result
-invariant_of-result c =
-    let form = ap (λ (word : Packed). word.form) c.new.ensures in
-    record { first = λ near. absurd (omega (arith, near, form)); second = λ near. absurd (omega (arith, near, form)) }
-
 pub returns-clause-says : goal.returns-clause-says
 returns-clause-says c =
     let m = c.m.inside in
     let rest : ℕ = m.code + 16 * (c.args.offset / 2 ^ 56) in
     let passed : rest / 16 % 256 ≡ c.args.offset / 2 ^ 56 = omega (arith, c.m.invariant, c.ranges.offset) in
     let code : rest % 16 ≡ m.code = omega (arith, c.m.invariant) in
-    let second = ap (λ (code : ℕ). range_in 3 code m.numbers) code ∙ c.m.view_is in
-    (λ j. says_by (c.new.ensures j) (c.of.ensures j) (c.of-2.ensures j))
-    ∙ (λ j. record { beyond = true; deep = false; offset = passed j * 2 ^ 56; first = c.z.view_is j; second = second j })
+    let first = ap (range_in 4 c.z.inside.code) c.long.ensures ∙ c.z.view_is in
+    let second = (λ j. range_in 4 (code j) (c.long-2.ensures j)) ∙ c.m.view_is in
+    ap (λ (word : Packed). says_by word c.long.result c.long-2.result) c.new.ensures
+    ∙ (λ j. record { beyond = true; deep = false; offset = passed j * 2 ^ 56; first = first j; second = second j })

@@ -1,0 +1,136 @@
+//! [`SlotNumbers`], what a directory's slot keeps of a box: four numbers of 32 bits, or two of 64.
+//! Used by `short_windows` and `slots`.
+ghost use Rattle.std.specs.Prelude.{◌≡◌, ◌+◌, ◌*◌, ◌^◌, ◌+ℤ◌, ◌-ℤ◌, pos, [], ◌∷◌, All, IfSome, map};
+ghost use Rattle.std.specs.Int.{w32, w64, cast_signed};
+ghost use Rattle.twkb_num.specs.Varint.{IsShort};
+ghost use Rattle.twkb_head.specs.Raw.{ends_of};
+ghost use Rattle.twkb_head.specs.declared.raw.RawRange.{RawRange};
+ghost use Rattle.twkb_layer.specs.Devices.Slots.{AreShort, IsBetween, box_ends, no_box};
+ghost use Rattle.twkb_layer.specs.Slots.{long};
+
+use std::simd::prelude::*;
+
+/// How many numbers 32 bits have.
+const HALF: u64 = 1 << 32;
+
+/// What is added to a number, so that no number of 32 bits is below zero.
+pub const BIAS: i64 = 1 << 31;
+
+/// Four numbers of 32 bits, by which a slot keeps the ends of a box in X and in Y. 2^31 is added to the least ones, and the greatest are
+/// subtracted from 2^31 - 1, so that a box meets a window if no number is above a limit.
+///
+/// Or two numbers of 64 bits: the first two fields are the lower and the upper 32 bits of one, and the last two of the other.
+#[repr(C)]
+#[derive(Clone, Copy)]
+pub struct SlotNumbers {
+    pub x_least: u32,
+    pub y_least: u32,
+    pub x_greatest: u32,
+    pub y_greatest: u32,
+}
+
+impl SlotNumbers {
+    /// What a slot keeps of a blob without a box.
+    #[inline(always)]
+    pub fn no_box() -> SlotNumbers
+        ensures { result ≡ no_box }
+    {
+        SlotNumbers {
+            x_least: 0,
+            y_least: 0,
+            x_greatest: 0,
+            y_greatest: 0,
+        }
+    }
+
+    /// The ends of a box, if each is between the least and the greatest number of 32 bits.
+    #[inline(always)]
+    pub fn short(x: (i64, i64), y: (i64, i64)) -> Option<SlotNumbers>
+        ensures { IfSome result (λ n. AreShort n × (box_ends n ≡ (x, y))) }
+    {
+        let (x_least, y_least) = (biased(x.0)?, biased(y.0)?);
+        let (x_greatest, y_greatest) = (biased(x.1)?, biased(y.1)?);
+        Some(SlotNumbers {
+            x_least,
+            y_least,
+            x_greatest: u32::MAX - x_greatest,
+            y_greatest: u32::MAX - y_greatest,
+        })
+    }
+
+    /// The ends of a box by its numbers in lanes: minimum and extent in X, and then in Y.
+    #[inline(always)]
+    pub fn of_lanes(four: u32x4) -> SlotNumbers
+        requires { All IsShort (map (cast_signed w32) four) }
+        ensures short { AreShort result }
+        ensures ends { (x y : RawRange)
+            → map (cast_signed w32) four ≡ x.minimum ∷ x.extent ∷ y.minimum ∷ y.extent ∷ []
+            → box_ends result ≡ (ends_of x, ends_of y) }
+    {
+        let zeros = u32x4::splat(0);
+        let least = four.shuffle(zeros, [0, 2, 4, 4]);
+        let minima = four.shuffle(zeros, [4, 4, 0, 2]);
+        let extents = four.shuffle(zeros, [4, 4, 1, 3]);
+        let biases = u32x4::from_array([1 << 31, 1 << 31, (1 << 31) - 1, (1 << 31) - 1]);
+        let kept = (biases + least - minima - extents).to_array();
+        SlotNumbers {
+            x_least: kept[0],
+            y_least: kept[1],
+            x_greatest: kept[2],
+            y_greatest: kept[3],
+        }
+    }
+
+    /// Two numbers of 64 bits.
+    #[inline(always)]
+    pub fn long(numbers: (i64, i64)) -> SlotNumbers
+        ensures { long result ≡ numbers }
+    {
+        let (first, second) = (numbers.0.cast_unsigned(), numbers.1.cast_unsigned());
+        SlotNumbers {
+            x_least: (first % HALF) as u32,
+            y_least: (first / HALF) as u32,
+            x_greatest: (second % HALF) as u32,
+            y_greatest: (second / HALF) as u32,
+        }
+    }
+
+    /// The two numbers of 64 bits.
+    #[inline(always)]
+    pub fn numbers(self) -> (i64, i64)
+        ensures { result ≡ long self }
+    {
+        (
+            joined(self.x_least, self.y_least),
+            joined(self.x_greatest, self.y_greatest),
+        )
+    }
+
+    /// The four numbers of 32 bits in lanes.
+    #[inline(always)]
+    pub fn lanes(self) -> u32x4
+        ensures { result ≡ self.x_least ∷ self.y_least ∷ self.x_greatest ∷ self.y_greatest ∷ [] }
+    {
+        u32x4::from_array([self.x_least, self.y_least, self.x_greatest, self.y_greatest])
+    }
+}
+
+/// A number with 2^31 added, if it is between the least and the greatest number of 32 bits.
+#[inline(always)]
+fn biased(number: i64) -> Option<u32>
+    ensures { IfSome result (λ kept. IsBetween number × (pos kept ≡ number +ℤ pos (2 ^ 31))) }
+{
+    if -BIAS < number && number < BIAS - 1 {
+        Some((number + BIAS) as u32)
+    } else {
+        None
+    }
+}
+
+/// The number of 64 bits with these lower and upper 32 bits.
+#[inline(always)]
+fn joined(lower: u32, upper: u32) -> i64
+    ensures { result ≡ cast_signed w64 (lower + 2 ^ 32 * upper) }
+{
+    (u64::from(lower) + HALF * u64::from(upper)).cast_signed()
+}
