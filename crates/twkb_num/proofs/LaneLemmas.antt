@@ -1,15 +1,16 @@
 -- Two rows, one after the other, and their lanes.
-use Rattle.std.proofs.Common.{◌≡◌, ℕ, ℤ, zero, suc, ◌+◌, ◌-◌, ◌*◌, ◌/◌, ◌%◌, ◌<◌, ◌≤◌, ◌^◌, true, eqb, ltb, refl, sym, ap, ◌∙◌, subst, List, [], ◌∷◌, ◌++◌, map, length, take, drop, get_or, arith, inl, inr}
+use Rattle.std.proofs.Common.{◌≡◌, ℕ, ℤ, zero, suc, ◌+◌, ◌-◌, ◌*◌, ◌/◌, ◌%◌, ◌<◌, ◌≤◌, ◌^◌, true, eqb, ltb, refl, sym, ap, ◌∙◌, subst, List, [], ◌∷◌, ◌++◌, map, length, take, drop, get_or, arith, inl, inr, Fits, w8}
 use Rattle.std.proofs.lemmas.Bool.{eqb-true, ltb-true, lt-ltb, cond-true, or_cases}
 use Rattle.std.proofs.lemmas.List.{take-take, get_or-take, get_or-drop, append_assoc}
 use Rattle.std.proofs.lemmas.Nat.{shr-shr}
-use Rattle.std.proofs.lemmas.Simd.{pick_l_whole, get_or_wider, Each1-from_get_or}
+use Rattle.std.proofs.lemmas.Simd.{pick_l_whole, get_or_wider, Each1-get_or, below_from_Fits}
 use Rattle.std.proofs.Math.Seq.{take-add}
-use lib.Lanes.{number_l, digits_l}
+use lib.Lanes.{number_l, digits_l, Each1}
 use Rattle.twkb_num.specs.Varint.{SpellsAll, SpellsAllSigned, zigzag_value}
-use Rattle.twkb_num.specs.Devices.Lanes.{two_groups, four_groups, value_at, values, IsTops, IsFlag}
+use Rattle.twkb_num.specs.Devices.Lanes.{value_at, values, IsTops, IsFlag}
 use Rattle.twkb_num.specs.declared.tables.narrow.TheConstants.{NARROW_PLACES, NARROW_LEN}
 use Rattle.twkb_num.specs.declared.tables.wide.TheConstants.{WIDE_PLACES, WIDE_LEN}
+use Rattle.twkb_num.proofs.LaneLaws.{two_groups, four_groups}
 use Rattle.twkb_num.proofs.TableLaws.{is_flag, row_ok, wide_rows, narrow_rows, wide_flags, narrow_flags}
 use Rattle.twkb_num.proofs.RowSpells.{IsPicked, row_holds}
 
@@ -133,12 +134,13 @@ narrow_lane : (a b : ℕ) → a < 256 → b < 256 → two_groups (a + 256 * (b +
 narrow_lane a b in_a in_b = omega (arith, in_a, in_b)
 
 -- four lanes of four bytes
-pub wide_lanes : (bytes : List ℕ) → length bytes ≡ 16 → ((i : ℕ) → i < 16 → get_or bytes i 0 < 256) → map four_groups (digits_l 4294967296 4 (number_l 256 bytes)) ≡ values 4 4 bytes 0
-wide_lanes bytes long fit =
-    let fits = Each1-from_get_or (λ x. x < 256) bytes 0 (λ i h. fit i (omega (arith, h, long))) in
+pub wide_lanes : (bytes : List ℕ) → length bytes ≡ 16 → Each1 (Fits w8) bytes → map four_groups (digits_l 4294967296 4 (number_l 256 bytes)) ≡ values 4 4 bytes 0
+wide_lanes bytes long fits =
+    let below = below_from_Fits w8 bytes fits in
+    let fit = λ (i : ℕ) (h : i < 16). Each1-get_or (λ x. x < 256) bytes i 0 (omega (arith, h, long)) below in
     let listed = sym (pick_l_whole 0 bytes 16 long) in
     let g = λ (i : ℕ). get_or bytes i 0 in
-    let lane = λ (j : ℕ) (h : j < 4). get_or_wider 256 4 4294967296 4 bytes j refl fits h ∙ ap (λ l. number_l 256 (take 4 (drop (4 * j) l))) listed in
+    let lane = λ (j : ℕ) (h : j < 4). get_or_wider 256 4 4294967296 4 bytes j refl below h ∙ ap (λ l. number_l 256 (take 4 (drop (4 * j) l))) listed in
     cons_same _ _ _ _ (ap four_groups (lane 0 (omega arith)) ∙ wide_lane (g 0) (g 1) (g 2) (g 3) (fit 0 (omega arith)) (fit 1 (omega arith)) (fit 2 (omega arith)) (fit 3 (omega arith)))
     (cons_same _ _ _ _ (ap four_groups (lane 1 (omega arith)) ∙ wide_lane (g 4) (g 5) (g 6) (g 7) (fit 4 (omega arith)) (fit 5 (omega arith)) (fit 6 (omega arith)) (fit 7 (omega arith)))
     (cons_same _ _ _ _ (ap four_groups (lane 2 (omega arith)) ∙ wide_lane (g 8) (g 9) (g 10) (g 11) (fit 8 (omega arith)) (fit 9 (omega arith)) (fit 10 (omega arith)) (fit 11 (omega arith)))
@@ -156,12 +158,13 @@ pair_spelled bytes v lanes len zs others x y v_is flag short spelled means is =
     subst (λ (p : ℤ × ℤ). SpellsAllSigned (take len bytes) (p.0 ∷ p.1 ∷ [])) (λ j. (sym first j, sym second j)) all
 
 -- eight lanes of two bytes
-pub narrow_lanes : (bytes : List ℕ) → length bytes ≡ 16 → ((i : ℕ) → i < 16 → get_or bytes i 0 < 256) → map two_groups (digits_l 65536 8 (number_l 256 bytes)) ≡ values 2 8 bytes 0
-narrow_lanes bytes long fit =
-    let fits = Each1-from_get_or (λ x. x < 256) bytes 0 (λ i h. fit i (omega (arith, h, long))) in
+pub narrow_lanes : (bytes : List ℕ) → length bytes ≡ 16 → Each1 (Fits w8) bytes → map two_groups (digits_l 65536 8 (number_l 256 bytes)) ≡ values 2 8 bytes 0
+narrow_lanes bytes long fits =
+    let below = below_from_Fits w8 bytes fits in
+    let fit = λ (i : ℕ) (h : i < 16). Each1-get_or (λ x. x < 256) bytes i 0 (omega (arith, h, long)) below in
     let listed = sym (pick_l_whole 0 bytes 16 long) in
     let g = λ (i : ℕ). get_or bytes i 0 in
-    let lane = λ (j : ℕ) (h : j < 8). get_or_wider 256 2 65536 8 bytes j refl fits h ∙ ap (λ l. number_l 256 (take 2 (drop (2 * j) l))) listed in
+    let lane = λ (j : ℕ) (h : j < 8). get_or_wider 256 2 65536 8 bytes j refl below h ∙ ap (λ l. number_l 256 (take 2 (drop (2 * j) l))) listed in
     cons_same _ _ _ _ (ap two_groups (lane 0 (omega arith)) ∙ narrow_lane (g 0) (g 1) (fit 0 (omega arith)) (fit 1 (omega arith)))
     (cons_same _ _ _ _ (ap two_groups (lane 1 (omega arith)) ∙ narrow_lane (g 2) (g 3) (fit 2 (omega arith)) (fit 3 (omega arith)))
     (cons_same _ _ _ _ (ap two_groups (lane 2 (omega arith)) ∙ narrow_lane (g 4) (g 5) (fit 4 (omega arith)) (fit 5 (omega arith)))

@@ -2,7 +2,7 @@
 ghost use Rattle.std.specs.Prelude.{◌≡◌, ◌+◌, ◌<◌, ◌≤◌, ◌/◌, ◌%◌, ◌^◌, ℕ, ℤ, List, [], ◌∷◌, map, slice_index, take, All};
 ghost use Rattle.std.specs.Int.{w16, w32, cast_signed};
 ghost use Rattle.twkb_num.specs.Varint.{zigzag_value, SpellsAll, SpellsAllSigned, IsShort, IsBrief, HasLong};
-ghost use Rattle.twkb_num.specs.Devices.Lanes.{two_groups, four_groups, ones_if_odd, byte_or_zero, IsTops, IsFlag, values};
+ghost use Rattle.twkb_num.specs.Devices.Lanes.{byte_or_zero, IsTops, IsFlag, values};
 
 use crate::tables::{narrow_len, narrow_places, wide_len, wide_places};
 use std::simd::prelude::*;
@@ -164,7 +164,13 @@ fn meant_wide(groups: u8x16) -> u32x4
     ensures short { All IsShort (map (cast_signed w32) result) }
 {
     let lanes = u32x4::from_le_bytes(groups);
-    halves_wide(lanes) ^ signs_wide(lanes)
+    // The number of each two bytes, doubled: the lower group, added once more, moves up next to the other.
+    let twice = (lanes & u32x4::splat(0x7f7f_7f7f)) + (lanes & u32x4::splat(0x007f_007f));
+    let half = ((twice >> u32x4::splat(2)) & u32x4::splat(0x1fff))
+        + ((twice >> u32x4::splat(4)) & u32x4::splat(0x07ff_e000));
+    // The bit is also the lowest of `lanes`, but to test it there takes one instruction more.
+    let odd = (twice & u32x4::splat(2)).simd_eq(u32x4::splat(2));
+    odd.select(!half, half)
 }
 
 /// What the groups of each lane's two bytes mean by zigzag, in two's complement.
@@ -174,42 +180,10 @@ fn meant_narrow(groups: u8x16) -> u16x8
     ensures brief { All IsBrief (map (cast_signed w16) result) }
 {
     let lanes = u16x8::from_le_bytes(groups);
-    halves_narrow(lanes) ^ signs_narrow(lanes)
-}
-
-/// Half of the number that the groups of seven bits of each lane's four bytes make, rounded down.
-#[inline(always)]
-fn halves_wide(v: u32x4) -> u32x4
-    ensures { result ≡ map (λ n. four_groups n / 2) v }
-{
-    // Each two bytes as twice the number of their groups: added once more, the lower group moves up to the other.
-    let twice = (v & u32x4::splat(0x7f7f_7f7f)) + (v & u32x4::splat(0x007f_007f));
-    ((twice >> u32x4::splat(2)) & u32x4::splat(0x1fff))
-        + ((twice >> u32x4::splat(4)) & u32x4::splat(0x07ff_e000))
-}
-
-/// Half of the number that the groups of seven bits of each lane's two bytes make, rounded down.
-#[inline(always)]
-fn halves_narrow(v: u16x8) -> u16x8
-    ensures { result ≡ map (λ n. two_groups n / 2) v }
-{
-    // Twice the number: added once more, the lower group moves up to the other.
-    let twice = (v & u16x8::splat(0x7f7f)) + (v & u16x8::splat(0x7f));
-    twice >> u16x8::splat(2)
-}
-
-/// All bits of each odd lane, and none of an even one: by zigzag, odd numbers are the negative ones.
-#[inline(always)]
-fn signs_wide(v: u32x4) -> u32x4
-    ensures { result ≡ map (ones_if_odd 32) v }
-{
-    u32x4::splat(0) - (v & u32x4::splat(1))
-}
-
-/// All bits of each odd lane, and none of an even one: by zigzag, odd numbers are the negative ones.
-#[inline(always)]
-fn signs_narrow(v: u16x8) -> u16x8
-    ensures { result ≡ map (ones_if_odd 16) v }
-{
-    u16x8::splat(0) - (v & u16x8::splat(1))
+    // The number, doubled: the lower group, added once more, moves up next to the other.
+    let twice = (lanes & u16x8::splat(0x7f7f)) + (lanes & u16x8::splat(0x7f));
+    let half = twice >> u16x8::splat(2);
+    // The bit is also the lowest of `lanes`, but to test it there takes one instruction more.
+    let odd = (twice & u16x8::splat(2)).simd_eq(u16x8::splat(2));
+    odd.select(!half, half)
 }

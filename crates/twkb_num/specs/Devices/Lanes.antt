@@ -1,18 +1,6 @@
 -- Devices of proofs: nothing public names them.
 -- Varints in the lanes of vectors.
-use Rattle.std.specs.Prelude.{◌≡◌, ℕ, zero, suc, ◌+◌, ◌-◌, ◌*◌, ◌/◌, ◌%◌, ◌^◌, ◌<◌, ◌≤◌, if◌then◌else◌, nat_lt, List, [], ◌∷◌, slice_index, ◌⊎◌}
-
--- the groups of seven bits of two bytes, joined
-abbrev pub two_groups : ℕ → ℕ
-two_groups n = n % 128 + n / 256 % 128 * 128
-
--- the groups of seven bits of four bytes, joined
-abbrev pub four_groups : ℕ → ℕ
-four_groups n = n % 128 + n / 256 % 128 * 128 + n / 65536 % 128 * 16384 + n / 16777216 % 128 * 2097152
-
--- that many bits, all of them set for an odd number and none for an even one
-abbrev pub ones_if_odd : ℕ → ℕ → ℕ
-ones_if_odd bits n = n % 2 * (2 ^ bits - 1)
+use Rattle.std.specs.Prelude.{◌≡◌, ℕ, zero, suc, ◌+◌, ◌*◌, ◌/◌, ◌%◌, ◌^◌, ◌<◌, ◌≤◌, if◌then◌else◌, nat_lt, List, [], ◌∷◌, slice_index, ◌⊎◌}
 
 -- the byte at a place of sixteen, or zero at a place from 128 on
 abbrev pub byte_or_zero : List ℕ → ℕ → ℕ
