@@ -43,7 +43,7 @@ pub fn read_and_skim<V: Visit>(cursor: &mut Cursor, visitor: &mut V) -> Fields
     raw
 }
 
-/// The header of a blob, and the numbers of its box in lanes, if they were read so.
+/// The header of a blob, and the numbers of its box in lanes, if they were read into lanes.
 #[derive(Drop)]
 pub struct Passed {
     pub header: Fields,

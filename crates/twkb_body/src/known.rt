@@ -43,7 +43,7 @@ pub fn short_ranges(cursor: &mut Cursor) -> Option<(RawRange, RawRange)>
     Some((ranged(x), ranged(y)))
 }
 
-/// Reads the ranges of X and Y: together, if their four numbers are short and 32 bytes are left, and then it returns them in lanes too.
+/// Reads the ranges of X and Y. If their four numbers are short and 32 bytes are left, it reads them together and returns them in lanes too.
 #[inline(always)]
 pub fn lane_box(cursor: &mut Cursor) -> (Four, RawRange, RawRange)
     requires { HasFlatBox cursor.old }

@@ -82,8 +82,8 @@ pub fn put_slots(room: &mut [Slot], cursor: &mut Cursor) -> usize
     slots.used
 }
 
-/// Puts the slots of a blob that begins at the offset with this header after the `used` ones of the room, or its slot and the last
-/// one into one. Returns how many are used then.
+/// Puts the slots of a blob that begins at the offset with this header after the `used` ones of the room, or adds the blob to the last
+/// of them, if that has place for it. Returns how many are used then.
 #[inline(always)]
 fn put(room: &mut [Slot], used: usize, offset: usize, passed: &Passed) -> usize
     requires axes { HavePrecisions passed.now.header.axes }
@@ -128,7 +128,7 @@ fn put_one(room: &mut [Slot], used: usize, own: Slot) -> usize
     used + 1
 }
 
-/// Pushes the slots of a blob that begins at the offset with this header, or puts its slot and the last one into one.
+/// Pushes the slots of a blob that begins at the offset with this header, or adds the blob to the last slot, if that has place for it.
 #[inline(always)]
 fn push<A: Allocator>(slots: &mut Vec<Slot, A>, offset: usize, passed: &Passed)
     requires axes { HavePrecisions passed.now.header.axes }
@@ -167,7 +167,7 @@ fn push_one<A: Allocator>(slots: &mut Vec<Slot, A>, own: Slot)
     }
 }
 
-/// Adds the blob of a slot to the last slot, if there is one, and it has place for it.
+/// Adds the blob of a slot to the last slot, if there is one and it has place for it. Returns whether it did.
 #[inline(always)]
 fn takes_in(slots: &mut [Slot], own: &Slot) -> bool
     ensures both { result ≡ true → entries_kept slots.new ≡ entries_kept (slots.old ++ own.now ∷ []) }
@@ -180,7 +180,7 @@ fn takes_in(slots: &mut [Slot], own: &Slot) -> bool
     }
 }
 
-/// The slot of a blob whose box was read into lanes. `None` if it wasn't, or the blob begins beyond the reach of a slot.
+/// The slot of a blob whose box was read into lanes. `None` if it wasn't, or if the offset of the blob is 2^56 or more.
 // Most blobs with a box are such, and go to their slot by a path of their own, in which the compiler keeps the box in lanes.
 #[inline(always)]
 fn lane_slot(offset: usize, passed: &Passed) -> Option<Slot>

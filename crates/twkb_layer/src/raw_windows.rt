@@ -88,7 +88,7 @@ pub struct RawWindow {
 }
 
 impl RawWindow {
-    /// What [`fill_raws`] replaces.
+    /// A placeholder, until [`fill_raws`] replaces it.
     #[inline(always)]
     pub fn nowhere() -> RawWindow {
         let nowhere = RawEnds {

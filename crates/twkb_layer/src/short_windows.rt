@@ -17,7 +17,7 @@ pub struct ShortWindow {
 }
 
 impl ShortWindow {
-    /// What [`fill_shorts`] replaces.
+    /// A placeholder, until [`fill_shorts`] replaces it.
     #[inline(always)]
     pub fn nowhere() -> ShortWindow {
         ShortWindow {
@@ -110,7 +110,7 @@ impl<'r, 'w> SlotWindows<'r, 'w> {
         self.raws
     }
 
-    /// Whether a box with these ends, at the precision of the code, misses the window in X or in Y.
+    /// Whether a box with these numbers, at the precision of the code, misses the window in X or in Y. A blob without a box misses none.
     #[inline(always)]
     pub fn misses(&self, code: usize, numbers: SlotNumbers) -> bool
         requires code { code < 16 }

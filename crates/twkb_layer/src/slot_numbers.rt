@@ -10,7 +10,7 @@ ghost use Rattle.twkb_layer.specs.Slots.{long};
 
 use std::simd::prelude::*;
 
-/// How many numbers 32 bits have.
+/// 2^32, which divides a number of 64 bits into its halves.
 const HALF: u64 = 1 << 32;
 
 /// What is added to a number, so that no number of 32 bits is below zero.

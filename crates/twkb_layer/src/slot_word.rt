@@ -8,7 +8,7 @@ pub const SHORT: u64 = 0;
 pub const PAIR: u64 = 1;
 /// A slot of a blob whose box is kept by its ends.
 pub const ENDS: u64 = 2;
-/// A slot of a blob whose box is kept by least numbers and widths.
+/// A slot of a blob whose box is kept by its minima and widths.
 pub const WIDTHS: u64 = 3;
 /// A slot of what the next slot has no place for.
 pub const BEYOND: u64 = 4;
