@@ -117,19 +117,18 @@ module _ {S : Type 0} (of : Found → S) (w : Bounds) (bytes : List ℕ) (count0
   }
 
   -- the slot of this number, and the slots after it
-  pub slot_next : (beyond : Said) (slots : List Written) (at : ℕ) (count blob found : ℕ) (room : List S) → Looking beyond (flat_map says_of (drop at slots)) count blob found room
-      → (slot : Written) → slot ≡ get_or slots at slot → at < length slots → Looking beyond (says_of slot ++ flat_map says_of (drop (at + 1) slots)) count blob found room
-  slot_next beyond slots at count blob found room s slot is lt =
-      subst (λ ls. Looking beyond (flat_map says_of ls) count blob found room) (drop_more slots at slot lt ∙ ap (λ (l : Written). l ∷ drop (at + 1) slots) (sym is)) s
+  module _ (beyond : Said) (slots : List Written) (at : ℕ) (count blob found : ℕ) (room : List S) (s : Looking beyond (flat_map says_of (drop at slots)) count blob found room)
+      (slot : Written) (is : slot ≡ get_or slots at slot) (lt : at < length slots) where
+    slot_next : Looking beyond (says_of slot ++ flat_map says_of (drop (at + 1) slots)) count blob found room
+    slot_next =
+        subst (λ ls. Looking beyond (flat_map says_of ls) count blob found room) (drop_more slots at slot lt ∙ ap (λ (l : Written). l ∷ drop (at + 1) slots) (sym is)) s
 
-  -- what a slot says, if it isn't of two blobs, and if it is
-  pub one_next : (beyond : Said) (slot : Written) (more : List Said) (count blob found : ℕ) (room : List S) → Looking beyond (says_of slot ++ more) count blob found room → false ≡ is_pair slot → Looking beyond (slot_says slot ∷ more) count blob found room
-  one_next beyond slot more count blob found room s alone =
-      subst (λ ls. Looking beyond (ls ++ more) count blob found room) (says_alone slot (sym alone)) s
+    -- what the slot says, if it isn't of two blobs, and if it is
+    pub one_next : false ≡ is_pair slot → Looking beyond (slot_says slot ∷ flat_map says_of (drop (at + 1) slots)) count blob found room
+    one_next alone = subst (λ ls. Looking beyond (ls ++ flat_map says_of (drop (at + 1) slots)) count blob found room) (says_alone slot (sym alone)) slot_next
 
-  pub two_next : (beyond : Said) (slot : Written) (more : List Said) (count blob found : ℕ) (room : List S) → Looking beyond (says_of slot ++ more) count blob found room → true ≡ is_pair slot → Looking beyond (half_says false slot ∷ half_says true slot ∷ more) count blob found room
-  two_next beyond slot more count blob found room s pair =
-      subst (λ ls. Looking beyond (ls ++ more) count blob found room) (says_two slot (sym pair)) s
+    pub two_next : true ≡ is_pair slot → Looking beyond (half_says false slot ∷ half_says true slot ∷ flat_map says_of (drop (at + 1) slots)) count blob found room
+    two_next pair = subst (λ ls. Looking beyond (ls ++ flat_map says_of (drop (at + 1) slots)) count blob found room) (says_two slot (sym pair)) slot_next
 
   module _ (beyond slot : Said) (slots : List Said) (count blob found : ℕ) (room : List S) (s : Looking beyond (slot ∷ slots) count blob found room) (e : Entry) where
     here_of : e ≡ entry_with beyond slot → false ≡ slot.beyond → Here s.rest bytes s.place beyond slots blob e

@@ -13,7 +13,7 @@ use std::simd::prelude::*;
 /// 2^32, which divides a number of 64 bits into its halves.
 const HALF: u64 = 1 << 32;
 
-/// What is added to a number, so that no number of 32 bits is below zero.
+/// 2^31, which is added to the end of a box or of a window: an end of 32 bits is then at least 0, and fits a `u32`.
 pub const BIAS: i64 = 1 << 31;
 
 /// Four numbers of 32 bits, by which a slot keeps the ends of a box in X and in Y. 2^31 is added to the least ones, and the greatest are

@@ -1,9 +1,9 @@
 -- Each turn remembers one more slot, or looks at the blob or at the two blobs of one.
-use Rattle.std.proofs.Common.{◌≡◌, ◌+◌, false, true, drop, flat_map, refl, ap, sym, ◌∙◌, arith}
+use Rattle.std.proofs.Common.{◌≡◌, ◌+◌, false, true, refl, ap, sym, ◌∙◌, arith}
 use Rattle.twkb_layer.specs.Devices.Slots.{slot_says}
-use Rattle.twkb_layer.specs.Slots.{Said, entry_with, says_of}
+use Rattle.twkb_layer.specs.Slots.{Said, entry_with}
 use Rattle.twkb_layer.proofs.EachBlob.{walk_adds}
-use Rattle.twkb_layer.proofs.Looking.{half_own, look_begins, look_beyond, look_ends, look_past, one_next, slot_fits, slot_next, slot_stands, two_next}
+use Rattle.twkb_layer.proofs.Looking.{half_own, look_begins, look_beyond, look_ends, look_past, one_next, slot_fits, slot_stands, two_next}
 use Rattle.twkb_layer.proofs.scans.look_at_slots.Goals as goal
 use Rattle.twkb_layer.proofs.scans.look_at_slots.Goals.{then-is_pair, else-is_pair+then-is_beyond, else-is_pair+else-is_beyond}
 
@@ -23,9 +23,7 @@ pub look_at-requires-clause-stands : goal.look_at-requires-clause-stands
 look_at-requires-clause-stands g c =
     let inv = c.loop-slot.invariant in
     let slot = c.slot-item.result in
-    let more = flat_map says_of (drop (c.loop-slot.slot-index + 1) c.args.slots.now) in
-    let s = slot_next g.R.FromFound.of _ _ _ _ _ _ _ _ _ _ _ inv.going slot c.slot-item.is c.loop-slot-test.true in
-    let p = two_next g.R.FromFound.of _ _ _ _ _ slot more _ _ _ _ s c.if-is_pair.ensures in
+    let p = two_next g.R.FromFound.of _ _ _ _ _ _ _ _ _ _ _ inv.going slot c.slot-item.is c.loop-slot-test.true c.if-is_pair.ensures in
     let first = c.new-entry.ensures ∙ ap (entry_with (slot_says c.loop-slot.beyond.now)) c.half-first.ensures.says in
     slot_stands g.R.FromFound.of _ _ _ _ p inv.bytes first (half_own false slot)
 
@@ -33,9 +31,7 @@ pub look_at-requires-clause-fits : goal.look_at-requires-clause-fits
 look_at-requires-clause-fits g c =
     let inv = c.loop-slot.invariant in
     let slot = c.slot-item.result in
-    let more = flat_map says_of (drop (c.loop-slot.slot-index + 1) c.args.slots.now) in
-    let s = slot_next g.R.FromFound.of _ _ _ _ _ _ _ _ _ _ _ inv.going slot c.slot-item.is c.loop-slot-test.true in
-    let p = two_next g.R.FromFound.of _ _ _ _ _ slot more _ _ _ _ s c.if-is_pair.ensures in
+    let p = two_next g.R.FromFound.of _ _ _ _ _ _ _ _ _ _ _ inv.going slot c.slot-item.is c.loop-slot-test.true c.if-is_pair.ensures in
     let first = c.new-entry.ensures ∙ ap (entry_with (slot_says c.loop-slot.beyond.now)) c.half-first.ensures.says in
     omega (arith, (slot_fits g.R.FromFound.of _ _ _ _ p inv.bytes first (half_own false slot)).1)
 
@@ -48,9 +44,7 @@ pub overflow_add-blob : goal.overflow_add-blob
 overflow_add-blob g c =
     let inv = c.loop-slot.invariant in
     let slot = c.slot-item.result in
-    let more = flat_map says_of (drop (c.loop-slot.slot-index + 1) c.args.slots.now) in
-    let s = slot_next g.R.FromFound.of _ _ _ _ _ _ _ _ _ _ _ inv.going slot c.slot-item.is c.loop-slot-test.true in
-    let p = two_next g.R.FromFound.of _ _ _ _ _ slot more _ _ _ _ s c.if-is_pair.ensures in
+    let p = two_next g.R.FromFound.of _ _ _ _ _ _ _ _ _ _ _ inv.going slot c.slot-item.is c.loop-slot-test.true c.if-is_pair.ensures in
     let first = c.new-entry.ensures ∙ ap (entry_with (slot_says c.loop-slot.beyond.now)) c.half-first.ensures.says in
     omega (arith, (slot_fits g.R.FromFound.of _ _ _ _ p inv.bytes first (half_own false slot)).0, inv.small)
 
@@ -58,9 +52,7 @@ pub look_at-requires-then-is_pair-clause-stands : goal.look_at-requires-then-is_
 look_at-requires-then-is_pair-clause-stands g c =
     let inv = c.loop-slot.invariant in
     let slot = c.slot-item.result in
-    let more = flat_map says_of (drop (c.loop-slot.slot-index + 1) c.args.slots.now) in
-    let s = slot_next g.R.FromFound.of _ _ _ _ _ _ _ _ _ _ _ inv.going slot c.slot-item.is c.loop-slot-test.true in
-    let p = two_next g.R.FromFound.of _ _ _ _ _ slot more _ _ _ _ s c.if-is_pair.ensures in
+    let p = two_next g.R.FromFound.of _ _ _ _ _ _ _ _ _ _ _ inv.going slot c.slot-item.is c.loop-slot-test.true c.if-is_pair.ensures in
     let first = c.new-entry.ensures ∙ ap (entry_with (slot_says c.loop-slot.beyond.now)) c.half-first.ensures.says in
     let q = look_past g.R.FromFound.of _ _ _ _ p inv.bytes first (half_own false slot) c.new-windows.ensures c.look_at.ensures.found c.look_at.ensures.count in
     let bytes = c.look_at.ensures.bytes ∙ inv.bytes in
@@ -71,9 +63,7 @@ pub look_at-requires-then-is_pair-clause-fits : goal.look_at-requires-then-is_pa
 look_at-requires-then-is_pair-clause-fits g c =
     let inv = c.loop-slot.invariant in
     let slot = c.slot-item.result in
-    let more = flat_map says_of (drop (c.loop-slot.slot-index + 1) c.args.slots.now) in
-    let s = slot_next g.R.FromFound.of _ _ _ _ _ _ _ _ _ _ _ inv.going slot c.slot-item.is c.loop-slot-test.true in
-    let p = two_next g.R.FromFound.of _ _ _ _ _ slot more _ _ _ _ s c.if-is_pair.ensures in
+    let p = two_next g.R.FromFound.of _ _ _ _ _ _ _ _ _ _ _ inv.going slot c.slot-item.is c.loop-slot-test.true c.if-is_pair.ensures in
     let first = c.new-entry.ensures ∙ ap (entry_with (slot_says c.loop-slot.beyond.now)) c.half-first.ensures.says in
     let q = look_past g.R.FromFound.of _ _ _ _ p inv.bytes first (half_own false slot) c.new-windows.ensures c.look_at.ensures.found c.look_at.ensures.count in
     let bytes = c.look_at.ensures.bytes ∙ inv.bytes in
@@ -84,9 +74,7 @@ pub overflow_add-blob-then-is_pair : goal.overflow_add-blob-then-is_pair
 overflow_add-blob-then-is_pair g c =
     let inv = c.loop-slot.invariant in
     let slot = c.slot-item.result in
-    let more = flat_map says_of (drop (c.loop-slot.slot-index + 1) c.args.slots.now) in
-    let s = slot_next g.R.FromFound.of _ _ _ _ _ _ _ _ _ _ _ inv.going slot c.slot-item.is c.loop-slot-test.true in
-    let p = two_next g.R.FromFound.of _ _ _ _ _ slot more _ _ _ _ s c.if-is_pair.ensures in
+    let p = two_next g.R.FromFound.of _ _ _ _ _ _ _ _ _ _ _ inv.going slot c.slot-item.is c.loop-slot-test.true c.if-is_pair.ensures in
     let first = c.new-entry.ensures ∙ ap (entry_with (slot_says c.loop-slot.beyond.now)) c.half-first.ensures.says in
     let q = look_past g.R.FromFound.of _ _ _ _ p inv.bytes first (half_own false slot) c.new-windows.ensures c.look_at.ensures.found c.look_at.ensures.count in
     let bytes = c.look_at.ensures.bytes ∙ inv.bytes in
@@ -97,38 +85,30 @@ pub look_at-requires-else-is_beyond-clause-stands : goal.look_at-requires-else-i
 look_at-requires-else-is_beyond-clause-stands g c =
     let inv = c.loop-slot.invariant in
     let slot = c.slot-item.result in
-    let more = flat_map says_of (drop (c.loop-slot.slot-index + 1) c.args.slots.now) in
-    let s = slot_next g.R.FromFound.of _ _ _ _ _ _ _ _ _ _ _ inv.going slot c.slot-item.is c.loop-slot-test.true in
-    let p = one_next g.R.FromFound.of _ _ _ _ _ slot more _ _ _ _ s c.if-is_pair.ensures in
+    let p = one_next g.R.FromFound.of _ _ _ _ _ _ _ _ _ _ _ inv.going slot c.slot-item.is c.loop-slot-test.true c.if-is_pair.ensures in
     slot_stands g.R.FromFound.of _ _ _ _ p inv.bytes c.new-entry-else-is_beyond.ensures (sym c.if-is_beyond.ensures)
 
 pub look_at-requires-else-is_beyond-clause-fits : goal.look_at-requires-else-is_beyond-clause-fits
 look_at-requires-else-is_beyond-clause-fits g c =
     let inv = c.loop-slot.invariant in
     let slot = c.slot-item.result in
-    let more = flat_map says_of (drop (c.loop-slot.slot-index + 1) c.args.slots.now) in
-    let s = slot_next g.R.FromFound.of _ _ _ _ _ _ _ _ _ _ _ inv.going slot c.slot-item.is c.loop-slot-test.true in
-    let p = one_next g.R.FromFound.of _ _ _ _ _ slot more _ _ _ _ s c.if-is_pair.ensures in
+    let p = one_next g.R.FromFound.of _ _ _ _ _ _ _ _ _ _ _ inv.going slot c.slot-item.is c.loop-slot-test.true c.if-is_pair.ensures in
     omega (arith, (slot_fits g.R.FromFound.of _ _ _ _ p inv.bytes c.new-entry-else-is_beyond.ensures (sym c.if-is_beyond.ensures)).1)
 
 pub overflow_add-blob-else-is_beyond : goal.overflow_add-blob-else-is_beyond
 overflow_add-blob-else-is_beyond g c =
     let inv = c.loop-slot.invariant in
     let slot = c.slot-item.result in
-    let more = flat_map says_of (drop (c.loop-slot.slot-index + 1) c.args.slots.now) in
-    let s = slot_next g.R.FromFound.of _ _ _ _ _ _ _ _ _ _ _ inv.going slot c.slot-item.is c.loop-slot-test.true in
-    let p = one_next g.R.FromFound.of _ _ _ _ _ slot more _ _ _ _ s c.if-is_pair.ensures in
+    let p = one_next g.R.FromFound.of _ _ _ _ _ _ _ _ _ _ _ inv.going slot c.slot-item.is c.loop-slot-test.true c.if-is_pair.ensures in
     omega (arith, (slot_fits g.R.FromFound.of _ _ _ _ p inv.bytes c.new-entry-else-is_beyond.ensures (sym c.if-is_beyond.ensures)).0, inv.small)
 
 pub loop-slot-preserved : goal.loop-slot-preserved
 loop-slot-preserved g c =
     let inv = c.loop-slot.invariant in
     let slot = c.slot-item.result in
-    let more = flat_map says_of (drop (c.loop-slot.slot-index + 1) c.args.slots.now) in
-    let s = slot_next g.R.FromFound.of _ _ _ _ _ _ _ _ _ _ _ inv.going slot c.slot-item.is c.loop-slot-test.true in
     elim c.if-is_pair.branch [
       | then-is_pair w ↦
-          let p = two_next g.R.FromFound.of _ _ _ _ _ slot more _ _ _ _ s w.if-is_pair.ensures in
+          let p = two_next g.R.FromFound.of _ _ _ _ _ _ _ _ _ _ _ inv.going slot c.slot-item.is c.loop-slot-test.true w.if-is_pair.ensures in
           let first = w.new-entry.ensures ∙ ap (entry_with (slot_says c.loop-slot.beyond.now)) w.half-first.ensures.says in
           let q = look_past g.R.FromFound.of _ _ _ _ p inv.bytes first (half_own false slot) c.new-windows.ensures w.look_at.ensures.found w.look_at.ensures.count in
           let bytes = w.look_at.ensures.bytes ∙ inv.bytes in
@@ -140,14 +120,14 @@ loop-slot-preserved g c =
             going = rw (w.cursor-is, w.room-is, w.beyond-is, w.blob-is, w.found-is, two) (look_past g.R.FromFound.of _ _ _ _ q bytes second (half_own true slot) c.new-windows.ensures w.look_at-then-is_pair.ensures.found w.look_at-then-is_pair.ensures.count);
           }
       | else-is_pair+then-is_beyond w ↦
-          let p = one_next g.R.FromFound.of _ _ _ _ _ slot more _ _ _ _ s w.if-is_pair.ensures in
+          let p = one_next g.R.FromFound.of _ _ _ _ _ _ _ _ _ _ _ inv.going slot c.slot-item.is c.loop-slot-test.true w.if-is_pair.ensures in
           record {
             bytes = rw w.cursor-is inv.bytes;
             small = inv.small;
             going = rw (w.cursor-is, w.room-is, w.beyond-is, w.blob-is, w.found-is) (look_beyond g.R.FromFound.of _ _ _ _ _ _ _ _ _ _ _ p w.if-is_beyond.ensures);
           }
       | else-is_pair+else-is_beyond w ↦
-          let p = one_next g.R.FromFound.of _ _ _ _ _ slot more _ _ _ _ s w.if-is_pair.ensures in
+          let p = one_next g.R.FromFound.of _ _ _ _ _ _ _ _ _ _ _ inv.going slot c.slot-item.is c.loop-slot-test.true w.if-is_pair.ensures in
           record {
             bytes = rw w.cursor-is (w.look_at-else-is_beyond.ensures.bytes ∙ inv.bytes);
             small = inv.small;
