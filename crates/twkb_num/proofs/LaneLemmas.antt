@@ -67,16 +67,25 @@ low_bits t (suc (suc (suc (suc (suc (suc zero)))))) h = omega arith
 low_bits t (suc (suc (suc (suc (suc (suc (suc zero))))))) h = omega arith
 low_bits t (suc (suc (suc (suc (suc (suc (suc (suc i)))))))) h = absurd (omega (arith, h))
 
-abbrev pub AreTops : ℕ → List ℕ → Type 0
-AreTops tops v = (i : ℕ) → i < 16 → tops / 2 ^ i % 2 ≡ get_or v i 0 / 128
-
-pub first_tops : (tops : ℕ) (v : List ℕ) → AreTops tops v → IsTops (tops % 256) v
+pub first_tops : (tops : ℕ) (v : List ℕ) → IsTops 16 tops v → IsTops 8 (tops % 256) v
 first_tops tops v all i h = low_bits tops i h ∙ all i (omega (arith, h))
 
-pub second_tops : (tops from s : ℕ) (bytes v w : List ℕ) → AreTops tops v → v ≡ take 16 bytes → w ≡ take 16 (drop s bytes) → s ≤ 8 → from ≡ tops / 2 ^ s % 256 → IsTops from w
-second_tops tops from s bytes v w all v_is w_is few is i h =
-    let same : get_or v (s + i) 0 ≡ get_or w i 0 = ap (λ l. get_or l (s + i) 0) v_is ∙ get_or-take 16 bytes (s + i) 0 (omega (arith, h, few)) ∙ sym (get_or-drop s bytes i 0) ∙ sym (get_or-take 16 (drop s bytes) i 0 (omega (arith, h))) ∙ sym (ap (λ l. get_or l i 0) w_is) in
-    ap (λ x. x / 2 ^ i % 2) is ∙ low_bits (tops / 2 ^ s) i h ∙ ap (λ x. x % 2) (shr-shr tops s i) ∙ all (s + i) (omega (arith, h, few)) ∙ ap (λ x. x / 128) same
+-- the front of bytes has their tops
+pub front_tops : (many n tops : ℕ) (bytes v : List ℕ) → v ≡ take n bytes → many ≤ n → IsTops many tops bytes → IsTops many tops v
+front_tops many n tops bytes v is few all i h = all i h ∙ ap (λ x. x / 128) (sym (get_or-take n bytes i 0 (omega (arith, h, few))) ∙ sym (ap (λ l. get_or l i 0) is))
+
+-- bytes have the tops of their front
+pub tops_of_front : (many tops : ℕ) (bytes v : List ℕ) → v ≡ take many bytes → IsTops many tops v → IsTops many tops bytes
+tops_of_front many tops bytes v is all i h = all i h ∙ ap (λ x. x / 128) (ap (λ l. get_or l i 0) is ∙ get_or-take many bytes i 0 h)
+
+-- the tops without the lowest s are those of the bytes after the first s
+pub tops_behind : (many s tops : ℕ) (bytes : List ℕ) → IsTops many tops bytes → IsTops (many - s) (tops / 2 ^ s) (drop s bytes)
+tops_behind many s tops bytes all i h = ap (λ x. x % 2) (shr-shr tops s i) ∙ all (s + i) (omega (arith, h)) ∙ ap (λ x. x / 128) (sym (get_or-drop s bytes i 0))
+
+-- the eight tops after the first s of sixteen
+pub second_tops : (tops from s : ℕ) (bytes w : List ℕ) → IsTops 16 tops bytes → w ≡ take 16 (drop s bytes) → s ≤ 8 → from ≡ tops / 2 ^ s % 256 → IsTops 8 from w
+second_tops tops from s bytes w all w_is few is i h =
+    ap (λ x. x / 2 ^ i % 2) is ∙ low_bits (tops / 2 ^ s) i h ∙ front_tops (16 - s) 16 (tops / 2 ^ s) (drop s bytes) w w_is (omega arith) (tops_behind 16 s tops bytes all) i (omega (arith, h, few))
 
 -- ---- pieces
 pub first_piece : (bytes : List ℕ) → take 16 (take 16 bytes) ≡ take 16 bytes

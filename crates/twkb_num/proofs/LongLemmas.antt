@@ -28,17 +28,17 @@ some_on_bits n mask (suc at) on =
       | inr below ↦ let rec = some_on_bits n mask at below in (rec.0, omega (arith, rec.1), rec.2)
     ]
 
-tops_long : (n count tops : ℕ) (v : List ℕ) → count + n ≤ 9 → IsTops tops v → some_on n tops count ≡ true → HasLong n 8 v
+tops_long : (n count tops : ℕ) (v : List ℕ) → count + n ≤ 9 → IsTops 8 tops v → some_on n tops count ≡ true → HasLong n 8 v
 tops_long n count tops v fit is on =
     let found = some_on_bits n tops count on in
     (found.0, omega (arith, found.1, fit), λ k h. let top : slice_index v (found.0 + k) / 128 ≡ 1 = sym (is (found.0 + k) (omega (arith, found.1, fit, h))) ∙ found.2 k h in omega (arith, top))
 
-pub wide_is_long : (v : List ℕ) (tops len : ℕ) → tops < 256 → len ≡ get_or WIDE_LEN tops 0 → IsTops tops v → len ≡ 128 → HasLong 4 8 v
+pub wide_is_long : (v : List ℕ) (tops len : ℕ) → tops < 256 → len ≡ get_or WIDE_LEN tops 0 → IsTops 8 tops v → len ≡ 128 → HasLong 4 8 v
 wide_is_long v tops len few is t long =
     let e : eqb (get_or WIDE_LEN tops 0) 128 ≡ true = ap (λ l. eqb l 128) (sym is ∙ long) in
     tops_long 4 5 tops v (omega arith) t (sym (cond-true (eqb (get_or WIDE_LEN tops 0) 128) _ _ e) ∙ wide_long tops few)
 
-pub narrow_is_long : (v : List ℕ) (tops len : ℕ) → tops < 256 → len ≡ get_or NARROW_LEN tops 0 → IsTops tops v → len ≡ 128 → HasLong 2 8 v
+pub narrow_is_long : (v : List ℕ) (tops len : ℕ) → tops < 256 → len ≡ get_or NARROW_LEN tops 0 → IsTops 8 tops v → len ≡ 128 → HasLong 2 8 v
 narrow_is_long v tops len few is t long =
     let e : eqb (get_or NARROW_LEN tops 0) 128 ≡ true = ap (λ l. eqb l 128) (sym is ∙ long) in
     tops_long 2 7 tops v (omega arith) t (sym (cond-true (eqb (get_or NARROW_LEN tops 0) 128) _ _ e) ∙ narrow_long tops few)

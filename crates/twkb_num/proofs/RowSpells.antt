@@ -20,7 +20,7 @@ pub record IsPicked (bytes : List ℕ) (row : ℕ) (picked : List ℕ) (mask : �
   pub long : 16 ≤ length bytes
 
 -- what the places of a row pick from sixteen bytes
-pub picked_row : (v places picked : List ℕ) (row tops : ℕ) → length v ≡ 16 → IsTops tops v → ((i : ℕ) → i < 16 → get_or picked i 0 ≡ byte_or_zero v (get_or places i 0)) → ((i : ℕ) → i < 8 → get_or places i 0 ≡ byte_of row i)
+pub picked_row : (v places picked : List ℕ) (row tops : ℕ) → length v ≡ 16 → IsTops 8 tops v → ((i : ℕ) → i < 16 → get_or picked i 0 ≡ byte_or_zero v (get_or places i 0)) → ((i : ℕ) → i < 8 → get_or places i 0 ≡ byte_of row i)
     → IsPicked v row picked tops
 picked_row v places picked row tops long are picks place = record {
   picks = λ i h. picks i (omega (arith, h)) ∙ ap (byte_or_zero v) (place i h);

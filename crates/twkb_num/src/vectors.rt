@@ -69,9 +69,11 @@ pub fn wide_pair(bytes: &[u8; 16]) -> Wide
     }
 }
 
-/// The eight numbers that the front of the bytes spells, if each takes at most two bytes.
+/// The eight numbers that the front of the bytes spells, if each takes at most two bytes. The lowest bits of `tops` are the
+/// continuation bits of the first sixteen bytes.
 #[inline(always)]
-pub fn narrow_eight(bytes: &[u8; 32]) -> Narrow
+pub fn narrow_eight(bytes: &[u8; 32], tops: u64) -> Narrow
+    requires { IsTops 16 tops bytes.now }
     ensures few { result.len < 128 → result.len ≤ 16 }
     ensures spelled { result.len < 128
         → SpellsAllSigned (take result.len bytes.now) (map (cast_signed w16) result.lanes) }
@@ -79,7 +81,6 @@ pub fn narrow_eight(bytes: &[u8; 32]) -> Narrow
     ensures long { 128 ≤ result.len → HasLong 2 16 bytes.now }
 {
     let v = u8x16::from_slice(&bytes[0..16]);
-    let tops = continuation_bits(v);
     let first = narrow_four(v, (tops % 256) as usize);
     let start = (first.len % 16) as usize;
     let rest = bits_from(tops, first.len);
@@ -95,7 +96,7 @@ pub fn narrow_eight(bytes: &[u8; 32]) -> Narrow
 #[inline(always)]
 fn wide_two(v: u8x16, tops: usize) -> Unpacked
     requires few { tops < 256 }
-    requires tops { IsTops tops v }
+    requires tops { IsTops 8 tops v }
     ensures flag { IsFlag result.len }
     ensures spelled { result.len < 128 → SpellsAll (take result.len v) (values 4 2 result.lanes 0) }
     ensures long { result.len ≡ 128 → HasLong 4 8 v }
@@ -110,7 +111,7 @@ fn wide_two(v: u8x16, tops: usize) -> Unpacked
 #[inline(always)]
 fn narrow_four(v: u8x16, tops: usize) -> Unpacked
     requires few { tops < 256 }
-    requires tops { IsTops tops v }
+    requires tops { IsTops 8 tops v }
     ensures flag { IsFlag result.len }
     ensures spelled { result.len < 128 → SpellsAll (take result.len v) (values 2 4 result.lanes 0) }
     ensures long { result.len ≡ 128 → HasLong 2 8 v }
@@ -121,22 +122,31 @@ fn narrow_four(v: u8x16, tops: usize) -> Unpacked
     }
 }
 
-/// Bit i is the top bit of byte i, which is set where a varint goes on.
+/// The continuation bits of the first sixteen bytes.
 #[inline(always)]
-fn continuation_bits(v: u8x16) -> u32
-    ensures { (i : ℕ) → i < 16 → result / 2 ^ i % 2 ≡ slice_index v i / 128 }
+pub fn tops_of_16(bytes: &[u8; 32]) -> u64
+    ensures { IsTops 16 result bytes.now }
 {
-    (v.simd_ge(u8x16::splat(128)).to_bitmask() % 65536) as u32
+    continuation_bits(u8x16::from_slice(&bytes[0..16]))
 }
 
-/// The continuation bits of the eight bytes after the first `len`, of the continuation bits of sixteen bytes.
+/// Bit i is the top bit of byte i, which is set where a varint goes on.
 #[inline(always)]
-fn bits_from(tops: u32, len: u32) -> usize
+fn continuation_bits(v: u8x16) -> u64
+    ensures few { result < 65536 }
+    ensures tops { IsTops 16 result v }
+{
+    v.simd_ge(u8x16::splat(128)).to_bitmask() % 65536
+}
+
+/// The continuation bits of the eight bytes after the first `len`.
+#[inline(always)]
+fn bits_from(tops: u64, len: u32) -> usize
     requires { IsFlag len }
     ensures few { result < 256 }
     ensures moved { result ≡ tops / 2 ^ (len % 16) % 256 }
 {
-    ((tops >> (len % 32)) % 256) as usize
+    ((tops >> (len % 64)) % 256) as usize
 }
 
 /// The bytes at these places, and zero at a place from 128 on.

@@ -20,9 +20,9 @@ abbrev pub values : ℕ → ℕ → List ℕ → ℕ → List ℕ
 values n zero bytes i = []
 values n (suc k) bytes i = value_at n bytes i ∷ values n k bytes (i + n)
 
--- the lowest eight bits are the top bits of the first eight bytes
-abbrev pub IsTops : ℕ → List ℕ → Type 0
-IsTops tops bytes = (i : ℕ) → i < 8 → tops / 2 ^ i % 2 ≡ slice_index bytes i / 128
+-- the lowest `many` bits are the top bits of the first `many` bytes
+abbrev pub IsTops : ℕ → ℕ → List ℕ → Type 0
+IsTops many tops bytes = (i : ℕ) → i < many → tops / 2 ^ i % 2 ≡ slice_index bytes i / 128
 
 -- a length of at most eight, or 128 for numbers that are too long
 abbrev pub IsFlag : ℕ → Type 0

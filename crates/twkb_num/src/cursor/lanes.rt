@@ -6,7 +6,7 @@ ghost use Rattle.twkb_num.specs.Devices.Pairs.{ReadsPair};
 ghost use Rattle.twkb_num.specs.Varint.{SpellsAllSigned, IsShort, IsBrief, HasLong};
 
 use super::Cursor;
-use crate::vectors::{narrow_eight, wide_four, wide_pair};
+use crate::vectors::{narrow_eight, tops_of_16, wide_four, wide_pair};
 use std::simd::prelude::*;
 
 /// Four signed numbers in lanes of 32 bits, in two's complement. If `is_read` is false, none were read and the lanes are zero.
@@ -114,7 +114,7 @@ impl<'a> Cursor<'a> {
         ensures zero { result.is_read ≡ false → result.lanes ≡ replicate 8 0 }
     {
         if let Some(bytes) = self.bytes[self.place..].first_chunk::<32>() {
-            let eight = narrow_eight(bytes);
+            let eight = narrow_eight(bytes, tops_of_16(bytes));
             if eight.len < 128 {
                 self.place += eight.len as usize;
                 return Eight {

@@ -1,20 +1,22 @@
 -- Two rows, one after the other, are eight numbers.
-use Rattle.std.proofs.Common.{◌≡◌, ℕ, ◌%◌, List, ◌++◌, map, ap, ◌∙◌, w16}
+use Rattle.std.proofs.Common.{◌≡◌, ℕ, ◌%◌, List, ◌++◌, map, ap, ◌∙◌, arith, w16}
 use Rattle.std.specs.Int.{cast_signed}
 use Rattle.twkb_num.specs.Varint.{zigzag_value}
 use Rattle.twkb_num.specs.Devices.Lanes.{values}
-use Rattle.twkb_num.proofs.LaneLemmas.{first_tops, second_tops, first_piece, second_piece, flag_place, lanes_spell, narrow_values}
+use Rattle.twkb_num.proofs.LaneLemmas.{front_tops, first_tops, second_tops, first_piece, second_piece, flag_place, lanes_spell, narrow_values}
 use Rattle.twkb_num.proofs.LongLemmas.{long_of}
 use Rattle.twkb_num.proofs.vectors.narrow_eight.Goals as goal
 
 pub narrow_four-first-requires-clause-tops : goal.narrow_four-first-requires-clause-tops
-narrow_four-first-requires-clause-tops c = first_tops c.continuation_bits-tops.result _ c.continuation_bits-tops.ensures
+narrow_four-first-requires-clause-tops c =
+    let bytes = c.args.bytes.now in
+    first_tops c.args.tops _ (front_tops 16 16 c.args.tops bytes _ (first_piece bytes) (omega arith) c.requires)
 
 pub narrow_four-second-requires-clause-tops : goal.narrow_four-second-requires-clause-tops
 narrow_four-second-requires-clause-tops c =
     let bytes = c.args.bytes.now in
     let len = c.narrow_four-first.result.len in
-    second_tops c.continuation_bits-tops.result c.bits_from-rest.result (len % 16) bytes _ _ c.continuation_bits-tops.ensures (first_piece bytes) (second_piece (len % 16) bytes) (flag_place len c.narrow_four-first.ensures.flag) c.bits_from-rest.ensures.moved
+    second_tops c.args.tops c.bits_from-rest.result (len % 16) bytes _ c.requires (second_piece (len % 16) bytes) (flag_place len c.narrow_four-first.ensures.flag) c.bits_from-rest.ensures.moved
 
 pub returns-clause-spelled : goal.returns-clause-spelled
 returns-clause-spelled c short =

@@ -5,7 +5,7 @@ use Rattle.twkb_num.proofs.LongLemmas.{long_of_one}
 use Rattle.twkb_num.proofs.vectors.wide_pair.Goals as goal
 
 pub wide_two-both-requires-clause-tops : goal.wide_two-both-requires-clause-tops
-wide_two-both-requires-clause-tops c = first_tops c.continuation_bits.result _ c.continuation_bits.ensures
+wide_two-both-requires-clause-tops c = first_tops c.continuation_bits.result _ c.continuation_bits.ensures.tops
 
 pub returns-clause-spelled : goal.returns-clause-spelled
 returns-clause-spelled c = λ x y others is short.
