@@ -1,8 +1,9 @@
 -- Two rows, one after the other, and their lanes.
 use Rattle.std.proofs.Common.{◌≡◌, ℕ, ℤ, zero, suc, ◌+◌, ◌-◌, ◌*◌, ◌/◌, ◌%◌, ◌<◌, ◌≤◌, ◌^◌, true, eqb, ltb, refl, sym, ap, ◌∙◌, subst, List, [], ◌∷◌, ◌++◌, map, length, take, drop, get_or, arith, inl, inr, Fits, w8}
-use Rattle.std.proofs.lemmas.Bool.{eqb-true, ltb-true, lt-ltb, cond-true, or_cases}
-use Rattle.std.proofs.lemmas.List.{take-take, get_or-take, get_or-drop, append_assoc}
+use Rattle.std.proofs.lemmas.Bool.{eqb-true, ltb-true, lt-ltb, cond-true, or_cases, cases_lt}
+use Rattle.std.proofs.lemmas.List.{take-take, get_or-take, get_or-drop, append_assoc, map-append}
 use Rattle.std.proofs.lemmas.Nat.{shr-shr}
+use Rattle.std.proofs.lemmas.Nat.Bits.{bit_at_cat_low, bit_at_cat_high}
 use Rattle.std.proofs.lemmas.Simd.{pick_l_whole, get_or_wider, Each1-get_or, below_from_Fits}
 use Rattle.std.proofs.Math.Seq.{take-add}
 use lib.Lanes.{number_l, digits_l, Each1}
@@ -87,6 +88,16 @@ pub second_tops : (tops from s : ℕ) (bytes w : List ℕ) → IsTops 16 tops by
 second_tops tops from s bytes w all w_is few is i h =
     ap (λ x. x / 2 ^ i % 2) is ∙ low_bits (tops / 2 ^ s) i h ∙ front_tops (16 - s) 16 (tops / 2 ^ s) (drop s bytes) w w_is (omega arith) (tops_behind 16 s tops bytes all) i (omega (arith, h, few))
 
+-- the tops of bytes and, moved up by their count, those of the bytes after them
+pub tops_joined : (n many low high both : ℕ) (bytes v : List ℕ) → low < 2 ^ n → IsTops n low bytes → v ≡ take many (drop n bytes) → IsTops many high v → both ≡ high * 2 ^ n + low → IsTops (n + many) both bytes
+tops_joined n many low high both bytes v fits first is second sum i h =
+    ap (λ x. x / 2 ^ i % 2) sum ∙ elim (cases_lt i n) [
+      | inl before ↦ bit_at_cat_low high n low i before ∙ first i before
+      | inr after ↦
+          let there : n + (i - n) ≡ i = omega (arith, after) in
+          bit_at_cat_high high n low i fits after ∙ tops_of_front many high (drop n bytes) v is second (i - n) (omega (arith, h, after)) ∙ ap (λ x. x / 128) (get_or-drop n bytes (i - n) 0 ∙ ap (λ k. get_or bytes k 0) there)
+    ]
+
 -- ---- pieces
 pub first_piece : (bytes : List ℕ) → take 16 (take 16 bytes) ≡ take 16 bytes
 first_piece bytes = take-take 16 16 bytes (omega arith)
@@ -97,34 +108,30 @@ second_piece s bytes =
     ap (λ k. take 16 (take k (drop s bytes))) many ∙ first_piece (drop s bytes)
 
 -- ---- spellings
-append_all : (bs cs ns ms : List ℕ) → SpellsAll bs ns → SpellsAll cs ms → SpellsAll (bs ++ cs) (ns ++ ms)
-append_all bs cs [] ms a b = subst (λ xs. SpellsAll (xs ++ cs) ms) (sym a) b
-append_all bs cs (n ∷ ns) ms a b = (a.0, a.1 ++ cs, ap (λ xs. xs ++ cs) a.2 ∙ append_assoc a.0 a.1 cs, a.3, append_all a.1 cs ns ms a.4 b)
-
 signed_all : (bs ns : List ℕ) → SpellsAll bs ns → SpellsAllSigned bs (map zigzag_value ns)
 signed_all bs [] a = a
 signed_all bs (n ∷ ns) a = (a.0, a.1, a.2, (n, a.3, refl), signed_all a.1 ns a.4)
 
+-- bytes that spell numbers, and then bytes that spell more, spell all of them
+pub SpellsAllSigned-append : (bs cs : List ℕ) (xs ys : List ℤ) → SpellsAllSigned bs xs → SpellsAllSigned cs ys → SpellsAllSigned (bs ++ cs) (xs ++ ys)
+SpellsAllSigned-append bs cs [] ys a b = subst (λ ds. SpellsAllSigned (ds ++ cs) ys) (sym a) b
+SpellsAllSigned-append bs cs (x ∷ xs) ys a b = (a.0, a.1 ++ cs, ap (λ ds. ds ++ cs) a.2 ∙ append_assoc a.0 a.1 cs, a.3, SpellsAllSigned-append a.1 cs xs ys a.4 b)
+
 at_front : (bytes v ns : List ℕ) (len : ℕ) → v ≡ take 16 bytes → len ≤ 16 → SpellsAll (take len v) ns → SpellsAll (take len bytes) ns
 at_front bytes v ns len v_is few a = subst (λ xs. SpellsAll xs ns) (ap (take len) v_is ∙ take-take len 16 bytes few) a
 
--- two rows, one after the other, spell the numbers of both
-two_rows_spell : (bytes v w ns ms : List ℕ) (one two : ℕ) → v ≡ take 16 bytes → w ≡ take 16 (drop (one % 16) bytes) → one ≤ 8 → two ≤ 8 → SpellsAll (take one v) ns → SpellsAll (take two w) ms → SpellsAll (take (one + two) bytes) (ns ++ ms)
-two_rows_spell bytes v w ns ms one two v_is w_is few_one few_two a b =
-    let at : one % 16 ≡ one = omega (arith, few_one) in
-    let first = at_front bytes v ns one v_is (omega (arith, few_one)) a in
-    let second = at_front (drop one bytes) w ms two (w_is ∙ ap (λ s. take 16 (drop s bytes)) at) (omega (arith, few_two)) b in
-    subst (λ xs. SpellsAll xs (ns ++ ms)) (sym (take-add one two bytes)) (append_all (take one bytes) (take two (drop one bytes)) ns ms first second)
-
--- two rows of numbers that fit their lanes spell what the lanes mean
+-- two rows of numbers that fit their lanes, one after the other, spell what the lanes mean
 pub lanes_spell : (bytes v w ns ms : List ℕ) (one two : ℕ) (zs : List ℤ) → v ≡ take 16 bytes → w ≡ take 16 (drop (one % 16) bytes) → IsFlag one → IsFlag two
     → (one < 128 → SpellsAll (take one v) ns) → (two < 128 → SpellsAll (take two w) ms) → zs ≡ map zigzag_value (ns ++ ms) → one + two < 128
     → SpellsAllSigned (take (one + two) bytes) zs
 lanes_spell bytes v w ns ms one two zs v_is w_is flag_one flag_two first second means short =
-    let low_one : one < 128 = omega (arith, short) in
-    let low_two : two < 128 = omega (arith, short) in
-    let all = two_rows_spell bytes v w ns ms one two v_is w_is (flag_short one flag_one low_one) (flag_short two flag_two low_two) (first low_one) (second low_two) in
-    subst (λ xs. SpellsAllSigned (take (one + two) bytes) xs) (sym means) (signed_all (take (one + two) bytes) (ns ++ ms) all)
+    let few_one = flag_short one flag_one (omega (arith, short)) in
+    let few_two = flag_short two flag_two (omega (arith, short)) in
+    let at : one % 16 ≡ one = omega (arith, few_one) in
+    let front = at_front bytes v ns one v_is (omega (arith, few_one)) (first (omega (arith, short))) in
+    let behind = at_front (drop one bytes) w ms two (w_is ∙ ap (λ s. take 16 (drop s bytes)) at) (omega (arith, few_two)) (second (omega (arith, short))) in
+    let all = SpellsAllSigned-append _ _ _ _ (signed_all (take one bytes) ns front) (signed_all (take two (drop one bytes)) ms behind) in
+    rw (take-add one two bytes, means, map-append) all
 
 -- ---- lanes
 cons_same : {A : Type 0} (x y : A) (xs ys : List A) → x ≡ y → xs ≡ ys → x ∷ xs ≡ y ∷ ys

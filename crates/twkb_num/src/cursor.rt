@@ -17,14 +17,15 @@ use std::marker::Model;
 /// count, lends the bytes, or returns a second cursor. Only [`Cursor::go_to`] moves without counting, and it reads nothing.
 ///
 /// Some calls read or pass numbers by words of eight bytes, such as [`Cursor::svarint_pair`], [`Cursor::pass_varint`] and
-/// [`Cursor::pass_varints`], or by vectors from the next 16 or 32 bytes, as [`Cursor::svarint_mixed_pair`],
-/// [`Cursor::svarint_four`] and [`Cursor::svarint_eight`] do. They touch bytes after the numbers too, as reading a cache line
-/// does, but count only the bytes of the numbers. If such a call fails (returns `None`, or a result whose `is_read` is false)
-/// or passes fewer numbers than requested, its caller learns something about bytes that aren't counted: a number is too long
-/// for the call, the end is near, no point of the right form is there ([`Cursor::pass_short_point`]), or (the last two calls below)
-/// a count can't be read or is too large. This list says when a call may fail, and which clause says so. Where a call may fail, no
-/// clause says whether it does, except for [`Cursor::pass_short_point`] (`some`, `far`); only the code shows that this choice tells nothing
-/// else. A byte *goes on* if it is at least 128.
+/// [`Cursor::pass_varints`], or by vectors from the next 16, 32 or 80 bytes, as [`Cursor::svarint_mixed_pair`],
+/// [`Cursor::svarint_four`], [`Cursor::svarint_eight`] and [`Cursor::svarint_eights`] do. They touch bytes after the numbers too,
+/// as reading a cache line does, but count only the bytes of the numbers. If such a call fails (returns `None`, or a result whose
+/// `is_read` is false), reads fewer than four eights or passes fewer numbers than requested, its caller learns something about
+/// bytes that aren't counted: a number is too long for the call, the end is near, no point of the right form is there
+/// ([`Cursor::pass_short_point`]), or (the last two calls below) a count can't be read or is too large. This list says when a call
+/// may fail or stop early, and which clause says so. Where a call may fail, no clause says whether it does, except for
+/// [`Cursor::pass_short_point`] (`some`, `far`); only the code shows that this choice tells nothing else. A byte *goes on* if it is
+/// at least 128.
 ///
 /// - [`Cursor::pass_varint`]: fewer than eight bytes are left, or the next eight all go on (`told`).
 /// - [`Cursor::pass_pair`]: fewer than eight bytes are left, or at most one of the next eight ends a varint (`told`).
@@ -38,6 +39,8 @@ use std::marker::Model;
 /// - [`Cursor::svarint_two_pairs`]: fewer than sixteen bytes are left, or four in a row of the next sixteen go on (`told`).
 /// - [`Cursor::svarint_four`]: fewer than 32 bytes are left, or four in a row of the next sixteen go on (`told`).
 /// - [`Cursor::svarint_eight`]: fewer than 32 bytes are left, or two in a row of the next sixteen go on (`told`).
+/// - [`Cursor::svarint_eights`]: fewer than 80 bytes are left, or, after the eights that it read, two in a row of the next sixteen
+///   go on (`told`).
 /// - [`Cursor::pass_varints`]: after the numbers that it passed fewer than eleven bytes are left, or four in a row of the next
 ///   eleven go on (`stops`).
 /// - [`Cursor::pass_short_varints`]: fewer bytes are left than numbers were requested, or [`Cursor::pass_varints`] may stop after
@@ -351,6 +354,6 @@ mod runs;
 #[cfg(test)]
 mod tests;
 
-pub use lanes::{Eight, Four};
+pub use lanes::{Eight, Four, TakeEight};
 pub use pages::Prefetch;
 pub use point::TYPE_AND_FIELDS;

@@ -10,7 +10,7 @@
 //!   with its header, and with its size if it has one. The numbers have to end in such a word; otherwise these calls return `None`.
 //!   [`Cursor::pass_varints`] moves past many, and returns how many.
 //! - [`Cursor::svarint_four`] and [`Cursor::svarint_eight`] read four or eight short signed numbers into the lanes of a vector, or
-//!   none.
+//!   none. [`Cursor::svarint_eights`] reads up to four times eight, and gives each eight to a [`TakeEight`].
 //! - [`Cursor::pass_short_varints`] moves past a given number of varints or past none. [`Cursor::pass_short_runs`] and
 //!   [`Cursor::pass_counted_runs`] do this with counts among the numbers, as a line and a polygon have them.
 //! - [`Prefetch`] has the processor look up pages of memory before a cursor reads them.
@@ -41,7 +41,7 @@ mod varint;
 mod vectors;
 mod word;
 
-pub use cursor::{Cursor, Eight, Four, Prefetch, TYPE_AND_FIELDS};
+pub use cursor::{Cursor, Eight, Four, Prefetch, TYPE_AND_FIELDS, TakeEight};
 pub use scale::{coordinate_of, units};
 pub use signed::{unzigzag, zigzag};
 pub use varint::NumFault;
