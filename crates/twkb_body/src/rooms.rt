@@ -28,7 +28,11 @@ impl<A: Allocator> AuditRoom for &A {}
 impl AuditRoom for &mut [i64] {}
 
 impl<A: Allocator> IdRoom for &A {
+    // Few ids are kept in an array: each costs less than in memory that may grow.
     fn take_ids(&mut self, cursor: &mut Cursor, count: u64) -> Result<bool, Stopped> {
+        if count <= 16 {
+            return take_kept(&mut LentIds::of(&mut [0; 16]), cursor, count);
+        }
         let mut ids: SmallVec<i64, 16, &A> = SmallVec::new(*self);
         take_kept(&mut ids, cursor, count)
     }
