@@ -7,9 +7,9 @@ use Rattle.std.specs.Bool.{Decides}
 use Rattle.std.specs.Int.{w64}
 use Rattle.twkb_body.specs.declared.per_axis.PerAxis.{PerAxis}
 use Rattle.twkb_body.specs.Devices.BoxTest.{reaches}
-use Rattle.twkb_body.specs.Devices.FurtherLanes.{all_within}
+use Rattle.twkb_body.specs.Devices.FurtherLanes.{all_within, lane_ends}
 use Rattle.twkb_body.specs.Devices.PerAxis.{Each}
-use Rattle.twkb_body.specs.Devices.Quads.{IsInLane, IsLaneExtent}
+use Rattle.twkb_body.specs.Devices.Quads.{lane_end, IsInLane, IsLaneExtent}
 use Rattle.twkb_body.proofs.Judging.{le_decides}
 
 pub reaches_decides : (extent distance : ℤ) → Decides (reaches extent distance) ((pos 0 ≤ℤ distance) × (distance ≤ℤ extent))
@@ -33,21 +33,62 @@ both_true false b e = absurd (cc (e))
 pub extent_lane : (w : ℤ) → IsLaneExtent w → IsInLane w
 extent_lane w fits = (omega (arith, ints, fits.0), omega (arith, ints, fits.1))
 
+pub end_in_lane : IsInLane lane_end
+end_in_lane = (omega (arith, ints), omega (arith, ints))
+
 -- what is left of a number in 64 bits
 abbrev pub bits : ℤ → ℤ
 bits z = to_z w64 (of_z w64 z)
 
--- a distance plus a difference lies within an extent, all in 64 bits
-pub moved : (distance extent more sum : ℤ) → (sum ≡ bits distance +ℤ bits more) × (reaches (bits extent) sum ≡ true) → bits distance ≡ distance → bits extent ≡ extent → bits more ≡ more → bits sum ≡ sum
-    → (bits sum ≡ distance +ℤ more) × (reaches extent (distance +ℤ more) ≡ true)
-moved distance extent more sum (is, e) distance_is extent_is more_is sum_is = (
+-- a lane holds a distance plus a difference, all in 64 bits
+pub moved : (distance more sum : ℤ) → (sum ≡ bits distance +ℤ bits more) × (reaches lane_end sum ≡ true) → bits distance ≡ distance → bits more ≡ more → bits sum ≡ sum
+    → (bits sum ≡ distance +ℤ more) × (reaches lane_end (distance +ℤ more) ≡ true)
+moved distance more sum (is, e) distance_is more_is sum_is = (
   sum_is ∙ is ∙ (λ j. distance_is j +ℤ more_is j),
-  (λ j. reaches (sym extent_is j) (sym distance_is j +ℤ sym more_is j)) ∙ ap (reaches (bits extent)) (sym is) ∙ e,
+  (λ j. reaches lane_end (sym distance_is j +ℤ sym more_is j)) ∙ ap (reaches lane_end) (sym is) ∙ e,
 )
 
 -- or it doesn't
-pub missed : (distance extent more : ℤ) → reaches (bits extent) (bits distance +ℤ bits more) ≡ false → bits distance ≡ distance → bits extent ≡ extent → bits more ≡ more → reaches extent (distance +ℤ more) ≡ false
-missed distance extent more out distance_is extent_is more_is = (λ j. reaches (sym extent_is j) (sym distance_is j +ℤ sym more_is j)) ∙ out
+pub missed : (distance more : ℤ) → reaches lane_end (bits distance +ℤ bits more) ≡ false → bits distance ≡ distance → bits more ≡ more → reaches lane_end (distance +ℤ more) ≡ false
+missed distance more out distance_is more_is = (λ j. reaches lane_end (sym distance_is j +ℤ sym more_is j)) ∙ out
+
+-- a distance within an extent is in a lane, below its end
+pub within_end : (extent z : ℤ) → IsLaneExtent extent → reaches extent z ≡ true → reaches lane_end z ≡ true
+within_end extent z e held =
+    let there = (reaches_decides extent z).0 held in
+    (reaches_decides lane_end z).1 (there.0, omega (arith, ints, there.1, e.1))
+
+-- a point that lanes don't hold isn't within extents
+pub both_beyond : (w h x y : ℤ) → IsLaneExtent w → IsLaneExtent h → (reaches lane_end x && reaches lane_end y) ≡ false → (reaches w x && reaches h y) ≡ false
+both_beyond w h x y w_fits h_fits out = go (reaches w x && reaches h y) refl
+  where
+    go : (inside : Bool) → (reaches w x && reaches h y) ≡ inside → (reaches w x && reaches h y) ≡ false
+    go false is = is
+    go true is =
+        let both = both_true (reaches w x) (reaches h y) is in
+        let wide = within_end w x w_fits both.0 in
+        let high = within_end h y h_fits both.1 in
+        let held : reaches lane_end x && reaches lane_end y ≡ true = λ j. wide j && high j in
+        absurd (cc (held, out))
+
+-- distances within extents are in lanes, below their ends
+pub all_within_ends : (e apart : PerAxis) → Each IsLaneExtent e → all_within e apart ≡ true → all_within lane_ends apart ≡ true
+all_within_ends e apart wide is =
+    let both = both_true (reaches e.x apart.x && reaches e.y apart.y) (reaches e.third apart.third && reaches e.fourth apart.fourth) is in
+    let flat = both_true (reaches e.x apart.x) (reaches e.y apart.y) both.0 in
+    let further = both_true (reaches e.third apart.third) (reaches e.fourth apart.fourth) both.1 in
+    let x = within_end e.x apart.x wide.x flat.0 in
+    let y = within_end e.y apart.y wide.y flat.1 in
+    let third = within_end e.third apart.third wide.third further.0 in
+    let fourth = within_end e.fourth apart.fourth wide.fourth further.1 in
+    (λ j. (x j && y j) && (third j && fourth j))
+
+pub all_beyond : (e apart : PerAxis) → Each IsLaneExtent e → all_within lane_ends apart ≡ false → all_within e apart ≡ false
+all_beyond e apart wide out = go (all_within e apart) refl
+  where
+    go : (inside : Bool) → all_within e apart ≡ inside → all_within e apart ≡ false
+    go false is = is
+    go true is = absurd (cc (all_within_ends e apart wide is, out))
 
 -- a distance within an extent in a lane is in a lane
 pub within_lane : (extent z : ℤ) → IsInLane extent → reaches extent z ≡ true → IsInLane z
@@ -63,3 +104,6 @@ all_in_lanes e apart wide is =
     let flat = both_true (reaches e.x apart.x) (reaches e.y apart.y) both.0 in
     let further = both_true (reaches e.third apart.third) (reaches e.fourth apart.fourth) both.1 in
     record { x = within_lane _ _ wide.x flat.0; y = within_lane _ _ wide.y flat.1; third = within_lane _ _ wide.third further.0; fourth = within_lane _ _ wide.fourth further.1 }
+
+pub ends_in_lanes : Each IsInLane lane_ends
+ends_in_lanes = record { x = end_in_lane; y = end_in_lane; third = end_in_lane; fourth = end_in_lane }

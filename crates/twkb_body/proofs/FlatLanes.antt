@@ -10,8 +10,8 @@ use Rattle.twkb_body.specs.declared.trail.Trail.{Trail}
 use Rattle.twkb_body.specs.Geometry.{PointValue}
 use Rattle.twkb_body.specs.Devices.BodyReader.{point_at}
 use Rattle.twkb_body.specs.Devices.BoxTest.{reaches, held_then}
-use Rattle.twkb_body.specs.Devices.LaneTrail.{holding, LeavesBox, PointsLeave, IsHeldRun, IsLaneStep, IsFlatPlace}
-use Rattle.twkb_body.specs.Devices.Quads.{FromLanes, IsQuadStep, StepsInLanes, IsFarStep}
+use Rattle.twkb_body.specs.Devices.LaneTrail.{holding, AllLeave, LeavesBox, PointsLeave, IsHeldRun, IsLaneStep, IsFlatPlace}
+use Rattle.twkb_body.specs.Devices.Quads.{lanes_within, FromLanes, IsQuadStep, StepsInLanes, IsFarStep}
 use Rattle.twkb_body.specs.Devices.Walk.{lasts_from}
 use Rattle.twkb_body.proofs.FlatRuns.{flat_begins}
 use Rattle.twkb_body.proofs.LaneRuns.{run_leaves, next_leaves}
@@ -113,21 +113,25 @@ module _ (lanes extent : List ℕ) (from new : Reading) (left : ℕ) where
   from_place follows known box last place = known place.across place.up box.x.extent box.y.extent place.lanes_are place.extent_is place.in_x place.in_y place.fits.0.wide place.fits.1.wide
 
   -- up to four points are a step
-  pub some_step : (step : Step) → step.points ≤ left → StepsInLanes lanes extent from new step → IsLaneStep 2 left IsFlatPlace lanes extent from new step
+  pub some_step : (step : Step) → step.points ≤ left → StepsInLanes lanes from new step → IsLaneStep 2 left IsFlatPlace lanes extent from new step
   some_step step few known = record {
-    inside = λ so box trail place. some_held box lanes extent from trail place step.reached.at step.reached.inside new step.points so (quad box trail.last place);
-    outside = λ so box last place. some_leave box lanes extent from last place left step.reached.at step.reached.inside new step.points few so (quad box last place);
+    inside = λ so box trail place. some_held box lanes extent from trail place step.reached.at (lanes_within step.reached.furthest extent) new step.points so (quad box trail.last place);
+    outside = λ so box last place. some_leave box lanes extent from last place left step.reached.at (lanes_within step.reached.furthest extent) new step.points few so (quad box last place);
   }
     where
-      quad : (box : RawBox) (last : PointValue) (place : IsFlatPlace box lanes extent last) → IsQuadStep box.x.extent box.y.extent place.across place.up from new step.points step.reached.at step.reached.inside
-      quad = from_place (λ x y w h. IsQuadStep w h x y from new step.points step.reached.at step.reached.inside) known
+      quad : (box : RawBox) (last : PointValue) (place : IsFlatPlace box lanes extent last) → IsQuadStep box.x.extent box.y.extent place.across place.up from new step.points step.reached.at (lanes_within step.reached.furthest extent)
+      quad = from_place (λ x y w h. IsQuadStep w h x y from new step.points step.reached.at (lanes_within step.reached.furthest extent)) (known extent)
 
   -- a point of any differences is a step
-  pub far_step : (reached : Reached) → 1 ≤ left → FromLanes lanes extent (λ x y w h. IsFarStep w h x y from new reached.at reached.inside) → IsLaneStep 2 left IsFlatPlace lanes extent from new (record { points = 1; reached = reached })
+  pub far_step : (reached : Reached) → 1 ≤ left → FromLanes lanes extent (λ x y w h. IsFarStep w h x y from new reached.at (lanes_within reached.furthest extent)) → IsLaneStep 2 left IsFlatPlace lanes extent from new (record { points = 1; reached = reached })
   far_step reached one known = record {
-    inside = λ so box trail place. far_held box lanes extent from trail place reached.at reached.inside new so (far box trail.last place);
-    outside = λ so box last place. far_leaves box lanes extent from last place left reached.at reached.inside new one so (far box last place);
+    inside = λ so box trail place. far_held box lanes extent from trail place reached.at (lanes_within reached.furthest extent) new so (far box trail.last place);
+    outside = λ so box last place. far_leaves box lanes extent from last place left reached.at (lanes_within reached.furthest extent) new one so (far box last place);
   }
     where
-      far : (box : RawBox) (last : PointValue) (place : IsFlatPlace box lanes extent last) → IsFarStep box.x.extent box.y.extent place.across place.up from new reached.at reached.inside
-      far = from_place (λ x y w h. IsFarStep w h x y from new reached.at reached.inside) known
+      far : (box : RawBox) (last : PointValue) (place : IsFlatPlace box lanes extent last) → IsFarStep box.x.extent box.y.extent place.across place.up from new reached.at (lanes_within reached.furthest extent)
+      far = from_place (λ x y w h. IsFarStep w h x y from new reached.at (lanes_within reached.furthest extent)) known
+
+  -- a point that is malformed, or leads out of the extents, leaves each box
+  pub far_leave : 1 ≤ left → FromLanes lanes extent (λ x y w h. IsFarStep w h x y from new [] false) → AllLeave 2 left IsFlatPlace lanes extent from
+  far_leave one known box last place = far_leaves box lanes extent from last place left [] false new one refl (from_place (λ x y w h. IsFarStep w h x y from new [] false) known box last place)

@@ -1,5 +1,5 @@
 -- Points of three axes or four that a box has to hold, read with a lane for each axis.
-use Rattle.std.proofs.Common.{◌≡◌, ℕ, zero, suc, ◌*◌, ◌≤◌, Bool, true, List, ◌∷◌, [], length, map, ℤ, refl, sym, ap, subst, ◌∙◌, arith}
+use Rattle.std.proofs.Common.{◌≡◌, ℕ, zero, suc, ◌*◌, ◌≤◌, Bool, true, false, List, ◌∷◌, [], length, map, ℤ, refl, sym, ap, subst, ◌∙◌, arith}
 use Rattle.std.proofs.lemmas.List.{length-map}
 use Rattle.std.specs.Int.{cast_signed}
 use Rattle.std.specs.Prelude.{All}
@@ -14,9 +14,9 @@ use Rattle.twkb_body.specs.declared.positions.Step.{Step}
 use Rattle.twkb_body.specs.declared.trail.Trail.{Trail}
 use Rattle.twkb_body.specs.Geometry.{PointValue}
 use Rattle.twkb_body.specs.Devices.FurtherLanes.{fours_of, FromFourLanes, extents, after, HaveGone, ReadsPoints, IsFurtherStep, IsFarPoint, IsFurtherPlace}
-use Rattle.twkb_body.specs.Devices.LaneTrail.{IsHeldRun, IsLaneStep}
+use Rattle.twkb_body.specs.Devices.LaneTrail.{AllLeave, IsHeldRun, IsLaneStep}
 use Rattle.twkb_body.specs.Devices.PerAxis.{axes_by, by_axis, differences_at}
-use Rattle.twkb_body.specs.Devices.Quads.{pairs_of, ReadsPairs, ReadsAtMost}
+use Rattle.twkb_body.specs.Devices.Quads.{lanes_within, pairs_of, ReadsPairs, ReadsAtMost}
 use Rattle.twkb_body.proofs.FurtherRuns.{wide, IsAt, begins, all_inside, next_outside, some_outside}
 use Rattle.twkb_body.proofs.Keeping.{Keeps, keeps_viewed, keeps_signeds}
 use Rattle.twkb_body.proofs.NumberSteps.{four_read}
@@ -42,25 +42,31 @@ pub differences_keep : (has_fourth : Bool) → Keeps (differences_at has_fourth)
 differences_keep has_fourth r = keeps_viewed by_axis (signeds_at (axes_by has_fourth) r) ∙ keeps_signeds (axes_by has_fourth) r
 
 -- points that were read, and that lead to lanes, are a step
-pub points_step : (has_fourth : Bool) (ds : List PerAxis) (n : ℕ) (at extent : List ℕ) (old new : Reading) (reached : Reached) → length ds ≡ n → 1 ≤ n → new.bytes ≡ old.bytes → ReadsPoints has_fourth ds old new
-    → FromFourLanes at extent (λ apart e. HaveGone e apart ds reached.at reached.inside) → ReadsAtMost n (IsFurtherStep has_fourth at extent) old new (record { points = n; reached = reached })
-points_step has_fourth ds n at extent old new reached many some bytes read lead = record {
+pub points_step : (has_fourth : Bool) (ds : List PerAxis) (n : ℕ) (at : List ℕ) (old new : Reading) (reached : Reached) → length ds ≡ n → 1 ≤ n → new.bytes ≡ old.bytes → ReadsPoints has_fourth ds old new
+    → ((extent : List ℕ) → FromFourLanes at extent (λ apart e. HaveGone e apart ds reached.at (lanes_within reached.furthest extent))) → ReadsAtMost n (IsFurtherStep has_fourth at) old new (record { points = n; reached = reached })
+points_step has_fourth ds n at old new reached many some bytes read lead = record {
   few = omega arith;
   none = λ e. absurd (omega (arith, e, some));
   bytes = bytes;
-  step = λ apart e at_is extent_is in_lanes wide. (ds, many, read, lead apart e at_is extent_is in_lanes wide);
+  step = λ extent apart e at_is extent_is in_lanes wide. (ds, many, read, lead extent apart e at_is extent_is in_lanes wide);
 }
 
+-- at most some points are at most more points
+pub at_most : (has_fourth is_there : Bool) (n left : ℕ) (at : List ℕ) (old new : Reading) (step : Step) → has_fourth ≡ is_there → n ≤ left
+    → ReadsAtMost n (IsFurtherStep is_there at) old new step → ReadsAtMost left (IsFurtherStep has_fourth at) old new step
+at_most has_fourth is_there n left at old new step same le read =
+    subst (λ (b : Bool). ReadsAtMost left (IsFurtherStep b at) old new step) (sym same) (record { few = omega (arith, read.few, le); none = read.none; bytes = read.bytes; step = read.step })
+
 -- numbers in lanes that were read, and whose fours lead to other lanes, are a step
-pub four_lanes_step : (w : Width) (lanes : List ℕ) (n : ℕ) (at extent : List ℕ) (old new : Reading) (reached : Reached) → length lanes ≡ n * 4 → 1 ≤ n
+pub four_lanes_step : (w : Width) (lanes : List ℕ) (n : ℕ) (at : List ℕ) (old new : Reading) (reached : Reached) → length lanes ≡ n * 4 → 1 ≤ n
     → SpellsAllSigned (passed old new) (map (cast_signed w) lanes) → IsMoved old new → All IsShort (map (cast_signed w) lanes)
-    → FromFourLanes at extent (λ apart e. HaveGone e apart (fours_of (pairs_of (map (cast_signed w) lanes))) reached.at reached.inside)
-    → ReadsAtMost n (IsFurtherStep true at extent) old new (record { points = n; reached = reached })
-four_lanes_step w lanes n at extent old new reached long some all moved short lead =
+    → ((extent : List ℕ) → FromFourLanes at extent (λ apart e. HaveGone e apart (fours_of (pairs_of (map (cast_signed w) lanes))) reached.at (lanes_within reached.furthest extent)))
+    → ReadsAtMost n (IsFurtherStep true at) old new (record { points = n; reached = reached })
+four_lanes_step w lanes n at old new reached long some all moved short lead =
     let zs = map (cast_signed w) lanes in
     let twice : length zs ≡ n * 2 * 2 = length-map lanes (cast_signed w) ∙ omega (arith, long) in
     let even = pairs_many zs (n * 2) twice in
-    points_step true (fours_of (pairs_of zs)) n at extent old new reached (fours_many (pairs_of zs) n even) some moved.bytes (fours_read (pairs_of zs) n old new even (pairs_read zs (n * 2) old new twice (omega (arith, some)) all moved short)) lead
+    points_step true (fours_of (pairs_of zs)) n at old new reached (fours_many (pairs_of zs) n even) some moved.bytes (fours_read (pairs_of zs) n old new even (pairs_read zs (n * 2) old new twice (omega (arith, some)) all moved short)) lead
 
 module _ (has_fourth : Bool) (lanes extent : List ℕ) (from : Reading) where
   module _ (box : RawBox) (start : Trail) (place : IsFurtherPlace has_fourth box lanes extent start.last) where
@@ -83,18 +89,18 @@ module _ (has_fourth : Bool) (lanes extent : List ℕ) (from : Reading) where
     alone last = record { last = last; points = 0 }
 
     -- points read by vectors are a step
-    pub further_step : (step : Step) → step.points ≤ left → IsFurtherStep has_fourth lanes extent from new step → IsLaneStep (axes_by has_fourth) left (IsFurtherPlace has_fourth) lanes extent from new step
+    pub further_step : (step : Step) → step.points ≤ left → IsFurtherStep has_fourth lanes from new step → IsLaneStep (axes_by has_fourth) left (IsFurtherPlace has_fourth) lanes extent from new step
     further_step step few known = record {
       inside = λ so box trail place.
-          let read = known place.apart (extents box) place.lanes_are place.extent_is place.in_lanes (wide has_fourth box place.fits) in
+          let read = known extent place.apart (extents box) place.lanes_are place.extent_is place.in_lanes (wide has_fourth box place.fits) in
           held box trail place read.0 step.reached.at new step.points read.1 read.2 (subst (HaveGone (extents box) place.apart read.0 step.reached.at) so read.3);
       outside = λ so box last place.
-          let read = known place.apart (extents box) place.lanes_are place.extent_is place.in_lanes (wide has_fourth box place.fits) in
+          let read = known extent place.apart (extents box) place.lanes_are place.extent_is place.in_lanes (wide has_fourth box place.fits) in
           some_outside has_fourth box place.fits (alone last) from left read.0 place.apart from new 0 (omega (arith, read.1, few)) read.2 (sym read.3.inside_is ∙ so) (begun box (alone last) place);
     }
 
     -- a point of any differences is a step
-    pub far_further_step : (reached : Reached) → 1 ≤ left → FromFourLanes lanes extent (λ apart e. IsFarPoint has_fourth e apart from new reached.at reached.inside)
+    pub far_further_step : (reached : Reached) → 1 ≤ left → FromFourLanes lanes extent (λ apart e. IsFarPoint has_fourth e apart from new reached.at (lanes_within reached.furthest extent))
         → IsLaneStep (axes_by has_fourth) left (IsFurtherPlace has_fourth) lanes extent from new (record { points = 1; reached = reached })
     far_further_step reached one known = record {
       inside = λ so box trail place.
@@ -104,3 +110,9 @@ module _ (has_fourth : Bool) (lanes extent : List ℕ) (from : Reading) where
           let far = subst (IsFarPoint has_fourth (extents box) place.apart from new reached.at) so (known place.apart (extents box) place.lanes_are place.extent_is place.in_lanes (wide has_fourth box place.fits)) in
           next_outside has_fourth box place.fits (alone last) from left place.apart from 0 one far (begun box (alone last) place);
     }
+
+    -- a point that is malformed, or leads out of the extents, leaves each box
+    pub far_further_leave : 1 ≤ left → FromFourLanes lanes extent (λ apart e. IsFarPoint has_fourth e apart from new [] false) → AllLeave (axes_by has_fourth) left (IsFurtherPlace has_fourth) lanes extent from
+    far_further_leave one known box last place =
+        let far = known place.apart (extents box) place.lanes_are place.extent_is place.in_lanes (wide has_fourth box place.fits) in
+        next_outside has_fourth box place.fits (alone last) from left place.apart from 0 one far (begun box (alone last) place)

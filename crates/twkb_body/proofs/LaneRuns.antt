@@ -1,5 +1,5 @@
 -- Points that a box has to hold, read some at a time in lanes: to the last one, or to one that is outside.
-use Rattle.std.proofs.Common.{◌≡◌, ℕ, ◌+◌, ◌-◌, ◌≤◌, Bool, ◌&&◌, List, flat_map, fold, None, sym, ap, subst, ◌∙◌, arith}
+use Rattle.std.proofs.Common.{◌≡◌, ℕ, ◌+◌, ◌-◌, ◌≤◌, Bool, true, false, ◌&&◌, List, flat_map, fold, None, refl, sym, ap, subst, ◌∙◌, arith}
 use Rattle.twkb_num.specs.Cursor.{Reading}
 use Rattle.twkb_head.specs.declared.raw.RawBox.{RawBox}
 use Rattle.twkb_head.specs.Shared.Reader.{many_at}
@@ -15,6 +15,11 @@ use Rattle.twkb_body.proofs.PartPlans.{flat_single}
 use Rattle.twkb_body.proofs.PointReads.{rest_leads, loop_leads, next_leads}
 use Rattle.twkb_body.proofs.Runs.{run_append, ring_goes_far}
 use Rattle.twkb_body.proofs.Walks.{IsRingLoop, walk_begins, one_point, add_is_sums}
+
+-- what holds in either case holds
+pub in_either : {P : Type 0} → (b : Bool) → (b ≡ true → P) → (b ≡ false → P) → P
+in_either true if_true if_false = if_true refl
+in_either false if_true if_false = if_false refl
 
 -- once a point is outside, no point changes that
 stays_outside : (axes : ℕ) (held : Held) (point : PointValue) → IsOutside held → IsOutside (held_then axes held point)

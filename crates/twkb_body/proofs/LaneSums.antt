@@ -1,5 +1,5 @@
 -- Sums in lanes, in two's complement.
-use Rattle.std.proofs.Common.{◌≡◌, ℕ, ◌+◌, ◌%◌, List, [], ◌∷◌, map, ◌^◌, ℤ, pos, negsuc, neg_ℤ, ◌+ℤ◌, ◌≤ℤ◌, ◌<ℤ◌, inl, inr, refl, sym, ap, ap₂, ◌∙◌, arith, Fits, w16, w32, Bool, true, false, ◌&&◌, nat_eq, nat_le}
+use Rattle.std.proofs.Common.{◌≡◌, ℕ, ◌+◌, ◌%◌, List, [], ◌∷◌, map, ◌^◌, ℤ, pos, negsuc, neg_ℤ, ◌+ℤ◌, ◌≤ℤ◌, ◌<ℤ◌, inl, inr, refl, sym, ap, ap₂, ◌∙◌, arith, Fits, w16, w32, Bool, true, false, ◌&&◌, nat_eq, nat_le, length, slice_index}
 use Rattle.std.proofs.lemmas.Int.{ints, of_z-to_z}
 use Rattle.std.specs.Int.{cast_signed, cast_unsigned}
 use mir.Syntax.{Width}
@@ -10,9 +10,9 @@ use lib.Lanes.{Each1, mask_l}
 use Rattle.twkb_num.specs.Varint.{IsBrief, IsShort}
 use Rattle.twkb_body.specs.declared.per_axis.PerAxis.{PerAxis}
 use Rattle.twkb_body.specs.Devices.BoxTest.{reaches}
-use Rattle.twkb_body.specs.Devices.FurtherLanes.{four_lanes, all_within, HaveGone}
+use Rattle.twkb_body.specs.Devices.FurtherLanes.{four_lanes, lane_ends, all_within, HaveGone}
 use Rattle.twkb_body.specs.Devices.PerAxis.{Each, plus}
-use Rattle.twkb_body.specs.Devices.Quads.{IsInLane, IsLaneExtent}
+use Rattle.twkb_body.specs.Devices.Quads.{lane_end, lanes_within, IsInLane, IsLaneExtent}
 use Rattle.twkb_body.proofs.BoxDistances.{reaches_decides, both_true}
 
 -- a distance to which at most four short differences lead from one that a lane holds
@@ -96,6 +96,22 @@ lane_reaches extent z e m =
     (reaches_decides extent z).1 (omega (arith, ints, low, e.0, e.1, m.0, m.1, lane, width), omega (arith, ints, low, e.0, e.1, m.0, m.1, lane, width)))
     (λ r. let in_it = (reaches_decides extent z).0 r in le-leb _ _ (omega (arith, ints, in_it.0, in_it.1, e.0, e.1, m.0, m.1, lane, width)))
 
+-- so it does for a distance in a lane
+pub lane_tells : (extent z : ℤ) → IsLaneExtent extent → reaches lane_end z ≡ true → nat_le (cast_unsigned w32 z) (cast_unsigned w32 extent) ≡ reaches extent z
+lane_tells extent z e there = let in_it = (reaches_decides lane_end z).0 there in lane_reaches extent z e (omega (arith, ints, in_it.0), omega (arith, ints, in_it.1))
+
+-- four comparisons decide whether the distances of a point are within the extents
+pub lanes_tell : (e apart : PerAxis) → Each IsLaneExtent e → all_within lane_ends apart ≡ true → lanes_within (four_lanes apart) (four_lanes e) ≡ all_within e apart
+lanes_tell e apart wide there =
+    let two = both_true (reaches lane_end apart.x && reaches lane_end apart.y) (reaches lane_end apart.third && reaches lane_end apart.fourth) there in
+    let flat = both_true (reaches lane_end apart.x) (reaches lane_end apart.y) two.0 in
+    let further = both_true (reaches lane_end apart.third) (reaches lane_end apart.fourth) two.1 in
+    let x = lane_tells e.x apart.x wide.x flat.0 in
+    let y = lane_tells e.y apart.y wide.y flat.1 in
+    let z = lane_tells e.third apart.third wide.third further.0 in
+    let m = lane_tells e.fourth apart.fourth wide.fourth further.1 in
+    (λ j. (x j && y j) && (z j && m j))
+
 -- the greater of two numbers is within a bound exactly if both are
 pub greater_within : (a b w : ℕ) → nat_le (if nat_lt a b then b else a) w ≡ (nat_le a w && nat_le b w)
 greater_within a b w =
@@ -103,6 +119,38 @@ greater_within a b w =
 
 and_true : (a b : Bool) → a ≡ true → b ≡ true → a && b ≡ true
 and_true a b e f = ap₂ (λ (p q : Bool). p && q) e f
+
+-- the greater of two lists in a place
+abbrev pub greater_lane : List ℕ → List ℕ → ℕ → ℕ
+greater_lane first second i = if nat_lt (slice_index first i) (slice_index second i) then slice_index second i else slice_index first i
+
+-- lanes that are compared two by two are compared all
+each_of_both : (a b c d e f g h : Bool) → ((a && e) && (b && f)) && ((c && g) && (d && h)) ≡ ((a && b) && (c && d)) && ((e && f) && (g && h))
+each_of_both a b c d e f g h =
+    same_truth (((a && e) && (b && f)) && ((c && g) && (d && h))) (((a && b) && (c && d)) && ((e && f) && (g && h)))
+    (λ t.
+    let two = both_true ((a && e) && (b && f)) ((c && g) && (d && h)) t in
+    let low = both_true (a && e) (b && f) two.0 in
+    let high = both_true (c && g) (d && h) two.1 in
+    let ae = both_true a e low.0 in
+    let bf = both_true b f low.1 in
+    let cg = both_true c g high.0 in
+    let dh = both_true d h high.1 in
+    and_true ((a && b) && (c && d)) ((e && f) && (g && h)) (and_true (a && b) (c && d) (and_true a b ae.0 bf.0) (and_true c d cg.0 dh.0)) (and_true (e && f) (g && h) (and_true e f ae.1 bf.1) (and_true g h cg.1 dh.1)))
+    (λ t.
+    let two = both_true ((a && b) && (c && d)) ((e && f) && (g && h)) t in
+    let one = both_true (a && b) (c && d) two.0 in
+    let other = both_true (e && f) (g && h) two.1 in
+    let ab = both_true a b one.0 in
+    let cd = both_true c d one.1 in
+    let ef = both_true e f other.0 in
+    let gh = both_true g h other.1 in
+    and_true ((a && e) && (b && f)) ((c && g) && (d && h)) (and_true (a && e) (b && f) (and_true a e ab.0 ef.0) (and_true b f ab.1 ef.1)) (and_true (c && g) (d && h) (and_true c g cd.0 gh.0) (and_true d h cd.1 gh.1)))
+
+-- a test that is made twice
+pub twice : (a : Bool) → (a && a) ≡ a
+twice true = refl
+twice false = refl
 
 -- points that are compared two by two, one after another
 pub one_by_one : (x1 y1 x2 y2 : Bool) → (x1 && y1) && (x2 && y2) ≡ (x1 && y1) && ((x2 && y2) && true)
@@ -112,54 +160,34 @@ one_by_one true true false y2 = refl
 one_by_one true true true false = refl
 one_by_one true true true true = refl
 
-pub each_of_four : (x1 y1 x2 y2 x3 y3 x4 y4 : Bool) → ((x1 && x3) && (y1 && y3)) && ((x2 && x4) && (y2 && y4)) ≡ (x1 && y1) && ((x2 && y2) && ((x3 && y3) && ((x4 && y4) && true)))
-each_of_four x1 y1 x2 y2 x3 y3 x4 y4 =
-    same_truth (((x1 && x3) && (y1 && y3)) && ((x2 && x4) && (y2 && y4))) ((x1 && y1) && ((x2 && y2) && ((x3 && y3) && ((x4 && y4) && true))))
-    (λ e.
-    let two = both_true ((x1 && x3) && (y1 && y3)) ((x2 && x4) && (y2 && y4)) e in
-    let odd = both_true (x1 && x3) (y1 && y3) two.0 in
-    let even = both_true (x2 && x4) (y2 && y4) two.1 in
-    let x = both_true x1 x3 odd.0 in
-    let y = both_true y1 y3 odd.1 in
-    let u = both_true x2 x4 even.0 in
-    let v = both_true y2 y4 even.1 in
-    and_true (x1 && y1) ((x2 && y2) && ((x3 && y3) && ((x4 && y4) && true))) (and_true x1 y1 x.0 y.0)
-    (and_true (x2 && y2) ((x3 && y3) && ((x4 && y4) && true)) (and_true x2 y2 u.0 v.0)
-    (and_true (x3 && y3) ((x4 && y4) && true) (and_true x3 y3 x.1 y.1) (and_true (x4 && y4) true (and_true x4 y4 u.1 v.1) refl))))
-    (λ e.
-    let one = both_true (x1 && y1) ((x2 && y2) && ((x3 && y3) && ((x4 && y4) && true))) e in
-    let two = both_true (x2 && y2) ((x3 && y3) && ((x4 && y4) && true)) one.1 in
-    let three = both_true (x3 && y3) ((x4 && y4) && true) two.1 in
-    let a = both_true x1 y1 one.0 in
-    let b = both_true x2 y2 two.0 in
-    let c = both_true x3 y3 three.0 in
-    let d = both_true x4 y4 (both_true (x4 && y4) true three.1).0 in
-    and_true ((x1 && x3) && (y1 && y3)) ((x2 && x4) && (y2 && y4)) (and_true (x1 && x3) (y1 && y3) (and_true x1 x3 a.0 c.0) (and_true y1 y3 a.1 c.1))
-    (and_true (x2 && x4) (y2 && y4) (and_true x2 x4 b.0 d.0) (and_true y2 y4 b.1 d.1)))
+-- the points of two such comparisons, one after another
+pub each_of_four : (p q r s : Bool) → (p && q) && (r && s) ≡ p && (q && (r && (s && true)))
+each_of_four false q r s = refl
+each_of_four true false r s = refl
+each_of_four true true false s = refl
+each_of_four true true true false = refl
+each_of_four true true true true = refl
 
--- two points of four axes that are compared axis by axis
-pub each_of_two : (x y z m u v w n : Bool) → ((x && u) && (y && v)) && ((z && w) && (m && n)) ≡ ((x && y) && (z && m)) && (((u && v) && (w && n)) && true)
-each_of_two x y z m u v w n =
-    same_truth (((x && u) && (y && v)) && ((z && w) && (m && n))) (((x && y) && (z && m)) && (((u && v) && (w && n)) && true))
-    (λ e.
-    let two = both_true ((x && u) && (y && v)) ((z && w) && (m && n)) e in
-    let flat = both_true (x && u) (y && v) two.0 in
-    let further = both_true (z && w) (m && n) two.1 in
-    let in_x = both_true x u flat.0 in
-    let in_y = both_true y v flat.1 in
-    let in_z = both_true z w further.0 in
-    let in_m = both_true m n further.1 in
-    and_true ((x && y) && (z && m)) (((u && v) && (w && n)) && true) (and_true (x && y) (z && m) (and_true x y in_x.0 in_y.0) (and_true z m in_z.0 in_m.0))
-    (and_true ((u && v) && (w && n)) true (and_true (u && v) (w && n) (and_true u v in_x.1 in_y.1) (and_true w n in_z.1 in_m.1)) refl))
-    (λ e.
-    let two = both_true ((x && y) && (z && m)) (((u && v) && (w && n)) && true) e in
-    let one = both_true (x && y) (z && m) two.0 in
-    let other = both_true (u && v) (w && n) (both_true ((u && v) && (w && n)) true two.1).0 in
-    let a = both_true x y one.0 in
-    let b = both_true z m one.1 in
-    let c = both_true u v other.0 in
-    let d = both_true w n other.1 in
-    and_true ((x && u) && (y && v)) ((z && w) && (m && n)) (and_true (x && u) (y && v) (and_true x u a.0 c.0) (and_true y v a.1 c.1)) (and_true (z && w) (m && n) (and_true z w b.0 d.0) (and_true m n b.1 d.1)))
+-- lanes are four numbers
+pub four_lanes_are : (lanes : List ℕ) → length lanes ≡ 4 → lanes ≡ slice_index lanes 0 ∷ slice_index lanes 1 ∷ slice_index lanes 2 ∷ slice_index lanes 3 ∷ []
+four_lanes_are [] e = absurd (omega (arith, e))
+four_lanes_are (a ∷ []) e = absurd (omega (arith, e))
+four_lanes_are (a ∷ b ∷ []) e = absurd (omega (arith, e))
+four_lanes_are (a ∷ b ∷ c ∷ []) e = absurd (omega (arith, e))
+four_lanes_are (a ∷ b ∷ c ∷ d ∷ []) e = refl
+four_lanes_are (a ∷ b ∷ c ∷ d ∷ z ∷ zs) e = absurd (omega (arith, e))
+
+-- comparing the greater lanes compares both
+pub greater_lanes_within : (first second limits : List ℕ)
+    → lanes_within (greater_lane first second 0 ∷ greater_lane first second 1 ∷ greater_lane first second 2 ∷ greater_lane first second 3 ∷ []) limits ≡ (lanes_within first limits && lanes_within second limits)
+greater_lanes_within first second limits =
+    (λ j. (each 0 j && each 1 j) && (each 2 j && each 3 j)) ∙ each_of_both (within first 0) (within first 1) (within first 2) (within first 3) (within second 0) (within second 1) (within second 2) (within second 3)
+  where
+    within : List ℕ → ℕ → Bool
+    within lanes i = nat_le (slice_index lanes i) (slice_index limits i)
+
+    each : (i : ℕ) → nat_le (greater_lane first second i) (slice_index limits i) ≡ (within first i && within second i)
+    each i = greater_within (slice_index first i) (slice_index second i) (slice_index limits i)
 
 pub four_set : (p q r s : Bool) → nat_eq (mask_l (p ∷ q ∷ r ∷ s ∷ []) % 18446744073709551616) 15 ≡ (p && q) && (r && s)
 four_set true true true true = refl
@@ -179,14 +207,12 @@ four_set false false true false = refl
 four_set false false false true = refl
 four_set false false false false = refl
 
--- the distances of one point, by the sums of lanes and one comparison without signs
-pub one_gone : (e apart d : PerAxis) (place : List ℕ) (inside : Bool) → Each IsShort d → Each IsInLane apart → Each IsLaneExtent e
+-- the distances of one point, by the sums of lanes
+pub one_gone : (e apart d : PerAxis) (place extent : List ℕ) → Each IsShort d → Each IsInLane apart → Each IsLaneExtent e
     → place ≡ ((cast_unsigned w32 d.x + cast_unsigned w32 apart.x) % 4294967296) ∷ ((cast_unsigned w32 d.y + cast_unsigned w32 apart.y) % 4294967296)
     ∷ ((cast_unsigned w32 d.third + cast_unsigned w32 apart.third) % 4294967296) ∷ ((cast_unsigned w32 d.fourth + cast_unsigned w32 apart.fourth) % 4294967296) ∷ []
-    → (place ≡ four_lanes (plus apart d) → inside ≡ (nat_le (cast_unsigned w32 (apart.x +ℤ d.x)) (cast_unsigned w32 e.x) && nat_le (cast_unsigned w32 (apart.y +ℤ d.y)) (cast_unsigned w32 e.y))
-    && (nat_le (cast_unsigned w32 (apart.third +ℤ d.third)) (cast_unsigned w32 e.third) && nat_le (cast_unsigned w32 (apart.fourth +ℤ d.fourth)) (cast_unsigned w32 e.fourth)))
-    → HaveGone e apart (d ∷ []) place inside
-one_gone e apart d place inside short in_lanes wide sums test =
+    → extent ≡ four_lanes e → HaveGone e apart (d ∷ []) place (lanes_within place extent)
+one_gone e apart d place extent short in_lanes wide sums extent_is =
     let x = one_lane d.x apart.x short.x in_lanes.x in
     let y = one_lane d.y apart.y short.y in_lanes.y in
     let z = one_lane d.third apart.third short.third in_lanes.third in
@@ -196,7 +222,7 @@ one_gone e apart d place inside short in_lanes wide sums test =
     let ry = lane_reaches e.y (apart.y +ℤ d.y) wide.y (met apart.y d.y in_lanes.y short.y) in
     let rz = lane_reaches e.third (apart.third +ℤ d.third) wide.third (met apart.third d.third in_lanes.third short.third) in
     let rm = lane_reaches e.fourth (apart.fourth +ℤ d.fourth) wide.fourth (met apart.fourth d.fourth in_lanes.fourth short.fourth) in
-    record { at_is = there; inside_is = test there ∙ (λ j. (rx j && ry j) && (rz j && rm j)) ∙ and_true_right (all_within e (plus apart d)) }
+    record { at_is = there; inside_is = ap₂ lanes_within there extent_is ∙ (λ j. (rx j && ry j) && (rz j && rm j)) ∙ and_true_right (all_within e (plus apart d)) }
   where
     met : (x d : ℤ) → IsInLane x → IsShort d → IsMetInLane (x +ℤ d)
     met x d l short = (omega (arith, ints, l.0, short.0), omega (arith, ints, l.1, short.1))

@@ -10,7 +10,7 @@ use Rattle.twkb_num.specs.Cursor.{Reading, passed, IsMoved}
 use Rattle.twkb_num.specs.Varint.{SpellsAllSigned, IsShort, IsBrief}
 use Rattle.twkb_num.proofs.PairLaws.{pair_and_others, last_pair}
 use Rattle.twkb_body.specs.declared.positions.Reached.{Reached}
-use Rattle.twkb_body.specs.Devices.Quads.{pairs_of, ReadsPairs, HaveReached, FromLanes, StepsInLanes, ReadsAtMost}
+use Rattle.twkb_body.specs.Devices.Quads.{lanes_within, pairs_of, ReadsPairs, HaveReached, FromLanes, StepsInLanes, ReadsAtMost}
 
 -- a number that two bytes can spell can be spelled by four
 brief_short : (z : ℤ) → IsBrief z → IsShort z
@@ -38,22 +38,23 @@ pairs_many (a ∷ b ∷ zs) zero long = absurd (omega (arith, long))
 pairs_many (a ∷ b ∷ zs) (suc n) long = ap suc (pairs_many zs n (omega (arith, long)))
 
 -- pairs that were read, and that lead to lanes, are a step
-pub pairs_step : (ds : List (ℤ × ℤ)) (n left : ℕ) (at extent : List ℕ) (old new : Reading) (reached : Reached) → length ds ≡ n → 1 ≤ n → n ≤ 4 → n ≤ left → new.bytes ≡ old.bytes → ReadsPairs ds old new
-    → FromLanes at extent (λ x y w h. HaveReached w h x y ds reached.at reached.inside) → ReadsAtMost left (StepsInLanes at extent) old new (record { points = n; reached = reached })
-pairs_step ds n left at extent old new reached many some few enough bytes read lead = record {
+pub pairs_step : (ds : List (ℤ × ℤ)) (n left : ℕ) (at : List ℕ) (old new : Reading) (reached : Reached) → length ds ≡ n → 1 ≤ n → n ≤ 16 → n ≤ left → new.bytes ≡ old.bytes → ReadsPairs ds old new
+    → ((extent : List ℕ) → FromLanes at extent (λ x y w h. HaveReached w h x y ds reached.at (lanes_within reached.furthest extent))) → ReadsAtMost left (StepsInLanes at) old new (record { points = n; reached = reached })
+pairs_step ds n left at old new reached many some few enough bytes read lead = record {
   few = enough;
   none = λ e. absurd (omega (arith, e, some));
   bytes = bytes;
-  step = λ x y w h at_is extent_is x_in y_in w_fits h_fits. record { differences = ds; many = many; few = few; read = read; reached = lead x y w h at_is extent_is x_in y_in w_fits h_fits };
+  step = λ extent x y w h at_is extent_is x_in y_in w_fits h_fits. record { differences = ds; many = many; few = few; read = read; reached = lead extent x y w h at_is extent_is x_in y_in w_fits h_fits };
 }
 
 -- numbers in lanes that were read, and whose pairs lead to other lanes, are a step
-pub lanes_step : (w : Width) (lanes : List ℕ) (n left : ℕ) (at extent : List ℕ) (old new : Reading) (reached : Reached) → length lanes ≡ n * 2 → 1 ≤ n → n ≤ 4 → n ≤ left
+pub lanes_step : (w : Width) (lanes : List ℕ) (n left : ℕ) (at : List ℕ) (old new : Reading) (reached : Reached) → length lanes ≡ n * 2 → 1 ≤ n → n ≤ 16 → n ≤ left
     → SpellsAllSigned (passed old new) (map (cast_signed w) lanes) → IsMoved old new → All IsShort (map (cast_signed w) lanes)
-    → FromLanes at extent (λ x y w' h. HaveReached w' h x y (pairs_of (map (cast_signed w) lanes)) reached.at reached.inside) → ReadsAtMost left (StepsInLanes at extent) old new (record { points = n; reached = reached })
-lanes_step w lanes n left at extent old new reached many some few enough all moved short lead =
+    → ((extent : List ℕ) → FromLanes at extent (λ x y w' h. HaveReached w' h x y (pairs_of (map (cast_signed w) lanes)) reached.at (lanes_within reached.furthest extent)))
+    → ReadsAtMost left (StepsInLanes at) old new (record { points = n; reached = reached })
+lanes_step w lanes n left at old new reached many some few enough all moved short lead =
     let long = length-map lanes (cast_signed w) ∙ many in
-    pairs_step (pairs_of (map (cast_signed w) lanes)) n left at extent old new reached (pairs_many _ n long) some few enough moved.bytes (pairs_read _ n old new long some all moved short) lead
+    pairs_step (pairs_of (map (cast_signed w) lanes)) n left at old new reached (pairs_many _ n long) some few enough moved.bytes (pairs_read _ n old new long some all moved short) lead
 
 -- the numbers in four lanes
 pub four_of : (w : Width) (lanes : List ℕ) → length lanes ≡ 4 → (a b c d : ℤ) × (map (cast_signed w) lanes ≡ a ∷ b ∷ c ∷ d ∷ [])

@@ -28,13 +28,22 @@ pub within_more : (k : ℕ) (z d : ℤ) → IsWithin k z → IsShort d → IsWit
 within_more k z d w short = record { low = omega (arith, ints, w.low, short.0); high = omega (arith, ints, w.high, short.1) }
 
 -- the coordinate at such a distance, plus a short difference, fits 64 bits
-coordinate_fits : (range : RawRange) (k : ℕ) (z d : ℤ) → k ≤ 4 → FitsLane range → IsWithin k z → IsShort d → SFits w64 ((range.minimum +ℤ z) +ℤ d)
+coordinate_fits : (range : RawRange) (k : ℕ) (z d : ℤ) → k ≤ 16 → FitsLane range → IsWithin k z → IsShort d → SFits w64 ((range.minimum +ℤ z) +ℤ d)
 coordinate_fits range k z d few fits w short =
     has_64_bits ((range.minimum +ℤ z) +ℤ d) (omega (arith, ints, few, fits.low.1, w.low, short.0)) (omega (arith, ints, few, fits.low.0, w.high, short.1))
 
-and_assoc : (a b c : Bool) → (a && b) && c ≡ a && (b && c)
+pub and_assoc : (a b c : Bool) → (a && b) && c ≡ a && (b && c)
 and_assoc false b c = refl
 and_assoc true b c = refl
+
+-- if extents hold all points, the last one's distances stay in lanes
+pub last_reached : (w h : ℤ) (differences : List (ℤ × ℤ)) (x y : ℤ) → IsLaneExtent w → IsLaneExtent h → IsInLane x → IsInLane y → all_reach w h x y differences ≡ true
+    → IsInLane (x_after x differences) × IsInLane (y_after y differences)
+last_reached w h [] x y w_fits h_fits in_x in_y e = (in_x, in_y)
+last_reached w h (d ∷ ds) x y w_fits h_fits in_x in_y e =
+    let both = both_true (reaches w (x +ℤ d.0) && reaches h (y +ℤ d.1)) (all_reach w h (x +ℤ d.0) (y +ℤ d.1) ds) e in
+    let one = both_true (reaches w (x +ℤ d.0)) (reaches h (y +ℤ d.1)) both.0 in
+    last_reached w h ds (x +ℤ d.0) (y +ℤ d.1) w_fits h_fits (reached_lane w (x +ℤ d.0) w_fits one.0) (reached_lane h (y +ℤ d.1) h_fits one.1) both.1
 
 module _ (start : Trail) (from : Reading) (box : RawBox) where
   -- i points were read, and the last one is at these distances from the minima of the box
@@ -45,7 +54,7 @@ module _ (start : Trail) (from : Reading) (box : RawBox) where
   judged : (across up : ℤ) (inside : Bool) → inside && (reaches box.x.extent across && reaches box.y.extent up) ≡ (inside && is_in_box 2 box ((box.x.minimum +ℤ across) ∷ (box.y.minimum +ℤ up) ∷ drop 2 start.last))
   judged across up inside = ap₂ (λ (a b : ℤ). inside && (reaches box.x.extent a && reaches box.y.extent b)) (sym (from_minimum box.x.minimum across)) (sym (from_minimum box.y.minimum up))
 
-  one_more : (k : ℕ) (across up : ℤ) (inside : Bool) (d : ℤ × ℤ) (ds : List (ℤ × ℤ)) (r new : Reading) (i : ℕ) → k ≤ 4 → FitsLanes box → IsWithin k across → IsWithin k up
+  one_more : (k : ℕ) (across up : ℤ) (inside : Bool) (d : ℤ × ℤ) (ds : List (ℤ × ℤ)) (r new : Reading) (i : ℕ) → k ≤ 16 → FitsLanes box → IsWithin k across → IsWithin k up
       → (read : ReadsPairs (d ∷ ds) r new) → IsRunAt across up inside r i
       → IsRunAt (across +ℤ d.0) (up +ℤ d.1) (inside && (reaches box.x.extent (across +ℤ d.0) && reaches box.y.extent (up +ℤ d.1))) read.0 (i + 1)
   one_more k across up inside d ds r new i few fits in_x in_y read run =
@@ -55,7 +64,7 @@ module _ (start : Trail) (from : Reading) (box : RawBox) where
       (omega (arith, ints)) (omega (arith, ints)) (ap (λ (b : Bool). record { box = box; inside = b }) (judged (across +ℤ d.0) (up +ℤ d.1) inside)) run
 
   -- a run goes on by the points of these differences
-  pairs_go_on : (differences : List (ℤ × ℤ)) (k : ℕ) (across up : ℤ) (inside : Bool) (r new : Reading) (i : ℕ) → length differences + k ≤ 4 → FitsLanes box → IsWithin k across → IsWithin k up
+  pairs_go_on : (differences : List (ℤ × ℤ)) (k : ℕ) (across up : ℤ) (inside : Bool) (r new : Reading) (i : ℕ) → length differences + k ≤ 16 → FitsLanes box → IsWithin k across → IsWithin k up
       → ReadsPairs differences r new → IsRunAt across up inside r i
       → IsRunAt (x_after across differences) (y_after up differences) (inside && all_reach box.x.extent box.y.extent across up differences) new (i + length differences)
   pairs_go_on [] k across up inside r new i few fits in_x in_y read run =
@@ -79,15 +88,6 @@ module _ (start : Trail) (from : Reading) (box : RawBox) where
     pub in_x : IsInLane across
     pub in_y : IsInLane up
 
-  -- if extents hold all points, the last one's distances stay in lanes
-  last_reached : (w h : ℤ) (differences : List (ℤ × ℤ)) (x y : ℤ) → IsLaneExtent w → IsLaneExtent h → IsInLane x → IsInLane y → all_reach w h x y differences ≡ true
-      → IsInLane (x_after x differences) × IsInLane (y_after y differences)
-  last_reached w h [] x y w_fits h_fits in_x in_y e = (in_x, in_y)
-  last_reached w h (d ∷ ds) x y w_fits h_fits in_x in_y e =
-      let both = both_true (reaches w (x +ℤ d.0) && reaches h (y +ℤ d.1)) (all_reach w h (x +ℤ d.0) (y +ℤ d.1) ds) e in
-      let one = both_true (reaches w (x +ℤ d.0)) (reaches h (y +ℤ d.1)) both.0 in
-      last_reached w h ds (x +ℤ d.0) (y +ℤ d.1) w_fits h_fits (reached_lane w (x +ℤ d.0) w_fits one.0) (reached_lane h (y +ℤ d.1) h_fits one.1) both.1
-
   module _ (fits : FitsLanes box) (at : List ℕ) (r : Reading) (i : ℕ) (l : IsLaneRun at r i) where
     -- a step by up to four points leads to a run, which the box holds or not
     stepped : (next : List ℕ) (inside : Bool) (new : Reading) (points : ℕ) → (step : IsQuadStep box.x.extent box.y.extent l.across l.up r new points next inside)
@@ -105,7 +105,7 @@ module _ (start : Trail) (from : Reading) (box : RawBox) where
         record {
           across = x_after l.across ds;
           up = y_after l.up ds;
-          at_is = step.reached.at_is;
+          at_is = step.reached.at_is so;
           run = subst (λ (b : Bool). IsRunAt (x_after l.across ds) (y_after l.up ds) b new (i + points)) so (stepped next inside new points step);
           in_x = in_lanes.0;
           in_y = in_lanes.1;

@@ -1,14 +1,14 @@
 //! [`FlatLanes`], which reads points of X and Y in lanes. Used by `sure/parts`.
-ghost use Rattle.std.specs.Prelude.{◌≡◌, ◌&&◌, ◌+ℤ◌, IsTrue, true};
+ghost use Rattle.std.specs.Prelude.{◌≡◌, ◌&&◌, ◌+ℤ◌, ℕ, ℤ, List, [], IsTrue, IfSome, IfNone, true, false};
 ghost use Rattle.twkb_body.specs.Devices.BoxTest.{reaches};
 ghost use Rattle.twkb_body.specs.Devices.LaneTrail.{FitsLanes, IsFlatPlace};
-ghost use Rattle.twkb_body.specs.Devices.Quads.{lanes_at, FromLanes, IsFarStep};
+ghost use Rattle.twkb_body.specs.Devices.Quads.{lane_end, lanes_at, lanes_within, IsInLane, FromLanes, IsFarStep};
 ghost use Rattle.twkb_body.specs.Devices.Body.{zeros};
 
 use crate::lane_trail::{LaneReader, LaneTrail};
 use crate::parts::LinesCalled;
 use crate::positions::{
-    Reached, Step, distances_in, extent_bits, lanes_of, minimum_bits, moved_within,
+    Reached, Step, distances_in, extent_bits, lanes_of, minimum_bits, moved_in_lane,
 };
 use crate::quads::{next_one, next_points, next_two};
 use crate::varints::take_signed;
@@ -49,27 +49,27 @@ impl LaneReader for FlatLanes {
     /// Reads one point of an odd number and two of an even one, or none. If their numbers are short, steps of four and of two points
     /// read all other points.
     #[inline(always)]
-    fn take_first(&self, cursor: &mut Cursor, left: u64, at: u32x4, extent: u32x4) -> Step {
+    fn take_first(&self, cursor: &mut Cursor, left: u64, at: u32x4) -> Step {
         if left % 2 == 1 {
-            return next_one(cursor, at, extent);
+            return next_one(cursor, at);
         }
         if left == 0 {
             return Step::none(at);
         }
-        next_two(cursor, at, extent)
+        next_two(cursor, at)
     }
 
     /// Reads up to four points at once.
     #[inline(always)]
-    fn take_some(&self, cursor: &mut Cursor, left: u64, at: u32x4, extent: u32x4) -> Step {
-        let step = next_points(cursor, left, at, extent);
+    fn take_some(&self, cursor: &mut Cursor, left: u64, at: u32x4) -> Option<Step> {
+        let step = next_points(cursor, left, at);
         if step.points != 0 {
-            return step;
+            return Some(step);
         }
-        Step {
+        Some(Step {
             points: 1,
-            reached: far_point(cursor, at, extent),
-        }
+            reached: far_point(cursor, at)?,
+        })
     }
 }
 
@@ -85,40 +85,38 @@ pub fn fits_lanes(bounds: &RawBox) -> bool
     minima < 1 << 32 && extents < 1 << 30
 }
 
-/// Reads one point, whose differences may take more than four bytes. `inside` is false if it is malformed, too.
+/// Reads one point, whose differences may take more than four bytes. `None` says that it is malformed, or is in no box that lanes
+/// hold.
 // Out of line: most points are read by vectors.
 #[inline(never)]
-fn far_point(cursor: &mut Cursor, at: u32x4, extent: u32x4) -> Reached
+fn far_point(cursor: &mut Cursor, at: u32x4) -> Option<Reached>
     ensures bytes { cursor.new.bytes ≡ cursor.old.bytes }
-    ensures step { FromLanes at extent (λ x y w h. IsFarStep w h x y cursor.old cursor.new result.at result.inside) }
+    ensures some { IfSome result (λ reached. (extent : List ℕ) → FromLanes at extent (λ x y w h.
+        IsFarStep w h x y cursor.old cursor.new reached.at (lanes_within reached.furthest extent))) }
+    ensures none { IfNone result ((extent : List ℕ) → FromLanes at extent (λ x y w h.
+        IsFarStep w h x y cursor.old cursor.new [] false)) }
 {
     let Ok(x_more) = take_signed(cursor) else {
-        return Reached { at, inside: false };
+        return None;
     };
     let Ok(y_more) = take_signed(cursor) else {
-        return Reached { at, inside: false };
+        return None;
     };
-    far_reached(at, extent, x_more, y_more)
+    far_reached(at, x_more, y_more)
 }
 
-/// Where a point is, by differences of any length. If it isn't inside, `at` says nothing.
+/// Where a point is, by differences of any length, if lanes hold its distances.
 #[inline(always)]
-fn far_reached(at: u32x4, extent: u32x4, x_more: i64, y_more: i64) -> Reached
-    ensures inside { FromLanes at extent (λ x y w h. result.inside ≡ (reaches w (x +ℤ x_more) && reaches h (y +ℤ
-        y_more))) }
-    ensures at { FromLanes at extent (λ x y w h. result.inside ≡ true
-        → result.at ≡ lanes_at (x +ℤ x_more) (y +ℤ y_more)) }
+fn far_reached(at: u32x4, x_more: i64, y_more: i64) -> Option<Reached>
+    ensures some { IfSome result (λ reached. (x y : ℤ) → at ≡ lanes_at x y → IsInLane x → IsInLane y
+        → ((reaches lane_end (x +ℤ x_more) && reaches lane_end (y +ℤ y_more)) ≡ true)
+        × (reached.at ≡ lanes_at (x +ℤ x_more) (y +ℤ y_more)) × (reached.furthest ≡ reached.at)) }
+    ensures none { IfNone result ((x y : ℤ) → at ≡ lanes_at x y → IsInLane x → IsInLane y
+        → (reaches lane_end (x +ℤ x_more) && reaches lane_end (y +ℤ y_more)) ≡ false) }
 {
     let (x, y) = distances_in(at);
-    let (width, height) = distances_in(extent);
-    let Some(x) = moved_within(x, x_more, width) else {
-        return Reached { at, inside: false };
-    };
-    let Some(y) = moved_within(y, y_more, height) else {
-        return Reached { at, inside: false };
-    };
-    Reached {
-        at: lanes_of(x, y),
-        inside: true,
-    }
+    let x = moved_in_lane(x, x_more)?;
+    let y = moved_in_lane(y, y_more)?;
+    let at = lanes_of(x, y);
+    Some(Reached { at, furthest: at })
 }

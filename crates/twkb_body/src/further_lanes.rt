@@ -1,17 +1,17 @@
 //! [`FurtherLanes`], which reads points of three axes or four in lanes. Used by `sure/parts`.
-ghost use Rattle.std.specs.Prelude.{◌≡◌, ◌≤◌, true, false, IsTrue, IfSome, IfNone, Ok};
+ghost use Rattle.std.specs.Prelude.{◌≡◌, ◌≤◌, ℕ, List, [], true, false, IsTrue, IfSome, IfNone, Ok};
 ghost use Rattle.twkb_num.specs.Varint.{IsShort};
 ghost use Rattle.twkb_body.specs.Devices.Body.{zeros};
-ghost use Rattle.twkb_body.specs.Devices.FurtherLanes.{FitsFurther, all_within, FromFourLanes, IsFurtherStep, IsFarPoint, IsFurtherPlace};
+ghost use Rattle.twkb_body.specs.Devices.FurtherLanes.{FitsFurther, all_within, lane_ends, FromFourLanes, IsFurtherStep, IsFarPoint, IsFurtherPlace};
 ghost use Rattle.twkb_body.specs.Devices.PerAxis.{Each, plus, is_four, differences_at};
-ghost use Rattle.twkb_body.specs.Devices.Quads.{ReadsAtMost};
+ghost use Rattle.twkb_body.specs.Devices.Quads.{lanes_within, ReadsAtMost};
 
 use crate::lane_trail::{LaneReader, LaneTrail};
 use crate::parts::LinesInlined;
 use crate::per_axis::PerAxis;
 use crate::positions::{
-    Reached, Step, extent_bits, four_lanes_of, minimum_bits, moved_within, numbers_in, one_of_four,
-    one_of_three, two_further,
+    Reached, Step, extent_bits, four_lanes_of, minimum_bits, moved_in_lane, numbers_in,
+    one_of_four, one_of_three, two_further,
 };
 use crate::varints::take_signed;
 use std::simd::prelude::*;
@@ -61,9 +61,9 @@ impl<const AXES: usize> LaneReader for FurtherLanes<AXES> {
 
     /// Reads one point of four axes, or none.
     #[inline(always)]
-    fn take_first(&self, cursor: &mut Cursor, left: u64, at: u32x4, extent: u32x4) -> Step {
+    fn take_first(&self, cursor: &mut Cursor, left: u64, at: u32x4) -> Step {
         if AXES == 4 && 1 <= left {
-            point_of_four(cursor, at, extent)
+            point_of_four(cursor, at)
         } else {
             Step::none(at)
         }
@@ -71,15 +71,15 @@ impl<const AXES: usize> LaneReader for FurtherLanes<AXES> {
 
     /// Reads up to two points at once.
     #[inline(always)]
-    fn take_some(&self, cursor: &mut Cursor, left: u64, at: u32x4, extent: u32x4) -> Step {
-        let step = next_further::<AXES>(cursor, left, at, extent);
+    fn take_some(&self, cursor: &mut Cursor, left: u64, at: u32x4) -> Option<Step> {
+        let step = next_further::<AXES>(cursor, left, at);
         if step.points != 0 {
-            return step;
+            return Some(step);
         }
-        Step {
+        Some(Step {
             points: 1,
-            reached: far_point::<AXES>(cursor, at, extent),
-        }
+            reached: far_point::<AXES>(cursor, at)?,
+        })
     }
 }
 
@@ -105,20 +105,20 @@ pub fn fits_further<const AXES: usize>(bounds: &RawBox) -> bool
 /// Reads two points at the place, or one, by their distances from the minima of a box, in lanes. It reads none if a difference of
 /// the first takes more than four bytes, or if few bytes are left.
 #[inline(always)]
-fn next_further<const AXES: usize>(cursor: &mut Cursor, left: u64, at: u32x4, extent: u32x4) -> Step
+fn next_further<const AXES: usize>(cursor: &mut Cursor, left: u64, at: u32x4) -> Step
     requires { 1 ≤ left }
-    ensures { ReadsAtMost left (IsFurtherStep (is_four AXES) at extent) cursor.old cursor.new result }
+    ensures { ReadsAtMost left (IsFurtherStep (is_four AXES) at) cursor.old cursor.new result }
 {
     if AXES != 4 {
-        return point_of_three(cursor, at, extent);
+        return point_of_three(cursor, at);
     }
     if 2 <= left {
-        let step = two_points(cursor, at, extent);
+        let step = two_points(cursor, at);
         if step.points != 0 {
             return step;
         }
     }
-    point_of_four(cursor, at, extent)
+    point_of_four(cursor, at)
 }
 
 /// Reads the differences of a point of three axes, a pair and a number after it, if each takes at most four bytes, or nothing.
@@ -138,13 +138,13 @@ fn take_three(cursor: &mut Cursor) -> Option<PerAxis>
 
 /// Reads one point of three axes, or none.
 #[inline(always)]
-fn point_of_three(cursor: &mut Cursor, at: u32x4, extent: u32x4) -> Step
-    ensures { ReadsAtMost 1 (IsFurtherStep false at extent) cursor.old cursor.new result }
+fn point_of_three(cursor: &mut Cursor, at: u32x4) -> Step
+    ensures { ReadsAtMost 1 (IsFurtherStep false at) cursor.old cursor.new result }
 {
     match take_three(cursor) {
         Some(more) => Step {
             points: 1,
-            reached: one_of_three(&more, at, extent),
+            reached: one_of_three(&more, at),
         },
         None => Step::none(at),
     }
@@ -152,49 +152,48 @@ fn point_of_three(cursor: &mut Cursor, at: u32x4, extent: u32x4) -> Step
 
 /// Reads one point of four axes, or none.
 #[inline(always)]
-fn point_of_four(cursor: &mut Cursor, at: u32x4, extent: u32x4) -> Step
-    ensures { ReadsAtMost 1 (IsFurtherStep true at extent) cursor.old cursor.new result }
+fn point_of_four(cursor: &mut Cursor, at: u32x4) -> Step
+    ensures { ReadsAtMost 1 (IsFurtherStep true at) cursor.old cursor.new result }
 {
     let differences = cursor.svarint_four();
     if !differences.is_read {
         return Step::none(at);
     }
-    let reached = one_of_four(differences.lanes, at, extent);
+    let reached = one_of_four(differences.lanes, at);
     Step { points: 1, reached }
 }
 
 /// Reads two points of four axes, or none.
 // Were this written out in its caller, the loop over the points would be slower.
 #[inline(always)]
-fn two_points(cursor: &mut Cursor, at: u32x4, extent: u32x4) -> Step
-    ensures { ReadsAtMost 2 (IsFurtherStep true at extent) cursor.old cursor.new result }
+fn two_points(cursor: &mut Cursor, at: u32x4) -> Step
+    ensures { ReadsAtMost 2 (IsFurtherStep true at) cursor.old cursor.new result }
 {
     let differences = cursor.svarint_eight();
     if !differences.is_read {
         return Step::none(at);
     }
-    let reached = two_further(differences.lanes, at, extent);
+    let reached = two_further(differences.lanes, at);
     Step { points: 2, reached }
 }
 
-/// Reads one point, whose differences may take more than four bytes. `inside` is false if it is malformed, too.
+/// Reads one point, whose differences may take more than four bytes. `None` says that it is malformed, or is in no box that lanes
+/// hold.
 // Out of line: most points are read by vectors.
 #[inline(never)]
-fn far_point<const AXES: usize>(cursor: &mut Cursor, at: u32x4, extent: u32x4) -> Reached
+fn far_point<const AXES: usize>(cursor: &mut Cursor, at: u32x4) -> Option<Reached>
     ensures bytes { cursor.new.bytes ≡ cursor.old.bytes }
-    ensures step { FromFourLanes at extent (λ apart e. IsFarPoint (is_four AXES) e apart cursor.old cursor.new result.at
-        result.inside) }
+    ensures some { IfSome result (λ reached. (extent : List ℕ) → FromFourLanes at extent (λ apart e.
+        IsFarPoint (is_four AXES) e apart cursor.old cursor.new reached.at (lanes_within reached.furthest extent))) }
+    ensures none { IfNone result ((extent : List ℕ) → FromFourLanes at extent (λ apart e.
+        IsFarPoint (is_four AXES) e apart cursor.old cursor.new [] false)) }
 {
     let Ok(more) = take_differences::<AXES>(cursor) else {
-        return Reached { at, inside: false };
+        return None;
     };
-    match all_moved_within(&numbers_in(at), &more, &numbers_in(extent)) {
-        Some(next) => Reached {
-            at: four_lanes_of(&next),
-            inside: true,
-        },
-        None => Reached { at, inside: false },
-    }
+    let next = moved_in_lanes(&numbers_in(at), &more)?;
+    let at = four_lanes_of(&next);
+    Some(Reached { at, furthest: at })
 }
 
 /// Reads the differences of a point, each of any length.
@@ -214,16 +213,16 @@ fn take_differences<const AXES: usize>(cursor: &mut Cursor) -> Result<PerAxis, M
     })
 }
 
-/// The sums of distances and differences, if each lies within the extent of its axis.
+/// The sums of distances and differences, if lanes hold them, and none is negative.
 #[inline(always)]
-fn all_moved_within(apart: &PerAxis, more: &PerAxis, extents: &PerAxis) -> Option<PerAxis>
-    ensures some { IfSome result (λ sums. (sums ≡ plus apart.now more.now) × (all_within extents.now sums ≡ true)) }
-    ensures none { IfNone result (all_within extents.now (plus apart.now more.now) ≡ false) }
+fn moved_in_lanes(apart: &PerAxis, more: &PerAxis) -> Option<PerAxis>
+    ensures some { IfSome result (λ sums. (sums ≡ plus apart.now more.now) × (all_within lane_ends sums ≡ true)) }
+    ensures none { IfNone result (all_within lane_ends (plus apart.now more.now) ≡ false) }
 {
-    let x = moved_within(apart.x, more.x, extents.x)?;
-    let y = moved_within(apart.y, more.y, extents.y)?;
-    let third = moved_within(apart.third, more.third, extents.third)?;
-    let fourth = moved_within(apart.fourth, more.fourth, extents.fourth)?;
+    let x = moved_in_lane(apart.x, more.x)?;
+    let y = moved_in_lane(apart.y, more.y)?;
+    let third = moved_in_lane(apart.third, more.third)?;
+    let fourth = moved_in_lane(apart.fourth, more.fourth)?;
     Some(PerAxis {
         x,
         y,

@@ -1,16 +1,17 @@
 //! Where points are, in lanes of 32 bits, and whether a box holds them. Short differences are added up in lanes of 16 bits first.
 //!
-//! A lane holds a point's distance in one axis from the minimum of the box. One comparison without signs tells whether the point is
-//! in the box, since a distance below zero is a great number then. For points of X and Y alone, lanes of differences hold four points
-//! in 16 bits or two in 32, and the last point and the widths of the box are in lanes twice. Used by `flat_lanes`, `further_lanes`, `lane_trail` and `quads`.
-ghost use Rattle.std.specs.Prelude.{◌≡◌, true, ◌+◌, ◌-◌, ◌%◌, ◌^◌, ◌<◌, ◌&&◌, ◌+ℤ◌, neg_ℤ, ℕ, ℤ, map, [], ◌∷◌, nat_le, nat_lt, if◌then◌else◌, All, false, IfSome, IfNone};
+//! A lane holds a point's distance in one axis from the minimum of the box. Without signs a distance below zero is a great number, so
+//! the box holds points if their greatest distances are no greater than its extents. For points of X and Y alone, lanes of differences
+//! hold four points in 16 bits or two in 32, and the last point and the widths of the box are in lanes twice.
+//! Used by `flat_lanes`, `further_lanes`, `lane_trail` and `quads`.
+ghost use Rattle.std.specs.Prelude.{◌≡◌, true, ◌+◌, ◌-◌, ◌%◌, ◌^◌, ◌<◌, ◌&&◌, ◌+ℤ◌, neg_ℤ, ℕ, ℤ, map, [], ◌∷◌, List, All, false, IfSome, IfNone};
 ghost use Rattle.std.specs.Int.{w16, w32, cast_signed, cast_unsigned};
 ghost use Rattle.twkb_num.specs.Varint.{IsBrief, IsShort};
 ghost use Rattle.twkb_body.specs.declared.per_axis.PerAxis.{PerAxis as PerAxisOf};
 ghost use Rattle.twkb_body.specs.Devices.BoxTest.{reaches};
 ghost use Rattle.twkb_body.specs.Devices.FurtherLanes.{four_lanes, fours_of, FromFourLanes, HaveGone};
 ghost use Rattle.twkb_body.specs.Devices.PerAxis.{Each};
-ghost use Rattle.twkb_body.specs.Devices.Quads.{lanes_at, pairs_of, FromLanes, IsInLane, IsLaneExtent, HaveReached};
+ghost use Rattle.twkb_body.specs.Devices.Quads.{lane_end, lanes_at, lanes_within, pairs_of, FromLanes, IsInLane, IsLaneExtent, HaveReached};
 
 use crate::per_axis::PerAxis;
 use std::simd::prelude::*;
@@ -19,15 +20,43 @@ use twkb_head::RawRange;
 /// A lane holds distances from -2^31 on and below 2^31.
 const IN_LANE: i64 = 1 << 31;
 
-/// The last of some points, and whether a box holds them all.
+/// Where the last of some points is, and how far they all are from the minima of a box.
 #[derive(Clone, Copy)]
 pub struct Reached {
-    /// The point's distances from the minima of the box. Without other axes those in X and Y are there twice.
+    /// The last point's distances from the minima. Without other axes those in X and Y are there twice.
     pub at: u32x4,
-    pub inside: bool,
+    /// The greatest distance in each lane, without signs.
+    pub furthest: u32x4,
 }
 
-/// How many points were read, where the last one is, and whether a box holds them all.
+impl Reached {
+    /// No point.
+    #[inline(always)]
+    pub fn none(at: u32x4) -> Reached
+        ensures at { result.at ≡ at }
+        ensures inside { (extent : List ℕ) → lanes_within result.furthest extent ≡ true }
+    {
+        Reached {
+            at,
+            furthest: u32x4::splat(0),
+        }
+    }
+
+    /// These points, and more after them.
+    #[inline(always)]
+    pub fn then(self, more: Reached) -> Reached
+        ensures at { result.at ≡ more.at }
+        ensures inside { (extent : List ℕ) → lanes_within result.furthest extent
+            ≡ (lanes_within self.furthest extent && lanes_within more.furthest extent) }
+    {
+        Reached {
+            at: more.at,
+            furthest: greater(self.furthest, more.furthest),
+        }
+    }
+}
+
+/// How many points were read, and where they are.
 #[derive(Clone, Copy)]
 pub struct Step {
     pub points: u64,
@@ -40,11 +69,11 @@ impl Step {
     pub fn none(at: u32x4) -> Step
         ensures points { result.points ≡ 0 }
         ensures at { result.reached.at ≡ at }
-        ensures inside { result.reached.inside ≡ true }
+        ensures inside { (extent : List ℕ) → lanes_within result.reached.furthest extent ≡ true }
     {
         Step {
             points: 0,
-            reached: Reached { at, inside: true },
+            reached: Reached::none(at),
         }
     }
 }
@@ -91,14 +120,14 @@ pub fn distances_in(at: u32x4) -> (i64, i64)
     )
 }
 
-/// A distance and a difference added up, if the sum lies within an extent.
+/// A distance and a difference added up, if a lane holds the sum, and it isn't negative.
 #[inline(always)]
-pub fn moved_within(distance: i64, more: i64, extent: i64) -> Option<i64>
-    ensures some { IfSome result (λ sum. (sum ≡ distance +ℤ more) × (reaches extent sum ≡ true)) }
-    ensures none { IfNone result (reaches extent (distance +ℤ more) ≡ false) }
+pub fn moved_in_lane(distance: i64, more: i64) -> Option<i64>
+    ensures some { IfSome result (λ sum. (sum ≡ distance +ℤ more) × (reaches lane_end sum ≡ true)) }
+    ensures none { IfNone result (reaches lane_end (distance +ℤ more) ≡ false) }
 {
     let sum = distance.checked_add(more)?;
-    if 0 <= sum && sum <= extent {
+    if 0 <= sum && sum < IN_LANE {
         Some(sum)
     } else {
         None
@@ -107,84 +136,88 @@ pub fn moved_within(distance: i64, more: i64, extent: i64) -> Option<i64>
 
 /// Four points more, by differences of at most two bytes.
 #[inline(always)]
-pub fn four_more(differences: u16x8, at: u32x4, extent: u32x4) -> Reached
-    ensures { All IsBrief (map (cast_signed w16) differences) → FromLanes at extent (λ x y w h.
-        HaveReached w h x y (pairs_of (map (cast_signed w16) differences)) result.at result.inside) }
+pub fn four_more(differences: u16x8, at: u32x4) -> Reached
+    ensures { All IsBrief (map (cast_signed w16) differences) → (extent : List ℕ) → FromLanes at extent (λ x y w h.
+        HaveReached w h x y (pairs_of (map (cast_signed w16) differences)) result.at (lanes_within result.furthest extent)) }
 {
     let sums = with_half_before(with_pair_before(differences));
     let first = summed(widened(sums.extract::<0, 4>()), at);
     let second = summed(widened(sums.extract::<4, 4>()), at);
     Reached {
         at: last_twice(second),
-        inside: are_within(greater(first, second), extent),
+        furthest: greater(first, second),
     }
 }
 
 /// Two points more, by differences of at most four bytes.
 #[inline(always)]
-pub fn two_more(differences: u32x4, at: u32x4, extent: u32x4) -> Reached
-    ensures { All IsShort (map (cast_signed w32) differences) → FromLanes at extent (λ x y w h.
-        HaveReached w h x y (pairs_of (map (cast_signed w32) differences)) result.at result.inside) }
+pub fn two_more(differences: u32x4, at: u32x4) -> Reached
+    ensures { All IsShort (map (cast_signed w32) differences) → (extent : List ℕ) → FromLanes at extent (λ x y w h.
+        HaveReached w h x y (pairs_of (map (cast_signed w32) differences)) result.at (lanes_within result.furthest extent)) }
 {
     let points = two_places(differences, at);
     Reached {
         at: last_twice(points),
-        inside: are_within(points, extent),
+        furthest: points,
     }
 }
 
 /// One point more, by differences of at most four bytes.
 #[inline(always)]
-pub fn one_more(x_more: i64, y_more: i64, at: u32x4, extent: u32x4) -> Reached
+pub fn one_more(x_more: i64, y_more: i64, at: u32x4) -> Reached
     requires x { IsShort x_more }
     requires y { IsShort y_more }
-    ensures { FromLanes at extent (λ x y w h. HaveReached w h x y ((x_more, y_more) ∷ []) result.at result.inside) }
+    ensures { (extent : List ℕ) → FromLanes at extent (λ x y w h.
+        HaveReached w h x y ((x_more, y_more) ∷ []) result.at (lanes_within result.furthest extent)) }
 {
     let point = summed(lanes_of(x_more, y_more), at);
     Reached {
         at: point,
-        inside: are_within(point, extent),
+        furthest: point,
     }
 }
 
 /// Two points of four axes more, by differences of at most two bytes.
 #[inline(always)]
-pub fn two_further(differences: u16x8, at: u32x4, extent: u32x4) -> Reached
-    ensures { All IsBrief (map (cast_signed w16) differences) → FromFourLanes at extent (λ apart e.
-        HaveGone e apart (fours_of (pairs_of (map (cast_signed w16) differences))) result.at result.inside) }
+pub fn two_further(differences: u16x8, at: u32x4) -> Reached
+    ensures { All IsBrief (map (cast_signed w16) differences) → (extent : List ℕ) → FromFourLanes at extent (λ apart e.
+        HaveGone e apart (fours_of (pairs_of (map (cast_signed w16) differences))) result.at
+        (lanes_within result.furthest extent)) }
 {
     let sums = with_half_before(differences);
     let near = summed(widened(sums.extract::<0, 4>()), at);
     let far = summed(widened(sums.extract::<4, 4>()), at);
     Reached {
         at: far,
-        inside: are_within(greater(near, far), extent),
+        furthest: greater(near, far),
     }
 }
 
 /// One point of four axes more, by differences in lanes, each of at most four bytes.
 #[inline(always)]
-pub fn one_of_four(differences: u32x4, at: u32x4, extent: u32x4) -> Reached
-    ensures { All IsShort (map (cast_signed w32) differences) → FromFourLanes at extent (λ apart e.
-        HaveGone e apart (fours_of (pairs_of (map (cast_signed w32) differences))) result.at result.inside) }
+pub fn one_of_four(differences: u32x4, at: u32x4) -> Reached
+    ensures { All IsShort (map (cast_signed w32) differences) → (extent : List ℕ) → FromFourLanes at extent (λ apart e.
+        HaveGone e apart (fours_of (pairs_of (map (cast_signed w32) differences))) result.at
+        (lanes_within result.furthest extent)) }
 {
     let place = summed(differences, at);
     Reached {
         at: place,
-        inside: are_within(place, extent),
+        furthest: place,
     }
 }
 
 /// One point of three axes more, by differences of at most four bytes. The fourth number is zero.
 #[inline(always)]
-pub fn one_of_three(more: &PerAxis, at: u32x4, extent: u32x4) -> Reached
+pub fn one_of_three(more: &PerAxis, at: u32x4) -> Reached
     requires { Each IsShort more.now }
-    ensures { FromFourLanes at extent (λ apart e. HaveGone e apart (more.now ∷ []) result.at result.inside) }
+    ensures { (extent : List ℕ) → FromFourLanes at extent (λ apart e.
+        HaveGone e apart (more.now ∷ []) result.at (lanes_within result.furthest extent)) }
 {
     let place = summed(four_lanes_of(more), at);
     Reached {
         at: place,
-        inside: are_within(place, extent),
+        furthest: place,
     }
 }
 
@@ -277,18 +310,15 @@ fn widened(d: u16x4) -> u32x4
 /// The greater of each two lanes.
 #[inline(always)]
 fn greater(first: u32x4, second: u32x4) -> u32x4
-    ensures { (a b c d e f g h : ℕ) → first ≡ a ∷ b ∷ c ∷ d ∷ [] → second ≡ e ∷ f ∷ g ∷ h ∷ []
-        → result ≡ (if nat_lt a e then e else a) ∷ (if nat_lt b f then f else b) ∷ (if nat_lt c g then g else c)
-        ∷ (if nat_lt d h then h else d) ∷ [] }
+    ensures { (limits : List ℕ) → lanes_within result limits ≡ (lanes_within first limits && lanes_within second limits) }
 {
     first.simd_max(second)
 }
 
 /// Whether no lane is greater than the extent in its axis.
 #[inline(always)]
-fn are_within(points: u32x4, extent: u32x4) -> bool
-    ensures { (a b c d w x y z : ℕ) → points ≡ a ∷ b ∷ c ∷ d ∷ [] → extent ≡ w ∷ x ∷ y ∷ z ∷ []
-        → result ≡ (nat_le a w && nat_le b x) && (nat_le c y && nat_le d z) }
+pub fn are_within(points: u32x4, extent: u32x4) -> bool
+    ensures { result ≡ lanes_within points extent }
 {
     points.simd_le(extent).to_bitmask() == 15
 }

@@ -10,7 +10,7 @@ use Rattle.twkb_body.specs.Geometry.{PointValue}
 use Rattle.twkb_body.specs.Devices.BoxTest.{reaches}
 use Rattle.twkb_body.specs.Devices.LaneTrail.{FitsLane}
 use Rattle.twkb_body.specs.Devices.PerAxis.{listed, Each, plus, placed_at, differences_at}
-use Rattle.twkb_body.specs.Devices.Quads.{IsInLane, IsLaneExtent}
+use Rattle.twkb_body.specs.Devices.Quads.{lane_end, lanes_within, IsInLane, IsLaneExtent}
 
 -- a number for each axis in lanes, in two's complement
 abbrev pub four_lanes : PerAxis → List ℕ
@@ -25,6 +25,10 @@ fours_of (p ∷ q ∷ ps) = record { x = p.0; y = p.1; third = q.0; fourth = q.1
 -- the extents of a box
 abbrev pub extents : RawBox → PerAxis
 extents box = record { x = box.x.extent; y = box.y.extent; third = box.third.extent; fourth = box.fourth.extent }
+
+-- the greatest distances in lanes
+abbrev pub lane_ends : PerAxis
+lane_ends = record { x = lane_end; y = lane_end; third = lane_end; fourth = lane_end }
 
 -- a box, distances from whose minima lanes hold in each axis; an axis that isn't there has its minimum at zero
 pub record FitsFurther (has_fourth : Bool) (box : RawBox) : Type 0 where
@@ -65,10 +69,10 @@ FromFourLanes at extent follows =
     → follows apart e
 
 -- from the distances in these lanes on, the points of a step were read
-abbrev pub IsFurtherStep : Bool → List ℕ → List ℕ → Reading → Reading → Step → Type 0
-IsFurtherStep has_fourth at extent old new step = FromFourLanes at extent (λ apart e. (differences : List PerAxis)
+abbrev pub IsFurtherStep : Bool → List ℕ → Reading → Reading → Step → Type 0
+IsFurtherStep has_fourth at old new step = (extent : List ℕ) → FromFourLanes at extent (λ apart e. (differences : List PerAxis)
     × (length differences ≡ step.points) × ReadsPoints has_fourth differences old new
-    × HaveGone e apart differences step.reached.at step.reached.inside)
+    × HaveGone e apart differences step.reached.at (lanes_within step.reached.furthest extent))
 
 -- if the differences of a point can be read, they lead from these distances to a point outside the extents
 abbrev pub LeadsOut : Bool → PerAxis → PerAxis → Reading → Type 0

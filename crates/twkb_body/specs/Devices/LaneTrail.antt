@@ -13,7 +13,7 @@ use Rattle.twkb_body.specs.Devices.Body.{add, ring_sums, zeros}
 use Rattle.twkb_body.specs.Devices.BodyReader.{point_at, part_at}
 use Rattle.twkb_body.specs.Devices.BoxTest.{Held, held_then}
 use Rattle.twkb_body.specs.Devices.PointReader.{Stage, Leads}
-use Rattle.twkb_body.specs.Devices.Quads.{lanes_at, IsInLane, IsLaneExtent}
+use Rattle.twkb_body.specs.Devices.Quads.{lanes_at, lanes_within, IsInLane, IsLaneExtent}
 use Rattle.twkb_body.specs.Devices.Walk.{IsRun}
 
 -- a range whose minimum and extent lanes hold, so that they hold distances too
@@ -48,15 +48,18 @@ LeavesBox axes each points_in box last from = Leads each points_in (held_then ax
 abbrev pub PointsLeave : ℕ → ℕ → RawBox → PointValue → Reading → Type 0
 PointsLeave axes count box last from = LeavesBox axes (many_at count add (point_at axes)) (λ points. points) box last from
 
--- A step among points, of which `left` were left. Take any box whose extents are in `extent`, and for which `at` holds the distances
--- of the last point. If the step ends inside, the box holds the points of the step, and the new lanes hold the distances of the last
--- one. If it doesn't, the box doesn't hold all points that were left.
+-- no box whose extents are in `extent`, and from whose minima `at` has the distances of the last point, holds all points that are left
+abbrev pub AllLeave : (axes left : ℕ) → (RawBox → List ℕ → List ℕ → PointValue → Type 0) → List ℕ → List ℕ → Reading → Type 0
+AllLeave axes left place at extent old = (box : RawBox) (last : PointValue) → place box at extent last → PointsLeave axes left box last old
+
+-- A step among points, of which `left` were left. Take any box whose extents are in `extent`, and from whose minima `at` has the
+-- distances of the last point. If the step's distances lie within the extents, the box holds the points of the step, and the new lanes
+-- have the distances of the last one. If they don't, the box doesn't hold all points that were left.
 pub record IsLaneStep (axes left : ℕ) (place : RawBox → List ℕ → List ℕ → PointValue → Type 0) (at extent : List ℕ)
     (old new : Reading) (step : Step) : Type 0 where
-  pub inside : step.reached.inside ≡ true → (box : RawBox) (trail : Trail) → place box at extent trail.last
+  pub inside : lanes_within step.reached.furthest extent ≡ true → (box : RawBox) (trail : Trail) → place box at extent trail.last
       → IsHeldRun axes (place box step.reached.at extent) box trail old new step.points
-  pub outside : step.reached.inside ≡ false → (box : RawBox) (last : PointValue) → place box at extent last
-      → PointsLeave axes left box last old
+  pub outside : lanes_within step.reached.furthest extent ≡ false → AllLeave axes left place at extent old
 
 -- if the parts can be read, the box doesn't hold all their points
 abbrev pub LeaveBox : Kind → ℕ → ℕ → RawBox → Reading → Type 0

@@ -1,12 +1,19 @@
 -- Devices of proofs: nothing public names them.
 -- Points of X and Y that are compared with a box up to four at once: their distances from its minima are in lanes of 32 bits.
-use Rattle.std.specs.Prelude.{◌≡◌, ℕ, ◌≤◌, ◌^◌, Bool, true, false, ◌&&◌, List, [], ◌∷◌, length, ℤ, pos, neg_ℤ, ◌+ℤ◌, ◌≤ℤ◌, ◌<ℤ◌, Ok}
+use Rattle.std.specs.Prelude.{◌≡◌, ℕ, ◌*◌, ◌≤◌, ◌^◌, nat_le, slice_index, Bool, true, false, ◌&&◌, List, [], ◌∷◌, length, ℤ, pos, neg_ℤ, ◌+ℤ◌, ◌≤ℤ◌, ◌<ℤ◌, All, Ok}
 use Rattle.std.specs.Int.{w32, cast_unsigned}
 use Rattle.twkb_num.specs.Cursor.{Reading, passed, IsMoved}
 use Rattle.twkb_num.specs.Varint.{SpellsTwoSigned, IsShort}
 use Rattle.twkb_head.specs.Shared.Reader.{signed_at}
+use Rattle.twkb_body.specs.declared.positions.Reached.{Reached}
 use Rattle.twkb_body.specs.declared.positions.Step.{Step}
 use Rattle.twkb_body.specs.Devices.BoxTest.{reaches}
+
+-- no lane is greater than the limit in its place
+abbrev pub lanes_within : List ℕ → List ℕ → Bool
+lanes_within lanes limits =
+    (nat_le (slice_index lanes 0) (slice_index limits 0) && nat_le (slice_index lanes 1) (slice_index limits 1))
+    && (nat_le (slice_index lanes 2) (slice_index limits 2) && nat_le (slice_index lanes 3) (slice_index limits 3))
 
 -- two distances in lanes, in two's complement, twice
 abbrev pub lanes_at : ℤ → ℤ → List ℕ
@@ -15,6 +22,10 @@ lanes_at x y = cast_unsigned w32 x ∷ cast_unsigned w32 y ∷ cast_unsigned w32
 -- a distance that a lane holds
 abbrev pub IsInLane : ℤ → Type 0
 IsInLane z = (neg_ℤ (pos (2 ^ 31)) ≤ℤ z) × (z <ℤ pos (2 ^ 31))
+
+-- the greatest distance in a lane
+abbrev pub lane_end : ℤ
+lane_end = pos 2147483647
 
 -- an extent that lanes tell from all these distances, which wrap around
 abbrev pub IsLaneExtent : ℤ → Type 0
@@ -41,9 +52,9 @@ abbrev pub all_reach : ℤ → ℤ → ℤ → ℤ → List (ℤ × ℤ) → Boo
 all_reach w h x y [] = true
 all_reach w h x y (d ∷ ds) = (reaches w (x +ℤ d.0) && reaches h (y +ℤ d.1)) && all_reach w h (x +ℤ d.0) (y +ℤ d.1) ds
 
--- The differences lead to these lanes, and the extents hold all points on the way, or not.
+-- The extents hold all points to which the differences lead, or not. If they do, these are the lanes of the last one.
 pub record HaveReached (w h x y : ℤ) (differences : List (ℤ × ℤ)) (at : List ℕ) (inside : Bool) : Type 0 where
-  pub at_is : at ≡ lanes_at (x_after x differences) (y_after y differences)
+  pub at_is : inside ≡ true → at ≡ lanes_at (x_after x differences) (y_after y differences)
   pub inside_is : inside ≡ all_reach w h x y differences
 
 -- These differences were read, one pair after another, and each is short.
@@ -52,11 +63,11 @@ ReadsPairs [] old new = new ≡ old
 ReadsPairs (d ∷ ds) old new = (middle : Reading) × SpellsTwoSigned (passed old middle) d.0 d.1 × IsMoved old middle
     × IsShort d.0 × IsShort d.1 × ReadsPairs ds middle new
 
--- This many points were read, four at most, from these distances on.
+-- This many points were read, sixteen at most, from these distances on.
 pub record IsQuadStep (w h x y : ℤ) (old new : Reading) (points : ℕ) (at : List ℕ) (inside : Bool) : Type 0 where
   pub differences : List (ℤ × ℤ)
   pub many : length differences ≡ points
-  pub few : points ≤ 4
+  pub few : points ≤ 16
   pub read : ReadsPairs differences old new
   pub reached : HaveReached w h x y differences at inside
 
@@ -75,9 +86,16 @@ FromLanes at extent follows = (x y w h : ℤ) → at ≡ lanes_at x y → extent
     → IsInLane x → IsInLane y → IsLaneExtent w → IsLaneExtent h → follows x y w h
 
 -- from the distances in these lanes on, some points were read (`IsQuadStep`)
-abbrev pub StepsInLanes : List ℕ → List ℕ → Reading → Reading → Step → Type 0
-StepsInLanes at extent old new step =
-    FromLanes at extent (λ x y w h. IsQuadStep w h x y old new step.points step.reached.at step.reached.inside)
+abbrev pub StepsInLanes : List ℕ → Reading → Reading → Step → Type 0
+StepsInLanes at old new step = (extent : List ℕ)
+    → FromLanes at extent (λ x y w h. IsQuadStep w h x y old new step.points step.reached.at (lanes_within step.reached.furthest extent))
+
+-- Short numbers, two for each point, were taken. If the extents held the points before, they hold all points on the way, or not.
+pub record HasTaken (before : Reached) (numbers : List ℤ) (after : Reached) : Type 0 where
+  pub short : All IsShort numbers
+  pub even : (n : ℕ) × (length numbers ≡ n * 2)
+  pub lead : (extent : List ℕ) → lanes_within before.furthest extent ≡ true
+      → FromLanes before.at extent (λ x y w h. HaveReached w h x y (pairs_of numbers) after.at (lanes_within after.furthest extent))
 
 -- Two numbers lead from a distance to lanes, and the extents hold the point; or, if two numbers can be read there, they don't.
 abbrev pub IsFarStep : ℤ → ℤ → ℤ → ℤ → Reading → Reading → List ℕ → Bool → Type 0

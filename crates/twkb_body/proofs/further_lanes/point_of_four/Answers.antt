@@ -8,4 +8,4 @@ pub returns : goal.returns
 returns c =
     let read = c.svarint_four-differences in
     let so = not-false read.result.is_read c.if-not-differences.false in
-    four_lanes_step w32 read.result.lanes 1 c.args.at c.args.extent c.args.cursor.now read.new.self c.one_of_four-reached.result (search rules) (omega arith) (read.ensures.some so) (read.ensures.moved so) read.ensures.short (c.one_of_four-reached.ensures read.ensures.short)
+    four_lanes_step w32 read.result.lanes 1 c.args.at c.args.cursor.now read.new.self c.one_of_four-reached.result (search rules) (omega arith) (read.ensures.some so) (read.ensures.moved so) read.ensures.short (c.one_of_four-reached.ensures read.ensures.short)

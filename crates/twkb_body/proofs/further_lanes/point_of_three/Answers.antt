@@ -9,4 +9,4 @@ pub returns-in-Some : goal.returns-in-Some
 returns-in-Some c =
     let read = c.in-Some.ensures.some in
     let new = c.take_three.new.cursor in
-    points_step false (c.in-Some.more ∷ []) 1 c.args.at c.args.extent c.args.cursor.now new c.one_of_three.result refl (omega arith) (ap (λ (a : Answer PerAxis). a.1.bytes) (sym read.0) ∙ differences_keep false c.args.cursor.now) (new, read.0, refl) c.one_of_three.ensures
+    points_step false (c.in-Some.more ∷ []) 1 c.args.at c.args.cursor.now new c.one_of_three.result refl (omega arith) (ap (λ (a : Answer PerAxis). a.1.bytes) (sym read.0) ∙ differences_keep false c.args.cursor.now) (new, read.0, refl) c.one_of_three.ensures

@@ -9,4 +9,4 @@ pub returns : goal.returns
 returns c =
     let read = c.svarint_eight-differences in
     let so = not-false read.result.is_read c.if-not-differences.false in
-    four_lanes_step w16 read.result.lanes 2 c.args.at c.args.extent c.args.cursor.now read.new.self c.two_further-reached.result (search rules) (omega arith) (read.ensures.some so) (read.ensures.moved so) (all_short _ read.ensures.brief) (c.two_further-reached.ensures read.ensures.brief)
+    four_lanes_step w16 read.result.lanes 2 c.args.at c.args.cursor.now read.new.self c.two_further-reached.result (search rules) (omega arith) (read.ensures.some so) (read.ensures.moved so) (all_short _ read.ensures.brief) (c.two_further-reached.ensures read.ensures.brief)

@@ -1,12 +1,15 @@
-use Rattle.std.proofs.Common.{ℕ, ◌%◌, List, Bool, nat_eq, ap, ap₂, ◌∙◌, w32}
+use Rattle.std.proofs.Common.{rules, ℕ, ◌%◌, List, Bool, nat_eq, slice_index, ap, ap₂, ◌∙◌, w32}
 use Rattle.std.specs.Prelude.{nat_le}
 use Rattle.std.proofs.lemmas.Simd.{tops_compared}
 use lib.Lanes.{mask_l, zip2}
-use Rattle.twkb_body.proofs.LaneSums.{four_set}
+use Rattle.twkb_body.proofs.LaneSums.{four_lanes_are, four_set}
 use Rattle.twkb_body.proofs.positions.are_within.Goals as goal
 
 pub returns : goal.returns
-returns k a b c d w x y z is extent_is =
-    ap (λ (bits : List Bool). nat_eq (mask_l bits % 18446744073709551616) 15) (tops_compared w32 nat_le k.args.points k.args.extent)
-    ∙ ap₂ (λ (points extent : List ℕ). nat_eq (mask_l (zip2 nat_le points extent) % 18446744073709551616) 15) is extent_is
-    ∙ four_set (nat_le a w) (nat_le b x) (nat_le c y) (nat_le d z)
+returns k =
+    let lane = λ (lanes : List ℕ) (i : ℕ). slice_index lanes i in
+    let points = k.args.points in
+    let extent = k.args.extent in
+    ap (λ (bits : List Bool). nat_eq (mask_l bits % 18446744073709551616) 15) (tops_compared w32 nat_le points extent)
+    ∙ ap₂ (λ (points extent : List ℕ). nat_eq (mask_l (zip2 nat_le points extent) % 18446744073709551616) 15) (four_lanes_are points (search rules)) (four_lanes_are extent (search rules))
+    ∙ four_set (nat_le (lane points 0) (lane extent 0)) (nat_le (lane points 1) (lane extent 1)) (nat_le (lane points 2) (lane extent 2)) (nat_le (lane points 3) (lane extent 3))

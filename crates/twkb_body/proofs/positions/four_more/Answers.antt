@@ -1,16 +1,17 @@
-use Rattle.std.proofs.Common.{rules, ℕ, List, map, ap, ◌++◌, ◌≡◌, ◌&&◌, [], ◌∷◌, subst, refl, ◌∙◌, w16, w32, arith, pos}
+use Rattle.std.proofs.Common.{rules, ℕ, List, map, ap, ap₂, ◌++◌, ◌≡◌, ◌&&◌, [], ◌∷◌, subst, refl, ◌∙◌, w16, w32, arith, pos}
 use Rattle.std.proofs.lemmas.Int.{ints}
 use Rattle.std.specs.Int.{cast_signed, cast_unsigned}
 use lib.Lanes.{pick_l}
 use Rattle.std.specs.Prelude.{◌+ℤ◌, All}
 use Rattle.twkb_num.specs.Varint.{IsBrief}
 use Rattle.twkb_body.specs.Devices.BoxTest.{reaches}
-use Rattle.twkb_body.proofs.LaneSums.{IsMetInLane, lanes_are, sum_of_four, lane_reaches, greater_within, each_of_four}
+use Rattle.twkb_body.specs.Devices.Quads.{lanes_within}
+use Rattle.twkb_body.proofs.LaneSums.{IsMetInLane, lanes_are, sum_of_four, lane_reaches, each_of_four}
 use Rattle.twkb_body.proofs.QuadReads.{eight_of}
 use Rattle.twkb_body.proofs.positions.four_more.Goals as goal
 
 pub returns : goal.returns
-returns k short x y w h at extent x_in y_in w_fits h_fits =
+returns k short limits x y w h at extent x_in y_in w_fits h_fits =
     let (a1, b1, a2, b2, a3, b3, a4, b4, means) = eight_of w16 k.args.differences (search rules) in
     let all = subst (All IsBrief) means short in
     let a1_short : IsBrief a1 = all 0 (pos 0) (omega arith) in
@@ -53,16 +54,12 @@ returns k short x y w h at extent x_in y_in w_fits h_fits =
     let ry3 = lane_reaches h (((y +ℤ b1) +ℤ b2) +ℤ b3) h_fits y3_met in
     let rx4 = lane_reaches w ((((x +ℤ a1) +ℤ a2) +ℤ a3) +ℤ a4) w_fits x4_met in
     let ry4 = lane_reaches h ((((y +ℤ b1) +ℤ b2) +ℤ b3) +ℤ b4) h_fits y4_met in
-    let gx = greater_within (cast_unsigned w32 (x +ℤ a1)) (cast_unsigned w32 (((x +ℤ a1) +ℤ a2) +ℤ a3)) (cast_unsigned w32 w) in
-    let gy = greater_within (cast_unsigned w32 (y +ℤ b1)) (cast_unsigned w32 (((y +ℤ b1) +ℤ b2) +ℤ b3)) (cast_unsigned w32 h) in
-    let gu = greater_within (cast_unsigned w32 ((x +ℤ a1) +ℤ a2)) (cast_unsigned w32 ((((x +ℤ a1) +ℤ a2) +ℤ a3) +ℤ a4)) (cast_unsigned w32 w) in
-    let gv = greater_within (cast_unsigned w32 ((y +ℤ b1) +ℤ b2)) (cast_unsigned w32 ((((y +ℤ b1) +ℤ b2) +ℤ b3) +ℤ b4)) (cast_unsigned w32 h) in
+    let near = ap₂ lanes_within first extent ∙ (λ j. (rx1 j && ry1 j) && (rx2 j && ry2 j)) in
+    let far = ap₂ lanes_within second extent ∙ (λ j. (rx3 j && ry3 j) && (rx4 j && ry4 j)) in
     rw means
     record {
-      at_is = k.last_twice.ensures _ _ _ _ second;
-      inside_is = k.are_within.ensures _ _ _ _ _ _ _ _ (k.greater.ensures _ _ _ _ _ _ _ _ first second) extent
-          ∙ (λ j. (gx j && gy j) && (gu j && gv j))
-          ∙ (λ j. ((rx1 j && rx3 j) && (ry1 j && ry3 j)) && ((rx2 j && rx4 j) && (ry2 j && ry4 j)))
-          ∙ each_of_four (reaches w (x +ℤ a1)) (reaches h (y +ℤ b1)) (reaches w ((x +ℤ a1) +ℤ a2)) (reaches h ((y +ℤ b1) +ℤ b2)) (reaches w (((x +ℤ a1) +ℤ a2) +ℤ a3)) (reaches h (((y +ℤ b1) +ℤ b2) +ℤ b3))
-          (reaches w ((((x +ℤ a1) +ℤ a2) +ℤ a3) +ℤ a4)) (reaches h ((((y +ℤ b1) +ℤ b2) +ℤ b3) +ℤ b4));
+      at_is = λ so. k.last_twice.ensures _ _ _ _ second;
+      inside_is = k.greater.ensures limits ∙ (λ j. near j && far j)
+          ∙ each_of_four (reaches w (x +ℤ a1) && reaches h (y +ℤ b1)) (reaches w ((x +ℤ a1) +ℤ a2) && reaches h ((y +ℤ b1) +ℤ b2)) (reaches w (((x +ℤ a1) +ℤ a2) +ℤ a3) && reaches h (((y +ℤ b1) +ℤ b2) +ℤ b3))
+          (reaches w ((((x +ℤ a1) +ℤ a2) +ℤ a3) +ℤ a4) && reaches h ((((y +ℤ b1) +ℤ b2) +ℤ b3) +ℤ b4));
     }

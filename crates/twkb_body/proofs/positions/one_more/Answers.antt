@@ -1,21 +1,16 @@
 -- The sums are the point's distances, and one comparison without signs tells whether the extents hold it.
-use Rattle.std.proofs.Common.{◌≡◌, ◌&&◌, true, false, [], ◌∷◌, ◌∙◌, ap₂, arith, refl}
+use Rattle.std.proofs.Common.{◌≡◌, ◌&&◌, [], ◌∷◌, ◌∙◌, ap₂, arith}
 use Rattle.std.proofs.lemmas.Int.{ints}
 use mir.Val.{to_z, of_z}
 use Rattle.std.specs.Int.{w64}
-use Rattle.std.specs.Prelude.{◌+ℤ◌, Bool}
+use Rattle.std.specs.Prelude.{◌+ℤ◌}
 use Rattle.twkb_body.specs.Devices.BoxTest.{reaches}
-use Rattle.twkb_body.specs.Devices.Quads.{lanes_at}
-use Rattle.twkb_body.proofs.LaneSums.{IsMetInLane, one_lane, lane_reaches}
+use Rattle.twkb_body.specs.Devices.Quads.{lanes_at, lanes_within}
+use Rattle.twkb_body.proofs.LaneSums.{IsMetInLane, one_lane, lane_reaches, and_true_right, twice}
 use Rattle.twkb_body.proofs.positions.one_more.Goals as goal
 
-twice : (a b : Bool) → (a && b) && (a && b) ≡ (a && b) && true
-twice true true = refl
-twice true false = refl
-twice false b = refl
-
 pub returns : goal.returns
-returns k x y w h at extent x_in y_in w_fits h_fits =
+returns k limits x y w h at extent x_in y_in w_fits h_fits =
     let a = k.args.x_more in
     let b = k.args.y_more in
     let a_is : to_z w64 (of_z w64 a) ≡ a = omega (arith, ints, k.requires.x.0, k.requires.x.1) in
@@ -30,6 +25,6 @@ returns k x y w h at extent x_in y_in w_fits h_fits =
     let rx = lane_reaches w (x +ℤ a) w_fits x_met in
     let ry = lane_reaches h (y +ℤ b) h_fits y_met in
     record {
-      at_is = there;
-      inside_is = k.are_within.ensures _ _ _ _ _ _ _ _ there extent ∙ (λ j. (rx j && ry j) && (rx j && ry j)) ∙ twice (reaches w (x +ℤ a)) (reaches h (y +ℤ b));
+      at_is = λ so. there;
+      inside_is = ap₂ lanes_within there extent ∙ (λ j. (rx j && ry j) && (rx j && ry j)) ∙ twice (reaches w (x +ℤ a) && reaches h (y +ℤ b)) ∙ and_true_right (reaches w (x +ℤ a) && reaches h (y +ℤ b));
     }

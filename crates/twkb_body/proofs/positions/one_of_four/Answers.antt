@@ -9,11 +9,11 @@ use Rattle.twkb_body.proofs.QuadReads.{four_of}
 use Rattle.twkb_body.proofs.positions.one_of_four.Goals as goal
 
 pub returns : goal.returns
-returns c short apart e at extent in_lanes wide =
+returns c short limits apart e at extent in_lanes wide =
     let (x, y, z, m, means) = four_of w32 c.args.differences (search rules) in
     let d : PerAxis = record { x = x; y = y; third = z; fourth = m } in
     let all = subst (All IsShort) means short in
     rw means
-    (one_gone e apart d c.summed-place.result c.are_within.result
+    (one_gone e apart d c.summed-place.result limits
     (record { x = all 0 (pos 0) (omega arith); y = all 1 (pos 0) (omega arith); third = all 2 (pos 0) (omega arith); fourth = all 3 (pos 0) (omega arith) }) in_lanes wide
-    (c.summed-place.ensures _ _ _ _ _ _ _ _ (lanes_are w32 c.args.differences (listed d) c.fits-differences.1 means) at) (λ there. c.are_within.ensures _ _ _ _ _ _ _ _ there extent))
+    (c.summed-place.ensures _ _ _ _ _ _ _ _ (lanes_are w32 c.args.differences (listed d) c.fits-differences.1 means) at) extent)

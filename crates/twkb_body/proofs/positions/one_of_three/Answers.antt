@@ -15,5 +15,5 @@ four_lanes_of-requires c =
     record { x = short_in_lane _ c.requires.x; y = short_in_lane _ c.requires.y; third = short_in_lane _ c.requires.third; fourth = short_in_lane _ c.requires.fourth }
 
 pub returns : goal.returns
-returns c apart e at extent in_lanes wide =
-    one_gone e apart c.args.more.now c.summed-place.result c.are_within.result c.requires in_lanes wide (c.summed-place.ensures _ _ _ _ _ _ _ _ c.four_lanes_of.ensures at) (λ there. c.are_within.ensures _ _ _ _ _ _ _ _ there extent)
+returns c limits apart e at extent in_lanes wide =
+    one_gone e apart c.args.more.now c.summed-place.result limits c.requires in_lanes wide (c.summed-place.ensures _ _ _ _ _ _ _ _ c.four_lanes_of.ensures at) extent

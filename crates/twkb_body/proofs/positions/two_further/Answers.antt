@@ -1,16 +1,15 @@
 -- The sums are the points' distances, and one comparison without signs tells whether the extents hold both.
-use Rattle.std.proofs.Common.{rules, ℕ, List, map, ap, ◌++◌, ◌≡◌, ◌&&◌, [], ◌∷◌, ◌∙◌, subst, refl, arith, pos, w16, w32}
+use Rattle.std.proofs.Common.{rules, ℕ, List, map, ap, ap₂, ◌++◌, ◌≡◌, ◌&&◌, [], ◌∷◌, ◌∙◌, subst, refl, Bool, arith, pos, w16, w32}
 use Rattle.std.proofs.lemmas.Int.{ints}
 use Rattle.std.specs.Int.{cast_signed, cast_unsigned}
 use lib.Lanes.{pick_l}
 use Rattle.std.specs.Prelude.{ℤ, ◌+ℤ◌, All}
 use Rattle.twkb_num.specs.Varint.{IsBrief}
 use Rattle.twkb_body.specs.declared.per_axis.PerAxis.{PerAxis}
-use Rattle.twkb_body.specs.Devices.BoxTest.{reaches}
-use Rattle.twkb_body.specs.Devices.FurtherLanes.{four_lanes}
+use Rattle.twkb_body.specs.Devices.FurtherLanes.{four_lanes, all_within}
 use Rattle.twkb_body.specs.Devices.PerAxis.{listed, plus}
-use Rattle.twkb_body.specs.Devices.Quads.{IsInLane}
-use Rattle.twkb_body.proofs.LaneSums.{IsMetInLane, lanes_are, sum_of_two, lane_reaches, greater_within, each_of_two}
+use Rattle.twkb_body.specs.Devices.Quads.{lanes_within, IsInLane}
+use Rattle.twkb_body.proofs.LaneSums.{IsMetInLane, lanes_are, sum_of_two, lane_reaches, and_true_right}
 use Rattle.twkb_body.proofs.QuadReads.{eight_of}
 use Rattle.twkb_body.proofs.positions.two_further.Goals as goal
 
@@ -21,7 +20,7 @@ both_met : (x a b : ℤ) → IsInLane x → IsBrief a → IsBrief b → IsMetInL
 both_met x a b l one two = (omega (arith, ints, l.0, one.0, two.0), omega (arith, ints, l.1, one.1, two.1))
 
 pub returns : goal.returns
-returns c brief apart e at extent in_lanes wide =
+returns c brief limits apart e at extent in_lanes wide =
     let (p_x, p_y, p_z, p_m, q_x, q_y, q_z, q_m, means) = eight_of w16 c.args.differences (search rules) in
     let p : PerAxis = record { x = p_x; y = p_y; third = p_z; fourth = p_m } in
     let q : PerAxis = record { x = q_x; y = q_y; third = q_z; fourth = q_m } in
@@ -56,16 +55,10 @@ returns c brief apart e at extent in_lanes wide =
     let ry2 = lane_reaches e.y ((apart.y +ℤ p.y) +ℤ q.y) wide.y (both_met apart.y p.y q.y in_lanes.y py qy) in
     let rz2 = lane_reaches e.third ((apart.third +ℤ p.third) +ℤ q.third) wide.third (both_met apart.third p.third q.third in_lanes.third pz qz) in
     let rm2 = lane_reaches e.fourth ((apart.fourth +ℤ p.fourth) +ℤ q.fourth) wide.fourth (both_met apart.fourth p.fourth q.fourth in_lanes.fourth pm qm) in
-    let gx = greater_within (cast_unsigned w32 (apart.x +ℤ p.x)) (cast_unsigned w32 ((apart.x +ℤ p.x) +ℤ q.x)) (cast_unsigned w32 e.x) in
-    let gy = greater_within (cast_unsigned w32 (apart.y +ℤ p.y)) (cast_unsigned w32 ((apart.y +ℤ p.y) +ℤ q.y)) (cast_unsigned w32 e.y) in
-    let gz = greater_within (cast_unsigned w32 (apart.third +ℤ p.third)) (cast_unsigned w32 ((apart.third +ℤ p.third) +ℤ q.third)) (cast_unsigned w32 e.third) in
-    let gm = greater_within (cast_unsigned w32 (apart.fourth +ℤ p.fourth)) (cast_unsigned w32 ((apart.fourth +ℤ p.fourth) +ℤ q.fourth)) (cast_unsigned w32 e.fourth) in
+    let near = ap₂ lanes_within first extent ∙ (λ j. (rx1 j && ry1 j) && (rz1 j && rm1 j)) in
+    let far = ap₂ lanes_within second extent ∙ (λ j. (rx2 j && ry2 j) && (rz2 j && rm2 j)) in
     rw means
     record {
       at_is = second;
-      inside_is = c.are_within.ensures _ _ _ _ _ _ _ _ (c.greater.ensures _ _ _ _ _ _ _ _ first second) extent
-          ∙ (λ j. (gx j && gy j) && (gz j && gm j))
-          ∙ (λ j. ((rx1 j && rx2 j) && (ry1 j && ry2 j)) && ((rz1 j && rz2 j) && (rm1 j && rm2 j)))
-          ∙ each_of_two (reaches e.x (apart.x +ℤ p.x)) (reaches e.y (apart.y +ℤ p.y)) (reaches e.third (apart.third +ℤ p.third)) (reaches e.fourth (apart.fourth +ℤ p.fourth))
-          (reaches e.x ((apart.x +ℤ p.x) +ℤ q.x)) (reaches e.y ((apart.y +ℤ p.y) +ℤ q.y)) (reaches e.third ((apart.third +ℤ p.third) +ℤ q.third)) (reaches e.fourth ((apart.fourth +ℤ p.fourth) +ℤ q.fourth));
+      inside_is = c.greater.ensures limits ∙ (λ j. near j && far j) ∙ ap (λ (b : Bool). all_within e (plus apart p) && b) (and_true_right (all_within e (plus (plus apart p) q)));
     }

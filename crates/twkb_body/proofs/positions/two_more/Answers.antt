@@ -1,15 +1,16 @@
-use Rattle.std.proofs.Common.{rules, ◌≡◌, ◌&&◌, [], ◌∷◌, subst, ◌∙◌, w32, arith, pos}
+use Rattle.std.proofs.Common.{rules, ◌≡◌, ◌&&◌, [], ◌∷◌, subst, ap₂, ◌∙◌, w32, arith, pos}
 use Rattle.std.proofs.lemmas.Int.{ints}
 use Rattle.std.specs.Int.{cast_unsigned}
 use Rattle.std.specs.Prelude.{◌+ℤ◌, All}
 use Rattle.twkb_num.specs.Varint.{IsShort}
 use Rattle.twkb_body.specs.Devices.BoxTest.{reaches}
+use Rattle.twkb_body.specs.Devices.Quads.{lanes_within}
 use Rattle.twkb_body.proofs.LaneSums.{IsMetInLane, lanes_are, first_wide, second_wide, lane_reaches, one_by_one}
 use Rattle.twkb_body.proofs.QuadReads.{four_of}
 use Rattle.twkb_body.proofs.positions.two_more.Goals as goal
 
 pub returns : goal.returns
-returns k short x y w h at extent x_in y_in w_fits h_fits =
+returns k short limits x y w h at extent x_in y_in w_fits h_fits =
     let (a1, b1, a2, b2, means) = four_of w32 k.args.differences (search rules) in
     let all = subst (All IsShort) means short in
     let a1_short : IsShort a1 = all 0 (pos 0) (omega arith) in
@@ -34,7 +35,7 @@ returns k short x y w h at extent x_in y_in w_fits h_fits =
     let ry2 = lane_reaches h ((y +ℤ b1) +ℤ b2) h_fits y2_met in
     rw means
     record {
-      at_is = k.last_twice.ensures _ _ _ _ there;
-      inside_is = k.are_within.ensures _ _ _ _ _ _ _ _ there extent ∙ (λ j. (rx1 j && ry1 j) && (rx2 j && ry2 j))
+      at_is = λ so. k.last_twice.ensures _ _ _ _ there;
+      inside_is = ap₂ lanes_within there extent ∙ (λ j. (rx1 j && ry1 j) && (rx2 j && ry2 j))
           ∙ one_by_one (reaches w (x +ℤ a1)) (reaches h (y +ℤ b1)) (reaches w ((x +ℤ a1) +ℤ a2)) (reaches h ((y +ℤ b1) +ℤ b2));
     }

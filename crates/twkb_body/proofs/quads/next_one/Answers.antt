@@ -12,4 +12,4 @@ returns-in-Some c =
     let x_is : to_z w64 (of_z w64 c.in-Some.x) ≡ c.in-Some.x = omega (arith, ints, read.short.0) in
     let y_is : to_z w64 (of_z w64 c.in-Some.y) ≡ c.in-Some.y = omega (arith, ints, read.short.1) in
     let lead = rw (x_is, y_is) at c.one_more.ensures in
-    pairs_step ((c.in-Some.x, c.in-Some.y) ∷ []) 1 1 c.args.at c.args.extent c.args.cursor.now c.svarint_mixed_pair.new.self c.one_more.result refl (omega arith) (omega arith) (omega arith) read.moved.bytes (c.svarint_mixed_pair.new.self, read.some, read.moved, read.short.0, read.short.1, refl) lead
+    pairs_step ((c.in-Some.x, c.in-Some.y) ∷ []) 1 1 c.args.at c.args.cursor.now c.svarint_mixed_pair.new.self c.one_more.result refl (omega arith) (omega arith) (omega arith) read.moved.bytes (c.svarint_mixed_pair.new.self, read.some, read.moved, read.short.0, read.short.1, refl) lead

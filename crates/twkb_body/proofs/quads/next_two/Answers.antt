@@ -8,4 +8,4 @@ pub returns : goal.returns
 returns c =
     let read = c.svarint_four-differences in
     let so = not-false read.result.is_read c.if-not-differences.false in
-    lanes_step w32 read.result.lanes 2 2 c.args.at c.args.extent c.args.cursor.now read.new.self c.two_more-reached.result (search rules) (omega arith) (omega arith) (omega arith) (read.ensures.some so) (read.ensures.moved so) read.ensures.short (c.two_more-reached.ensures read.ensures.short)
+    lanes_step w32 read.result.lanes 2 2 c.args.at c.args.cursor.now read.new.self c.two_more-reached.result (search rules) (omega arith) (omega arith) (omega arith) (read.ensures.some so) (read.ensures.moved so) read.ensures.short (c.two_more-reached.ensures read.ensures.short)
