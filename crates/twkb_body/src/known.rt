@@ -40,7 +40,7 @@ pub fn short_ranges(cursor: &mut Cursor) -> Option<(RawRange, RawRange)>
     ensures none { IfNone result (cursor.new ≡ cursor.old) }
 {
     let (x, y) = cursor.svarint_two_pairs()?;
-    Some((ranged(x), ranged(y)))
+    Some((RawRange::from(x), RawRange::from(y)))
 }
 
 /// Reads the ranges of X and Y. If their four numbers are short and 32 bytes are left, it reads them together and returns them in lanes too.
@@ -55,7 +55,7 @@ pub fn lane_box(cursor: &mut Cursor) -> (Four, RawRange, RawRange)
     let four = cursor.svarint_four();
     if four.is_read {
         let (x, y) = four.two_pairs();
-        (four, ranged(x), ranged(y))
+        (four, RawRange::from(x), RawRange::from(y))
     } else {
         let (x, y) = long_box(cursor);
         (four, x, y)
@@ -72,17 +72,6 @@ fn long_box(cursor: &mut Cursor) -> (RawRange, RawRange)
     let (x, _) = known_range(cursor);
     let (y, _) = known_range(cursor);
     (x, y)
-}
-
-/// A minimum and an extent, as a range.
-#[inline(always)]
-fn ranged(pair: (i64, i64)) -> RawRange
-    ensures { result ≡ record { minimum = pair.0; extent = pair.1 } }
-{
-    RawRange {
-        minimum: pair.0,
-        extent: pair.1,
-    }
 }
 
 /// Moves past minimum and extent of an axis, by their ends if both end in the next eight bytes.

@@ -54,6 +54,19 @@ pub struct Fields {
     pub stop: usize,
 }
 
+impl From<(i64, i64)> for RawRange {
+    ghost from_gives = { λ pair range. range ≡ record { minimum = pair.0; extent = pair.1 } };
+
+    /// A minimum, and the extent after it.
+    #[inline(always)]
+    fn from(pair: (i64, i64)) -> RawRange {
+        RawRange {
+            minimum: pair.0,
+            extent: pair.1,
+        }
+    }
+}
+
 impl RawRange {
     /// If `true`, both numbers are at most 2^61 from zero, so their sum fits 64 bits. `false` says nothing.
     #[inline(always)]

@@ -16,6 +16,6 @@ returns-then-four-clause-read c =
     let way = pair_and_others old new (two.0).0 (two.0).1 ((two.1).0 ∷ (two.1).1 ∷ []) all (c.svarint_four-four.ensures.moved c.if-four.true) in
     record {
       between = way.0;
-      x_read = pair_range_held (two.0).0 (two.0).1 _ _ _ _ (ap (λ (r : RawRange). r.minimum) c.ranged.ensures) (ap (λ (r : RawRange). r.extent) c.ranged.ensures) way.1 way.2;
-      y_read = pair_range_held (two.1).0 (two.1).1 _ _ _ _ (ap (λ (r : RawRange). r.minimum) c.ranged-then-four.ensures) (ap (λ (r : RawRange). r.extent) c.ranged-then-four.ensures) (last_pair way.0 new (two.1).0 (two.1).1 way.3) way.4;
+      x_read = pair_range_held (two.0).0 (two.0).1 _ _ _ _ (ap (λ (r : RawRange). r.minimum) c.from.ensures) (ap (λ (r : RawRange). r.extent) c.from.ensures) way.1 way.2;
+      y_read = pair_range_held (two.1).0 (two.1).1 _ _ _ _ (ap (λ (r : RawRange). r.minimum) c.from-then-four.ensures) (ap (λ (r : RawRange). r.extent) c.from-then-four.ensures) (last_pair way.0 new (two.1).0 (two.1).1 way.3) way.4;
     }

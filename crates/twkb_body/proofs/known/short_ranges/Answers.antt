@@ -11,6 +11,6 @@ returns-clause-read c =
     let two = c.in_ok-x.ensures.some in
     record {
       between = two.0;
-      x_read = pair_range_held x.0 x.1 _ _ _ _ (ap (λ (r : RawRange). r.minimum) c.ranged.ensures) (ap (λ (r : RawRange). r.extent) c.ranged.ensures) two.1 two.2;
-      y_read = pair_range_held y.0 y.1 _ _ _ _ (ap (λ (r : RawRange). r.minimum) c.ranged-2.ensures) (ap (λ (r : RawRange). r.extent) c.ranged-2.ensures) two.3 two.4;
+      x_read = pair_range_held x.0 x.1 _ _ _ _ (ap (λ (r : RawRange). r.minimum) c.from.ensures) (ap (λ (r : RawRange). r.extent) c.from.ensures) two.1 two.2;
+      y_read = pair_range_held y.0 y.1 _ _ _ _ (ap (λ (r : RawRange). r.minimum) c.from-2.ensures) (ap (λ (r : RawRange). r.extent) c.from-2.ensures) two.3 two.4;
     }
