@@ -56,6 +56,13 @@ two_of_all bytes x y all =
 pub last_pair : (a c : Reading) (x y : ℤ) → SpellsAllSigned (passed a c) (x ∷ y ∷ []) → SpellsTwoSigned (passed a c) x y
 last_pair a c = two_of_all (passed a c)
 
+-- a move over four numbers is two moves, each over two
+pub two_pairs : (a c : Reading) (w x y z : ℤ) → SpellsAllSigned (passed a c) (w ∷ x ∷ y ∷ z ∷ []) → IsMoved a c
+    → (b : Reading) × SpellsTwoSigned (passed a b) w x × IsMoved a b × SpellsTwoSigned (passed b c) y z × IsMoved b c
+two_pairs a c w x y z all m =
+    let way = pair_and_others a c w x (y ∷ z ∷ []) all m in
+    (way.0, way.1, way.2, last_pair way.0 c y z way.3, way.4)
+
 -- a number below 2^28 means a short one
 pub zigzag_short : (n : ℕ) (z : ℤ) → n < 2 ^ 28 → z ≡ zigzag_value n → IsShort z
 zigzag_short n z few e = go (cases_lt (n % 2) 1) e

@@ -1,9 +1,9 @@
 -- Four numbers are two pairs.
-use Rattle.std.proofs.Common.{[], ◌∷◌, pos, subst, arith}
+use Rattle.std.proofs.Common.{pos, subst, arith}
 use Rattle.std.specs.Prelude.{All}
 use Rattle.twkb_num.specs.Cursor.{passed}
 use Rattle.twkb_num.specs.Varint.{SpellsAllSigned, IsShort}
-use Rattle.twkb_num.proofs.PairLaws.{pair_and_others, last_pair}
+use Rattle.twkb_num.proofs.PairLaws.{two_pairs}
 use Rattle.twkb_num.proofs.cursor.Cursor.svarint_two_pairs.Goals as goal
 
 pub returns-then-four-clause-some : goal.returns-then-four-clause-some
@@ -12,8 +12,7 @@ returns-then-four-clause-some c =
     let old = c.args.self.now in
     let new = c.svarint_four-four.new.self in
     let all = subst (SpellsAllSigned (passed old new)) c.two_pairs.ensures (c.svarint_four-four.ensures.some c.if-four.true) in
-    let way = pair_and_others old new (two.0).0 (two.0).1 ((two.1).0 ∷ (two.1).1 ∷ []) all (c.svarint_four-four.ensures.moved c.if-four.true) in
-    (way.0, way.1, way.2, last_pair way.0 new (two.1).0 (two.1).1 way.3, way.4)
+    two_pairs old new (two.0).0 (two.0).1 (two.1).0 (two.1).1 all (c.svarint_four-four.ensures.moved c.if-four.true)
 
 pub returns-then-four-clause-first : goal.returns-then-four-clause-first
 returns-then-four-clause-first c =
