@@ -117,35 +117,20 @@ pub greater_within : (a b w : ℕ) → nat_le (if nat_lt a b then b else a) w �
 greater_within a b w =
     same_truth (nat_le (if nat_lt a b then b else a) w) (nat_le a w && nat_le b w) (λ e. grind (arith, e, leb_tells)) (λ e. grind (arith, e, leb_tells))
 
-and_true : (a b : Bool) → a ≡ true → b ≡ true → a && b ≡ true
-and_true a b e f = ap₂ (λ (p q : Bool). p && q) e f
-
 -- the greater of two lists in a place
 abbrev pub greater_lane : List ℕ → List ℕ → ℕ → ℕ
 greater_lane first second i = if nat_lt (slice_index first i) (slice_index second i) then slice_index second i else slice_index first i
 
+-- tests may be made in another order
+exchanged : (a b c d : Bool) → (a && b) && (c && d) ≡ (a && c) && (b && d)
+exchanged false b c d = refl
+exchanged true false true d = refl
+exchanged true false false d = refl
+exchanged true true c d = refl
+
 -- lanes that are compared two by two are compared all
 each_of_both : (a b c d e f g h : Bool) → ((a && e) && (b && f)) && ((c && g) && (d && h)) ≡ ((a && b) && (c && d)) && ((e && f) && (g && h))
-each_of_both a b c d e f g h =
-    same_truth (((a && e) && (b && f)) && ((c && g) && (d && h))) (((a && b) && (c && d)) && ((e && f) && (g && h)))
-    (λ t.
-    let two = both_true ((a && e) && (b && f)) ((c && g) && (d && h)) t in
-    let low = both_true (a && e) (b && f) two.0 in
-    let high = both_true (c && g) (d && h) two.1 in
-    let ae = both_true a e low.0 in
-    let bf = both_true b f low.1 in
-    let cg = both_true c g high.0 in
-    let dh = both_true d h high.1 in
-    and_true ((a && b) && (c && d)) ((e && f) && (g && h)) (and_true (a && b) (c && d) (and_true a b ae.0 bf.0) (and_true c d cg.0 dh.0)) (and_true (e && f) (g && h) (and_true e f ae.1 bf.1) (and_true g h cg.1 dh.1)))
-    (λ t.
-    let two = both_true ((a && b) && (c && d)) ((e && f) && (g && h)) t in
-    let one = both_true (a && b) (c && d) two.0 in
-    let other = both_true (e && f) (g && h) two.1 in
-    let ab = both_true a b one.0 in
-    let cd = both_true c d one.1 in
-    let ef = both_true e f other.0 in
-    let gh = both_true g h other.1 in
-    and_true ((a && e) && (b && f)) ((c && g) && (d && h)) (and_true (a && e) (b && f) (and_true a e ab.0 ef.0) (and_true b f ab.1 ef.1)) (and_true (c && g) (d && h) (and_true c g cd.0 gh.0) (and_true d h cd.1 gh.1)))
+each_of_both a b c d e f g h = (λ j. exchanged a e b f j && exchanged c g d h j) ∙ exchanged (a && b) (e && f) (c && d) (g && h)
 
 -- a test that is made twice
 pub twice : (a : Bool) → (a && a) ≡ a
