@@ -3,11 +3,11 @@ use Rattle.std.proofs.Common.{◌≡◌, ◌<◌, ◌^◌, length, drop, flat_ma
 use Rattle.twkb_layer.specs.Devices.Slots.{slot_says}
 use Rattle.twkb_layer.specs.Slots.{says_of}
 use Rattle.twkb_layer.proofs.Looking.{Looking}
-use Rattle.twkb_layer.proofs.scans.look_at_slots.Given as goal
+use Rattle.twkb_layer.proofs.scans.scan_slots.Given as goal
 
 abbrev pub invariant-loop-slot : goal.invariant-loop-slot
 invariant-loop-slot g l = record {
   bytes : l.cursor.bytes ≡ l.fn.cursor.bytes;
   small : length l.fn.cursor.bytes < 2 ^ 64;
-  going : Looking g.R.FromFound.of l.fn.windows l.fn.cursor.bytes l.fn.cursor.count l.fn.room (slot_says l.beyond) (flat_map says_of (drop l.slot-index l.slots)) l.cursor.count l.blob l.found l.room;
+  going : Looking g.R.FromFound.of l.fn.window l.fn.cursor.bytes l.fn.cursor.count l.fn.room (slot_says l.beyond) (flat_map says_of (drop l.slot-index l.slots)) l.cursor.count l.blob l.found l.room;
 }

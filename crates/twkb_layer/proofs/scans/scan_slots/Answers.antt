@@ -4,8 +4,8 @@ use Rattle.twkb_layer.specs.Devices.Slots.{slot_says}
 use Rattle.twkb_layer.specs.Slots.{Said, entry_with}
 use Rattle.twkb_layer.proofs.EachBlob.{walk_adds}
 use Rattle.twkb_layer.proofs.Looking.{half_own, look_begins, look_beyond, look_ends, look_past, one_next, slot_fits, slot_stands, two_next}
-use Rattle.twkb_layer.proofs.scans.look_at_slots.Goals as goal
-use Rattle.twkb_layer.proofs.scans.look_at_slots.Goals.{then-is_pair, else-is_pair+then-is_beyond, else-is_pair+else-is_beyond}
+use Rattle.twkb_layer.proofs.scans.scan_slots.Goals as goal
+use Rattle.twkb_layer.proofs.scans.scan_slots.Goals.{then-is_pair, else-is_pair+then-is_beyond, else-is_pair+else-is_beyond}
 
 pub loop-slot-init : goal.loop-slot-init
 loop-slot-init g c = record {
@@ -54,7 +54,7 @@ look_at-requires-then-is_pair-clause-stands g c =
     let slot = c.slot-item.result in
     let p = two_next g.R.FromFound.of _ _ _ _ _ _ _ _ _ _ _ inv.going slot c.slot-item.is c.loop-slot-test.true c.if-is_pair.ensures in
     let first = c.new-entry.ensures ∙ ap (entry_with (slot_says c.loop-slot.beyond.now)) c.half-first.ensures.says in
-    let q = look_past g.R.FromFound.of _ _ _ _ p inv.bytes first (half_own false slot) c.new-windows.ensures c.look_at.ensures.found c.look_at.ensures.count in
+    let q = look_past g.R.FromFound.of _ _ _ _ p inv.bytes first (half_own false slot) (c.new-windows.ensures ∙ c.new-raws.ensures) c.look_at.ensures.found c.look_at.ensures.count in
     let bytes = c.look_at.ensures.bytes ∙ inv.bytes in
     let second = c.new-entry-then-is_pair.ensures ∙ ap (entry_with (slot_says c.loop-slot.beyond.now)) c.half-second.ensures.says in
     slot_stands g.R.FromFound.of _ _ _ _ q bytes second (half_own true slot)
@@ -65,7 +65,7 @@ look_at-requires-then-is_pair-clause-fits g c =
     let slot = c.slot-item.result in
     let p = two_next g.R.FromFound.of _ _ _ _ _ _ _ _ _ _ _ inv.going slot c.slot-item.is c.loop-slot-test.true c.if-is_pair.ensures in
     let first = c.new-entry.ensures ∙ ap (entry_with (slot_says c.loop-slot.beyond.now)) c.half-first.ensures.says in
-    let q = look_past g.R.FromFound.of _ _ _ _ p inv.bytes first (half_own false slot) c.new-windows.ensures c.look_at.ensures.found c.look_at.ensures.count in
+    let q = look_past g.R.FromFound.of _ _ _ _ p inv.bytes first (half_own false slot) (c.new-windows.ensures ∙ c.new-raws.ensures) c.look_at.ensures.found c.look_at.ensures.count in
     let bytes = c.look_at.ensures.bytes ∙ inv.bytes in
     let second = c.new-entry-then-is_pair.ensures ∙ ap (entry_with (slot_says c.loop-slot.beyond.now)) c.half-second.ensures.says in
     omega (arith, (slot_fits g.R.FromFound.of _ _ _ _ q bytes second (half_own true slot)).1)
@@ -76,7 +76,7 @@ overflow_add-blob-then-is_pair g c =
     let slot = c.slot-item.result in
     let p = two_next g.R.FromFound.of _ _ _ _ _ _ _ _ _ _ _ inv.going slot c.slot-item.is c.loop-slot-test.true c.if-is_pair.ensures in
     let first = c.new-entry.ensures ∙ ap (entry_with (slot_says c.loop-slot.beyond.now)) c.half-first.ensures.says in
-    let q = look_past g.R.FromFound.of _ _ _ _ p inv.bytes first (half_own false slot) c.new-windows.ensures c.look_at.ensures.found c.look_at.ensures.count in
+    let q = look_past g.R.FromFound.of _ _ _ _ p inv.bytes first (half_own false slot) (c.new-windows.ensures ∙ c.new-raws.ensures) c.look_at.ensures.found c.look_at.ensures.count in
     let bytes = c.look_at.ensures.bytes ∙ inv.bytes in
     let second = c.new-entry-then-is_pair.ensures ∙ ap (entry_with (slot_says c.loop-slot.beyond.now)) c.half-second.ensures.says in
     omega (arith, (slot_fits g.R.FromFound.of _ _ _ _ q bytes second (half_own true slot)).0, inv.small)
@@ -110,14 +110,14 @@ loop-slot-preserved g c =
       | then-is_pair w ↦
           let p = two_next g.R.FromFound.of _ _ _ _ _ _ _ _ _ _ _ inv.going slot c.slot-item.is c.loop-slot-test.true w.if-is_pair.ensures in
           let first = w.new-entry.ensures ∙ ap (entry_with (slot_says c.loop-slot.beyond.now)) w.half-first.ensures.says in
-          let q = look_past g.R.FromFound.of _ _ _ _ p inv.bytes first (half_own false slot) c.new-windows.ensures w.look_at.ensures.found w.look_at.ensures.count in
+          let q = look_past g.R.FromFound.of _ _ _ _ p inv.bytes first (half_own false slot) (c.new-windows.ensures ∙ c.new-raws.ensures) w.look_at.ensures.found w.look_at.ensures.count in
           let bytes = w.look_at.ensures.bytes ∙ inv.bytes in
           let second = w.new-entry-then-is_pair.ensures ∙ ap (entry_with (slot_says c.loop-slot.beyond.now)) w.half-second.ensures.says in
           let two : c.loop-slot.blob + 2 ≡ c.loop-slot.blob + 1 + 1 = omega arith in
           record {
             bytes = rw w.cursor-is (w.look_at-then-is_pair.ensures.bytes ∙ bytes);
             small = inv.small;
-            going = rw (w.cursor-is, w.room-is, w.beyond-is, w.blob-is, w.found-is, two) (look_past g.R.FromFound.of _ _ _ _ q bytes second (half_own true slot) c.new-windows.ensures w.look_at-then-is_pair.ensures.found w.look_at-then-is_pair.ensures.count);
+            going = rw (w.cursor-is, w.room-is, w.beyond-is, w.blob-is, w.found-is, two) (look_past g.R.FromFound.of _ _ _ _ q bytes second (half_own true slot) (c.new-windows.ensures ∙ c.new-raws.ensures) w.look_at-then-is_pair.ensures.found w.look_at-then-is_pair.ensures.count);
           }
       | else-is_pair+then-is_beyond w ↦
           let p = one_next g.R.FromFound.of _ _ _ _ _ _ _ _ _ _ _ inv.going slot c.slot-item.is c.loop-slot-test.true w.if-is_pair.ensures in
@@ -131,7 +131,7 @@ loop-slot-preserved g c =
           record {
             bytes = rw w.cursor-is (w.look_at-else-is_beyond.ensures.bytes ∙ inv.bytes);
             small = inv.small;
-            going = rw (w.cursor-is, w.room-is, w.beyond-is, w.blob-is, w.found-is) (look_past g.R.FromFound.of _ _ _ _ p inv.bytes w.new-entry-else-is_beyond.ensures (sym w.if-is_beyond.ensures) c.new-windows.ensures w.look_at-else-is_beyond.ensures.found w.look_at-else-is_beyond.ensures.count);
+            going = rw (w.cursor-is, w.room-is, w.beyond-is, w.blob-is, w.found-is) (look_past g.R.FromFound.of _ _ _ _ p inv.bytes w.new-entry-else-is_beyond.ensures (sym w.if-is_beyond.ensures) (c.new-windows.ensures ∙ c.new-raws.ensures) w.look_at-else-is_beyond.ensures.found w.look_at-else-is_beyond.ensures.count);
           }
     ]
 
