@@ -32,10 +32,10 @@ impl ShortWindow {
     {
         ShortWindow {
             limits: u32x4::from_array([
-                biased(raw.x.greatest),
-                biased(raw.y.greatest),
-                u32::MAX - biased(raw.x.least),
-                u32::MAX - biased(raw.y.least),
+                clamped(raw.x.greatest),
+                clamped(raw.y.greatest),
+                u32::MAX - clamped(raw.x.least),
+                u32::MAX - clamped(raw.y.least),
             ]),
         }
     }
@@ -61,7 +61,7 @@ fn are_within(numbers: u32x4, limits: u32x4) -> bool
 
 /// The nearest number of 32 bits, with 2^31 added.
 #[inline(always)]
-fn biased(number: i64) -> u32
+fn clamped(number: i64) -> u32
     ensures { pos result ≡ nearest number +ℤ pos (2 ^ 31) }
 {
     if number < -BIAS {
