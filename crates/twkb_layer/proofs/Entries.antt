@@ -83,7 +83,7 @@ says_short slot is =
     ap (λ (form : ℕ). if form == 0 then short_says word.code word.deep word.rest slot.first else says_with word.code form word.deep word.rest (long slot.first) (long slot.second)) is
 
 -- a blob that is kept by numbers of 32 bits has its own slot, or shares one
-no_other : (b : Bool) → nat_lt 3 (if b then 1 else 2) ≡ false
+no_other : (b : Bool) → nat_lt 3 (if b then 0 else 2) ≡ false
 no_other true = refl
 no_other false = refl
 

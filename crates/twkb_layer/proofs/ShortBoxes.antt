@@ -94,14 +94,14 @@ short_judged w raw code n is (inl short) =
     let some = short_some n short in
     ap (λ (b : Bool). if b then false else raw_box_misses raw (box_ends n).0 (box_ends n).1) some
     ∙ (misses_raw (precision_of code) w raw is (box_ends n).0 (box_ends n).1 (inner _ short.x_least short.x_greatest) (inner _ short.y_least short.y_greatest)
-    ∙ sym (ap (λ (b : Bool). misses_in_x_or_y w (says_with code (if b then 1 else 2) false 0 (short_ends n.x_least n.x_greatest) (short_ends n.y_least n.y_greatest))) some))
+    ∙ sym (ap (λ (b : Bool). misses_in_x_or_y w (says_with code (if b then 0 else 2) false 0 (short_ends n.x_least n.x_greatest) (short_ends n.y_least n.y_greatest))) some))
 short_judged w raw code n is (inr none) = rw none refl
 
 -- what a slot says by the ends of a box, at a precision
 pub short_said : (code : ℕ) (deep : Bool) (offset : ℕ) (n : SlotNumbers) (x y : ℤ × ℤ) (p : ℤ) → precision_of code ≡ p → AreShort n → box_ends n ≡ (x, y)
     → short_says code deep offset n ≡ record { beyond = false; deep = deep; offset = offset; first = Some (span_at p x); second = Some (span_at p y) }
 short_said code deep offset n x y p is short ends =
-    (λ j. says_with code (if short_some n short j then 1 else 2) deep offset (ends j).0 (ends j).1)
+    (λ j. says_with code (if short_some n short j then 0 else 2) deep offset (ends j).0 (ends j).1)
     ∙ (λ j. record { beyond = false; deep = deep; offset = offset; first = Some (span_at (is j) x); second = Some (span_at (is j) y) })
 
 -- ---- a window in lanes for each precision
@@ -144,7 +144,7 @@ both_ranges slot own = go ((unpacked slot.word).form == 0) own
     wide = says_with (unpacked slot.word).code (unpacked slot.word).form (unpacked slot.word).deep (unpacked slot.word).rest (long slot.first) (long slot.second)
 
     go : (b : Bool) → (if b then short else wide).beyond ≡ false → is_some (if b then short else wide).first ≡ is_some (if b then short else wide).second
-    go true near = with_ranges (unpacked slot.word).code (if slot.first.x_least == 0 then 1 else 2) (unpacked slot.word).deep (unpacked slot.word).rest _ _ near
+    go true near = with_ranges (unpacked slot.word).code (if slot.first.x_least == 0 then 0 else 2) (unpacked slot.word).deep (unpacked slot.word).rest _ _ near
     go false near = with_ranges (unpacked slot.word).code (unpacked slot.word).form (unpacked slot.word).deep (unpacked slot.word).rest _ _ near
 
 or_assoc : (a b c : Bool) → (a || (b || c)) ≡ ((a || b) || c)

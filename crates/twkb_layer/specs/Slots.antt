@@ -23,7 +23,7 @@ pub record Written : Type 0 where
   pub second : SlotNumbers
 
 -- The range in a slot of this form, with this code of a precision, which is the precision plus 8, and two numbers: its ends in form
--- 2, otherwise a minimum and a width. Form 1 has no range, and in a form of 4 or more a code below 8 says that there is none.
+-- 2, otherwise a minimum and a width. Form 0 has no range, and in a form of 4 or more a code below 8 says that there is none.
 abbrev pub range_in : ℕ → ℕ → ℤ × ℤ → Option Span
 range_in form code numbers =
     if form == 2 then Some (span_at (pos code -ℤ pos 8) numbers)
@@ -44,7 +44,7 @@ says_with code form deep rest first second = record {
 -- what a slot says by the ends of a box in X and in Y, numbers of 32 bits: 2^31 is added to the least ones, and the greatest are
 -- subtracted from 2^31 - 1; if the first number is 0, there is no box
 abbrev pub short_says : ℕ → Bool → ℕ → SlotNumbers → Said
-short_says code deep offset n = says_with code (if n.x_least == 0 then 1 else 2) deep offset
+short_says code deep offset n = says_with code (if n.x_least == 0 then 0 else 2) deep offset
     (pos n.x_least -ℤ pos (2 ^ 31), pos (2 ^ 31 - 1) -ℤ pos n.x_greatest)
     (pos n.y_least -ℤ pos (2 ^ 31), pos (2 ^ 31 - 1) -ℤ pos n.y_greatest)
 

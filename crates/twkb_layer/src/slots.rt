@@ -355,9 +355,9 @@ impl Kept {
 /// A range in 32 bits, if there is a box.
 fn short_range(code: usize, is_boxed: bool, least: u32, greatest: u32) -> Option<Span>
     requires { code < 16 }
-    ensures { result ≡ range_in (if is_boxed then 2 else 1) code (short_ends least greatest) }
+    ensures { result ≡ range_in (if is_boxed then 2 else 0) code (short_ends least greatest) }
 {
-    let form = if is_boxed { ENDS } else { PAIR };
+    let form = if is_boxed { ENDS } else { SHORT };
     let ends = (i64::from(least) - BIAS, BIAS - 1 - i64::from(greatest));
     range_in(form, code, ends)
 }
