@@ -59,7 +59,7 @@ impl LaneReader for FlatLanes {
         next_two(cursor, at)
     }
 
-    /// Reads up to four points at once.
+    /// Reads up to sixteen points by vectors, or one that they can't read.
     #[inline(always)]
     fn take_some(&self, cursor: &mut Cursor, left: u64, at: u32x4) -> Option<Step> {
         let step = next_points(cursor, left, at);
@@ -85,8 +85,8 @@ pub fn fits_lanes(bounds: &RawBox) -> bool
     minima < 1 << 32 && extents < 1 << 30
 }
 
-/// Reads one point, whose differences may take more than four bytes. `None` says that it is malformed, or is in no box that lanes
-/// hold.
+/// Reads one point, whose differences may take more than four bytes. `None` says that it is malformed, or that a distance is negative
+/// or too great for a lane.
 // Out of line: most points are read by vectors.
 #[inline(never)]
 fn far_point(cursor: &mut Cursor, at: u32x4) -> Option<Reached>
@@ -105,7 +105,7 @@ fn far_point(cursor: &mut Cursor, at: u32x4) -> Option<Reached>
     far_reached(at, x_more, y_more)
 }
 
-/// Where a point is, by differences of any length, if lanes hold its distances.
+/// Where a point is, by differences of any length, if no distance is negative or too great for a lane.
 #[inline(always)]
 fn far_reached(at: u32x4, x_more: i64, y_more: i64) -> Option<Reached>
     ensures some { IfSome result (λ reached. (x y : ℤ) → at ≡ lanes_at x y → IsInLane x → IsInLane y

@@ -69,7 +69,7 @@ impl<const AXES: usize> LaneReader for FurtherLanes<AXES> {
         }
     }
 
-    /// Reads up to two points at once.
+    /// Reads up to two points by vectors, or one that they can't read.
     #[inline(always)]
     fn take_some(&self, cursor: &mut Cursor, left: u64, at: u32x4) -> Option<Step> {
         let step = next_further::<AXES>(cursor, left, at);
@@ -177,8 +177,8 @@ fn two_points(cursor: &mut Cursor, at: u32x4) -> Step
     Step { points: 2, reached }
 }
 
-/// Reads one point, whose differences may take more than four bytes. `None` says that it is malformed, or is in no box that lanes
-/// hold.
+/// Reads one point, whose differences may take more than four bytes. `None` says that it is malformed, or that a distance is negative
+/// or too great for a lane.
 // Out of line: most points are read by vectors.
 #[inline(never)]
 fn far_point<const AXES: usize>(cursor: &mut Cursor, at: u32x4) -> Option<Reached>
@@ -213,7 +213,7 @@ fn take_differences<const AXES: usize>(cursor: &mut Cursor) -> Result<PerAxis, M
     })
 }
 
-/// The sums of distances and differences, if lanes hold them, and none is negative.
+/// The sums of distances and differences, if none is negative or too great for a lane.
 #[inline(always)]
 fn moved_in_lanes(apart: &PerAxis, more: &PerAxis) -> Option<PerAxis>
     ensures some { IfSome result (λ sums. (sums ≡ plus apart.now more.now) × (all_within lane_ends sums ≡ true)) }

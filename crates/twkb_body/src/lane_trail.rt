@@ -33,7 +33,8 @@ pub trait LaneReader {
         ensures bytes { cursor.new.bytes ≡ cursor.old.bytes }
         ensures step { (extent : List ℕ) → IsLaneStep axes left (place self.now) at extent cursor.old cursor.new result };
 
-    /// Reads one point or more, `left` at most. `None` says that the first of them is malformed, or is in no box that lanes hold.
+    /// Reads one point or more, `left` at most. `None` says that the first of them is malformed, or that a distance of it is negative or
+    /// too great for a lane.
     fn take_some(&self, cursor: &mut Cursor, left: u64, at: u32x4) -> Option<Step>
         requires left { 1 ≤ left }
         ensures some { IfSome result (λ step. 1 ≤ step.points) }

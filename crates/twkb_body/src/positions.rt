@@ -120,7 +120,7 @@ pub fn distances_in(at: u32x4) -> (i64, i64)
     )
 }
 
-/// A distance and a difference added up, if a lane holds the sum, and it isn't negative.
+/// A distance and a difference added up, if the sum is neither negative nor too great for a lane.
 #[inline(always)]
 pub fn moved_in_lane(distance: i64, more: i64) -> Option<i64>
     ensures some { IfSome result (λ sum. (sum ≡ distance +ℤ more) × (reaches lane_end sum ≡ true)) }
