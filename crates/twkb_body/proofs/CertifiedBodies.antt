@@ -10,7 +10,6 @@ use Rattle.twkb_head.specs.Shared.Reader.{many_at, Fails}
 use Rattle.twkb_body.specs.declared.frame.Frame.{Frame}
 use Rattle.twkb_body.specs.Geometry.{PointValue}
 use Rattle.twkb_body.specs.declared.doubt.Doubt.{Doubt}
-use Rattle.twkb_body.specs.declared.doubt.Doubt.TheVariants.{Refused, Memory}
 use Rattle.twkb_body.specs.declared.stopped.Stopped.{Stopped}
 use Rattle.twkb_body.specs.declared.stopped.Stopped.TheVariants.{Malformed as BadField, Memory as NoMemory}
 use Rattle.twkb_body.specs.Devices.Stops.{HasStopped, WantsIn, WantsInside, WantsBehind}
@@ -19,7 +18,7 @@ use Rattle.twkb_body.specs.Devices.BodyReader.{list_at, count_at, part_at}
 use Rattle.twkb_body.specs.Devices.BoxTest.{held_then}
 use Rattle.twkb_body.specs.Devices.IdLists.{HasManyIdsAfterCount}
 use Rattle.twkb_body.specs.Devices.Inside.{of_head}
-use Rattle.twkb_body.specs.Devices.Sure.{framed, has_further, ReadParts, IsCounted, IsWrongCount, AreMalformed, AreHeld, IsSureBody, HasDoubt, doubt_of, CertifiesBody, CertifiesShape, IsRefutedBody}
+use Rattle.twkb_body.specs.Devices.Sure.{refused, framed, has_further, ReadParts, IsCounted, IsWrongCount, AreMalformed, AreHeld, IsSureBody, HasDoubt, doubt_of, CertifiesBody, CertifiesShape, IsRefutedBody}
 use Rattle.twkb_body.proofs.Keeping.{keeps_list, keeps_count, keeps_parts, read_keeps, failure_keeps}
 use Rattle.twkb_body.proofs.SureSteps.{AddsParts, body_unboxed, body_held}
 use Rattle.twkb_body.proofs.RefutedBodies.{count_refutes, shape_ids_refute, parts_refute}
@@ -45,8 +44,9 @@ wants_members head depth old full many wants = subst (λ (b : Bool). WantsIn b h
 pub shape_certifies : (depth : ℕ) (head : Head) (frame : Option Frame) (old new : Reading) (result : Result ℕ Doubt) → is_collection head.kind ≡ false → CertifiesShape (deepest - depth) head frame old result new
     → CertifiesBody depth head frame old result new
 shape_certifies depth head frame old new (Ok vertices) single s = s
-shape_certifies depth head frame old new (Err Refused) single s = s
-shape_certifies depth head frame old new (Err Memory) single s = (s.0, subst (λ (b : Bool). WantsIn b head.empty depth head.ids old) (sym single) s.1)
+shape_certifies depth head frame old new (Err d) single s =
+    let refuted = IsRefutedBody (deepest - depth) head frame old in
+    doubts_through refuted refuted (HasManyIdsAfterCount head.ids (rest old)) (WantsBehind depth head old) old old d new refl (λ r. r) (λ wants. subst (λ (b : Bool). WantsIn b head.empty depth head.ids old) (sym single) wants) s
 
 -- points with Z or M have three or four axes
 pub three_or_four : (z m : Option ℕ) (axes : ℕ) → axes ≡ axes_with z m → has_further z m ≡ true → (axes ≡ 3) ⊎ (axes ≡ 4)
@@ -105,11 +105,11 @@ module _ (head : Head) (levels axes count : ℕ) (old mid new : Reading) (full :
   malformed_refutes frame bad = parts_refute head levels old frame full single mid counted.0 (record { count = count; ids = None }) counted.1 counted.2 axes axes_are new bad
 
   -- a body that no frame has to hold is certified or refused by its parts
-  pub unboxed_certifies : (result : Result ℕ Doubt) → IfOk result (ReadParts (λ (s : Unit {0}) point. s) head.kind axes count mid new tt tt) → OnErr result (AreMalformed head.kind axes count mid new) → IfErr result (λ d. d ≡ Refused)
+  pub unboxed_certifies : (result : Result ℕ Doubt) → IfOk result (ReadParts (λ (s : Unit {0}) point. s) head.kind axes count mid new tt tt) → OnErr result (AreMalformed head.kind axes count mid new) → IfErr result (λ d. d ≡ refused)
       → CertifiesShape levels head None old result new
-  unboxed_certifies (Ok vertices) parts bad refused =
+  unboxed_certifies (Ok vertices) parts bad is =
       body_unboxed levels head old new vertices axes (sym axes_are) full single (λ (s : Unit {0}) point. s) tt tt (adds_parts (λ (s : Unit {0}) point. s) head.kind head.ids axes count old mid new tt tt vertices counted parts)
-  unboxed_certifies (Err d) parts bad refused = refused_for (IsRefutedBody levels head None old) (HasManyIdsAfterCount head.ids (rest old)) old d new refused (malformed_keeps bad) (malformed_refutes None bad)
+  unboxed_certifies (Err d) parts bad is = refused_for (IsRefutedBody levels head None old) (HasManyIdsAfterCount head.ids (rest old)) old d new is (malformed_keeps bad) (malformed_refutes None bad)
 
   -- a body that a frame has to hold is certified by its parts
   module _ (frame : Frame) (precisions : frame ≡ framed head frame.bounds) where

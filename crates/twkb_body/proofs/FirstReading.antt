@@ -13,7 +13,6 @@ use Rattle.twkb_head.specs.Header.{axes_of, axes_with, is_multi, has_bit}
 use Rattle.twkb_head.specs.Raw.{head_said, boxless}
 use Rattle.twkb_head.specs.Shared.Reader.{Answer}
 use Rattle.twkb_body.specs.declared.doubt.Doubt.{Doubt}
-use Rattle.twkb_body.specs.declared.doubt.Doubt.TheVariants.{Refused}
 use Rattle.twkb_body.specs.Geometry.{Geometry}
 use Rattle.twkb_body.specs.Encoding.{Blob}
 use Rattle.twkb_body.specs.Claims.{IsCertified}
@@ -22,7 +21,7 @@ use Rattle.twkb_body.specs.Devices.Bare.{unchanged}
 use Rattle.twkb_body.specs.Devices.BodyReader.{geometry_at}
 use Rattle.twkb_body.specs.Devices.Inside.{of_head}
 use Rattle.twkb_body.specs.Devices.Stops.{WantsBehind}
-use Rattle.twkb_body.specs.Devices.Sure.{framed, IsCounted, ReadParts, AreMalformed, IsFrameUnder, IsRefuted, IsRefutedBody, HasBegunPlain, IsJudged, HasDoubt, Certifies}
+use Rattle.twkb_body.specs.Devices.Sure.{refused, framed, IsCounted, ReadParts, AreMalformed, IsFrameUnder, IsRefuted, IsRefutedBody, HasBegunPlain, IsJudged, HasDoubt, Certifies}
 use Rattle.twkb_body.proofs.AuditFacts.{blob_stands, is_malformed}
 use Rattle.twkb_body.proofs.BlobLaws.{blob_once}
 use Rattle.twkb_body.proofs.ClaimPlaces.{claims_move_by}
@@ -74,15 +73,15 @@ module _ (raw : Fields) (plain : Head) (same : plain ≡ boxless raw) (kind : Ki
       (body_unboxed (deepest - 1) plain mid new vertices 2 (sym two) plain_full plain_single unchanged tt tt
       (adds_parts unchanged plain.kind plain.ids 2 1 mid mid new tt tt vertices counted (subst (λ (k : Kind). ReadParts unchanged k 2 1 mid new tt tt vertices) (sym plain_kind) parts))) judged
 
-  pub bare_doubts : (d : Doubt) → d ≡ Refused → AreMalformed kind 2 1 mid new → Certifies 1 None r (Err d) new
+  pub bare_doubts : (d : Doubt) → d ≡ refused → AreMalformed kind 2 1 mid new → Certifies 1 None r (Err d) new
   bare_doubts d is bad =
       let bad_plain : AreMalformed plain.kind 2 1 mid new = subst (λ (k : Kind). AreMalformed k 2 1 mid new) (sym plain_kind) bad in
       let refuted : IsRefutedBody (deepest - 1) plain None mid =
       parts_refute plain (deepest - 1) mid None plain_full plain_single mid counted.0 (record { count = 1; ids = None }) counted.1 counted.2 2 two new bad_plain in
-      let doubt : HasDoubt (IsRefutedBody (deepest - 1) plain None mid) (WantsBehind 1 plain mid) mid Refused new =
+      let doubt : HasDoubt (IsRefutedBody (deepest - 1) plain None mid) (WantsBehind 1 plain mid) mid refused new =
       (malformed_keeps plain (deepest - 1) 2 1 mid mid new plain_full plain_single two counted bad_plain, refuted) in
       subst (λ (e : Doubt). HasDoubt (IsRefuted (deepest - 1) None r) (HasLongList 1 (rest r)) r e new) (sym is)
-      (body_doubts raw 1 None r mid (omega arith) (omega arith) sound at moved plain same None under new Refused doubt)
+      (body_doubts raw 1 None r mid (omega arith) (omega arith) sound at moved plain same None under new refused doubt)
 
 -- ---- a blob that is refuted isn't certified
 pub none_certified : (r : Reading) → IsSound r → IsRefuted (deepest - 1) None r → (g : Geometry) (front behind : List ℕ) → rest r ≡ front ++ behind → Blob g front 1 → IsCertified g → ⊥

@@ -18,11 +18,10 @@ use Rattle.twkb_head.specs.Raw.{raw_bounds, flat_box, fields_box, head_said, box
 use Rattle.twkb_body.specs.declared.frame.Frame.{Frame}
 use Rattle.twkb_body.specs.Audited.{HasLongList}
 use Rattle.twkb_body.specs.declared.doubt.Doubt.{Doubt}
-use Rattle.twkb_body.specs.declared.doubt.Doubt.TheVariants.{Refused}
 use Rattle.twkb_body.specs.Devices.Stops.{WantsBehind}
 use Rattle.twkb_body.specs.Devices.BodyReader.{body_at, members_under}
 use Rattle.twkb_body.specs.Devices.Inside.{of_head}
-use Rattle.twkb_body.specs.Devices.Sure.{framed, IsFrameUnder, IsSureBody, IsSureBehind, IsSure, IsJudged, IsApart, HasDoubt, HasReadTwo, HasBegun, HasHead, Certifies, CertifiesAfterTwo, CertifiesAfterHead, IsRefutedBody, IsRefutedBehind, IsRefuted}
+use Rattle.twkb_body.specs.Devices.Sure.{refused, framed, IsFrameUnder, IsSureBody, IsSureBehind, IsSure, IsJudged, IsApart, HasDoubt, HasReadTwo, HasBegun, HasHead, Certifies, CertifiesAfterTwo, CertifiesAfterHead, IsRefutedBody, IsRefutedBehind, IsRefuted}
 use Rattle.twkb_body.proofs.Beginning.{announced_same}
 use Rattle.twkb_body.proofs.Keeping.{keeps_body_under, read_keeps}
 use Rattle.twkb_body.proofs.MemberSteps.{long_list_in}
@@ -153,14 +152,14 @@ bits_begin depth first metadata now begun other is begins before sound moved byt
 module _ (depth : ℕ) (above : Option Frame) (first metadata : ℕ) (now : Reading) (some : 1 ≤ depth) (deep : depth ≤ deepest) where
   -- it is refuted if no header begins with them
   pub none_begins : ((before : Reading) → IsSound before → IsMoved before now → passed before now ≡ first ∷ metadata ∷ [] → StartsWithHeader depth (rest before) → IsSome {T = Begun} None)
-      → CertifiesAfterTwo depth above first metadata now (Err Refused) now
+      → CertifiesAfterTwo depth above first metadata now (Err refused) now
   none_begins none before two = (two.moved.bytes, no_header_refutes depth above before some deep two.sound (λ starts. cc (none before two.sound two.moved two.bytes starts)))
 
   module _ (begun : Begun) (begins : BeginsAlways depth first metadata now begun) (new : Reading) where
     -- it is refuted if the rest of its header can't be read
     pub rest_unread : (m : Malformed) → ((depth : ℕ) (before : Reading) → IsSound before → BeginsHead begun depth before now → ReadsHead depth before new (Err m))
         → ((depth : ℕ) (before : Reading) → IsSound before → BeginsHead begun depth before now → IsOk {T = Fields} {E = Malformed} (Err m) ↔ StartsWithHeader depth (rest before))
-        → CertifiesAfterTwo depth above first metadata now (Err Refused) new
+        → CertifiesAfterTwo depth above first metadata now (Err refused) new
     rest_unread m read exact before two =
         let b = begins before two.sound two.moved two.bytes in
         rest_refutes m depth above before new some deep two.sound (read depth before two.sound b) (exact depth before two.sound b)

@@ -1,5 +1,5 @@
 -- A refusal refutes: if a geometry can be read there at all, a claim of it is false, or the frame doesn't hold a vertex.
-use Rattle.std.proofs.Common.{◌≡◌, ◌≢◌, ℕ, ◌+◌, ◌-◌, ◌≤◌, Bool, true, false, List, [], ◌∷◌, ◌++◌, length, ℤ, Option, Some, None, option_map, IfSome, All, AllPairs, Ok, Err, refl, sym, ap, subst, ◌∙◌, arith}
+use Rattle.std.proofs.Common.{◌≡◌, ◌≢◌, ℕ, zero, suc, ◌+◌, ◌-◌, ◌≤◌, Bool, true, false, List, [], ◌∷◌, ◌++◌, length, ℤ, Option, Some, None, option_map, IfSome, All, AllPairs, Ok, Err, refl, sym, ap, subst, ◌∙◌, arith}
 use Rattle.std.specs.Result.{is_ok}
 use Rattle.std.specs.Prelude.{IsOk, ◌↔◌}
 use Rattle.std.proofs.lemmas.Bool.{eq-eqb}
@@ -26,7 +26,6 @@ use Rattle.twkb_body.specs.declared.frame.Frame.{Frame}
 use Rattle.twkb_body.specs.Geometry.{Geometry, Lengths, lengths_of, vertices as vertices_of}
 use Rattle.twkb_body.specs.Claims.{Claim, size_claim, box_claim, ids_claim, claims_of, IsTrueClaim, claims, member_claims}
 use Rattle.twkb_body.specs.declared.doubt.Doubt.{Doubt}
-use Rattle.twkb_body.specs.declared.doubt.Doubt.TheVariants.{Refused, Memory}
 use Rattle.twkb_body.specs.declared.stopped.Stopped.{Stopped}
 use Rattle.twkb_body.specs.declared.stopped.Stopped.TheVariants.{Malformed as BadField, Memory as NoMemory}
 use Rattle.twkb_body.specs.Devices.Stops.{HasStopped}
@@ -35,7 +34,7 @@ use Rattle.twkb_body.specs.Devices.BodyReader.{body_at, geometry_at, members_und
 use Rattle.twkb_body.specs.Devices.Found.{size_judged}
 use Rattle.twkb_body.specs.Devices.Inside.{of_head, body_behind}
 use Rattle.twkb_body.specs.Devices.Pass.{false_at}
-use Rattle.twkb_body.specs.Devices.Sure.{framed, IsHeldBy, IsFrameUnder, body_vertices, IsSureBehind, HasDoubt, doubt_of, IsTrueInside, IsRefutedBody, IsRefutedBehind, IsRefuted}
+use Rattle.twkb_body.specs.Devices.Sure.{refused, framed, IsHeldBy, IsFrameUnder, body_vertices, IsSureBehind, HasCause, HasDoubt, doubt_of, IsTrueInside, IsRefutedBody, IsRefutedBehind, IsRefuted}
 use Rattle.twkb_body.proofs.GeometrySteps.{header_fails, body_gives, body_fails, body_of_head, size_same}
 use Rattle.twkb_body.proofs.Keeping.{Keeps, failure_keeps}
 use Rattle.twkb_body.proofs.Passes.{all_left, all_right}
@@ -168,13 +167,21 @@ pub doubts_outside : {A : Type 0} (f : Reader A) (R W V : Type 0) (mid old : Rea
 doubts_outside f R W V mid old (BadField m) new keeps same fails wants s = (failure_keeps f mid new m keeps s ∙ same, fails m s)
 doubts_outside f R W V mid old NoMemory new keeps same fails wants s = (s.0 ∙ same, wants s.1)
 
+-- a cause of one doubt is a cause of another
+pub causes_through : (R Q W V : Type 0) (memory : ℕ) → (R → Q) → (W → V) → HasCause R W memory → HasCause Q V memory
+causes_through R Q W V zero refutes wants cause = refutes cause
+causes_through R Q W V (suc more) refutes wants cause = wants cause
+
+-- a refusal's cause is the first one
+pub refused_cause : (R W : Type 0) (old : Reading) (d : Doubt) (new : Reading) → d ≡ refused → HasDoubt R W old d new → R
+refused_cause R W old d new is s = (subst (λ (e : Doubt). HasDoubt R W old e new) is s).1
+
 -- a doubt about a part is a doubt about the whole
 pub doubts_through : (R Q W V : Type 0) (mid old : Reading) (d : Doubt) (new : Reading) → mid.bytes ≡ old.bytes → (R → Q) → (W → V) → HasDoubt R W mid d new → HasDoubt Q V old d new
-doubts_through R Q W V mid old Refused new same refutes wants s = (s.0 ∙ same, refutes s.1)
-doubts_through R Q W V mid old Memory new same refutes wants s = (s.0 ∙ same, wants s.1)
+doubts_through R Q W V mid old d new same refutes wants s = (s.0 ∙ same, causes_through R Q W V d.memory refutes wants s.1)
 
 -- what is refuted may be refused
-pub refused_for : (R V : Type 0) (old : Reading) (d : Doubt) (new : Reading) → d ≡ Refused → new.bytes ≡ old.bytes → R → HasDoubt R V old d new
+pub refused_for : (R V : Type 0) (old : Reading) (d : Doubt) (new : Reading) → d ≡ refused → new.bytes ≡ old.bytes → R → HasDoubt R V old d new
 refused_for R V old d new is same r = subst (λ (e : Doubt). HasDoubt R V old e new) (sym is) (same, r)
 
 -- a geometry is refuted if no header that is allowed at this depth is there

@@ -8,7 +8,6 @@ ghost use Rattle.twkb_head.specs.Header.{has_bit};
 ghost use Rattle.twkb_head.specs.Raw.{HavePrecisions};
 ghost use Rattle.twkb_head.specs.declared.header.Head.{Head as HeadOf};
 ghost use Rattle.twkb_head.specs.declared.kinds.Kind.TheVariants.{Point, LineString};
-ghost use Rattle.twkb_body.specs.declared.doubt.Doubt.TheVariants.{Refused};
 ghost use Rattle.twkb_body.specs.declared.frame.Frame.{Frame as FrameOf};
 ghost use Rattle.twkb_body.specs.Devices.Sure.{counted_in, has_further, IsFramed, IsFrame, IsJudged, HasReadTwo, HasBegun, HasHead, Certifies, CertifiesAfterTwo, CertifiesAfterHead, CertifiesBody};
 
@@ -43,7 +42,7 @@ pub fn take_blob<R: IdRoom>(room: &mut R, cursor: &mut Cursor) -> Result<(usize,
     }
     cursor.place_is_within();
     let Some((first, metadata)) = cursor.two_bytes() else {
-        return Err(Doubt::Refused);
+        return Err(Doubt::REFUSED);
     };
     if metadata % 32 == NO_FIELD {
         if let Some(begun) = begun_as(cursor, Kind::Point, NO_FIELD, first, metadata) {
@@ -98,10 +97,10 @@ fn take_flat<R: IdRoom>(
     ensures { CertifiesAfterTwo depth above.now first metadata cursor.old result cursor.new }
 {
     let Some(begun) = begun_by(cursor, depth, first, metadata) else {
-        return Err(Doubt::Refused);
+        return Err(Doubt::REFUSED);
     };
     let Ok(raw) = take_rest::<BoxCalled>(cursor, with_bits(begun, 0)) else {
-        return Err(Doubt::Refused);
+        return Err(Doubt::REFUSED);
     };
     take_flat_headed(room, cursor, depth, above, raw)
 }
@@ -122,10 +121,10 @@ fn take_with_box<R: IdRoom>(
     ensures { CertifiesAfterTwo depth above.now first metadata cursor.old result cursor.new }
 {
     let Some(begun) = begun_by(cursor, depth, first, metadata) else {
-        return Err(Doubt::Refused);
+        return Err(Doubt::REFUSED);
     };
     let Ok(raw) = take_rest::<BoxInlined>(cursor, with_bits(begun, BOX)) else {
-        return Err(Doubt::Refused);
+        return Err(Doubt::REFUSED);
     };
     take_flat_headed(room, cursor, depth, above, raw)
 }
@@ -183,13 +182,13 @@ fn take_further<R: IdRoom>(
     ensures { CertifiesAfterTwo depth above.now first metadata cursor.old result cursor.new }
 {
     let Some(begun) = begun_by(cursor, depth, first, metadata) else {
-        return Err(Doubt::Refused);
+        return Err(Doubt::REFUSED);
     };
     if begun.is_empty() {
         return take_empty(cursor, depth, first, metadata);
     }
     let Ok(raw) = take_rest::<BoxCalled>(cursor, begun) else {
-        return Err(Doubt::Refused);
+        return Err(Doubt::REFUSED);
     };
     take_further_headed(room, cursor, depth, above, raw)
 }
@@ -211,10 +210,10 @@ fn take_with_further_box<R: IdRoom>(
     ensures { CertifiesAfterTwo depth above.now first metadata cursor.old result cursor.new }
 {
     let Some(begun) = begun_by(cursor, depth, first, metadata) else {
-        return Err(Doubt::Refused);
+        return Err(Doubt::REFUSED);
     };
     let Ok(raw) = take_rest::<BoxInlined>(cursor, with_bits(begun, FURTHER_BOX)) else {
-        return Err(Doubt::Refused);
+        return Err(Doubt::REFUSED);
     };
     take_further_headed(room, cursor, depth, above, raw)
 }
@@ -261,10 +260,10 @@ fn take_empty(cursor: &mut Cursor, depth: u8, first: u8, metadata: u8) -> Result
     ensures { (above : Option FrameOf) → CertifiesAfterTwo depth above first metadata cursor.old result cursor.new }
 {
     let Some(begun) = begun_by(cursor, depth, first, metadata) else {
-        return Err(Doubt::Refused);
+        return Err(Doubt::REFUSED);
     };
     let Ok(raw) = take_rest::<BoxCalled>(cursor, begun) else {
-        return Err(Doubt::Refused);
+        return Err(Doubt::REFUSED);
     };
     let head = raw.boxless();
     judged(&head, cursor, 0)
@@ -279,7 +278,7 @@ fn judged(head: &Head, cursor: &mut Cursor, vertices: usize) -> Result<usize, Do
 {
     if let Some(size) = head.size {
         if (cursor.place() - size.after) as u64 != size.value {
-            return Err(Doubt::Refused);
+            return Err(Doubt::REFUSED);
         }
         // The place is set to what it is already, so that the processor can begin the next geometry before it knows the lengths of all
         // numbers of this one. The test above compares lengths: if it compared ends, the compiler would leave out this store.
@@ -360,13 +359,13 @@ fn take_members<R: IdRoom>(
     cursor.place_is_within();
     let list = take_list(room, cursor, has_ids)?;
     if list.ids.is_some() {
-        return Err(Doubt::Refused);
+        return Err(Doubt::REFUSED);
     }
     let mut vertices = 0;
     for _ in 0..list.count {
         cursor.place_is_within();
         let Some((first, metadata)) = cursor.two_bytes() else {
-            return Err(Doubt::Refused);
+            return Err(Doubt::REFUSED);
         };
         let member = take_sure(room, cursor, depth + 1, frame, first, metadata)?;
         cursor.place_is_within();

@@ -1,6 +1,6 @@
 -- Devices of proofs: nothing public names them.
 -- The first reading: what it certifies, and what it refuses.
-use Rattle.std.specs.Prelude.{◌≡◌, ◌≢◌, ℕ, ◌+◌, ◌-◌, ◌≤◌, ◌+ℤ◌, ◌≤ℤ◌, Bool, false, List, [], ◌∷◌, ◌++◌, map, Option, Some, None, Result, Ok, Err, All, AllPairs, IfSome, IfOk, IfErr, OnErr, true, ⊤, is_some, ◌||◌, ◌⊎◌, option_map, ℤ}
+use Rattle.std.specs.Prelude.{◌≡◌, ◌≢◌, ℕ, zero, suc, ◌+◌, ◌-◌, ◌≤◌, ◌+ℤ◌, ◌≤ℤ◌, Bool, false, List, [], ◌∷◌, ◌++◌, map, Option, Some, None, Result, Ok, Err, All, AllPairs, IfSome, IfOk, IfErr, OnErr, true, ⊤, is_some, ◌||◌, ◌⊎◌, option_map, ℤ}
 use Rattle.twkb_num.specs.Cursor.{Reading, rest, passed, IsMoved, IsSound}
 use Rattle.twkb_num.specs.Units.{IsPrecision}
 use Rattle.twkb_head.specs.declared.header.Head.{Head}
@@ -27,7 +27,6 @@ use Rattle.twkb_body.specs.Geometry.{Geometry, PointValue, PolygonValue, points_
 use Rattle.twkb_body.specs.Claims.{IsTrueClaim, claims, member_claims}
 use Rattle.twkb_body.specs.Audited.{HasLongList}
 use Rattle.twkb_body.specs.declared.doubt.Doubt.{Doubt}
-use Rattle.twkb_body.specs.declared.doubt.Doubt.TheVariants.{Refused, Memory}
 use Rattle.twkb_body.specs.Devices.BoxTest.{Held, held_then}
 use Rattle.twkb_body.specs.Devices.Body.{Body, ListHead, ring_sums, zeros}
 use Rattle.twkb_body.specs.Devices.BodyReader.{part_at, count_at, geometry_at}
@@ -70,12 +69,20 @@ AreHeld kind axes count box old new vertices =
     × ReadParts (held_then axes) kind axes count old new (record { box = box; inside = true }) held vertices
     × (held.inside ≡ true)
 
+-- The blob is malformed, or a claim of it is false.
+abbrev pub refused : Doubt
+refused = record { memory = 0 }
+
+-- A list of ids lacks memory.
+abbrev pub lacking : Doubt
+lacking = record { memory = 1 }
+
 -- A body was read whose points the box holds, and the result is how many points there are; or else its parts leave the box.
 pub record HoldsOrLeaves (kind : Kind) (axes count : ℕ) (box : RawBox) (old new : Reading) (result : Result ℕ Doubt) : Type 0 where
   pub held : IfOk result (AreHeld kind axes count box old new)
   pub leave : OnErr result (LeaveBox kind axes count box old)
   pub bytes : new.bytes ≡ old.bytes
-  pub refused : IfErr result (λ doubt. doubt ≡ Refused)
+  pub refused : IfErr result (λ doubt. doubt ≡ refused)
 
 abbrev pub frame_bounds : Frame → Bounds
 frame_bounds frame = raw_bounds frame.xy frame.z frame.m frame.bounds
@@ -177,13 +184,17 @@ IsRefuted levels above old = (whole : Geometry) (new : Reading) → geometry_at 
 
 -- the reason why the reading of a list or of a body stopped, as a doubt
 abbrev pub doubt_of : Stopped → Doubt
-doubt_of (BadField m) = Refused
-doubt_of NoMemory = Memory
+doubt_of (BadField m) = refused
+doubt_of NoMemory = lacking
+
+-- the first cause if memory isn't lacking, or else the second
+abbrev pub HasCause : Type 0 → Type 0 → ℕ → Type 0
+HasCause Refuted Wants zero = Refuted
+HasCause Refuted Wants (suc more) = Wants
 
 -- why reading isn't sure: Refuted holds, or memory was wanted for the cause Wants; the bytes are unchanged
 abbrev pub HasDoubt : Type 0 → Type 0 → Reading → Doubt → Reading → Type 0
-HasDoubt Refuted Wants old Refused new = (new.bytes ≡ old.bytes) × Refuted
-HasDoubt Refuted Wants old Memory new = (new.bytes ≡ old.bytes) × Wants
+HasDoubt Refuted Wants old doubt new = (new.bytes ≡ old.bytes) × HasCause Refuted Wants doubt.memory
 
 -- on Ok Sure holds of the number of vertices; on Err there is the doubt (`HasDoubt`)
 abbrev pub IsSureOr : (ℕ → Type 0) → Type 0 → Type 0 → Reading → Result ℕ Doubt → Reading → Type 0
@@ -246,7 +257,7 @@ pub record HasBegunPlain (kind : Kind) (begun : Begun) (now : Reading) : Type 0 
 -- on Ok the size is true of a geometry that ends at stop; on Err the size is false
 abbrev pub IsJudged : Head → ℕ → ℕ → Result ℕ Doubt → Type 0
 IsJudged head stop vertices (Ok counted) = (counted ≡ vertices) × (size_judged head.size stop ≡ None)
-IsJudged head stop vertices (Err doubt) = (doubt ≡ Refused) × ((f : ℕ × ℕ) × (size_judged head.size stop ≡ Some f))
+IsJudged head stop vertices (Err doubt) = (doubt ≡ refused) × ((f : ℕ × ℕ) × (size_judged head.size stop ≡ Some f))
 
 -- After a header a body was read that has no false claim, and whose vertices the header's box and the frame above hold.
 pub record IsSureBehind (levels : ℕ) (head : Head) (above : Option Frame) (old new : Reading) (vertices : ℕ)

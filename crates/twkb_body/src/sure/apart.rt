@@ -6,7 +6,6 @@ ghost use Rattle.twkb_head.specs.BegunHeader.{IsAllowedAt};
 ghost use Rattle.twkb_head.specs.Raw.{HavePrecisions, flat_box};
 ghost use Rattle.twkb_head.specs.declared.header.Head.{Head as HeadOf};
 ghost use Rattle.twkb_head.specs.declared.raw.RawBox.{RawBox as BoxOf};
-ghost use Rattle.twkb_body.specs.declared.doubt.Doubt.TheVariants.{Refused};
 ghost use Rattle.twkb_body.specs.Devices.Sure.{IsFrame, IsApart, CertifiesBehind};
 
 use crate::doubt::Doubt;
@@ -93,11 +92,11 @@ pub fn take_apart<R: IdRoom>(
     let mut seen = Seen::unasked().for_members(above.is_some());
     let inside = take_inside::<R, false>(room, cursor, depth, &head, &mut seen)?;
     if inside.boxed.is_some() || inside.ids.is_some() || inside.found.refused.is_some() {
-        return Err(Doubt::Refused);
+        return Err(Doubt::REFUSED);
     }
     if let Some(frame) = above {
         if !seen.extent.within(&frame.in_units()) {
-            return Err(Doubt::Refused);
+            return Err(Doubt::REFUSED);
         }
     }
     Ok(inside.found.vertices)

@@ -5,9 +5,8 @@ ghost use Rattle.twkb_head.specs.Header.{axes_with, is_multi};
 ghost use Rattle.twkb_head.specs.Raw.{HavePrecisions};
 ghost use Rattle.twkb_body.specs.Devices.Inside.{of_head};
 ghost use Rattle.twkb_body.specs.Devices.Body.{zeros};
-ghost use Rattle.twkb_body.specs.Devices.Sure.{ReadParts, AreMalformed, HoldsOrLeaves, CountsParts};
+ghost use Rattle.twkb_body.specs.Devices.Sure.{refused, ReadParts, AreMalformed, HoldsOrLeaves, CountsParts};
 ghost use Rattle.twkb_head.specs.declared.raw.RawBox.{RawBox as RawBoxOf};
-ghost use Rattle.twkb_body.specs.declared.doubt.Doubt.TheVariants.{Refused};
 ghost use Rattle.twkb_body.specs.Devices.Walk.{precisions_of};
 
 use crate::box_test::BoxTest;
@@ -36,7 +35,7 @@ pub fn take_count<R: IdRoom>(
     if kind.is_multi() {
         let list = take_list(room, cursor, has_ids)?;
         if list.ids.is_some() {
-            return Err(Doubt::Refused);
+            return Err(Doubt::REFUSED);
         }
         Ok(list.count)
     } else {
@@ -116,7 +115,7 @@ fn take_by_lanes<L: LaneReader + Drop>(
 {
     match take_parts::<L::Lines, _>(cursor, kind, count, &mut trail) {
         Ok(()) => Ok(trail.points),
-        Err(_) => Err(Doubt::Refused),
+        Err(_) => Err(Doubt::REFUSED),
     }
 }
 
@@ -138,7 +137,7 @@ fn take_by_box(
     if walk.points.is_inside() {
         Ok(walk.trail.points)
     } else {
-        Err(Doubt::Refused)
+        Err(Doubt::REFUSED)
     }
 }
 
@@ -157,12 +156,12 @@ pub fn take_walk<'h, P: Points + Drop>(
         cursor.new
         (P.state points) (P.state walk.points) walk.trail.points) }
     ensures malformed { OnErr result (AreMalformed head.now.kind axes count cursor.old cursor.new) }
-    ensures refused { IfErr result (λ doubt. doubt ≡ Refused) }
+    ensures refused { IfErr result (λ doubt. doubt ≡ refused) }
     ensures bytes { cursor.new.bytes ≡ cursor.old.bytes }
 {
     let mut walk = Walk::new(head, axes, points);
     let Ok(()) = take_parts::<LinesCalled, _>(cursor, head.kind, count, &mut walk) else {
-        return Err(Doubt::Refused);
+        return Err(Doubt::REFUSED);
     };
     Ok(walk)
 }

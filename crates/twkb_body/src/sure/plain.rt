@@ -32,7 +32,7 @@ pub fn take_plain(cursor: &mut Cursor, begun: Begun) -> Result<usize, Doubt>
         → Certifies 1 None before result cursor.new }
 {
     let Ok(raw) = take_rest::<BoxCalled>(cursor, begun) else {
-        return Err(Doubt::Refused);
+        return Err(Doubt::REFUSED);
     };
     let head = raw.boxless();
     let vertices = take_bare(cursor, begun.kind)?;

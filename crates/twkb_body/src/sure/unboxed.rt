@@ -3,8 +3,7 @@
 ghost use Rattle.std.specs.Prelude.{◌≡◌, ◌⊎◌, ◌≤◌, IfOk, IfErr, IfSome, IfNone, OnErr};
 ghost use Rattle.twkb_head.specs.declared.kinds.Kind.TheVariants.{Point, LineString};
 ghost use Rattle.twkb_body.specs.Devices.Bare.{unchanged};
-ghost use Rattle.twkb_body.specs.Devices.Sure.{ReadParts, AreMalformed};
-ghost use Rattle.twkb_body.specs.declared.doubt.Doubt.TheVariants.{Refused};
+ghost use Rattle.twkb_body.specs.Devices.Sure.{refused, ReadParts, AreMalformed};
 
 use super::parts::take_walk;
 use crate::doubt::Doubt;
@@ -32,7 +31,7 @@ pub fn take_unboxed(
     requires few { axes ≤ 4 }
     ensures ok { IfOk result (ReadParts unchanged kind axes count cursor.old cursor.new tt tt) }
     ensures malformed { OnErr result (AreMalformed kind axes count cursor.old cursor.new) }
-    ensures refused { IfErr result (λ doubt. doubt ≡ Refused) }
+    ensures refused { IfErr result (λ doubt. doubt ≡ refused) }
 {
     match pass_parts(cursor, kind, axes, count) {
         Some(points) => Ok(points),
@@ -46,7 +45,7 @@ pub fn take_bare(cursor: &mut Cursor, kind: Kind) -> Result<usize, Doubt>
     requires { (kind ≡ Point) ⊎ (kind ≡ LineString) }
     ensures ok { IfOk result (ReadParts unchanged kind 2 1 cursor.old cursor.new tt tt) }
     ensures malformed { OnErr result (AreMalformed kind 2 1 cursor.old cursor.new) }
-    ensures refused { IfErr result (λ doubt. doubt ≡ Refused) }
+    ensures refused { IfErr result (λ doubt. doubt ≡ refused) }
 {
     match kind {
         Kind::Point => take_bare_point(cursor),
@@ -60,7 +59,7 @@ pub fn take_bare(cursor: &mut Cursor, kind: Kind) -> Result<usize, Doubt>
 fn take_flat_line(cursor: &mut Cursor) -> Result<usize, Doubt>
     ensures ok { IfOk result (ReadParts unchanged LineString 2 1 cursor.old cursor.new tt tt) }
     ensures malformed { OnErr result (AreMalformed LineString 2 1 cursor.old cursor.new) }
-    ensures refused { IfErr result (λ doubt. doubt ≡ Refused) }
+    ensures refused { IfErr result (λ doubt. doubt ≡ refused) }
 {
     match pass_parts(cursor, Kind::LineString, 2, 1) {
         Some(points) => Ok(points),
@@ -73,7 +72,7 @@ fn take_flat_line(cursor: &mut Cursor) -> Result<usize, Doubt>
 fn take_bare_point(cursor: &mut Cursor) -> Result<usize, Doubt>
     ensures ok { IfOk result (ReadParts unchanged Point 2 1 cursor.old cursor.new tt tt) }
     ensures malformed { OnErr result (AreMalformed Point 2 1 cursor.old cursor.new) }
-    ensures refused { IfErr result (λ doubt. doubt ≡ Refused) }
+    ensures refused { IfErr result (λ doubt. doubt ≡ refused) }
 {
     cursor.place_is_within();
     match cursor.pass_pair() {
@@ -88,7 +87,7 @@ fn take_bare_point(cursor: &mut Cursor) -> Result<usize, Doubt>
 fn take_long_point(cursor: &mut Cursor) -> Result<usize, Doubt>
     ensures ok { IfOk result (ReadParts unchanged Point 2 1 cursor.old cursor.new tt tt) }
     ensures malformed { OnErr result (AreMalformed Point 2 1 cursor.old cursor.new) }
-    ensures refused { IfErr result (λ doubt. doubt ≡ Refused) }
+    ensures refused { IfErr result (λ doubt. doubt ≡ refused) }
 {
     let points = take_summed(cursor, Kind::Point, 2, 1)?;
     Ok(points)
@@ -128,7 +127,7 @@ fn take_summed(cursor: &mut Cursor, kind: Kind, axes: usize, count: u64) -> Resu
     requires few { axes ≤ 4 }
     ensures ok { IfOk result (ReadParts unchanged kind axes count cursor.old cursor.new tt tt) }
     ensures malformed { OnErr result (AreMalformed kind axes count cursor.old cursor.new) }
-    ensures refused { IfErr result (λ doubt. doubt ≡ Refused) }
+    ensures refused { IfErr result (λ doubt. doubt ≡ refused) }
 {
     let head = bare_head(kind, axes);
     let walk = take_walk(cursor, &head, axes, count, Passer::<false>)?;

@@ -2,25 +2,24 @@
 use Rattle.std.proofs.Common.{◌≡◌, ◌-◌, ◌++◌, false, None, refl, sym, ap, subst, ◌∙◌}
 use Rattle.twkb_num.specs.Cursor.{Reading, rest, passed}
 use Rattle.twkb_num.proofs.CursorLemmas.{rest-passed}
-use Rattle.twkb_head.specs.BegunHeader.{deepest}
-use Rattle.twkb_body.specs.declared.doubt.Doubt.{Doubt}
-use Rattle.twkb_body.specs.Audited.{HasLongList}
-use Rattle.twkb_body.specs.Devices.Sure.{faultless, HasDoubt, IsRefuted}
+use Rattle.twkb_body.specs.Devices.Sure.{faultless}
 use Rattle.twkb_body.proofs.AuditFacts.{blob_stands, is_audited}
 use Rattle.twkb_body.proofs.FirstReading.{none_certified, rests_same}
+use Rattle.twkb_body.proofs.Refuting.{refused_cause}
 use Rattle.twkb_body.proofs.auditing.audit_once.Goals as goal
 
 pub unreachable-requires : goal.unreachable-requires
 unreachable-requires g c =
     let r = c.args.cursor.now in
-    let s = subst (λ (d : Doubt). HasDoubt (IsRefuted (deepest - 1) None r) (HasLongList 1 (rest r)) r d c.take_blob.new.cursor) c.in-Err-Refused.field-0-is c.in-Err-Refused.ensures.certified in
-    let back = c.go_to-in-Err-Refused.new.self in
+    let s = c.in-Err.ensures.certified in
+    let refuted = refused_cause _ _ r c.in-Err.doubt c.take_blob.new.cursor (c.lacks_memory.ensures.refused c.if-lacks_memory.false) s in
+    let back = c.go_to.new.self in
     let new = c.name_fault.new.cursor in
-    let bytes = ap (λ (q : Reading). q.bytes) c.go_to-in-Err-Refused.ensures ∙ s.0 in
-    let place = ap (λ (q : Reading). q.place) c.go_to-in-Err-Refused.ensures ∙ c.place-start.ensures.value in
+    let bytes = ap (λ (q : Reading). q.bytes) c.go_to.ensures ∙ s.0 in
+    let place = ap (λ (q : Reading). q.place) c.go_to.ensures ∙ c.place-start.ensures.value in
     let audited = c.in-Ok-name_fault.ensures.ok in
     let split : rest r ≡ passed back new ++ rest new = sym (rests_same r back bytes place) ∙ rest-passed back new c.in-Ok-name_fault.ensures.moved in
-    none_certified r c.place-start.ensures.sound s.1 audited.blob (passed back new) (rest new) split audited.is audited.all_true
+    none_certified r c.place-start.ensures.sound refuted audited.blob (passed back new) (rest new) split audited.is audited.all_true
 
 pub returns-in-Ok-clause-ok : goal.returns-in-Ok-clause-ok
 returns-in-Ok-clause-ok g c =
@@ -32,8 +31,8 @@ returns-in-Ok-clause-moved g c =
     let sure = c.in-Ok.ensures.certified in
     (blob_stands _ _ c.place-start.ensures.sound sure.whole sure.read).1
 
-pub returns-in-Err-clause-complete : goal.returns-in-Err-clause-complete
-returns-in-Err-clause-complete g c h front behind split blob certified =
+pub returns-in-Err-name_fault-clause-complete : goal.returns-in-Err-name_fault-clause-complete
+returns-in-Err-name_fault-clause-complete g c h front behind split blob certified =
     let r = c.args.cursor.now in
-    let s = subst (λ (d : Doubt). HasDoubt (IsRefuted (deepest - 1) None r) (HasLongList 1 (rest r)) r d c.take_blob.new.cursor) c.in-Err-Refused.field-0-is c.in-Err-Refused.ensures.certified in
-    absurd (none_certified r c.place-start.ensures.sound s.1 h front behind split blob certified)
+    let refuted = refused_cause _ _ r c.in-Err.doubt c.take_blob.new.cursor (c.lacks_memory.ensures.refused c.if-lacks_memory.false) c.in-Err.ensures.certified in
+    absurd (none_certified r c.place-start.ensures.sound refuted h front behind split blob certified)
