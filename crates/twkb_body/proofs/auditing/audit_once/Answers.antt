@@ -1,5 +1,5 @@
 -- A blob that the first reading is sure of is audited. One that it refutes isn't certified, so the exact audit names a fault.
-use Rattle.std.proofs.Common.{◌≡◌, ◌-◌, ◌++◌, false, None, refl, sym, ap, subst, ◌∙◌}
+use Rattle.std.proofs.Common.{◌≡◌, ◌++◌, false, refl, sym, ap, ◌∙◌}
 use Rattle.twkb_num.specs.Cursor.{Reading, rest, passed}
 use Rattle.twkb_num.proofs.CursorLemmas.{rest-passed}
 use Rattle.twkb_body.specs.Devices.Sure.{faultless}
