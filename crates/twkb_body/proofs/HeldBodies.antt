@@ -1,5 +1,5 @@
 -- Bodies that a box has to hold.
-use Rattle.std.proofs.Common.{◌≡◌, ℕ, List, true, false, None, Some, Result, Ok, Err, inl, inr, sym, ap, ◌∙◌}
+use Rattle.std.proofs.Common.{◌≡◌, ℕ, List, true, false, Option, None, Some, Result, Ok, Err, inl, inr, sym, ap, ◌∙◌}
 use Rattle.std.specs.Prelude.{◌⊎◌}
 use Rattle.twkb_num.specs.Cursor.{Reading, rest}
 use Rattle.twkb_head.specs.declared.header.Head.{Head}
@@ -20,9 +20,9 @@ use Rattle.twkb_body.specs.Devices.LaneTrail.{holding, StandsInLanes, LeaveBox}
 use Rattle.twkb_body.specs.Devices.PerAxis.{is_four, axes_by}
 use Rattle.twkb_body.specs.Devices.PointReader.{Stage, HasRead}
 use Rattle.twkb_body.specs.Devices.Walk.{no_points}
-use Rattle.twkb_body.specs.Devices.Sure.{framed, IsCounted, AreHeld, HoldsOrLeaves, IsRefutedBody, CertifiesShape}
+use Rattle.twkb_body.specs.Devices.Sure.{framed, IsCounted, AreHeld, HoldsOrLeaves, IsRefutedBody, IsShapeHead, TakesParts, CertifiesShape}
 use Rattle.twkb_body.proofs.PointAxes.{parts_have}
-use Rattle.twkb_body.proofs.CertifiedBodies.{counted_keeps, held_sure}
+use Rattle.twkb_body.proofs.CertifiedBodies.{counted_keeps, held_sure, unboxed_certifies}
 use Rattle.twkb_body.proofs.RefutedBodies.{points_refute}
 use Rattle.twkb_body.proofs.Refuting.{refused_for}
 
@@ -64,3 +64,11 @@ module _ (head : Head) (levels axes count : ℕ) (old mid new : Reading) (full :
   boxed_certifies (Ok vertices) body = held_sure head levels axes count old mid new full single axes_are counted frame precisions vertices body.held
   boxed_certifies (Err d) body =
       refused_for (IsRefutedBody levels head (Some frame) old) (HasManyIdsAfterCount head.ids (rest old)) old d new body.refused (body.bytes ∙ counted_keeps head levels axes count old mid new full single axes_are counted) (leave_refute body.leave)
+
+-- a body is certified by its parts, with a frame or without one
+pub parts_certify : (head : Head) (levels axes count : ℕ) (old mid new : Reading) (frame : Option Frame) (result : Result ℕ Doubt) → IsShapeHead head frame → axes ≡ axes_of (of_head head) → IsCounted (is_multi head.kind) head.ids old mid count
+    → TakesParts head.kind axes count frame mid new result → CertifiesShape levels head frame old result new
+parts_certify head levels axes count old mid new (Some frame) result shape axes_are counted taken =
+    boxed_certifies head levels axes count old mid new shape.full shape.kind axes_are counted frame shape.framed.0 result taken
+parts_certify head levels axes count old mid new None result shape axes_are counted (parts, bad, is) =
+    unboxed_certifies head levels axes count old mid new shape.full shape.kind axes_are counted result parts bad is

@@ -1,15 +1,16 @@
 //! The first reading of a blob, which certifies it or ends in a doubt. It hands down the innermost box, and hands up the number of
 //! vertices. Used by `auditing`.
-ghost use Rattle.std.specs.Prelude.{◌≡◌, ◌≤◌, ◌+◌, ◌-◌, bit_and, true, false, Option, None, Some, IfSome, IfOk, Ok};
+ghost use Rattle.std.specs.Prelude.{◌≡◌, ◌≤◌, ◌+◌, ◌-◌, bit_and, true, false, Option, None, Some, IfSome, IfOk, Ok, option_map};
 ghost use Rattle.twkb_num.specs.Cursor.{Reading};
 ghost use Rattle.twkb_num.specs.Units.{IsPrecision};
 ghost use Rattle.twkb_head.specs.BegunHeader.{deepest, is_collection, IsAllowedAt};
 ghost use Rattle.twkb_head.specs.Header.{has_bit};
-ghost use Rattle.twkb_head.specs.Raw.{HavePrecisions};
+ghost use Rattle.twkb_head.specs.Raw.{HavePrecisions, boxless};
+ghost use Rattle.twkb_head.specs.declared.raw.Fields.{Fields as FieldsOf};
 ghost use Rattle.twkb_head.specs.declared.header.Head.{Head as HeadOf};
 ghost use Rattle.twkb_head.specs.declared.kinds.Kind.TheVariants.{Point, LineString};
 ghost use Rattle.twkb_body.specs.declared.frame.Frame.{Frame as FrameOf};
-ghost use Rattle.twkb_body.specs.Devices.Sure.{counted_in, has_further, IsFramed, IsFrame, IsJudged, HasReadTwo, HasBegun, HasHead, Certifies, CertifiesAfterTwo, CertifiesAfterHead, CertifiesBody};
+ghost use Rattle.twkb_body.specs.Devices.Sure.{counted_in, framed, has_further, IsFrameUnder, IsFramed, IsFrame, IsJudged, HasReadTwo, HasBegun, HasHead, Certifies, CertifiesAfterTwo, CertifiesAfterHead, CertifiesBody};
 
 mod announced;
 mod apart;
@@ -19,9 +20,9 @@ mod shapes;
 mod unboxed;
 
 use self::announced::{BOX, FLAT_BOX_BITS, FURTHER_BOX, NO_FIELD, with_bits};
-use self::apart::{flat_ranges, take_apart, take_apart_flat};
+use self::apart::{take_apart, take_flat_apart};
 use self::plain::{pass_point, take_plain};
-use self::shapes::{take_flat_shape, take_further_shape};
+use self::shapes::{take_flat_list, take_flat_single, take_further_shape};
 use crate::doubt::Doubt;
 use crate::frame::{Frame, further_frame};
 use crate::lists::take_list;
@@ -102,7 +103,11 @@ fn take_flat<R: IdRoom>(
     let Ok(raw) = take_rest::<BoxCalled>(cursor, with_bits(begun, 0)) else {
         return Err(Doubt::REFUSED);
     };
-    take_flat_headed(room, cursor, depth, above, raw)
+    let head = raw.boxless();
+    let Some(frame) = Frame::under(above, &head, &raw.bounds) else {
+        return take_flat_apart(room, cursor, depth, above, &raw);
+    };
+    take_flat_framed(room, cursor, depth, &head, &frame)
 }
 
 /// Reads a geometry as [`take_sure`] does, which has a box in X and Y, and isn't empty. The reader of the box is inlined here.
@@ -126,45 +131,37 @@ fn take_with_box<R: IdRoom>(
     let Ok(raw) = take_rest::<BoxInlined>(cursor, with_bits(begun, BOX)) else {
         return Err(Doubt::REFUSED);
     };
-    take_flat_headed(room, cursor, depth, above, raw)
+    let head = raw.boxless();
+    let Some(frame) = Frame::under(above, &head, &raw.bounds) else {
+        return take_flat_apart(room, cursor, depth, above, &raw);
+    };
+    take_flat_framed(room, cursor, depth, &head, &frame)
 }
 
-/// Reads a geometry of X and Y alone after its header.
+/// Reads a geometry of X and Y alone after its header. The frame has to hold its points.
 #[cycle(take_flat)]
 #[inline(always)]
-fn take_flat_headed<R: IdRoom>(
+fn take_flat_framed<R: IdRoom>(
     room: &mut R,
     cursor: &mut Cursor,
     depth: u8,
-    above: &Option<Frame>,
-    raw: Fields,
+    head: &Head,
+    frame: &Option<Frame>,
 ) -> Result<usize, Doubt>
-    requires head { HasHead depth above.now raw cursor.old }
-    requires xy { IsPrecision raw.axes.xy }
-    requires z { raw.axes.z ≡ None }
-    requires m { raw.axes.m ≡ None }
-    ensures { CertifiesAfterHead depth above.now raw cursor.old result cursor.new }
+    requires shallowest { 1 ≤ depth }
+    requires deepest { depth ≤ deepest }
+    requires allowed { IsAllowedAt head.now.kind depth }
+    requires full { head.now.empty ≡ false }
+    requires frame { IfSome frame.now (IsFramed head.now) }
+    requires z { head.now.z ≡ None }
+    requires m { head.now.m ≡ None }
+    requires ahead { IfSome head.now.size (λ size. size.after ≤ cursor.old.place) }
+    ensures { (above : Option FrameOf) (raw : FieldsOf) → head.now ≡ boxless raw
+        → IsFrameUnder above head.now (option_map (framed head.now) raw.bounds) frame.now
+        → CertifiesAfterHead depth above raw cursor.old result cursor.new }
 {
-    let head = raw.boxless();
-    let Some(frame) = Frame::under(above, &head, &raw.bounds) else {
-        // A header in memory would be set to zero for each geometry, so its parts are passed one by one.
-        let (x, y) = flat_ranges(&raw.bounds);
-        let vertices = take_apart_flat(
-            room,
-            cursor,
-            depth,
-            above,
-            head.kind,
-            head.xy,
-            head.ids,
-            raw.bounds.is_some(),
-            x,
-            y,
-        )?;
-        return judged(&head, cursor, vertices);
-    };
-    let vertices = take_flat_body(room, cursor, depth, &head, &frame)?;
-    judged(&head, cursor, vertices)
+    let vertices = take_flat_body(room, cursor, depth, head, frame)?;
+    judged(head, cursor, vertices)
 }
 
 /// Reads a geometry as [`take_sure`] does, which has an extended dimensions byte or is empty.
@@ -305,12 +302,38 @@ fn take_flat_body<R: IdRoom>(
     requires m { head.now.m ≡ None }
     ensures { CertifiesBody depth head.now frame.now cursor.old result cursor.new }
 {
-    if head.kind.is_collection() {
-        // A copy, so that the frame of a geometry without members stays in registers.
+    if head.kind.is_multi() {
+        // A copy, so that the frame of a single geometry stays in registers.
         let below = *frame;
-        take_members(room, cursor, depth, head.ids, &below)
+        take_flat_many(room, cursor, depth, head.kind, head.ids, &below)
     } else {
-        take_flat_shape(room, cursor, head, frame)
+        take_flat_single(cursor, head.kind, frame)
+    }
+}
+
+/// Reads the body of a collection, or of a list, of X and Y alone.
+// Out of line, so that what reads a single line can be inlined where its header is read.
+#[cycle(take_flat)]
+#[inline(never)]
+fn take_flat_many<R: IdRoom>(
+    room: &mut R,
+    cursor: &mut Cursor,
+    depth: u8,
+    kind: Kind,
+    has_ids: bool,
+    frame: &Option<Frame>,
+) -> Result<usize, Doubt>
+    requires shallowest { 1 ≤ depth }
+    requires allowed { IsAllowedAt kind depth }
+    requires frame { IfSome frame.now IsFrame }
+    ensures { (head : HeadOf) → head.empty ≡ false → head.kind ≡ kind → head.ids ≡ has_ids → head.z ≡ None
+        → head.m ≡ None → IfSome frame.now (IsFramed head)
+        → CertifiesBody depth head frame.now cursor.old result cursor.new }
+{
+    if kind.is_collection() {
+        take_members(room, cursor, depth, has_ids, frame)
+    } else {
+        take_flat_list(room, cursor, kind, has_ids, frame)
     }
 }
 
@@ -332,7 +355,7 @@ fn take_further_body<R: IdRoom>(
     ensures { CertifiesBody depth head.now frame.now cursor.old result cursor.new }
 {
     if head.kind.is_collection() {
-        // A copy, as in `take_flat_body`.
+        // A copy, so that the frame of a geometry without members stays in registers.
         let below = *frame;
         take_members(room, cursor, depth, head.ids, &below)
     } else {

@@ -28,6 +28,7 @@ use Rattle.twkb_body.specs.Claims.{IsTrueClaim, claims, member_claims}
 use Rattle.twkb_body.specs.Audited.{HasLongList}
 use Rattle.twkb_body.specs.declared.doubt.Doubt.{Doubt}
 use Rattle.twkb_body.specs.Devices.BoxTest.{Held, held_then}
+use Rattle.twkb_body.specs.Devices.Bare.{unchanged}
 use Rattle.twkb_body.specs.Devices.Body.{Body, ListHead, ring_sums, zeros}
 use Rattle.twkb_body.specs.Devices.BodyReader.{part_at, count_at, geometry_at}
 use Rattle.twkb_body.specs.Extent.{reach_of}
@@ -296,6 +297,20 @@ pub record IsShapeHead (head : Head) (frame : Option Frame) : Type 0 where
   pub full : head.empty ≡ false
   pub kind : is_collection head.kind ≡ false
   pub framed : IfSome frame (IsFramed head)
+
+-- The header is of a geometry of X and Y alone that has a body and is no collection.
+pub record IsFlatShape (head : Head) (frame : Option Frame) : Type 0 where
+  pub shape : IsShapeHead head frame
+  pub z : head.z ≡ None
+  pub m : head.m ≡ None
+
+-- The parts of a body were read, of points with so many axes, and the box of the frame, if there is one, holds all their points; or
+-- else they leave it, or can't be read.
+abbrev pub TakesParts : Kind → ℕ → ℕ → Option Frame → Reading → Reading → Result ℕ Doubt → Type 0
+TakesParts kind axes count (Some frame) old new result = HoldsOrLeaves kind axes count frame.bounds old new result
+TakesParts kind axes count None old new result =
+    IfOk result (ReadParts unchanged kind axes count old new tt tt)
+    × OnErr result (AreMalformed kind axes count old new) × IfErr result (λ doubt. doubt ≡ refused)
 
 -- on Ok a body that is no collection's is sure; on Err there is the doubt
 abbrev pub CertifiesShape : ℕ → Head → Option Frame → Reading → Result ℕ Doubt → Reading → Type 0

@@ -6,19 +6,53 @@ ghost use Rattle.twkb_head.specs.BegunHeader.{IsAllowedAt};
 ghost use Rattle.twkb_head.specs.Raw.{HavePrecisions, flat_box};
 ghost use Rattle.twkb_head.specs.declared.header.Head.{Head as HeadOf};
 ghost use Rattle.twkb_head.specs.declared.raw.RawBox.{RawBox as BoxOf};
-ghost use Rattle.twkb_body.specs.Devices.Sure.{IsFrame, IsApart, CertifiesBehind};
+ghost use Rattle.twkb_body.specs.Devices.Sure.{HasHead, IsFrame, IsApart, CertifiesAfterHead, CertifiesBehind};
 
+use super::judged;
 use crate::doubt::Doubt;
 use crate::frame::Frame;
 use crate::geometry::take_inside;
 use crate::rooms::IdRoom;
 use crate::seen::Seen;
-use twkb_head::{Axes, BoxField, Head, Kind, RawBox, RawRange};
+use twkb_head::{Axes, BoxField, Fields, Head, Kind, RawBox, RawRange};
 use twkb_num::Cursor;
+
+/// Reads a geometry of X and Y alone after its header, as [`take_apart`] does.
+#[inline(always)]
+pub fn take_flat_apart<R: IdRoom>(
+    room: &mut R,
+    cursor: &mut Cursor,
+    depth: u8,
+    above: &Option<Frame>,
+    raw: &Fields,
+) -> Result<usize, Doubt>
+    requires head { HasHead depth above.now raw.now cursor.old }
+    requires xy { IsPrecision raw.now.axes.xy }
+    requires z { raw.now.axes.z ≡ None }
+    requires m { raw.now.axes.m ≡ None }
+    ensures { CertifiesAfterHead depth above.now raw.now cursor.old result cursor.new }
+{
+    let head = raw.boxless();
+    // A header in memory would be set to zero for each geometry, so its parts are passed one by one.
+    let (x, y) = flat_ranges(&raw.bounds);
+    let vertices = take_apart_flat(
+        room,
+        cursor,
+        depth,
+        above,
+        head.kind,
+        head.xy,
+        head.ids,
+        raw.bounds.is_some(),
+        x,
+        y,
+    )?;
+    judged(&head, cursor, vertices)
+}
 
 /// The ranges in X and Y of a box, or zeros if there is none.
 #[inline(always)]
-pub fn flat_ranges(bounds: &Option<RawBox>) -> (RawRange, RawRange)
+fn flat_ranges(bounds: &Option<RawBox>) -> (RawRange, RawRange)
     ensures { IfSome bounds.now (λ box. (result.0 ≡ box.x) × (result.1 ≡ box.y)) }
 {
     match bounds {
@@ -35,7 +69,7 @@ pub fn flat_ranges(bounds: &Option<RawBox>) -> (RawRange, RawRange)
 
 /// Reads the body of a geometry of X and Y as [`take_apart`] does.
 #[inline(never)]
-pub fn take_apart_flat<R: IdRoom>(
+fn take_apart_flat<R: IdRoom>(
     room: &mut R,
     cursor: &mut Cursor,
     depth: u8,

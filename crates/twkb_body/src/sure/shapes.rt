@@ -1,32 +1,60 @@
 //! The bodies of geometries that are no collections, in the first reading. Used by `sure`.
-ghost use Rattle.std.specs.Prelude.{◌≡◌, ℕ, true, None};
-ghost use Rattle.twkb_body.specs.Devices.Sure.{has_further, IsShapeHead, CertifiesShape};
+ghost use Rattle.std.specs.Prelude.{◌≡◌, ℕ, true, false};
+ghost use Rattle.twkb_head.specs.Header.{is_multi};
+ghost use Rattle.twkb_head.specs.declared.header.Head.{Head as HeadOf};
+ghost use Rattle.twkb_body.specs.Devices.Sure.{has_further, IsShapeHead, IsFlatShape, TakesParts, CertifiesShape};
 
 use super::parts::{take_boxed, take_count, take_flat_boxed};
 use super::unboxed::take_unboxed;
 use crate::doubt::Doubt;
 use crate::frame::Frame;
 use crate::rooms::IdRoom;
-use twkb_head::Head;
+use twkb_head::{Head, Kind};
 use twkb_num::Cursor;
 
-/// Reads the body of a geometry of X and Y alone that is no collection.
+/// Reads the body of a point, a line or a polygon of X and Y alone.
 #[inline(always)]
-pub fn take_flat_shape<R: IdRoom>(
-    room: &mut R,
+pub fn take_flat_single(
     cursor: &mut Cursor,
-    head: &Head,
+    kind: Kind,
     frame: &Option<Frame>,
 ) -> Result<usize, Doubt>
-    requires shape { IsShapeHead head.now frame.now }
-    requires z { head.now.z ≡ None }
-    requires m { head.now.m ≡ None }
-    ensures { (levels : ℕ) → CertifiesShape levels head.now frame.now cursor.old result cursor.new }
+    requires { is_multi kind ≡ false }
+    ensures { (levels : ℕ) (head : HeadOf) → head.kind ≡ kind → IsFlatShape head frame.now
+        → CertifiesShape levels head frame.now cursor.old result cursor.new }
 {
-    let count = take_count(room, cursor, head.kind, head.ids)?;
+    take_flat_parts(cursor, kind, 1, frame)
+}
+
+/// Reads the body of a list of points, lines or polygons of X and Y alone.
+#[inline(always)]
+pub fn take_flat_list<R: IdRoom>(
+    room: &mut R,
+    cursor: &mut Cursor,
+    kind: Kind,
+    has_ids: bool,
+    frame: &Option<Frame>,
+) -> Result<usize, Doubt>
+    ensures { (levels : ℕ) (head : HeadOf) → head.kind ≡ kind → head.ids ≡ has_ids → IsFlatShape head frame.now
+        → CertifiesShape levels head frame.now cursor.old result cursor.new }
+{
+    let count = take_count(room, cursor, kind, has_ids)?;
+    take_flat_parts(cursor, kind, count, frame)
+}
+
+/// Reads the `count` parts of a body of X and Y alone.
+#[inline(always)]
+fn take_flat_parts(
+    cursor: &mut Cursor,
+    kind: Kind,
+    count: u64,
+    frame: &Option<Frame>,
+) -> Result<usize, Doubt>
+    ensures { TakesParts kind 2 count frame.now cursor.old cursor.new result }
+{
     match frame {
-        Some(frame) => take_flat_boxed(cursor, head.kind, count, &frame.bounds),
-        None => take_unboxed(cursor, head.kind, 2, count),
+        Some(frame) => take_flat_boxed(cursor, kind, count, &frame.bounds),
+        None => take_unboxed(cursor, kind, 2, count),
     }
 }
 

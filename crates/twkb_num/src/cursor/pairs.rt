@@ -44,8 +44,8 @@ impl<'a> Cursor<'a> {
         }
     }
 
-    // The two numbers from one word of eight bytes.
-    #[inline(always)]
+    // The two numbers from one word of eight bytes. It isn't inlined: only the last bytes of a layer are read by it.
+    #[inline(never)]
     fn word_pair(&mut self) -> Option<(i64, i64)>
         ensures { ReadsPair 8 self.old self.new result }
     {

@@ -1,13 +1,16 @@
 -- The first reading of a geometry and of members, each by the other: what it certifies, and what it refutes.
-use Rattle.std.proofs.Common.{rules, ◌≡◌, ◌+◌, ◌-◌, ℕ, suc, Bool, false, None, Ok, refl, sym, ap, subst, ◌∙◌, arith}
+use Rattle.std.proofs.Common.{rules, ◌≡◌, ◌+◌, ◌-◌, ◌≤◌, ℕ, suc, Bool, false, Option, Some, None, IfSome, Ok, refl, sym, ap, subst, ◌∙◌, arith}
 use Rattle.std.specs.Prelude.{◌<◌, bit_and}
 use Rattle.std.proofs.lemmas.Result.{err_from_is_err_and}
 use Rattle.twkb_num.specs.Cursor.{Reading, rest}
 use Rattle.twkb_head.proofs.HeadLaws.{header_two}
 use Rattle.twkb_head.proofs.HeadSteps.{box_bits, bits_same}
-use Rattle.twkb_head.specs.BegunHeader.{deepest}
+use Rattle.twkb_head.specs.BegunHeader.{deepest, is_collection}
+use Rattle.twkb_head.specs.declared.header.SizeField.{SizeField}
+use Rattle.twkb_head.specs.declared.kinds.Kind.{Kind}
+use Rattle.twkb_head.specs.declared.kinds.Kind.TheVariants.{Point, LineString, Polygon, MultiPoint, MultiLineString, MultiPolygon, GeometryCollection}
 use Rattle.twkb_head.specs.Shared.Reader.{Fails}
-use Rattle.twkb_head.specs.Header.{has_bit}
+use Rattle.twkb_head.specs.Header.{has_bit, is_multi}
 use Rattle.twkb_head.specs.Raw.{head_said}
 use Rattle.twkb_head.specs.declared.header.Head.{Head}
 use Rattle.twkb_body.specs.Audited.{HasLongList}
@@ -33,6 +36,21 @@ flat_bits metadata bits few told = bits_same metadata 0 8 (omega (arith, few, to
 full_bits : (metadata bits : ℕ) → bits < 16 → bit_and metadata 25 ≡ bits → has_bit metadata 16 ≡ false
 full_bits metadata bits few told = bits_same metadata 0 16 (omega (arith, few, told, box_bits metadata))
 
+-- a geometry that isn't a list has no members
+no_member : (kind : Kind) → is_multi kind ≡ false → is_collection kind ≡ false
+no_member Point single = refl
+no_member LineString single = refl
+no_member Polygon single = refl
+no_member MultiPoint single = refl
+no_member MultiLineString single = refl
+no_member MultiPolygon single = refl
+no_member GeometryCollection single = absurd (cc (single))
+
+-- a size field before a place is before a later place
+size_later : (size : Option SizeField) (here there : ℕ) → here ≤ there → IfSome size (λ size. size.after ≤ here) → IfSome size (λ size. size.after ≤ there)
+size_later None here there le before = tt
+size_later (Some size) here there le before = omega (arith, le, before)
+
 pub take_flat-returns-in_default-take_rest : goal.take_flat-returns-in_default-take_rest
 take_flat-returns-in_default-take_rest g t c =
     rest_unread c.args.depth c.args.above.now c.args.first c.args.metadata c.args.cursor.now c.requires.begun.shallowest c.requires.begun.deepest c.with_bits.result (bits_begin _ _ _ _ c.in-Some.begun c.with_bits.result c.with_bits.ensures.announcing c.in-Some.ensures.some) c.take_rest.new.cursor c.in_default-take_rest.field-0 c.in_default-take_rest.ensures.read c.in_default-take_rest.ensures.exact
@@ -42,30 +60,6 @@ take_flat-begun_by-requires-clause-read g t c = two_read _ _ _ c.requires.begun.
 
 pub take_flat-returns-in_default : goal.take_flat-returns-in_default
 take_flat-returns-in_default g t c = none_begins c.args.depth c.args.above.now c.args.first c.args.metadata c.args.cursor.now c.requires.begun.shallowest c.requires.begun.deepest c.in_default.ensures.none
-
-pub take_flat_headed-take_flat_body-requires : goal.take_flat_headed-take_flat_body-requires
-take_flat_headed-take_flat_body-requires g t c κs within =
-    let same = c.boxless-head.ensures in
-    let allowed = kind_allowed c.requires.head c.boxless-head.result same in
-    let has_body : c.boxless-head.result.empty ≡ false = ap (λ (h : Head). h.empty) same ∙ c.requires.head.full in
-    let z : c.boxless-head.result.z ≡ None = ap (λ (h : Head). h.z) same ∙ c.requires.z in
-    let m : c.boxless-head.result.m ≡ None = ap (λ (h : Head). h.m) same ∙ c.requires.m in
-    let framed = c.in-Some.ensures.framed in
-    search rules
-
-pub take_flat_headed-returns-in_err-vertices-2 : goal.take_flat_headed-returns-in_err-vertices-2
-take_flat_headed-returns-in_err-vertices-2 g t c = λ before sound read.
-    let p = err_from_is_err_and c.from_residual-in_err-vertices-2.result c.from_residual-in_err-vertices-2.ensures.1 in
-    rw (p.1, p.2) (body_doubts c.args.raw c.args.depth c.args.above.now before c.args.cursor.now c.requires.head.shallowest c.requires.head.deepest sound read.0 read.1 c.boxless-head.result c.boxless-head.ensures c.in-Some.frame c.in-Some.ensures c.take_flat_body.new.cursor _ c.in_err-vertices-2.ensures)
-
-pub take_flat_headed-judged-requires-2 : goal.take_flat_headed-judged-requires-2
-take_flat_headed-judged-requires-2 g t c =
-    size_ahead c.requires.head c.boxless-head.result c.boxless-head.ensures _ (omega (arith, c.in_ok-vertices-2.ensures.inside.few))
-
-pub take_flat_headed-returns : goal.take_flat_headed-returns
-take_flat_headed-returns g t c = λ before sound read.
-    rw c.judged-2.ensures.still (judged_certifies c.args.raw c.args.depth c.args.above.now before c.args.cursor.now c.requires.head.shallowest c.requires.head.deepest sound read.0 read.1 c.boxless-head.result c.boxless-head.ensures c.in-Some.frame c.in-Some.ensures c.take_flat_body.new.cursor
-    c.in_ok-vertices-2.vertices c.judged-2.result c.in_ok-vertices-2.ensures c.judged-2.ensures.judged)
 
 pub take_further-returns-in_default-take_rest : goal.take_further-returns-in_default-take_rest
 take_further-returns-in_default-take_rest g t c =
@@ -99,10 +93,6 @@ pub take_further_headed-returns : goal.take_further_headed-returns
 take_further_headed-returns g t c = λ before sound read.
     rw c.judged-2.ensures.still (judged_certifies c.args.raw c.args.depth c.args.above.now before c.args.cursor.now c.requires.head.shallowest c.requires.head.deepest sound read.0 read.1 c.boxless-head.result c.boxless-head.ensures c.in-Some.frame c.in-Some.ensures.frame c.take_further_body.new.cursor
     c.in_ok-vertices-2.vertices c.judged-2.result c.in_ok-vertices-2.ensures c.judged-2.ensures.judged)
-
-pub take_flat_body-returns-else-is_collection : goal.take_flat_body-returns-else-is_collection
-take_flat_body-returns-else-is_collection g t c =
-    shape_certifies c.args.depth c.args.head.now c.args.frame.now c.args.cursor.now c.take_flat_shape.new.cursor c.take_flat_shape.result (sym c.is_collection.ensures ∙ c.if-is_collection.false) (c.take_flat_shape.ensures (deepest - c.args.depth))
 
 pub take_further_body-returns-else-is_collection :
     goal.take_further_body-returns-else-is_collection
@@ -191,25 +181,6 @@ take_members-returns-in_err-member g t c =
     (λ wrong. members_refute head (deepest - c.args.depth) inner c.args.cursor.now c.args.frame.now under full many c.take_list.new.cursor list.0 c.in_ok-list.list listed list.2 c.loop.counter c.loop.vertices c.loop.cursor c.loop-test.true l wrong)
     (λ wants. wants_members head c.args.depth c.args.cursor.now full many (member_ids list.0 c.take_list.new.cursor c.loop.cursor c.loop.counter l.loop.front listed (omega (arith, c.loop-test.true, list.2.count)) l.loop.so_far wants)) one)
 
-pub take_flat_headed-returns-in_err-vertices : goal.take_flat_headed-returns-in_err-vertices
-take_flat_headed-returns-in_err-vertices g t c = λ before sound read.
-    let (box, there, ranges, apart) = flat_apart c.args.raw c.boxless-head.result c.is_some.result c.flat_ranges.result.0 c.flat_ranges.result.1 c.requires.xy c.boxless-head.ensures c.requires.z c.requires.m c.requires.head.full c.is_some.ensures c.flat_ranges.ensures in
-    let p = err_from_is_err_and c.from_residual.result c.from_residual.ensures.1 in
-    rw (p.1, p.2) (behind_doubts c.args.raw c.args.depth c.args.above.now before c.args.cursor.now c.requires.head.shallowest c.requires.head.deepest sound read.0 read.1 _ c.take_apart_flat.new.cursor (c.in_err-vertices.ensures (head_said c.args.raw) box there ranges apart))
-
-pub take_flat_headed-judged-requires : goal.take_flat_headed-judged-requires
-take_flat_headed-judged-requires g t c =
-    let (box, there, ranges, apart) = flat_apart c.args.raw c.boxless-head.result c.is_some.result c.flat_ranges.result.0 c.flat_ranges.result.1 c.requires.xy c.boxless-head.ensures c.requires.z c.requires.m c.requires.head.full c.is_some.ensures c.flat_ranges.ensures in
-    let sure = c.in_ok-vertices.ensures (head_said c.args.raw) box there ranges apart in
-    size_ahead c.requires.head c.boxless-head.result c.boxless-head.ensures _ (omega (arith, sure.inside.few))
-
-pub take_flat_headed-returns-in_default : goal.take_flat_headed-returns-in_default
-take_flat_headed-returns-in_default g t c = λ before sound read.
-    let (box, there, ranges, apart) = flat_apart c.args.raw c.boxless-head.result c.is_some.result c.flat_ranges.result.0 c.flat_ranges.result.1 c.requires.xy c.boxless-head.ensures c.requires.z c.requires.m c.requires.head.full c.is_some.ensures c.flat_ranges.ensures in
-    let sure = c.in_ok-vertices.ensures (head_said c.args.raw) box there ranges apart in
-    rw c.judged.ensures.still (apart_certifies c.args.raw c.args.depth c.args.above.now before c.args.cursor.now c.requires.head.shallowest c.requires.head.deepest sound read.0 read.1 c.boxless-head.result c.boxless-head.ensures c.take_apart_flat.new.cursor c.in_ok-vertices.vertices c.judged.result sure
-    c.judged.ensures.judged)
-
 pub take_further_headed-returns-in_err-vertices : goal.take_further_headed-returns-in_err-vertices
 take_further_headed-returns-in_err-vertices g t c = λ before sound read.
     let apart = any_apart c.args.raw c.boxless-head.result c.requires.axes.0 c.boxless-head.ensures c.requires.head.full in
@@ -229,24 +200,11 @@ take_further_headed-returns-in_default g t c = λ before sound read.
     rw c.judged.ensures.still (apart_certifies c.args.raw c.args.depth c.args.above.now before c.args.cursor.now c.requires.head.shallowest c.requires.head.deepest sound read.0 read.1 c.boxless-head.result c.boxless-head.ensures c.take_apart.new.cursor c.in_ok-vertices.vertices c.judged.result sure
     c.judged.ensures.judged)
 
-pub take_flat_headed-take_apart_flat-requires-clause-allowed : goal.take_flat_headed-take_apart_flat-requires-clause-allowed
-take_flat_headed-take_apart_flat-requires-clause-allowed g t c = kind_allowed c.requires.head c.boxless-head.result c.boxless-head.ensures
-
 pub take_further_headed-take_apart-requires-clause-allowed : goal.take_further_headed-take_apart-requires-clause-allowed
 take_further_headed-take_apart-requires-clause-allowed g t c = kind_allowed c.requires.head c.boxless-head.result c.boxless-head.ensures
 
 pub take_flat-with_bits-requires : goal.take_flat-with_bits-requires
 take_flat-with_bits-requires g t c = ap (λ n. bit_and n 25) c.in-Some.ensures.metadata ∙ c.requires.bits
-
-pub take_flat-take_flat_headed-requires : goal.take_flat-take_flat_headed-requires
-take_flat-take_flat_headed-requires g t c κs within =
-    let head = header_read c.args.depth c.args.above.now c.args.first c.args.metadata c.args.cursor.now c.requires.begun.shallowest c.requires.begun.deepest c.with_bits.result (bits_begin _ _ _ _ c.in-Some.begun c.with_bits.result c.with_bits.ensures.announcing c.in-Some.ensures.some) c.take_rest.new.cursor c.in-Ok.raw c.in-Ok.ensures.read c.requires.begun (c.in-Ok.ensures.empty ∙ full_bits c.with_bits.result.metadata 0 (omega arith) c.with_bits.ensures.bits) in
-    let flat = c.in-Ok.ensures.flat (flat_bits c.with_bits.result.metadata 0 (omega arith) c.with_bits.ensures.bits) in
-    search rules
-
-pub take_flat-returns : goal.take_flat-returns
-take_flat-returns g t c =
-    header_certifies c.args.depth c.args.above.now c.args.first c.args.metadata c.args.cursor.now c.requires.begun.shallowest c.requires.begun.deepest c.with_bits.result (bits_begin _ _ _ _ c.in-Some.begun c.with_bits.result c.with_bits.ensures.announcing c.in-Some.ensures.some) c.take_rest.new.cursor c.in-Ok.raw c.in-Ok.ensures.read _ _ c.take_flat_headed.ensures
 
 pub take_with_box-begun_by-requires-clause-read : goal.take_with_box-begun_by-requires-clause-read
 take_with_box-begun_by-requires-clause-read g t c = two_read _ _ _ c.requires.begun.before
@@ -260,16 +218,6 @@ take_with_box-returns-in_default-take_rest g t c =
 
 pub take_with_box-with_bits-requires : goal.take_with_box-with_bits-requires
 take_with_box-with_bits-requires g t c = ap (λ n. bit_and n 25) c.in-Some.ensures.metadata ∙ c.requires.bits
-
-pub take_with_box-take_flat_headed-requires : goal.take_with_box-take_flat_headed-requires
-take_with_box-take_flat_headed-requires g t c κs within =
-    let head = header_read c.args.depth c.args.above.now c.args.first c.args.metadata c.args.cursor.now c.requires.begun.shallowest c.requires.begun.deepest c.with_bits.result (bits_begin _ _ _ _ c.in-Some.begun c.with_bits.result c.with_bits.ensures.announcing c.in-Some.ensures.some) c.take_rest.new.cursor c.in-Ok.raw c.in-Ok.ensures.read c.requires.begun (c.in-Ok.ensures.empty ∙ full_bits c.with_bits.result.metadata 1 (omega arith) c.with_bits.ensures.bits) in
-    let flat = c.in-Ok.ensures.flat (flat_bits c.with_bits.result.metadata 1 (omega arith) c.with_bits.ensures.bits) in
-    search rules
-
-pub take_with_box-returns : goal.take_with_box-returns
-take_with_box-returns g t c =
-    header_certifies c.args.depth c.args.above.now c.args.first c.args.metadata c.args.cursor.now c.requires.begun.shallowest c.requires.begun.deepest c.with_bits.result (bits_begin _ _ _ _ c.in-Some.begun c.with_bits.result c.with_bits.ensures.announcing c.in-Some.ensures.some) c.take_rest.new.cursor c.in-Ok.raw c.in-Ok.ensures.read _ _ c.take_flat_headed.ensures
 
 pub take_with_further_box-begun_by-requires-clause-read : goal.take_with_further_box-begun_by-requires-clause-read
 take_with_further_box-begun_by-requires-clause-read g t c = two_read _ _ _ c.requires.begun.before
@@ -301,3 +249,84 @@ take_further-take_further_headed-requires g t c κs within =
 pub take_further-returns : goal.take_further-returns
 take_further-returns g t c =
     header_certifies c.args.depth c.args.above.now c.args.first c.args.metadata c.args.cursor.now c.requires.shallowest c.requires.deepest c.in-Some.begun c.in-Some.ensures.some c.take_rest.new.cursor c.in-Ok.raw c.in-Ok.ensures.read _ _ c.take_further_headed.ensures
+
+pub take_flat_framed-returns-in_err-vertices : goal.take_flat_framed-returns-in_err-vertices
+take_flat_framed-returns-in_err-vertices g t c = λ above raw same under before sound read.
+    let p = err_from_is_err_and c.from_residual.result c.from_residual.ensures.1 in
+    rw (p.1, p.2) (body_doubts raw c.args.depth above before c.args.cursor.now c.requires.shallowest c.requires.deepest sound read.0 read.1 c.args.head.now same c.args.frame.now under c.take_flat_body.new.cursor _ c.in_err-vertices.ensures)
+
+pub take_flat_framed-judged-requires : goal.take_flat_framed-judged-requires
+take_flat_framed-judged-requires g t c = size_later c.args.head.now.size _ _ (omega (arith, c.in_ok-vertices.ensures.inside.few)) c.requires.ahead
+
+pub take_flat_framed-returns : goal.take_flat_framed-returns
+take_flat_framed-returns g t c = λ above raw same under before sound read.
+    rw c.judged.ensures.still (judged_certifies raw c.args.depth above before c.args.cursor.now c.requires.shallowest c.requires.deepest sound read.0 read.1 c.args.head.now same c.args.frame.now under c.take_flat_body.new.cursor
+    c.in_ok-vertices.vertices c.judged.result c.in_ok-vertices.ensures c.judged.ensures.judged)
+
+pub take_flat-take_flat_apart-requires-clause-head : goal.take_flat-take_flat_apart-requires-clause-head
+take_flat-take_flat_apart-requires-clause-head g t c = header_read c.args.depth c.args.above.now c.args.first c.args.metadata c.args.cursor.now c.requires.begun.shallowest c.requires.begun.deepest c.with_bits.result (bits_begin _ _ _ _ c.in-Some.begun c.with_bits.result c.with_bits.ensures.announcing c.in-Some.ensures.some) c.take_rest.new.cursor c.in-Ok.raw c.in-Ok.ensures.read c.requires.begun (c.in-Ok.ensures.empty ∙ full_bits c.with_bits.result.metadata 0 (omega arith) c.with_bits.ensures.bits)
+
+pub take_flat-take_flat_apart-requires-clause-z : goal.take_flat-take_flat_apart-requires-clause-z
+take_flat-take_flat_apart-requires-clause-z g t c = (c.in-Ok.ensures.flat (flat_bits c.with_bits.result.metadata 0 (omega arith) c.with_bits.ensures.bits)).0
+
+pub take_flat-take_flat_apart-requires-clause-m : goal.take_flat-take_flat_apart-requires-clause-m
+take_flat-take_flat_apart-requires-clause-m g t c = (c.in-Ok.ensures.flat (flat_bits c.with_bits.result.metadata 0 (omega arith) c.with_bits.ensures.bits)).1
+
+pub take_flat-returns-in_default-under : goal.take_flat-returns-in_default-under
+take_flat-returns-in_default-under g t c = header_certifies c.args.depth c.args.above.now c.args.first c.args.metadata c.args.cursor.now c.requires.begun.shallowest c.requires.begun.deepest c.with_bits.result (bits_begin _ _ _ _ c.in-Some.begun c.with_bits.result c.with_bits.ensures.announcing c.in-Some.ensures.some) c.take_rest.new.cursor c.in-Ok.raw c.in-Ok.ensures.read _ _ c.take_flat_apart.ensures
+
+pub take_flat-take_flat_framed-requires : goal.take_flat-take_flat_framed-requires
+take_flat-take_flat_framed-requires g t c κs within =
+    let head = header_read c.args.depth c.args.above.now c.args.first c.args.metadata c.args.cursor.now c.requires.begun.shallowest c.requires.begun.deepest c.with_bits.result (bits_begin _ _ _ _ c.in-Some.begun c.with_bits.result c.with_bits.ensures.announcing c.in-Some.ensures.some) c.take_rest.new.cursor c.in-Ok.raw c.in-Ok.ensures.read c.requires.begun (c.in-Ok.ensures.empty ∙ full_bits c.with_bits.result.metadata 0 (omega arith) c.with_bits.ensures.bits) in
+    let flat = c.in-Ok.ensures.flat (flat_bits c.with_bits.result.metadata 0 (omega arith) c.with_bits.ensures.bits) in
+    let same = c.boxless-head.ensures in
+    let allowed = kind_allowed head c.boxless-head.result same in
+    let has_body : c.boxless-head.result.empty ≡ false = ap (λ (h : Head). h.empty) same ∙ head.full in
+    let z : c.boxless-head.result.z ≡ None = ap (λ (h : Head). h.z) same ∙ flat.0 in
+    let m : c.boxless-head.result.m ≡ None = ap (λ (h : Head). h.m) same ∙ flat.1 in
+    let framed = c.in-Some-under.ensures.framed in
+    let ahead = size_ahead head c.boxless-head.result same c.take_rest.new.cursor.place (omega arith) in
+    search rules
+
+pub take_flat-returns : goal.take_flat-returns
+take_flat-returns g t c = header_certifies c.args.depth c.args.above.now c.args.first c.args.metadata c.args.cursor.now c.requires.begun.shallowest c.requires.begun.deepest c.with_bits.result (bits_begin _ _ _ _ c.in-Some.begun c.with_bits.result c.with_bits.ensures.announcing c.in-Some.ensures.some) c.take_rest.new.cursor c.in-Ok.raw c.in-Ok.ensures.read _ _ (c.take_flat_framed.ensures c.args.above.now c.in-Ok.raw c.boxless-head.ensures c.in-Some-under.ensures)
+
+pub take_with_box-take_flat_apart-requires-clause-head : goal.take_with_box-take_flat_apart-requires-clause-head
+take_with_box-take_flat_apart-requires-clause-head g t c = header_read c.args.depth c.args.above.now c.args.first c.args.metadata c.args.cursor.now c.requires.begun.shallowest c.requires.begun.deepest c.with_bits.result (bits_begin _ _ _ _ c.in-Some.begun c.with_bits.result c.with_bits.ensures.announcing c.in-Some.ensures.some) c.take_rest.new.cursor c.in-Ok.raw c.in-Ok.ensures.read c.requires.begun (c.in-Ok.ensures.empty ∙ full_bits c.with_bits.result.metadata 1 (omega arith) c.with_bits.ensures.bits)
+
+pub take_with_box-take_flat_apart-requires-clause-z : goal.take_with_box-take_flat_apart-requires-clause-z
+take_with_box-take_flat_apart-requires-clause-z g t c = (c.in-Ok.ensures.flat (flat_bits c.with_bits.result.metadata 1 (omega arith) c.with_bits.ensures.bits)).0
+
+pub take_with_box-take_flat_apart-requires-clause-m : goal.take_with_box-take_flat_apart-requires-clause-m
+take_with_box-take_flat_apart-requires-clause-m g t c = (c.in-Ok.ensures.flat (flat_bits c.with_bits.result.metadata 1 (omega arith) c.with_bits.ensures.bits)).1
+
+pub take_with_box-returns-in_default-under : goal.take_with_box-returns-in_default-under
+take_with_box-returns-in_default-under g t c = header_certifies c.args.depth c.args.above.now c.args.first c.args.metadata c.args.cursor.now c.requires.begun.shallowest c.requires.begun.deepest c.with_bits.result (bits_begin _ _ _ _ c.in-Some.begun c.with_bits.result c.with_bits.ensures.announcing c.in-Some.ensures.some) c.take_rest.new.cursor c.in-Ok.raw c.in-Ok.ensures.read _ _ c.take_flat_apart.ensures
+
+pub take_with_box-take_flat_framed-requires : goal.take_with_box-take_flat_framed-requires
+take_with_box-take_flat_framed-requires g t c κs within =
+    let head = header_read c.args.depth c.args.above.now c.args.first c.args.metadata c.args.cursor.now c.requires.begun.shallowest c.requires.begun.deepest c.with_bits.result (bits_begin _ _ _ _ c.in-Some.begun c.with_bits.result c.with_bits.ensures.announcing c.in-Some.ensures.some) c.take_rest.new.cursor c.in-Ok.raw c.in-Ok.ensures.read c.requires.begun (c.in-Ok.ensures.empty ∙ full_bits c.with_bits.result.metadata 1 (omega arith) c.with_bits.ensures.bits) in
+    let flat = c.in-Ok.ensures.flat (flat_bits c.with_bits.result.metadata 1 (omega arith) c.with_bits.ensures.bits) in
+    let same = c.boxless-head.ensures in
+    let allowed = kind_allowed head c.boxless-head.result same in
+    let has_body : c.boxless-head.result.empty ≡ false = ap (λ (h : Head). h.empty) same ∙ head.full in
+    let z : c.boxless-head.result.z ≡ None = ap (λ (h : Head). h.z) same ∙ flat.0 in
+    let m : c.boxless-head.result.m ≡ None = ap (λ (h : Head). h.m) same ∙ flat.1 in
+    let framed = c.in-Some-under.ensures.framed in
+    let ahead = size_ahead head c.boxless-head.result same c.take_rest.new.cursor.place (omega arith) in
+    search rules
+
+pub take_with_box-returns : goal.take_with_box-returns
+take_with_box-returns g t c = header_certifies c.args.depth c.args.above.now c.args.first c.args.metadata c.args.cursor.now c.requires.begun.shallowest c.requires.begun.deepest c.with_bits.result (bits_begin _ _ _ _ c.in-Some.begun c.with_bits.result c.with_bits.ensures.announcing c.in-Some.ensures.some) c.take_rest.new.cursor c.in-Ok.raw c.in-Ok.ensures.read _ _ (c.take_flat_framed.ensures c.args.above.now c.in-Ok.raw c.boxless-head.ensures c.in-Some-under.ensures)
+
+pub take_flat_body-returns-else-is_multi : goal.take_flat_body-returns-else-is_multi
+take_flat_body-returns-else-is_multi g t c =
+    let single = no_member (c.args.head.now.kind) (sym c.is_multi.ensures ∙ c.if-is_multi.false) in
+    shape_certifies c.args.depth c.args.head.now c.args.frame.now c.args.cursor.now c.take_flat_single.new.cursor c.take_flat_single.result single
+    (c.take_flat_single.ensures (deepest - c.args.depth) c.args.head.now refl (record { shape = record { full = c.requires.full; kind = single; framed = c.requires.frame }; z = c.requires.z; m = c.requires.m }))
+
+pub take_flat_many-returns-else-is_collection : goal.take_flat_many-returns-else-is_collection
+take_flat_many-returns-else-is_collection g t c = λ head full kind ids z m framed.
+    let shape : is_collection head.kind ≡ false = ap is_collection kind ∙ sym c.is_collection.ensures ∙ c.if-is_collection.false in
+    shape_certifies c.args.depth head c.args.frame.now c.args.cursor.now c.take_flat_list.new.cursor c.take_flat_list.result shape
+    (c.take_flat_list.ensures (deepest - c.args.depth) head kind ids (record { shape = record { full = full; kind = shape; framed = framed }; z = z; m = m }))

@@ -21,14 +21,17 @@ decreases-take_flat g l = 8 * (deepest - l.depth) + 5
 abbrev pub decreases-take_further : goal.decreases-take_further
 decreases-take_further g l = 8 * (deepest - l.depth) + 5
 
-abbrev pub decreases-take_flat_headed : goal.decreases-take_flat_headed
-decreases-take_flat_headed g l = 8 * (deepest - l.depth) + 3
+abbrev pub decreases-take_flat_framed : goal.decreases-take_flat_framed
+decreases-take_flat_framed g l = 8 * (deepest - l.depth) + 4
 
 abbrev pub decreases-take_further_headed : goal.decreases-take_further_headed
 decreases-take_further_headed g l = 8 * (deepest - l.depth) + 3
 
 abbrev pub decreases-take_flat_body : goal.decreases-take_flat_body
-decreases-take_flat_body g l = 8 * (deepest - l.depth) + 2
+decreases-take_flat_body g l = 8 * (deepest - l.depth) + 3
+
+abbrev pub decreases-take_flat_many : goal.decreases-take_flat_many
+decreases-take_flat_many g l = 8 * (deepest - l.depth) + 2
 
 abbrev pub decreases-take_further_body : goal.decreases-take_further_body
 decreases-take_further_body g l = 8 * (deepest - l.depth) + 2
