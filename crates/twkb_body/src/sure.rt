@@ -1,15 +1,16 @@
 //! The first reading of a blob, which certifies it or ends in a doubt. It hands down the innermost box, and hands up the number of
 //! vertices. Used by `auditing`.
-ghost use Rattle.std.specs.Prelude.{◌≡◌, ◌≤◌, ◌+◌, ◌-◌, bit_and, true, false, Option, None, Some, IfSome, IfOk, Ok, option_map};
+ghost use Rattle.std.specs.Prelude.{◌≡◌, ◌≤◌, ◌⊎◌, ◌+◌, ◌-◌, bit_and, true, false, Option, None, Some, IfSome, IfOk, Ok, option_map};
 ghost use Rattle.twkb_num.specs.Cursor.{Reading};
 ghost use Rattle.twkb_num.specs.Units.{IsPrecision};
 ghost use Rattle.twkb_head.specs.BegunHeader.{deepest, is_collection, IsAllowedAt};
-ghost use Rattle.twkb_head.specs.Header.{has_bit};
+ghost use Rattle.twkb_head.specs.Header.{axes_of, has_bit};
 ghost use Rattle.twkb_head.specs.Raw.{HavePrecisions, boxless};
 ghost use Rattle.twkb_head.specs.declared.raw.Fields.{Fields as FieldsOf};
 ghost use Rattle.twkb_head.specs.declared.header.Head.{Head as HeadOf};
 ghost use Rattle.twkb_head.specs.declared.kinds.Kind.TheVariants.{Point, LineString};
 ghost use Rattle.twkb_body.specs.declared.frame.Frame.{Frame as FrameOf};
+ghost use Rattle.twkb_body.specs.Devices.Inside.{of_head};
 ghost use Rattle.twkb_body.specs.Devices.Sure.{counted_in, framed, has_further, IsFrameUnder, IsFramed, IsFrame, IsJudged, HasReadTwo, HasBegun, HasHead, Certifies, CertifiesAfterTwo, CertifiesAfterHead, CertifiesBody};
 
 mod announced;
@@ -20,9 +21,9 @@ mod shapes;
 mod unboxed;
 
 use self::announced::{BOX, FLAT_BOX_BITS, FURTHER_BOX, NO_FIELD, with_bits};
-use self::apart::{take_apart, take_flat_apart};
+use self::apart::{take_flat_apart, take_further_apart};
 use self::plain::{pass_point, take_plain};
-use self::shapes::{take_flat_list, take_flat_single, take_further_shape};
+use self::shapes::{take_flat_list, take_flat_single, take_further_list, take_further_single};
 use crate::doubt::Doubt;
 use crate::frame::{Frame, further_frame};
 use crate::lists::take_list;
@@ -187,7 +188,11 @@ fn take_further<R: IdRoom>(
     let Ok(raw) = take_rest::<BoxCalled>(cursor, begun) else {
         return Err(Doubt::REFUSED);
     };
-    take_further_headed(room, cursor, depth, above, raw)
+    let head = raw.boxless();
+    let Some(frame) = further_frame(above, &head, &raw.bounds) else {
+        return take_further_apart(room, cursor, depth, above, &raw);
+    };
+    take_further_framed(room, cursor, depth, &head, &frame)
 }
 
 /// Reads a geometry as [`take_sure`] does, which has a box and an extended dimensions byte, and isn't empty. The reader of the box
@@ -212,39 +217,36 @@ fn take_with_further_box<R: IdRoom>(
     let Ok(raw) = take_rest::<BoxInlined>(cursor, with_bits(begun, FURTHER_BOX)) else {
         return Err(Doubt::REFUSED);
     };
-    take_further_headed(room, cursor, depth, above, raw)
+    let head = raw.boxless();
+    let Some(frame) = further_frame(above, &head, &raw.bounds) else {
+        return take_further_apart(room, cursor, depth, above, &raw);
+    };
+    take_further_framed(room, cursor, depth, &head, &frame)
 }
 
-/// Reads a geometry after its header, which has an extended dimensions byte.
+/// Reads a geometry with Z or M after its header. The frame has to hold its points.
 #[cycle(take_flat)]
 #[inline(always)]
-fn take_further_headed<R: IdRoom>(
+fn take_further_framed<R: IdRoom>(
     room: &mut R,
     cursor: &mut Cursor,
     depth: u8,
-    above: &Option<Frame>,
-    raw: Fields,
+    head: &Head,
+    frame: &Option<Frame>,
 ) -> Result<usize, Doubt>
-    requires head { HasHead depth above.now raw cursor.old }
-    requires axes { HavePrecisions raw.axes }
-    ensures { CertifiesAfterHead depth above.now raw cursor.old result cursor.new }
+    requires shallowest { 1 ≤ depth }
+    requires deepest { depth ≤ deepest }
+    requires allowed { IsAllowedAt head.now.kind depth }
+    requires full { head.now.empty ≡ false }
+    requires frame { IfSome frame.now (IsFramed head.now) }
+    requires further { has_further head.now.z head.now.m ≡ true }
+    requires ahead { IfSome head.now.size (λ size. size.after ≤ cursor.old.place) }
+    ensures { (above : Option FrameOf) (raw : FieldsOf) → head.now ≡ boxless raw
+        → IsFrameUnder above head.now (option_map (framed head.now) raw.bounds) frame.now
+        → CertifiesAfterHead depth above raw cursor.old result cursor.new }
 {
-    let head = raw.boxless();
-    let Some(frame) = further_frame(above, &head, &raw.bounds) else {
-        let bounds = raw.bounds;
-        let Head {
-            kind,
-            xy,
-            z,
-            m,
-            ids,
-            ..
-        } = head;
-        let vertices = take_apart(room, cursor, depth, above, kind, xy, z, m, ids, &bounds)?;
-        return judged(&head, cursor, vertices);
-    };
-    let vertices = take_further_body(room, cursor, depth, &head, &frame)?;
-    judged(&head, cursor, vertices)
+    let vertices = take_further_body(room, cursor, depth, head, frame)?;
+    judged(head, cursor, vertices)
 }
 
 /// Reads an empty geometry at `depth`, after its first two bytes.
@@ -354,12 +356,39 @@ fn take_further_body<R: IdRoom>(
     requires further { has_further head.now.z head.now.m ≡ true }
     ensures { CertifiesBody depth head.now frame.now cursor.old result cursor.new }
 {
-    if head.kind.is_collection() {
-        // A copy, so that the frame of a geometry without members stays in registers.
+    if head.kind.is_multi() {
+        // A copy, as in `take_flat_body`.
         let below = *frame;
-        take_members(room, cursor, depth, head.ids, &below)
+        take_further_many(room, cursor, depth, head.kind, head.ids, head.axes(), &below)
     } else {
-        take_further_shape(room, cursor, head, frame)
+        take_further_single(cursor, head.kind, head.axes(), frame)
+    }
+}
+
+/// Reads the body of a collection, or of a list, with Z or M.
+#[cycle(take_flat)]
+#[inline(never)]
+fn take_further_many<R: IdRoom>(
+    room: &mut R,
+    cursor: &mut Cursor,
+    depth: u8,
+    kind: Kind,
+    has_ids: bool,
+    axes: usize,
+    frame: &Option<Frame>,
+) -> Result<usize, Doubt>
+    requires shallowest { 1 ≤ depth }
+    requires allowed { IsAllowedAt kind depth }
+    requires further { (axes ≡ 3) ⊎ (axes ≡ 4) }
+    requires frame { IfSome frame.now IsFrame }
+    ensures { (head : HeadOf) → head.empty ≡ false → head.kind ≡ kind → head.ids ≡ has_ids
+        → axes ≡ axes_of (of_head head) → IfSome frame.now (IsFramed head)
+        → CertifiesBody depth head frame.now cursor.old result cursor.new }
+{
+    if kind.is_collection() {
+        take_members(room, cursor, depth, has_ids, frame)
+    } else {
+        take_further_list(room, cursor, kind, has_ids, axes, frame)
     }
 }
 

@@ -50,6 +50,33 @@ pub fn take_flat_apart<R: IdRoom>(
     judged(&head, cursor, vertices)
 }
 
+/// Reads a geometry after its header, which has an extended dimensions byte, as [`take_apart`] does.
+#[inline(always)]
+pub fn take_further_apart<R: IdRoom>(
+    room: &mut R,
+    cursor: &mut Cursor,
+    depth: u8,
+    above: &Option<Frame>,
+    raw: &Fields,
+) -> Result<usize, Doubt>
+    requires head { HasHead depth above.now raw.now cursor.old }
+    requires axes { HavePrecisions raw.now.axes }
+    ensures { CertifiesAfterHead depth above.now raw.now cursor.old result cursor.new }
+{
+    let head = raw.boxless();
+    let bounds = raw.bounds;
+    let Head {
+        kind,
+        xy,
+        z,
+        m,
+        ids,
+        ..
+    } = head;
+    let vertices = take_apart(room, cursor, depth, above, kind, xy, z, m, ids, &bounds)?;
+    judged(&head, cursor, vertices)
+}
+
 /// The ranges in X and Y of a box, or zeros if there is none.
 #[inline(always)]
 fn flat_ranges(bounds: &Option<RawBox>) -> (RawRange, RawRange)
@@ -103,7 +130,7 @@ fn take_apart_flat<R: IdRoom>(
 /// Reads the body of a geometry whose frame can't be told, as the exact audit does, with its extent. The frame above has to hold
 /// this extent. The caller judges the size.
 #[inline(never)]
-pub fn take_apart<R: IdRoom>(
+fn take_apart<R: IdRoom>(
     room: &mut R,
     cursor: &mut Cursor,
     depth: u8,

@@ -77,13 +77,28 @@ pub fn take_boxed(
     if axes == 4 {
         take_further_boxed::<4>(cursor, kind, count, bounds)
     } else {
-        take_further_boxed::<3>(cursor, kind, count, bounds)
+        // A copy, so that the box stays in registers elsewhere.
+        let bounds = *bounds;
+        take_boxed_in_three(cursor, kind, count, &bounds)
     }
 }
 
-/// Reads the `count` parts of a body of `AXES` axes, whose points the box has to hold.
-// Out of line: the compiler inlines nothing into a function that would grow very large.
+/// Reads a body of three axes, whose points the box has to hold.
+// Out of line: the compiler inlines nothing into a function that would grow very large, and most bodies have four axes.
 #[inline(never)]
+fn take_boxed_in_three(
+    cursor: &mut Cursor,
+    kind: Kind,
+    count: u64,
+    bounds: &RawBox,
+) -> Result<usize, Doubt>
+    ensures { HoldsOrLeaves kind 3 count bounds.now cursor.old cursor.new result }
+{
+    take_further_boxed::<3>(cursor, kind, count, bounds)
+}
+
+/// Reads the `count` parts of a body of `AXES` axes, whose points the box has to hold.
+#[inline(always)]
 fn take_further_boxed<const AXES: usize>(
     cursor: &mut Cursor,
     kind: Kind,
@@ -96,7 +111,9 @@ fn take_further_boxed<const AXES: usize>(
     if fits_further::<AXES>(bounds) {
         take_by_lanes(cursor, kind, count, FurtherLanes::<AXES>::trail(bounds))
     } else {
-        take_by_box(cursor, kind, AXES, count, bounds)
+        // A copy, as in `take_boxed`.
+        let bounds = *bounds;
+        take_by_box(cursor, kind, AXES, count, &bounds)
     }
 }
 

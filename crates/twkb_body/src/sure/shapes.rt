@@ -1,15 +1,16 @@
 //! The bodies of geometries that are no collections, in the first reading. Used by `sure`.
-ghost use Rattle.std.specs.Prelude.{◌≡◌, ℕ, true, false};
-ghost use Rattle.twkb_head.specs.Header.{is_multi};
+ghost use Rattle.std.specs.Prelude.{◌≡◌, ◌⊎◌, ℕ, false};
+ghost use Rattle.twkb_head.specs.Header.{axes_of, is_multi};
 ghost use Rattle.twkb_head.specs.declared.header.Head.{Head as HeadOf};
-ghost use Rattle.twkb_body.specs.Devices.Sure.{has_further, IsShapeHead, IsFlatShape, TakesParts, CertifiesShape};
+ghost use Rattle.twkb_body.specs.Devices.Sure.{IsShapeHead, IsFlatShape, TakesParts, CertifiesShape};
+ghost use Rattle.twkb_body.specs.Devices.Inside.{of_head};
 
 use super::parts::{take_boxed, take_count, take_flat_boxed};
 use super::unboxed::take_unboxed;
 use crate::doubt::Doubt;
 use crate::frame::Frame;
 use crate::rooms::IdRoom;
-use twkb_head::{Head, Kind};
+use twkb_head::Kind;
 use twkb_num::Cursor;
 
 /// Reads the body of a point, a line or a polygon of X and Y alone.
@@ -58,24 +59,54 @@ fn take_flat_parts(
     }
 }
 
-/// Reads the body of a geometry that is no collection.
+/// Reads the body of a point, a line or a polygon with Z or M.
 #[inline(always)]
-pub fn take_further_shape<R: IdRoom>(
-    room: &mut R,
+pub fn take_further_single(
     cursor: &mut Cursor,
-    head: &Head,
+    kind: Kind,
+    axes: usize,
     frame: &Option<Frame>,
 ) -> Result<usize, Doubt>
-    requires shape { IsShapeHead head.now frame.now }
-    requires further { has_further head.now.z head.now.m ≡ true }
-    ensures { (levels : ℕ) → CertifiesShape levels head.now frame.now cursor.old result cursor.new }
+    requires single { is_multi kind ≡ false }
+    requires further { (axes ≡ 3) ⊎ (axes ≡ 4) }
+    ensures { (levels : ℕ) (head : HeadOf) → head.kind ≡ kind → axes ≡ axes_of (of_head head)
+        → IsShapeHead head frame.now → CertifiesShape levels head frame.now cursor.old result cursor.new }
 {
-    let count = take_count(room, cursor, head.kind, head.ids)?;
+    take_further_parts(cursor, kind, axes, 1, frame)
+}
+
+/// Reads the body of a list of points, lines or polygons with Z or M.
+#[inline(always)]
+pub fn take_further_list<R: IdRoom>(
+    room: &mut R,
+    cursor: &mut Cursor,
+    kind: Kind,
+    has_ids: bool,
+    axes: usize,
+    frame: &Option<Frame>,
+) -> Result<usize, Doubt>
+    requires { (axes ≡ 3) ⊎ (axes ≡ 4) }
+    ensures { (levels : ℕ) (head : HeadOf) → head.kind ≡ kind → head.ids ≡ has_ids → axes ≡ axes_of (of_head head)
+        → IsShapeHead head frame.now → CertifiesShape levels head frame.now cursor.old result cursor.new }
+{
+    let count = take_count(room, cursor, kind, has_ids)?;
+    take_further_parts(cursor, kind, axes, count, frame)
+}
+
+/// Reads the `count` parts of a body with Z or M.
+#[inline(always)]
+fn take_further_parts(
+    cursor: &mut Cursor,
+    kind: Kind,
+    axes: usize,
+    count: u64,
+    frame: &Option<Frame>,
+) -> Result<usize, Doubt>
+    requires { (axes ≡ 3) ⊎ (axes ≡ 4) }
+    ensures { TakesParts kind axes count frame.now cursor.old cursor.new result }
+{
     match frame {
-        Some(frame) => {
-            let bounds = frame.bounds;
-            take_boxed(cursor, head.kind, head.axes(), count, &bounds)
-        }
-        None => take_unboxed(cursor, head.kind, head.axes(), count),
+        Some(frame) => take_boxed(cursor, kind, axes, count, &frame.bounds),
+        None => take_unboxed(cursor, kind, axes, count),
     }
 }

@@ -71,34 +71,6 @@ take_further-begun_by-requires-clause-read g t c = two_read _ _ _ c.requires.bef
 pub take_further-returns-in_default : goal.take_further-returns-in_default
 take_further-returns-in_default g t c = none_begins c.args.depth c.args.above.now c.args.first c.args.metadata c.args.cursor.now c.requires.shallowest c.requires.deepest c.in_default.ensures.none
 
-pub take_further_headed-take_further_body-requires : goal.take_further_headed-take_further_body-requires
-take_further_headed-take_further_body-requires g t c κs within =
-    let same = c.boxless-head.ensures in
-    let allowed = kind_allowed c.requires.head c.boxless-head.result same in
-    let has_body : c.boxless-head.result.empty ≡ false = ap (λ (h : Head). h.empty) same ∙ c.requires.head.full in
-    let further = c.in-Some.ensures.further in
-    let framed = c.in-Some.ensures.frame.framed in
-    search rules
-
-pub take_further_headed-returns-in_err-vertices-2 : goal.take_further_headed-returns-in_err-vertices-2
-take_further_headed-returns-in_err-vertices-2 g t c = λ before sound read.
-    let p = err_from_is_err_and c.from_residual-in_err-vertices-2.result c.from_residual-in_err-vertices-2.ensures.1 in
-    rw (p.1, p.2) (body_doubts c.args.raw c.args.depth c.args.above.now before c.args.cursor.now c.requires.head.shallowest c.requires.head.deepest sound read.0 read.1 c.boxless-head.result c.boxless-head.ensures c.in-Some.frame c.in-Some.ensures.frame c.take_further_body.new.cursor _ c.in_err-vertices-2.ensures)
-
-pub take_further_headed-judged-requires-2 : goal.take_further_headed-judged-requires-2
-take_further_headed-judged-requires-2 g t c =
-    size_ahead c.requires.head c.boxless-head.result c.boxless-head.ensures _ (omega (arith, c.in_ok-vertices-2.ensures.inside.few))
-
-pub take_further_headed-returns : goal.take_further_headed-returns
-take_further_headed-returns g t c = λ before sound read.
-    rw c.judged-2.ensures.still (judged_certifies c.args.raw c.args.depth c.args.above.now before c.args.cursor.now c.requires.head.shallowest c.requires.head.deepest sound read.0 read.1 c.boxless-head.result c.boxless-head.ensures c.in-Some.frame c.in-Some.ensures.frame c.take_further_body.new.cursor
-    c.in_ok-vertices-2.vertices c.judged-2.result c.in_ok-vertices-2.ensures c.judged-2.ensures.judged)
-
-pub take_further_body-returns-else-is_collection :
-    goal.take_further_body-returns-else-is_collection
-take_further_body-returns-else-is_collection g t c =
-    shape_certifies c.args.depth c.args.head.now c.args.frame.now c.args.cursor.now c.take_further_shape.new.cursor c.take_further_shape.result (sym c.is_collection.ensures ∙ c.if-is_collection.false) (c.take_further_shape.ensures (deepest - c.args.depth))
-
 pub take_members-returns-in_err-list : goal.take_members-returns-in_err-list
 take_members-returns-in_err-list g t c =
     λ head full many ids.
@@ -181,28 +153,6 @@ take_members-returns-in_err-member g t c =
     (λ wrong. members_refute head (deepest - c.args.depth) inner c.args.cursor.now c.args.frame.now under full many c.take_list.new.cursor list.0 c.in_ok-list.list listed list.2 c.loop.counter c.loop.vertices c.loop.cursor c.loop-test.true l wrong)
     (λ wants. wants_members head c.args.depth c.args.cursor.now full many (member_ids list.0 c.take_list.new.cursor c.loop.cursor c.loop.counter l.loop.front listed (omega (arith, c.loop-test.true, list.2.count)) l.loop.so_far wants)) one)
 
-pub take_further_headed-returns-in_err-vertices : goal.take_further_headed-returns-in_err-vertices
-take_further_headed-returns-in_err-vertices g t c = λ before sound read.
-    let apart = any_apart c.args.raw c.boxless-head.result c.requires.axes.0 c.boxless-head.ensures c.requires.head.full in
-    let p = err_from_is_err_and c.from_residual.result c.from_residual.ensures.1 in
-    rw (p.1, p.2) (behind_doubts c.args.raw c.args.depth c.args.above.now before c.args.cursor.now c.requires.head.shallowest c.requires.head.deepest sound read.0 read.1 _ c.take_apart.new.cursor (c.in_err-vertices.ensures (head_said c.args.raw) apart))
-
-pub take_further_headed-judged-requires : goal.take_further_headed-judged-requires
-take_further_headed-judged-requires g t c =
-    let apart = any_apart c.args.raw c.boxless-head.result c.requires.axes.0 c.boxless-head.ensures c.requires.head.full in
-    let sure = c.in_ok-vertices.ensures (head_said c.args.raw) apart in
-    size_ahead c.requires.head c.boxless-head.result c.boxless-head.ensures _ (omega (arith, sure.inside.few))
-
-pub take_further_headed-returns-in_default : goal.take_further_headed-returns-in_default
-take_further_headed-returns-in_default g t c = λ before sound read.
-    let apart = any_apart c.args.raw c.boxless-head.result c.requires.axes.0 c.boxless-head.ensures c.requires.head.full in
-    let sure = c.in_ok-vertices.ensures (head_said c.args.raw) apart in
-    rw c.judged.ensures.still (apart_certifies c.args.raw c.args.depth c.args.above.now before c.args.cursor.now c.requires.head.shallowest c.requires.head.deepest sound read.0 read.1 c.boxless-head.result c.boxless-head.ensures c.take_apart.new.cursor c.in_ok-vertices.vertices c.judged.result sure
-    c.judged.ensures.judged)
-
-pub take_further_headed-take_apart-requires-clause-allowed : goal.take_further_headed-take_apart-requires-clause-allowed
-take_further_headed-take_apart-requires-clause-allowed g t c = kind_allowed c.requires.head c.boxless-head.result c.boxless-head.ensures
-
 pub take_flat-with_bits-requires : goal.take_flat-with_bits-requires
 take_flat-with_bits-requires g t c = ap (λ n. bit_and n 25) c.in-Some.ensures.metadata ∙ c.requires.bits
 
@@ -231,24 +181,6 @@ take_with_further_box-returns-in_default-take_rest g t c =
 
 pub take_with_further_box-with_bits-requires : goal.take_with_further_box-with_bits-requires
 take_with_further_box-with_bits-requires g t c = ap (λ n. bit_and n 25) c.in-Some.ensures.metadata ∙ c.requires.bits
-
-pub take_with_further_box-take_further_headed-requires : goal.take_with_further_box-take_further_headed-requires
-take_with_further_box-take_further_headed-requires g t c κs within =
-    let head = header_read c.args.depth c.args.above.now c.args.first c.args.metadata c.args.cursor.now c.requires.begun.shallowest c.requires.begun.deepest c.with_bits.result (bits_begin _ _ _ _ c.in-Some.begun c.with_bits.result c.with_bits.ensures.announcing c.in-Some.ensures.some) c.take_rest.new.cursor c.in-Ok.raw c.in-Ok.ensures.read c.requires.begun (c.in-Ok.ensures.empty ∙ full_bits c.with_bits.result.metadata 9 (omega arith) c.with_bits.ensures.bits) in
-    search rules
-
-pub take_with_further_box-returns : goal.take_with_further_box-returns
-take_with_further_box-returns g t c =
-    header_certifies c.args.depth c.args.above.now c.args.first c.args.metadata c.args.cursor.now c.requires.begun.shallowest c.requires.begun.deepest c.with_bits.result (bits_begin _ _ _ _ c.in-Some.begun c.with_bits.result c.with_bits.ensures.announcing c.in-Some.ensures.some) c.take_rest.new.cursor c.in-Ok.raw c.in-Ok.ensures.read _ _ c.take_further_headed.ensures
-
-pub take_further-take_further_headed-requires : goal.take_further-take_further_headed-requires
-take_further-take_further_headed-requires g t c κs within =
-    let head = header_read c.args.depth c.args.above.now c.args.first c.args.metadata c.args.cursor.now c.requires.shallowest c.requires.deepest c.in-Some.begun c.in-Some.ensures.some c.take_rest.new.cursor c.in-Ok.raw c.in-Ok.ensures.read c.requires (c.in-Ok.ensures.empty ∙ sym c.is_empty.ensures ∙ c.if-is_empty.false) in
-    search rules
-
-pub take_further-returns : goal.take_further-returns
-take_further-returns g t c =
-    header_certifies c.args.depth c.args.above.now c.args.first c.args.metadata c.args.cursor.now c.requires.shallowest c.requires.deepest c.in-Some.begun c.in-Some.ensures.some c.take_rest.new.cursor c.in-Ok.raw c.in-Ok.ensures.read _ _ c.take_further_headed.ensures
 
 pub take_flat_framed-returns-in_err-vertices : goal.take_flat_framed-returns-in_err-vertices
 take_flat_framed-returns-in_err-vertices g t c = λ above raw same under before sound read.
@@ -330,3 +262,68 @@ take_flat_many-returns-else-is_collection g t c = λ head full kind ids z m fram
     let shape : is_collection head.kind ≡ false = ap is_collection kind ∙ sym c.is_collection.ensures ∙ c.if-is_collection.false in
     shape_certifies c.args.depth head c.args.frame.now c.args.cursor.now c.take_flat_list.new.cursor c.take_flat_list.result shape
     (c.take_flat_list.ensures (deepest - c.args.depth) head kind ids (record { shape = record { full = full; kind = shape; framed = framed }; z = z; m = m }))
+
+pub take_further-take_further_apart-requires-clause-head : goal.take_further-take_further_apart-requires-clause-head
+take_further-take_further_apart-requires-clause-head g t c = header_read c.args.depth c.args.above.now c.args.first c.args.metadata c.args.cursor.now c.requires.shallowest c.requires.deepest c.in-Some.begun c.in-Some.ensures.some c.take_rest.new.cursor c.in-Ok.raw c.in-Ok.ensures.read c.requires (c.in-Ok.ensures.empty ∙ sym c.is_empty.ensures ∙ c.if-is_empty.false)
+
+pub take_further-returns-in_default-further_frame : goal.take_further-returns-in_default-further_frame
+take_further-returns-in_default-further_frame g t c = header_certifies c.args.depth c.args.above.now c.args.first c.args.metadata c.args.cursor.now c.requires.shallowest c.requires.deepest c.in-Some.begun c.in-Some.ensures.some c.take_rest.new.cursor c.in-Ok.raw c.in-Ok.ensures.read _ _ c.take_further_apart.ensures
+
+pub take_further-take_further_framed-requires : goal.take_further-take_further_framed-requires
+take_further-take_further_framed-requires g t c κs within =
+    let head = header_read c.args.depth c.args.above.now c.args.first c.args.metadata c.args.cursor.now c.requires.shallowest c.requires.deepest c.in-Some.begun c.in-Some.ensures.some c.take_rest.new.cursor c.in-Ok.raw c.in-Ok.ensures.read c.requires (c.in-Ok.ensures.empty ∙ sym c.is_empty.ensures ∙ c.if-is_empty.false) in
+    let same = c.boxless-head.ensures in
+    let allowed = kind_allowed head c.boxless-head.result same in
+    let has_body : c.boxless-head.result.empty ≡ false = ap (λ (h : Head). h.empty) same ∙ head.full in
+    let further = c.in-Some-further_frame.ensures.further in
+    let framed = c.in-Some-further_frame.ensures.frame.framed in
+    let ahead = size_ahead head c.boxless-head.result same c.take_rest.new.cursor.place (omega arith) in
+    search rules
+
+pub take_further-returns : goal.take_further-returns
+take_further-returns g t c = header_certifies c.args.depth c.args.above.now c.args.first c.args.metadata c.args.cursor.now c.requires.shallowest c.requires.deepest c.in-Some.begun c.in-Some.ensures.some c.take_rest.new.cursor c.in-Ok.raw c.in-Ok.ensures.read _ _ (c.take_further_framed.ensures c.args.above.now c.in-Ok.raw c.boxless-head.ensures c.in-Some-further_frame.ensures.frame)
+
+pub take_with_further_box-take_further_apart-requires-clause-head : goal.take_with_further_box-take_further_apart-requires-clause-head
+take_with_further_box-take_further_apart-requires-clause-head g t c = header_read c.args.depth c.args.above.now c.args.first c.args.metadata c.args.cursor.now c.requires.begun.shallowest c.requires.begun.deepest c.with_bits.result (bits_begin _ _ _ _ c.in-Some.begun c.with_bits.result c.with_bits.ensures.announcing c.in-Some.ensures.some) c.take_rest.new.cursor c.in-Ok.raw c.in-Ok.ensures.read c.requires.begun (c.in-Ok.ensures.empty ∙ full_bits c.with_bits.result.metadata 9 (omega arith) c.with_bits.ensures.bits)
+
+pub take_with_further_box-returns-in_default-further_frame : goal.take_with_further_box-returns-in_default-further_frame
+take_with_further_box-returns-in_default-further_frame g t c = header_certifies c.args.depth c.args.above.now c.args.first c.args.metadata c.args.cursor.now c.requires.begun.shallowest c.requires.begun.deepest c.with_bits.result (bits_begin _ _ _ _ c.in-Some.begun c.with_bits.result c.with_bits.ensures.announcing c.in-Some.ensures.some) c.take_rest.new.cursor c.in-Ok.raw c.in-Ok.ensures.read _ _ c.take_further_apart.ensures
+
+pub take_with_further_box-take_further_framed-requires : goal.take_with_further_box-take_further_framed-requires
+take_with_further_box-take_further_framed-requires g t c κs within =
+    let head = header_read c.args.depth c.args.above.now c.args.first c.args.metadata c.args.cursor.now c.requires.begun.shallowest c.requires.begun.deepest c.with_bits.result (bits_begin _ _ _ _ c.in-Some.begun c.with_bits.result c.with_bits.ensures.announcing c.in-Some.ensures.some) c.take_rest.new.cursor c.in-Ok.raw c.in-Ok.ensures.read c.requires.begun (c.in-Ok.ensures.empty ∙ full_bits c.with_bits.result.metadata 9 (omega arith) c.with_bits.ensures.bits) in
+    let same = c.boxless-head.ensures in
+    let allowed = kind_allowed head c.boxless-head.result same in
+    let has_body : c.boxless-head.result.empty ≡ false = ap (λ (h : Head). h.empty) same ∙ head.full in
+    let further = c.in-Some-further_frame.ensures.further in
+    let framed = c.in-Some-further_frame.ensures.frame.framed in
+    let ahead = size_ahead head c.boxless-head.result same c.take_rest.new.cursor.place (omega arith) in
+    search rules
+
+pub take_with_further_box-returns : goal.take_with_further_box-returns
+take_with_further_box-returns g t c = header_certifies c.args.depth c.args.above.now c.args.first c.args.metadata c.args.cursor.now c.requires.begun.shallowest c.requires.begun.deepest c.with_bits.result (bits_begin _ _ _ _ c.in-Some.begun c.with_bits.result c.with_bits.ensures.announcing c.in-Some.ensures.some) c.take_rest.new.cursor c.in-Ok.raw c.in-Ok.ensures.read _ _ (c.take_further_framed.ensures c.args.above.now c.in-Ok.raw c.boxless-head.ensures c.in-Some-further_frame.ensures.frame)
+
+pub take_further_framed-returns-in_err-vertices : goal.take_further_framed-returns-in_err-vertices
+take_further_framed-returns-in_err-vertices g t c = λ above raw same under before sound read.
+    let p = err_from_is_err_and c.from_residual.result c.from_residual.ensures.1 in
+    rw (p.1, p.2) (body_doubts raw c.args.depth above before c.args.cursor.now c.requires.shallowest c.requires.deepest sound read.0 read.1 c.args.head.now same c.args.frame.now under c.take_further_body.new.cursor _ c.in_err-vertices.ensures)
+
+pub take_further_framed-judged-requires : goal.take_further_framed-judged-requires
+take_further_framed-judged-requires g t c = size_later c.args.head.now.size _ _ (omega (arith, c.in_ok-vertices.ensures.inside.few)) c.requires.ahead
+
+pub take_further_framed-returns : goal.take_further_framed-returns
+take_further_framed-returns g t c = λ above raw same under before sound read.
+    rw c.judged.ensures.still (judged_certifies raw c.args.depth above before c.args.cursor.now c.requires.shallowest c.requires.deepest sound read.0 read.1 c.args.head.now same c.args.frame.now under c.take_further_body.new.cursor
+    c.in_ok-vertices.vertices c.judged.result c.in_ok-vertices.ensures c.judged.ensures.judged)
+
+pub take_further_body-returns-else-is_multi : goal.take_further_body-returns-else-is_multi
+take_further_body-returns-else-is_multi g t c =
+    let single = no_member (c.args.head.now.kind) (sym c.is_multi.ensures ∙ c.if-is_multi.false) in
+    shape_certifies c.args.depth c.args.head.now c.args.frame.now c.args.cursor.now c.take_further_single.new.cursor c.take_further_single.result single
+    (c.take_further_single.ensures (deepest - c.args.depth) c.args.head.now refl c.axes-else-is_multi.ensures.value (record { full = c.requires.full; kind = single; framed = c.requires.frame }))
+
+pub take_further_many-returns-else-is_collection : goal.take_further_many-returns-else-is_collection
+take_further_many-returns-else-is_collection g t c = λ head full kind ids axes framed.
+    let shape : is_collection head.kind ≡ false = ap is_collection kind ∙ sym c.is_collection.ensures ∙ c.if-is_collection.false in
+    shape_certifies c.args.depth head c.args.frame.now c.args.cursor.now c.take_further_list.new.cursor c.take_further_list.result shape
+    (c.take_further_list.ensures (deepest - c.args.depth) head kind ids axes (record { full = full; kind = shape; framed = framed }))

@@ -24,8 +24,8 @@ decreases-take_further g l = 8 * (deepest - l.depth) + 5
 abbrev pub decreases-take_flat_framed : goal.decreases-take_flat_framed
 decreases-take_flat_framed g l = 8 * (deepest - l.depth) + 4
 
-abbrev pub decreases-take_further_headed : goal.decreases-take_further_headed
-decreases-take_further_headed g l = 8 * (deepest - l.depth) + 3
+abbrev pub decreases-take_further_framed : goal.decreases-take_further_framed
+decreases-take_further_framed g l = 8 * (deepest - l.depth) + 4
 
 abbrev pub decreases-take_flat_body : goal.decreases-take_flat_body
 decreases-take_flat_body g l = 8 * (deepest - l.depth) + 3
@@ -34,7 +34,10 @@ abbrev pub decreases-take_flat_many : goal.decreases-take_flat_many
 decreases-take_flat_many g l = 8 * (deepest - l.depth) + 2
 
 abbrev pub decreases-take_further_body : goal.decreases-take_further_body
-decreases-take_further_body g l = 8 * (deepest - l.depth) + 2
+decreases-take_further_body g l = 8 * (deepest - l.depth) + 3
+
+abbrev pub decreases-take_further_many : goal.decreases-take_further_many
+decreases-take_further_many g l = 8 * (deepest - l.depth) + 2
 
 abbrev pub decreases-take_members : goal.decreases-take_members
 decreases-take_members g l = 8 * (deepest - l.depth) + 1

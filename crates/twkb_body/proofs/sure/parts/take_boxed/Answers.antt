@@ -10,4 +10,4 @@ returns-then-axes-eq4 c =
 pub returns-else-axes-eq4 : goal.returns-else-axes-eq4
 returns-else-axes-eq4 c =
     let three : 3 ≡ c.args.axes = omega (arith, c.requires.further, c.if-axes-eq4.false) in
-    subst (λ (n : ℕ). HoldsOrLeaves c.args.kind n c.args.count c.args.bounds.now c.args.cursor.now c.take_further_boxed-else-axes-eq4.new.cursor c.take_further_boxed-else-axes-eq4.result) three c.take_further_boxed-else-axes-eq4.ensures
+    subst (λ (n : ℕ). HoldsOrLeaves c.args.kind n c.args.count c.args.bounds.now c.args.cursor.now c.take_boxed_in_three.new.cursor c.take_boxed_in_three.result) three c.take_boxed_in_three.ensures
