@@ -15,15 +15,19 @@ ghost use Rattle.twkb_body.specs.Devices.Sure.{counted_in, framed, has_further, 
 
 mod announced;
 mod apart;
+mod empty;
 mod parts;
 mod plain;
 mod shapes;
+mod sizes;
 mod unboxed;
 
 use self::announced::{BOX, FLAT_BOX_BITS, FURTHER_BOX, NO_FIELD, with_bits};
 use self::apart::{take_flat_apart, take_further_apart};
+use self::empty::take_empty;
 use self::plain::{pass_point, take_plain};
 use self::shapes::{take_flat_list, take_flat_single, take_further_list, take_further_single};
+use self::sizes::judged;
 use crate::doubt::Doubt;
 use crate::frame::{Frame, further_frame};
 use crate::lists::take_list;
@@ -247,43 +251,6 @@ fn take_further_framed<R: IdRoom>(
 {
     let vertices = take_further_body(room, cursor, depth, head, frame)?;
     judged(head, cursor, vertices)
-}
-
-/// Reads an empty geometry at `depth`, after its first two bytes.
-#[inline(never)]
-fn take_empty(cursor: &mut Cursor, depth: u8, first: u8, metadata: u8) -> Result<usize, Doubt>
-    requires shallowest { 1 ≤ depth }
-    requires deepest { depth ≤ deepest }
-    requires before { (before : Reading) × HasReadTwo before first metadata cursor.old }
-    requires empty { has_bit metadata 16 ≡ true }
-    ensures { (above : Option FrameOf) → CertifiesAfterTwo depth above first metadata cursor.old result cursor.new }
-{
-    let Some(begun) = begun_by(cursor, depth, first, metadata) else {
-        return Err(Doubt::REFUSED);
-    };
-    let Ok(raw) = take_rest::<BoxCalled>(cursor, begun) else {
-        return Err(Doubt::REFUSED);
-    };
-    let head = raw.boxless();
-    judged(&head, cursor, 0)
-}
-
-/// The number of vertices of a geometry that ends at the place, if its size is true. The cursor is as it was.
-#[inline(always)]
-fn judged(head: &Head, cursor: &mut Cursor, vertices: usize) -> Result<usize, Doubt>
-    requires { IfSome head.now.size (λ size. size.after ≤ cursor.old.place) }
-    ensures judged { IsJudged head.now cursor.old.place vertices result }
-    ensures still { cursor.new ≡ cursor.old }
-{
-    if let Some(size) = head.size {
-        if (cursor.place() - size.after) as u64 != size.value {
-            return Err(Doubt::REFUSED);
-        }
-        // The place is set to what it is already, so that the processor can begin the next geometry before it knows the lengths of all
-        // numbers of this one. The test above compares lengths: if it compared ends, the compiler would leave out this store.
-        cursor.go_on_from(size.after + size.value as usize);
-    }
-    Ok(vertices)
 }
 
 /// Reads the body of a geometry of X and Y alone.

@@ -8,7 +8,7 @@ ghost use Rattle.twkb_head.specs.declared.header.Head.{Head as HeadOf};
 ghost use Rattle.twkb_head.specs.declared.raw.RawBox.{RawBox as BoxOf};
 ghost use Rattle.twkb_body.specs.Devices.Sure.{HasHead, IsFrame, IsApart, CertifiesAfterHead, CertifiesBehind};
 
-use super::judged;
+use super::sizes::judged;
 use crate::doubt::Doubt;
 use crate::frame::Frame;
 use crate::geometry::take_inside;

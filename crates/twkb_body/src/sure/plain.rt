@@ -5,7 +5,7 @@ ghost use Rattle.twkb_head.specs.Raw.{BeginsHead};
 ghost use Rattle.twkb_head.specs.declared.kinds.Kind.TheVariants.{Point, LineString};
 ghost use Rattle.twkb_body.specs.Devices.Sure.{HasBegunPlain, Certifies};
 
-use super::judged;
+use super::sizes::judged;
 use super::unboxed::take_bare;
 use crate::doubt::Doubt;
 use twkb_head::{Begun, BoxCalled, take_rest};

@@ -5,7 +5,7 @@ use Rattle.twkb_head.specs.Header.{has_bit}
 use Rattle.twkb_head.specs.Raw.{head_said}
 use Rattle.twkb_body.proofs.RawGeometries.{flat_ends, apart_certifies, none_begins, rest_unread}
 use Rattle.twkb_body.proofs.SureSteps.{two_read, empty_sure}
-use Rattle.twkb_body.proofs.sure.take_empty.Goals as goal
+use Rattle.twkb_body.proofs.sure.empty.take_empty.Goals as goal
 
 pub begun_by-requires-clause-read : goal.begun_by-requires-clause-read
 begun_by-requires-clause-read c = two_read _ _ _ c.requires.before

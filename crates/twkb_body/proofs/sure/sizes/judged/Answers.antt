@@ -3,7 +3,7 @@ use Rattle.std.proofs.Common.{◌≡◌, ◌-◌, ◌==◌, false, refl, sym, ap
 use Rattle.std.proofs.lemmas.Bool.{ne_eqb}
 use Rattle.twkb_body.specs.Devices.Found.{size_judged}
 use Rattle.twkb_body.specs.Devices.Pass.{false_at}
-use Rattle.twkb_body.proofs.sure.judged.Goals as goal
+use Rattle.twkb_body.proofs.sure.sizes.judged.Goals as goal
 
 pub returns-then-place-size-clause-judged : goal.returns-then-place-size-clause-judged
 returns-then-place-size-clause-judged c =
