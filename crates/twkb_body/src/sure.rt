@@ -109,7 +109,7 @@ fn take_flat<R: IdRoom>(
         return Err(Doubt::REFUSED);
     };
     let head = raw.boxless();
-    let Some(frame) = Frame::under(above, &head, &raw.bounds) else {
+    let Some(frame) = Frame::under(above, &head, &None) else {
         return take_flat_apart(room, cursor, depth, above, &raw);
     };
     take_flat_framed(room, cursor, depth, &head, &frame)

@@ -1,5 +1,5 @@
 -- The first reading of a geometry and of members, each by the other: what it certifies, and what it refutes.
-use Rattle.std.proofs.Common.{rules, ◌≡◌, ◌+◌, ◌-◌, ◌≤◌, ℕ, suc, Bool, false, Option, Some, None, IfSome, Ok, refl, sym, ap, subst, ◌∙◌, arith}
+use Rattle.std.proofs.Common.{rules, ◌≡◌, ◌+◌, ◌-◌, ◌≤◌, ℕ, suc, Bool, false, Option, Some, None, option_map, IfSome, Ok, refl, sym, ap, subst, ◌∙◌, arith}
 use Rattle.std.specs.Prelude.{◌<◌, bit_and}
 use Rattle.std.proofs.lemmas.Result.{err_from_is_err_and}
 use Rattle.twkb_num.specs.Cursor.{Reading, rest}
@@ -13,12 +13,13 @@ use Rattle.twkb_head.specs.Shared.Reader.{Fails}
 use Rattle.twkb_head.specs.Header.{has_bit, is_multi}
 use Rattle.twkb_head.specs.Raw.{head_said}
 use Rattle.twkb_head.specs.declared.header.Head.{Head}
+use Rattle.twkb_head.specs.declared.raw.RawBox.{RawBox}
 use Rattle.twkb_body.specs.Audited.{HasLongList}
 use Rattle.twkb_body.specs.Devices.BodyReader.{list_at}
 use Rattle.twkb_body.specs.Devices.Found.{named}
 use Rattle.twkb_body.specs.Devices.IdLists.{HasManyIdsAfterCount}
 use Rattle.twkb_body.specs.Devices.Stops.{own_ids, member_ids, WantsBehind}
-use Rattle.twkb_body.specs.Devices.Sure.{HasReadTwo, IsRefuted, IsRefutedBody}
+use Rattle.twkb_body.specs.Devices.Sure.{framed, HasReadTwo, IsFrameUnder, IsRefuted, IsRefutedBody}
 use Rattle.twkb_body.proofs.Keeping.{keeps_list, read_keeps}
 use Rattle.twkb_body.proofs.MemberSteps.{member_bytes}
 use Rattle.twkb_body.proofs.SureSteps.{two_read, sure_begins, sure_goes_on, members_sure}
@@ -31,6 +32,10 @@ use Rattle.twkb_body.proofs.sure.+take_flat.Goals as goal
 -- without the bit of an extended dimensions byte there are X and Y alone
 flat_bits : (metadata bits : ℕ) → bits < 8 → bit_and metadata 25 ≡ bits → has_bit metadata 8 ≡ false
 flat_bits metadata bits few told = bits_same metadata 0 8 (omega (arith, few, told, box_bits metadata))
+
+-- without the bit of a box there is none
+unboxed_bits : (metadata : ℕ) → bit_and metadata 25 ≡ 0 → has_bit metadata 1 ≡ false
+unboxed_bits metadata told = bits_same metadata 0 1 (omega (arith, told, box_bits metadata))
 
 -- without the bit of an empty geometry there is a body
 full_bits : (metadata bits : ℕ) → bits < 16 → bit_and metadata 25 ≡ bits → has_bit metadata 16 ≡ false
@@ -221,7 +226,10 @@ take_flat-take_flat_framed-requires g t c κs within =
     search rules
 
 pub take_flat-returns : goal.take_flat-returns
-take_flat-returns g t c = header_certifies c.args.depth c.args.above.now c.args.first c.args.metadata c.args.cursor.now c.requires.begun.shallowest c.requires.begun.deepest c.with_bits.result (bits_begin _ _ _ _ c.in-Some.begun c.with_bits.result c.with_bits.ensures.announcing c.in-Some.ensures.some) c.take_rest.new.cursor c.in-Ok.raw c.in-Ok.ensures.read _ _ (c.take_flat_framed.ensures c.args.above.now c.in-Ok.raw c.boxless-head.ensures c.in-Some-under.ensures)
+take_flat-returns g t c =
+    let none : c.in-Ok.raw.bounds ≡ None = c.in-Ok.ensures.no_box (unboxed_bits c.with_bits.result.metadata c.with_bits.ensures.bits) in
+    let under = subst (λ (box : Option RawBox). IsFrameUnder c.args.above.now c.boxless-head.result (option_map (framed c.boxless-head.result) box) c.in-Some-under.frame) (sym none) c.in-Some-under.ensures in
+    header_certifies c.args.depth c.args.above.now c.args.first c.args.metadata c.args.cursor.now c.requires.begun.shallowest c.requires.begun.deepest c.with_bits.result (bits_begin _ _ _ _ c.in-Some.begun c.with_bits.result c.with_bits.ensures.announcing c.in-Some.ensures.some) c.take_rest.new.cursor c.in-Ok.raw c.in-Ok.ensures.read _ _ (c.take_flat_framed.ensures c.args.above.now c.in-Ok.raw c.boxless-head.ensures under)
 
 pub take_with_box-take_flat_apart-requires-clause-head : goal.take_with_box-take_flat_apart-requires-clause-head
 take_with_box-take_flat_apart-requires-clause-head g t c = header_read c.args.depth c.args.above.now c.args.first c.args.metadata c.args.cursor.now c.requires.begun.shallowest c.requires.begun.deepest c.with_bits.result (bits_begin _ _ _ _ c.in-Some.begun c.with_bits.result c.with_bits.ensures.announcing c.in-Some.ensures.some) c.take_rest.new.cursor c.in-Ok.raw c.in-Ok.ensures.read c.requires.begun (c.in-Ok.ensures.empty ∙ full_bits c.with_bits.result.metadata 1 (omega arith) c.with_bits.ensures.bits)
