@@ -6,7 +6,6 @@ ghost use Rattle.twkb_body.specs.Devices.Quads.{lane_end, lanes_at, lanes_within
 ghost use Rattle.twkb_body.specs.Devices.Body.{zeros};
 
 use crate::lane_trail::{LaneReader, LaneTrail};
-use crate::parts::LinesInlined;
 use crate::positions::{
     Reached, Step, distances_in, extent_bits, lanes_of, minimum_bits, moved_in_lane,
 };
@@ -39,8 +38,6 @@ impl FlatLanes {
 
 impl LaneReader for FlatLanes {
     ghost use Rattle.twkb_body.specs.Devices.LaneTrail.{IsFlatPlace};
-
-    type Lines = LinesInlined;
 
     ghost axes = { 2 };
 

@@ -7,7 +7,6 @@ ghost use Rattle.twkb_body.specs.Devices.PerAxis.{Each, plus, is_four, differenc
 ghost use Rattle.twkb_body.specs.Devices.Quads.{lanes_within, ReadsAtMost};
 
 use crate::lane_trail::{LaneReader, LaneTrail};
-use crate::parts::LinesInlined;
 use crate::per_axis::PerAxis;
 use crate::positions::{
     Reached, Step, extent_bits, four_lanes_of, minimum_bits, moved_in_lane, numbers_in,
@@ -52,8 +51,6 @@ impl<const AXES: usize> FurtherLanes<AXES> {
 impl<const AXES: usize> LaneReader for FurtherLanes<AXES> {
     ghost use Rattle.twkb_body.specs.Devices.FurtherLanes.{IsFurtherPlace};
     ghost use Rattle.twkb_body.specs.Devices.PerAxis.{is_four, axes_by};
-
-    type Lines = LinesInlined;
 
     ghost axes = { axes_by (is_four AXES) };
 

@@ -8,7 +8,6 @@ ghost use Rattle.twkb_head.specs.declared.raw.RawBox.{RawBox};
 ghost use Rattle.twkb_body.specs.Geometry.{PointValue};
 ghost use Rattle.twkb_body.specs.Devices.LaneTrail.{AllLeave, IsLaneStep};
 
-use crate::parts::LineLoop;
 use crate::point_reader::PointReader;
 use crate::positions::{Step, are_within};
 use std::simd::prelude::*;
@@ -17,9 +16,6 @@ use twkb_num::{Cursor, Prefetch};
 
 /// What reads points by their distances from the minima of a box, in lanes, and compares them with the box.
 pub trait LaneReader {
-    /// Whether the loop over lines is inlined where these points are read.
-    type Lines: LineLoop;
-
     /// How many axes the points have.
     ghost axes: { ℕ };
 

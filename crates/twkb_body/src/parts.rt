@@ -1,6 +1,6 @@
 //! The parts of a body: points, lines and polygons. All are read here, each by a [`PointReader`]: the exact audit reads them by a
 //! `Walk`, a skim by a `CertifiedWalk`, and the first reading by a `LaneTrail` or a `Walk`.
-//! Used by `flat_lanes`, `further_lanes`, `lane_trail`, `shape` and `sure/parts`.
+//! Used by `shape` and `sure/parts`.
 ghost use Rattle.std.specs.Prelude.{◌≡◌, ℕ, List, flat_map, IfOk, IfErr};
 ghost use Rattle.twkb_head.specs.Shared.Reader.{Reader, many_at};
 ghost use Rattle.twkb_body.specs.Geometry.{PointValue, points_of};
@@ -41,8 +41,8 @@ pub fn take_parts<L: LineLoop, R: PointReader>(
     }
 }
 
-/// Whether the loop over lines is inlined: it is in skims, and for points with Z or M that a box has to hold. The other functions of
-/// audits that call it would grow so large that the compiler inlines less into them.
+/// Whether the loop over lines is inlined: it is in skims, and in audits for points that a box has to hold and lanes can compare. The
+/// other functions of audits that call it would grow so large that the compiler inlines less into them.
 pub trait LineLoop {
     /// Reads `count` lines.
     fn take<R: PointReader>(cursor: &mut Cursor, count: u64, reader: &mut R) -> Result<(), R::Fault>

@@ -326,7 +326,15 @@ fn take_further_body<R: IdRoom>(
     if head.kind.is_multi() {
         // A copy, as in `take_flat_body`.
         let below = *frame;
-        take_further_many(room, cursor, depth, head.kind, head.ids, head.axes(), &below)
+        take_further_many(
+            room,
+            cursor,
+            depth,
+            head.kind,
+            head.ids,
+            head.axes(),
+            &below,
+        )
     } else {
         take_further_single(cursor, head.kind, head.axes(), frame)
     }

@@ -15,7 +15,7 @@ use crate::flat_lanes::{FlatLanes, fits_lanes};
 use crate::further_lanes::{FurtherLanes, fits_further};
 use crate::lane_trail::{LaneReader, LaneTrail};
 use crate::lists::take_list;
-use crate::parts::{LinesCalled, take_parts};
+use crate::parts::{LinesCalled, LinesInlined, take_parts};
 use crate::points::Points;
 use crate::rooms::IdRoom;
 use crate::walk::{Walk, bare_head};
@@ -130,7 +130,7 @@ fn take_by_lanes<L: LaneReader + Drop>(
     ensures { (box : RawBoxOf) → L.place trail.reader box trail.at trail.extent zeros
         → HoldsOrLeaves kind L.axes count box cursor.old cursor.new result }
 {
-    match take_parts::<L::Lines, _>(cursor, kind, count, &mut trail) {
+    match take_parts::<LinesInlined, _>(cursor, kind, count, &mut trail) {
         Ok(()) => Ok(trail.points),
         Err(_) => Err(Doubt::REFUSED),
     }

@@ -11,7 +11,6 @@ use Rattle.twkb_head.specs.declared.kinds.Kind.{Kind}
 use Rattle.twkb_head.specs.declared.kinds.Kind.TheVariants.{Point, LineString, Polygon, MultiPoint, MultiLineString, MultiPolygon, GeometryCollection}
 use Rattle.twkb_head.specs.Shared.Reader.{Fails}
 use Rattle.twkb_head.specs.Header.{has_bit, is_multi}
-use Rattle.twkb_head.specs.Raw.{head_said}
 use Rattle.twkb_head.specs.declared.header.Head.{Head}
 use Rattle.twkb_head.specs.declared.raw.RawBox.{RawBox}
 use Rattle.twkb_body.specs.Audited.{HasLongList}
@@ -23,7 +22,7 @@ use Rattle.twkb_body.specs.Devices.Sure.{framed, HasReadTwo, IsFrameUnder, IsRef
 use Rattle.twkb_body.proofs.Keeping.{keeps_list, read_keeps}
 use Rattle.twkb_body.proofs.MemberSteps.{member_bytes}
 use Rattle.twkb_body.proofs.SureSteps.{two_read, sure_begins, sure_goes_on, members_sure}
-use Rattle.twkb_body.proofs.RawGeometries.{any_apart, apart_certifies, behind_doubts, bits_begin, body_doubts, flat_apart, header_certifies, header_read, judged_certifies, kind_allowed, none_begins, rest_unread, size_ahead}
+use Rattle.twkb_body.proofs.RawGeometries.{bits_begin, body_doubts, header_certifies, header_read, judged_certifies, kind_allowed, none_begins, rest_unread, size_ahead}
 use Rattle.twkb_body.proofs.Refuting.{doubts_outside, doubts_through, no_header_refutes}
 use Rattle.twkb_body.proofs.RefutedBodies.{ids_refute, list_refutes, members_refute}
 use Rattle.twkb_body.proofs.CertifiedBodies.{none_of, shape_certifies, some_of, wants_members}

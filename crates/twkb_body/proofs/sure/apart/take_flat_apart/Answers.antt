@@ -1,5 +1,5 @@
 -- The body is judged as the exact audit judges it, and then the size.
-use Rattle.std.proofs.Common.{◌≡◌, sym, ap, arith}
+use Rattle.std.proofs.Common.{arith}
 use Rattle.std.proofs.lemmas.Result.{err_from_is_err_and}
 use Rattle.twkb_head.specs.Raw.{head_said}
 use Rattle.twkb_body.proofs.RawGeometries.{apart_certifies, behind_doubts, flat_apart, kind_allowed, size_ahead}

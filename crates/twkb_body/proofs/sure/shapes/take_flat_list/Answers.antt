@@ -1,7 +1,7 @@
 -- A list is its parts after their count.
 use Rattle.std.proofs.Common.{◌≡◌, Bool, sym, ap₂, subst}
 use Rattle.std.proofs.lemmas.Result.{err_from_is_err_and}
-use Rattle.twkb_num.specs.Cursor.{Reading, rest}
+use Rattle.twkb_num.specs.Cursor.{rest}
 use Rattle.twkb_head.specs.declared.kinds.Kind.{Kind}
 use Rattle.twkb_head.specs.Header.{axes_of, axes_with, is_multi}
 use Rattle.twkb_body.specs.Devices.IdLists.{HasManyIdsAfterCount}
@@ -17,7 +17,7 @@ returns-in_err-count g c = λ levels head kind ids flat.
     let old = c.args.cursor.now in
     let new = c.take_count.new.cursor in
     let doubt = subst (λ (k : Kind). HasDoubt (IsWrongCount (is_multi k) head.ids old new) (HasManyIdsAfterCount head.ids (rest old)) old c.in_err-count.field-0.0 new) (sym kind)
-        (subst (λ (b : Bool). HasDoubt (IsWrongCount (is_multi c.args.kind) b old new) (HasManyIdsAfterCount b (rest old)) old c.in_err-count.field-0.0 new) (sym ids) c.in_err-count.ensures) in
+    (subst (λ (b : Bool). HasDoubt (IsWrongCount (is_multi c.args.kind) b old new) (HasManyIdsAfterCount b (rest old)) old c.in_err-count.field-0.0 new) (sym ids) c.in_err-count.ensures) in
     rw (p.1, p.2) (shape_count_doubts head levels c.args.frame.now old new c.in_err-count.field-0.0 flat.shape.full flat.shape.kind doubt)
 
 pub returns : goal.returns

@@ -1,5 +1,5 @@
 -- A point, a line or a polygon is one part, which isn't counted.
-use Rattle.std.proofs.Common.{◌≡◌, Bool, false, sym, ap, ap₂, subst, ◌∙◌}
+use Rattle.std.proofs.Common.{◌≡◌, sym, ap, ap₂, subst, ◌∙◌}
 use Rattle.twkb_head.specs.declared.kinds.Kind.{Kind}
 use Rattle.twkb_head.specs.Header.{axes_of, axes_with, is_multi}
 use Rattle.twkb_body.specs.Devices.Inside.{of_head}

@@ -1,5 +1,5 @@
 -- A point, a line or a polygon is one part, which isn't counted.
-use Rattle.std.proofs.Common.{◌≡◌, sym, ap, subst, ◌∙◌}
+use Rattle.std.proofs.Common.{sym, ap, subst, ◌∙◌}
 use Rattle.twkb_head.specs.declared.kinds.Kind.{Kind}
 use Rattle.twkb_head.specs.Header.{is_multi}
 use Rattle.twkb_body.specs.Devices.Sure.{TakesParts}
