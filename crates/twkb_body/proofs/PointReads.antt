@@ -270,7 +270,7 @@ module _ {S : Type 0} (step : S → PointValue → S) (at : Stage S) {A : Type 0
     pub there : stands (on at trail state)
     pub loop : IsWalkLoop step at.axes list_after a_list points_in (λ s xs. refl) count at.trail at.state from i trail state r
 
-  pub lists_begin : (stands : Stage S → Type 0) → stands at → HasReadLists stands 0 from
+  abbrev pub lists_begin : (stands : Stage S → Type 0) → stands at → HasReadLists stands 0 from
   lists_begin stands there = record { trail = at.trail; state = at.state; there = there; loop = walk_begins step at.axes list_after a_list points_in (λ s xs. refl) count at.trail at.state from }
 
   -- if all lists can be read, the next one can

@@ -1,16 +1,19 @@
 //! The parts of a body: points, lines and polygons. All are read here, each by a [`PointReader`]: the exact audit reads them by a
 //! `Walk`, a skim by a `CertifiedWalk`, and the first reading by a `LaneTrail` or a `Walk`.
 //! Used by `shape` and `sure/parts`.
-ghost use Rattle.std.specs.Prelude.{◌≡◌, ℕ, List, flat_map, IfOk, IfErr};
+ghost use Rattle.std.specs.Prelude.{◌≡◌, ◌⊎◌, ℕ, List, flat_map, false, IfOk, IfErr};
+ghost use Rattle.twkb_head.specs.declared.kinds.Kind.{Kind};
+ghost use Rattle.twkb_head.specs.declared.kinds.Kind.TheVariants.{Point, LineString, Polygon, MultiPolygon};
+ghost use Rattle.twkb_head.specs.Header.{is_multi};
 ghost use Rattle.twkb_head.specs.Shared.Reader.{Reader, many_at};
 ghost use Rattle.twkb_body.specs.Geometry.{PointValue, points_of};
 ghost use Rattle.twkb_body.specs.Devices.Body.{add, sums, ring_sums};
 ghost use Rattle.twkb_body.specs.Devices.BodyReader.{point_at, ring_at, prefixed_at, part_at};
-ghost use Rattle.twkb_body.specs.Devices.PointReader.{IsReady, ReadsAll, StopsEarly};
+ghost use Rattle.twkb_body.specs.Devices.PointReader.{IsReady, ReadsAll, StopsEarly, HasLength};
 
 use crate::point_reader::PointReader;
 use crate::varints::take_number;
-use twkb_head::Kind;
+use twkb_head::{Kind, Malformed};
 use twkb_num::Cursor;
 
 /// Reads `count` points, lines or polygons, by the kind. Of a collection it reads nothing. `L` says whether the loop over lines is
@@ -33,11 +36,103 @@ pub fn take_parts<L: LineLoop, R: PointReader>(
     match kind {
         Kind::Point | Kind::MultiPoint => OutOfLine(Run).take(cursor, count, reader),
         Kind::LineString | Kind::MultiLineString => L::take(cursor, count, reader),
-        Kind::Polygon | Kind::MultiPolygon => {
-            let rings = OutOfLine(Prefixed(Run));
-            OutOfLine(Prefixed(rings)).take(cursor, count, reader)
-        }
+        Kind::Polygon | Kind::MultiPolygon => take_polygons(cursor, kind, count, reader),
         Kind::GeometryCollection => Ok(()),
+    }
+}
+
+/// Reads `count` polygons.
+#[inline(always)]
+fn take_polygons<R: PointReader>(
+    cursor: &mut Cursor,
+    kind: Kind,
+    count: u64,
+    reader: &mut R,
+) -> Result<(), R::Fault>
+    requires kind { (kind ≡ Polygon) ⊎ (kind ≡ MultiPolygon) }
+    requires ready { IsReady (R.stands reader.old) R.trusts (λ axes. many_at count ring_sums (part_at kind axes))
+        cursor.old }
+    ensures read { IfOk result (λ done. ReadsAll (λ axes. many_at count ring_sums (part_at kind axes)) points_of R.step
+        R.trusts (R.stands reader.old) (R.stands reader.new) cursor.old cursor.new) }
+    ensures ended { IfErr result (λ fault. StopsEarly (λ axes. many_at count ring_sums (part_at kind axes)) points_of
+        R.step R.trusts (R.stands reader.old) R.ends (R.tells fault) cursor.old cursor.new) }
+    ensures bytes { cursor.new.bytes ≡ cursor.old.bytes }
+{
+    let rings = OutOfLine(Prefixed(Run));
+    OutOfLine(Prefixed(rings)).take(cursor, count, reader)
+}
+
+/// A reader of the parts of a body that is no collection's.
+pub trait PartLoop {
+    /// The kinds and the numbers of parts that it reads.
+    ghost fits: { Kind → ℕ → Type 0 };
+
+    /// Reads `count` parts, by the kind.
+    fn take<R: PointReader>(
+        cursor: &mut Cursor,
+        kind: Kind,
+        count: u64,
+        reader: &mut R,
+    ) -> Result<(), R::Fault>
+        requires fits { fits kind count }
+        requires ready { IsReady (R.stands reader.old) R.trusts (λ axes. many_at count ring_sums (part_at kind axes))
+            cursor.old }
+        ensures read { IfOk result (λ done. ReadsAll (λ axes. many_at count ring_sums (part_at kind axes)) points_of
+            R.step R.trusts (R.stands reader.old) (R.stands reader.new) cursor.old cursor.new) }
+        ensures ended { IfErr result (λ fault. StopsEarly (λ axes. many_at count ring_sums (part_at kind axes))
+            points_of R.step R.trusts (R.stands reader.old) R.ends (R.tells fault) cursor.old cursor.new) }
+        ensures bytes { cursor.new.bytes ≡ cursor.old.bytes };
+}
+
+/// Reads a point, a line or a polygon. A point is a line of one point, so that code which reads points is there once.
+pub struct OnePart;
+
+/// Reads the parts of a list.
+pub struct ManyParts;
+
+impl PartLoop for OnePart {
+    ghost fits = { λ kind count. (is_multi kind ≡ false) × (count ≡ 1) };
+
+    #[inline(always)]
+    fn take<R: PointReader>(
+        cursor: &mut Cursor,
+        kind: Kind,
+        count: u64,
+        reader: &mut R,
+    ) -> Result<(), R::Fault> {
+        match kind {
+            Kind::Polygon => take_polygons(cursor, kind, count, reader),
+            _ => match take_length(cursor, kind) {
+                Ok(points) => reader.take_points(cursor, points),
+                Err(malformed) => Err(R::fault_of(malformed)),
+            },
+        }
+    }
+}
+
+impl PartLoop for ManyParts {
+    ghost fits = { λ kind count. Unit {0} };
+
+    #[inline(always)]
+    fn take<R: PointReader>(
+        cursor: &mut Cursor,
+        kind: Kind,
+        count: u64,
+        reader: &mut R,
+    ) -> Result<(), R::Fault> {
+        take_parts::<LinesInlined, _>(cursor, kind, count, reader)
+    }
+}
+
+/// How many points a point or a line has.
+#[inline(always)]
+fn take_length(cursor: &mut Cursor, kind: Kind) -> Result<u64, Malformed>
+    requires { (kind ≡ Point) ⊎ (kind ≡ LineString) }
+    ensures { HasLength kind cursor.old result cursor.new }
+{
+    match kind {
+        Kind::Point => Ok(1),
+        _ => take_number(cursor),
     }
 }
 

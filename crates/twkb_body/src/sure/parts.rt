@@ -15,7 +15,7 @@ use crate::flat_lanes::{FlatLanes, fits_lanes};
 use crate::further_lanes::{FurtherLanes, fits_further};
 use crate::lane_trail::{LaneReader, LaneTrail};
 use crate::lists::take_list;
-use crate::parts::{LinesCalled, LinesInlined, take_parts};
+use crate::parts::{LinesCalled, PartLoop, take_parts};
 use crate::points::Points;
 use crate::rooms::IdRoom;
 use crate::walk::{Walk, bare_head};
@@ -45,16 +45,17 @@ pub fn take_count<R: IdRoom>(
 
 /// Reads a body of X and Y, whose points the box has to hold.
 #[inline(always)]
-pub fn take_flat_boxed(
+pub fn take_flat_boxed<P: PartLoop>(
     cursor: &mut Cursor,
     kind: Kind,
     count: u64,
     bounds: &RawBox,
 ) -> Result<usize, Doubt>
+    requires fits { P.fits kind count }
     ensures { HoldsOrLeaves kind 2 count bounds.now cursor.old cursor.new result }
 {
     if fits_lanes(bounds) {
-        take_by_lanes(cursor, kind, count, FlatLanes::trail(bounds))
+        take_by_lanes::<P, _>(cursor, kind, count, FlatLanes::trail(bounds))
     } else {
         // A copy, so that the box stays in registers elsewhere.
         let bounds = *bounds;
@@ -64,52 +65,55 @@ pub fn take_flat_boxed(
 
 /// Reads a body of three axes or four, whose points the box has to hold.
 #[inline(always)]
-pub fn take_boxed(
+pub fn take_boxed<P: PartLoop>(
     cursor: &mut Cursor,
     kind: Kind,
     axes: usize,
     count: u64,
     bounds: &RawBox,
 ) -> Result<usize, Doubt>
+    requires fits { P.fits kind count }
     requires further { (axes ≡ 3) ⊎ (axes ≡ 4) }
     ensures { HoldsOrLeaves kind axes count bounds.now cursor.old cursor.new result }
 {
     if axes == 4 {
-        take_further_boxed::<4>(cursor, kind, count, bounds)
+        take_further_boxed::<P, 4>(cursor, kind, count, bounds)
     } else {
         // A copy, so that the box stays in registers elsewhere.
         let bounds = *bounds;
-        take_boxed_in_three(cursor, kind, count, &bounds)
+        take_boxed_in_three::<P>(cursor, kind, count, &bounds)
     }
 }
 
 /// Reads a body of three axes, whose points the box has to hold.
 // Out of line: the compiler inlines nothing into a function that would grow very large, and most bodies have four axes.
 #[inline(never)]
-fn take_boxed_in_three(
+fn take_boxed_in_three<P: PartLoop>(
     cursor: &mut Cursor,
     kind: Kind,
     count: u64,
     bounds: &RawBox,
 ) -> Result<usize, Doubt>
+    requires fits { P.fits kind count }
     ensures { HoldsOrLeaves kind 3 count bounds.now cursor.old cursor.new result }
 {
-    take_further_boxed::<3>(cursor, kind, count, bounds)
+    take_further_boxed::<P, 3>(cursor, kind, count, bounds)
 }
 
 /// Reads the `count` parts of a body of `AXES` axes, whose points the box has to hold.
 #[inline(always)]
-fn take_further_boxed<const AXES: usize>(
+fn take_further_boxed<P: PartLoop, const AXES: usize>(
     cursor: &mut Cursor,
     kind: Kind,
     count: u64,
     bounds: &RawBox,
 ) -> Result<usize, Doubt>
+    requires fits { P.fits kind count }
     requires further { (AXES ≡ 3) ⊎ (AXES ≡ 4) }
     ensures { HoldsOrLeaves kind AXES count bounds.now cursor.old cursor.new result }
 {
     if fits_further::<AXES>(bounds) {
-        take_by_lanes(cursor, kind, count, FurtherLanes::<AXES>::trail(bounds))
+        take_by_lanes::<P, _>(cursor, kind, count, FurtherLanes::<AXES>::trail(bounds))
     } else {
         // A copy, as in `take_boxed`.
         let bounds = *bounds;
@@ -119,18 +123,19 @@ fn take_further_boxed<const AXES: usize>(
 
 /// Reads a body whose points a box has to hold, by a trail of no points yet.
 #[inline(always)]
-fn take_by_lanes<L: LaneReader + Drop>(
+fn take_by_lanes<P: PartLoop, L: LaneReader + Drop>(
     cursor: &mut Cursor,
     kind: Kind,
     count: u64,
     mut trail: LaneTrail<L>,
 ) -> Result<usize, Doubt>
+    requires fits { P.fits kind count }
     requires points { trail.points ≡ 0 }
     requires place { (box : RawBoxOf) × L.place trail.reader box trail.at trail.extent zeros }
     ensures { (box : RawBoxOf) → L.place trail.reader box trail.at trail.extent zeros
         → HoldsOrLeaves kind L.axes count box cursor.old cursor.new result }
 {
-    match take_parts::<LinesInlined, _>(cursor, kind, count, &mut trail) {
+    match P::take(cursor, kind, count, &mut trail) {
         Ok(()) => Ok(trail.points),
         Err(_) => Err(Doubt::REFUSED),
     }

@@ -9,6 +9,7 @@ use super::parts::{take_boxed, take_count, take_flat_boxed};
 use super::unboxed::take_unboxed;
 use crate::doubt::Doubt;
 use crate::frame::Frame;
+use crate::parts::{ManyParts, OnePart, PartLoop};
 use crate::rooms::IdRoom;
 use twkb_head::Kind;
 use twkb_num::Cursor;
@@ -24,7 +25,7 @@ pub fn take_flat_single(
     ensures { (levels : ℕ) (head : HeadOf) → head.kind ≡ kind → IsFlatShape head frame.now
         → CertifiesShape levels head frame.now cursor.old result cursor.new }
 {
-    take_flat_parts(cursor, kind, 1, frame)
+    take_flat_parts::<OnePart>(cursor, kind, 1, frame)
 }
 
 /// Reads the body of a list of points, lines or polygons of X and Y alone.
@@ -40,21 +41,22 @@ pub fn take_flat_list<R: IdRoom>(
         → CertifiesShape levels head frame.now cursor.old result cursor.new }
 {
     let count = take_count(room, cursor, kind, has_ids)?;
-    take_flat_parts(cursor, kind, count, frame)
+    take_flat_parts::<ManyParts>(cursor, kind, count, frame)
 }
 
 /// Reads the `count` parts of a body of X and Y alone.
 #[inline(always)]
-fn take_flat_parts(
+fn take_flat_parts<P: PartLoop>(
     cursor: &mut Cursor,
     kind: Kind,
     count: u64,
     frame: &Option<Frame>,
 ) -> Result<usize, Doubt>
+    requires { P.fits kind count }
     ensures { TakesParts kind 2 count frame.now cursor.old cursor.new result }
 {
     match frame {
-        Some(frame) => take_flat_boxed(cursor, kind, count, &frame.bounds),
+        Some(frame) => take_flat_boxed::<P>(cursor, kind, count, &frame.bounds),
         None => take_unboxed(cursor, kind, 2, count),
     }
 }
@@ -72,7 +74,7 @@ pub fn take_further_single(
     ensures { (levels : ℕ) (head : HeadOf) → head.kind ≡ kind → axes ≡ axes_of (of_head head)
         → IsShapeHead head frame.now → CertifiesShape levels head frame.now cursor.old result cursor.new }
 {
-    take_further_parts(cursor, kind, axes, 1, frame)
+    take_further_parts::<OnePart>(cursor, kind, axes, 1, frame)
 }
 
 /// Reads the body of a list of points, lines or polygons with Z or M.
@@ -90,23 +92,24 @@ pub fn take_further_list<R: IdRoom>(
         → IsShapeHead head frame.now → CertifiesShape levels head frame.now cursor.old result cursor.new }
 {
     let count = take_count(room, cursor, kind, has_ids)?;
-    take_further_parts(cursor, kind, axes, count, frame)
+    take_further_parts::<ManyParts>(cursor, kind, axes, count, frame)
 }
 
 /// Reads the `count` parts of a body with Z or M.
 #[inline(always)]
-fn take_further_parts(
+fn take_further_parts<P: PartLoop>(
     cursor: &mut Cursor,
     kind: Kind,
     axes: usize,
     count: u64,
     frame: &Option<Frame>,
 ) -> Result<usize, Doubt>
-    requires { (axes ≡ 3) ⊎ (axes ≡ 4) }
+    requires fits { P.fits kind count }
+    requires further { (axes ≡ 3) ⊎ (axes ≡ 4) }
     ensures { TakesParts kind axes count frame.now cursor.old cursor.new result }
 {
     match frame {
-        Some(frame) => take_boxed(cursor, kind, axes, count, &frame.bounds),
+        Some(frame) => take_boxed::<P>(cursor, kind, axes, count, &frame.bounds),
         None => take_unboxed(cursor, kind, axes, count),
     }
 }

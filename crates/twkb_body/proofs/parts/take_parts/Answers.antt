@@ -2,7 +2,7 @@
 use Rattle.std.proofs.Common.{[], replicate, sym, subst}
 use Rattle.std.proofs.lemmas.Result.{IfOk-weaker, IfErr-weaker}
 use Rattle.twkb_body.specs.Devices.Walk.{IsWalked}
-use Rattle.twkb_body.proofs.PointReads.{points_are_parts, lines_are_parts, polygons_are_parts, parts_before, parts_read, parts_end, nothing_read, nothing_has}
+use Rattle.twkb_body.proofs.PointReads.{points_are_parts, lines_are_parts, parts_before, parts_read, parts_end, nothing_read, nothing_has}
 use Rattle.twkb_body.proofs.Walks.{walked_none}
 use Rattle.twkb_body.proofs.parts.take_parts.Goals as goal
 
@@ -39,23 +39,6 @@ returns-in-LineString-clause-ended g c = IfErr-weaker c.take-in-LineString.resul
     let are = lines_are_parts c.args.kind c.in-LineString.is in
     parts_end g.R.PointReader.step at g.R.PointReader.ends are (g.R.PointReader.tells fault) c.args.count c.args.cursor.now c.take-in-LineString.new.cursor
     (ended at (parts_before are (g.R.PointReader.stands c.args.reader.now) g.R.PointReader.trusts c.args.count c.args.cursor.now at before))) c.take-in-LineString.ensures.ended
-
-pub take-requires-in-Polygon : goal.take-requires-in-Polygon
-take-requires-in-Polygon g c =
-    let ready = c.requires.ready in
-    record { ready = (ready.0, parts_before (polygons_are_parts c.args.kind c.in-Polygon.is) (g.R.PointReader.stands c.args.reader.now) g.R.PointReader.trusts c.args.count c.args.cursor.now ready.0 ready.1) }
-
-pub returns-in-Polygon-clause-read : goal.returns-in-Polygon-clause-read
-returns-in-Polygon-clause-read g c = IfOk-weaker c.take-in-Polygon.result _ _ (λ done read at before.
-    let are = polygons_are_parts c.args.kind c.in-Polygon.is in
-    parts_read g.R.PointReader.step at (g.R.PointReader.stands c.take-in-Polygon.new.reader) are c.args.count c.args.cursor.now c.take-in-Polygon.new.cursor
-    (read at (parts_before are (g.R.PointReader.stands c.args.reader.now) g.R.PointReader.trusts c.args.count c.args.cursor.now at before))) c.take-in-Polygon.ensures.read
-
-pub returns-in-Polygon-clause-ended : goal.returns-in-Polygon-clause-ended
-returns-in-Polygon-clause-ended g c = IfErr-weaker c.take-in-Polygon.result _ _ (λ fault ended at before.
-    let are = polygons_are_parts c.args.kind c.in-Polygon.is in
-    parts_end g.R.PointReader.step at g.R.PointReader.ends are (g.R.PointReader.tells fault) c.args.count c.args.cursor.now c.take-in-Polygon.new.cursor
-    (ended at (parts_before are (g.R.PointReader.stands c.args.reader.now) g.R.PointReader.trusts c.args.count c.args.cursor.now at before))) c.take-in-Polygon.ensures.ended
 
 pub returns-in-GeometryCollection-clause-read : goal.returns-in-GeometryCollection-clause-read
 returns-in-GeometryCollection-clause-read g c at before = rw c.in-GeometryCollection.is (record {
