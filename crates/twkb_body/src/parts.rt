@@ -1,6 +1,6 @@
 //! The parts of a body: points, lines and polygons. All are read here, each by a [`PointReader`]: the exact audit reads them by a
 //! `Walk`, a skim by a `CertifiedWalk`, and the first reading by a `LaneTrail` or a `Walk`.
-//! Used by `shape` and `sure/parts`.
+//! Used by `shape`, `sure/parts` and `sure/shapes`.
 ghost use Rattle.std.specs.Prelude.{◌≡◌, ◌⊎◌, ℕ, List, flat_map, false, IfOk, IfErr};
 ghost use Rattle.twkb_head.specs.declared.kinds.Kind.{Kind};
 ghost use Rattle.twkb_head.specs.declared.kinds.Kind.TheVariants.{Point, LineString, Polygon, MultiPolygon};
