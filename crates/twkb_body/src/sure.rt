@@ -1,17 +1,14 @@
 //! The first reading of a blob, which certifies it or ends in a doubt. It hands down the innermost box, and hands up the number of
 //! vertices. Used by `auditing`.
 ghost use Rattle.std.specs.Prelude.{◌≡◌, ◌≤◌, ◌⊎◌, ◌+◌, ◌-◌, bit_and, true, false, Option, None, Some, IfSome, IfOk, Ok, option_map};
-ghost use Rattle.twkb_num.specs.Cursor.{Reading};
-ghost use Rattle.twkb_num.specs.Units.{IsPrecision};
 ghost use Rattle.twkb_head.specs.BegunHeader.{deepest, is_collection, IsAllowedAt};
-ghost use Rattle.twkb_head.specs.Header.{axes_of, has_bit};
-ghost use Rattle.twkb_head.specs.Raw.{HavePrecisions, boxless};
+ghost use Rattle.twkb_head.specs.Header.{axes_of};
+ghost use Rattle.twkb_head.specs.Raw.{boxless};
 ghost use Rattle.twkb_head.specs.declared.raw.Fields.{Fields as FieldsOf};
 ghost use Rattle.twkb_head.specs.declared.header.Head.{Head as HeadOf};
-ghost use Rattle.twkb_head.specs.declared.kinds.Kind.TheVariants.{Point, LineString};
 ghost use Rattle.twkb_body.specs.declared.frame.Frame.{Frame as FrameOf};
 ghost use Rattle.twkb_body.specs.Devices.Inside.{of_head};
-ghost use Rattle.twkb_body.specs.Devices.Sure.{counted_in, framed, has_further, IsFrameUnder, IsFramed, IsFrame, IsJudged, HasReadTwo, HasBegun, HasHead, Certifies, CertifiesAfterTwo, CertifiesAfterHead, CertifiesBody};
+ghost use Rattle.twkb_body.specs.Devices.Sure.{counted_in, framed, has_further, IsFrameUnder, IsFramed, IsFrame, HasBegun, HasHead, Certifies, CertifiesAfterTwo, CertifiesAfterHead, CertifiesBody};
 
 mod announced;
 mod apart;
@@ -32,7 +29,7 @@ use crate::doubt::Doubt;
 use crate::frame::{Frame, further_frame};
 use crate::lists::take_list;
 use crate::rooms::IdRoom;
-use twkb_head::{BoxCalled, BoxInlined, Fields, Head, Kind, begun_as, begun_by, take_rest};
+use twkb_head::{BoxCalled, BoxInlined, Head, Kind, begun_as, begun_by, take_rest};
 use twkb_num::Cursor;
 
 /// Reads the blob at the place, and returns how many vertices it has and where it ends. A doubt says that it isn't certified,
