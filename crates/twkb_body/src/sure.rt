@@ -22,7 +22,7 @@ mod unboxed;
 use self::announced::{BOX, FLAT_BOX_BITS, FURTHER_BOX, NO_FIELD, with_bits};
 use self::apart::{take_flat_apart, take_further_apart};
 use self::empty::take_empty;
-use self::plain::{pass_point, take_plain};
+use self::plain::take_plain;
 use self::shapes::{take_flat_list, take_flat_single, take_further_list, take_further_single};
 use self::sizes::judged;
 use crate::doubt::Doubt;
@@ -39,10 +39,6 @@ pub fn take_blob<R: IdRoom>(room: &mut R, cursor: &mut Cursor) -> Result<(usize,
     ensures certified { Certifies 1 None cursor.old (counted_in result) cursor.new }
     ensures stop { IfOk result (λ both. both.1 ≡ cursor.new.place) }
 {
-    if let Some(vertices) = pass_point(cursor) {
-        // As after other geometries (`judged`), the place is computed from the size, if there is one.
-        return Ok((vertices, cursor.place()));
-    }
     cursor.place_is_within();
     let Some((first, metadata)) = cursor.two_bytes() else {
         return Err(Doubt::REFUSED);

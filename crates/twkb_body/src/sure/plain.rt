@@ -1,5 +1,5 @@
 //! Blobs that are points or lines of X and Y without a box, in the first reading. Used by `sure`.
-ghost use Rattle.std.specs.Prelude.{◌≡◌, ◌⊎◌, None, IfNone, IfSome, Ok};
+ghost use Rattle.std.specs.Prelude.{◌≡◌, ◌⊎◌, None};
 ghost use Rattle.twkb_num.specs.Cursor.{Reading, IsSound};
 ghost use Rattle.twkb_head.specs.Raw.{BeginsHead};
 ghost use Rattle.twkb_head.specs.declared.kinds.Kind.TheVariants.{Point, LineString};
@@ -10,18 +10,6 @@ use super::unboxed::take_bare;
 use crate::doubt::Doubt;
 use twkb_head::{Begun, BoxCalled, take_rest};
 use twkb_num::Cursor;
-
-/// Moves past the blob at the place, if [`Cursor::pass_short_point`] does, and returns 1, its number of vertices. Otherwise it
-/// returns `None`, and the cursor is as it was.
-#[inline(always)]
-pub fn pass_point(cursor: &mut Cursor) -> Option<usize>
-    ensures some { IfSome result (λ vertices. Certifies 1 None cursor.old (Ok vertices) cursor.new) }
-    ensures none { IfNone result (cursor.new ≡ cursor.old) }
-{
-    cursor.place_is_within();
-    cursor.pass_short_point()?;
-    Some(1)
-}
 
 /// Reads a point or a line of X and Y without a box, after its first two bytes.
 #[inline(always)]

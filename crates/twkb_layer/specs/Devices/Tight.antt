@@ -1,6 +1,7 @@
 -- Devices of proofs: nothing public names them.
 -- What the code that certifies layers says, by a flag for tight checking.
-use Rattle.std.specs.Prelude.{◌≡◌, ℕ, Bool, true, false, List, length}
+use Rattle.std.specs.Prelude.{◌≡◌, ◌+◌, ℕ, Bool, true, false, List, length, take}
+use Rattle.twkb_num.specs.Cursor.{Reading}
 use Rattle.twkb_body.specs.Geometry.{Geometry}
 use Rattle.twkb_layer.specs.Layer.{IsCertifiedLayer, IsCounted, vertex_count}
 use Rattle.twkb_layer.specs.Refusal.{NamesKind}
@@ -22,6 +23,12 @@ IsLayerBy true trees bytes = IsTightLayer trees bytes
 abbrev pub IsCountedBy : Bool → List ℕ → ℕ → ℕ → Type 0
 IsCountedBy false bytes blobs vertices = IsCounted bytes blobs vertices
 IsCountedBy true bytes blobs vertices = IsTightlyCounted bytes blobs vertices
+
+-- the bytes between two readings extend a certified layer before them by this many blobs, which have this many vertices
+abbrev pub AddsBlobs : Bool → ℕ → ℕ → Reading → Reading → Type 0
+AddsBlobs tight more added old new = (bytes : List ℕ) (blobs vertices : ℕ) → old.bytes ≡ bytes
+    → IsCountedBy tight (take old.place bytes) blobs vertices
+    → IsCountedBy tight (take new.place bytes) (blobs + more) (vertices + added)
 
 abbrev pub NamesKindBy : Bool → Refusal → Type 0
 NamesKindBy false refusal = NamesKind 8 refusal

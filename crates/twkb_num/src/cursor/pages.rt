@@ -50,7 +50,8 @@ impl Prefetch {
     {
         if self.due <= cursor.place() {
             if cursor.place() < self.due.wrapping_add(PAGES * PAGE) {
-                cursor.touch_pages();
+                // The compiler would leave out reads whose results aren't used.
+                cursor.touched = touched(&cursor.bytes[cursor.place..]);
                 self.due = cursor.place().wrapping_add((PAGES - 1) * PAGE);
             } else {
                 *self = Prefetch::new(cursor);
@@ -59,18 +60,13 @@ impl Prefetch {
     }
 }
 
-impl<'a> Cursor<'a> {
-    // Reads the byte at the place and one of each page after it, up to the last of sixteen or the last whole page.
-    #[inline(never)]
-    fn touch_pages(&mut self)
-        ensures { self.new ≡ self.old }
-    {
-        let ahead = &self.bytes[self.place..];
-        let mut bits = 0;
-        for page in 0..PAGES.min(ahead.len() / PAGE) {
-            bits |= ahead[page * PAGE];
-        }
-        // The compiler would leave out reads whose results aren't used.
-        self.touched = bits;
+/// Reads the first byte and one of each page after it, up to the last of sixteen or the last whole page. It returns bits of them.
+// It isn't handed the cursor, so that the place of a cursor whose functions are inlined stays in a register.
+#[inline(never)]
+fn touched(ahead: &[u8]) -> u8 {
+    let mut bits = 0;
+    for page in 0..PAGES.min(ahead.len() / PAGE) {
+        bits |= ahead[page * PAGE];
     }
+    bits
 }
