@@ -15,7 +15,7 @@ use Rattle.twkb_head.specs.declared.read.Begun.{Begun}
 use Rattle.twkb_head.specs.Raw.{HavePrecisions, raw_bounds, BeginsHead, ReadsHead}
 use Rattle.twkb_head.specs.Header.{Header, has_bit}
 use Rattle.twkb_head.specs.Holds.{Holds}
-use Rattle.twkb_head.specs.Shared.Reader.{many_at, Fails}
+use Rattle.twkb_head.specs.Shared.Reader.{Fails}
 use Rattle.twkb_head.specs.declared.refusal.Malformed.{Malformed}
 use Rattle.twkb_body.specs.declared.trail.Trail.{Trail}
 use Rattle.twkb_body.specs.declared.found.Found.{Found}
@@ -29,8 +29,8 @@ use Rattle.twkb_body.specs.Audited.{HasLongList}
 use Rattle.twkb_body.specs.declared.doubt.Doubt.{Doubt}
 use Rattle.twkb_body.specs.Devices.BoxTest.{Held, held_then}
 use Rattle.twkb_body.specs.Devices.Bare.{unchanged}
-use Rattle.twkb_body.specs.Devices.Body.{Body, ListHead, ring_sums, zeros}
-use Rattle.twkb_body.specs.Devices.BodyReader.{part_at, count_at, geometry_at}
+use Rattle.twkb_body.specs.Devices.Body.{Body, ListHead, zeros}
+use Rattle.twkb_body.specs.Devices.BodyReader.{count_at, geometry_at, many_parts_at}
 use Rattle.twkb_body.specs.Extent.{reach_of}
 use Rattle.twkb_body.specs.Devices.Found.{size_judged, IsFound}
 use Rattle.twkb_body.specs.declared.stopped.Stopped.{Stopped}
@@ -54,14 +54,14 @@ pub record ReadParts {S : Type 0} (step : S → PointValue → S) (kind : Kind) 
     (old new : Reading) (state state' : S) (vertices : ℕ) : Type 0 where
   pub parts : List PolygonValue
   pub after : Trail
-  pub read : many_at count ring_sums (part_at kind axes) zeros old ≡ (Ok parts, new)
+  pub read : many_parts_at kind count axes zeros old ≡ (Ok parts, new)
   pub walked : IsWalked step axes no_points after state state' old.place new.place (points_of parts)
   pub vertices_are : vertices ≡ after.points
 
 -- the parts can't be read
 abbrev pub AreMalformed : Kind → ℕ → ℕ → Reading → Reading → Type 0
 AreMalformed kind axes count old new =
-    (m : Malformed) × Fails (many_at count ring_sums (part_at kind axes) zeros old) m new
+    (m : Malformed) × Fails (many_parts_at kind count axes zeros old) m new
 
 -- The parts were read, and the box holds all their points.
 abbrev pub AreHeld : Kind → ℕ → ℕ → RawBox → Reading → Reading → ℕ → Type 0
