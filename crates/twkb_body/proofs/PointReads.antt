@@ -107,6 +107,7 @@ polygons_are_parts kind is = record {
 
 -- ---- reading values that are parts is reading the parts
 module _ {A S : Type 0} {kind : Kind} {f : A → PolygonValue} {after : PointValue → A → PointValue} {each : ℕ → PointValue → Reader A} {points_in : List A → List PointValue} (are : AreParts kind f after each points_in) (count : ℕ) where
+  -- parts that can be read are made of values that can be read
   values_in : (at : Stage S) (from stop : Reading) (parts : List PolygonValue) → many_parts_at kind count at.axes at.trail.last from ≡ (Ok parts, stop) → (xs : List A) × (many_at count after (each at.axes) at.trail.last from ≡ (Ok xs, stop)) × (map f xs ≡ parts)
   values_in at from stop parts e = viewed_back (map f) (many_at count after (each at.axes) at.trail.last from) parts stop ((λ j. are.read at.axes count j at.trail.last from) ∙ e)
 
