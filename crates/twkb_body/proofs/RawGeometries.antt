@@ -80,7 +80,7 @@ pub flat_ends : (plain : Head) (raw : Fields) (depth : ℕ) (r mid : Reading) �
 flat_ends plain raw depth r mid same at moved stop le = subst (λ (h : Head). IfSome h.size (λ size. size.after ≤ stop)) (sym same) (head_size r mid (head_said raw) depth at moved stop le)
 
 -- what the header that was read says of its kind and of its size field
-module _ {depth : ℕ} {above : Option Frame} {raw : Fields} {mid : Reading} (head : HasHead depth above raw mid) (plain : Head) (same : plain ≡ boxless raw) where
+module _ {depth : ℕ} {above : Option Frame} {raw : Fields} {mid : Reading} {plain : Head} (head : HasHead depth above raw mid) (same : plain ≡ boxless raw) where
   pub kind_allowed : IsAllowedAt plain.kind depth
   kind_allowed = let at = head.read.2.0 in subst (λ (h : Head). IsAllowedAt h.kind depth) (sym (same ∙ ap (λ (h : Head). record h { bounds = None }) at.fields)) at.allowed
 
@@ -95,8 +95,8 @@ module _ {depth : ℕ} {above : Option Frame} {raw : Fields} {mid : Reading} (he
   after_doubts d doubt before sound read = behind_doubts raw depth above before mid head.shallowest head.deepest sound read.0 read.1 d new doubt
 
   -- if it is sure, the size decides
-  pub after_certifies : (plain : Head) (vertices : ℕ) (result : Result ℕ Doubt) → plain ≡ boxless raw → IsSureBehind (deepest - depth) (head_said raw) above mid new vertices → IsJudged plain new.place vertices result → CertifiesAfterHead depth above raw mid result new
-  after_certifies plain vertices result same sure judged before sound read = apart_certifies raw depth above before mid head.shallowest head.deepest sound read.0 read.1 plain same new vertices result sure judged
+  pub after_certifies : {plain : Head} (vertices : ℕ) (result : Result ℕ Doubt) → plain ≡ boxless raw → IsSureBehind (deepest - depth) (head_said raw) above mid new vertices → IsJudged plain new.place vertices result → CertifiesAfterHead depth above raw mid result new
+  after_certifies {plain} vertices result same sure judged before sound read = apart_certifies raw depth above before mid head.shallowest head.deepest sound read.0 read.1 plain same new vertices result sure judged
 
 -- the precision of X and Y goes through eight bits unchanged
 plain_xy : (raw : Fields) (plain : Head) → IsPrecision raw.axes.xy → plain ≡ boxless raw → to_z w8 (of_z w8 plain.xy) ≡ plain.xy
@@ -127,11 +127,11 @@ apart_there None = refl
 apart_there (Some b) = refl
 
 -- the header of a geometry in X and Y, whose box is handed over by its two ranges
-pub flat_apart : (raw : Fields) (plain : Head) (has_box : Bool) (x y : RawRange) → IsPrecision raw.axes.xy → plain ≡ boxless raw → (raw.axes.z ≡ None) × (raw.axes.m ≡ None) → raw.empty ≡ false
+pub flat_apart : {depth : ℕ} {above : Option Frame} {raw : Fields} {mid : Reading} {plain : Head} {has_box : Bool} (x y : RawRange) → HasHead depth above raw mid → IsPrecision raw.axes.xy → plain ≡ boxless raw → (raw.axes.z ≡ None) × (raw.axes.m ≡ None)
     → has_box ≡ is_some raw.bounds → IfSome raw.bounds (λ b. (x ≡ b.x) × (y ≡ b.y))
     → (box : Option RawBox) × (is_some box ≡ has_box) × IfSome box (λ box. box ≡ flat_box x y) × IsApart (head_said raw) plain.kind (to_z w8 (of_z w8 plain.xy)) None None plain.ids box
-flat_apart raw plain has_box x y precise same flat full there ranges =
-    (option_map (λ b. flat_box b.x b.y) raw.bounds, apart_there raw.bounds ∙ sym there, apart_box raw.bounds x y ranges, apart_flat raw plain _ (plain_xy raw plain precise same) same flat full)
+flat_apart {raw = raw} {plain = plain} x y head precise same flat there ranges =
+    (option_map (λ b. flat_box b.x b.y) raw.bounds, apart_there raw.bounds ∙ sym there, apart_box raw.bounds x y ranges, apart_flat raw plain _ (plain_xy raw plain precise same) same flat head.full)
 
 -- the header of a geometry in any axes, with or without a box
 apart_any : (raw : Fields) (plain : Head) (xy : ℤ) → xy ≡ plain.xy → plain ≡ boxless raw → raw.empty ≡ false → IsApart (head_said raw) plain.kind xy plain.z plain.m plain.ids raw.bounds
@@ -147,8 +147,8 @@ apart_any raw plain xy xy_is same full = record {
     go (Some b) = ap (λ (h : Head). Some (raw_bounds h.xy h.z h.m b)) (sym same) ∙ ap (λ (p : ℤ). Some (raw_bounds p plain.z plain.m b)) (sym xy_is)
 
 -- the header of a geometry in any axes, as it is handed over
-pub any_apart : (raw : Fields) (plain : Head) → IsPrecision raw.axes.xy → plain ≡ boxless raw → raw.empty ≡ false → IsApart (head_said raw) plain.kind (to_z w8 (of_z w8 plain.xy)) plain.z plain.m plain.ids raw.bounds
-any_apart raw plain precise same full = apart_any raw plain _ (plain_xy raw plain precise same) same full
+pub any_apart : {depth : ℕ} {above : Option Frame} {raw : Fields} {mid : Reading} {plain : Head} → HasHead depth above raw mid → IsPrecision raw.axes.xy → plain ≡ boxless raw → IsApart (head_said raw) plain.kind (to_z w8 (of_z w8 plain.xy)) plain.z plain.m plain.ids raw.bounds
+any_apart {raw = raw} {plain = plain} head precise same = apart_any raw plain _ (plain_xy raw plain precise same) same head.full
 
 -- ---- a geometry whose first two bytes were read
 -- the header that begins with two bytes, from wherever they were read
@@ -197,16 +197,16 @@ module _ {depth : ℕ} {above : Option Frame} {first metadata : ℕ} {now : Read
   header_certifies result stop certifies before two = certifies before two.sound (head.read before two)
 
   -- the header without its box, and a frame that has its precisions
-  pub header_framed : (further : Bool) (plain : Head) {frame : Option Frame} → raw.empty ≡ false → plain ≡ boxless raw → has_further plain.z plain.m ≡ further → IfSome frame (IsFramed plain) → HasFramedHead depth further plain frame new
-  header_framed further plain full same axes framed = let h = header_read full in record {
-    body = record { shallowest = h.shallowest; allowed = kind_allowed h plain same; full = ap (λ (h : Head). h.empty) same ∙ full; axes = axes; framed = framed };
+  pub header_framed : {further : Bool} {plain : Head} {frame : Option Frame} → raw.empty ≡ false → plain ≡ boxless raw → has_further plain.z plain.m ≡ further → IfSome frame (IsFramed plain) → HasFramedHead depth further plain frame new
+  header_framed full same axes framed = let h = header_read full in record {
+    body = record { shallowest = h.shallowest; allowed = kind_allowed h same; full = ap (λ (h : Head). h.empty) same ∙ full; axes = axes; framed = framed };
     deepest = h.deepest;
-    ahead = size_ahead h plain same new.place (omega arith);
+    ahead = size_ahead h same new.place (omega arith);
   }
 
 -- without Z and M in the header there are none in the header without its box
-pub no_further : (raw : Fields) (plain : Head) → plain ≡ boxless raw → (raw.axes.z ≡ None) × (raw.axes.m ≡ None) → has_further plain.z plain.m ≡ false
-no_further raw plain same flat = ap (λ (h : Head). has_further h.z h.m) same ∙ (λ j. has_further (flat.0 j) (flat.1 j))
+pub no_further : (raw : Fields) {plain : Head} → plain ≡ boxless raw → (raw.axes.z ≡ None) × (raw.axes.m ≡ None) → has_further plain.z plain.m ≡ false
+no_further raw same flat = ap (λ (h : Head). has_further h.z h.m) same ∙ (λ j. has_further (flat.0 j) (flat.1 j))
 
 -- ---- a geometry whose header was read, and that has a frame
 module _ {depth : ℕ} {further : Bool} {head : Head} {frame : Option Frame} {now : Reading} (ready : HasFramedHead depth further head frame now) (new : Reading) where

@@ -1,5 +1,5 @@
 -- The first reading of a geometry and of members, each by the other: what it certifies, and what it refutes.
-use Rattle.std.proofs.Common.{rules, ◌≡◌, ◌+◌, ◌-◌, ℕ, suc, Bool, true, false, Option, None, option_map, Ok, refl, sym, ap, subst, ◌∙◌, arith}
+use Rattle.std.proofs.Common.{rules, ◌≡◌, ◌+◌, ◌-◌, ℕ, suc, Bool, false, Option, None, option_map, Ok, refl, sym, ap, subst, ◌∙◌, arith}
 use Rattle.std.specs.Prelude.{◌<◌, bit_and}
 use Rattle.std.proofs.lemmas.Result.{err_from_is_err_and}
 use Rattle.twkb_num.specs.Cursor.{Reading, rest}
@@ -186,7 +186,7 @@ take_flat-returns-in_default-under g t c = header_certifies (rest_read c.in-Ok.r
 
 pub take_flat-take_flat_framed-requires : goal.take_flat-take_flat_framed-requires
 take_flat-take_flat_framed-requires g t c κs within =
-    let ready = header_framed (rest_read c.in-Ok.raw c.requires.begun (bits_begin c.in-Some.ensures.some c.with_bits.ensures.announcing) c.in-Ok.ensures.read) false c.boxless-head.result (c.in-Ok.ensures.empty ∙ full_bits c.with_bits.result.metadata 0 (omega arith) c.with_bits.ensures.bits) c.boxless-head.ensures (no_further c.in-Ok.raw c.boxless-head.result c.boxless-head.ensures (c.in-Ok.ensures.flat (flat_bits c.with_bits.result.metadata 0 (omega arith) c.with_bits.ensures.bits))) c.in-Some-under.ensures.framed in
+    let ready = header_framed (rest_read c.in-Ok.raw c.requires.begun (bits_begin c.in-Some.ensures.some c.with_bits.ensures.announcing) c.in-Ok.ensures.read) (c.in-Ok.ensures.empty ∙ full_bits c.with_bits.result.metadata 0 (omega arith) c.with_bits.ensures.bits) c.boxless-head.ensures (no_further c.in-Ok.raw c.boxless-head.ensures (c.in-Ok.ensures.flat (flat_bits c.with_bits.result.metadata 0 (omega arith) c.with_bits.ensures.bits))) c.in-Some-under.ensures.framed in
     search rules
 
 pub take_flat-returns : goal.take_flat-returns
@@ -206,7 +206,7 @@ take_with_box-returns-in_default-under g t c = header_certifies (rest_read c.in-
 
 pub take_with_box-take_flat_framed-requires : goal.take_with_box-take_flat_framed-requires
 take_with_box-take_flat_framed-requires g t c κs within =
-    let ready = header_framed (rest_read c.in-Ok.raw c.requires.begun (bits_begin c.in-Some.ensures.some c.with_bits.ensures.announcing) c.in-Ok.ensures.read) false c.boxless-head.result (c.in-Ok.ensures.empty ∙ full_bits c.with_bits.result.metadata 1 (omega arith) c.with_bits.ensures.bits) c.boxless-head.ensures (no_further c.in-Ok.raw c.boxless-head.result c.boxless-head.ensures (c.in-Ok.ensures.flat (flat_bits c.with_bits.result.metadata 1 (omega arith) c.with_bits.ensures.bits))) c.in-Some-under.ensures.framed in
+    let ready = header_framed (rest_read c.in-Ok.raw c.requires.begun (bits_begin c.in-Some.ensures.some c.with_bits.ensures.announcing) c.in-Ok.ensures.read) (c.in-Ok.ensures.empty ∙ full_bits c.with_bits.result.metadata 1 (omega arith) c.with_bits.ensures.bits) c.boxless-head.ensures (no_further c.in-Ok.raw c.boxless-head.ensures (c.in-Ok.ensures.flat (flat_bits c.with_bits.result.metadata 1 (omega arith) c.with_bits.ensures.bits))) c.in-Some-under.ensures.framed in
     search rules
 
 pub take_with_box-returns : goal.take_with_box-returns
@@ -229,7 +229,7 @@ take_further-returns-in_default-further_frame g t c = header_certifies (rest_rea
 
 pub take_further-take_further_framed-requires : goal.take_further-take_further_framed-requires
 take_further-take_further_framed-requires g t c κs within =
-    let ready = header_framed (rest_read c.in-Ok.raw c.requires c.in-Some.ensures.some c.in-Ok.ensures.read) true c.boxless-head.result (c.in-Ok.ensures.empty ∙ sym c.is_empty.ensures ∙ c.if-is_empty.false) c.boxless-head.ensures c.in-Some-further_frame.ensures.further c.in-Some-further_frame.ensures.frame.framed in
+    let ready = header_framed (rest_read c.in-Ok.raw c.requires c.in-Some.ensures.some c.in-Ok.ensures.read) (c.in-Ok.ensures.empty ∙ sym c.is_empty.ensures ∙ c.if-is_empty.false) c.boxless-head.ensures c.in-Some-further_frame.ensures.further c.in-Some-further_frame.ensures.frame.framed in
     search rules
 
 pub take_further-returns : goal.take_further-returns
@@ -243,7 +243,7 @@ take_with_further_box-returns-in_default-further_frame g t c = header_certifies 
 
 pub take_with_further_box-take_further_framed-requires : goal.take_with_further_box-take_further_framed-requires
 take_with_further_box-take_further_framed-requires g t c κs within =
-    let ready = header_framed (rest_read c.in-Ok.raw c.requires.begun (bits_begin c.in-Some.ensures.some c.with_bits.ensures.announcing) c.in-Ok.ensures.read) true c.boxless-head.result (c.in-Ok.ensures.empty ∙ full_bits c.with_bits.result.metadata 9 (omega arith) c.with_bits.ensures.bits) c.boxless-head.ensures c.in-Some-further_frame.ensures.further c.in-Some-further_frame.ensures.frame.framed in
+    let ready = header_framed (rest_read c.in-Ok.raw c.requires.begun (bits_begin c.in-Some.ensures.some c.with_bits.ensures.announcing) c.in-Ok.ensures.read) (c.in-Ok.ensures.empty ∙ full_bits c.with_bits.result.metadata 9 (omega arith) c.with_bits.ensures.bits) c.boxless-head.ensures c.in-Some-further_frame.ensures.further c.in-Some-further_frame.ensures.frame.framed in
     search rules
 
 pub take_with_further_box-returns : goal.take_with_further_box-returns
