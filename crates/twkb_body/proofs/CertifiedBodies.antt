@@ -6,15 +6,15 @@ use Rattle.twkb_head.specs.declared.header.Head.{Head}
 use Rattle.twkb_head.specs.declared.kinds.Kind.{Kind}
 use Rattle.twkb_head.specs.BegunHeader.{deepest, is_collection}
 use Rattle.twkb_head.specs.Header.{axes_of, axes_with, is_multi}
-use Rattle.twkb_head.specs.Shared.Reader.{many_at, Fails}
+use Rattle.twkb_head.specs.Shared.Reader.{Fails}
 use Rattle.twkb_body.specs.declared.frame.Frame.{Frame}
 use Rattle.twkb_body.specs.Geometry.{PointValue}
 use Rattle.twkb_body.specs.declared.doubt.Doubt.{Doubt}
 use Rattle.twkb_body.specs.declared.stopped.Stopped.{Stopped}
 use Rattle.twkb_body.specs.declared.stopped.Stopped.TheVariants.{Malformed as BadField, Memory as NoMemory}
 use Rattle.twkb_body.specs.Devices.Stops.{HasStopped, WantsIn, WantsInside, WantsBehind}
-use Rattle.twkb_body.specs.Devices.Body.{zeros, ring_sums}
-use Rattle.twkb_body.specs.Devices.BodyReader.{list_at, count_at, part_at}
+use Rattle.twkb_body.specs.Devices.Body.{zeros}
+use Rattle.twkb_body.specs.Devices.BodyReader.{list_at, count_at, many_parts_at}
 use Rattle.twkb_body.specs.Devices.BoxTest.{held_then}
 use Rattle.twkb_body.specs.Devices.IdLists.{HasManyIdsAfterCount}
 use Rattle.twkb_body.specs.Devices.Inside.{of_head}
@@ -85,7 +85,7 @@ adds_parts step kind ids axes count old mid new s t vertices (list, listed, foun
   after = parts.after;
   counted = listed;
   found = record { count = refl; lengths = found.lengths; refused = found.refused };
-  read = ap (λ (n : ℕ). many_at n ring_sums (part_at kind axes) zeros mid) (sym found.count) ∙ parts.read;
+  read = ap (λ (n : ℕ). many_parts_at kind n axes zeros mid) (sym found.count) ∙ parts.read;
   walked = parts.walked;
   vertices_are = parts.vertices_are;
 }
@@ -98,7 +98,7 @@ module _ (head : Head) (levels axes count : ℕ) (old mid new : Reading) (full :
 
   -- the bytes stay as they are if the parts can't be read
   pub malformed_keeps : AreMalformed head.kind axes count mid new → new.bytes ≡ old.bytes
-  malformed_keeps bad = failure_keeps (many_at count ring_sums (part_at head.kind axes) zeros) mid new bad.0 (keeps_parts head.kind axes count zeros) bad.1 ∙ counted_keeps
+  malformed_keeps bad = failure_keeps (many_parts_at head.kind count axes zeros) mid new bad.0 (keeps_parts head.kind axes count zeros) bad.1 ∙ counted_keeps
 
   -- a body is refuted if its parts can't be read
   malformed_refutes : (frame : Option Frame) → AreMalformed head.kind axes count mid new → IsRefutedBody levels head frame old

@@ -12,7 +12,6 @@ use Rattle.twkb_body.specs.Devices.BodyReader.{point_at}
 use Rattle.twkb_body.specs.Devices.Inside.{of_head}
 use Rattle.twkb_body.specs.Devices.PointReader.{Stage, IsBefore, HasRead, IsWalkingOn, points_at}
 use Rattle.twkb_body.specs.Devices.Walk.{IsWalk, IsWalked, IsRun, IsStill, lasts_from}
-use Rattle.twkb_body.proofs.Keeping.{keeps_points, read_keeps}
 use Rattle.twkb_body.proofs.Runs.{run_none}
 use Rattle.twkb_body.proofs.Settling.{ArePassed, axes_some, run_next, run_passed, run_rest, run_then}
 use Rattle.twkb_body.proofs.WalkReads.{beside, fold_beside, walked_beside, walked_apart}
@@ -103,10 +102,6 @@ module _ {S : Type 0} (step : Header → S → PointValue → S) (head : Head) (
         let some : 1 ≤ axes = omega (arith, before.there.axes_are, axes_some head.z head.m) in
         let (after, run) = run_passed (step (of_head head)) axes count i at.trail h.last state t from r new stop points some le e still passes h.run in
         all_shown true now after t new (λ keeps. absurd (cc (keeps))) (λ is. still) run
-
-    -- what is read is of the bytes before
-    pub read_same_bytes : (stands : Stage ((Header × GName) × S) → Type 0) (new : Reading) → HasRead (points_at count at.axes) (λ points. points) (beside (λ h. step h.0)) stands at from new → new.bytes ≡ from.bytes
-    read_same_bytes stands new read = read_keeps (points_at count at.axes at.trail.last) from new read.value (keeps_points at.axes count at.trail.last) read.read
 
 -- what a walk has shown of a value that was read, by the reference to its visitor that it began with
 pub walk_shown : {A S : Type 0} (step : Header → S → PointValue → S) (each : PointValue → Reader A) (points_in : A → List PointValue) (h : Header) (name : GName) (axes : ℕ) (old : Trail) (s : S)

@@ -7,13 +7,12 @@ use Rattle.twkb_head.specs.declared.kinds.Kind.{Kind}
 use Rattle.twkb_head.specs.declared.raw.RawBox.{RawBox}
 use Rattle.twkb_head.specs.BegunHeader.{is_collection}
 use Rattle.twkb_head.specs.Header.{axes_of, is_multi}
-use Rattle.twkb_head.specs.Shared.Reader.{Reader, many_at}
+use Rattle.twkb_head.specs.Shared.Reader.{Reader}
 use Rattle.twkb_body.specs.declared.doubt.Doubt.{Doubt}
 use Rattle.twkb_body.specs.declared.frame.Frame.{Frame}
 use Rattle.twkb_body.specs.Geometry.{PointValue, PolygonValue, points_of}
 use Rattle.twkb_body.specs.Devices.BoxTest.{Held, held_then}
-use Rattle.twkb_body.specs.Devices.Body.{ring_sums, zeros}
-use Rattle.twkb_body.specs.Devices.BodyReader.{part_at}
+use Rattle.twkb_body.specs.Devices.Body.{zeros}
 use Rattle.twkb_body.specs.Devices.IdLists.{HasManyIdsAfterCount}
 use Rattle.twkb_body.specs.Devices.Inside.{of_head}
 use Rattle.twkb_body.specs.Devices.LaneTrail.{holding, StandsInLanes, LeaveBox}
@@ -21,6 +20,7 @@ use Rattle.twkb_body.specs.Devices.PerAxis.{is_four, axes_by}
 use Rattle.twkb_body.specs.Devices.PointReader.{Stage, HasRead}
 use Rattle.twkb_body.specs.Devices.Walk.{no_points}
 use Rattle.twkb_body.specs.Devices.Sure.{framed, IsCounted, AreHeld, HoldsOrLeaves, IsRefutedBody, IsShapeHead, TakesParts, CertifiesShape}
+use Rattle.twkb_body.specs.Devices.BodyReader.{many_parts_at}
 use Rattle.twkb_body.proofs.PointAxes.{parts_have}
 use Rattle.twkb_body.proofs.CertifiedBodies.{counted_keeps, held_sure, unboxed_certifies}
 use Rattle.twkb_body.proofs.RefutedBodies.{points_refute}
@@ -31,7 +31,7 @@ module _ (kind : Kind) (axes count : ℕ) (box : RawBox) (old new : Reading) whe
   start = record { axes = axes; trail = no_points; state = holding box }
 
   abbrev parts_at : PointValue → Reader (List PolygonValue)
-  parts_at = many_at count ring_sums (part_at kind axes)
+  parts_at = many_parts_at kind count axes
 
   -- parts are held that were read up to a stage at which this many points were read, and the box holds all so far
   pub parts_held : (stands : Stage Held → Type 0) (points : ℕ) → ((at : Stage Held) → stands at → (at.trail.points ≡ points) × (at.state.inside ≡ true))

@@ -12,7 +12,7 @@ use Rattle.twkb_head.specs.Shared.Plan.{Request, Plan, done, ask, judge, number_
 use Rattle.twkb_head.specs.Shared.Reader.{Answer, Reader, ◌>>=◌, viewed, past, read_judged, read_field, read, number_at, signed_at, coordinate_at, optional_at, many_at, signeds_at, Fails}
 use Rattle.twkb_body.specs.Geometry.{Geometry, Members, none, PointValue}
 use Rattle.twkb_body.specs.Devices.Body.{first_of, behind, add, sums, ring_sums, zeros, parts_body, members_body, part_body, geometry_from, members_of}
-use Rattle.twkb_body.specs.Devices.BodyReader.{point_at, ring_at, polygon_at, part_at, spanned, list_at, count_at, shape_at, body_at, parts_at, members_at, geometry_by, geometry_at, members_under, geometries_at}
+use Rattle.twkb_body.specs.Devices.BodyReader.{point_at, ring_at, polygon_at, part_at, spanned, list_at, count_at, shape_at, body_at, parts_at, members_at, geometry_by, geometry_at, members_under, geometries_at, many_parts_at}
 
 abbrev pub Keeps : {A : Type 0} → Reader A → Type 0
 Keeps f = (r : Reading) → (f r).1.bytes ≡ r.bytes
@@ -45,6 +45,9 @@ keeps_read (ask q next) r = keeps_field q _ (λ front. read (next front)) r (λ 
 pub keeps_number : Keeps number_at
 unfolding number_at
 keeps_number = keeps_read number_plan
+
+pub number_keeps : (old : Reading) {result : Result ℕ Malformed} {new : Reading} → number_at old ≡ (result, new) → new.bytes ≡ old.bytes
+number_keeps old counted = ap (λ (a : Answer ℕ). a.1.bytes) (sym counted) ∙ keeps_number old
 
 pub keeps_signed : Keeps signed_at
 unfolding signed_at
@@ -89,7 +92,7 @@ keeps_part Polygon axes s r = keeps_polygon axes s r
 keeps_part MultiPolygon axes s r = keeps_polygon axes s r
 keeps_part GeometryCollection axes s r = refl
 
-pub keeps_parts : (kind : Kind) (axes n : ℕ) (s : PointValue) → Keeps (many_at n ring_sums (part_at kind axes) s)
+pub keeps_parts : (kind : Kind) (axes n : ℕ) (s : PointValue) → Keeps (many_parts_at kind n axes s)
 keeps_parts kind axes n s = keeps_many n ring_sums (part_at kind axes) s (keeps_part kind axes)
 
 pub keeps_list : (ids : Bool) → Keeps (list_at ids)
@@ -108,8 +111,8 @@ keeps_shape : (multi : Bool) (h : Header) → Keeps (shape_at multi h)
 unfolding shape_at
 keeps_shape false h r = keeps_viewed part_body (part_at h.kind (axes_of h) zeros r) ∙ keeps_part h.kind (axes_of h) zeros r
 keeps_shape true h r =
-    keeps_then (list_at h.ids r) (λ list a. viewed (parts_body list) (many_at (list.0).0 ring_sums (part_at h.kind (axes_of h)) zeros a))
-    (λ list a. keeps_viewed (parts_body list) (many_at (list.0).0 ring_sums (part_at h.kind (axes_of h)) zeros a) ∙ keeps_parts h.kind (axes_of h) (list.0).0 zeros a)
+    keeps_then (list_at h.ids r) (λ list a. viewed (parts_body list) (many_parts_at h.kind (list.0).0 (axes_of h) zeros a))
+    (λ list a. keeps_viewed (parts_body list) (many_parts_at h.kind (list.0).0 (axes_of h) zeros a) ∙ keeps_parts h.kind (axes_of h) (list.0).0 zeros a)
     ∙ keeps_list h.ids r
 
 keeps_body : (empty collection : Bool) (h : Header) (members : ℕ → Reader Members) → ((n : ℕ) → Keeps (members n)) → Keeps (body_at empty collection h members)

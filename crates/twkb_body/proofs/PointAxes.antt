@@ -7,7 +7,7 @@ use Rattle.twkb_head.specs.Shared.Reader.{Answer, Reader, ◌>>=◌, number_at, 
 use Rattle.twkb_head.proofs.Readings.{ok_not_err}
 use Rattle.twkb_body.specs.Geometry.{PointValue, PolygonValue, points_of}
 use Rattle.twkb_body.specs.Devices.Body.{first_of, behind, add, sums, ring_sums}
-use Rattle.twkb_body.specs.Devices.BodyReader.{point_at, prefixed_at, ring_at, polygon_at, part_at}
+use Rattle.twkb_body.specs.Devices.BodyReader.{point_at, prefixed_at, ring_at, polygon_at, part_at, many_parts_at}
 use Rattle.twkb_body.specs.Devices.Walk.{HaveAxes}
 use Rattle.twkb_body.proofs.PartPlans.{flat_single}
 use Rattle.twkb_body.proofs.Runs.{values_of}
@@ -67,5 +67,5 @@ part_has MultiPolygon axes s r stop part e = polygon_has axes s r stop part e
 part_has GeometryCollection axes s r stop part e = subst (λ (part : PolygonValue). HaveAxes axes (part_points part)) (ap values_of e) tt
 
 -- the points of parts that are read
-pub parts_have : (kind : Kind) (axes n : ℕ) (s : PointValue) (r stop : Reading) (parts : List PolygonValue) → many_at n ring_sums (part_at kind axes) s r ≡ (Ok parts, stop) → HaveAxes axes (points_of parts)
+pub parts_have : (kind : Kind) (axes n : ℕ) (s : PointValue) (r stop : Reading) (parts : List PolygonValue) → many_parts_at kind n axes s r ≡ (Ok parts, stop) → HaveAxes axes (points_of parts)
 parts_have kind axes = many_have axes ring_sums (part_at kind axes) part_points (part_has kind axes)

@@ -3,7 +3,8 @@ use Rattle.std.proofs.Common.{◌≡◌, ℕ, zero, suc, ◌+◌, ◌-◌, ◌<�
 use Rattle.std.proofs.lemmas.Grind.{flat_map-append}
 use Rattle.std.proofs.lemmas.List.{append-nil, map-id}
 use Rattle.std.proofs.lemmas.List.Sums.{fold-append}
-use Rattle.std.specs.Prelude.{IfSome, ◌⊎◌, Bool, false}
+use Rattle.std.proofs.lemmas.Result.{IfOk-weaker, IfErr-weaker}
+use Rattle.std.specs.Prelude.{IfSome, ◌⊎◌, Bool, false, Result}
 use Rattle.twkb_num.specs.Cursor.{Reading}
 use Rattle.twkb_head.specs.declared.kinds.Kind.{Kind}
 use Rattle.twkb_head.specs.declared.kinds.Kind.TheVariants.{Point, LineString, Polygon, MultiPoint, MultiLineString, MultiPolygon, GeometryCollection}
@@ -14,13 +15,13 @@ use Rattle.twkb_head.proofs.Readings.{ok_not_err}
 use Rattle.twkb_body.specs.declared.trail.Trail.{Trail}
 use Rattle.twkb_body.specs.Geometry.{PointValue, Ring, PolygonValue, points_of}
 use Rattle.twkb_body.specs.Devices.Body.{add, sums, ring_sums}
-use Rattle.twkb_body.specs.Devices.BodyReader.{point_at, prefixed_at, ring_at, polygon_at, part_at}
-use Rattle.twkb_body.specs.Devices.PointReader.{Stage, on, CanRead, IsBefore, HasRead, Leads, EndsEarly}
+use Rattle.twkb_body.specs.Devices.BodyReader.{point_at, prefixed_at, ring_at, polygon_at, part_at, many_parts_at}
+use Rattle.twkb_body.specs.Devices.PointReader.{Stage, IsBefore, IsReady, HasRead, Leads, EndsEarly, ReadsAll, ReadsOrEnds, points_at}
 use Rattle.twkb_body.specs.Devices.Walk.{lasts_from, IsWalked}
-use Rattle.twkb_body.proofs.Settling.{next_read}
+use Rattle.twkb_body.proofs.Keeping.{keeps_points, read_keeps}
 use Rattle.twkb_body.proofs.Sums.{part_points, rings_sums_flat}
 use Rattle.twkb_body.proofs.Tracing.{viewed_back, many_back}
-use Rattle.twkb_body.proofs.Walks.{number_ahead, walked_from, IsWalkLoop, walk_begins, walk_goes_on, walk_fails, walk_ends, lasts_from-append}
+use Rattle.twkb_body.proofs.Walks.{number_ahead, walked_from, IsWalkLoop, lasts_from-append}
 
 -- a fault is kept where f is applied to the value of an answer
 viewed_fails : {A B : Type 0} (f : A → B) (a : Answer A) (m : Malformed) (new : Reading) → Fails a m new → Fails (viewed f a) m new
@@ -70,7 +71,7 @@ module _ {A B : Type 0} (f : A → B) (after : PointValue → A → PointValue) 
 
 -- Values are the parts of a kind, if f makes a part of each: to read them is to read these parts, which have their points.
 pub record AreParts {A : Type 0} (kind : Kind) (f : A → PolygonValue) (after : PointValue → A → PointValue) (each : ℕ → PointValue → Reader A) (points_in : List A → List PointValue) : Type 0 where
-  pub read : (axes n : ℕ) → (λ (s : PointValue) (r : Reading). viewed (map f) (many_at n after (each axes) s r)) ≡ many_at n ring_sums (part_at kind axes)
+  pub read : (axes n : ℕ) → (λ (s : PointValue) (r : Reading). viewed (map f) (many_at n after (each axes) s r)) ≡ many_parts_at kind n axes
   pub points : (xs : List A) → points_in xs ≡ points_of (map f xs)
 
 pub points_are_parts : (kind : Kind) → (kind ≡ Point) ⊎ (kind ≡ MultiPoint) → AreParts kind point_part add point_at (λ points. points)
@@ -104,22 +105,67 @@ polygons_are_parts kind is = record {
     as_it_is (Ok polygon, r) = refl
     as_it_is (Err m, r) = refl
 
--- if parts can be read, so can the values that they are made of
-pub parts_before : {A S : Type 0} {kind : Kind} {f : A → PolygonValue} {after : PointValue → A → PointValue} {each : ℕ → PointValue → Reader A} {points_in : List A → List PointValue} → AreParts kind f after each points_in
-    → (stands : Stage S → Type 0) (trusts : Bool) (count : ℕ) (from : Reading) (at : Stage S) → IsBefore stands trusts (λ axes. many_at count ring_sums (part_at kind axes)) from at → IsBefore stands trusts (λ axes. many_at count after (each axes)) from at
-parts_before {A} {S} {kind} {f} {after} {each} {points_in} are stands trusts count from at before = record { there = before.there; counted = before.counted; readable = λ t. made (before.readable t) }
-  where
-    made : CanRead (many_at count ring_sums (part_at kind at.axes)) at from → CanRead (many_at count after (each at.axes)) at from
-    made (parts, stop, e) =
-        let x = viewed_back (map f) (many_at count after (each at.axes) at.trail.last from) parts stop ((λ j. are.read at.axes count j at.trail.last from) ∙ e) in
-        (x.0, stop, x.1)
+-- ---- reading values that are parts is reading the parts
+module _ {A S : Type 0} {kind : Kind} {f : A → PolygonValue} {after : PointValue → A → PointValue} {each : ℕ → PointValue → Reader A} {points_in : List A → List PointValue} (are : AreParts kind f after each points_in) (count : ℕ) where
+  -- parts that can be read are made of values that can be read
+  values_in : (at : Stage S) (from stop : Reading) (parts : List PolygonValue) → many_parts_at kind count at.axes at.trail.last from ≡ (Ok parts, stop) → (xs : List A) × (many_at count after (each at.axes) at.trail.last from ≡ (Ok xs, stop)) × (map f xs ≡ parts)
+  values_in at from stop parts e = viewed_back (map f) (many_at count after (each at.axes) at.trail.last from) parts stop ((λ j. are.read at.axes count j at.trail.last from) ∙ e)
+
+  -- if parts can be read, so can the values that they are made of
+  pub parts_before : {stands : Stage S → Type 0} {trusts : Bool} {from : Reading} {at : Stage S} → IsBefore stands trusts (many_parts_at kind count) from at → IsBefore stands trusts (λ axes. many_at count after (each axes)) from at
+  parts_before {from = from} {at = at} before = record {
+    there = before.there;
+    counted = before.counted;
+    readable = λ t. let (parts, stop, e) = before.readable t in let x = values_in at from stop parts e in (x.0, stop, x.1);
+  }
+
+  pub parts_ready : {stands : Stage S → Type 0} {trusts : Bool} {from : Reading} → IsReady stands trusts (many_parts_at kind count) from → IsReady stands trusts (λ axes. many_at count after (each axes)) from
+  parts_ready ready = (ready.0, parts_before ready.1)
+
+  -- if the values were read, so were the parts
+  parts_read : {step : S → PointValue → S} {stands : Stage S → Type 0} {at : Stage S} {from to : Reading}
+      → HasRead (many_at count after (each at.axes)) points_in step stands at from to → HasRead (many_parts_at kind count at.axes) points_of step stands at from to
+  parts_read {step} {stands} {at} {from} {to} h = record {
+    value = map f h.value;
+    read = sym (λ j. are.read at.axes count j at.trail.last from) ∙ ap (viewed (map f)) h.read;
+    trail = h.trail;
+    state = h.state;
+    there = h.there;
+    walked = subst (IsWalked step at.axes at.trail h.trail at.state h.state from.place to.place) (are.points h.value) h.walked;
+  }
+
+  -- if reading the values ended early, so did reading the parts
+  parts_end : (step : S → PointValue → S) (ends : S → Type 0) (told : Option Malformed) (at : Stage S) (from to : Reading)
+      → EndsEarly (many_at count after (each at.axes)) points_in step ends told at from to → EndsEarly (many_parts_at kind count at.axes) points_of step ends told at from to
+  parts_end step ends (Some m) at from to fails =
+      subst (λ (parts : PointValue → Reader (List PolygonValue)). Fails (parts at.trail.last from) m to) (are.read at.axes count) (viewed_fails (map f) (many_at count after (each at.axes) at.trail.last from) m to fails)
+  parts_end step ends None at from to leads = λ parts stop e.
+      let x = values_in at from stop parts e in
+      subst (λ (parts : List PolygonValue). ends (fold step at.state (lasts_from at.trail.last (points_of parts)))) x.2
+      (subst (λ (ps : List PointValue). ends (fold step at.state (lasts_from at.trail.last ps))) (are.points x.0) (leads x.0 stop x.1))
+
+  -- what a reader of the values did is what a reader of the parts does
+  pub parts_read_or_end : {T F : Type 0} {step : S → PointValue → S} {trusts : Bool} {ends : S → Type 0} {tells : F → Option Malformed} {old new : Stage S → Type 0} {result : Result T F} {from to : Reading}
+      → ReadsOrEnds (λ axes. many_at count after (each axes)) points_in step trusts ends tells old new result from to → ReadsOrEnds (many_parts_at kind count) points_of step trusts ends tells old new result from to
+  parts_read_or_end {step} {trusts} {ends} {tells} {old} {new} {result} {from} {to} done = record {
+    read = IfOk-weaker result _ _ (λ _ read at before. parts_read (read at (parts_before before))) done.read;
+    ended = IfErr-weaker result _ _ (λ fault ended at before. parts_end step ends (tells fault) at from to (ended at (parts_before before))) done.ended;
+    bytes = done.bytes;
+  }
+
+-- a reader has read some points: the bytes stay as they are
+pub points_read : {S T F : Type 0} {step : S → PointValue → S} {trusts : Bool} {ends : S → Type 0} {tells : F → Option Malformed} {old new : Stage S → Type 0} {result : T} {from to : Reading} (count : ℕ)
+    → IsReady old trusts (points_at count) from → ReadsAll (points_at count) (λ points. points) step trusts old new from to → ReadsOrEnds (points_at count) (λ points. points) step trusts ends tells old new (Ok result) from to
+points_read {from = from} {to = to} count (at, before) read =
+    let one = read at before in
+    record { read = read; ended = tt; bytes = read_keeps (points_at count at.axes at.trail.last) from to one.value (keeps_points at.axes count at.trail.last) one.read }
 
 -- before its first point, a reader that doesn't trust the bytes is before any value
-pub none_yet : {A S : Type 0} (stands : Stage S → Type 0) (each : ℕ → PointValue → Reader A) (r : Reading) (at : Stage S) → stands at → at.trail.points ≡ 0 → IsBefore stands false each r at
-none_yet stands each r at there none = record { there = there; counted = omega (arith, none); readable = λ t. absurd (cc (t)) }
+pub none_yet : {A S : Type 0} {stands : Stage S → Type 0} {each : ℕ → PointValue → Reader A} {r : Reading} {at : Stage S} → stands at → at.trail.points ≡ 0 → IsBefore stands false each r at
+none_yet there none = record { there = there; counted = omega (arith, none); readable = λ t. absurd (cc (t)) }
 
 -- a collection has no parts of its own: to read some of them reads nothing
-pub nothing_read : (axes n : ℕ) (s : PointValue) (r : Reading) → many_at n ring_sums (part_at GeometryCollection axes) s r ≡ (Ok (replicate n []), r)
+pub nothing_read : (axes n : ℕ) (s : PointValue) (r : Reading) → many_parts_at GeometryCollection n axes s r ≡ (Ok (replicate n []), r)
 nothing_read axes zero s r = refl
 nothing_read axes (suc n) s r = ap (viewed (λ xs. [] ∷ xs)) (nothing_read axes n s r)
 
@@ -130,7 +176,7 @@ nothing_has (suc n) = nothing_has n
 module _ {S : Type 0} (step : S → PointValue → S) (at : Stage S) where
   -- ---- what is read, at whatever stage the reader is after it
   module _ (stands : Stage S → Type 0) where
-    counted_read : {A : Type 0} (after : PointValue → A → PointValue) (each : PointValue → Reader A) (points_in : List A → List PointValue) (old from to : Reading) (count : ℕ) → number_at old ≡ (Ok count, from)
+    pub counted_read : {A : Type 0} (after : PointValue → A → PointValue) (each : PointValue → Reader A) (points_in : List A → List PointValue) (old from to : Reading) (count : ℕ) → number_at old ≡ (Ok count, from)
         → HasRead (many_at count after each) points_in step stands at from to → HasRead (prefixed_at after each) points_in step stands at old to
     counted_read after each points_in old from to count counted h = record {
       value = h.value;
@@ -141,26 +187,14 @@ module _ {S : Type 0} (step : S → PointValue → S) (at : Stage S) where
       walked = walked_from step at.axes at.trail h.trail at.state h.state from.place to.place old.place (points_in h.value) (number_ahead count old from counted) h.walked;
     }
 
-    -- values that are parts were read
-    pub parts_read : {A : Type 0} {kind : Kind} {f : A → PolygonValue} {after : PointValue → A → PointValue} {each : ℕ → PointValue → Reader A} {points_in : List A → List PointValue} → AreParts kind f after each points_in → (count : ℕ) (from to : Reading)
-        → HasRead (many_at count after (each at.axes)) points_in step stands at from to → HasRead (many_at count ring_sums (part_at kind at.axes)) points_of step stands at from to
-    parts_read {A} {kind} {f} {after} {each} {points_in} are count from to h = record {
-      value = map f h.value;
-      read = sym (λ j. are.read at.axes count j at.trail.last from) ∙ ap (viewed (map f)) h.read;
-      trail = h.trail;
-      state = h.state;
-      there = h.there;
-      walked = subst (IsWalked step at.axes at.trail h.trail at.state h.state from.place to.place) (are.points h.value) h.walked;
-    }
-
   -- ---- early ends
   module _ (ends : S → Type 0) where
-    counted_ends : {A : Type 0} (told : Option Malformed) (after : PointValue → A → PointValue) (each : PointValue → Reader A) (points_in : List A → List PointValue) (old from to : Reading) (count : ℕ) → number_at old ≡ (Ok count, from)
+    pub counted_ends : {A : Type 0} (told : Option Malformed) (after : PointValue → A → PointValue) (each : PointValue → Reader A) (points_in : List A → List PointValue) (old from to : Reading) (count : ℕ) → number_at old ≡ (Ok count, from)
         → EndsEarly (many_at count after each) points_in step ends told at from to → EndsEarly (prefixed_at after each) points_in step ends told at old to
     counted_ends (Some m) after each points_in old from to count counted fails = then_fails (number_at old) (λ n. many_at n after each at.trail.last) count from m to counted fails
     counted_ends None after each points_in old from to count counted leads = λ xs stop e. leads xs stop (sym (ap (λ (a : Answer ℕ). a >>= λ n. many_at n after each at.trail.last) counted) ∙ e)
 
-    uncounted_ends : {A : Type 0} (told : Option Malformed) (after : PointValue → A → PointValue) (each : PointValue → Reader A) (points_in : List A → List PointValue) (old from : Reading) (m : Malformed) → number_at old ≡ (Err m, from) → IfSome told (λ t. t ≡ m)
+    pub uncounted_ends : {A : Type 0} (told : Option Malformed) (after : PointValue → A → PointValue) (each : PointValue → Reader A) (points_in : List A → List PointValue) (old from : Reading) (m : Malformed) → number_at old ≡ (Err m, from) → IfSome told (λ t. t ≡ m)
         → EndsEarly (prefixed_at after each) points_in step ends told at old from
     uncounted_ends told after each points_in old from m failed same = go told same
       where
@@ -170,16 +204,6 @@ module _ {S : Type 0} (step : S → PointValue → S) (at : Stage S) where
         go : (told : Option Malformed) → IfSome told (λ t. t ≡ m) → EndsEarly (prefixed_at after each) points_in step ends told at old from
         go (Some t) same = subst (λ (m : Malformed). Fails (prefixed_at after each at.trail.last old) m from) (sym same) fails
         go None same = λ xs stop e. absurd (ok_not_err xs m stop fails.left (sym e ∙ fails.is))
-
-    -- values that are parts ended early
-    pub parts_end : {A : Type 0} {kind : Kind} {f : A → PolygonValue} {after : PointValue → A → PointValue} {each : ℕ → PointValue → Reader A} {points_in : List A → List PointValue} → AreParts kind f after each points_in → (told : Option Malformed) (count : ℕ) (from to : Reading)
-        → EndsEarly (many_at count after (each at.axes)) points_in step ends told at from to → EndsEarly (many_at count ring_sums (part_at kind at.axes)) points_of step ends told at from to
-    parts_end {A} {kind} {f} {after} {each} {points_in} are (Some m) count from to fails =
-        subst (λ (parts : PointValue → Reader (List PolygonValue)). Fails (parts at.trail.last from) m to) (are.read at.axes count) (viewed_fails (map f) (many_at count after (each at.axes) at.trail.last from) m to fails)
-    parts_end {A} {kind} {f} {after} {each} {points_in} are None count from to leads = λ parts stop e.
-        let x = viewed_back (map f) (many_at count after (each at.axes) at.trail.last from) parts stop ((λ j. are.read at.axes count j at.trail.last from) ∙ e) in
-        subst (λ (parts : List PolygonValue). ends (fold step at.state (lasts_from at.trail.last (points_of parts)))) x.2
-        (subst (λ (ps : List PointValue). ends (fold step at.state (lasts_from at.trail.last ps))) (are.points x.0) (leads x.0 stop x.1))
 
   -- ---- loops
   module _ {A : Type 0} (after : PointValue → A → PointValue) (each : PointValue → Reader A) (points_in : A → List PointValue)
@@ -241,80 +265,3 @@ module _ {S : Type 0} (step : S → PointValue → S) (at : Stage S) where
                 ap (fold step t) (lasts_from-append now.last (points_in x) (flat_map points_in zs))
                 ∙ fold-append step t (lasts_from now.last (points_in x)) (lasts_from (sums now.last (points_in x)) (flat_map points_in zs)) in
                 subst ends (sym all) (ends_on (fold step t (lasts_from now.last (points_in x))) (lasts_from (sums now.last (points_in x)) (flat_map points_in zs)) (leads x mid one))
-
--- ---- lists of values, one after another, each after its length
-module _ {S : Type 0} (step : S → PointValue → S) (at : Stage S) {A : Type 0} (after : PointValue → A → PointValue) (value : ℕ → PointValue → Reader A) (points_in : List A → List PointValue) (count : ℕ) (from : Reading) where
-  abbrev each : PointValue → Reader A
-  each = value at.axes
-
-  abbrev list_after : PointValue → List A → PointValue
-  list_after s xs = sums s (points_in xs)
-
-  abbrev a_list : PointValue → Reader (List A)
-  a_list = prefixed_at after each
-
-  abbrev lists : PointValue → Reader (List (List A))
-  lists = many_at count list_after a_list
-
-  -- a reader is before all lists
-  abbrev pub AreBefore : (Stage S → Type 0) → Bool → Type 0
-  AreBefore stands trusts = IsBefore stands trusts (λ axes. many_at count list_after (prefixed_at after (value axes))) from at
-
-  abbrev points_in_lists : List (List A) → List PointValue
-  points_in_lists xss = flat_map points_in xss
-
-  -- i lists were read, and their points lead to a stage at which the reader is
-  pub record HasReadLists (stands : Stage S → Type 0) (i : ℕ) (r : Reading) : Type 0 where
-    pub trail : Trail
-    pub state : S
-    pub there : stands (on at trail state)
-    pub loop : IsWalkLoop step at.axes list_after a_list points_in (λ s xs. refl) count at.trail at.state from i trail state r
-
-  abbrev pub lists_begin : (stands : Stage S → Type 0) → stands at → HasReadLists stands 0 from
-  lists_begin stands there = record { trail = at.trail; state = at.state; there = there; loop = walk_begins step at.axes list_after a_list points_in (λ s xs. refl) count at.trail at.state from }
-
-  -- if all lists can be read, the next one can
-  next_list : (i : ℕ) (now : Trail) (t : S) (r : Reading) → i < count → IsWalkLoop step at.axes list_after a_list points_in (λ s xs. refl) count at.trail at.state from i now t r → CanRead lists at from → CanRead a_list (on at now t) r
-  next_list i now t r lt l (xss, stop, e) = next_read list_after a_list count (lists at.trail.last from) l.front i now.last r stop xss e lt l.read
-
-  module _ (old : Stage S → Type 0) (trusts : Bool) (before : AreBefore old trusts) (stands : Stage S → Type 0) (i : ℕ) (r mid : Reading) (lt : i < count) (h : HasReadLists stands i r) where
-    -- after its length, the values of a list are next
-    pub values_before : (n : ℕ) → number_at r ≡ (Ok n, mid) → IsBefore stands trusts (λ axes. many_at n after (value axes)) mid (on at h.trail h.state)
-    values_before n counted =
-        let ahead = number_ahead n r mid counted in
-        record {
-          there = h.there;
-          counted = omega (arith, before.counted, ahead, h.loop.walked.points, h.loop.walked.ahead);
-          readable = λ t. let list = next_list i h.trail h.state r lt h.loop (before.readable t) in (list.0, list.1, sym (ap (λ (a : Answer ℕ). a >>= λ n. many_at n after each h.trail.last) counted) ∙ list.2);
-        }
-
-  -- a length was read, and as many values
-  pub lists_go_on : (stands next : Stage S → Type 0) (i : ℕ) (r mid new : Reading) (n : ℕ) → i < count → (h : HasReadLists stands i r) → number_at r ≡ (Ok n, mid) → HasRead (many_at n after each) points_in step next (on at h.trail h.state) mid new
-      → HasReadLists next (i + 1) new
-  lists_go_on stands next i r mid new n lt h counted values =
-      let one = counted_read step (on at h.trail h.state) next after each points_in r mid new n counted values in
-      record {
-        trail = one.trail;
-        state = one.state;
-        there = one.there;
-        loop = walk_goes_on step at.axes list_after a_list points_in (λ s xs. refl) count at.trail at.state from i h.trail one.trail h.state one.state r new one.value lt one.read one.walked h.loop;
-      }
-
-  pub lists_end : (stands : Stage S → Type 0) (i : ℕ) (r : Reading) → i ≡ count → HasReadLists stands i r → HasRead lists points_in_lists step stands at from r
-  lists_end stands i r end h =
-      let e = walk_ends step at.axes list_after a_list points_in (λ s xs. refl) count at.trail at.state from i h.trail h.state r end h.loop in
-      record { value = e.0; read = e.1; trail = h.trail; state = h.state; there = h.there; walked = e.2 }
-
-  module _ (ends : S → Type 0) (lasts : (s : S) (p : PointValue) → ends s → ends (step s p)) (told : Option Malformed) (stands : Stage S → Type 0) (i : ℕ) (r mid : Reading) (lt : i < count) (h : HasReadLists stands i r) where
-    -- if the next list ends early, all do
-    list_fails : (told : Option Malformed) (new : Reading) → EndsEarly a_list points_in step ends told (on at h.trail h.state) r new → EndsEarly lists points_in_lists step ends told at from new
-    list_fails (Some m) new fails = walk_fails step at.axes list_after a_list points_in (λ s xs. refl) count at.trail at.state from i h.trail h.state r new m lt fails h.loop
-    list_fails None new leads = next_leads step at list_after a_list points_in (λ s xs. refl) count from i h.trail h.state r h.loop ends lasts lt leads
-
-    -- if its values end early, all lists do
-    pub values_fail : (n : ℕ) (new : Reading) → number_at r ≡ (Ok n, mid) → EndsEarly (many_at n after each) points_in step ends told (on at h.trail h.state) mid new → EndsEarly lists points_in_lists step ends told at from new
-    values_fail n new counted early = list_fails told new (counted_ends step (on at h.trail h.state) ends told after each points_in r mid new n counted early)
-
-    -- if its length is malformed, all lists end early
-    pub length_fails : (m : Malformed) → number_at r ≡ (Err m, mid) → IfSome told (λ t. t ≡ m) → EndsEarly lists points_in_lists step ends told at from mid
-    length_fails m failed same = list_fails told mid (uncounted_ends step (on at h.trail h.state) ends told after each points_in r mid m failed same)

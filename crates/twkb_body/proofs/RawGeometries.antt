@@ -7,6 +7,7 @@ use Rattle.std.specs.Int.{w8}
 use Rattle.twkb_num.specs.Cursor.{Reading, rest, passed, IsMoved, IsSound}
 use Rattle.twkb_num.specs.Units.{IsPrecision}
 use Rattle.twkb_head.specs.declared.header.Head.{Head}
+use Rattle.twkb_head.specs.declared.header.SizeField.{SizeField}
 use Rattle.twkb_head.specs.declared.raw.RawBox.{RawBox}
 use Rattle.twkb_head.specs.declared.raw.RawRange.{RawRange}
 use Rattle.twkb_head.specs.declared.raw.Fields.{Fields}
@@ -21,7 +22,7 @@ use Rattle.twkb_body.specs.declared.doubt.Doubt.{Doubt}
 use Rattle.twkb_body.specs.Devices.Stops.{WantsBehind}
 use Rattle.twkb_body.specs.Devices.BodyReader.{body_at, members_under}
 use Rattle.twkb_body.specs.Devices.Inside.{of_head}
-use Rattle.twkb_body.specs.Devices.Sure.{refused, framed, IsFrameUnder, IsSureBody, IsSureBehind, IsSure, IsJudged, IsApart, HasDoubt, HasReadTwo, HasBegun, HasHead, Certifies, CertifiesAfterTwo, CertifiesAfterHead, IsRefutedBody, IsRefutedBehind, IsRefuted}
+use Rattle.twkb_body.specs.Devices.Sure.{refused, framed, has_further, IsFramed, IsFrameUnder, IsSureBody, IsSureBehind, IsSure, IsJudged, IsApart, HasDoubt, HasReadTwo, HasBegun, HasHead, HasFramedHead, Certifies, CertifiesAfterTwo, CertifiesAfterHead, CertifiesFramed, IsRefutedBody, IsRefutedBehind, IsRefuted}
 use Rattle.twkb_body.proofs.Beginning.{announced_same}
 use Rattle.twkb_body.proofs.Keeping.{keeps_body_under, read_keeps}
 use Rattle.twkb_body.proofs.MemberSteps.{long_list_in}
@@ -79,7 +80,7 @@ pub flat_ends : (plain : Head) (raw : Fields) (depth : ℕ) (r mid : Reading) �
 flat_ends plain raw depth r mid same at moved stop le = subst (λ (h : Head). IfSome h.size (λ size. size.after ≤ stop)) (sym same) (head_size r mid (head_said raw) depth at moved stop le)
 
 -- what the header that was read says of its kind and of its size field
-module _ {depth : ℕ} {above : Option Frame} {raw : Fields} {mid : Reading} (head : HasHead depth above raw mid) (plain : Head) (same : plain ≡ boxless raw) where
+module _ {depth : ℕ} {above : Option Frame} {raw : Fields} {mid : Reading} {plain : Head} (head : HasHead depth above raw mid) (same : plain ≡ boxless raw) where
   pub kind_allowed : IsAllowedAt plain.kind depth
   kind_allowed = let at = head.read.2.0 in subst (λ (h : Head). IsAllowedAt h.kind depth) (sym (same ∙ ap (λ (h : Head). record h { bounds = None }) at.fields)) at.allowed
 
@@ -87,6 +88,16 @@ module _ {depth : ℕ} {above : Option Frame} {raw : Fields} {mid : Reading} (he
   size_ahead = flat_ends plain raw depth head.read.0 mid same head.read.2.0 head.read.2.1
 
 -- ---- a geometry that no frame can hold
+-- what is known of the part after the header is known of the geometry, from wherever its header was read
+module _ {depth : ℕ} {above : Option Frame} {raw : Fields} {mid : Reading} (head : HasHead depth above raw mid) (new : Reading) where
+  -- a doubt about it is a doubt about the geometry
+  pub after_doubts : (d : Doubt) → HasDoubt (IsRefutedBehind (deepest - depth) (head_said raw) above mid) (WantsBehind depth (head_said raw) mid) mid d new → CertifiesAfterHead depth above raw mid (Err d) new
+  after_doubts d doubt before sound read = behind_doubts raw depth above before mid head.shallowest head.deepest sound read.0 read.1 d new doubt
+
+  -- if it is sure, the size decides
+  pub after_certifies : {plain : Head} (vertices : ℕ) (result : Result ℕ Doubt) → plain ≡ boxless raw → IsSureBehind (deepest - depth) (head_said raw) above mid new vertices → IsJudged plain new.place vertices result → CertifiesAfterHead depth above raw mid result new
+  after_certifies {plain} vertices result same sure judged before sound read = apart_certifies raw depth above before mid head.shallowest head.deepest sound read.0 read.1 plain same new vertices result sure judged
+
 -- the precision of X and Y goes through eight bits unchanged
 plain_xy : (raw : Fields) (plain : Head) → IsPrecision raw.axes.xy → plain ≡ boxless raw → to_z w8 (of_z w8 plain.xy) ≡ plain.xy
 plain_xy raw plain precise same =
@@ -94,9 +105,9 @@ plain_xy raw plain precise same =
     omega (arith, ints, p)
 
 -- the header of a geometry in X and Y, with or without a box
-apart_flat : (raw : Fields) (plain : Head) (xy : ℤ) → xy ≡ plain.xy → plain ≡ boxless raw → raw.axes.z ≡ None → raw.axes.m ≡ None → raw.empty ≡ false
+apart_flat : (raw : Fields) (plain : Head) (xy : ℤ) → xy ≡ plain.xy → plain ≡ boxless raw → (raw.axes.z ≡ None) × (raw.axes.m ≡ None) → raw.empty ≡ false
     → IsApart (head_said raw) plain.kind xy None None plain.ids (option_map (λ b. flat_box b.x b.y) raw.bounds)
-apart_flat raw plain xy xy_is same z m full = record {
+apart_flat raw plain xy xy_is same (z, m) full = record {
   same = λ j. record { kind = ap (λ (h : Head). h.kind) (sym same) j; xy = (ap (λ (h : Head). h.xy) (sym same) ∙ sym xy_is) j; z = z j; m = m j; size = None; box = None; ids = ap (λ (h : Head). h.ids) (sym same) j; empty = full j };
   bounds = go raw.bounds;
 }
@@ -116,11 +127,11 @@ apart_there None = refl
 apart_there (Some b) = refl
 
 -- the header of a geometry in X and Y, whose box is handed over by its two ranges
-pub flat_apart : (raw : Fields) (plain : Head) (has_box : Bool) (x y : RawRange) → IsPrecision raw.axes.xy → plain ≡ boxless raw → raw.axes.z ≡ None → raw.axes.m ≡ None → raw.empty ≡ false
+pub flat_apart : {depth : ℕ} {above : Option Frame} {raw : Fields} {mid : Reading} {plain : Head} {has_box : Bool} (x y : RawRange) → HasHead depth above raw mid → IsPrecision raw.axes.xy → plain ≡ boxless raw → (raw.axes.z ≡ None) × (raw.axes.m ≡ None)
     → has_box ≡ is_some raw.bounds → IfSome raw.bounds (λ b. (x ≡ b.x) × (y ≡ b.y))
     → (box : Option RawBox) × (is_some box ≡ has_box) × IfSome box (λ box. box ≡ flat_box x y) × IsApart (head_said raw) plain.kind (to_z w8 (of_z w8 plain.xy)) None None plain.ids box
-flat_apart raw plain has_box x y precise same z m full there ranges =
-    (option_map (λ b. flat_box b.x b.y) raw.bounds, apart_there raw.bounds ∙ sym there, apart_box raw.bounds x y ranges, apart_flat raw plain _ (plain_xy raw plain precise same) same z m full)
+flat_apart {raw = raw} {plain = plain} x y head precise same flat there ranges =
+    (option_map (λ b. flat_box b.x b.y) raw.bounds, apart_there raw.bounds ∙ sym there, apart_box raw.bounds x y ranges, apart_flat raw plain _ (plain_xy raw plain precise same) same flat head.full)
 
 -- the header of a geometry in any axes, with or without a box
 apart_any : (raw : Fields) (plain : Head) (xy : ℤ) → xy ≡ plain.xy → plain ≡ boxless raw → raw.empty ≡ false → IsApart (head_said raw) plain.kind xy plain.z plain.m plain.ids raw.bounds
@@ -136,8 +147,8 @@ apart_any raw plain xy xy_is same full = record {
     go (Some b) = ap (λ (h : Head). Some (raw_bounds h.xy h.z h.m b)) (sym same) ∙ ap (λ (p : ℤ). Some (raw_bounds p plain.z plain.m b)) (sym xy_is)
 
 -- the header of a geometry in any axes, as it is handed over
-pub any_apart : (raw : Fields) (plain : Head) → IsPrecision raw.axes.xy → plain ≡ boxless raw → raw.empty ≡ false → IsApart (head_said raw) plain.kind (to_z w8 (of_z w8 plain.xy)) plain.z plain.m plain.ids raw.bounds
-any_apart raw plain precise same full = apart_any raw plain _ (plain_xy raw plain precise same) same full
+pub any_apart : {depth : ℕ} {above : Option Frame} {raw : Fields} {mid : Reading} {plain : Head} → HasHead depth above raw mid → IsPrecision raw.axes.xy → plain ≡ boxless raw → IsApart (head_said raw) plain.kind (to_z w8 (of_z w8 plain.xy)) plain.z plain.m plain.ids raw.bounds
+any_apart {raw = raw} {plain = plain} head precise same = apart_any raw plain _ (plain_xy raw plain precise same) same head.full
 
 -- ---- a geometry whose first two bytes were read
 -- the header that begins with two bytes, from wherever they were read
@@ -146,31 +157,71 @@ BeginsAlways depth first metadata now begun =
     (before : Reading) → IsSound before → IsMoved before now → passed before now ≡ first ∷ metadata ∷ [] → BeginsHead begun depth before now
 
 -- the same, with only the bits of the second byte that announce fields
-pub bits_begin : (depth first metadata : ℕ) (now : Reading) (begun other : Begun) → other ≡ record begun { metadata = begun.metadata % 32 } → BeginsAlways depth first metadata now begun → BeginsAlways depth first metadata now other
-bits_begin depth first metadata now begun other is begins before sound moved bytes = announced_same begun other depth (begun.metadata % 32) before now refl is (begins before sound moved bytes)
+pub bits_begin : {depth first metadata : ℕ} {now : Reading} {begun other : Begun} → BeginsAlways depth first metadata now begun → other ≡ record begun { metadata = begun.metadata % 32 } → BeginsAlways depth first metadata now other
+bits_begin {depth} {first} {metadata} {now} {begun} {other} begins is before sound moved bytes = announced_same begun other depth (begun.metadata % 32) before now refl is (begins before sound moved bytes)
 
-module _ (depth : ℕ) (above : Option Frame) (first metadata : ℕ) (now : Reading) (some : 1 ≤ depth) (deep : depth ≤ deepest) where
+module _ (depth : ℕ) (above : Option Frame) {first metadata : ℕ} {now : Reading} (some : 1 ≤ depth) (deep : depth ≤ deepest) where
   -- it is refuted if no header begins with them
   pub none_begins : ((before : Reading) → IsSound before → IsMoved before now → passed before now ≡ first ∷ metadata ∷ [] → StartsWithHeader depth (rest before) → IsSome {T = Begun} None)
       → CertifiesAfterTwo depth above first metadata now (Err refused) now
   none_begins none before two = (two.moved.bytes, no_header_refutes depth above before some deep two.sound (λ starts. cc (none before two.sound two.moved two.bytes starts)))
 
-  module _ (begun : Begun) (begins : BeginsAlways depth first metadata now begun) (new : Reading) where
-    -- it is refuted if the rest of its header can't be read
-    pub rest_unread : (m : Malformed) → ((depth : ℕ) (before : Reading) → IsSound before → BeginsHead begun depth before now → ReadsHead depth before new (Err m))
-        → ((depth : ℕ) (before : Reading) → IsSound before → BeginsHead begun depth before now → IsOk {T = Fields} {E = Malformed} (Err m) ↔ StartsWithHeader depth (rest before))
-        → CertifiesAfterTwo depth above first metadata now (Err refused) new
-    rest_unread m read exact before two =
-        let b = begins before two.sound two.moved two.bytes in
-        rest_refutes m depth above before new some deep two.sound (read depth before two.sound b) (exact depth before two.sound b)
+  -- it is refuted if the rest of its header can't be read
+  pub rest_unread : {begun : Begun} {new : Reading} {m : Malformed} → BeginsAlways depth first metadata now begun
+      → ((depth : ℕ) (before : Reading) → IsSound before → BeginsHead begun depth before now → ReadsHead depth before new (Err m))
+      → ((depth : ℕ) (before : Reading) → IsSound before → BeginsHead begun depth before now → IsOk {T = Fields} {E = Malformed} (Err m) ↔ StartsWithHeader depth (rest before))
+      → CertifiesAfterTwo depth above first metadata now (Err refused) new
+  rest_unread {begun} {new} {m} begins read exact before two =
+      let b = begins before two.sound two.moved two.bytes in
+      rest_refutes m depth above before new some deep two.sound (read depth before two.sound b) (exact depth before two.sound b)
 
-    -- its header was read
-    module _ (raw : Fields) (read : (depth : ℕ) (before : Reading) → IsSound before → BeginsHead begun depth before now → ReadsHead depth before new (Ok raw)) where
-      read_from : (before : Reading) → HasReadTwo before first metadata now → ReadsHead depth before new (Ok raw)
-      read_from before two = read depth before two.sound (begins before two.sound two.moved two.bytes)
+-- The rest of its header was read after them.
+pub record HasReadRest (depth : ℕ) (above : Option Frame) (first metadata : ℕ) (now : Reading) (raw : Fields) (new : Reading) : Type 0 where
+  pub begun : HasBegun depth above first metadata now
+  pub read : (before : Reading) → HasReadTwo before first metadata now → ReadsHead depth before new (Ok raw)
 
-      pub header_read : HasBegun depth above first metadata now → raw.empty ≡ false → HasHead depth above raw new
-      header_read before full = record { shallowest = some; deepest = deep; full = full; read = (before.before.0, before.before.1.sound, read_from before.before.0 before.before.1); frame = before.frame }
+-- the rest was read, if it was read of every header that begins with them
+pub rest_read : {depth : ℕ} {above : Option Frame} {first metadata : ℕ} {now new : Reading} {begun : Begun} (raw : Fields) → HasBegun depth above first metadata now → BeginsAlways depth first metadata now begun
+    → ((depth : ℕ) (before : Reading) → IsSound before → BeginsHead begun depth before now → ReadsHead depth before new (Ok raw)) → HasReadRest depth above first metadata now raw new
+rest_read {depth} raw begun begins read = record { begun = begun; read = λ before two. read depth before two.sound (begins before two.sound two.moved two.bytes) }
 
-      pub header_certifies : (result : Result ℕ Doubt) (stop : Reading) → CertifiesAfterHead depth above raw new result stop → CertifiesAfterTwo depth above first metadata now result stop
-      header_certifies result stop certifies before two = certifies before two.sound (read_from before two)
+module _ {depth : ℕ} {above : Option Frame} {first metadata : ℕ} {now : Reading} {raw : Fields} {new : Reading} (head : HasReadRest depth above first metadata now raw new) where
+  -- so the whole header was read
+  pub header_read : raw.empty ≡ false → HasHead depth above raw new
+  header_read full =
+      let (before, two) = head.begun.before in
+      record { shallowest = head.begun.shallowest; deepest = head.begun.deepest; full = full; read = (before, two.sound, head.read before two); frame = head.begun.frame }
+
+  -- what is certified after the header is certified after the two bytes
+  pub header_certifies : (result : Result ℕ Doubt) (stop : Reading) → CertifiesAfterHead depth above raw new result stop → CertifiesAfterTwo depth above first metadata now result stop
+  header_certifies result stop certifies before two = certifies before two.sound (head.read before two)
+
+  -- the header without its box, and a frame that has its precisions
+  pub header_framed : {further : Bool} {plain : Head} {frame : Option Frame} → raw.empty ≡ false → plain ≡ boxless raw → has_further plain.z plain.m ≡ further → IfSome frame (IsFramed plain) → HasFramedHead depth further plain frame new
+  header_framed full same axes framed = let h = header_read full in record {
+    body = record { shallowest = h.shallowest; allowed = kind_allowed h same; full = ap (λ (h : Head). h.empty) same ∙ full; axes = axes; framed = framed };
+    deepest = h.deepest;
+    ahead = size_ahead h same new.place (omega arith);
+  }
+
+-- without Z and M in the header there are none in the header without its box
+pub no_further : (raw : Fields) {plain : Head} → plain ≡ boxless raw → (raw.axes.z ≡ None) × (raw.axes.m ≡ None) → has_further plain.z plain.m ≡ false
+no_further raw same flat = ap (λ (h : Head). has_further h.z h.m) same ∙ (λ j. has_further (flat.0 j) (flat.1 j))
+
+-- ---- a geometry whose header was read, and that has a frame
+module _ {depth : ℕ} {further : Bool} {head : Head} {frame : Option Frame} {now : Reading} (ready : HasFramedHead depth further head frame now) (new : Reading) where
+  -- a doubt about its body is a doubt about it
+  pub framed_doubts : (d : Doubt) → HasDoubt (IsRefutedBody (deepest - depth) head frame now) (WantsBehind depth head now) now d new → CertifiesFramed depth head frame now (Err d) new
+  framed_doubts d doubt above raw same under before sound read = body_doubts raw depth above before now ready.body.shallowest ready.deepest sound read.0 read.1 head same frame under new d doubt
+
+  -- if its body is sure, the size decides
+  pub framed_certifies : (vertices : ℕ) (result : Result ℕ Doubt) → IsSureBody (deepest - depth) head frame now new vertices → IsJudged head new.place vertices result → CertifiesFramed depth head frame now result new
+  framed_certifies vertices result sure judged above raw same under before sound read = judged_certifies raw depth above before now ready.body.shallowest ready.deepest sound read.0 read.1 head same frame under new vertices result sure judged
+
+  -- its size field is before the end of its body
+  pub size_later : now.place ≤ new.place → IfSome head.size (λ size. size.after ≤ new.place)
+  size_later le = go head.size ready.ahead
+    where
+      go : (size : Option SizeField) → IfSome size (λ size. size.after ≤ now.place) → IfSome size (λ size. size.after ≤ new.place)
+      go None before = tt
+      go (Some size) before = omega (arith, le, before)

@@ -9,7 +9,7 @@ use Rattle.twkb_head.specs.declared.refusal.Malformed.{Malformed}
 use Rattle.twkb_head.specs.BegunHeader.{is_collection}
 use Rattle.twkb_head.specs.Header.{axes_of, is_multi}
 use Rattle.twkb_head.specs.Holds.{Holds}
-use Rattle.twkb_head.specs.Shared.Reader.{Answer, Reader, ◌>>=◌, viewed, many_at, Fails}
+use Rattle.twkb_head.specs.Shared.Reader.{Answer, Reader, ◌>>=◌, viewed, Fails}
 use Rattle.twkb_head.proofs.Loops.{behind_front}
 use Rattle.twkb_head.proofs.FieldCuts.{ok_is}
 use Rattle.twkb_head.proofs.Readings.{ok_not_err, no_failure}
@@ -19,8 +19,8 @@ use Rattle.twkb_body.specs.declared.lists.List.{List as ListFound}
 use Rattle.twkb_body.specs.Geometry.{Geometry, PolygonValue, lengths_of, points_of, vertex_of, vertices as vertices_of, member_vertices}
 use Rattle.twkb_body.specs.Claims.{Claim, IsTrueClaim, claims, member_claims}
 use Rattle.twkb_body.specs.Audited.{number_of}
-use Rattle.twkb_body.specs.Devices.Body.{Body, ListHead, absolute, zeros, ring_sums, parts_body, members_body, members_of}
-use Rattle.twkb_body.specs.Devices.BodyReader.{list_at, count_at, part_at, shape_at, collection_at, geometry_at, members_under}
+use Rattle.twkb_body.specs.Devices.Body.{Body, ListHead, absolute, zeros, parts_body, members_body, members_of}
+use Rattle.twkb_body.specs.Devices.BodyReader.{list_at, count_at, shape_at, collection_at, geometry_at, members_under, many_parts_at}
 use Rattle.twkb_body.specs.Devices.BoxTest.{Held, held_then, held_with}
 use Rattle.twkb_body.specs.Devices.Found.{named}
 use Rattle.twkb_body.specs.Devices.IdLists.{IsListFound}
@@ -174,7 +174,7 @@ module _ (head : Head) (levels : ℕ) (old : Reading) (frame : Option Frame) (fu
 
   module _ (mid : Reading) (list : ListHead) (found : ListFound) (listed : count_at (is_multi head.kind) head.ids old ≡ (Ok list, mid)) (is_found : IsListFound old mid list found) where
     abbrev reads_parts : ℕ → Answer (List PolygonValue)
-    reads_parts axes = many_at found.count ring_sums (part_at head.kind axes) zeros mid
+    reads_parts axes = many_parts_at head.kind found.count axes zeros mid
 
     parts_read : (axes : ℕ) → axes ≡ axes_of (of_head head) → (body : Body) (new : Reading) → body_behind levels head old ≡ (Ok body, new)
         → (parts : List PolygonValue) × (reads_parts axes ≡ (Ok parts, new)) × (parts_body list parts ≡ body)
@@ -199,7 +199,7 @@ module _ (head : Head) (levels : ℕ) (old : Reading) (frame : Frame) (full : he
     (mid : Reading) (list : ListHead) (found : ListFound) (listed : count_at (is_multi head.kind) head.ids old ≡ (Ok list, mid)) (is_found : IsListFound old mid list found) where
   -- parts that leave the frame's box, and whose points have these axes
   pub points_refute : (axes : ℕ) → axes ≡ axes_of (of_head head) → LeaveBox head.kind axes found.count frame.bounds mid
-      → ((parts : List PolygonValue) (stop : Reading) → many_at found.count ring_sums (part_at head.kind axes) zeros mid ≡ (Ok parts, stop) → HaveAxes axes (points_of parts)) → IsRefutedBody levels head (Some frame) old
+      → ((parts : List PolygonValue) (stop : Reading) → many_parts_at head.kind found.count axes zeros mid ≡ (Ok parts, stop) → HaveAxes axes (points_of parts)) → IsRefutedBody levels head (Some frame) old
   unfolding member_vertices
   points_refute axes axes_are leave have_axes body stop e inside all =
       let m = parts_read head levels old (Some frame) full single mid list found listed is_found axes axes_are body stop e in

@@ -21,14 +21,13 @@ use Rattle.twkb_head.specs.Head.{span_at, range_of, m_axis, IsHeadAt}
 use Rattle.twkb_head.specs.declared.kinds.Kind.{Kind}
 use Rattle.twkb_head.specs.Header.{Header, axes_of, axes_with, is_multi}
 use Rattle.twkb_head.specs.Holds.{IsWithin, Holds}
-use Rattle.twkb_head.specs.Shared.Reader.{many_at}
 use Rattle.twkb_head.proofs.HeadBack.{head_value}
 use Rattle.twkb_body.specs.declared.frame.Frame.{Frame}
 use Rattle.twkb_body.specs.declared.trail.Trail.{Trail}
 use Rattle.twkb_body.specs.declared.inside.Inside.{Inside}
 use Rattle.twkb_body.specs.Devices.BoxTest.{is_in_range, is_in_axis, is_in_box, Held, held_then, held_with}
-use Rattle.twkb_body.specs.Devices.Body.{Body, ListHead, no_body, absolute, zeros, ring_sums, parts_body, members_body, members_of}
-use Rattle.twkb_body.specs.Devices.BodyReader.{part_at, list_at, count_at, members_under}
+use Rattle.twkb_body.specs.Devices.Body.{Body, ListHead, no_body, absolute, zeros, parts_body, members_body, members_of}
+use Rattle.twkb_body.specs.Devices.BodyReader.{list_at, count_at, members_under, many_parts_at}
 use Rattle.twkb_body.specs.Extent.{Reach, reach_of, both}
 use Rattle.twkb_body.specs.Devices.Found.{box_judged, size_judged}
 use Rattle.twkb_body.specs.Geometry.{PointValue, PolygonValue, none, points_of, vertex_of, coordinate, vertices as vertices_of, member_vertices}
@@ -63,7 +62,7 @@ pub record AddsParts {S : Type 0} (step : S → PointValue → S) (kind : Kind) 
   pub after : Trail
   pub counted : count_at (is_multi kind) has_ids old ≡ (Ok list, middle)
   pub found : IsListFound old middle list (record { count = (list.0).0; ids = None })
-  pub read : many_at (list.0).0 ring_sums (part_at kind axes) zeros middle ≡ (Ok parts, new)
+  pub read : many_parts_at kind (list.0).0 axes zeros middle ≡ (Ok parts, new)
   pub walked : IsWalked step axes (no_points) after state state' middle.place new.place (points_of parts)
   pub vertices_are : vertices ≡ after.points
 

@@ -1,15 +1,15 @@
 //! The parts of a body: points, lines and polygons. All are read here, each by a [`PointReader`]: the exact audit reads them by a
 //! `Walk`, a skim by a `CertifiedWalk`, and the first reading by a `LaneTrail` or a `Walk`.
 //! Used by `shape`, `sure/parts` and `sure/shapes`.
-ghost use Rattle.std.specs.Prelude.{◌≡◌, ◌⊎◌, ℕ, List, flat_map, false, IfOk, IfErr};
+ghost use Rattle.std.specs.Prelude.{◌≡◌, ◌⊎◌, ℕ, List, flat_map, false};
 ghost use Rattle.twkb_head.specs.declared.kinds.Kind.{Kind};
 ghost use Rattle.twkb_head.specs.declared.kinds.Kind.TheVariants.{Point, LineString, Polygon, MultiPolygon};
 ghost use Rattle.twkb_head.specs.Header.{is_multi};
 ghost use Rattle.twkb_head.specs.Shared.Reader.{Reader, many_at};
 ghost use Rattle.twkb_body.specs.Geometry.{PointValue, points_of};
-ghost use Rattle.twkb_body.specs.Devices.Body.{add, sums, ring_sums};
-ghost use Rattle.twkb_body.specs.Devices.BodyReader.{point_at, ring_at, prefixed_at, part_at};
-ghost use Rattle.twkb_body.specs.Devices.PointReader.{IsReady, ReadsAll, StopsEarly, HasLength};
+ghost use Rattle.twkb_body.specs.Devices.Body.{add, sums};
+ghost use Rattle.twkb_body.specs.Devices.BodyReader.{point_at, prefixed_at, lines_at, many_parts_at};
+ghost use Rattle.twkb_body.specs.Devices.PointReader.{IsReady, ReadsOrEnds, HasLength};
 
 use crate::point_reader::PointReader;
 use crate::varints::take_number;
@@ -25,13 +25,9 @@ pub fn take_parts<L: LineLoop, R: PointReader>(
     count: u64,
     reader: &mut R,
 ) -> Result<(), R::Fault>
-    requires ready { IsReady (R.stands reader.old) R.trusts (λ axes. many_at count ring_sums (part_at kind axes))
-        cursor.old }
-    ensures read { IfOk result (λ done. ReadsAll (λ axes. many_at count ring_sums (part_at kind axes)) points_of R.step
-        R.trusts (R.stands reader.old) (R.stands reader.new) cursor.old cursor.new) }
-    ensures ended { IfErr result (λ fault. StopsEarly (λ axes. many_at count ring_sums (part_at kind axes)) points_of
-        R.step R.trusts (R.stands reader.old) R.ends (R.tells fault) cursor.old cursor.new) }
-    ensures bytes { cursor.new.bytes ≡ cursor.old.bytes }
+    requires ready { IsReady (R.stands reader.old) R.trusts (many_parts_at kind count) cursor.old }
+    ensures { ReadsOrEnds (many_parts_at kind count) points_of R.step R.trusts R.ends R.tells (R.stands reader.old)
+        (R.stands reader.new) result cursor.old cursor.new }
 {
     match kind {
         Kind::Point | Kind::MultiPoint => OutOfLine(Run).take(cursor, count, reader),
@@ -50,13 +46,9 @@ fn take_polygons<R: PointReader>(
     reader: &mut R,
 ) -> Result<(), R::Fault>
     requires kind { (kind ≡ Polygon) ⊎ (kind ≡ MultiPolygon) }
-    requires ready { IsReady (R.stands reader.old) R.trusts (λ axes. many_at count ring_sums (part_at kind axes))
-        cursor.old }
-    ensures read { IfOk result (λ done. ReadsAll (λ axes. many_at count ring_sums (part_at kind axes)) points_of R.step
-        R.trusts (R.stands reader.old) (R.stands reader.new) cursor.old cursor.new) }
-    ensures ended { IfErr result (λ fault. StopsEarly (λ axes. many_at count ring_sums (part_at kind axes)) points_of
-        R.step R.trusts (R.stands reader.old) R.ends (R.tells fault) cursor.old cursor.new) }
-    ensures bytes { cursor.new.bytes ≡ cursor.old.bytes }
+    requires ready { IsReady (R.stands reader.old) R.trusts (many_parts_at kind count) cursor.old }
+    ensures { ReadsOrEnds (many_parts_at kind count) points_of R.step R.trusts R.ends R.tells (R.stands reader.old)
+        (R.stands reader.new) result cursor.old cursor.new }
 {
     let rings = OutOfLine(Prefixed(Run));
     OutOfLine(Prefixed(rings)).take(cursor, count, reader)
@@ -75,13 +67,9 @@ pub trait PartLoop {
         reader: &mut R,
     ) -> Result<(), R::Fault>
         requires fits { fits kind count }
-        requires ready { IsReady (R.stands reader.old) R.trusts (λ axes. many_at count ring_sums (part_at kind axes))
-            cursor.old }
-        ensures read { IfOk result (λ done. ReadsAll (λ axes. many_at count ring_sums (part_at kind axes)) points_of
-            R.step R.trusts (R.stands reader.old) (R.stands reader.new) cursor.old cursor.new) }
-        ensures ended { IfErr result (λ fault. StopsEarly (λ axes. many_at count ring_sums (part_at kind axes))
-            points_of R.step R.trusts (R.stands reader.old) R.ends (R.tells fault) cursor.old cursor.new) }
-        ensures bytes { cursor.new.bytes ≡ cursor.old.bytes };
+        requires ready { IsReady (R.stands reader.old) R.trusts (many_parts_at kind count) cursor.old }
+        ensures { ReadsOrEnds (many_parts_at kind count) points_of R.step R.trusts R.ends R.tells (R.stands reader.old)
+            (R.stands reader.new) result cursor.old cursor.new };
 }
 
 /// Reads a point, a line or a polygon. A point is a line of one point, so that code which reads points is there once.
@@ -141,14 +129,9 @@ fn take_length(cursor: &mut Cursor, kind: Kind) -> Result<u64, Malformed>
 pub trait LineLoop {
     /// Reads `count` lines.
     fn take<R: PointReader>(cursor: &mut Cursor, count: u64, reader: &mut R) -> Result<(), R::Fault>
-        requires ready { IsReady (R.stands reader.old) R.trusts (λ axes. many_at count sums (ring_at axes)) cursor.old }
-        ensures read { IfOk result (λ done. ReadsAll (λ axes. many_at count sums (ring_at axes))
-            (λ lines. flat_map (λ line. line) lines) R.step R.trusts (R.stands reader.old) (R.stands reader.new)
-            cursor.old cursor.new) }
-        ensures ended { IfErr result (λ fault. StopsEarly (λ axes. many_at count sums (ring_at axes))
-            (λ lines. flat_map (λ line. line) lines) R.step R.trusts (R.stands reader.old) R.ends (R.tells fault)
-            cursor.old cursor.new) }
-        ensures bytes { cursor.new.bytes ≡ cursor.old.bytes };
+        requires ready { IsReady (R.stands reader.old) R.trusts (lines_at count) cursor.old }
+        ensures { ReadsOrEnds (lines_at count) (λ lines. flat_map (λ line. line) lines) R.step R.trusts R.ends R.tells
+            (R.stands reader.old) (R.stands reader.new) result cursor.old cursor.new };
 }
 
 /// Lines are read by code that is inlined.
@@ -196,11 +179,8 @@ trait Values<R: PointReader> {
     /// Reads `count` values.
     fn take(&self, cursor: &mut Cursor, count: u64, reader: &mut R) -> Result<(), R::Fault>
         requires ready { IsReady (R.stands reader.old) R.trusts (λ axes. many_at count after (each axes)) cursor.old }
-        ensures read { IfOk result (λ done. ReadsAll (λ axes. many_at count after (each axes)) points_in R.step
-            R.trusts (R.stands reader.old) (R.stands reader.new) cursor.old cursor.new) }
-        ensures ended { IfErr result (λ fault. StopsEarly (λ axes. many_at count after (each axes)) points_in R.step
-            R.trusts (R.stands reader.old) R.ends (R.tells fault) cursor.old cursor.new) }
-        ensures bytes { cursor.new.bytes ≡ cursor.old.bytes };
+        ensures { ReadsOrEnds (λ axes. many_at count after (each axes)) points_in R.step R.trusts R.ends R.tells
+            (R.stands reader.old) (R.stands reader.new) result cursor.old cursor.new };
 }
 
 /// A run of points. No count precedes a point.

@@ -5,10 +5,10 @@
 //! visitor until it is settled.
 //! [`LaneTrail`](crate::lane_trail::LaneTrail) stops at the first point outside a box.
 //! Used by `certified_walk`, `lane_trail`, `parts` and `walk`.
-ghost use Rattle.std.specs.Prelude.{◌≡◌, Bool, Option, IfOk, IfErr, IfSome};
+ghost use Rattle.std.specs.Prelude.{◌≡◌, Bool, Option, IfSome};
 ghost use Rattle.twkb_head.specs.declared.refusal.Malformed.{Malformed as MalformedOf};
 ghost use Rattle.twkb_body.specs.Geometry.{PointValue};
-ghost use Rattle.twkb_body.specs.Devices.PointReader.{Stage, IsReady, ReadsAll, StopsEarly, points_at};
+ghost use Rattle.twkb_body.specs.Devices.PointReader.{Stage, IsReady, ReadsOrEnds, points_at};
 
 use twkb_head::Malformed;
 use twkb_num::Cursor;
@@ -42,11 +42,8 @@ pub trait PointReader {
     /// Reads `count` points.
     fn take_points(&mut self, cursor: &mut Cursor, count: u64) -> Result<(), Self::Fault>
         requires ready { IsReady (stands self.old) trusts (points_at count) cursor.old }
-        ensures read { IfOk result (λ done. ReadsAll (points_at count) (λ points. points) step trusts (stands self.old)
-            (stands self.new) cursor.old cursor.new) }
-        ensures ended { IfErr result (λ fault. StopsEarly (points_at count) (λ points. points) step trusts
-            (stands self.old) ends (tells fault) cursor.old cursor.new) }
-        ensures bytes { cursor.new.bytes ≡ cursor.old.bytes };
+        ensures { ReadsOrEnds (points_at count) (λ points. points) step trusts ends tells (stands self.old)
+            (stands self.new) result cursor.old cursor.new };
 
     /// The fault for a malformed field.
     fn fault_of(malformed: Malformed) -> Self::Fault

@@ -1,14 +1,9 @@
 //! The first reading of a blob, which certifies it or ends in a doubt. It hands down the innermost box, and hands up the number of
 //! vertices. Used by `auditing`.
-ghost use Rattle.std.specs.Prelude.{◌≡◌, ◌≤◌, ◌⊎◌, ◌+◌, ◌-◌, bit_and, true, false, Option, None, Some, IfSome, IfOk, Ok, option_map};
+ghost use Rattle.std.specs.Prelude.{◌≡◌, ◌≤◌, ◌⊎◌, ◌+◌, ◌-◌, bit_and, true, false, None, IfSome, IfOk, Ok};
 ghost use Rattle.twkb_head.specs.BegunHeader.{deepest, is_collection, IsAllowedAt};
-ghost use Rattle.twkb_head.specs.Header.{axes_of};
-ghost use Rattle.twkb_head.specs.Raw.{boxless};
-ghost use Rattle.twkb_head.specs.declared.raw.Fields.{Fields as FieldsOf};
 ghost use Rattle.twkb_head.specs.declared.header.Head.{Head as HeadOf};
-ghost use Rattle.twkb_body.specs.declared.frame.Frame.{Frame as FrameOf};
-ghost use Rattle.twkb_body.specs.Devices.Inside.{of_head};
-ghost use Rattle.twkb_body.specs.Devices.Sure.{counted_in, framed, has_further, IsFrameUnder, IsFramed, IsFrame, HasBegun, HasHead, Certifies, CertifiesAfterTwo, CertifiesAfterHead, CertifiesBody};
+ghost use Rattle.twkb_body.specs.Devices.Sure.{counted_in, IsFrame, HasBegun, HasHead, HasBody, HasFramedHead, Certifies, CertifiesAfterTwo, CertifiesAfterHead, CertifiesFramed, CertifiesBody, CertifiesMany};
 
 mod announced;
 mod apart;
@@ -146,17 +141,8 @@ fn take_flat_framed<R: IdRoom>(
     head: &Head,
     frame: &Option<Frame>,
 ) -> Result<usize, Doubt>
-    requires shallowest { 1 ≤ depth }
-    requires deepest { depth ≤ deepest }
-    requires allowed { IsAllowedAt head.now.kind depth }
-    requires full { head.now.empty ≡ false }
-    requires frame { IfSome frame.now (IsFramed head.now) }
-    requires z { head.now.z ≡ None }
-    requires m { head.now.m ≡ None }
-    requires ahead { IfSome head.now.size (λ size. size.after ≤ cursor.old.place) }
-    ensures { (above : Option FrameOf) (raw : FieldsOf) → head.now ≡ boxless raw
-        → IsFrameUnder above head.now (option_map (framed head.now) raw.bounds) frame.now
-        → CertifiesAfterHead depth above raw cursor.old result cursor.new }
+    requires { HasFramedHead depth false head.now frame.now cursor.old }
+    ensures { CertifiesFramed depth head.now frame.now cursor.old result cursor.new }
 {
     let vertices = take_flat_body(room, cursor, depth, head, frame)?;
     judged(head, cursor, vertices)
@@ -231,16 +217,8 @@ fn take_further_framed<R: IdRoom>(
     head: &Head,
     frame: &Option<Frame>,
 ) -> Result<usize, Doubt>
-    requires shallowest { 1 ≤ depth }
-    requires deepest { depth ≤ deepest }
-    requires allowed { IsAllowedAt head.now.kind depth }
-    requires full { head.now.empty ≡ false }
-    requires frame { IfSome frame.now (IsFramed head.now) }
-    requires further { has_further head.now.z head.now.m ≡ true }
-    requires ahead { IfSome head.now.size (λ size. size.after ≤ cursor.old.place) }
-    ensures { (above : Option FrameOf) (raw : FieldsOf) → head.now ≡ boxless raw
-        → IsFrameUnder above head.now (option_map (framed head.now) raw.bounds) frame.now
-        → CertifiesAfterHead depth above raw cursor.old result cursor.new }
+    requires { HasFramedHead depth true head.now frame.now cursor.old }
+    ensures { CertifiesFramed depth head.now frame.now cursor.old result cursor.new }
 {
     let vertices = take_further_body(room, cursor, depth, head, frame)?;
     judged(head, cursor, vertices)
@@ -256,12 +234,7 @@ fn take_flat_body<R: IdRoom>(
     head: &Head,
     frame: &Option<Frame>,
 ) -> Result<usize, Doubt>
-    requires shallowest { 1 ≤ depth }
-    requires allowed { IsAllowedAt head.now.kind depth }
-    requires full { head.now.empty ≡ false }
-    requires frame { IfSome frame.now (IsFramed head.now) }
-    requires z { head.now.z ≡ None }
-    requires m { head.now.m ≡ None }
+    requires { HasBody depth false head.now frame.now }
     ensures { CertifiesBody depth head.now frame.now cursor.old result cursor.new }
 {
     if head.kind.is_multi() {
@@ -288,9 +261,7 @@ fn take_flat_many<R: IdRoom>(
     requires shallowest { 1 ≤ depth }
     requires allowed { IsAllowedAt kind depth }
     requires frame { IfSome frame.now IsFrame }
-    ensures { (head : HeadOf) → head.empty ≡ false → head.kind ≡ kind → head.ids ≡ has_ids → head.z ≡ None
-        → head.m ≡ None → IfSome frame.now (IsFramed head)
-        → CertifiesBody depth head frame.now cursor.old result cursor.new }
+    ensures { CertifiesMany depth kind has_ids 2 frame.now cursor.old result cursor.new }
 {
     if kind.is_collection() {
         take_members(room, cursor, depth, has_ids, frame)
@@ -309,11 +280,7 @@ fn take_further_body<R: IdRoom>(
     head: &Head,
     frame: &Option<Frame>,
 ) -> Result<usize, Doubt>
-    requires shallowest { 1 ≤ depth }
-    requires allowed { IsAllowedAt head.now.kind depth }
-    requires full { head.now.empty ≡ false }
-    requires frame { IfSome frame.now (IsFramed head.now) }
-    requires further { has_further head.now.z head.now.m ≡ true }
+    requires { HasBody depth true head.now frame.now }
     ensures { CertifiesBody depth head.now frame.now cursor.old result cursor.new }
 {
     if head.kind.is_multi() {
@@ -349,9 +316,7 @@ fn take_further_many<R: IdRoom>(
     requires allowed { IsAllowedAt kind depth }
     requires further { (axes ≡ 3) ⊎ (axes ≡ 4) }
     requires frame { IfSome frame.now IsFrame }
-    ensures { (head : HeadOf) → head.empty ≡ false → head.kind ≡ kind → head.ids ≡ has_ids
-        → axes ≡ axes_of (of_head head) → IfSome frame.now (IsFramed head)
-        → CertifiesBody depth head frame.now cursor.old result cursor.new }
+    ensures { CertifiesMany depth kind has_ids axes frame.now cursor.old result cursor.new }
 {
     if kind.is_collection() {
         take_members(room, cursor, depth, has_ids, frame)

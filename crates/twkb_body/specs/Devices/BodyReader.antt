@@ -32,6 +32,10 @@ ring_at axes = prefixed_at add (point_at axes)
 abbrev pub polygon_at : ℕ → PointValue → Reader PolygonValue
 polygon_at axes = prefixed_at sums (ring_at axes)
 
+-- this many lines
+abbrev pub lines_at : ℕ → ℕ → PointValue → Reader (List Ring)
+lines_at count axes = many_at count sums (ring_at axes)
+
 -- a part of the kind
 abbrev pub part_at : Kind → ℕ → PointValue → Reader PolygonValue
 part_at Point axes s r = viewed (λ p. (p ∷ []) ∷ []) (point_at axes s r)
@@ -41,6 +45,10 @@ part_at MultiLineString axes s r = viewed (λ line. line ∷ []) (ring_at axes s
 part_at Polygon axes s r = polygon_at axes s r
 part_at MultiPolygon axes s r = polygon_at axes s r
 part_at GeometryCollection axes s r = (Ok [], r)
+
+-- this many parts of the kind
+abbrev pub many_parts_at : Kind → ℕ → ℕ → PointValue → Reader (List PolygonValue)
+many_parts_at kind count axes = many_at count ring_sums (part_at kind axes)
 
 -- the value of an answer, and how many bytes were read for it
 abbrev pub spanned : {A : Type 0} → Reading → Answer A → Answer (A × ℕ)
@@ -61,7 +69,7 @@ count_at true ids r = list_at ids r
 unfoldable pub shape_at : Bool → Header → Reader Body
 shape_at false h r = viewed part_body (part_at h.kind (axes_of h) zeros r)
 shape_at true h r = list_at h.ids r >>= λ list a.
-    viewed (parts_body list) (many_at (list.0).0 ring_sums (part_at h.kind (axes_of h)) zeros a)
+    viewed (parts_body list) (many_parts_at h.kind (list.0).0 (axes_of h) zeros a)
 
 -- the body that a header announces
 unfoldable pub body_at : Bool → Bool → Header → (ℕ → Reader Members) → Reader Body

@@ -9,8 +9,8 @@ use Rattle.twkb_head.specs.Shared.Reader.{Reader, many_at}
 use Rattle.twkb_body.specs.declared.positions.Step.{Step}
 use Rattle.twkb_body.specs.declared.trail.Trail.{Trail}
 use Rattle.twkb_body.specs.Geometry.{PointValue, points_of}
-use Rattle.twkb_body.specs.Devices.Body.{add, ring_sums, zeros}
-use Rattle.twkb_body.specs.Devices.BodyReader.{point_at, part_at}
+use Rattle.twkb_body.specs.Devices.Body.{add, zeros}
+use Rattle.twkb_body.specs.Devices.BodyReader.{point_at, many_parts_at}
 use Rattle.twkb_body.specs.Devices.BoxTest.{Held, held_then}
 use Rattle.twkb_body.specs.Devices.PointReader.{Stage, Leads}
 use Rattle.twkb_body.specs.Devices.Quads.{lanes_at, lanes_within, IsInLane, IsLaneExtent}
@@ -63,7 +63,7 @@ pub record IsLaneStep (axes left : ℕ) (place : RawBox → List ℕ → List �
 
 -- if the parts can be read, the box doesn't hold all their points
 abbrev pub LeaveBox : Kind → ℕ → ℕ → RawBox → Reading → Type 0
-LeaveBox kind axes count box from = LeavesBox axes (λ last. many_at count ring_sums (part_at kind axes) last) points_of box zeros from
+LeaveBox kind axes count box from = LeavesBox axes (λ last. many_parts_at kind count axes last) points_of box zeros from
 
 -- ---- where readers are
 -- the stage after this many points, all of them in the box, of which the last one has this property

@@ -1,6 +1,6 @@
 -- Devices of proofs: nothing public names them.
 -- What readers of points have read: a value of the grammar, whose points changed a state. Or they ended early.
-use Rattle.std.specs.Prelude.{◌≡◌, ℕ, ◌≤◌, ◌⊎◌, Bool, true, false, List, fold, Result, Ok, Option, Some, None}
+use Rattle.std.specs.Prelude.{◌≡◌, ℕ, ◌≤◌, ◌⊎◌, Bool, true, false, List, fold, Result, Ok, Option, Some, None, IfOk, IfErr}
 use Rattle.std.specs.Borrow.{GName}
 use Rattle.twkb_num.specs.Cursor.{Reading}
 use Rattle.twkb_head.specs.declared.header.Head.{Head}
@@ -76,6 +76,13 @@ ReadsAll {A} {S} each points_in step trusts old new from to =
 abbrev pub StopsEarly : {A S : Type 0} → (ℕ → PointValue → Reader A) → (A → List PointValue) → (S → PointValue → S) → Bool → (Stage S → Type 0) → (S → Type 0) → Option Malformed → Reading → Reading → Type 0
 StopsEarly {A} {S} each points_in step trusts old ends told from to =
     (at : Stage S) → IsBefore old trusts each from at → EndsEarly (each at.axes) points_in step ends told at from to
+
+-- A reader has read a value, or reading it ended early, and `tells` says which malformed field a fault names. The bytes stay as they are.
+pub record ReadsOrEnds {A S T F : Type 0} (each : ℕ → PointValue → Reader A) (points_in : A → List PointValue) (step : S → PointValue → S) (trusts : Bool)
+    (ends : S → Type 0) (tells : F → Option Malformed) (old new : Stage S → Type 0) (result : Result T F) (from to : Reading) : Type 0 where
+  pub read : IfOk result (λ done. ReadsAll each points_in step trusts old new from to)
+  pub ended : IfErr result (λ fault. StopsEarly each points_in step trusts old ends (tells fault) from to)
+  pub bytes : to.bytes ≡ from.bytes
 
 -- the stage of a walk: its trail, and its header beside the state of what the points are added to
 pub record IsWalking {S : Type 0} (head : Head) (axes : ℕ) (trail : Trail) (state : S) (at : Stage (Header × S)) : Type 0 where

@@ -9,13 +9,13 @@ use Rattle.twkb_head.specs.declared.boxes.Bounds.{Bounds}
 use Rattle.twkb_head.specs.declared.boxes.Vertex.{Vertex}
 use Rattle.twkb_head.specs.declared.raw.RawBox.{RawBox}
 use Rattle.twkb_head.specs.declared.raw.RawRange.{RawRange}
-use Rattle.twkb_head.specs.BegunHeader.{deepest, is_collection}
+use Rattle.twkb_head.specs.BegunHeader.{deepest, is_collection, IsAllowedAt}
 use Rattle.twkb_head.specs.declared.raw.Fields.{Fields}
 use Rattle.twkb_head.specs.declared.read.Begun.{Begun}
-use Rattle.twkb_head.specs.Raw.{HavePrecisions, raw_bounds, BeginsHead, ReadsHead}
-use Rattle.twkb_head.specs.Header.{Header, has_bit}
+use Rattle.twkb_head.specs.Raw.{HavePrecisions, raw_bounds, boxless, BeginsHead, ReadsHead}
+use Rattle.twkb_head.specs.Header.{Header, axes_of, has_bit}
 use Rattle.twkb_head.specs.Holds.{Holds}
-use Rattle.twkb_head.specs.Shared.Reader.{many_at, Fails}
+use Rattle.twkb_head.specs.Shared.Reader.{Fails}
 use Rattle.twkb_head.specs.declared.refusal.Malformed.{Malformed}
 use Rattle.twkb_body.specs.declared.trail.Trail.{Trail}
 use Rattle.twkb_body.specs.declared.found.Found.{Found}
@@ -29,8 +29,8 @@ use Rattle.twkb_body.specs.Audited.{HasLongList}
 use Rattle.twkb_body.specs.declared.doubt.Doubt.{Doubt}
 use Rattle.twkb_body.specs.Devices.BoxTest.{Held, held_then}
 use Rattle.twkb_body.specs.Devices.Bare.{unchanged}
-use Rattle.twkb_body.specs.Devices.Body.{Body, ListHead, ring_sums, zeros}
-use Rattle.twkb_body.specs.Devices.BodyReader.{part_at, count_at, geometry_at}
+use Rattle.twkb_body.specs.Devices.Body.{Body, ListHead, zeros}
+use Rattle.twkb_body.specs.Devices.BodyReader.{count_at, geometry_at, many_parts_at}
 use Rattle.twkb_body.specs.Extent.{reach_of}
 use Rattle.twkb_body.specs.Devices.Found.{size_judged, IsFound}
 use Rattle.twkb_body.specs.declared.stopped.Stopped.{Stopped}
@@ -54,14 +54,14 @@ pub record ReadParts {S : Type 0} (step : S → PointValue → S) (kind : Kind) 
     (old new : Reading) (state state' : S) (vertices : ℕ) : Type 0 where
   pub parts : List PolygonValue
   pub after : Trail
-  pub read : many_at count ring_sums (part_at kind axes) zeros old ≡ (Ok parts, new)
+  pub read : many_parts_at kind count axes zeros old ≡ (Ok parts, new)
   pub walked : IsWalked step axes no_points after state state' old.place new.place (points_of parts)
   pub vertices_are : vertices ≡ after.points
 
 -- the parts can't be read
 abbrev pub AreMalformed : Kind → ℕ → ℕ → Reading → Reading → Type 0
 AreMalformed kind axes count old new =
-    (m : Malformed) × Fails (many_at count ring_sums (part_at kind axes) zeros old) m new
+    (m : Malformed) × Fails (many_parts_at kind count axes zeros old) m new
 
 -- The parts were read, and the box holds all their points.
 abbrev pub AreHeld : Kind → ℕ → ℕ → RawBox → Reading → Reading → ℕ → Type 0
@@ -245,6 +245,27 @@ abbrev pub CertifiesAfterHead : ℕ → Option Frame → Fields → Reading → 
 CertifiesAfterHead depth above raw now result new =
     (before : Reading) → IsSound before → ReadsHead depth before now (Ok raw) → Certifies depth above before result new
 
+-- A geometry at an allowed depth has a body, and Z or M as `further` says. The frame, if there is one, has the precisions of its
+-- header, which lie in their ranges.
+pub record HasBody (depth : ℕ) (further : Bool) (head : Head) (frame : Option Frame) : Type 0 where
+  pub shallowest : 1 ≤ depth
+  pub allowed : IsAllowedAt head.kind depth
+  pub full : head.empty ≡ false
+  pub axes : has_further head.z head.m ≡ further
+  pub framed : IfSome frame (IsFramed head)
+
+-- The header of a geometry with a body was read, and its size field is before the place.
+pub record HasFramedHead (depth : ℕ) (further : Bool) (head : Head) (frame : Option Frame) (now : Reading) : Type 0 where
+  pub body : HasBody depth further head frame
+  pub deepest : depth ≤ deepest
+  pub ahead : IfSome head.size (λ size. size.after ≤ now.place)
+
+-- `CertifiesAfterHead`, of a geometry with this header apart from its box, which has this frame
+abbrev pub CertifiesFramed : ℕ → Head → Option Frame → Reading → Result ℕ Doubt → Reading → Type 0
+CertifiesFramed depth head frame now result new = (above : Option Frame) (raw : Fields) → head ≡ boxless raw
+    → IsFrameUnder above head (option_map (framed head) raw.bounds) frame
+    → CertifiesAfterHead depth above raw now result new
+
 -- The first two bytes of a blob of this kind were read, with a precision in its range. They announce a body of X and Y alone and no
 -- box.
 pub record HasBegunPlain (kind : Kind) (begun : Begun) (now : Reading) : Type 0 where
@@ -298,12 +319,6 @@ pub record IsShapeHead (head : Head) (frame : Option Frame) : Type 0 where
   pub kind : is_collection head.kind ≡ false
   pub framed : IfSome frame (IsFramed head)
 
--- The header is of a geometry of X and Y alone that has a body and is no collection.
-pub record IsFlatShape (head : Head) (frame : Option Frame) : Type 0 where
-  pub shape : IsShapeHead head frame
-  pub z : head.z ≡ None
-  pub m : head.m ≡ None
-
 -- The parts of a body were read, of points with so many axes, and the box of the frame, if there is one, holds all their points; or
 -- else they leave it, or can't be read.
 abbrev pub TakesParts : Kind → ℕ → ℕ → Option Frame → Reading → Reading → Result ℕ Doubt → Type 0
@@ -317,6 +332,22 @@ abbrev pub CertifiesShape : ℕ → Head → Option Frame → Reading → Result
 CertifiesShape levels head frame old result new =
     IsSureOr (IsSureBody levels head frame old new) (IsRefutedBody levels head frame old)
     (HasManyIdsAfterCount head.ids (rest old)) old result new
+
+-- on Ok one part is sure after each header of this kind and number of axes; on Err there is the doubt
+abbrev pub CertifiesSingle : Kind → ℕ → Option Frame → Reading → Result ℕ Doubt → Reading → Type 0
+CertifiesSingle kind axes frame old result new = (levels : ℕ) (head : Head) → head.kind ≡ kind
+    → axes ≡ axes_of (of_head head) → IsShapeHead head frame → CertifiesShape levels head frame old result new
+
+-- on Ok a list of parts is sure after each header of this kind, with ids or without, and of this number of axes; on Err there is the doubt
+abbrev pub CertifiesList : Kind → Bool → ℕ → Option Frame → Reading → Result ℕ Doubt → Reading → Type 0
+CertifiesList kind ids axes frame old result new = (levels : ℕ) (head : Head) → head.kind ≡ kind → head.ids ≡ ids
+    → axes ≡ axes_of (of_head head) → IsShapeHead head frame → CertifiesShape levels head frame old result new
+
+-- `CertifiesBody`, after each header of this kind, with ids or without, and of this number of axes
+abbrev pub CertifiesMany : ℕ → Kind → Bool → ℕ → Option Frame → Reading → Result ℕ Doubt → Reading → Type 0
+CertifiesMany depth kind ids axes frame old result new = (head : Head) → head.empty ≡ false → head.kind ≡ kind
+    → head.ids ≡ ids → axes ≡ axes_of (of_head head) → IfSome frame (IsFramed head)
+    → CertifiesBody depth head frame old result new
 
 -- a header that isn't empty says this, apart from its size, and its box is these raw numbers in units
 pub record IsApart (head : Head) (kind : Kind) (xy : ℤ) (z m : Option ℕ) (ids : Bool) (box : Option RawBox)

@@ -28,8 +28,7 @@ pub fn take_flat_apart<R: IdRoom>(
 ) -> Result<usize, Doubt>
     requires head { HasHead depth above.now raw.now cursor.old }
     requires xy { IsPrecision raw.now.axes.xy }
-    requires z { raw.now.axes.z ≡ None }
-    requires m { raw.now.axes.m ≡ None }
+    requires flat { (raw.now.axes.z ≡ None) × (raw.now.axes.m ≡ None) }
     ensures { CertifiesAfterHead depth above.now raw.now cursor.old result cursor.new }
 {
     let head = raw.boxless();

@@ -1,9 +1,7 @@
 //! The bodies of geometries that are no collections, in the first reading. Used by `sure`.
-ghost use Rattle.std.specs.Prelude.{◌≡◌, ◌⊎◌, ℕ, false};
-ghost use Rattle.twkb_head.specs.Header.{axes_of, is_multi};
-ghost use Rattle.twkb_head.specs.declared.header.Head.{Head as HeadOf};
-ghost use Rattle.twkb_body.specs.Devices.Sure.{IsShapeHead, IsFlatShape, TakesParts, CertifiesShape};
-ghost use Rattle.twkb_body.specs.Devices.Inside.{of_head};
+ghost use Rattle.std.specs.Prelude.{◌≡◌, ◌⊎◌, false};
+ghost use Rattle.twkb_head.specs.Header.{is_multi};
+ghost use Rattle.twkb_body.specs.Devices.Sure.{TakesParts, CertifiesSingle, CertifiesList};
 
 use super::parts::{take_boxed, take_count, take_flat_boxed};
 use super::unboxed::take_unboxed;
@@ -22,8 +20,7 @@ pub fn take_flat_single(
     frame: &Option<Frame>,
 ) -> Result<usize, Doubt>
     requires { is_multi kind ≡ false }
-    ensures { (levels : ℕ) (head : HeadOf) → head.kind ≡ kind → IsFlatShape head frame.now
-        → CertifiesShape levels head frame.now cursor.old result cursor.new }
+    ensures { CertifiesSingle kind 2 frame.now cursor.old result cursor.new }
 {
     take_flat_parts::<OnePart>(cursor, kind, 1, frame)
 }
@@ -37,8 +34,7 @@ pub fn take_flat_list<R: IdRoom>(
     has_ids: bool,
     frame: &Option<Frame>,
 ) -> Result<usize, Doubt>
-    ensures { (levels : ℕ) (head : HeadOf) → head.kind ≡ kind → head.ids ≡ has_ids → IsFlatShape head frame.now
-        → CertifiesShape levels head frame.now cursor.old result cursor.new }
+    ensures { CertifiesList kind has_ids 2 frame.now cursor.old result cursor.new }
 {
     let count = take_count(room, cursor, kind, has_ids)?;
     take_flat_parts::<ManyParts>(cursor, kind, count, frame)
@@ -71,8 +67,7 @@ pub fn take_further_single(
 ) -> Result<usize, Doubt>
     requires single { is_multi kind ≡ false }
     requires further { (axes ≡ 3) ⊎ (axes ≡ 4) }
-    ensures { (levels : ℕ) (head : HeadOf) → head.kind ≡ kind → axes ≡ axes_of (of_head head)
-        → IsShapeHead head frame.now → CertifiesShape levels head frame.now cursor.old result cursor.new }
+    ensures { CertifiesSingle kind axes frame.now cursor.old result cursor.new }
 {
     take_further_parts::<OnePart>(cursor, kind, axes, 1, frame)
 }
@@ -88,8 +83,7 @@ pub fn take_further_list<R: IdRoom>(
     frame: &Option<Frame>,
 ) -> Result<usize, Doubt>
     requires { (axes ≡ 3) ⊎ (axes ≡ 4) }
-    ensures { (levels : ℕ) (head : HeadOf) → head.kind ≡ kind → head.ids ≡ has_ids → axes ≡ axes_of (of_head head)
-        → IsShapeHead head frame.now → CertifiesShape levels head frame.now cursor.old result cursor.new }
+    ensures { CertifiesList kind has_ids axes frame.now cursor.old result cursor.new }
 {
     let count = take_count(room, cursor, kind, has_ids)?;
     take_further_parts::<ManyParts>(cursor, kind, axes, count, frame)

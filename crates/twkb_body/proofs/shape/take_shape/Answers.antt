@@ -3,10 +3,8 @@ use Rattle.std.proofs.Common.{refl}
 use Rattle.std.proofs.lemmas.Result.{err_from_is_err_and}
 use Rattle.twkb_num.specs.Cursor.{rest}
 use Rattle.twkb_head.specs.Header.{is_multi}
-use Rattle.twkb_head.specs.Shared.Reader.{many_at}
 use Rattle.twkb_body.specs.Geometry.{points_of}
-use Rattle.twkb_body.specs.Devices.Body.{ring_sums}
-use Rattle.twkb_body.specs.Devices.BodyReader.{part_at, count_at, shape_at}
+use Rattle.twkb_body.specs.Devices.BodyReader.{count_at, shape_at, many_parts_at}
 use Rattle.twkb_body.specs.Devices.Ranges.{widened}
 use Rattle.twkb_body.specs.Devices.Walk.{no_points}
 use Rattle.twkb_body.specs.Devices.IdLists.{HasManyIdsAfterCount}
@@ -25,21 +23,21 @@ returns-in_err-list g c =
     (λ m f. no_count (of_head head) _ m _ f) (λ bytes wants. (bytes, wants)) c.in_err-list.ensures)
 
 pub take_parts-requires : goal.take_parts-requires
-take_parts-requires g c = record { ready = (_, none_yet _ (λ axes. many_at c.in_ok-list.list.count ring_sums (part_at c.args.head.now.kind axes)) c.take_count.new.cursor _ c.new-walk.ensures.stands refl) }
+take_parts-requires g c = record { ready = (_, none_yet c.new-walk.ensures.stands refl) }
 
 pub returns-in_err-take_parts : goal.returns-in_err-take_parts
 returns-in_err-take_parts g c =
     let p = err_from_is_err_and c.from_residual-in_err-take_parts.result c.from_residual-in_err-take_parts.ensures.1 in
     let h = of_head c.args.head.now in
     let list = c.in_ok-list.ensures in
-    let fails = c.in_err-take_parts.ensures.ended _ (none_yet _ (λ axes. many_at c.in_ok-list.list.count ring_sums (part_at c.args.head.now.kind axes)) c.take_count.new.cursor _ c.new-walk.ensures.stands refl) in
+    let fails = c.in_err-take_parts.ensures.ended _ (none_yet c.new-walk.ensures.stands refl) in
     rw (p.1, p.2) (no_parts h _ _ _ list.0 c.in_ok-list.list.count no_points c.axes.ensures.value refl list.1 list.2.count _ _ fails)
 
 pub returns : goal.returns
 returns g c =
     let h = of_head c.args.head.now in
     let list = c.in_ok-list.ensures in
-    let parts = value_read widened (many_at c.in_ok-list.list.count ring_sums (part_at h.kind c.axes.result)) points_of h c.axes.result no_points c.empty.result _ _ _ _ c.take_count.new.cursor c.take_parts.new.cursor (c.in_ok-take_parts.ensures.read _ (none_yet _ (λ axes. many_at c.in_ok-list.list.count ring_sums (part_at c.args.head.now.kind axes)) c.take_count.new.cursor _ c.new-walk.ensures.stands refl)) in
+    let parts = value_read widened (many_parts_at h.kind c.in_ok-list.list.count c.axes.result) points_of h c.axes.result no_points c.empty.result _ _ _ _ c.take_count.new.cursor c.take_parts.new.cursor (c.in_ok-take_parts.ensures.read _ (none_yet c.new-walk.ensures.stands refl)) in
     let shape = shape_of_parts h _ _ _ list.0 c.in_ok-list.list.count no_points c.axes.ensures.value refl list.1 list.2.count _ c.in_ok-list.list _ parts.0 c.args.head.now.bounds _ _ _ _ _ _
     list.2 c.empty.ensures refl parts.1 parts.2 c.found_on.ensures.vertices c.judge_ranges.ensures.boxed c.judge_ranges.ensures.seen c.found_on.ensures.refused refl in
     (_, shape.0, shape.1)

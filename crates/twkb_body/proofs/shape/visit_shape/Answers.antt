@@ -2,13 +2,13 @@
 use Rattle.std.proofs.Common.{rules, ◌≡◌, ℕ, true, Ok, refl, ap, ◌∙◌, arith}
 use Rattle.twkb_num.specs.Cursor.{Reading}
 use Rattle.twkb_head.proofs.Readings.{one_answer, no_failure}
-use Rattle.twkb_head.specs.Shared.Reader.{Reader, many_at}
+use Rattle.twkb_head.specs.Shared.Reader.{Reader}
 use Rattle.twkb_body.specs.Geometry.{PointValue, points_of}
-use Rattle.twkb_body.specs.Devices.Body.{Body, ring_sums}
-use Rattle.twkb_body.specs.Devices.BodyReader.{part_at}
+use Rattle.twkb_body.specs.Devices.Body.{Body}
 use Rattle.twkb_body.specs.Devices.Inside.{of_head, shape_behind, shown_all}
 use Rattle.twkb_body.specs.Devices.PointReader.{Stage, IsBefore}
 use Rattle.twkb_body.specs.Devices.Walk.{no_points, shown}
+use Rattle.twkb_body.specs.Devices.BodyReader.{many_parts_at}
 use Rattle.twkb_body.proofs.CertifiedWalks.{walk_shown, lent_back}
 use Rattle.twkb_body.proofs.ShapeSteps.{no_count, shape_shown, parts_read}
 use Rattle.twkb_body.proofs.shape.visit_shape.Goals as goal
@@ -34,21 +34,21 @@ unreachable-requires-in_default-take_parts g c =
     let (body, stop, e) = c.requires.stands in
     let list = c.in-Ok.ensures in
     let p = parts_read (of_head c.args.head.now) c.args.cursor.now _ _ list.0 c.in-Ok.count no_points c.axes-axes.ensures.value refl list.1 list.2 body stop e in
-    no_failure (many_at c.in-Ok.count ring_sums (part_at c.args.head.now.kind c.axes-axes.result) no_points.last c.pass_count.new.cursor) p.0 stop _ _ p.1 (c.in_default-take_parts.ensures.ended _ (before p.0 stop c.new-walk.ensures.stands refl p.1))
+    no_failure (many_parts_at c.args.head.now.kind c.in-Ok.count c.axes-axes.result no_points.last c.pass_count.new.cursor) p.0 stop _ _ p.1 (c.in_default-take_parts.ensures.ended _ (before p.0 stop c.new-walk.ensures.stands refl p.1))
 
 pub returns-clause-cursor : goal.returns-clause-cursor
 returns-clause-cursor g c = λ body stop e.
     let list = c.in-Ok.ensures in
     let p = parts_read (of_head c.args.head.now) c.args.cursor.now _ _ list.0 c.in-Ok.count no_points c.axes-axes.ensures.value refl list.1 list.2 body stop e in
     let read = c.in-Ok-take_parts.ensures.read _ (before p.0 stop c.new-walk.ensures.stands refl p.1) in
-    (one_answer (many_at c.in-Ok.count ring_sums (part_at c.args.head.now.kind c.axes-axes.result) no_points.last c.pass_count.new.cursor) read.value p.0 c.take_parts.new.cursor stop read.read p.1).1
+    (one_answer (many_parts_at c.args.head.now.kind c.in-Ok.count c.axes-axes.result no_points.last c.pass_count.new.cursor) read.value p.0 c.take_parts.new.cursor stop read.read p.1).1
 
 pub returns-clause-visitor : goal.returns-clause-visitor
 returns-clause-visitor g c = λ body stop e.
     let list = c.in-Ok.ensures in
     let step = g.V.Visit.step in
     let p = parts_read (of_head c.args.head.now) c.args.cursor.now _ _ list.0 c.in-Ok.count no_points c.axes-axes.ensures.value refl list.1 list.2 body stop e in
-    let read = walk_shown (shown step) (many_at c.in-Ok.count ring_sums (part_at c.args.head.now.kind c.axes-axes.result)) points_of (of_head c.args.head.now) _ c.axes-axes.result no_points _ _ _ _ _ _ _ c.pass_count.new.cursor c.take_parts.new.cursor
+    let read = walk_shown (shown step) (many_parts_at c.args.head.now.kind c.in-Ok.count c.axes-axes.result) points_of (of_head c.args.head.now) _ c.axes-axes.result no_points _ _ _ _ _ _ _ c.pass_count.new.cursor c.take_parts.new.cursor
     (c.in-Ok-take_parts.ensures.read _ (before p.0 stop c.new-walk.ensures.stands refl p.1)) in
     let (shown, is, seen) = shape_shown (of_head c.args.head.now) c.args.cursor.now _ _ list.0 c.in-Ok.count no_points c.axes-axes.ensures.value refl list.1 list.2 step read.2 (g.V.Visit.state c.args.visitor.now) (g.V.Visit.state c.take_parts.new.reader.visitor.now) (Ok tt) c.take_parts.new.cursor
     (read.0, read.1, read.3) in

@@ -1,17 +1,13 @@
 -- The first reading of a geometry and of members, each by the other: what it certifies, and what it refutes.
-use Rattle.std.proofs.Common.{rules, ◌≡◌, ◌+◌, ◌-◌, ◌≤◌, ℕ, suc, Bool, false, Option, Some, None, option_map, IfSome, Ok, refl, sym, ap, subst, ◌∙◌, arith}
+use Rattle.std.proofs.Common.{rules, ◌≡◌, ◌+◌, ◌-◌, ℕ, suc, Bool, false, Option, None, option_map, Ok, refl, sym, ap, subst, ◌∙◌, arith}
 use Rattle.std.specs.Prelude.{◌<◌, bit_and}
 use Rattle.std.proofs.lemmas.Result.{err_from_is_err_and}
 use Rattle.twkb_num.specs.Cursor.{Reading, rest}
 use Rattle.twkb_head.proofs.HeadLaws.{header_two}
 use Rattle.twkb_head.proofs.HeadSteps.{box_bits, bits_same}
-use Rattle.twkb_head.specs.BegunHeader.{deepest, is_collection}
-use Rattle.twkb_head.specs.declared.header.SizeField.{SizeField}
-use Rattle.twkb_head.specs.declared.kinds.Kind.{Kind}
-use Rattle.twkb_head.specs.declared.kinds.Kind.TheVariants.{Point, LineString, Polygon, MultiPoint, MultiLineString, MultiPolygon, GeometryCollection}
+use Rattle.twkb_head.specs.BegunHeader.{deepest}
 use Rattle.twkb_head.specs.Shared.Reader.{Fails}
-use Rattle.twkb_head.specs.Header.{has_bit, is_multi}
-use Rattle.twkb_head.specs.declared.header.Head.{Head}
+use Rattle.twkb_head.specs.Header.{has_bit}
 use Rattle.twkb_head.specs.declared.raw.RawBox.{RawBox}
 use Rattle.twkb_body.specs.Audited.{HasLongList}
 use Rattle.twkb_body.specs.Devices.BodyReader.{list_at}
@@ -22,10 +18,11 @@ use Rattle.twkb_body.specs.Devices.Sure.{framed, HasReadTwo, IsFrameUnder, IsRef
 use Rattle.twkb_body.proofs.Keeping.{keeps_list, read_keeps}
 use Rattle.twkb_body.proofs.MemberSteps.{member_bytes}
 use Rattle.twkb_body.proofs.SureSteps.{two_read, sure_begins, sure_goes_on, members_sure}
-use Rattle.twkb_body.proofs.RawGeometries.{bits_begin, body_doubts, header_certifies, header_read, judged_certifies, kind_allowed, none_begins, rest_unread, size_ahead}
+use Rattle.twkb_body.proofs.RawGeometries.{bits_begin, framed_certifies, framed_doubts, header_certifies, header_framed, header_read, no_further, none_begins, rest_read, rest_unread, size_later}
 use Rattle.twkb_body.proofs.Refuting.{doubts_outside, doubts_through, no_header_refutes}
 use Rattle.twkb_body.proofs.RefutedBodies.{ids_refute, list_refutes, members_refute}
-use Rattle.twkb_body.proofs.CertifiedBodies.{none_of, shape_certifies, some_of, wants_members}
+use Rattle.twkb_body.proofs.CertifiedBodies.{none_of, some_of, wants_members}
+use Rattle.twkb_body.proofs.EachHeader.{many_certifies, one_certifies, two_axes}
 use Rattle.twkb_body.proofs.sure.+take_flat.Goals as goal
 
 -- without the bit of an extended dimensions byte there are X and Y alone
@@ -40,40 +37,23 @@ unboxed_bits metadata told = bits_same metadata 0 1 (omega (arith, told, box_bit
 full_bits : (metadata bits : ℕ) → bits < 16 → bit_and metadata 25 ≡ bits → has_bit metadata 16 ≡ false
 full_bits metadata bits few told = bits_same metadata 0 16 (omega (arith, few, told, box_bits metadata))
 
--- a geometry that isn't a list has no members
-no_member : (kind : Kind) → is_multi kind ≡ false → is_collection kind ≡ false
-no_member Point single = refl
-no_member LineString single = refl
-no_member Polygon single = refl
-no_member MultiPoint single = refl
-no_member MultiLineString single = refl
-no_member MultiPolygon single = refl
-no_member GeometryCollection single = absurd (cc (single))
-
--- a size field before a place is before a later place
-size_later : (size : Option SizeField) (here there : ℕ) → here ≤ there → IfSome size (λ size. size.after ≤ here) → IfSome size (λ size. size.after ≤ there)
-size_later None here there le before = tt
-size_later (Some size) here there le before = omega (arith, le, before)
-
 pub take_flat-returns-in_default-take_rest : goal.take_flat-returns-in_default-take_rest
-take_flat-returns-in_default-take_rest g t c =
-    rest_unread c.args.depth c.args.above.now c.args.first c.args.metadata c.args.cursor.now c.requires.begun.shallowest c.requires.begun.deepest c.with_bits.result (bits_begin _ _ _ _ c.in-Some.begun c.with_bits.result c.with_bits.ensures.announcing c.in-Some.ensures.some) c.take_rest.new.cursor c.in_default-take_rest.field-0 c.in_default-take_rest.ensures.read c.in_default-take_rest.ensures.exact
+take_flat-returns-in_default-take_rest g t c = rest_unread c.args.depth c.args.above.now c.requires.begun.shallowest c.requires.begun.deepest (bits_begin c.in-Some.ensures.some c.with_bits.ensures.announcing) c.in_default-take_rest.ensures.read c.in_default-take_rest.ensures.exact
 
 pub take_flat-begun_by-requires-clause-read : goal.take_flat-begun_by-requires-clause-read
 take_flat-begun_by-requires-clause-read g t c = two_read _ _ _ c.requires.begun.before
 
 pub take_flat-returns-in_default : goal.take_flat-returns-in_default
-take_flat-returns-in_default g t c = none_begins c.args.depth c.args.above.now c.args.first c.args.metadata c.args.cursor.now c.requires.begun.shallowest c.requires.begun.deepest c.in_default.ensures.none
+take_flat-returns-in_default g t c = none_begins c.args.depth c.args.above.now c.requires.begun.shallowest c.requires.begun.deepest c.in_default.ensures.none
 
 pub take_further-returns-in_default-take_rest : goal.take_further-returns-in_default-take_rest
-take_further-returns-in_default-take_rest g t c =
-    rest_unread c.args.depth c.args.above.now c.args.first c.args.metadata c.args.cursor.now c.requires.shallowest c.requires.deepest c.in-Some.begun c.in-Some.ensures.some c.take_rest.new.cursor c.in_default-take_rest.field-0 c.in_default-take_rest.ensures.read c.in_default-take_rest.ensures.exact
+take_further-returns-in_default-take_rest g t c = rest_unread c.args.depth c.args.above.now c.requires.shallowest c.requires.deepest c.in-Some.ensures.some c.in_default-take_rest.ensures.read c.in_default-take_rest.ensures.exact
 
 pub take_further-begun_by-requires-clause-read : goal.take_further-begun_by-requires-clause-read
 take_further-begun_by-requires-clause-read g t c = two_read _ _ _ c.requires.before
 
 pub take_further-returns-in_default : goal.take_further-returns-in_default
-take_further-returns-in_default g t c = none_begins c.args.depth c.args.above.now c.args.first c.args.metadata c.args.cursor.now c.requires.shallowest c.requires.deepest c.in_default.ensures.none
+take_further-returns-in_default g t c = none_begins c.args.depth c.args.above.now c.requires.shallowest c.requires.deepest c.in_default.ensures.none
 
 pub take_members-returns-in_err-list : goal.take_members-returns-in_err-list
 take_members-returns-in_err-list g t c =
@@ -164,11 +144,10 @@ pub take_with_box-begun_by-requires-clause-read : goal.take_with_box-begun_by-re
 take_with_box-begun_by-requires-clause-read g t c = two_read _ _ _ c.requires.begun.before
 
 pub take_with_box-returns-in_default : goal.take_with_box-returns-in_default
-take_with_box-returns-in_default g t c = none_begins c.args.depth c.args.above.now c.args.first c.args.metadata c.args.cursor.now c.requires.begun.shallowest c.requires.begun.deepest c.in_default.ensures.none
+take_with_box-returns-in_default g t c = none_begins c.args.depth c.args.above.now c.requires.begun.shallowest c.requires.begun.deepest c.in_default.ensures.none
 
 pub take_with_box-returns-in_default-take_rest : goal.take_with_box-returns-in_default-take_rest
-take_with_box-returns-in_default-take_rest g t c =
-    rest_unread c.args.depth c.args.above.now c.args.first c.args.metadata c.args.cursor.now c.requires.begun.shallowest c.requires.begun.deepest c.with_bits.result (bits_begin _ _ _ _ c.in-Some.begun c.with_bits.result c.with_bits.ensures.announcing c.in-Some.ensures.some) c.take_rest.new.cursor c.in_default-take_rest.field-0 c.in_default-take_rest.ensures.read c.in_default-take_rest.ensures.exact
+take_with_box-returns-in_default-take_rest g t c = rest_unread c.args.depth c.args.above.now c.requires.begun.shallowest c.requires.begun.deepest (bits_begin c.in-Some.ensures.some c.with_bits.ensures.announcing) c.in_default-take_rest.ensures.read c.in_default-take_rest.ensures.exact
 
 pub take_with_box-with_bits-requires : goal.take_with_box-with_bits-requires
 take_with_box-with_bits-requires g t c = ap (λ n. bit_and n 25) c.in-Some.ensures.metadata ∙ c.requires.bits
@@ -177,160 +156,112 @@ pub take_with_further_box-begun_by-requires-clause-read : goal.take_with_further
 take_with_further_box-begun_by-requires-clause-read g t c = two_read _ _ _ c.requires.begun.before
 
 pub take_with_further_box-returns-in_default : goal.take_with_further_box-returns-in_default
-take_with_further_box-returns-in_default g t c = none_begins c.args.depth c.args.above.now c.args.first c.args.metadata c.args.cursor.now c.requires.begun.shallowest c.requires.begun.deepest c.in_default.ensures.none
+take_with_further_box-returns-in_default g t c = none_begins c.args.depth c.args.above.now c.requires.begun.shallowest c.requires.begun.deepest c.in_default.ensures.none
 
 pub take_with_further_box-returns-in_default-take_rest : goal.take_with_further_box-returns-in_default-take_rest
-take_with_further_box-returns-in_default-take_rest g t c =
-    rest_unread c.args.depth c.args.above.now c.args.first c.args.metadata c.args.cursor.now c.requires.begun.shallowest c.requires.begun.deepest c.with_bits.result (bits_begin _ _ _ _ c.in-Some.begun c.with_bits.result c.with_bits.ensures.announcing c.in-Some.ensures.some) c.take_rest.new.cursor c.in_default-take_rest.field-0 c.in_default-take_rest.ensures.read c.in_default-take_rest.ensures.exact
+take_with_further_box-returns-in_default-take_rest g t c = rest_unread c.args.depth c.args.above.now c.requires.begun.shallowest c.requires.begun.deepest (bits_begin c.in-Some.ensures.some c.with_bits.ensures.announcing) c.in_default-take_rest.ensures.read c.in_default-take_rest.ensures.exact
 
 pub take_with_further_box-with_bits-requires : goal.take_with_further_box-with_bits-requires
 take_with_further_box-with_bits-requires g t c = ap (λ n. bit_and n 25) c.in-Some.ensures.metadata ∙ c.requires.bits
 
 pub take_flat_framed-returns-in_err-vertices : goal.take_flat_framed-returns-in_err-vertices
-take_flat_framed-returns-in_err-vertices g t c = λ above raw same under before sound read.
+take_flat_framed-returns-in_err-vertices g t c =
     let p = err_from_is_err_and c.from_residual.result c.from_residual.ensures.1 in
-    rw (p.1, p.2) (body_doubts raw c.args.depth above before c.args.cursor.now c.requires.shallowest c.requires.deepest sound read.0 read.1 c.args.head.now same c.args.frame.now under c.take_flat_body.new.cursor _ c.in_err-vertices.ensures)
+    rw (p.1, p.2) (framed_doubts c.requires c.take_flat_body.new.cursor _ c.in_err-vertices.ensures)
 
 pub take_flat_framed-judged-requires : goal.take_flat_framed-judged-requires
-take_flat_framed-judged-requires g t c = size_later c.args.head.now.size _ _ (omega (arith, c.in_ok-vertices.ensures.inside.few)) c.requires.ahead
+take_flat_framed-judged-requires g t c = size_later c.requires c.take_flat_body.new.cursor (omega (arith, c.in_ok-vertices.ensures.inside.few))
 
 pub take_flat_framed-returns : goal.take_flat_framed-returns
-take_flat_framed-returns g t c = λ above raw same under before sound read.
-    rw c.judged.ensures.still (judged_certifies raw c.args.depth above before c.args.cursor.now c.requires.shallowest c.requires.deepest sound read.0 read.1 c.args.head.now same c.args.frame.now under c.take_flat_body.new.cursor
-    c.in_ok-vertices.vertices c.judged.result c.in_ok-vertices.ensures c.judged.ensures.judged)
+take_flat_framed-returns g t c = rw c.judged.ensures.still (framed_certifies c.requires c.take_flat_body.new.cursor c.in_ok-vertices.vertices c.judged.result c.in_ok-vertices.ensures c.judged.ensures.judged)
 
 pub take_flat-take_flat_apart-requires-clause-head : goal.take_flat-take_flat_apart-requires-clause-head
-take_flat-take_flat_apart-requires-clause-head g t c = header_read c.args.depth c.args.above.now c.args.first c.args.metadata c.args.cursor.now c.requires.begun.shallowest c.requires.begun.deepest c.with_bits.result (bits_begin _ _ _ _ c.in-Some.begun c.with_bits.result c.with_bits.ensures.announcing c.in-Some.ensures.some) c.take_rest.new.cursor c.in-Ok.raw c.in-Ok.ensures.read c.requires.begun (c.in-Ok.ensures.empty ∙ full_bits c.with_bits.result.metadata 0 (omega arith) c.with_bits.ensures.bits)
+take_flat-take_flat_apart-requires-clause-head g t c = header_read (rest_read c.in-Ok.raw c.requires.begun (bits_begin c.in-Some.ensures.some c.with_bits.ensures.announcing) c.in-Ok.ensures.read) (c.in-Ok.ensures.empty ∙ full_bits c.with_bits.result.metadata 0 (omega arith) c.with_bits.ensures.bits)
 
-pub take_flat-take_flat_apart-requires-clause-z : goal.take_flat-take_flat_apart-requires-clause-z
-take_flat-take_flat_apart-requires-clause-z g t c = (c.in-Ok.ensures.flat (flat_bits c.with_bits.result.metadata 0 (omega arith) c.with_bits.ensures.bits)).0
-
-pub take_flat-take_flat_apart-requires-clause-m : goal.take_flat-take_flat_apart-requires-clause-m
-take_flat-take_flat_apart-requires-clause-m g t c = (c.in-Ok.ensures.flat (flat_bits c.with_bits.result.metadata 0 (omega arith) c.with_bits.ensures.bits)).1
+pub take_flat-take_flat_apart-requires-clause-flat : goal.take_flat-take_flat_apart-requires-clause-flat
+take_flat-take_flat_apart-requires-clause-flat g t c = c.in-Ok.ensures.flat (flat_bits c.with_bits.result.metadata 0 (omega arith) c.with_bits.ensures.bits)
 
 pub take_flat-returns-in_default-under : goal.take_flat-returns-in_default-under
-take_flat-returns-in_default-under g t c = header_certifies c.args.depth c.args.above.now c.args.first c.args.metadata c.args.cursor.now c.requires.begun.shallowest c.requires.begun.deepest c.with_bits.result (bits_begin _ _ _ _ c.in-Some.begun c.with_bits.result c.with_bits.ensures.announcing c.in-Some.ensures.some) c.take_rest.new.cursor c.in-Ok.raw c.in-Ok.ensures.read _ _ c.take_flat_apart.ensures
+take_flat-returns-in_default-under g t c = header_certifies (rest_read c.in-Ok.raw c.requires.begun (bits_begin c.in-Some.ensures.some c.with_bits.ensures.announcing) c.in-Ok.ensures.read) _ _ c.take_flat_apart.ensures
 
 pub take_flat-take_flat_framed-requires : goal.take_flat-take_flat_framed-requires
 take_flat-take_flat_framed-requires g t c κs within =
-    let head = header_read c.args.depth c.args.above.now c.args.first c.args.metadata c.args.cursor.now c.requires.begun.shallowest c.requires.begun.deepest c.with_bits.result (bits_begin _ _ _ _ c.in-Some.begun c.with_bits.result c.with_bits.ensures.announcing c.in-Some.ensures.some) c.take_rest.new.cursor c.in-Ok.raw c.in-Ok.ensures.read c.requires.begun (c.in-Ok.ensures.empty ∙ full_bits c.with_bits.result.metadata 0 (omega arith) c.with_bits.ensures.bits) in
-    let flat = c.in-Ok.ensures.flat (flat_bits c.with_bits.result.metadata 0 (omega arith) c.with_bits.ensures.bits) in
-    let same = c.boxless-head.ensures in
-    let allowed = kind_allowed head c.boxless-head.result same in
-    let has_body : c.boxless-head.result.empty ≡ false = ap (λ (h : Head). h.empty) same ∙ head.full in
-    let z : c.boxless-head.result.z ≡ None = ap (λ (h : Head). h.z) same ∙ flat.0 in
-    let m : c.boxless-head.result.m ≡ None = ap (λ (h : Head). h.m) same ∙ flat.1 in
-    let framed = c.in-Some-under.ensures.framed in
-    let ahead = size_ahead head c.boxless-head.result same c.take_rest.new.cursor.place (omega arith) in
+    let ready = header_framed (rest_read c.in-Ok.raw c.requires.begun (bits_begin c.in-Some.ensures.some c.with_bits.ensures.announcing) c.in-Ok.ensures.read) (c.in-Ok.ensures.empty ∙ full_bits c.with_bits.result.metadata 0 (omega arith) c.with_bits.ensures.bits) c.boxless-head.ensures (no_further c.in-Ok.raw c.boxless-head.ensures (c.in-Ok.ensures.flat (flat_bits c.with_bits.result.metadata 0 (omega arith) c.with_bits.ensures.bits))) c.in-Some-under.ensures.framed in
     search rules
 
 pub take_flat-returns : goal.take_flat-returns
 take_flat-returns g t c =
     let none : c.in-Ok.raw.bounds ≡ None = c.in-Ok.ensures.no_box (unboxed_bits c.with_bits.result.metadata c.with_bits.ensures.bits) in
     let under = subst (λ (box : Option RawBox). IsFrameUnder c.args.above.now c.boxless-head.result (option_map (framed c.boxless-head.result) box) c.in-Some-under.frame) (sym none) c.in-Some-under.ensures in
-    header_certifies c.args.depth c.args.above.now c.args.first c.args.metadata c.args.cursor.now c.requires.begun.shallowest c.requires.begun.deepest c.with_bits.result (bits_begin _ _ _ _ c.in-Some.begun c.with_bits.result c.with_bits.ensures.announcing c.in-Some.ensures.some) c.take_rest.new.cursor c.in-Ok.raw c.in-Ok.ensures.read _ _ (c.take_flat_framed.ensures c.args.above.now c.in-Ok.raw c.boxless-head.ensures under)
+    header_certifies (rest_read c.in-Ok.raw c.requires.begun (bits_begin c.in-Some.ensures.some c.with_bits.ensures.announcing) c.in-Ok.ensures.read) _ _ (c.take_flat_framed.ensures c.args.above.now c.in-Ok.raw c.boxless-head.ensures under)
 
 pub take_with_box-take_flat_apart-requires-clause-head : goal.take_with_box-take_flat_apart-requires-clause-head
-take_with_box-take_flat_apart-requires-clause-head g t c = header_read c.args.depth c.args.above.now c.args.first c.args.metadata c.args.cursor.now c.requires.begun.shallowest c.requires.begun.deepest c.with_bits.result (bits_begin _ _ _ _ c.in-Some.begun c.with_bits.result c.with_bits.ensures.announcing c.in-Some.ensures.some) c.take_rest.new.cursor c.in-Ok.raw c.in-Ok.ensures.read c.requires.begun (c.in-Ok.ensures.empty ∙ full_bits c.with_bits.result.metadata 1 (omega arith) c.with_bits.ensures.bits)
+take_with_box-take_flat_apart-requires-clause-head g t c = header_read (rest_read c.in-Ok.raw c.requires.begun (bits_begin c.in-Some.ensures.some c.with_bits.ensures.announcing) c.in-Ok.ensures.read) (c.in-Ok.ensures.empty ∙ full_bits c.with_bits.result.metadata 1 (omega arith) c.with_bits.ensures.bits)
 
-pub take_with_box-take_flat_apart-requires-clause-z : goal.take_with_box-take_flat_apart-requires-clause-z
-take_with_box-take_flat_apart-requires-clause-z g t c = (c.in-Ok.ensures.flat (flat_bits c.with_bits.result.metadata 1 (omega arith) c.with_bits.ensures.bits)).0
-
-pub take_with_box-take_flat_apart-requires-clause-m : goal.take_with_box-take_flat_apart-requires-clause-m
-take_with_box-take_flat_apart-requires-clause-m g t c = (c.in-Ok.ensures.flat (flat_bits c.with_bits.result.metadata 1 (omega arith) c.with_bits.ensures.bits)).1
+pub take_with_box-take_flat_apart-requires-clause-flat : goal.take_with_box-take_flat_apart-requires-clause-flat
+take_with_box-take_flat_apart-requires-clause-flat g t c = c.in-Ok.ensures.flat (flat_bits c.with_bits.result.metadata 1 (omega arith) c.with_bits.ensures.bits)
 
 pub take_with_box-returns-in_default-under : goal.take_with_box-returns-in_default-under
-take_with_box-returns-in_default-under g t c = header_certifies c.args.depth c.args.above.now c.args.first c.args.metadata c.args.cursor.now c.requires.begun.shallowest c.requires.begun.deepest c.with_bits.result (bits_begin _ _ _ _ c.in-Some.begun c.with_bits.result c.with_bits.ensures.announcing c.in-Some.ensures.some) c.take_rest.new.cursor c.in-Ok.raw c.in-Ok.ensures.read _ _ c.take_flat_apart.ensures
+take_with_box-returns-in_default-under g t c = header_certifies (rest_read c.in-Ok.raw c.requires.begun (bits_begin c.in-Some.ensures.some c.with_bits.ensures.announcing) c.in-Ok.ensures.read) _ _ c.take_flat_apart.ensures
 
 pub take_with_box-take_flat_framed-requires : goal.take_with_box-take_flat_framed-requires
 take_with_box-take_flat_framed-requires g t c κs within =
-    let head = header_read c.args.depth c.args.above.now c.args.first c.args.metadata c.args.cursor.now c.requires.begun.shallowest c.requires.begun.deepest c.with_bits.result (bits_begin _ _ _ _ c.in-Some.begun c.with_bits.result c.with_bits.ensures.announcing c.in-Some.ensures.some) c.take_rest.new.cursor c.in-Ok.raw c.in-Ok.ensures.read c.requires.begun (c.in-Ok.ensures.empty ∙ full_bits c.with_bits.result.metadata 1 (omega arith) c.with_bits.ensures.bits) in
-    let flat = c.in-Ok.ensures.flat (flat_bits c.with_bits.result.metadata 1 (omega arith) c.with_bits.ensures.bits) in
-    let same = c.boxless-head.ensures in
-    let allowed = kind_allowed head c.boxless-head.result same in
-    let has_body : c.boxless-head.result.empty ≡ false = ap (λ (h : Head). h.empty) same ∙ head.full in
-    let z : c.boxless-head.result.z ≡ None = ap (λ (h : Head). h.z) same ∙ flat.0 in
-    let m : c.boxless-head.result.m ≡ None = ap (λ (h : Head). h.m) same ∙ flat.1 in
-    let framed = c.in-Some-under.ensures.framed in
-    let ahead = size_ahead head c.boxless-head.result same c.take_rest.new.cursor.place (omega arith) in
+    let ready = header_framed (rest_read c.in-Ok.raw c.requires.begun (bits_begin c.in-Some.ensures.some c.with_bits.ensures.announcing) c.in-Ok.ensures.read) (c.in-Ok.ensures.empty ∙ full_bits c.with_bits.result.metadata 1 (omega arith) c.with_bits.ensures.bits) c.boxless-head.ensures (no_further c.in-Ok.raw c.boxless-head.ensures (c.in-Ok.ensures.flat (flat_bits c.with_bits.result.metadata 1 (omega arith) c.with_bits.ensures.bits))) c.in-Some-under.ensures.framed in
     search rules
 
 pub take_with_box-returns : goal.take_with_box-returns
-take_with_box-returns g t c = header_certifies c.args.depth c.args.above.now c.args.first c.args.metadata c.args.cursor.now c.requires.begun.shallowest c.requires.begun.deepest c.with_bits.result (bits_begin _ _ _ _ c.in-Some.begun c.with_bits.result c.with_bits.ensures.announcing c.in-Some.ensures.some) c.take_rest.new.cursor c.in-Ok.raw c.in-Ok.ensures.read _ _ (c.take_flat_framed.ensures c.args.above.now c.in-Ok.raw c.boxless-head.ensures c.in-Some-under.ensures)
+take_with_box-returns g t c = header_certifies (rest_read c.in-Ok.raw c.requires.begun (bits_begin c.in-Some.ensures.some c.with_bits.ensures.announcing) c.in-Ok.ensures.read) _ _ (c.take_flat_framed.ensures c.args.above.now c.in-Ok.raw c.boxless-head.ensures c.in-Some-under.ensures)
+
+pub take_flat_body-returns-then-is_multi : goal.take_flat_body-returns-then-is_multi
+take_flat_body-returns-then-is_multi g t c = c.take_flat_many.ensures c.args.head.now c.requires.full refl refl (two_axes c.args.head.now.z c.args.head.now.m c.requires.axes) c.requires.framed
 
 pub take_flat_body-returns-else-is_multi : goal.take_flat_body-returns-else-is_multi
-take_flat_body-returns-else-is_multi g t c =
-    let single = no_member (c.args.head.now.kind) (sym c.is_multi.ensures ∙ c.if-is_multi.false) in
-    shape_certifies c.args.depth c.args.head.now c.args.frame.now c.args.cursor.now c.take_flat_single.new.cursor c.take_flat_single.result single
-    (c.take_flat_single.ensures (deepest - c.args.depth) c.args.head.now refl (record { shape = record { full = c.requires.full; kind = single; framed = c.requires.frame }; z = c.requires.z; m = c.requires.m }))
+take_flat_body-returns-else-is_multi g t c = one_certifies 2 c.args.cursor.now c.take_flat_single.new.cursor c.take_flat_single.result c.requires (two_axes c.args.head.now.z c.args.head.now.m c.requires.axes) (sym c.is_multi.ensures ∙ c.if-is_multi.false) c.take_flat_single.ensures
 
 pub take_flat_many-returns-else-is_collection : goal.take_flat_many-returns-else-is_collection
-take_flat_many-returns-else-is_collection g t c = λ head full kind ids z m framed.
-    let shape : is_collection head.kind ≡ false = ap is_collection kind ∙ sym c.is_collection.ensures ∙ c.if-is_collection.false in
-    shape_certifies c.args.depth head c.args.frame.now c.args.cursor.now c.take_flat_list.new.cursor c.take_flat_list.result shape
-    (c.take_flat_list.ensures (deepest - c.args.depth) head kind ids (record { shape = record { full = full; kind = shape; framed = framed }; z = z; m = m }))
+take_flat_many-returns-else-is_collection g t c = many_certifies c.args.depth c.args.cursor.now c.take_flat_list.new.cursor c.take_flat_list.result (sym c.is_collection.ensures ∙ c.if-is_collection.false) c.take_flat_list.ensures
 
 pub take_further-take_further_apart-requires-clause-head : goal.take_further-take_further_apart-requires-clause-head
-take_further-take_further_apart-requires-clause-head g t c = header_read c.args.depth c.args.above.now c.args.first c.args.metadata c.args.cursor.now c.requires.shallowest c.requires.deepest c.in-Some.begun c.in-Some.ensures.some c.take_rest.new.cursor c.in-Ok.raw c.in-Ok.ensures.read c.requires (c.in-Ok.ensures.empty ∙ sym c.is_empty.ensures ∙ c.if-is_empty.false)
+take_further-take_further_apart-requires-clause-head g t c = header_read (rest_read c.in-Ok.raw c.requires c.in-Some.ensures.some c.in-Ok.ensures.read) (c.in-Ok.ensures.empty ∙ sym c.is_empty.ensures ∙ c.if-is_empty.false)
 
 pub take_further-returns-in_default-further_frame : goal.take_further-returns-in_default-further_frame
-take_further-returns-in_default-further_frame g t c = header_certifies c.args.depth c.args.above.now c.args.first c.args.metadata c.args.cursor.now c.requires.shallowest c.requires.deepest c.in-Some.begun c.in-Some.ensures.some c.take_rest.new.cursor c.in-Ok.raw c.in-Ok.ensures.read _ _ c.take_further_apart.ensures
+take_further-returns-in_default-further_frame g t c = header_certifies (rest_read c.in-Ok.raw c.requires c.in-Some.ensures.some c.in-Ok.ensures.read) _ _ c.take_further_apart.ensures
 
 pub take_further-take_further_framed-requires : goal.take_further-take_further_framed-requires
 take_further-take_further_framed-requires g t c κs within =
-    let head = header_read c.args.depth c.args.above.now c.args.first c.args.metadata c.args.cursor.now c.requires.shallowest c.requires.deepest c.in-Some.begun c.in-Some.ensures.some c.take_rest.new.cursor c.in-Ok.raw c.in-Ok.ensures.read c.requires (c.in-Ok.ensures.empty ∙ sym c.is_empty.ensures ∙ c.if-is_empty.false) in
-    let same = c.boxless-head.ensures in
-    let allowed = kind_allowed head c.boxless-head.result same in
-    let has_body : c.boxless-head.result.empty ≡ false = ap (λ (h : Head). h.empty) same ∙ head.full in
-    let further = c.in-Some-further_frame.ensures.further in
-    let framed = c.in-Some-further_frame.ensures.frame.framed in
-    let ahead = size_ahead head c.boxless-head.result same c.take_rest.new.cursor.place (omega arith) in
+    let ready = header_framed (rest_read c.in-Ok.raw c.requires c.in-Some.ensures.some c.in-Ok.ensures.read) (c.in-Ok.ensures.empty ∙ sym c.is_empty.ensures ∙ c.if-is_empty.false) c.boxless-head.ensures c.in-Some-further_frame.ensures.further c.in-Some-further_frame.ensures.frame.framed in
     search rules
 
 pub take_further-returns : goal.take_further-returns
-take_further-returns g t c = header_certifies c.args.depth c.args.above.now c.args.first c.args.metadata c.args.cursor.now c.requires.shallowest c.requires.deepest c.in-Some.begun c.in-Some.ensures.some c.take_rest.new.cursor c.in-Ok.raw c.in-Ok.ensures.read _ _ (c.take_further_framed.ensures c.args.above.now c.in-Ok.raw c.boxless-head.ensures c.in-Some-further_frame.ensures.frame)
+take_further-returns g t c = header_certifies (rest_read c.in-Ok.raw c.requires c.in-Some.ensures.some c.in-Ok.ensures.read) _ _ (c.take_further_framed.ensures c.args.above.now c.in-Ok.raw c.boxless-head.ensures c.in-Some-further_frame.ensures.frame)
 
 pub take_with_further_box-take_further_apart-requires-clause-head : goal.take_with_further_box-take_further_apart-requires-clause-head
-take_with_further_box-take_further_apart-requires-clause-head g t c = header_read c.args.depth c.args.above.now c.args.first c.args.metadata c.args.cursor.now c.requires.begun.shallowest c.requires.begun.deepest c.with_bits.result (bits_begin _ _ _ _ c.in-Some.begun c.with_bits.result c.with_bits.ensures.announcing c.in-Some.ensures.some) c.take_rest.new.cursor c.in-Ok.raw c.in-Ok.ensures.read c.requires.begun (c.in-Ok.ensures.empty ∙ full_bits c.with_bits.result.metadata 9 (omega arith) c.with_bits.ensures.bits)
+take_with_further_box-take_further_apart-requires-clause-head g t c = header_read (rest_read c.in-Ok.raw c.requires.begun (bits_begin c.in-Some.ensures.some c.with_bits.ensures.announcing) c.in-Ok.ensures.read) (c.in-Ok.ensures.empty ∙ full_bits c.with_bits.result.metadata 9 (omega arith) c.with_bits.ensures.bits)
 
 pub take_with_further_box-returns-in_default-further_frame : goal.take_with_further_box-returns-in_default-further_frame
-take_with_further_box-returns-in_default-further_frame g t c = header_certifies c.args.depth c.args.above.now c.args.first c.args.metadata c.args.cursor.now c.requires.begun.shallowest c.requires.begun.deepest c.with_bits.result (bits_begin _ _ _ _ c.in-Some.begun c.with_bits.result c.with_bits.ensures.announcing c.in-Some.ensures.some) c.take_rest.new.cursor c.in-Ok.raw c.in-Ok.ensures.read _ _ c.take_further_apart.ensures
+take_with_further_box-returns-in_default-further_frame g t c = header_certifies (rest_read c.in-Ok.raw c.requires.begun (bits_begin c.in-Some.ensures.some c.with_bits.ensures.announcing) c.in-Ok.ensures.read) _ _ c.take_further_apart.ensures
 
 pub take_with_further_box-take_further_framed-requires : goal.take_with_further_box-take_further_framed-requires
 take_with_further_box-take_further_framed-requires g t c κs within =
-    let head = header_read c.args.depth c.args.above.now c.args.first c.args.metadata c.args.cursor.now c.requires.begun.shallowest c.requires.begun.deepest c.with_bits.result (bits_begin _ _ _ _ c.in-Some.begun c.with_bits.result c.with_bits.ensures.announcing c.in-Some.ensures.some) c.take_rest.new.cursor c.in-Ok.raw c.in-Ok.ensures.read c.requires.begun (c.in-Ok.ensures.empty ∙ full_bits c.with_bits.result.metadata 9 (omega arith) c.with_bits.ensures.bits) in
-    let same = c.boxless-head.ensures in
-    let allowed = kind_allowed head c.boxless-head.result same in
-    let has_body : c.boxless-head.result.empty ≡ false = ap (λ (h : Head). h.empty) same ∙ head.full in
-    let further = c.in-Some-further_frame.ensures.further in
-    let framed = c.in-Some-further_frame.ensures.frame.framed in
-    let ahead = size_ahead head c.boxless-head.result same c.take_rest.new.cursor.place (omega arith) in
+    let ready = header_framed (rest_read c.in-Ok.raw c.requires.begun (bits_begin c.in-Some.ensures.some c.with_bits.ensures.announcing) c.in-Ok.ensures.read) (c.in-Ok.ensures.empty ∙ full_bits c.with_bits.result.metadata 9 (omega arith) c.with_bits.ensures.bits) c.boxless-head.ensures c.in-Some-further_frame.ensures.further c.in-Some-further_frame.ensures.frame.framed in
     search rules
 
 pub take_with_further_box-returns : goal.take_with_further_box-returns
-take_with_further_box-returns g t c = header_certifies c.args.depth c.args.above.now c.args.first c.args.metadata c.args.cursor.now c.requires.begun.shallowest c.requires.begun.deepest c.with_bits.result (bits_begin _ _ _ _ c.in-Some.begun c.with_bits.result c.with_bits.ensures.announcing c.in-Some.ensures.some) c.take_rest.new.cursor c.in-Ok.raw c.in-Ok.ensures.read _ _ (c.take_further_framed.ensures c.args.above.now c.in-Ok.raw c.boxless-head.ensures c.in-Some-further_frame.ensures.frame)
+take_with_further_box-returns g t c = header_certifies (rest_read c.in-Ok.raw c.requires.begun (bits_begin c.in-Some.ensures.some c.with_bits.ensures.announcing) c.in-Ok.ensures.read) _ _ (c.take_further_framed.ensures c.args.above.now c.in-Ok.raw c.boxless-head.ensures c.in-Some-further_frame.ensures.frame)
 
 pub take_further_framed-returns-in_err-vertices : goal.take_further_framed-returns-in_err-vertices
-take_further_framed-returns-in_err-vertices g t c = λ above raw same under before sound read.
+take_further_framed-returns-in_err-vertices g t c =
     let p = err_from_is_err_and c.from_residual.result c.from_residual.ensures.1 in
-    rw (p.1, p.2) (body_doubts raw c.args.depth above before c.args.cursor.now c.requires.shallowest c.requires.deepest sound read.0 read.1 c.args.head.now same c.args.frame.now under c.take_further_body.new.cursor _ c.in_err-vertices.ensures)
+    rw (p.1, p.2) (framed_doubts c.requires c.take_further_body.new.cursor _ c.in_err-vertices.ensures)
 
 pub take_further_framed-judged-requires : goal.take_further_framed-judged-requires
-take_further_framed-judged-requires g t c = size_later c.args.head.now.size _ _ (omega (arith, c.in_ok-vertices.ensures.inside.few)) c.requires.ahead
+take_further_framed-judged-requires g t c = size_later c.requires c.take_further_body.new.cursor (omega (arith, c.in_ok-vertices.ensures.inside.few))
 
 pub take_further_framed-returns : goal.take_further_framed-returns
-take_further_framed-returns g t c = λ above raw same under before sound read.
-    rw c.judged.ensures.still (judged_certifies raw c.args.depth above before c.args.cursor.now c.requires.shallowest c.requires.deepest sound read.0 read.1 c.args.head.now same c.args.frame.now under c.take_further_body.new.cursor
-    c.in_ok-vertices.vertices c.judged.result c.in_ok-vertices.ensures c.judged.ensures.judged)
+take_further_framed-returns g t c = rw c.judged.ensures.still (framed_certifies c.requires c.take_further_body.new.cursor c.in_ok-vertices.vertices c.judged.result c.in_ok-vertices.ensures c.judged.ensures.judged)
 
 pub take_further_body-returns-else-is_multi : goal.take_further_body-returns-else-is_multi
-take_further_body-returns-else-is_multi g t c =
-    let single = no_member (c.args.head.now.kind) (sym c.is_multi.ensures ∙ c.if-is_multi.false) in
-    shape_certifies c.args.depth c.args.head.now c.args.frame.now c.args.cursor.now c.take_further_single.new.cursor c.take_further_single.result single
-    (c.take_further_single.ensures (deepest - c.args.depth) c.args.head.now refl c.axes-else-is_multi.ensures.value (record { full = c.requires.full; kind = single; framed = c.requires.frame }))
+take_further_body-returns-else-is_multi g t c = one_certifies c.axes-else-is_multi.result c.args.cursor.now c.take_further_single.new.cursor c.take_further_single.result c.requires c.axes-else-is_multi.ensures.value (sym c.is_multi.ensures ∙ c.if-is_multi.false) c.take_further_single.ensures
 
 pub take_further_many-returns-else-is_collection : goal.take_further_many-returns-else-is_collection
-take_further_many-returns-else-is_collection g t c = λ head full kind ids axes framed.
-    let shape : is_collection head.kind ≡ false = ap is_collection kind ∙ sym c.is_collection.ensures ∙ c.if-is_collection.false in
-    shape_certifies c.args.depth head c.args.frame.now c.args.cursor.now c.take_further_list.new.cursor c.take_further_list.result shape
-    (c.take_further_list.ensures (deepest - c.args.depth) head kind ids axes (record { full = full; kind = shape; framed = framed }))
+take_further_many-returns-else-is_collection g t c = many_certifies c.args.depth c.args.cursor.now c.take_further_list.new.cursor c.take_further_list.result (sym c.is_collection.ensures ∙ c.if-is_collection.false) c.take_further_list.ensures

@@ -5,7 +5,8 @@ use Rattle.twkb_body.specs.Geometry.{vertex_of}
 use Rattle.twkb_body.specs.Devices.BodyReader.{point_at}
 use Rattle.twkb_body.specs.Devices.Inside.{of_head}
 use Rattle.twkb_body.specs.Devices.Walk.{IsStill, shown}
-use Rattle.twkb_body.proofs.CertifiedWalks.{run_shown, shown_none, shown_reads, shown_ready, shown_rest, shown_ends, shown_passed, read_same_bytes}
+use Rattle.twkb_body.proofs.CertifiedWalks.{run_shown, shown_none, shown_reads, shown_ready, shown_rest, shown_ends, shown_passed}
+use Rattle.twkb_body.proofs.PointReads.{points_read}
 use Rattle.twkb_body.proofs.Settling.{ArePassed}
 use Rattle.twkb_body.proofs.Runs.{run_none, run_goes_on}
 use Rattle.twkb_body.proofs.certified_walk.CertifiedWalkPointReader.take_points.Goals.{then-loop-done-test+then-not-self+else-not-is_settled, then-loop-done-test+else-not-self, else-loop-done-test}
@@ -68,8 +69,8 @@ pass_known-requires g c =
     let (at, before) = c.requires.ready in
     record { known = rw i.axes (shown_rest _ _ _ _ _ _ _ _ _ at before c.loop-done.done c.loop-done.self.lost _ _ _ i.within (i.shown at before)) }
 
-pub returns-then-done-count-clause-read : goal.returns-then-done-count-clause-read
-returns-then-done-count-clause-read g c at before =
+pub returns-then-done-count : goal.returns-then-done-count
+returns-then-done-count g c = points_read c.args.count c.requires.ready (λ at before.
     let i = c.loop-done.invariant in
     let h = i.shown at before in
     let still : IsStill (shown g.V.Visit.step (of_head c.args.self.now.head.now)) (g.V.Visit.state c.loop-done.self.visitor.now) = elim c.loop-done-test.branch [
@@ -78,19 +79,9 @@ returns-then-done-count-clause-read g c at before =
       | else-loop-done-test w ↦ absurd (omega (arith, w.loop-done-test.false, c.if-done-count.true))
     ] in
     rw (i.head, i.axes, i.name) (shown_passed _ _ _ _ _ _ _ _ _ at before c.loop-done.done c.loop-done.self.lost c.loop-done.trail _ c.loop-done.cursor c.pass_known.new.cursor i.within still
-    (subst (λ (n : ℕ). ArePassed (shown g.V.Visit.step (of_head c.args.self.now.head.now)) n (c.args.count - c.loop-done.done) c.loop-done.cursor c.pass_known.new.cursor) i.axes c.pass_known.ensures) h)
+    (subst (λ (n : ℕ). ArePassed (shown g.V.Visit.step (of_head c.args.self.now.head.now)) n (c.args.count - c.loop-done.done) c.loop-done.cursor c.pass_known.new.cursor) i.axes c.pass_known.ensures) h))
 
-pub returns-then-done-count-clause-bytes : goal.returns-then-done-count-clause-bytes
-returns-then-done-count-clause-bytes g c =
-    let (at, before) = c.requires.ready in
-    read_same_bytes _ _ _ _ _ _ _ _ _ at before _ c.pass_known.new.cursor (returns-then-done-count-clause-read g c at before)
-
-pub returns-else-done-count-clause-read : goal.returns-else-done-count-clause-read
-returns-else-done-count-clause-read g c at before =
+pub returns-else-done-count : goal.returns-else-done-count
+returns-else-done-count g c = points_read c.args.count c.requires.ready (λ at before.
     let i = c.loop-done.invariant in
-    rw (i.head, i.axes, i.name) (shown_ends _ _ _ _ _ _ _ _ _ at before c.loop-done.done c.loop-done.self.lost c.loop-done.trail _ c.loop-done.cursor (omega (arith, i.within, c.if-done-count.false)) (i.shown at before))
-
-pub returns-else-done-count-clause-bytes : goal.returns-else-done-count-clause-bytes
-returns-else-done-count-clause-bytes g c =
-    let (at, before) = c.requires.ready in
-    read_same_bytes _ _ _ _ _ _ _ _ _ at before _ c.loop-done.cursor (returns-else-done-count-clause-read g c at before)
+    rw (i.head, i.axes, i.name) (shown_ends _ _ _ _ _ _ _ _ _ at before c.loop-done.done c.loop-done.self.lost c.loop-done.trail _ c.loop-done.cursor (omega (arith, i.within, c.if-done-count.false)) (i.shown at before)))

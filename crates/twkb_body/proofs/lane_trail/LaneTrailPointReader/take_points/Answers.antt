@@ -6,6 +6,7 @@ use Rattle.twkb_body.specs.Devices.Quads.{lanes_within}
 use Rattle.twkb_body.proofs.BoxDistances.{both_true}
 use Rattle.twkb_body.proofs.LaneRuns.{in_either, rest_leaves, held_goes_on, stands_counted, stands_read, stands_leave}
 use Rattle.twkb_body.proofs.NumberSteps.{points_fit}
+use Rattle.twkb_body.proofs.PointReads.{points_read}
 use Rattle.twkb_body.proofs.lane_trail.LaneTrailPointReader.take_points.Goals as goal
 
 pub loop-left-init : goal.loop-left-init
@@ -20,20 +21,21 @@ loop-left-init g c =
       leave = λ at s so. (c.take_first-first.ensures.step extent).outside so s.box s.last s.there;
     }
 
-pub returns-in_default-clause-ended : goal.returns-in_default-clause-ended
-returns-in_default-clause-ended g c at before =
-    let s = before.there in
-    let left : c.args.count - (c.args.count - c.loop-left.left) ≡ c.loop-left.left = omega (arith, c.loop-left.invariant.few) in
-    stands_leave g.L.LaneReader.axes (λ box. g.L.LaneReader.place c.args.self.now.reader box c.args.self.now.at c.args.self.now.extent) c.args.self.now.points at s c.args.cursor.now c.take_some.new.cursor c.args.count
-    (in_either (lanes_within c.loop-left.reached.furthest c.args.self.now.extent)
-    (λ so.
-    let held = c.loop-left.invariant.held at s so in
-    rest_leaves g.L.LaneReader.axes s.box (record { last = s.last; points = c.args.self.now.points }) c.args.cursor.now c.args.count (c.args.count - c.loop-left.left) held.after c.loop-left.cursor (omega arith) held.run
-    (rw left (c.in_default.ensures.none c.args.self.now.extent s.box held.after.last held.there)))
-    (c.loop-left.invariant.leave at s))
-
-pub returns-in_default-clause-bytes : goal.returns-in_default-clause-bytes
-returns-in_default-clause-bytes g c = c.in_default.ensures.bytes ∙ c.loop-left.invariant.bytes
+pub returns-in_default : goal.returns-in_default
+returns-in_default g c = record {
+  read = tt;
+  ended = λ at before.
+      let s = before.there in
+      let left : c.args.count - (c.args.count - c.loop-left.left) ≡ c.loop-left.left = omega (arith, c.loop-left.invariant.few) in
+      stands_leave g.L.LaneReader.axes (λ box. g.L.LaneReader.place c.args.self.now.reader box c.args.self.now.at c.args.self.now.extent) c.args.self.now.points at s c.args.cursor.now c.take_some.new.cursor c.args.count
+      (in_either (lanes_within c.loop-left.reached.furthest c.args.self.now.extent)
+      (λ so.
+      let held = c.loop-left.invariant.held at s so in
+      rest_leaves g.L.LaneReader.axes s.box (record { last = s.last; points = c.args.self.now.points }) c.args.cursor.now c.args.count (c.args.count - c.loop-left.left) held.after c.loop-left.cursor (omega arith) held.run
+      (rw left (c.in_default.ensures.none c.args.self.now.extent s.box held.after.last held.there)))
+      (c.loop-left.invariant.leave at s));
+  bytes = c.in_default.ensures.bytes ∙ c.loop-left.invariant.bytes;
+}
 
 pub loop-left-preserved : goal.loop-left-preserved
 loop-left-preserved g c =
@@ -61,14 +63,15 @@ loop-left-preserved g c =
           (c.loop-left.invariant.leave at s);
     })
 
-pub returns-then-not-are_within-clause-ended : goal.returns-then-not-are_within-clause-ended
-returns-then-not-are_within-clause-ended g c at before =
-    let s = before.there in
-    stands_leave g.L.LaneReader.axes (λ box. g.L.LaneReader.place c.args.self.now.reader box c.args.self.now.at c.args.self.now.extent) c.args.self.now.points at s c.args.cursor.now c.loop-left.cursor c.args.count
-    (c.loop-left.invariant.leave at s (sym c.are_within.ensures ∙ c.if-not-are_within.true))
-
-pub returns-then-not-are_within-clause-bytes : goal.returns-then-not-are_within-clause-bytes
-returns-then-not-are_within-clause-bytes g c = c.loop-left.invariant.bytes
+pub returns-then-not-are_within : goal.returns-then-not-are_within
+returns-then-not-are_within g c = record {
+  read = tt;
+  ended = λ at before.
+      let s = before.there in
+      stands_leave g.L.LaneReader.axes (λ box. g.L.LaneReader.place c.args.self.now.reader box c.args.self.now.at c.args.self.now.extent) c.args.self.now.points at s c.args.cursor.now c.loop-left.cursor c.args.count
+      (c.loop-left.invariant.leave at s (sym c.are_within.ensures ∙ c.if-not-are_within.true));
+  bytes = c.loop-left.invariant.bytes;
+}
 
 pub overflow_add-self : goal.overflow_add-self
 overflow_add-self g c =
@@ -79,12 +82,9 @@ overflow_add-self g c =
     let few : c.args.self.now.points ≤ c.args.cursor.now.place = stands_counted g.L.LaneReader.axes (λ box. g.L.LaneReader.place c.args.self.now.reader box c.args.self.now.at c.args.self.now.extent) c.args.self.now.points ready.0 s c.args.cursor.now c.args.cursor.now c.args.count ready.1.counted in
     subst (λ (n : ℕ). Fits w64 (c.args.self.now.points + n)) all (points_fit held.run.many held.run.walked.ahead few (sym c.place-stop.ensures.value) c.place-stop.type_inv)
 
-pub returns-clause-read : goal.returns-clause-read
-returns-clause-read g c at before =
+pub returns : goal.returns
+returns g c = points_read c.args.count c.requires.ready (λ at before.
     let s = before.there in
     stands_read g.L.LaneReader.axes (λ box. g.L.LaneReader.place c.args.self.now.reader box c.args.self.now.at c.args.self.now.extent) c.args.self.now.points at s c.args.cursor.now c.loop-left.cursor c.args.count
     (λ box. g.L.LaneReader.place c.args.self.now.reader box c.loop-left.reached.at c.args.self.now.extent) (c.args.count - c.loop-left.left) (omega (arith, c.loop-left-test.false))
-    (c.loop-left.invariant.held at s (sym c.are_within.ensures ∙ c.if-not-are_within.false))
-
-pub returns-clause-bytes : goal.returns-clause-bytes
-returns-clause-bytes g c = c.loop-left.invariant.bytes
+    (c.loop-left.invariant.held at s (sym c.are_within.ensures ∙ c.if-not-are_within.false)))

@@ -2,27 +2,26 @@
 use Rattle.std.proofs.Common.{arith}
 use Rattle.std.proofs.lemmas.Result.{err_from_is_err_and}
 use Rattle.twkb_head.specs.Raw.{head_said}
-use Rattle.twkb_body.proofs.RawGeometries.{apart_certifies, behind_doubts, flat_apart, kind_allowed, size_ahead}
+use Rattle.twkb_body.proofs.RawGeometries.{after_certifies, after_doubts, flat_apart, kind_allowed, size_ahead}
 use Rattle.twkb_body.proofs.sure.apart.take_flat_apart.Goals as goal
 
 pub returns-in_err-vertices : goal.returns-in_err-vertices
-returns-in_err-vertices g c = λ before sound read.
-    let (box, there, ranges, apart) = flat_apart c.args.raw.now c.boxless-head.result c.is_some.result c.flat_ranges.result.0 c.flat_ranges.result.1 c.requires.xy c.boxless-head.ensures c.requires.z c.requires.m c.requires.head.full c.is_some.ensures c.flat_ranges.ensures in
+returns-in_err-vertices g c =
+    let (box, there, ranges, apart) = flat_apart c.flat_ranges.result.0 c.flat_ranges.result.1 c.requires.head c.requires.xy c.boxless-head.ensures c.requires.flat c.is_some.ensures c.flat_ranges.ensures in
     let p = err_from_is_err_and c.from_residual.result c.from_residual.ensures.1 in
-    rw (p.1, p.2) (behind_doubts c.args.raw.now c.args.depth c.args.above.now before c.args.cursor.now c.requires.head.shallowest c.requires.head.deepest sound read.0 read.1 _ c.take_apart_flat.new.cursor (c.in_err-vertices.ensures (head_said c.args.raw.now) box there ranges apart))
+    rw (p.1, p.2) (after_doubts c.requires.head c.take_apart_flat.new.cursor _ (c.in_err-vertices.ensures (head_said c.args.raw.now) box there ranges apart))
 
 pub judged-requires : goal.judged-requires
 judged-requires g c =
-    let (box, there, ranges, apart) = flat_apart c.args.raw.now c.boxless-head.result c.is_some.result c.flat_ranges.result.0 c.flat_ranges.result.1 c.requires.xy c.boxless-head.ensures c.requires.z c.requires.m c.requires.head.full c.is_some.ensures c.flat_ranges.ensures in
+    let (box, there, ranges, apart) = flat_apart c.flat_ranges.result.0 c.flat_ranges.result.1 c.requires.head c.requires.xy c.boxless-head.ensures c.requires.flat c.is_some.ensures c.flat_ranges.ensures in
     let sure = c.in_ok-vertices.ensures (head_said c.args.raw.now) box there ranges apart in
-    size_ahead c.requires.head c.boxless-head.result c.boxless-head.ensures _ (omega (arith, sure.inside.few))
+    size_ahead c.requires.head c.boxless-head.ensures _ (omega (arith, sure.inside.few))
 
 pub returns : goal.returns
-returns g c = λ before sound read.
-    let (box, there, ranges, apart) = flat_apart c.args.raw.now c.boxless-head.result c.is_some.result c.flat_ranges.result.0 c.flat_ranges.result.1 c.requires.xy c.boxless-head.ensures c.requires.z c.requires.m c.requires.head.full c.is_some.ensures c.flat_ranges.ensures in
+returns g c =
+    let (box, there, ranges, apart) = flat_apart c.flat_ranges.result.0 c.flat_ranges.result.1 c.requires.head c.requires.xy c.boxless-head.ensures c.requires.flat c.is_some.ensures c.flat_ranges.ensures in
     let sure = c.in_ok-vertices.ensures (head_said c.args.raw.now) box there ranges apart in
-    rw c.judged.ensures.still (apart_certifies c.args.raw.now c.args.depth c.args.above.now before c.args.cursor.now c.requires.head.shallowest c.requires.head.deepest sound read.0 read.1 c.boxless-head.result c.boxless-head.ensures c.take_apart_flat.new.cursor c.in_ok-vertices.vertices c.judged.result sure
-    c.judged.ensures.judged)
+    rw c.judged.ensures.still (after_certifies c.requires.head c.take_apart_flat.new.cursor c.in_ok-vertices.vertices c.judged.result c.boxless-head.ensures sure c.judged.ensures.judged)
 
 pub take_apart_flat-requires-clause-allowed : goal.take_apart_flat-requires-clause-allowed
-take_apart_flat-requires-clause-allowed g c = kind_allowed c.requires.head c.boxless-head.result c.boxless-head.ensures
+take_apart_flat-requires-clause-allowed g c = kind_allowed c.requires.head c.boxless-head.ensures

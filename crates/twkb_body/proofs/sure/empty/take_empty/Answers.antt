@@ -11,11 +11,11 @@ pub begun_by-requires-clause-read : goal.begun_by-requires-clause-read
 begun_by-requires-clause-read c = two_read _ _ _ c.requires.before
 
 pub returns-in_default : goal.returns-in_default
-returns-in_default c = λ above. none_begins c.args.depth above c.args.first c.args.metadata c.args.cursor.now c.requires.shallowest c.requires.deepest c.in_default.ensures.none
+returns-in_default c = λ above. none_begins c.args.depth above c.requires.shallowest c.requires.deepest c.in_default.ensures.none
 
 pub returns-in_default-take_rest : goal.returns-in_default-take_rest
 returns-in_default-take_rest c = λ above.
-    rest_unread c.args.depth above c.args.first c.args.metadata c.args.cursor.now c.requires.shallowest c.requires.deepest c.in-Some.begun c.in-Some.ensures.some c.take_rest.new.cursor c.in_default-take_rest.field-0 c.in_default-take_rest.ensures.read c.in_default-take_rest.ensures.exact
+    rest_unread c.args.depth above c.requires.shallowest c.requires.deepest c.in-Some.ensures.some c.in_default-take_rest.ensures.read c.in_default-take_rest.ensures.exact
 
 pub judged-requires : goal.judged-requires
 judged-requires c =

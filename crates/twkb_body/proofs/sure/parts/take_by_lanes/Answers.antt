@@ -1,8 +1,5 @@
 -- Parts that are read in lanes are held, and parts whose reading ends early leave the box.
 use Rattle.std.proofs.Common.{refl}
-use Rattle.twkb_head.specs.Shared.Reader.{many_at}
-use Rattle.twkb_body.specs.Devices.Body.{ring_sums}
-use Rattle.twkb_body.specs.Devices.BodyReader.{part_at}
 use Rattle.twkb_body.specs.Devices.LaneTrail.{StandsInLanes, holding}
 use Rattle.twkb_body.specs.Devices.Walk.{no_points}
 use Rattle.twkb_body.proofs.PointReads.{none_yet}
@@ -13,7 +10,7 @@ pub take-requires-clause-ready : goal.take-requires-clause-ready
 take-requires-clause-ready g c =
     let box = c.requires.place.0 in
     let L = g.L.LaneReader in
-    (record { axes = L.axes; trail = no_points; state = holding box }, none_yet _ (λ axes. many_at c.args.count ring_sums (part_at c.args.kind axes)) c.args.cursor.now _ (lanes_begin L.axes (λ box. L.place c.args.trail.reader box c.args.trail.at c.args.trail.extent) c.args.trail.points box c.requires.points c.requires.place.1) refl)
+    (record { axes = L.axes; trail = no_points; state = holding box }, none_yet (lanes_begin L.axes (λ box. L.place c.args.trail.reader box c.args.trail.at c.args.trail.extent) c.args.trail.points box c.requires.points c.requires.place.1) refl)
 
 pub returns-in-Ok : goal.returns-in-Ok
 returns-in-Ok g c box place =
@@ -22,7 +19,7 @@ returns-in-Ok g c box place =
     record {
       held = parts_held c.args.kind L.axes c.args.count box c.args.cursor.now c.take.new.cursor (StandsInLanes L.axes (λ box. L.place after.reader box after.at after.extent) after.points) after.points
           (lanes_tell L.axes (λ box. L.place after.reader box after.at after.extent) after.points)
-          (c.in-Ok.ensures.read _ (none_yet _ (λ axes. many_at c.args.count ring_sums (part_at c.args.kind axes)) c.args.cursor.now _ (lanes_begin L.axes (λ box. L.place c.args.trail.reader box c.args.trail.at c.args.trail.extent) c.args.trail.points box c.requires.points place) refl));
+          (c.in-Ok.ensures.read _ (none_yet (lanes_begin L.axes (λ box. L.place c.args.trail.reader box c.args.trail.at c.args.trail.extent) c.args.trail.points box c.requires.points place) refl));
       leave = tt;
       bytes = c.take.ensures.bytes;
       refused = tt;
@@ -33,7 +30,7 @@ returns g c box place =
     let L = g.L.LaneReader in
     record {
       held = tt;
-      leave = c.in-Err.ensures.ended _ (none_yet _ (λ axes. many_at c.args.count ring_sums (part_at c.args.kind axes)) c.args.cursor.now _ (lanes_begin L.axes (λ box. L.place c.args.trail.reader box c.args.trail.at c.args.trail.extent) c.args.trail.points box c.requires.points place) refl);
+      leave = c.in-Err.ensures.ended _ (none_yet (lanes_begin L.axes (λ box. L.place c.args.trail.reader box c.args.trail.at c.args.trail.extent) c.args.trail.points box c.requires.points place) refl);
       bytes = c.take.ensures.bytes;
       refused = refl;
     }

@@ -6,6 +6,7 @@ use Rattle.twkb_body.specs.Devices.Body.{add}
 use Rattle.twkb_body.specs.Devices.BodyReader.{point_at}
 use Rattle.twkb_body.specs.Devices.Inside.{of_head}
 use Rattle.twkb_body.proofs.Keeping.{keeps_point, keeps_points, read_keeps, failure_keeps}
+use Rattle.twkb_body.proofs.PointReads.{points_read}
 use Rattle.twkb_body.proofs.Runs.{ring_goes_far}
 use Rattle.twkb_body.proofs.WalkReads.{loop_ready, loop_read, loop_ended}
 use Rattle.twkb_body.proofs.Walks.{walk_begins, walk_goes_on, one_point, add_is_sums}
@@ -39,19 +40,19 @@ take_point-requires g c =
           i.head i.axes far ready.0 ready.1.there ready.1.counted;
     }
 
-pub returns-in_err-take_point-clause-ended : goal.returns-in_err-take_point-clause-ended
-returns-in_err-take_point-clause-ended g c =
+pub returns-in_err-take_point : goal.returns-in_err-take_point
+returns-in_err-take_point g c =
     let p = err_from_is_err_and c.from_residual.result c.from_residual.ensures.1 in
     let i = c.loop-done.invariant in
     let far = ring_goes_far (g.P.Points.step (of_head c.loop-done.self.head.now)) c.loop-done.self.axes c.args.count c.args.self.now.trail (g.P.Points.state c.args.self.now.points) c.args.cursor.now c.loop-done.done c.take_run-done.result _ _ _ _ _ _ (omega (arith, c.if-done-count.true)) c.take_run-done.ensures.run i.read in
-    rw (p.1, p.2) (λ at before. loop_ended g.P.Points.step c.args.self.now.head.now c.args.self.now.axes c.args.self.now.trail (g.P.Points.state c.args.self.now.points) c.args.count c.args.cursor.now c.loop-done.self.head.now c.loop-done.self.axes c.take_run-done.new._trail (g.P.Points.state c.take_run-done.new.self) (c.loop-done.done + c.take_run-done.result) c.take_run-done.new._cursor c.take_point.new.cursor _
-    i.head i.axes c.if-done-count.true far c.in_err-take_point.ensures at before.there)
-
-pub returns-in_err-take_point-clause-bytes : goal.returns-in_err-take_point-clause-bytes
-returns-in_err-take_point-clause-bytes g c =
-    failure_keeps (point_at c.loop-done.self.axes c.take_run-done.new._trail.last) c.take_run-done.new._cursor c.take_point.new.cursor _ (keeps_point c.loop-done.self.axes c.take_run-done.new._trail.last) c.in_err-take_point.ensures
-    ∙ read_keeps (many_at _ add (point_at c.loop-done.self.axes) c.loop-done.self.trail.last) c.loop-done.cursor c.take_run-done.new._cursor c.take_run-done.ensures.run.numbers (keeps_points c.loop-done.self.axes _ c.loop-done.self.trail.last) c.take_run-done.ensures.run.read
-    ∙ c.loop-done.invariant.bytes
+    rw (p.1, p.2) (record {
+      read = tt;
+      ended = λ at before. loop_ended g.P.Points.step c.args.self.now.head.now c.args.self.now.axes c.args.self.now.trail (g.P.Points.state c.args.self.now.points) c.args.count c.args.cursor.now c.loop-done.self.head.now c.loop-done.self.axes c.take_run-done.new._trail (g.P.Points.state c.take_run-done.new.self) (c.loop-done.done + c.take_run-done.result) c.take_run-done.new._cursor c.take_point.new.cursor _
+          i.head i.axes c.if-done-count.true far c.in_err-take_point.ensures at before.there;
+      bytes = failure_keeps (point_at c.loop-done.self.axes c.take_run-done.new._trail.last) c.take_run-done.new._cursor c.take_point.new.cursor _ (keeps_point c.loop-done.self.axes c.take_run-done.new._trail.last) c.in_err-take_point.ensures
+          ∙ read_keeps (many_at _ add (point_at c.loop-done.self.axes) c.loop-done.self.trail.last) c.loop-done.cursor c.take_run-done.new._cursor c.take_run-done.ensures.run.numbers (keeps_points c.loop-done.self.axes _ c.loop-done.self.trail.last) c.take_run-done.ensures.run.read
+          ∙ i.bytes;
+    })
 
 pub loop-done-preserved-then-done-count : goal.loop-done-preserved-then-done-count
 loop-done-preserved-then-done-count g c =
@@ -79,10 +80,7 @@ loop-done-preserved g c =
       read = ring_goes_far (g.P.Points.step (of_head c.loop-done.self.head.now)) c.loop-done.self.axes c.args.count c.args.self.now.trail (g.P.Points.state c.args.self.now.points) c.args.cursor.now c.loop-done.done c.take_run-done.result _ _ _ _ _ _ (omega (arith, i.within, c.take_run-done.ensures.few)) c.take_run-done.ensures.run i.read;
     }
 
-pub returns-clause-read : goal.returns-clause-read
-returns-clause-read g c at before =
+pub returns : goal.returns
+returns g c = points_read c.args.count c.requires.ready (λ at before.
     loop_read g.P.Points.step c.args.self.now.head.now c.args.self.now.axes c.args.self.now.trail (g.P.Points.state c.args.self.now.points) c.args.count c.args.cursor.now c.loop-done.self.head.now c.loop-done.self.axes c.loop-done.self.trail (g.P.Points.state c.loop-done.self.points) c.loop-done.done c.loop-done.cursor
-    c.loop-done.invariant.head c.loop-done.invariant.axes (omega (arith, c.loop-done-test.false, c.loop-done.invariant.within)) c.loop-done.invariant.read at before.there
-
-pub returns-clause-bytes : goal.returns-clause-bytes
-returns-clause-bytes g c = c.loop-done.invariant.bytes
+    c.loop-done.invariant.head c.loop-done.invariant.axes (omega (arith, c.loop-done-test.false, c.loop-done.invariant.within)) c.loop-done.invariant.read at before.there)
