@@ -18,7 +18,7 @@ use Rattle.twkb_layer.specs.Layer.{IsLayer, IsCertifiedLayer, IsCounted, vertex_
 use Rattle.twkb_layer.specs.Refusal.{Begins, IsRefusedFor}
 use Rattle.twkb_layer.specs.Devices.Refusal.{refusal_of}
 use Rattle.twkb_body.specs.Shared.Tight.{IsTrueBy}
-use Rattle.twkb_layer.specs.Devices.Tight.{IsTightlyCounted, IsLayerBy, IsCountedBy}
+use Rattle.twkb_layer.specs.Devices.Tight.{IsTightlyCounted, IsLayerBy, IsCountedBy, AddsBlobs}
 use Rattle.twkb_layer.proofs.Layers.{blob_some, layer_grows, layer_once, layer_short}
 use Rattle.twkb_layer.proofs.VertexCounts.{layer_few}
 
@@ -81,10 +81,16 @@ plain_fits bytes place blobs count c fits =
       omega (arith, c.vertices_are, layer_few c.trees front c.layer.layer, length-take place bytes),
     )
 
-pub counted_fits : (tight : Bool) (bytes : List ℕ) (place blobs count : ℕ) → IsCountedBy tight (take place bytes) blobs count → length bytes < 2 ^ 64
+counted_fits : (tight : Bool) (bytes : List ℕ) (place blobs count : ℕ) → IsCountedBy tight (take place bytes) blobs count → length bytes < 2 ^ 64
     → (blobs < 2 ^ 64) × (count < 2 ^ 64)
 counted_fits false bytes place blobs count c fits = plain_fits bytes place blobs count c fits
 counted_fits true bytes place blobs count c fits = plain_fits bytes place blobs count (tight_is_counted (take place bytes) blobs count c) fits
+
+-- what was counted and what blobs add to it fit together
+pub adds_fit : (tight : Bool) (bytes : List ℕ) (a b : Reading) (blobs count more added : ℕ) → AddsBlobs tight more added a b → a.bytes ≡ bytes
+    → IsCountedBy tight (take a.place bytes) blobs count → length bytes < 2 ^ 64 → (blobs + more < 2 ^ 64) × (count + added < 2 ^ 64)
+adds_fit tight bytes a b blobs count more added adds same counted fits =
+    counted_fits tight bytes b.place (blobs + more) (count + added) (adds bytes blobs count same counted) fits
 
 -- an audit moves ahead
 pub audit_ahead : (tight : Bool) (a b : Reading) (audit : Audit) → IsMoved a b → IsAudited (IsTrueBy tight) audit a.place (passed a b) → a.place < b.place
