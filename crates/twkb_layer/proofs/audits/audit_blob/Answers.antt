@@ -1,5 +1,5 @@
 -- An audited blob extends the certified layer before it by itself.
-use Rattle.std.proofs.Common.{◌<◌, ◌∙◌}
+use Rattle.std.proofs.Common.{◌∙◌}
 use Rattle.twkb_layer.proofs.Counting.{counted_more, audit_ahead}
 use Rattle.twkb_layer.proofs.audits.audit_blob.Goals as goal
 

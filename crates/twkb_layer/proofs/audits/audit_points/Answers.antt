@@ -1,5 +1,5 @@
 -- Each point that was passed extends the certified layer before it by a blob of one vertex.
-use Rattle.std.proofs.Common.{◌≡◌, ◌+◌, ◌-◌, ◌<◌, ◌≤◌, ℕ, false, not, ◌==◌, length, ap, sym, subst, ◌∙◌, arith}
+use Rattle.std.proofs.Common.{◌≡◌, ◌+◌, ℕ, false, not, ◌==◌, length, ap, sym, subst, ◌∙◌, arith}
 use Rattle.twkb_num.specs.Cursor.{Reading, passed}
 use Rattle.twkb_num.proofs.CursorLemmas.{IsMoved-after}
 use Rattle.twkb_body.specs.Audited.{IsAudited}
