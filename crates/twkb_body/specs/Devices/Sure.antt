@@ -254,7 +254,7 @@ pub record HasBody (depth : ℕ) (further : Bool) (head : Head) (frame : Option 
   pub axes : has_further head.z head.m ≡ further
   pub framed : IfSome frame (IsFramed head)
 
--- The header of a geometry with a body was read, and its size field is before the place.
+-- A geometry is as `HasBody` says, and no deeper than the limit. Its size field, if there is one, ends at the place or before.
 pub record HasFramedHead (depth : ℕ) (further : Bool) (head : Head) (frame : Option Frame) (now : Reading) : Type 0 where
   pub body : HasBody depth further head frame
   pub deepest : depth ≤ deepest
@@ -333,17 +333,19 @@ CertifiesShape levels head frame old result new =
     IsSureOr (IsSureBody levels head frame old new) (IsRefutedBody levels head frame old)
     (HasManyIdsAfterCount head.ids (rest old)) old result new
 
--- on Ok one part is sure after each header of this kind and number of axes; on Err there is the doubt
+-- on Ok the body is sure after each header of this kind and number of axes that has a body and is no collection's, if the frame has its
+-- precisions; on Err there is the doubt
 abbrev pub CertifiesSingle : Kind → ℕ → Option Frame → Reading → Result ℕ Doubt → Reading → Type 0
 CertifiesSingle kind axes frame old result new = (levels : ℕ) (head : Head) → head.kind ≡ kind
     → axes ≡ axes_of (of_head head) → IsShapeHead head frame → CertifiesShape levels head frame old result new
 
--- on Ok a list of parts is sure after each header of this kind, with ids or without, and of this number of axes; on Err there is the doubt
+-- `CertifiesSingle`, after headers with ids, or after those without
 abbrev pub CertifiesList : Kind → Bool → ℕ → Option Frame → Reading → Result ℕ Doubt → Reading → Type 0
 CertifiesList kind ids axes frame old result new = (levels : ℕ) (head : Head) → head.kind ≡ kind → head.ids ≡ ids
     → axes ≡ axes_of (of_head head) → IsShapeHead head frame → CertifiesShape levels head frame old result new
 
--- `CertifiesBody`, after each header of this kind, with ids or without, and of this number of axes
+-- `CertifiesBody`, after each header of this kind, with ids or without, and of this number of axes, that isn't empty and whose
+-- precisions the frame has
 abbrev pub CertifiesMany : ℕ → Kind → Bool → ℕ → Option Frame → Reading → Result ℕ Doubt → Reading → Type 0
 CertifiesMany depth kind ids axes frame old result new = (head : Head) → head.empty ≡ false → head.kind ≡ kind
     → head.ids ≡ ids → axes ≡ axes_of (of_head head) → IfSome frame (IsFramed head)

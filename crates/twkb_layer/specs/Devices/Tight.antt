@@ -24,7 +24,7 @@ abbrev pub IsCountedBy : Bool → List ℕ → ℕ → ℕ → Type 0
 IsCountedBy false bytes blobs vertices = IsCounted bytes blobs vertices
 IsCountedBy true bytes blobs vertices = IsTightlyCounted bytes blobs vertices
 
--- the bytes between two readings extend a certified layer before them by this many blobs, which have this many vertices
+-- if the bytes before the old place are a certified layer, those before the new place are one with this many blobs and vertices more
 abbrev pub AddsBlobs : Bool → ℕ → ℕ → Reading → Reading → Type 0
 AddsBlobs tight more added old new = (bytes : List ℕ) (blobs vertices : ℕ) → old.bytes ≡ bytes
     → IsCountedBy tight (take old.place bytes) blobs vertices

@@ -60,7 +60,7 @@ impl Prefetch {
     }
 }
 
-/// Reads the first byte and one of each page after it, up to the last of sixteen or the last whole page. It returns bits of them.
+/// Reads the first byte of each whole page from there on, of sixteen at most, and returns bits of them.
 // It isn't handed the cursor, so that the place of a cursor whose functions are inlined stays in a register.
 #[inline(never)]
 fn touched(ahead: &[u8]) -> u8 {
