@@ -14,7 +14,8 @@ const PAGES: usize = 16;
 ///
 /// A processor fetches bytes that are read in order before they are needed, but only up to the end of a page of memory. At the first
 /// read of the next page it has to look up the page's address, which is slow in a virtual machine. If it is asked for several pages
-/// together, it looks up their addresses at the same time.
+/// together, it looks up their addresses at the same time. A byte near the start of each page is touched: some processors fetch a page
+/// more slowly if one of its later bytes was read first.
 ///
 /// The byte that is read of each page is neither returned nor counted, and contracts say that the cursor stays as it was.
 #[derive(Drop)]
@@ -50,9 +51,11 @@ impl Prefetch {
     {
         if self.due <= cursor.place() {
             if cursor.place() < self.due.wrapping_add(PAGES * PAGE) {
+                // Large buffers begin at a page of memory, or a few bytes after its start.
+                let page = cursor.place - cursor.place % PAGE;
                 // The compiler would leave out reads whose results aren't used.
-                cursor.touched = touched(&cursor.bytes[cursor.place..]);
-                self.due = cursor.place().wrapping_add((PAGES - 1) * PAGE);
+                cursor.touched = touched(&cursor.bytes[page..]);
+                self.due = page.wrapping_add((PAGES - 1) * PAGE);
             } else {
                 *self = Prefetch::new(cursor);
             }
