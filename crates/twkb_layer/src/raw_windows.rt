@@ -191,13 +191,13 @@ impl<'w> RawWindows<'w> {
         raw.x.misses(x.ends())
     }
 
-    /// Whether the box misses the window in Z or in M. A box with neither doesn't.
+    /// Whether the box misses the window in Z or in M. It doesn't if the box has neither, or the window bounds neither.
     #[inline(always)]
     fn misses_in_z_or_m(&self, axes: Axes, b: RawBox) -> bool
         requires { HavePrecisions axes }
         ensures { result ≡ misses_in_z_or_m self.now (raw_bounds axes.xy axes.z axes.m b) }
     {
-        if axes.is_flat() {
+        if axes.is_flat() || self.window.is_flat() {
             return false;
         }
         self.misses_in_z_or_m_in_units(axes, b)
