@@ -222,7 +222,7 @@ fn skim_headed<V: Visit>(cursor: &mut Cursor, raw: Fields, visitor: &mut V)
         record { reading = cursor.new; state = V.state visitor.new }
         ≡ skimmed V.step V.passes g (record { reading = before; state = V.state visitor.old }) }
 {
-    let members = enter_headed(cursor, raw, visitor);
+    let members = enter_headed(cursor, &raw, visitor);
     if members > 0 {
         skim_members(cursor, visitor, members);
     }

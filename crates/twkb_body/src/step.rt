@@ -92,7 +92,7 @@ fn enter_begun<V: Visit>(cursor: &mut Cursor, begun: Begun, visitor: &mut V) -> 
     let Ok(raw) = take_rest::<BoxInlined>(cursor, begun) else {
         unreachable!()
     };
-    enter_headed(cursor, raw, visitor)
+    enter_headed(cursor, &raw, visitor)
 }
 
 /// Enters a point that has a size, and no other field. The next geometry begins where the size says, which is known before the
@@ -118,13 +118,13 @@ fn enter_sized_point<V: Visit>(cursor: &mut Cursor, begun: Begun, visitor: &mut 
 /// Enters a geometry whose header was read. If no members are left to read, and there is a size, the place is set to the end that the
 /// size says, as in [`enter_sized_point`].
 #[inline(always)]
-pub fn enter_headed<V: Visit>(cursor: &mut Cursor, raw: Fields, visitor: &mut V) -> u64
-    requires axes { HavePrecisions raw.axes }
-    requires come { IsThere (HasRead raw cursor.old) }
-    ensures { Enters V.step V.passes (HasRead raw cursor.old)
+pub fn enter_headed<V: Visit>(cursor: &mut Cursor, raw: &Fields, visitor: &mut V) -> u64
+    requires axes { HavePrecisions raw.now.axes }
+    requires come { IsThere (HasRead raw.now cursor.old) }
+    ensures { Enters V.step V.passes (HasRead raw.now cursor.old)
         (V.state visitor.old) (V.state visitor.new) cursor.new result }
 {
-    let stop = end_by_size(&raw);
+    let stop = end_by_size(raw);
     let members = enter_after_header(cursor, raw, visitor);
     go_on_after(cursor, members, stop);
     members
@@ -155,13 +155,13 @@ fn go_on_after(cursor: &mut Cursor, members: u64, stop: Option<usize>)
 
 /// Enters a geometry whose header was read, up to its first member.
 #[inline(always)]
-fn enter_after_header<V: Visit>(cursor: &mut Cursor, raw: Fields, visitor: &mut V) -> u64
-    requires axes { HavePrecisions raw.axes }
-    requires come { IsThere (HasRead raw cursor.old) }
-    ensures { Enters V.step V.passes (HasRead raw cursor.old)
+fn enter_after_header<V: Visit>(cursor: &mut Cursor, raw: &Fields, visitor: &mut V) -> u64
+    requires axes { HavePrecisions raw.now.axes }
+    requires come { IsThere (HasRead raw.now cursor.old) }
+    ensures { Enters V.step V.passes (HasRead raw.now cursor.old)
         (V.state visitor.old) (V.state visitor.new) cursor.new result }
 {
-    if let Some(stop) = hop(&raw, visitor) {
+    if let Some(stop) = hop(raw, visitor) {
         cursor.go_to(stop);
         return 0;
     }

@@ -17,20 +17,20 @@ use Rattle.twkb_body.proofs.step.enter_after_header.Goals as goal
 pub hop-requires-clause-fits : goal.hop-requires-clause-fits
 hop-requires-clause-fits g c =
     let come = c.requires.come in
-    hop_fits come.0 come.1 come.2 _ (head_said c.args.raw) come.3.sound come.3.stands come.3.at come.3.moved
+    hop_fits come.0 come.1 come.2 _ (head_said c.args.raw.now) come.3.sound come.3.stands come.3.at come.3.moved
 
 pub go_to-requires : goal.go_to-requires
 go_to-requires g c =
     let come = c.requires.come in
-    hop_within g.V.Visit.step g.V.Visit.passes _ come.0 come.1 come.2 _ (head_said c.args.raw) _ come.3.stands come.3.at come.3.moved (sym c.in-Some.ensures)
+    hop_within g.V.Visit.step g.V.Visit.passes _ come.0 come.1 come.2 _ (head_said c.args.raw.now) _ come.3.stands come.3.at come.3.moved (sym c.in-Some.ensures)
 
 pub returns-in-Some : goal.returns-in-Some
 returns-in-Some g c = λ t depth before come.
-    enter_hops g.V.Visit.step g.V.Visit.passes _ g.met.V.Visit.sound t depth before _ _ (head_said c.args.raw) _ come.stands come.at come.moved (sym c.in-Some.ensures) c.go_to.ensures
+    enter_hops g.V.Visit.step g.V.Visit.passes _ g.met.V.Visit.sound t depth before _ _ (head_said c.args.raw.now) _ come.stands come.at come.moved (sym c.in-Some.ensures) c.go_to.ensures
 
 pub returns-then-raw : goal.returns-then-raw
 returns-then-raw g c = λ t depth before come.
-    enter_empty g.V.Visit.step g.V.Visit.passes _ t depth before _ (head_said c.args.raw) come.stands come.at come.moved (sym c.in_default.ensures) c.if-raw.true
+    enter_empty g.V.Visit.step g.V.Visit.passes _ t depth before _ (head_said c.args.raw.now) come.stands come.at come.moved (sym c.in_default.ensures) c.if-raw.true
 
 -- the header of a geometry that isn't hopped over, as far as its body depends on it
 module _ (passes : Bounds → Bool) (raw : Fields) (now : Reading) (g : Geometry) (depth : ℕ) (before : Reading) (come : HasRead raw now g depth before) (stays : None ≡ hop_of passes (head_said raw).size (head_said raw).bounds) (full : raw.empty ≡ false) where
@@ -52,26 +52,26 @@ module _ (passes : Bounds → Bool) (raw : Fields) (now : Reading) (g : Geometry
 pub enter_point-requires-clause-behind : goal.enter_point-requires-clause-behind
 enter_point-requires-clause-behind g c =
     let (t, depth, before, come) = c.requires.come in
-    (t, depth, before, behind _ c.args.raw c.args.cursor.now t depth before come c.in_default.ensures c.if-raw.false Point (c.is_flat_point.ensures.kind c.if-is_flat_point.true))
+    (t, depth, before, behind _ c.args.raw.now c.args.cursor.now t depth before come c.in_default.ensures c.if-raw.false Point (c.is_flat_point.ensures.kind c.if-is_flat_point.true))
 
 pub returns-then-is_flat_point : goal.returns-then-is_flat_point
 returns-then-is_flat_point g c = λ t depth before come.
-    c.enter_point.ensures.entered t depth before (behind _ c.args.raw c.args.cursor.now t depth before come c.in_default.ensures c.if-raw.false Point (c.is_flat_point.ensures.kind c.if-is_flat_point.true))
+    c.enter_point.ensures.entered t depth before (behind _ c.args.raw.now c.args.cursor.now t depth before come c.in_default.ensures c.if-raw.false Point (c.is_flat_point.ensures.kind c.if-is_flat_point.true))
 
 pub enter_flat-requires-clause-behind : goal.enter_flat-requires-clause-behind
 enter_flat-requires-clause-behind g c =
     let (t, depth, before, come) = c.requires.come in
-    (t, depth, before, behind _ c.args.raw c.args.cursor.now t depth before come c.in_default.ensures c.if-raw.false c.args.raw.kind refl)
+    (t, depth, before, behind _ c.args.raw.now c.args.cursor.now t depth before come c.in_default.ensures c.if-raw.false c.args.raw.now.kind refl)
 
 pub returns-then-is_flat : goal.returns-then-is_flat
 returns-then-is_flat g c = λ t depth before come.
-    c.enter_flat.ensures t depth before (behind _ c.args.raw c.args.cursor.now t depth before come c.in_default.ensures c.if-raw.false c.args.raw.kind refl)
+    c.enter_flat.ensures t depth before (behind _ c.args.raw.now c.args.cursor.now t depth before come c.in_default.ensures c.if-raw.false c.args.raw.now.kind refl)
 
 pub enter_deep_body-requires-clause-behind : goal.enter_deep_body-requires-clause-behind
 enter_deep_body-requires-clause-behind g c =
     let (t, depth, before, come) = c.requires.come in
-    (t, depth, before, behind _ c.args.raw c.args.cursor.now t depth before come c.in_default.ensures c.if-raw.false c.args.raw.kind refl)
+    (t, depth, before, behind _ c.args.raw.now c.args.cursor.now t depth before come c.in_default.ensures c.if-raw.false c.args.raw.now.kind refl)
 
 pub returns : goal.returns
 returns g c = λ t depth before come.
-    c.enter_deep_body.ensures.entered t depth before (behind _ c.args.raw c.args.cursor.now t depth before come c.in_default.ensures c.if-raw.false c.args.raw.kind refl)
+    c.enter_deep_body.ensures.entered t depth before (behind _ c.args.raw.now c.args.cursor.now t depth before come c.in_default.ensures c.if-raw.false c.args.raw.now.kind refl)

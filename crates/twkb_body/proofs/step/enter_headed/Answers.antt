@@ -13,7 +13,7 @@ use Rattle.twkb_body.proofs.step.enter_headed.Goals as goal
 pub end_by_size-stop-requires : goal.end_by_size-stop-requires
 end_by_size-stop-requires g c =
     let (t, depth, before, come) = c.requires.come in
-    hop_fits t depth before _ (head_said c.args.raw) come.sound come.stands come.at come.moved
+    hop_fits t depth before _ (head_said c.args.raw.now) come.sound come.stands come.at come.moved
 
 -- an end by a size is this place, if each size leads there
 ends_at : (size : Option SizeField) (stop : Option ℕ) (place : ℕ) → stop ≡ option_map (λ size. size.after + size.value) size
@@ -27,8 +27,8 @@ go_on_after-requires g c = λ last.
     let entered = c.enter_after_header-members.ensures t depth before come in
     let none : member_count entered.below ≡ 0 = sym entered.count ∙ last in
     let end = ap (λ (d : Config g.V.Visit.State). d.reading.place) (none_left _ _ _ _ none ∙ entered.left) in
-    ends_at c.args.raw.size c.end_by_size-stop.result _ c.end_by_size-stop.ensures
-    (λ one is. omega (arith, (sized_end t depth before c.args.cursor.now c.args.raw one come is).stop, end))
+    ends_at c.args.raw.now.size c.end_by_size-stop.result _ c.end_by_size-stop.ensures
+    (λ one is. omega (arith, (sized_end t depth before c.args.cursor.now c.args.raw.now one come is).stop, end))
 
 pub returns : goal.returns
 returns g c = λ t depth before come. rw c.go_on_after.ensures (c.enter_after_header-members.ensures t depth before come)
