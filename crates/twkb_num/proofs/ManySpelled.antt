@@ -320,11 +320,11 @@ module _ (bytes : List ℕ) (many left done low size : ℕ) (l : IsEndsLoop byte
   stuck_in : (word : List ℕ) → word ≡ take 8 (drop done bytes) → (i : ℕ) → i ≤ 4 → ends_to word (i + 4) ≤ ends_to word i → IsStuck bytes size
   stuck_in word is i few none = inr (l.begun + i, omega (arith, three, few), go)
     where
-      go : (k : ℕ) → k < 4 → 128 ≤ slice_index bytes (size + (l.begun + i) + k)
+      go : (k : ℕ) → k < 4 → 128 ≤ slice_index (drop size bytes) (l.begun + i + k)
       go k h =
-          let at : size + (l.begun + i) + k ≡ done + (i + k) = omega (arith, sum) in
+          let at : size + (l.begun + i + k) ≡ done + (i + k) = omega (arith, sum) in
           let there : slice_index word (i + k) ≡ slice_index bytes (done + (i + k)) = ap (λ (bs : List ℕ). slice_index bs (i + k)) is ∙ get_or-take 8 (drop done bytes) (i + k) 0 (omega (arith, few, h)) ∙ get_or-drop done bytes (i + k) 0 in
-          omega (arith, no_ends word i (i + 4) (i + k) (omega arith) (omega (arith, h)) none, there, ap (slice_index bytes) at)
+          omega (arith, no_ends word i (i + 4) (i + k) (omega arith) (omega (arith, h)) none, there, ap (slice_index bytes) at, get_or-drop size bytes (l.begun + i + k) 0)
 
   pub stuck_low : (word : List ℕ) → word ≡ take 8 (drop done bytes) → (low ≡ 2 ^ 56 - 1 → 1 ≤ ends_to word 7 → false ≡ true) → (low ≡ 2 ^ 32 - 1 → 1 ≤ ends_to word 4 → false ≡ true) → IsStuck bytes size
   stuck_low word is seven four = stuck_in word is 0 (omega arith) (elim (cases_lt (ends_to word 4) 1) [
@@ -348,6 +348,6 @@ stuck_behind bytes place size within (inr (at, low, on)) = inr (
   at,
   low,
   λ k h.
-      let same : place + (size + at + k) ≡ place + size + at + k = omega arith in
-      omega (arith, on k h, get_or-drop place bytes (size + at + k) 0, ap (slice_index bytes) same),
+      let same : place + (size + (at + k)) ≡ place + size + (at + k) = omega arith in
+      omega (arith, on k h, get_or-drop size (drop place bytes) (at + k) 0, get_or-drop place bytes (size + (at + k)) 0, get_or-drop (place + size) bytes (at + k) 0, ap (slice_index bytes) same),
 )

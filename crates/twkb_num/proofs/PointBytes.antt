@@ -6,7 +6,9 @@ use Rattle.std.proofs.lemmas.Bool.Decides.{eqb_tells}
 use Rattle.std.proofs.lemmas.Grind.{common_steps}
 use Rattle.std.proofs.lemmas.List.{drop-take, take-take, get_or-take, get_or-drop}
 use Rattle.std.proofs.lemmas.Nat.{and_block, and_mask}
-use Rattle.twkb_num.specs.Varint.{SpellsMany, EndsOnce}
+use Rattle.twkb_num.specs.Varint.{SpellsMany}
+use Rattle.twkb_num.specs.Point.{IsShortPoint}
+use Rattle.twkb_num.specs.Devices.Ends.{EndsOnce}
 use Rattle.twkb_num.proofs.ToldLemmas.{once_in_front}
 
 -- the bits of two bytes that tell the kind and the announced fields
@@ -24,12 +26,7 @@ bits_are first metadata low high fits is more = ap₂ (λ x y. bit_and (x + 256 
 abbrev pub kind_with_fields : List ℕ → ℕ
 kind_with_fields bytes = slice_index bytes 0 % 16 + 256 * (slice_index bytes 1 % 32)
 
--- these bytes are a point that has a size alone or no field, and whose numbers take at most eight bytes
-abbrev pub IsShortPoint : List ℕ → Type 0
-IsShortPoint bytes = (first metadata : ℕ) × (size numbers : List ℕ) × (bytes ≡ first ∷ metadata ∷ size ++ numbers) × (first % 16 ≡ 1)
-    × (((metadata % 32 ≡ 0) × (size ≡ [])) ⊎ ((metadata % 32 ≡ 2) × (size ≡ length numbers ∷ []))) × (length numbers ≤ 8) × SpellsMany numbers 2
-
--- fewer than eleven bytes, or bytes that don't begin with such a point
+-- fewer than eleven bytes, or bytes that don't begin with a point that has a size alone or no field, and whose numbers take at most eight bytes
 abbrev pub TellsNoPoint : List ℕ → Type 0
 TellsNoPoint bytes = (length bytes < 11) ⊎ (slice_index bytes 0 % 16 ≢ 1) ⊎ ((slice_index bytes 1 % 32 ≢ 0) × (slice_index bytes 1 % 32 ≢ 2))
     ⊎ ((slice_index bytes 1 % 32 ≡ 0) × EndsOnce (drop 2 bytes))

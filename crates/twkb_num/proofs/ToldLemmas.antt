@@ -5,7 +5,8 @@ use Rattle.std.proofs.lemmas.Bool.{cases_lt}
 use Rattle.std.proofs.lemmas.Grind.{common_steps}
 use Rattle.std.proofs.lemmas.List.{get_or-take, get_or-drop}
 use Rattle.twkb_num.specs.Cursor.{Reading, rest, IsMoved}
-use Rattle.twkb_num.specs.Varint.{HasLong, EndsOnce, IsSigned, IsShort, Faults}
+use Rattle.twkb_num.specs.Varint.{HasLong, IsSigned, IsShort, Faults}
+use Rattle.twkb_num.specs.Devices.Ends.{EndsOnce}
 use Rattle.twkb_num.specs.declared.varint.NumFault.{NumFault}
 use Rattle.twkb_num.specs.declared.varint.NumFault.TheVariants.{Cut, Long}
 use Rattle.twkb_num.proofs.VarintLemmas.{sum_of_groups-lt}

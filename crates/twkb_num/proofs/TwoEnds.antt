@@ -4,8 +4,7 @@ use Rattle.std.specs.Int.{w64, trailing_zeros}
 use Rattle.std.specs.Int.Bits.{bit_and, and_self}
 use Rattle.std.proofs.lemmas.Nat.{and_block, and_le_l, and_mask, pow_pos}
 use Rattle.std.proofs.lemmas.Bool.{cases_lt}
-use Rattle.twkb_num.specs.Devices.Ends.{ended, ends_to, eight_bytes, IsEnd}
-use Rattle.twkb_num.specs.Varint.{EndsOnce}
+use Rattle.twkb_num.specs.Devices.Ends.{EndsOnce, ended, ends_to, eight_bytes, IsEnd}
 use Rattle.twkb_num.proofs.EndLemmas.{lowest_0, all_zero}
 use Rattle.twkb_num.proofs.NthEnds.{ended_once, ends_to-suc}
 

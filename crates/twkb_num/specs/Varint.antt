@@ -1,5 +1,5 @@
 -- Varints: which bytes spell which number, what a number means by zigzag, and the two faults.
-use Rattle.std.specs.Prelude.{◌≡◌, ℕ, ◌+◌, ◌-◌, ◌*◌, ◌/◌, ◌%◌, ◌^◌, ◌<◌, ◌≤◌, ◌==◌, if◌then◌else◌, ℤ, pos, neg_ℤ, ◌≤ℤ◌, ◌<ℤ◌, List, [], ◌∷◌, ◌++◌, length, take, slice_index, All, ◌⊎◌}
+use Rattle.std.specs.Prelude.{◌≡◌, ℕ, ◌+◌, ◌-◌, ◌*◌, ◌/◌, ◌%◌, ◌^◌, ◌<◌, ◌≤◌, ◌==◌, if◌then◌else◌, ℤ, pos, neg_ℤ, ◌≤ℤ◌, ◌<ℤ◌, List, [], ◌∷◌, ◌++◌, length, take, drop, slice_index, All, ◌⊎◌}
 use Rattle.twkb_num.specs.declared.varint.NumFault.{NumFault}
 use Rattle.twkb_num.specs.declared.varint.NumFault.TheVariants.{Cut, Long}
 
@@ -84,23 +84,13 @@ pub record SpellsMany (bytes : List ℕ) (many : ℕ) : Type 0 where
   pub small : All (λ n. n < 2 ^ 49) numbers
   pub spelled : SpellsAll bytes numbers
 
--- fewer than eight bytes, or eight that all go on
-abbrev pub IsUnended : List ℕ → Type 0
-IsUnended bytes = (length bytes < 8) ⊎ ((k : ℕ) → k < 8 → 128 ≤ slice_index bytes k)
-
--- after the first `size` bytes fewer than eleven are left, or four of the next eleven, one after another, go on
-abbrev pub IsStuck : List ℕ → ℕ → Type 0
-IsStuck bytes size =
-    (length bytes < size + 11)
-    ⊎ ((at : ℕ) × (at ≤ 7) × ((k : ℕ) → k < 4 → 128 ≤ slice_index bytes (size + at + k)))
-
 -- among the first `within` bytes, n go on, one after another
 abbrev pub HasLong : ℕ → ℕ → List ℕ → Type 0
 HasLong n within bytes = (at : ℕ) × (at + n ≤ within) × ((k : ℕ) → k < n → 128 ≤ slice_index bytes (at + k))
 
--- at most one of the first eight bytes ends a varint: the bytes after it go on
-abbrev pub EndsOnce : List ℕ → Type 0
-EndsOnce bytes = (i k : ℕ) → i < k → k < 8 → slice_index bytes i < 128 → 128 ≤ slice_index bytes k
+-- after the first `size` bytes fewer than eleven are left, or four of the next eleven, one after another, go on
+abbrev pub IsStuck : List ℕ → ℕ → Type 0
+IsStuck bytes size = (length bytes < size + 11) ⊎ HasLong 4 11 (drop size bytes)
 
 -- the bytes spell fewer than `many` numbers, and then are stuck (`IsStuck`)
 pub record StopsBefore (many : ℕ) (bytes : List ℕ) : Type 0 where

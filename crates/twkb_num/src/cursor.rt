@@ -2,7 +2,7 @@
 ghost use Rattle.std.specs.Prelude.{◌≡◌, ◌+◌, ◌-◌, ◌<◌, ◌≤◌, ◌^◌, ◌↔◌, ◌⊎◌, ℕ, ℤ, List, [], ◌∷◌, ◌++◌, length, take, IsNone, IfOk, IfErr, IfSome, IfNone, OnOk, OnSome};
 ghost use Rattle.twkb_num.specs.Cursor.{rest, passed, counted, IsMoved, IsSound};
 ghost use Rattle.twkb_num.specs.Devices.Ends.{IsFirstEnd};
-ghost use Rattle.twkb_num.specs.Varint.{SpellsMany, Spells, IsSigned, Faults, IsCut, looked_at, IsUnended, IsStuck, StopsBefore};
+ghost use Rattle.twkb_num.specs.Varint.{SpellsMany, Spells, IsSigned, Faults, IsCut, looked_at, HasLong, IsStuck, StopsBefore};
 ghost use Rattle.twkb_num.specs.declared.varint.NumFault.TheVariants.{Cut};
 ghost use Rattle.twkb_num.specs.Devices.Varint.{IsBegunBy};
 
@@ -24,7 +24,7 @@ use std::marker::Model;
 /// bytes that aren't counted: a number is too long for the call, the end is near, no point of the right form is there
 /// ([`Cursor::pass_short_point`]), or (the last two calls below) a count can't be read or is too large. This list says when a call
 /// may fail or stop early, and which clause says so. Where a call may fail, no clause says whether it does, except for
-/// [`Cursor::pass_short_point`] (`some`, `far`); only the code shows that this choice tells nothing else. A byte *goes on* if it is
+/// [`Cursor::pass_short_point`] (`exact`); only the code shows that this choice tells nothing else. A byte *goes on* if it is
 /// at least 128.
 ///
 /// - [`Cursor::pass_varint`]: fewer than eight bytes are left, or the next eight all go on (`told`).
@@ -32,7 +32,7 @@ use std::marker::Model;
 /// - [`Cursor::pass_short_point`]: fewer than eleven bytes are left, or the first two don't begin a point with no field or with a
 ///   size alone. Without a size, it may also be that at most one of the eight bytes after the first two ends a varint. With a size,
 ///   it may be that at most one of the eight after the third does, or that the first two varints there don't take as many bytes as
-///   the third byte says (`told`).
+///   the third byte says (`exact`).
 /// - [`Cursor::svarint_pair`] and [`Cursor::svarint_mixed_pair`]: fewer than eight bytes are left, or four in a row of the next
 ///   eight go on (`told`).
 /// - [`Cursor::svarint_pair_and_one`]: fewer than twelve bytes are left, or four in a row of the next twelve go on (`told`).
@@ -288,7 +288,7 @@ impl<'a> Cursor<'a> {
         ensures some { OnSome result ((n : ℕ) × Spells (passed self.old self.new) n) }
         ensures moved { OnSome result (IsMoved self.old self.new) }
         ensures none { IfNone result (self.new ≡ self.old) }
-        ensures told { IfNone result (IsUnended (rest self.old)) }
+        ensures told { IfNone result ((length (rest self.old) < 8) ⊎ HasLong 8 8 (rest self.old)) }
     {
         let len = self.short_length()?;
         self.place += len;
@@ -340,7 +340,7 @@ impl<'a> Cursor<'a> {
     #[inline(always)]
     fn short_length(&self) -> Option<usize>
         ensures some { IfSome result (IsFirstEnd (rest self.now)) }
-        ensures told { IfNone result (IsUnended (rest self.now)) }
+        ensures told { IfNone result ((length (rest self.now) < 8) ⊎ HasLong 8 8 (rest self.now)) }
     {
         first_end(self.bytes[self.place..].first_chunk::<8>()?)
     }

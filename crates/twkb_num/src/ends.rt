@@ -1,7 +1,7 @@
 //! Where varints end, found in words of eight bytes. Used by `cursor`, `cursor/pairs` and `cursor/point`.
 ghost use Rattle.std.specs.Prelude.{◌≡◌, ◌↔◌, ◌+◌, ◌*◌, ◌-◌, ◌≤◌, ◌<◌, ◌^◌, ℕ, slice_index, IsTrue, IfSome, IfNone};
-ghost use Rattle.twkb_num.specs.Varint.{IsStuck, EndsOnce};
-ghost use Rattle.twkb_num.specs.Devices.Ends.{IsFirstEnd, ended, ends_to, eight_bytes, IsEnd, IsLastEnd, IsFrontOf};
+ghost use Rattle.twkb_num.specs.Varint.{IsStuck};
+ghost use Rattle.twkb_num.specs.Devices.Ends.{IsFirstEnd, EndsOnce, ended, ends_to, eight_bytes, IsEnd, IsLastEnd, IsFrontOf};
 
 /// The top bit of each byte of a word, which is set where a varint goes on.
 const TOPS: u64 = 0x8080_8080_8080_8080;

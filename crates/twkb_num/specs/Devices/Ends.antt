@@ -11,6 +11,10 @@ pub record IsFirstEnd (bytes : List ℕ) (many : ℕ) : Type 0 where
   pub goes_on : (k : ℕ) → k + 1 < many → 128 ≤ slice_index bytes k
   pub ends : slice_index bytes (many - 1) < 128
 
+-- at most one of the first eight bytes ends a varint: the bytes after it go on
+abbrev pub EndsOnce : List ℕ → Type 0
+EndsOnce bytes = (i k : ℕ) → i < k → k < 8 → slice_index bytes i < 128 → 128 ≤ slice_index bytes k
+
 -- 1 for a byte below 128, which ends a varint, else 0
 abbrev pub ended : List ℕ → ℕ → ℕ
 ended bytes k = (255 - slice_index bytes k) / 128

@@ -1,8 +1,8 @@
 //! Two to four signed numbers at a cursor's place, read together, and two numbers passed together.
-ghost use Rattle.std.specs.Prelude.{◌≡◌, ◌↔◌, ◌+◌, ◌<◌, ◌≤◌, ◌⊎◌, length, IfSome, IfNone, OnSome, IsTrue};
+ghost use Rattle.std.specs.Prelude.{◌≡◌, ◌↔◌, ◌+◌, ◌<◌, ◌≤◌, ◌⊎◌, ℕ, length, slice_index, IfSome, IfNone, OnSome, IsTrue};
 ghost use Rattle.twkb_num.specs.Devices.Pairs.{ReadsPair, PassesTwoPairs};
 ghost use Rattle.twkb_num.specs.Cursor.{Reading, passed, rest, IsMoved};
-ghost use Rattle.twkb_num.specs.Varint.{SpellsMany, SpellsTwoSigned, IsSigned, IsShort, HasLong, EndsOnce};
+ghost use Rattle.twkb_num.specs.Varint.{SpellsMany, SpellsTwoSigned, IsSigned, IsShort, HasLong};
 
 use super::Cursor;
 use crate::ends::second_end;
@@ -136,7 +136,8 @@ impl<'a> Cursor<'a> {
     #[inline(always)]
     pub fn pass_pair(&mut self) -> Option<()>
         ensures some { OnSome result (SpellsMany (passed self.old self.new) 2) }
-        ensures told { IfNone result ((length (rest self.old) < 8) ⊎ EndsOnce (rest self.old)) }
+        ensures told { IfNone result ((length (rest self.old) < 8) ⊎ ((i k : ℕ) → i < k → k < 8
+            → slice_index (rest self.old) i < 128 → 128 ≤ slice_index (rest self.old) k)) }
         ensures moved { OnSome result (IsMoved self.old self.new) }
         ensures none { IfNone result (self.new ≡ self.old) }
     {

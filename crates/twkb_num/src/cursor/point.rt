@@ -1,7 +1,7 @@
 //! Points with or without a size, passed without decoding their numbers.
-ghost use Rattle.std.specs.Prelude.{◌≡◌, ◌≢◌, ◌<◌, ◌≤◌, ◌%◌, ◌⊎◌, ℕ, List, [], ◌∷◌, ◌++◌, length, take, drop, slice_index, IfNone, OnSome};
+ghost use Rattle.std.specs.Prelude.{◌≡◌, ◌↔◌, IsSome, IfNone, OnSome};
 ghost use Rattle.twkb_num.specs.Cursor.{passed, rest, IsMoved};
-ghost use Rattle.twkb_num.specs.Varint.{SpellsMany, EndsOnce};
+ghost use Rattle.twkb_num.specs.Point.{IsShortPoint, StartsWithShortPoint};
 
 use super::Cursor;
 use crate::ends::second_end;
@@ -23,17 +23,8 @@ impl<'a> Cursor<'a> {
     /// and the cursor is as it was.
     #[inline(always)]
     pub fn pass_short_point(&mut self) -> Option<()>
-        ensures some { OnSome result ((first metadata : ℕ) × (size numbers : List ℕ)
-            × (passed self.old self.new ≡ first ∷ metadata ∷ size ++ numbers) × (first % 16 ≡ 1)
-            × (((metadata % 32 ≡ 0) × (size ≡ [])) ⊎ ((metadata % 32 ≡ 2) × (size ≡ length numbers ∷ [])))
-            × (length numbers ≤ 8) × SpellsMany numbers 2) }
-        ensures far { OnSome result (11 ≤ length (rest self.old)) }
-        ensures told { IfNone result ((length (rest self.old) < 11) ⊎ (slice_index (rest self.old) 0 % 16 ≢ 1)
-            ⊎ ((slice_index (rest self.old) 1 % 32 ≢ 0) × (slice_index (rest self.old) 1 % 32 ≢ 2))
-            ⊎ ((slice_index (rest self.old) 1 % 32 ≡ 0) × EndsOnce (drop 2 (rest self.old)))
-            ⊎ ((slice_index (rest self.old) 1 % 32 ≡ 2) × (EndsOnce (drop 3 (rest self.old))
-            ⊎ ((taken : ℕ) × (taken ≤ 8) × SpellsMany (take taken (drop 3 (rest self.old))) 2
-            × (taken ≢ slice_index (rest self.old) 2))))) }
+        ensures some { OnSome result (IsShortPoint (passed self.old self.new)) }
+        ensures exact { IsSome result ↔ StartsWithShortPoint (rest self.old) }
         ensures moved { OnSome result (IsMoved self.old self.new) }
         ensures none { IfNone result (self.new ≡ self.old) }
     {
