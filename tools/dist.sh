@@ -101,7 +101,7 @@ Dozhemik $version, of the commit \`$commit\`, by the kit \`$kit\`.
 |---|---|
 | \`bin/twkb_tool\` | built by this kit from crates that it has proved; it builds no others |
 | \`lib/libtwkb.a\`, \`lib/libtwkb.so.0\`, and the library in the wheel | built in the same way, except \`twkb_version()\`, which is C, and three functions of the kit that call the C library |
-| the module inside \`dozhemik.html\` | built in the same way, and then lowered to 32 bits by \`wasm-opt\` |
+| the module inside \`dozhemik.html\` | built in the same way, and then lowered to 32 bits and made shorter by \`wasm-opt\` |
 | everything else | not proved: the header, the package for Python, the crate for Rust, the rest of the page, the scripts |
 
 \`docs/PROVED.md\` says what is proved of these, \`docs/TESTED.md\` what is only tested, \`README.md\` what is trusted, and
