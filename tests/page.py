@@ -12,7 +12,9 @@ are left out. Prints each difference, and last a line `N passed, M failed`; the 
 """
 import argparse
 import filecmp
+import json
 import os
+import re
 import shutil
 import subprocess
 import sys
@@ -168,6 +170,18 @@ def closed(page):
     count(page.name("no connection"), page.run(event), "connect-src")
 
 
+def styled(page):
+    """The style inside the page, which has no comments and fewer gaps, has the rules of its source."""
+    with open(os.path.join(WEB, "page", "style.css"), encoding="utf-8") as file:
+        source = json.dumps(file.read())
+    # Browsers keep the gaps of custom properties, so those after commas are left out of both.
+    rules = '[...one.cssRules].map((rule) => rule.cssText.replaceAll(", ", ","))'
+    inside = page.run(f"((one) => {rules})(document.styleSheets[0])")
+    wanted = page.run(f"((one) => (one.replaceSync({source}), {rules}))(new CSSStyleSheet())")
+    differ = [pair for pair in zip(inside, wanted) if pair[0] != pair[1]]
+    count(page.name("the style"), (len(inside), differ[:3]), (len(wanted), []))
+
+
 def large(page):
     """A file of 100 MB: the page answers while it works, and says what the program says."""
     with open(LINES, "rb") as file:
@@ -263,7 +277,7 @@ def drive(Browser, page, program, folder, picture):
     browser = Browser()
     try:
         driven = Driven(browser, page, program, folder)
-        for part in (cases, examples, inside, dragged, zoomed, no_layers, loose, sorting, closed, large):
+        for part in (cases, examples, inside, dragged, zoomed, no_layers, loose, sorting, closed, styled, large):
             start = time.monotonic()
             part(driven)
             print(f"{browser.name}: {part.__name__}, {time.monotonic() - start:.0f} s", flush=True)
@@ -299,6 +313,13 @@ def same_bytes(module, folder):
     subprocess.run([sys.executable, make, module, made[0]], check=True, stdout=subprocess.DEVNULL)
     with open(made[0], encoding="latin-1") as file:
         count("no repository: the commit is unknown", "commit unknown" in file.read(), True)
+
+
+def kept(page):
+    """No packed part has a byte that HTML changes, or what ends a script or begins a comment."""
+    with open(page, "rb") as file:
+        parts = re.findall(rb'<script type="text/plain"[^>]*>(.*?)</script>', file.read(), re.DOTALL)
+    count("parts that HTML keeps", [number for number, part in enumerate(parts) if re.search(rb"[\0\r]|<[!/]", part)], [])
 
 
 def built():
@@ -338,6 +359,7 @@ def main():
     if page:
         os.makedirs(PICTURES, exist_ok=True)
         count("the page's length", os.path.getsize(page) <= LARGEST_PAGE, True)
+        kept(page)
         module = os.path.join(TOP, "build", "web", "twkb_web.wasm")
         if os.path.exists(module):
             with tempfile.TemporaryDirectory() as folder:

@@ -4,8 +4,9 @@
 usage: bindings/web/make_page.py MODULE OUT
 
 The scripts of `page/` are joined, without comments and indentation, in an order in which each imports only from those before it. The
-module, the scripts and the examples are compressed, and all examples but the first are shortened by whole blobs, so that the page stays
-below LARGEST bytes. It names the version, from the file VERSION, and the commit, if git knows one. A commit has one page, byte for byte.
+style has no comments either, and no gaps that it doesn't need. The module, the scripts and the examples are compressed, and all
+examples but the first are shortened by whole blobs, so that the page stays below LARGEST bytes. It names the version, from the file
+VERSION, and the commit, if git knows one. A commit has one page, byte for byte.
 
 The page is in CHARSET, which has a letter for each of the 256 bytes. So a compressed byte takes one byte of the page.
 """
@@ -29,9 +30,14 @@ LARGEST = 150_000
 # As browsers read it. Python calls it CODEC, and knows no letter for five of its bytes, which the page's texts don't use.
 CHARSET = "windows-1252"
 CODEC = "cp1252"
-# Bytes that a script of HTML wouldn't keep or that could end it, and the sign itself, are written as the sign and a byte SHIFT higher.
+# Bytes that a script of HTML wouldn't keep, a `<` that could end it or begin a comment, and the sign itself, are written as the sign and
+# a byte SHIFT higher.
 SIGN, SHIFT = b"=", 64
-ESCAPED = b"\0\r<" + SIGN
+ESCAPED = re.compile(b"[\0\r" + SIGN + b"]|<(?=[!/])")
+# Gaps of a style are spaces, ends of lines and comments. Next to these marks they may go, and after a colon too. Before a colon they
+# may be part of a selector.
+GAP = r"(?:\s|/\*.*?\*/)"
+STYLE_TOKEN = re.compile(rf'("[^"]*")|{GAP}*([{{}};,]){GAP}*|(:){GAP}+|{GAP}+', re.DOTALL)
 sys.path.insert(0, os.path.join(TOP, "tests"))
 import plain  # noqa: E402
 
@@ -92,10 +98,14 @@ def body(module, modules):
     return re.sub(r"^(?:export |\s+)", "", text, flags=re.MULTILINE)
 
 
+def style():
+    """The style without comments, and without the gaps that it doesn't need. Its strings stay as they are."""
+    return STYLE_TOKEN.sub(lambda match: match[1] or match[2] or match[3] or " ", text_of(PAGE, "style.css")).strip()
+
+
 def packed(data):
-    """Compressed, and with the sign before each byte of ESCAPED, which is written higher."""
-    data = gzip.compress(data, 9, mtime=0)
-    return re.sub(b"[" + re.escape(ESCAPED) + b"]", lambda match: SIGN + bytes([match[0][0] + SHIFT]), data)
+    """Compressed, and with the sign before each byte that is ESCAPED, which is written higher."""
+    return ESCAPED.sub(lambda match: SIGN + bytes([match[0][0] + SHIFT]), gzip.compress(data, 9, mtime=0))
 
 
 @functools.cache
@@ -161,8 +171,7 @@ def halved(data, number):
 def main(module, out):
     with open(module, "rb") as file:
         code = packed(file.read())
-    style = re.sub(r"^\s+|\n", "", text_of(PAGE, "style.css"), flags=re.MULTILINE)
-    texts = {"CHARSET": CHARSET, "STYLE": style, "VERSION": version(), "COMMIT": commit(), "LOADER": body("loader.js", [])}
+    texts = {"CHARSET": CHARSET, "STYLE": style(), "VERSION": version(), "COMMIT": commit(), "LOADER": body("loader.js", [])}
     parts_of = {name: text.encode(CODEC) for name, text in texts.items()}
     parts_of.update(MODULE=code, WORKER=packed(joined(WORKER).encode()), MAIN=packed(joined(MAIN).encode()))
 
