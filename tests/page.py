@@ -33,6 +33,9 @@ from png import shrunk
 from widened import widened
 
 WEB = os.path.join(TOP, "bindings", "web")
+sys.path.insert(0, WEB)
+from make_page import without_gaps  # noqa: E402
+
 PAGE = os.path.join(TOP, "build", "dozhemik.html")
 LARGEST_PAGE = 150_000
 LARGEST_FILE = 268435456
@@ -41,6 +44,12 @@ EXAMPLES = ["points_sized.twkb", "coast_lines_sized.twkb", "coast_collections.tw
 COPIES = 1190
 # PostGIS was asked for no windows of the world: the windows of the lines are taken.
 LINES_TOO = {WORLD: "coast_lines_sized.twkb"}
+# Styles, and what is left of each in the page.
+STYLES = {
+    "/* a */ b { c: d } e { f: g; /* h */ } i, j { k: l }": "b{c:d}e{f:g;}i,j{k:l}",
+    """a { b: 'c ; d' ; e: "f\\"  g" }""": """a{b:'c ; d';e:"f\\"  g"}""",
+    "a:is(b) > c :hover { d: calc(1px + 2px) }": "a:is(b) > c :hover{d:calc(1px + 2px)}",
+}
 # Of the windows that PostGIS was asked for every fifth one is asked for, of each example.
 EVERY = 5
 
@@ -315,10 +324,19 @@ def same_bytes(module, folder):
         count("no repository: the commit is unknown", "commit unknown" in file.read(), True)
 
 
+def shorter():
+    """A style loses comments and gaps, and nothing else."""
+    for style, wanted in STYLES.items():
+        count(f"the style {style}", without_gaps(style), wanted)
+
+
 def kept(page):
     """No packed part has a byte that HTML changes, or what ends a script or begins a comment."""
     with open(page, "rb") as file:
-        parts = re.findall(rb'<script type="text/plain"[^>]*>(.*?)</script>', file.read(), re.DOTALL)
+        whole = file.read()
+    parts = re.findall(rb'<script type="text/plain"[^>]*>(.*?)</script>', whole, re.DOTALL)
+    count("packed parts", len(parts), whole.count(b'<script type="text/plain"'))
+    count("parts are packed", len(parts) > 0, True)
     count("parts that HTML keeps", [number for number, part in enumerate(parts) if re.search(rb"[\0\r]|<[!/]", part)], [])
 
 
@@ -355,6 +373,7 @@ def main():
     there = [one for one in BROWSERS if shutil.which(one.name)]
     for lacking in set(BROWSERS) - set(there):
         print(f"{lacking.name} is missing: {lacking.needs}; its tests are left out")
+    shorter()
     page = (asked.page or built()) if there else None
     if page:
         os.makedirs(PICTURES, exist_ok=True)

@@ -4,7 +4,7 @@
 usage: bindings/web/make_page.py MODULE OUT
 
 The scripts of `page/` are joined, without comments and indentation, in an order in which each imports only from those before it. The
-style has no comments either, and no gaps that it doesn't need. The module, the scripts and the examples are compressed, and all
+style has no comments either, and fewer gaps. The module, the scripts and the examples are compressed, and all
 examples but the first are shortened by whole blobs, so that the page stays below LARGEST bytes. It names the version, from the file
 VERSION, and the commit, if git knows one. A commit has one page, byte for byte.
 
@@ -36,8 +36,9 @@ SIGN, SHIFT = b"=", 64
 ESCAPED = re.compile(b"[\0\r" + SIGN + b"]|<(?=[!/])")
 # Gaps of a style are spaces, ends of lines and comments. Next to these marks they may go, and after a colon too. Before a colon they
 # may be part of a selector.
-GAP = r"(?:\s|/\*.*?\*/)"
-STYLE_TOKEN = re.compile(rf'("[^"]*")|{GAP}*([{{}};,]){GAP}*|(:){GAP}+|{GAP}+', re.DOTALL)
+GAP = r"(?:\s|/\*(?:(?!\*/).)*\*/)"
+STRING = r'"(?:\\.|[^"\\])*"' + r"|'(?:\\.|[^'\\])*'"
+STYLE_TOKEN = re.compile(rf"({STRING})|{GAP}*([{{}};,]){GAP}*|(:){GAP}+|{GAP}+", re.DOTALL)
 sys.path.insert(0, os.path.join(TOP, "tests"))
 import plain  # noqa: E402
 
@@ -98,9 +99,13 @@ def body(module, modules):
     return re.sub(r"^(?:export |\s+)", "", text, flags=re.MULTILINE)
 
 
+def without_gaps(style):
+    """A style without comments, and with fewer gaps. Its strings stay as they are."""
+    return STYLE_TOKEN.sub(lambda match: match[1] or match[2] or match[3] or " ", style).strip()
+
+
 def style():
-    """The style without comments, and without the gaps that it doesn't need. Its strings stay as they are."""
-    return STYLE_TOKEN.sub(lambda match: match[1] or match[2] or match[3] or " ", text_of(PAGE, "style.css")).strip()
+    return without_gaps(text_of(PAGE, "style.css"))
 
 
 def packed(data):
