@@ -4,9 +4,9 @@
 usage: bindings/web/make_page.py MODULE OUT
 
 The scripts of `page/` are joined, without comments and indentation, in an order in which each imports only from those before it. The
-style has no comments either, and fewer gaps. The module, the scripts and the examples are compressed, and all
-examples but the first are shortened by whole blobs, so that the page stays below LARGEST bytes. It names the version, from the file
-VERSION, and the commit, if git knows one. A commit has one page, byte for byte.
+style has no comments either, and fewer gaps. The module, the scripts and the examples are compressed, and all examples but the first
+are shortened by whole blobs, so that the page stays below LARGEST bytes. It names the version, from the file VERSION, and the
+commit, if git knows one. A commit has one page, byte for byte.
 
 The page is in CHARSET, which has a letter for each of the 256 bytes. So a compressed byte takes one byte of the page.
 """

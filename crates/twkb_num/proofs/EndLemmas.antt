@@ -8,7 +8,7 @@ use Rattle.std.proofs.lemmas.Nat.Bits.{bit_at_cat_low, bit_at-pow_same, bit_at-p
 use Rattle.std.proofs.lemmas.Bool.{cases_lt}
 use Rattle.std.proofs.lemmas.Grind.{common_steps}
 use Rattle.std.proofs.lemmas.List.{get_or-take}
-use Rattle.twkb_num.specs.Varint.{sum_of_groups, Spells, HasLong}
+use Rattle.twkb_num.specs.Varint.{sum_of_groups, Spells, IsStuck}
 use Rattle.twkb_num.proofs.VarintLemmas.{sum_of_groups-fits, Spells-take}
 use Rattle.twkb_num.proofs.WordLemmas.{tops_4}
 use Rattle.twkb_num.specs.Devices.Ends.{IsFirstEnd, ended, four_bytes, eight_bytes}
@@ -189,7 +189,7 @@ end_in_chunk bytes chunk same enough (Some many) h =
     }
 
 -- where none of a chunk's bytes ends a varint, none of the first eight does
-pub none_in_chunk : (bytes chunk : List ℕ) → chunk ≡ take 8 bytes → (end : Option ℕ) → IfNone end ((k : ℕ) → k < 8 → 128 ≤ slice_index chunk k) → IfNone end ((length bytes < 8) ⊎ HasLong 8 8 bytes)
+pub none_in_chunk : (bytes chunk : List ℕ) → chunk ≡ take 8 bytes → (end : Option ℕ) → IfNone end ((k : ℕ) → k < 8 → 128 ≤ slice_index chunk k) → IfNone end (IsStuck 8 8 bytes)
 none_in_chunk bytes chunk same None h = inr (0, omega arith, λ k few. let here : 0 + k ≡ k = omega arith in omega (arith, h k few, ap (λ bs. slice_index bs k) same ∙ get_or-take 8 bytes k 0 few, ap (slice_index bytes) here))
 none_in_chunk bytes chunk same (Some many) h = tt
 

@@ -313,11 +313,11 @@ module _ (bytes : List ℕ) (many left done low size : ℕ) (l : IsEndsLoop byte
     | inr other ↦ other.1
   ]
 
-  pub stuck_at_end : length (drop done bytes) < 8 → IsStuck bytes size
-  stuck_at_end few = inl (omega (arith, few, sum, three, l.within, length-drop done bytes))
+  pub stuck_at_end : length (drop done bytes) < 8 → IsStuck 4 11 (drop size bytes)
+  stuck_at_end few = inl (omega (arith, few, sum, three, l.within, length-drop done bytes, length-drop size bytes))
 
   -- four bytes of the next word have no end
-  stuck_in : (word : List ℕ) → word ≡ take 8 (drop done bytes) → (i : ℕ) → i ≤ 4 → ends_to word (i + 4) ≤ ends_to word i → IsStuck bytes size
+  stuck_in : (word : List ℕ) → word ≡ take 8 (drop done bytes) → (i : ℕ) → i ≤ 4 → ends_to word (i + 4) ≤ ends_to word i → IsStuck 4 11 (drop size bytes)
   stuck_in word is i few none = inr (l.begun + i, omega (arith, three, few), go)
     where
       go : (k : ℕ) → k < 4 → 128 ≤ slice_index (drop size bytes) (l.begun + i + k)
@@ -326,7 +326,7 @@ module _ (bytes : List ℕ) (many left done low size : ℕ) (l : IsEndsLoop byte
           let there : slice_index word (i + k) ≡ slice_index bytes (done + (i + k)) = ap (λ (bs : List ℕ). slice_index bs (i + k)) is ∙ get_or-take 8 (drop done bytes) (i + k) 0 (omega (arith, few, h)) ∙ get_or-drop done bytes (i + k) 0 in
           omega (arith, no_ends word i (i + 4) (i + k) (omega arith) (omega (arith, h)) none, there, ap (slice_index bytes) at, get_or-drop size bytes (l.begun + i + k) 0)
 
-  pub stuck_low : (word : List ℕ) → word ≡ take 8 (drop done bytes) → (low ≡ 2 ^ 56 - 1 → 1 ≤ ends_to word 7 → false ≡ true) → (low ≡ 2 ^ 32 - 1 → 1 ≤ ends_to word 4 → false ≡ true) → IsStuck bytes size
+  pub stuck_low : (word : List ℕ) → word ≡ take 8 (drop done bytes) → (low ≡ 2 ^ 56 - 1 → 1 ≤ ends_to word 7 → false ≡ true) → (low ≡ 2 ^ 32 - 1 → 1 ≤ ends_to word 4 → false ≡ true) → IsStuck 4 11 (drop size bytes)
   stuck_low word is seven four = stuck_in word is 0 (omega arith) (elim (cases_lt (ends_to word 4) 1) [
     | inl none ↦ omega (arith, none)
     | inr some ↦ elim l.below [
@@ -335,19 +335,8 @@ module _ (bytes : List ℕ) (many left done low size : ℕ) (l : IsEndsLoop byte
     ]
   ])
 
-  pub stuck_high : (word : List ℕ) → word ≡ take 8 (drop done bytes) → (ends_to word 4 < ends_to word 8 → false ≡ true) → IsStuck bytes size
+  pub stuck_high : (word : List ℕ) → word ≡ take 8 (drop done bytes) → (ends_to word 4 < ends_to word 8 → false ≡ true) → IsStuck 4 11 (drop size bytes)
   stuck_high word is high = stuck_in word is 4 (omega arith) (elim (cases_lt (ends_to word 4) (ends_to word 8)) [
     | inl more ↦ absurd (cc (high more))
     | inr none ↦ none
   ])
-
--- bytes that are stuck behind a place are stuck from their beginning on
-pub stuck_behind : (bytes : List ℕ) (place size : ℕ) → place ≤ length bytes → IsStuck (drop place bytes) size → IsStuck bytes (place + size)
-stuck_behind bytes place size within (inl few) = inl (omega (arith, few, within, length-drop place bytes))
-stuck_behind bytes place size within (inr (at, low, on)) = inr (
-  at,
-  low,
-  λ k h.
-      let same : place + (size + (at + k)) ≡ place + size + (at + k) = omega arith in
-      omega (arith, on k h, get_or-drop size (drop place bytes) (at + k) 0, get_or-drop place bytes (size + (at + k)) 0, get_or-drop (place + size) bytes (at + k) 0, ap (slice_index bytes) same),
-)

@@ -25,7 +25,7 @@ two_parts : (bytes : List ℕ) → SpellsMany bytes 2 → InTwo bytes
 two_parts bytes two = parts_of two.numbers bytes two.count two.spelled
 
 -- if two numbers take at most eight bytes, two of the first eight end a varint
-ends_twice : (numbers behind : List ℕ) → length numbers ≤ 8 → SpellsMany numbers 2 → EndsOnce (numbers ++ behind) → ⊥
+pub ends_twice : (numbers behind : List ℕ) → length numbers ≤ 8 → SpellsMany numbers 2 → EndsOnce (numbers ++ behind) → ⊥
 ends_twice numbers behind few two once =
     let (n, m, s) = two_parts numbers two in
     let whole : numbers ++ behind ≡ s.front ++ (s.behind ++ behind) = ap (λ (bs : List ℕ). bs ++ behind) s.whole ∙ append_assoc s.front s.behind behind in

@@ -5,7 +5,7 @@ use Rattle.std.proofs.lemmas.Bool.{cases_lt}
 use Rattle.std.proofs.lemmas.Grind.{common_steps}
 use Rattle.std.proofs.lemmas.List.{get_or-take, get_or-drop}
 use Rattle.twkb_num.specs.Cursor.{Reading, rest, IsMoved}
-use Rattle.twkb_num.specs.Varint.{HasLong, IsSigned, IsShort, Faults}
+use Rattle.twkb_num.specs.Varint.{HasLong, IsStuck, IsSigned, IsShort, Faults}
 use Rattle.twkb_num.specs.Devices.Ends.{EndsOnce}
 use Rattle.twkb_num.specs.declared.varint.NumFault.{NumFault}
 use Rattle.twkb_num.specs.declared.varint.NumFault.TheVariants.{Cut, Long}
@@ -31,12 +31,8 @@ once_in_front bytes chunk is h =
 pub once_next : (bytes chunk : List ℕ) (place : ℕ) → chunk ≡ take 8 (slice_range bytes place (length bytes)) → EndsOnce chunk → EndsOnce (drop place bytes)
 once_next bytes chunk place is = once_in_front (drop place bytes) chunk (eight_are bytes chunk place is)
 
--- fewer bytes than this are left, or among as many n go on, one after another
-abbrev pub IsTold : ℕ → ℕ → List ℕ → Type 0
-IsTold n within bytes = (length bytes < within) ⊎ HasLong n within bytes
-
 -- what is told after a move of at most eight bytes holds before it, of eight bytes more
-pub told_after : (n within : ℕ) (old new : Reading) → IsMoved old new → new.place ≤ old.place + 8 → IsTold n within (rest new) → IsTold n (within + 8) (rest old)
+pub told_after : (n within : ℕ) (old new : Reading) → IsMoved old new → new.place ≤ old.place + 8 → IsStuck n within (rest new) → IsStuck n (within + 8) (rest old)
 told_after n within old new moved few (inl end) = inl (omega (arith, end, few, moved.ahead, moved.within, ap length moved.bytes, length-drop new.place new.bytes, length-drop old.place old.bytes))
 told_after n within old new moved few (inr h) = inr (new.place - old.place + h.0, omega (arith, h.1, few, moved.ahead), go)
   where
@@ -46,11 +42,11 @@ told_after n within old new moved few (inr h) = inr (new.place - old.place + h.0
         omega (arith, h.2 k l, get_or-drop new.place new.bytes (h.0 + k) 0, get_or-drop old.place old.bytes (new.place - old.place + h.0 + k) 0, ap (λ (bs : List ℕ). slice_index bs (new.place + (h.0 + k))) moved.bytes, ap (slice_index old.bytes) there)
 
 -- bytes that all go on
-first_four : (bytes : List ℕ) → ((k : ℕ) → k < 4 → 128 ≤ slice_index bytes k) → IsTold 4 4 bytes
+first_four : (bytes : List ℕ) → ((k : ℕ) → k < 4 → 128 ≤ slice_index bytes k) → IsStuck 4 4 bytes
 first_four bytes on = inr (0, omega arith, λ k l. let same : 0 + k ≡ k = omega arith in omega (arith, on k l, ap (slice_index bytes) same))
 
 -- a fault is found where few are left, or the first four go on
-pub told_by_fault : (fault : NumFault) (bytes : List ℕ) → Faults fault bytes → IsTold 4 4 bytes
+pub told_by_fault : (fault : NumFault) (bytes : List ℕ) → Faults fault bytes → IsStuck 4 4 bytes
 told_by_fault Cut bytes h =
     elim (cases_lt (length bytes) 4) [
       | inl few ↦ inl few
@@ -59,7 +55,7 @@ told_by_fault Cut bytes h =
 told_by_fault Long bytes h = first_four bytes (λ k l. h.goes_on k (omega (arith, l)))
 
 -- a number that isn't short is spelled by more than four bytes
-pub told_by_number : (z : ℤ) (bytes : List ℕ) (many : ℕ) → IsSigned z (take many bytes) → (IsShort z → ⊥) → IsTold 4 4 bytes
+pub told_by_number : (z : ℤ) (bytes : List ℕ) (many : ℕ) → IsSigned z (take many bytes) → (IsShort z → ⊥) → IsStuck 4 4 bytes
 told_by_number z bytes many signed far =
     let front : List ℕ = take many bytes in
     let spells = signed.1 in

@@ -88,15 +88,15 @@ pub record SpellsMany (bytes : List ℕ) (many : ℕ) : Type 0 where
 abbrev pub HasLong : ℕ → ℕ → List ℕ → Type 0
 HasLong n within bytes = (at : ℕ) × (at + n ≤ within) × ((k : ℕ) → k < n → 128 ≤ slice_index bytes (at + k))
 
--- after the first `size` bytes fewer than eleven are left, or four of the next eleven, one after another, go on
-abbrev pub IsStuck : List ℕ → ℕ → Type 0
-IsStuck bytes size = (length bytes < size + 11) ⊎ HasLong 4 11 (drop size bytes)
+-- fewer than `within` bytes, or n of the first `within` go on, one after another
+abbrev pub IsStuck : ℕ → ℕ → List ℕ → Type 0
+IsStuck n within bytes = (length bytes < within) ⊎ HasLong n within bytes
 
--- the bytes spell fewer than `many` numbers, and then are stuck (`IsStuck`)
+-- the bytes spell fewer than `many` numbers; after these fewer than eleven bytes are left, or four of the next eleven in a row go on
 pub record StopsBefore (many : ℕ) (bytes : List ℕ) : Type 0 where
   pub count : ℕ
   pub size : ℕ
   pub fewer : count < many
   pub within : size ≤ length bytes
   pub spells : SpellsMany (take size bytes) count
-  pub stuck : IsStuck bytes size
+  pub stuck : IsStuck 4 11 (drop size bytes)

@@ -2,7 +2,7 @@
 ghost use Rattle.std.specs.Prelude.{◌≡◌, ◌+◌, ◌-◌, ◌<◌, ◌≤◌, ◌^◌, ◌↔◌, ◌⊎◌, ℕ, ℤ, List, [], ◌∷◌, ◌++◌, length, take, IsNone, IfOk, IfErr, IfSome, IfNone, OnOk, OnSome};
 ghost use Rattle.twkb_num.specs.Cursor.{rest, passed, counted, IsMoved, IsSound};
 ghost use Rattle.twkb_num.specs.Devices.Ends.{IsFirstEnd};
-ghost use Rattle.twkb_num.specs.Varint.{SpellsMany, Spells, IsSigned, Faults, IsCut, looked_at, HasLong, IsStuck, StopsBefore};
+ghost use Rattle.twkb_num.specs.Varint.{SpellsMany, Spells, IsSigned, Faults, IsCut, looked_at, IsStuck, StopsBefore};
 ghost use Rattle.twkb_num.specs.declared.varint.NumFault.TheVariants.{Cut};
 ghost use Rattle.twkb_num.specs.Devices.Varint.{IsBegunBy};
 
@@ -28,7 +28,7 @@ use std::marker::Model;
 /// at least 128.
 ///
 /// - [`Cursor::pass_varint`]: fewer than eight bytes are left, or the next eight all go on (`told`).
-/// - [`Cursor::pass_pair`]: fewer than eight bytes are left, or at most one of the next eight ends a varint (`told`).
+/// - [`Cursor::pass_pair`]: fewer than eight bytes are left, or the next eight don't begin with two varints (`told`).
 /// - [`Cursor::pass_short_point`]: fewer than eleven bytes are left, or the first two don't begin a point with no field or with a
 ///   size alone. Without a size, it may also be that at most one of the eight bytes after the first two ends a varint. With a size,
 ///   it may be that at most one of the eight after the third does, or that the first two varints there don't take as many bytes as
@@ -288,7 +288,7 @@ impl<'a> Cursor<'a> {
         ensures some { OnSome result ((n : ℕ) × Spells (passed self.old self.new) n) }
         ensures moved { OnSome result (IsMoved self.old self.new) }
         ensures none { IfNone result (self.new ≡ self.old) }
-        ensures told { IfNone result ((length (rest self.old) < 8) ⊎ HasLong 8 8 (rest self.old)) }
+        ensures told { IfNone result (IsStuck 8 8 (rest self.old)) }
     {
         let len = self.short_length()?;
         self.place += len;
@@ -306,7 +306,7 @@ impl<'a> Cursor<'a> {
     pub fn pass_varints(&mut self, many: u64) -> u64
         ensures few { result ≤ many }
         ensures passed { SpellsMany (passed self.old self.new) result }
-        ensures stops { result < many → IsStuck self.old.bytes self.new.place }
+        ensures stops { result < many → IsStuck 4 11 (rest self.new) }
         ensures moved { IsMoved self.old self.new }
     {
         let first = first_varints(&self.bytes[self.place..], many);
@@ -340,7 +340,7 @@ impl<'a> Cursor<'a> {
     #[inline(always)]
     fn short_length(&self) -> Option<usize>
         ensures some { IfSome result (IsFirstEnd (rest self.now)) }
-        ensures told { IfNone result ((length (rest self.now) < 8) ⊎ HasLong 8 8 (rest self.now)) }
+        ensures told { IfNone result (IsStuck 8 8 (rest self.now)) }
     {
         first_end(self.bytes[self.place..].first_chunk::<8>()?)
     }

@@ -1,5 +1,5 @@
 //! Where varints end, found in words of eight bytes. Used by `cursor`, `cursor/pairs` and `cursor/point`.
-ghost use Rattle.std.specs.Prelude.{◌≡◌, ◌↔◌, ◌+◌, ◌*◌, ◌-◌, ◌≤◌, ◌<◌, ◌^◌, ℕ, slice_index, IsTrue, IfSome, IfNone};
+ghost use Rattle.std.specs.Prelude.{◌≡◌, ◌↔◌, ◌+◌, ◌*◌, ◌-◌, ◌≤◌, ◌<◌, ◌^◌, ℕ, drop, slice_index, IsTrue, IfSome, IfNone};
 ghost use Rattle.twkb_num.specs.Varint.{IsStuck};
 ghost use Rattle.twkb_num.specs.Devices.Ends.{IsFirstEnd, EndsOnce, ended, ends_to, eight_bytes, IsEnd, IsLastEnd, IsFrontOf};
 
@@ -58,7 +58,7 @@ pub struct FirstVarints {
 pub fn first_varints(bytes: &[u8], many: u64) -> FirstVarints
     ensures few { result.many ≤ many }
     ensures front { IsFrontOf bytes.now result.many result.size }
-    ensures stuck { result.many < many → IsStuck bytes.now result.size }
+    ensures stuck { result.many < many → IsStuck 4 11 (drop result.size bytes.now) }
 {
     let mut left = many;
     let mut done = 0;

@@ -1,8 +1,8 @@
 //! Two to four signed numbers at a cursor's place, read together, and two numbers passed together.
-ghost use Rattle.std.specs.Prelude.{◌≡◌, ◌↔◌, ◌+◌, ◌<◌, ◌≤◌, ◌⊎◌, ℕ, length, slice_index, IfSome, IfNone, OnSome, IsTrue};
+ghost use Rattle.std.specs.Prelude.{◌≡◌, ◌↔◌, ◌+◌, ◌<◌, ◌≤◌, ◌⊎◌, ℕ, length, take, IfSome, IfNone, OnSome, IsTrue};
 ghost use Rattle.twkb_num.specs.Devices.Pairs.{ReadsPair, PassesTwoPairs};
 ghost use Rattle.twkb_num.specs.Cursor.{Reading, passed, rest, IsMoved};
-ghost use Rattle.twkb_num.specs.Varint.{SpellsMany, SpellsTwoSigned, IsSigned, IsShort, HasLong};
+ghost use Rattle.twkb_num.specs.Varint.{SpellsMany, SpellsTwoSigned, IsSigned, IsShort, IsStuck};
 
 use super::Cursor;
 use crate::ends::second_end;
@@ -16,7 +16,7 @@ impl<'a> Cursor<'a> {
     pub fn svarint_pair(&mut self) -> Option<(i64, i64)>
         ensures some { IfSome result (λ pair. SpellsTwoSigned (passed self.old self.new) pair.0 pair.1) }
         ensures short { IfSome result (λ pair. IsShort pair.0 × IsShort pair.1) }
-        ensures told { IfNone result ((length (rest self.old) < 8) ⊎ HasLong 4 8 (rest self.old)) }
+        ensures told { IfNone result (IsStuck 4 8 (rest self.old)) }
         ensures within { OnSome result (self.new.place ≤ self.old.place + 8) }
         ensures moved { OnSome result (IsMoved self.old self.new) }
         ensures none { IfNone result (self.new ≡ self.old) }
@@ -32,7 +32,7 @@ impl<'a> Cursor<'a> {
     pub fn svarint_mixed_pair(&mut self) -> Option<(i64, i64)>
         ensures some { IfSome result (λ pair. SpellsTwoSigned (passed self.old self.new) pair.0 pair.1) }
         ensures short { IfSome result (λ pair. IsShort pair.0 × IsShort pair.1) }
-        ensures told { IfNone result ((length (rest self.old) < 8) ⊎ HasLong 4 8 (rest self.old)) }
+        ensures told { IfNone result (IsStuck 4 8 (rest self.old)) }
         ensures within { OnSome result (self.new.place ≤ self.old.place + 8) }
         ensures moved { OnSome result (IsMoved self.old self.new) }
         ensures none { IfNone result (self.new ≡ self.old) }
@@ -63,7 +63,7 @@ impl<'a> Cursor<'a> {
             × SpellsTwoSigned (passed middle self.new) (two.1).0 (two.1).1 × IsMoved middle self.new) }
         ensures first { IfSome result (λ two. IsShort (two.0).0 × IsShort (two.0).1) }
         ensures second { IfSome result (λ two. IsShort (two.1).0 × IsShort (two.1).1) }
-        ensures told { IfNone result ((length (rest self.old) < 16) ⊎ HasLong 4 16 (rest self.old)) }
+        ensures told { IfNone result (IsStuck 4 16 (rest self.old)) }
         ensures none { IfNone result (self.new ≡ self.old) }
     {
         let four = self.svarint_four();
@@ -83,7 +83,7 @@ impl<'a> Cursor<'a> {
         ensures some { IfSome result (λ two. PassesTwoPairs self.old self.new two.0 two.1) }
         ensures first { IfSome result (λ two. IsShort (two.0).0 × IsShort (two.0).1) }
         ensures second { IfSome result (λ two. IsShort (two.1).0 × IsShort (two.1).1) }
-        ensures told { IfNone result ((length (rest self.old) < 16) ⊎ HasLong 4 16 (rest self.old)) }
+        ensures told { IfNone result (IsStuck 4 16 (rest self.old)) }
         ensures none { IfNone result (self.new ≡ self.old) }
     {
         let mut ahead = self.copied();
@@ -102,7 +102,7 @@ impl<'a> Cursor<'a> {
             × IsSigned three.1 (passed middle self.new) × IsMoved middle self.new) }
         ensures pair { IfSome result (λ three. IsShort (three.0).0 × IsShort (three.0).1) }
         ensures one { IfSome result (λ three. IsShort three.1) }
-        ensures told { IfNone result ((length (rest self.old) < 12) ⊎ HasLong 4 12 (rest self.old)) }
+        ensures told { IfNone result (IsStuck 4 12 (rest self.old)) }
         ensures none { IfNone result (self.new ≡ self.old) }
     {
         let mut ahead = self.copied();
@@ -136,8 +136,8 @@ impl<'a> Cursor<'a> {
     #[inline(always)]
     pub fn pass_pair(&mut self) -> Option<()>
         ensures some { OnSome result (SpellsMany (passed self.old self.new) 2) }
-        ensures told { IfNone result ((length (rest self.old) < 8) ⊎ ((i k : ℕ) → i < k → k < 8
-            → slice_index (rest self.old) i < 128 → 128 ≤ slice_index (rest self.old) k)) }
+        ensures told { IfNone result ((length (rest self.old) < 8)
+            ⊎ ((size : ℕ) → size ≤ 8 → SpellsMany (take size (rest self.old)) 2 → ⊥)) }
         ensures moved { OnSome result (IsMoved self.old self.new) }
         ensures none { IfNone result (self.new ≡ self.old) }
     {

@@ -4,9 +4,9 @@ use Rattle.std.specs.Prelude.{IsTrue}
 use Rattle.std.proofs.lemmas.Int.{ints}
 use mir.Val.{SFits, of_z, to_z}
 use Rattle.std.proofs.lemmas.Int.{to_z-of_z}
-use Rattle.twkb_num.specs.Varint.{IsShort}
+use Rattle.twkb_num.specs.Varint.{IsShort, IsStuck}
 use Rattle.twkb_num.specs.Cursor.{Reading, rest}
-use Rattle.twkb_num.proofs.ToldLemmas.{IsTold, told_after, told_by_fault, told_by_number}
+use Rattle.twkb_num.proofs.ToldLemmas.{told_after, told_by_fault, told_by_number}
 use Rattle.twkb_num.proofs.cursor.Cursor.svarint_pair_and_one.Goals as goal
 
 -- a number of which the test says no isn't short
@@ -20,11 +20,11 @@ returns-in_default-clause-told c =
     let pair = c.in_ok-pair.ensures in
     let middle : Reading = c.svarint_pair.new.self in
     let one = told_by_fault c.in_default.field-0 (rest middle) ((c.svarint.ensures.fault c.in_default.field-0).0 c.in_default.is) in
-    subst (λ (r : Reading). IsTold 4 12 (rest r)) c.copied-ahead.ensures (told_after 4 4 c.copied-ahead.result middle pair.moved pair.within one)
+    subst (λ (r : Reading). IsStuck 4 12 (rest r)) c.copied-ahead.ensures (told_after 4 4 c.copied-ahead.result middle pair.moved pair.within one)
 
 pub returns-then-not-is_short-clause-told : goal.returns-then-not-is_short-clause-told
 returns-then-not-is_short-clause-told c =
     let pair = c.in_ok-pair.ensures in
     let middle : Reading = c.svarint_pair.new.self in
     let one = told_by_number c.in-Ok.one (rest middle) (c.svarint.new.self.place - middle.place) c.in-Ok.ensures.ok (not_short c.in-Ok.one c.if-not-is_short.ensures) in
-    subst (λ (r : Reading). IsTold 4 12 (rest r)) c.copied-ahead.ensures (told_after 4 4 c.copied-ahead.result middle pair.moved pair.within one)
+    subst (λ (r : Reading). IsStuck 4 12 (rest r)) c.copied-ahead.ensures (told_after 4 4 c.copied-ahead.result middle pair.moved pair.within one)
