@@ -45,7 +45,7 @@ pub come_same : (begun other : Begun) (g : Geometry) (depth m : ℕ) (before now
 come_same begun other g depth m before now same is come = record { stands = come.stands; sound = come.sound; begins = announced_same begun other 1 m before now same is come.begins }
 
 module _ (begun : Begun) (g : Geometry) (depth : ℕ) (before now new : Reading) (come : HasCome begun now g depth before) where
-  head_there : (head : Head) → rest_at begun.kind begun.xy begun.metadata begun.start now ≡ (Ok head, new) → IsHeadAt head 1 before.place (passed before new) × IsMoved before new
+  pub head_there : (head : Head) → rest_at begun.kind begun.xy begun.metadata begun.start now ≡ (Ok head, new) → IsHeadAt head 1 before.place (passed before new) × IsMoved before new
   head_there head e =
       let goes = begins_goes_on begun 1 before now come.sound come.begins (Ok head) new e in
       (head_ok 1 (omega arith) (omega arith) before new come.sound (Ok head) goes, head_moved 1 (omega arith) (omega arith) before new come.sound (Ok head) goes)
@@ -55,7 +55,7 @@ module _ (begun : Begun) (g : Geometry) (depth : ℕ) (before now new : Reading)
   rest_read raw (at, moved) = record { stands = come.stands; sound = come.sound; at = at; moved = moved }
 
   -- no field of the header of a certified geometry is wrong
-  rest_stands : (m : Malformed) → rest_at begun.kind begun.xy begun.metadata begun.start now ≡ (Err m, new) → ⊥
+  pub rest_stands : (m : Malformed) → rest_at begun.kind begun.xy begun.metadata begun.start now ≡ (Err m, new) → ⊥
   rest_stands m e = let no = (head_exact 1 (omega arith) (omega arith) before new come.sound (Err m) (begins_goes_on begun 1 before now come.sound come.begins (Err m) new e)).1 (header_starts g depth before come.stands) in cc (no)
 
   -- the size of a certified geometry leads to a place that fits its type

@@ -1,5 +1,5 @@
 //! Ranges of the box of a certified geometry, which are known to be at the place. Used by `headed` and `step`.
-ghost use Rattle.std.specs.Prelude.{◌≡◌, ◌≢◌, [], ◌∷◌, All, Err, IfNone, IfSome, IsTrue, Ok, map, true};
+ghost use Rattle.std.specs.Prelude.{◌≡◌, ◌≢◌, [], ◌∷◌, All, Err, IfNone, IfSome, IsTrue, Ok, is_some, map, true};
 ghost use Rattle.std.specs.Int.{w32, cast_signed};
 ghost use Rattle.twkb_num.specs.Cursor.{Reading};
 ghost use Rattle.twkb_num.specs.Varint.{IsShort};
@@ -7,10 +7,10 @@ ghost use Rattle.twkb_head.specs.Raw.{ends_of, IsNear};
 ghost use Rattle.twkb_head.specs.declared.raw.RawRange.{RawRange};
 ghost use Rattle.twkb_head.specs.declared.refusal.Malformed.{Malformed};
 ghost use Rattle.twkb_head.specs.Shared.Reader.{range_from};
-ghost use Rattle.twkb_body.specs.Devices.Known.{HasFlatBox, ReadsFlatBox};
+ghost use Rattle.twkb_body.specs.Devices.Known.{HasFlatBox, HasFurther, ReadsFlatBox, ReadsFurther};
 
 use crate::varints::take_signed;
-use twkb_head::RawRange;
+use twkb_head::{Axes, RawRange};
 use twkb_num::{Cursor, Four};
 
 /// Reads minimum and extent of an axis, and says whether both are known to be near zero.
@@ -60,6 +60,61 @@ pub fn lane_box(cursor: &mut Cursor) -> (Four, RawRange, RawRange)
         let (x, y) = long_box(cursor);
         (four, x, y)
     }
+}
+
+/// Reads two ranges, together if they are short.
+#[inline(always)]
+pub fn two_ranges(cursor: &mut Cursor) -> (RawRange, RawRange)
+    requires { HasFlatBox cursor.old }
+    ensures { ReadsFlatBox result.0 result.1 cursor.old cursor.new }
+{
+    match short_ranges(cursor) {
+        Some(both) => both,
+        None => long_box(cursor),
+    }
+}
+
+/// The range of an axis that is missing.
+const MISSING: RawRange = RawRange {
+    minimum: 0,
+    extent: 0,
+};
+
+/// Reads the ranges of Z and M that the box has. The range of a missing axis is zeros.
+#[inline(always)]
+pub fn further_ranges(cursor: &mut Cursor, axes: Axes) -> (RawRange, RawRange)
+    requires { HasFurther (is_some axes.z) (is_some axes.m) cursor.old }
+    ensures { ReadsFurther (is_some axes.z) (is_some axes.m) result.0 result.1 cursor.old cursor.new }
+{
+    let has_z = axes.z.is_some();
+    let has_m = axes.m.is_some();
+    if has_z & has_m {
+        return two_ranges(cursor);
+    }
+    if has_z | has_m {
+        let (third, _) = known_range(cursor);
+        return (third, MISSING);
+    }
+    (MISSING, MISSING)
+}
+
+/// Moves past the ranges of Z and M that the box has, as [`pass_range`] does.
+#[inline(always)]
+pub fn pass_further(cursor: &mut Cursor, axes: Axes)
+    requires { HasFurther (is_some axes.z) (is_some axes.m) cursor.old }
+    ensures { (third fourth : RawRange)
+        × ReadsFurther (is_some axes.z) (is_some axes.m) third fourth cursor.old cursor.new }
+{
+    let has_z = axes.z.is_some();
+    let has_m = axes.m.is_some();
+    if !(has_z | has_m) {
+        return;
+    }
+    pass_range(cursor);
+    if !(has_z & has_m) {
+        return;
+    }
+    pass_range(cursor);
 }
 
 /// Reads the ranges of X and Y, one after the other.

@@ -11,11 +11,13 @@ ghost use Rattle.twkb_head.specs.Raw.{HavePrecisions, head_said, flat_box, raw_b
 ghost use Rattle.twkb_body.specs.Standing.{StandsAt};
 
 use crate::body::{enter_deep_body, enter_flat, enter_point};
-use crate::known::{known_range, pass_range, short_ranges};
+use crate::known::{
+    further_ranges, known_range, pass_further, pass_range, short_ranges, two_ranges,
+};
 use crate::varints::take_number;
 use crate::visit::Visit;
 use twkb_head::{
-    Axes, Begun, BoxInlined, Fields, Kind, RawBox, RawRange, begun_as, begun_by, take_rest,
+    Axes, Begun, BoxCalled, Fields, Kind, RawBox, RawRange, SizeField, begun_as, begun_by, take_rest,
 };
 use twkb_num::Cursor;
 
@@ -87,10 +89,61 @@ fn enter_begun<V: Visit>(cursor: &mut Cursor, begun: Begun, visitor: &mut V) -> 
     ensures { Enters V.step V.passes (HasCome begun cursor.old)
         (V.state visitor.old) (V.state visitor.new) cursor.new result }
 {
-    // Points with a size, and geometries with a size and a box in X and Y, were read before. Most boxes that are left have Z or M, and
-    // their reader is inlined here.
-    let Ok(raw) = take_rest::<BoxInlined>(cursor, begun) else {
+    if begun.is_further_boxed() {
+        return enter_further_boxed(cursor, begun.announcing(11), visitor);
+    }
+    let Ok(raw) = take_rest::<BoxCalled>(cursor, begun) else {
         unreachable!()
+    };
+    enter_headed(cursor, &raw, visitor)
+}
+
+/// Enters a geometry that has a size, a box and an extended dimensions byte, and no other field. If the range in X shows that the
+/// visitor skips the box, the ranges of Z and M are passed by the ends of their numbers.
+#[inline(always)]
+fn enter_further_boxed<V: Visit>(cursor: &mut Cursor, begun: Begun, visitor: &mut V) -> u64
+    requires xy { IsPrecision begun.xy }
+    requires boxed { begun.metadata ≡ 11 }
+    requires come { IsThere (HasCome begun cursor.old) }
+    ensures { Enters V.step V.passes (HasCome begun cursor.old)
+        (V.state visitor.old) (V.state visitor.new) cursor.new result }
+{
+    let Some(extended) = cursor.byte() else {
+        unreachable!()
+    };
+    let axes = Axes::announced(begun.xy, extended);
+    let offset = cursor.place();
+    let Ok(value) = take_number(cursor) else {
+        unreachable!()
+    };
+    let after = cursor.place();
+    let stop = after + value as usize;
+    let (x, y) = two_ranges(cursor);
+    if x.is_near() && visitor.skips_by_x(begun.xy, &x) {
+        pass_further(cursor, axes);
+        cursor.go_to(stop);
+        return 0;
+    }
+    let (third, fourth) = further_ranges(cursor, axes);
+    let raw = Fields {
+        kind: begun.kind,
+        axes,
+        size: Some(SizeField {
+            value,
+            offset,
+            after,
+        }),
+        bounds: Some(RawBox {
+            x,
+            y,
+            third,
+            fourth,
+        }),
+        box_place: after,
+        ids: false,
+        empty: false,
+        start: begun.start,
+        stop: cursor.place(),
     };
     enter_headed(cursor, &raw, visitor)
 }

@@ -5,7 +5,8 @@ use Rattle.twkb_head.specs.Head.{span_at}
 use Rattle.twkb_head.specs.Raw.{ends_of, zero_range, raw_bounds}
 use Rattle.twkb_head.specs.Shared.Reader.{Answer, Reader, ◌>>=◌, viewed, range_from}
 use Rattle.twkb_head.specs.Devices.HeadReader.{axis_from, bounds_from, two_ranges_from}
-use Rattle.twkb_head.specs.Devices.Raw.{IsRangeIf, two_ranges_result}
+use Rattle.twkb_head.specs.Devices.Raw.{two_ranges_result}
+use Rattle.twkb_head.specs.Shared.Ranges.{IsRangeIf}
 use Rattle.twkb_head.specs.declared.boxes.Bounds.{Bounds}
 use Rattle.twkb_head.specs.declared.boxes.Span.{Span}
 use Rattle.twkb_head.specs.declared.raw.RawBox.{RawBox}
@@ -100,13 +101,19 @@ box_read xy None (Some q) box r b c d e third (_, fourth) = e ∙ rw (third, fou
 box_read xy (Some p) None box r b c d e third (_, fourth) = e ∙ rw (third, fourth) refl
 box_read xy (Some p) (Some q) box r b c d e third fourth = e ∙ rw (third, fourth) refl
 
--- the fault of a range of Z or M, if the box has only one of them
-pub third_stop : (xy : ℤ) (z m : Option ℕ) (x y : RawRange) (r b c : Reading) (w : Malformed) → (is_some z || is_some m) ≡ true → (is_some z && is_some m) ≡ false
+-- the fault of the first range after X and Y
+pub third_stop : (xy : ℤ) (z m : Option ℕ) (x y : RawRange) (r b c : Reading) (w : Malformed) → (is_some z || is_some m) ≡ true
     → bounds_from xy z m r ≡ box_after xy z m (Ok (x, y)) b → range_from b ≡ (Err w, c) → bounds_from xy z m r ≡ (Err w, c)
-third_stop xy None None x y r b c w some one flat read = absurd (cc (some))
-third_stop xy None (Some q) x y r b c w some one flat read = flat ∙ rw read refl
-third_stop xy (Some p) None x y r b c w some one flat read = flat ∙ rw read refl
-third_stop xy (Some p) (Some q) x y r b c w some one flat read = absurd (cc (one))
+third_stop xy None None x y r b c w some flat read = absurd (cc (some))
+third_stop xy None (Some q) x y r b c w some flat read = flat ∙ rw read refl
+third_stop xy (Some p) m x y r b c w some flat read = flat ∙ rw read refl
+
+-- the fault of the range of M after the one of Z
+pub fourth_stop : (xy : ℤ) (z m : Option ℕ) (x y third : RawRange) (r b c d : Reading) (w : Malformed) → (is_some z && is_some m) ≡ true
+    → bounds_from xy z m r ≡ box_after xy z m (Ok (x, y)) b → range_from b ≡ (Ok (ends_of third), c) → range_from c ≡ (Err w, d) → bounds_from xy z m r ≡ (Err w, d)
+fourth_stop xy (Some p) (Some q) x y third r b c d w both flat read stop = flat ∙ rw (read, stop) refl
+fourth_stop xy (Some p) None x y third r b c d w both flat read stop = absurd (cc (both))
+fourth_stop xy None m x y third r b c d w both flat read stop = absurd (cc (both))
 
 -- an axis that isn't there has no range to read
 pub absent_range : (there : Bool) (r : Reading) → there ≡ false → IsRangeIf there zero_range r r

@@ -1,11 +1,13 @@
 //! Boxes and headers in raw integers. Numbers of one precision compare without units. `ranges` and `read` read them.
 //! Used by other crates, and here by `header`, `ranges` and `read`.
-ghost use Rattle.std.specs.Prelude.{◌≡◌, ◌≤◌, ◌^◌, ◌≤ℤ◌, pos, neg_ℤ, None, true, option_map, IfSome};
+ghost use Rattle.std.specs.Prelude.{◌≡◌, ◌≤◌, ◌^◌, ◌≤ℤ◌, pos, neg_ℤ, None, Some, true, option_map, IfSome};
 ghost use Rattle.twkb_num.specs.Units.{IsPrecision};
 ghost use Rattle.twkb_head.specs.Raw.{HavePrecisions, ends_of, ranges_in, flat_box, raw_bounds, head_said, boxless, IsNear, HasNearRanges};
 ghost use Rattle.twkb_head.specs.Head.{span_at, range_of, m_axis};
+ghost use Rattle.twkb_head.specs.Header.{z_in, m_in};
 ghost use Rattle.twkb_head.specs.declared.kinds.Kind.TheVariants.{Point};
 
+use crate::bits::{m_of, z_of};
 use crate::boxes::{Bounds, Span};
 use crate::header::{BoxField, Head, SizeField};
 use crate::kinds::Kind;
@@ -174,6 +176,20 @@ impl Axes {
             xy,
             z: None,
             m: None,
+        }
+    }
+
+    /// X and Y, and the axes that an extended dimensions byte announces (TWKB specification, "Extended Dimensions").
+    #[inline(always)]
+    pub fn announced(xy: i8, extended: u8) -> Axes
+        ensures axes { result ≡ record { xy = xy; z = z_in (Some extended); m = m_in (Some extended) } }
+        ensures z_high { IfSome result.z (λ p. p ≤ 7) }
+        ensures m_high { IfSome result.m (λ p. p ≤ 7) }
+    {
+        Axes {
+            xy,
+            z: z_of(Some(extended)),
+            m: m_of(Some(extended)),
         }
     }
 

@@ -92,6 +92,14 @@ impl Begun {
         self.metadata % 32 == SIZE + BOX
     }
 
+    /// `true` says that an extended dimensions byte, a size and a box follow, no other field, and a body.
+    #[inline(always)]
+    pub fn is_further_boxed(self) -> bool
+        ensures { result ≡ true → self.metadata % 32 ≡ 11 }
+    {
+        self.metadata % 32 == SIZE + BOX + EXTENDED
+    }
+
     /// `true` says that it is a point, and that a size follows, no other field, and a body.
     #[inline(always)]
     pub fn is_sized_point(self) -> bool

@@ -1,11 +1,12 @@
 -- Devices of proofs: nothing public names them.
--- The box in X and Y of a certified geometry, at the place of a cursor.
-use Rattle.std.specs.Prelude.{◌≡◌, ◌≢◌, ℤ, Bool, None, Ok, Err}
+-- The box of a certified geometry, at the place of a cursor: its ranges in X and Y, and then those in Z and M.
+use Rattle.std.specs.Prelude.{◌≡◌, ◌≢◌, ◌||◌, ◌&&◌, ℤ, Bool, true, None, Ok, Err}
 use Rattle.twkb_num.specs.Cursor.{Reading}
 use Rattle.twkb_head.specs.Raw.{ends_of, flat_box, raw_bounds}
 use Rattle.twkb_head.specs.declared.boxes.Bounds.{Bounds}
 use Rattle.twkb_head.specs.declared.raw.RawRange.{RawRange}
 use Rattle.twkb_head.specs.declared.refusal.Malformed.{Malformed}
+use Rattle.twkb_head.specs.Shared.Ranges.{IsRangeIf}
 use Rattle.twkb_head.specs.Shared.Reader.{range_from}
 
 -- The ranges in X and Y were read, one after the other.
@@ -24,3 +25,15 @@ pub record HasFlatBox (now : Reading) : Type 0 where
 abbrev pub JudgesFlatBox : (Bounds → Bool) → ℤ → Bool → Reading → Reading → Type 0
 JudgesFlatBox skips xy skipped before after = (x y : RawRange) × ReadsFlatBox x y before after
     × (skipped ≡ skips (raw_bounds xy None None (flat_box x y)))
+
+-- After the ranges in X and Y the ranges of Z and M were read, of which a box may have both, one or none.
+pub record ReadsFurther (z m : Bool) (third fourth : RawRange) (before after : Reading) : Type 0 where
+  pub between : Reading
+  pub third_read : IsRangeIf (z || m) third before between
+  pub fourth_read : IsRangeIf (z && m) fourth between after
+
+-- After the ranges in X and Y the ranges of Z and M follow that the box has: none can be malformed.
+pub record HasFurther (z m : Bool) (now : Reading) : Type 0 where
+  pub third_stands : (z || m) ≡ true → (w : Malformed) (new : Reading) → range_from now ≢ (Err w, new)
+  pub fourth_stands : (z && m) ≡ true → (third : RawRange) (between : Reading) → range_from now ≡ (Ok (ends_of third), between)
+      → (w : Malformed) (new : Reading) → range_from between ≢ (Err w, new)

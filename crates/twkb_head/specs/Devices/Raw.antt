@@ -8,15 +8,11 @@ use Rattle.twkb_head.specs.declared.boxes.Bounds.{Bounds}
 use Rattle.twkb_head.specs.declared.raw.RawRange.{RawRange}
 use Rattle.twkb_head.specs.declared.raw.Fields.{Fields}
 use Rattle.twkb_head.specs.declared.read.Begun.{Begun}
+use Rattle.twkb_head.specs.Shared.Ranges.{IsRangeIf}
 use Rattle.twkb_head.specs.Shared.Reader.{optional_at, range_from}
 use Rattle.twkb_head.specs.Devices.HeadReader.{kind_from_type, byte_at, bounds_from}
-use Rattle.twkb_head.specs.Raw.{ends_of, zero_range, raw_bounds, head_said}
+use Rattle.twkb_head.specs.Raw.{ends_of, raw_bounds, head_said}
 use Rattle.twkb_head.specs.declared.header.Head.{Head}
-
--- the range of an axis that is there was read, or it isn't there, and the range is all zeros
-abbrev pub IsRangeIf : Bool → RawRange → Reading → Reading → Type 0
-IsRangeIf true range old new = range_from old ≡ (Ok (ends_of range), new)
-IsRangeIf false range old new = (range ≡ zero_range) × (new ≡ old)
 
 -- what the code read, in the terms of the definitions, or the fault: a range as its least and its greatest number
 abbrev pub range_result : Result RawRange Malformed → Result (ℤ × ℤ) Malformed

@@ -28,9 +28,8 @@ returns-in_err-take_range_if-clause-read g c xy z m z_is m_is =
     let x = c.in_ok-x.x in
     let y = c.in_ok-x.y in
     let some : (is_some z || is_some m) ≡ true = rw (z_is, m_is) c.in_err-take_range_if.ensures.0 in
-    let one : (is_some z && is_some m) ≡ false = rw (z_is, m_is) c.if-has_z-has_m.false in
     let p = err_from_is_err_and c.from_residual-in_err-take_range_if.result c.from_residual-in_err-take_range_if.ensures.1 in
-    let e = third_stop xy z m x y _ _ _ _ some one (flat_first xy z m _ _ (Ok (x, y)) c.in_ok-x.ensures) c.in_err-take_range_if.ensures.1 in
+    let e = third_stop xy z m x y _ _ _ _ some (flat_first xy z m _ _ (Ok (x, y)) c.in_ok-x.ensures) c.in_err-take_range_if.ensures.1 in
     rw (c.if-not-announced.false, e, p.1, p.2) refl
 
 pub returns-clause-read : goal.returns-clause-read
