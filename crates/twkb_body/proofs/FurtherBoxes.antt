@@ -1,5 +1,5 @@
 -- A certified geometry with an extended dimensions byte, a size and a box, and no other field: what follows its first two bytes.
-use Rattle.std.proofs.Common.{◌≡◌, ℕ, ◌+◌, ◌<◌, ◌≤◌, ◌^◌, ◌||◌, ◌&&◌, ℤ, Bool, true, false, cond, length, Option, Some, None, List, [], Ok, Err, refl, sym, ap, subst, ◌∙◌, is_some}
+use Rattle.std.proofs.Common.{◌≡◌, ℕ, ◌+◌, ◌<◌, ◌≤◌, ◌^◌, ◌||◌, ◌&&◌, Bool, true, false, cond, length, Some, None, [], Ok, Err, refl, sym, ap, subst, ◌∙◌, is_some}
 use Rattle.std.proofs.Math.Bool.{and-false}
 use Rattle.twkb_num.specs.Cursor.{Reading, rest, IsSound}
 use Rattle.twkb_num.proofs.CursorLemmas.{IsSound-moved}

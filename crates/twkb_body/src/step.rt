@@ -17,7 +17,8 @@ use crate::known::{
 use crate::varints::take_number;
 use crate::visit::Visit;
 use twkb_head::{
-    Axes, Begun, BoxCalled, Fields, Kind, RawBox, RawRange, SizeField, begun_as, begun_by, take_rest,
+    Axes, Begun, BoxCalled, Fields, Kind, RawBox, RawRange, SizeField, begun_as, begun_by,
+    take_rest,
 };
 use twkb_num::Cursor;
 

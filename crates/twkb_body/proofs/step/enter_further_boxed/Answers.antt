@@ -1,17 +1,13 @@
 -- A box that misses by X leads to the geometry's end, and any other header is read whole.
-use Rattle.std.proofs.Common.{◌≡◌, ℕ, ℤ, Some, refl, sym, ap, subst, ◌∙◌, arith}
+use Rattle.std.proofs.Common.{◌≡◌, ℕ, ℤ, Some, refl, ap, ◌∙◌, arith}
 use Rattle.std.proofs.lemmas.Int.{ints}
-use mir.Val.{to_z, of_z}
-use Rattle.std.specs.Int.{w8}
 use Rattle.twkb_head.specs.declared.raw.Axes.{Axes}
-use Rattle.twkb_head.specs.declared.raw.Fields.{Fields}
 use Rattle.twkb_head.specs.declared.read.Begun.{Begun}
 use Rattle.twkb_head.specs.Head.{span_at}
 use Rattle.twkb_head.specs.Header.{z_in, m_in}
 use Rattle.twkb_head.specs.Raw.{ends_of}
 use Rattle.twkb_head.proofs.FurtherBoxes.{further_axes}
 use Rattle.twkb_head.proofs.Steps.{read_byte}
-use Rattle.twkb_body.specs.Devices.Skimmed.{HasRead}
 use Rattle.twkb_body.proofs.FurtherBoxes.{extended_stands, size_stands, flat_stands, size_fits, further_stands, read_held, hop_ends_within, hop_enters}
 use Rattle.twkb_body.proofs.step.enter_further_boxed.Goals as goal
 
@@ -82,10 +78,14 @@ pub enter_headed-requires-clause-come : goal.enter_headed-requires-clause-come
 enter_headed-requires-clause-come g c =
     let (t, depth, before, come) = c.requires.come in
     let first = read_byte c.args.cursor.now c.byte.new.self c.in-Some.extended c.in-Some.ensures.some c.in-Some.ensures.moved in
-    let axes = axes_held c.args.begun c.in-Some.extended _ c.announced-axes.result c.announced-axes.ensures.axes (omega (arith, ints)) in
-    (t, depth, before, read_held c.args.begun t depth before c.args.cursor.now come c.requires.boxed c.in-Some.extended c.byte.new.self c.take_number.new.cursor first c.in-Ok.value c.in-Ok.ensures
-    c.announced-axes.result axes c.two_ranges.result.0 c.two_ranges.result.1 c.two_ranges.new.cursor c.two_ranges.ensures c.further_ranges.result.0 c.further_ranges.result.1 c.further_ranges.new.cursor c.further_ranges.ensures
-    c.place-offset.result c.place-after.result c.place.result c.place-offset.ensures.value c.place-after.ensures.value c.place.ensures.value)
+    let axes = axes_held c.args.begun c.in-Some.extended _ c.announced-axes.result c.announced-axes.ensures.axes (omega (arith, ints)) in (
+      t,
+      depth,
+      before,
+      read_held c.args.begun t depth before c.args.cursor.now come c.requires.boxed c.in-Some.extended c.byte.new.self c.take_number.new.cursor first c.in-Ok.value c.in-Ok.ensures
+          c.announced-axes.result axes c.two_ranges.result.0 c.two_ranges.result.1 c.two_ranges.new.cursor c.two_ranges.ensures c.further_ranges.result.0 c.further_ranges.result.1 c.further_ranges.new.cursor c.further_ranges.ensures
+          c.place-offset.result c.place-after.result c.place.result c.place-offset.ensures.value c.place-after.ensures.value c.place.ensures.value,
+    )
 
 pub returns : goal.returns
 returns g c = λ t depth before come.
