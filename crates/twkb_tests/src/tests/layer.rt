@@ -11,6 +11,7 @@ mod cuts;
 mod decimals;
 mod depths;
 mod directories;
+mod further_boxes;
 mod layers;
 mod lines;
 mod lists;
