@@ -126,7 +126,7 @@ fn enter_further_boxed<V: Visit>(cursor: &mut Cursor, begun: Begun, visitor: &mu
         return 0;
     }
     let (third, fourth) = further_ranges(cursor, axes);
-    let raw = Fields {
+    let header = Fields {
         kind: begun.kind,
         axes,
         size: Some(SizeField {
@@ -146,7 +146,7 @@ fn enter_further_boxed<V: Visit>(cursor: &mut Cursor, begun: Begun, visitor: &mu
         start: begun.start,
         stop: cursor.place(),
     };
-    enter_headed(cursor, &raw, visitor)
+    enter_headed(cursor, &header, visitor)
 }
 
 /// Enters a point that has a size, and no other field. The next geometry begins where the size says, which is known before the

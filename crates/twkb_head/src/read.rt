@@ -97,7 +97,7 @@ impl Begun {
     pub fn is_further_boxed(self) -> bool
         ensures { result ≡ true → self.metadata % 32 ≡ 11 }
     {
-        self.metadata % 32 == SIZE + BOX + EXTENDED
+        self.metadata % 32 == EXTENDED + SIZE + BOX
     }
 
     /// `true` says that it is a point, and that a size follows, no other field, and a body.
