@@ -1,5 +1,5 @@
 -- A header with an extended dimensions byte, a size and a box, and no other field, read field by field.
-use Rattle.std.proofs.Common.{◌≡◌, ℕ, ◌∙◌, Option, Some, ◌||◌, ◌&&◌, Ok, Err, true, false, is_some, refl, ap}
+use Rattle.std.proofs.Common.{◌≡◌, ℕ, ◌∙◌, Some, ◌||◌, ◌&&◌, Ok, Err, true, false, is_some, refl, ap}
 use Rattle.twkb_num.specs.Cursor.{Reading}
 use Rattle.twkb_head.specs.Header.{has_ids, z_in, m_in}
 use Rattle.twkb_head.specs.Raw.{ends_of, raw_bounds, head_said}
