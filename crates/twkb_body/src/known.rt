@@ -13,6 +13,12 @@ use crate::varints::take_signed;
 use twkb_head::{Axes, RawRange};
 use twkb_num::{Cursor, Four};
 
+/// The range of an axis that is missing.
+const MISSING: RawRange = RawRange {
+    minimum: 0,
+    extent: 0,
+};
+
 /// Reads minimum and extent of an axis, and says whether both are known to be near zero.
 // Numbers of at most four bytes are near zero, so the compiler knows the answer where they are read from one word.
 #[inline(always)]
@@ -73,12 +79,6 @@ pub fn two_ranges(cursor: &mut Cursor) -> (RawRange, RawRange)
         None => long_box(cursor),
     }
 }
-
-/// The range of an axis that is missing.
-const MISSING: RawRange = RawRange {
-    minimum: 0,
-    extent: 0,
-};
 
 /// Reads the ranges of Z and M that the box has. The range of a missing axis is zeros.
 #[inline(always)]

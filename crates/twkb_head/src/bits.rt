@@ -1,4 +1,4 @@
-//! What the three single bytes of a header say, bit by bit. Used by `field_readers` and `read`.
+//! What the three single bytes of a header say, bit by bit. Used by `field_readers`, `raw` and `read`.
 ghost use Rattle.std.specs.Prelude.{◌≡◌, ◌/◌, ◌<◌, ◌≤◌, IfSome};
 ghost use Rattle.twkb_num.specs.Units.{IsPrecision};
 ghost use Rattle.twkb_num.specs.Varint.{zigzag_value};
