@@ -1,5 +1,5 @@
 //! [`read_head`] and the other functions that read a header, whole or in two steps. Used by other crates.
-ghost use Rattle.std.specs.Prelude.{◌≡◌, ◌≢◌, ◌↔◌, ◌⊎◌, is_some, ℕ, ◌+◌, ◌-◌, ◌≤◌, ◌<◌, ◌%◌, [], ◌∷◌, true, false, not, None, Err, option_map, IfOk, OnOk, IfErr, IfSome, IfNone, IsOk, IsSome};
+ghost use Rattle.std.specs.Prelude.{◌≡◌, ◌≢◌, ◌↔◌, ◌⊎◌, is_some, ℕ, ◌+◌, ◌-◌, ◌≤◌, ◌<◌, ◌%◌, [], ◌∷◌, true, false, not, None, Err, option_map, IfOk, OnOk, IfErr, IfSome, IfNone, IsOk, IsSome, IsTrue};
 ghost use Rattle.twkb_num.specs.Cursor.{Reading, rest, passed, counted, IsMoved, IsSound};
 ghost use Rattle.twkb_num.specs.Units.{IsPrecision};
 ghost use Rattle.twkb_head.specs.BegunHeader.{deepest};
@@ -84,27 +84,26 @@ pub struct Begun {
 }
 
 impl Begun {
-    /// `true` says that a size and a box in X and Y follow, no other field, and a body.
+    /// Whether a size and a box in X and Y follow, no other field, and a body.
     #[inline(always)]
     pub fn is_flat_boxed(self) -> bool
-        ensures { result ≡ true → self.metadata % 32 ≡ 3 }
+        ensures { IsTrue result ↔ (self.metadata % 32 ≡ 3) }
     {
         self.metadata % 32 == SIZE + BOX
     }
 
-    /// `true` says that an extended dimensions byte, a size and a box follow, no other field, and a body.
+    /// Whether an extended dimensions byte, a size and a box follow, no other field, and a body.
     #[inline(always)]
     pub fn is_further_boxed(self) -> bool
-        ensures { result ≡ true → self.metadata % 32 ≡ 11 }
+        ensures { IsTrue result ↔ (self.metadata % 32 ≡ 11) }
     {
         self.metadata % 32 == EXTENDED + SIZE + BOX
     }
 
-    /// `true` says that it is a point, and that a size follows, no other field, and a body.
+    /// Whether it is a point, and a size follows, no other field, and a body.
     #[inline(always)]
     pub fn is_sized_point(self) -> bool
-        ensures metadata { result ≡ true → self.metadata % 32 ≡ 2 }
-        ensures kind { result ≡ true → self.kind ≡ Point }
+        ensures { IsTrue result ↔ ((self.metadata % 32 ≡ 2) × (self.kind ≡ Point)) }
     {
         self.metadata % 32 == SIZE && matches!(self.kind, Kind::Point)
     }

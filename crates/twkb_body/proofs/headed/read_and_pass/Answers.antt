@@ -4,36 +4,36 @@ use Rattle.twkb_body.proofs.headed.read_and_pass.Goals as goal
 
 pub take_boxed-passed-requires-clause-come : goal.take_boxed-passed-requires-clause-come
 take_boxed-passed-requires-clause-come c =
-    (c.requires.0, c.args.cursor.now, come_same _ _ c.requires.0 1 3 _ _ (c.is_flat_boxed.ensures c.if-is_flat_boxed.true) c.announcing.ensures (c.take_first_two-begun.ensures.come c.requires.0 c.requires.1))
+    (c.requires.0, c.args.cursor.now, come_same _ _ c.requires.0 1 3 _ _ (c.is_flat_boxed.ensures.0 c.if-is_flat_boxed.true) c.announcing.ensures (c.take_first_two-begun.ensures.come c.requires.0 c.requires.1))
 
 pub pass_headed-requires-clause-read : goal.pass_headed-requires-clause-read
 pass_headed-requires-clause-read c =
-    (c.requires.0, c.args.cursor.now, c.take_boxed-passed.ensures.read c.requires.0 c.args.cursor.now (come_same _ _ c.requires.0 1 3 _ _ (c.is_flat_boxed.ensures c.if-is_flat_boxed.true) c.announcing.ensures (c.take_first_two-begun.ensures.come c.requires.0 c.requires.1)))
+    (c.requires.0, c.args.cursor.now, c.take_boxed-passed.ensures.read c.requires.0 c.args.cursor.now (come_same _ _ c.requires.0 1 3 _ _ (c.is_flat_boxed.ensures.0 c.if-is_flat_boxed.true) c.announcing.ensures (c.take_first_two-begun.ensures.come c.requires.0 c.requires.1)))
 
 pub pass_begun-requires-clause-come : goal.pass_begun-requires-clause-come
 pass_begun-requires-clause-come c =
-    (c.requires.0, c.args.cursor.now, come_same _ _ c.requires.0 1 2 _ _ (c.is_sized_point.ensures.metadata c.if-is_sized_point.true) c.announcing-then-is_sized_point.ensures (c.take_first_two-begun.ensures.come c.requires.0 c.requires.1))
+    (c.requires.0, c.args.cursor.now, come_same _ _ c.requires.0 1 2 _ _ (c.is_sized_point.ensures.0 c.if-is_sized_point.true).0 c.announcing-then-is_sized_point.ensures (c.take_first_two-begun.ensures.come c.requires.0 c.requires.1))
 
 pub pass_begun-requires-2-clause-come : goal.pass_begun-requires-2-clause-come
 pass_begun-requires-2-clause-come c = (c.requires.0, c.args.cursor.now, c.take_first_two-begun.ensures.come c.requires.0 c.requires.1)
 
 pub returns-then-is_flat_boxed-clause-bytes : goal.returns-then-is_flat_boxed-clause-bytes
-returns-then-is_flat_boxed-clause-bytes c = let (g, at) = c.requires in (c.pass_headed.ensures g c.args.cursor.now (c.take_boxed-passed.ensures.read g c.args.cursor.now (come_same _ _ g 1 3 _ _ (c.is_flat_boxed.ensures c.if-is_flat_boxed.true) c.announcing.ensures (c.take_first_two-begun.ensures.come g at)))).bytes
+returns-then-is_flat_boxed-clause-bytes c = let (g, at) = c.requires in (c.pass_headed.ensures g c.args.cursor.now (c.take_boxed-passed.ensures.read g c.args.cursor.now (come_same _ _ g 1 3 _ _ (c.is_flat_boxed.ensures.0 c.if-is_flat_boxed.true) c.announcing.ensures (c.take_first_two-begun.ensures.come g at)))).bytes
 
 pub returns-then-is_flat_boxed-clause-place : goal.returns-then-is_flat_boxed-clause-place
-returns-then-is_flat_boxed-clause-place c = λ g at. (c.pass_headed.ensures g c.args.cursor.now (c.take_boxed-passed.ensures.read g c.args.cursor.now (come_same _ _ g 1 3 _ _ (c.is_flat_boxed.ensures c.if-is_flat_boxed.true) c.announcing.ensures (c.take_first_two-begun.ensures.come g at)))).place
+returns-then-is_flat_boxed-clause-place c = λ g at. (c.pass_headed.ensures g c.args.cursor.now (c.take_boxed-passed.ensures.read g c.args.cursor.now (come_same _ _ g 1 3 _ _ (c.is_flat_boxed.ensures.0 c.if-is_flat_boxed.true) c.announcing.ensures (c.take_first_two-begun.ensures.come g at)))).place
 
 pub returns-then-is_flat_boxed-clause-once : goal.returns-then-is_flat_boxed-clause-once
-returns-then-is_flat_boxed-clause-once c = λ g at. (c.pass_headed.ensures g c.args.cursor.now (c.take_boxed-passed.ensures.read g c.args.cursor.now (come_same _ _ g 1 3 _ _ (c.is_flat_boxed.ensures c.if-is_flat_boxed.true) c.announcing.ensures (c.take_first_two-begun.ensures.come g at)))).few
+returns-then-is_flat_boxed-clause-once c = λ g at. (c.pass_headed.ensures g c.args.cursor.now (c.take_boxed-passed.ensures.read g c.args.cursor.now (come_same _ _ g 1 3 _ _ (c.is_flat_boxed.ensures.0 c.if-is_flat_boxed.true) c.announcing.ensures (c.take_first_two-begun.ensures.come g at)))).few
 
 pub returns-then-is_sized_point-clause-bytes : goal.returns-then-is_sized_point-clause-bytes
-returns-then-is_sized_point-clause-bytes c = let (g, at) = c.requires in (c.pass_begun.ensures.passed g c.args.cursor.now (come_same _ _ g 1 2 _ _ (c.is_sized_point.ensures.metadata c.if-is_sized_point.true) c.announcing-then-is_sized_point.ensures (c.take_first_two-begun.ensures.come g at))).bytes
+returns-then-is_sized_point-clause-bytes c = let (g, at) = c.requires in (c.pass_begun.ensures.passed g c.args.cursor.now (come_same _ _ g 1 2 _ _ (c.is_sized_point.ensures.0 c.if-is_sized_point.true).0 c.announcing-then-is_sized_point.ensures (c.take_first_two-begun.ensures.come g at))).bytes
 
 pub returns-then-is_sized_point-clause-place : goal.returns-then-is_sized_point-clause-place
-returns-then-is_sized_point-clause-place c = λ g at. (c.pass_begun.ensures.passed g c.args.cursor.now (come_same _ _ g 1 2 _ _ (c.is_sized_point.ensures.metadata c.if-is_sized_point.true) c.announcing-then-is_sized_point.ensures (c.take_first_two-begun.ensures.come g at))).place
+returns-then-is_sized_point-clause-place c = λ g at. (c.pass_begun.ensures.passed g c.args.cursor.now (come_same _ _ g 1 2 _ _ (c.is_sized_point.ensures.0 c.if-is_sized_point.true).0 c.announcing-then-is_sized_point.ensures (c.take_first_two-begun.ensures.come g at))).place
 
 pub returns-then-is_sized_point-clause-once : goal.returns-then-is_sized_point-clause-once
-returns-then-is_sized_point-clause-once c = λ g at. (c.pass_begun.ensures.passed g c.args.cursor.now (come_same _ _ g 1 2 _ _ (c.is_sized_point.ensures.metadata c.if-is_sized_point.true) c.announcing-then-is_sized_point.ensures (c.take_first_two-begun.ensures.come g at))).few
+returns-then-is_sized_point-clause-once c = λ g at. (c.pass_begun.ensures.passed g c.args.cursor.now (come_same _ _ g 1 2 _ _ (c.is_sized_point.ensures.0 c.if-is_sized_point.true).0 c.announcing-then-is_sized_point.ensures (c.take_first_two-begun.ensures.come g at))).few
 
 pub returns-clause-bytes : goal.returns-clause-bytes
 returns-clause-bytes c = let (g, at) = c.requires in (c.pass_begun-2.ensures.passed g c.args.cursor.now (c.take_first_two-begun.ensures.come g at)).bytes

@@ -134,8 +134,7 @@ fn headers_have_two_bytes(rt: HostRuntime) {
     }
 }
 
-// The questions that audits and skims ask about the first two bytes: which fields follow, and whether a body does. Some of the
-// contracts would also hold if the answer were always no.
+// The questions that audits and skims ask about the first two bytes: which fields follow, and whether a body does.
 #[test]
 fn every_first_two_bytes(rt: HostRuntime) {
     for first in 0..=255u8 {
@@ -143,6 +142,7 @@ fn every_first_two_bytes(rt: HostRuntime) {
             let expected = match first & 15 {
                 1..=7 => Some([
                     metadata & 31 == 3,
+                    metadata & 31 == 11,
                     metadata & 31 == 2 && first & 15 == 1,
                     metadata & 8 == 0,
                     metadata & 16 != 0,
@@ -152,6 +152,7 @@ fn every_first_two_bytes(rt: HostRuntime) {
             let said = begin_head(&mut Cursor::new(&[first, metadata]), 1).map(|begun| {
                 [
                     begun.is_flat_boxed(),
+                    begun.is_further_boxed(),
                     begun.is_sized_point(),
                     begun.is_flat(),
                     begun.is_empty(),
