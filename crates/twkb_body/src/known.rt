@@ -68,7 +68,7 @@ pub fn lane_box(cursor: &mut Cursor) -> (Four, RawRange, RawRange)
     }
 }
 
-/// Reads two ranges, together if they are short.
+/// Reads two ranges: together if their four numbers are short, and otherwise one after the other.
 #[inline(always)]
 pub fn two_ranges(cursor: &mut Cursor) -> (RawRange, RawRange)
     requires { HasFlatBox cursor.old }
@@ -80,7 +80,7 @@ pub fn two_ranges(cursor: &mut Cursor) -> (RawRange, RawRange)
     }
 }
 
-/// Reads the ranges of Z and M that the box has. The range of a missing axis is zeros.
+/// Reads the ranges of Z and M that the box has, in this order; M alone comes first. What is left of the two ranges is zeros.
 #[inline(always)]
 pub fn further_ranges(cursor: &mut Cursor, axes: Axes) -> (RawRange, RawRange)
     requires { HasFurther (is_some axes.z) (is_some axes.m) cursor.old }

@@ -100,7 +100,8 @@ fn enter_begun<V: Visit>(cursor: &mut Cursor, begun: Begun, visitor: &mut V) -> 
 }
 
 /// Enters a geometry that has a size, a box and an extended dimensions byte, and no other field. If the range in X shows that the
-/// visitor skips the box, the ranges of Z and M are passed by the ends of their numbers.
+/// visitor skips the box, the ranges of Z and M are passed as [`pass_range`] does, and the place is set to the end that the size says.
+/// Otherwise the whole header is read.
 #[inline(always)]
 fn enter_further_boxed<V: Visit>(cursor: &mut Cursor, begun: Begun, visitor: &mut V) -> u64
     requires xy { IsPrecision begun.xy }

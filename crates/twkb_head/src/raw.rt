@@ -179,7 +179,7 @@ impl Axes {
         }
     }
 
-    /// X and Y, and the axes that an extended dimensions byte announces (TWKB specification, "Extended Dimensions").
+    /// X and Y at precision `xy`, and the axes that an extended dimensions byte announces (TWKB specification, "Extended Dimensions").
     #[inline(always)]
     pub fn announced(xy: i8, extended: u8) -> Axes
         ensures axes { result ≡ record { xy = xy; z = z_in (Some extended); m = m_in (Some extended) } }

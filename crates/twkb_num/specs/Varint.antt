@@ -88,11 +88,11 @@ pub record SpellsMany (bytes : List ℕ) (many : ℕ) : Type 0 where
 abbrev pub HasLong : ℕ → ℕ → List ℕ → Type 0
 HasLong n within bytes = (at : ℕ) × (at + n ≤ within) × ((k : ℕ) → k < n → 128 ≤ slice_index bytes (at + k))
 
--- fewer than `within` bytes, or n of the first `within` go on, one after another
+-- fewer than `within` bytes, or n in a row of the first `within` go on
 abbrev pub IsStuck : ℕ → ℕ → List ℕ → Type 0
 IsStuck n within bytes = (length bytes < within) ⊎ HasLong n within bytes
 
--- the bytes spell fewer than `many` numbers; after these fewer than eleven bytes are left, or four of the next eleven in a row go on
+-- the bytes spell fewer than `many` numbers, and then fewer than eleven are left, or four in a row of the next eleven go on
 pub record StopsBefore (many : ℕ) (bytes : List ℕ) : Type 0 where
   pub count : ℕ
   pub size : ℕ

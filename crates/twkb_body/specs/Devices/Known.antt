@@ -26,13 +26,13 @@ abbrev pub JudgesFlatBox : (Bounds → Bool) → ℤ → Bool → Reading → Re
 JudgesFlatBox skips xy skipped before after = (x y : RawRange) × ReadsFlatBox x y before after
     × (skipped ≡ skips (raw_bounds xy None None (flat_box x y)))
 
--- After the ranges in X and Y the ranges of Z and M were read, of which a box may have both, one or none.
+-- After the ranges in X and Y the ranges of Z and M that the box has were read: both, one (as the third) or none.
 pub record ReadsFurther (z m : Bool) (third fourth : RawRange) (before after : Reading) : Type 0 where
   pub between : Reading
   pub third_read : IsRangeIf (z || m) third before between
   pub fourth_read : IsRangeIf (z && m) fourth between after
 
--- After the ranges in X and Y the ranges of Z and M follow that the box has: none can be malformed.
+-- After the ranges in X and Y, no range of Z or M that the box has is malformed.
 pub record HasFurther (z m : Bool) (now : Reading) : Type 0 where
   pub third_stands : (z || m) ≡ true → (w : Malformed) (new : Reading) → range_from now ≢ (Err w, new)
   pub fourth_stands : (z && m) ≡ true → (third : RawRange) (between : Reading) → range_from now ≡ (Ok (ends_of third), between)

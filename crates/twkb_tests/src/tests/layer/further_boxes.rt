@@ -7,7 +7,7 @@ use std::test::Fail;
 use twkb_layer::{Bounds, Span};
 use twkb_num::zigzag;
 
-/// X and Y of the point, in units, and Z and M, at precision 0.
+/// The point's raw integers. X and Y have precision 7, at which one of them is a unit, and Z and M have precision 0.
 const X: i64 = 20;
 
 const Y: i64 = -7;
@@ -16,7 +16,7 @@ const Z: i64 = 3;
 
 const M: i64 = 2;
 
-/// A unit of precision 0, in units.
+/// How many units 1 in Z or M is.
 const UNIT: i128 = 10_000_000;
 
 /// Bytes for a number: one, as many as a lane takes or one more, as many as a word takes or one more, and the most there can be.
@@ -85,7 +85,7 @@ fn scanned(rt: &impl Abort, alloc: Global, bytes: &[u8], ranges: &Bounds) -> (us
     (found, layer.read_count().saturating_sub(before))
 }
 
-/// The point is read whole where a window holds it, and up to its box where one misses it in an axis that it has.
+/// The point is read whole where a window holds it, and up to the end of its box where one misses it in an axis that it has.
 fn is_read_as_far(
     rt: &impl Abort,
     alloc: Global,
