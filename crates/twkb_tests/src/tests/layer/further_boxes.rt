@@ -98,8 +98,10 @@ fn is_read_as_far(
     for _ in 0..others {
         bytes.extend_from_slice(&ELSEWHERE)?;
     }
-    let after = bytes.len() as u64 - whole;
-    let (hit, missed) = ((1, whole + after), (0, header + after));
+    let all = bytes.len() as u64;
+    // All but the bytes after the header of the point.
+    let hopped = all.saturating_sub(whole.saturating_sub(header));
+    let (hit, missed) = ((1, all), (0, hopped));
     let here = in_units((20, 20), (-7, -7));
     let high = Some(Span {
         lo: 4 * UNIT,
