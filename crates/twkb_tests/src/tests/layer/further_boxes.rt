@@ -85,7 +85,8 @@ fn scanned(rt: &impl Abort, alloc: Global, bytes: &[u8], ranges: &Bounds) -> (us
     (found, layer.read_count().saturating_sub(before))
 }
 
-/// The point is read whole where a window holds it, and up to the end of its box where one misses it in an axis that it has.
+/// The point is read up to the end of its box where a window misses it in an axis that it has, and whole otherwise. A window in an
+/// axis that it lacks doesn't hold it.
 fn is_read_as_far(
     rt: &impl Abort,
     alloc: Global,
@@ -101,7 +102,7 @@ fn is_read_as_far(
     let all = bytes.len() as u64;
     // All but the bytes after the header of the point.
     let hopped = all.saturating_sub(whole.saturating_sub(header));
-    let (hit, missed) = ((1, all), (0, hopped));
+    let (hit, unseen, missed) = ((1, all), (0, all), (0, hopped));
     let here = in_units((20, 20), (-7, -7));
     let high = Some(Span {
         lo: 4 * UNIT,
@@ -114,11 +115,11 @@ fn is_read_as_far(
         (in_units((20, 20), (-6, 0)), missed),
         (
             Bounds { z: high, ..here },
-            if extended % 2 == 1 { missed } else { hit },
+            if extended % 2 == 1 { missed } else { unseen },
         ),
         (
             Bounds { m: high, ..here },
-            if extended / 2 == 1 { missed } else { hit },
+            if extended / 2 == 1 { missed } else { unseen },
         ),
     ];
     for (ranges, expected) in &windows {
