@@ -12,21 +12,21 @@ use std::simd::prelude::*;
 #[derive(Clone, Copy)]
 struct Unpacked {
     lanes: u8x16,
-    len: u32,
+    len: usize,
 }
 
 /// Four signed numbers, or two in the first two lanes, and the length of all spellings together. 128 or more: one is too long.
 #[derive(Clone, Copy)]
 pub struct Wide {
     pub lanes: u32x4,
-    pub len: u32,
+    pub len: usize,
 }
 
 /// Eight signed numbers, and the length of all spellings together. 128 or more: one is too long.
 #[derive(Clone, Copy)]
 pub struct Narrow {
     pub lanes: u16x8,
-    pub len: u32,
+    pub len: usize,
 }
 
 /// The four numbers that the front of the bytes spells, if each takes at most four bytes.
@@ -41,7 +41,7 @@ pub fn wide_four(bytes: &[u8; 32]) -> Wide
     let v = u8x16::from_slice(&bytes[0..16]);
     let tops = continuation_bits(v);
     let first = wide_two(v, (tops % 256) as usize);
-    let start = (first.len % 16) as usize;
+    let start = first.len % 16;
     let second = wide_two(
         u8x16::from_slice(&bytes[start..start + 16]),
         bits_from(tops, first.len),
@@ -82,7 +82,7 @@ pub fn narrow_eight(bytes: &[u8; 32], tops: u64) -> Narrow
 {
     let v = u8x16::from_slice(&bytes[0..16]);
     let first = narrow_four(v, (tops % 256) as usize);
-    let start = (first.len % 16) as usize;
+    let start = first.len % 16;
     let rest = bits_from(tops, first.len);
     let second = narrow_four(u8x16::from_slice(&bytes[start..start + 16]), rest);
     let len = first.len + second.len;
@@ -103,7 +103,7 @@ fn wide_two(v: u8x16, tops: usize) -> Unpacked
 {
     Unpacked {
         lanes: picked(v, wide_places(tops)),
-        len: wide_len(tops),
+        len: wide_len(tops) as usize,
     }
 }
 
@@ -118,7 +118,7 @@ fn narrow_four(v: u8x16, tops: usize) -> Unpacked
 {
     Unpacked {
         lanes: picked(v, narrow_places(tops)),
-        len: narrow_len(tops),
+        len: narrow_len(tops) as usize,
     }
 }
 
@@ -153,7 +153,7 @@ fn continuation_bits(v: u8x16) -> u64
 
 /// The continuation bits of the eight bytes after the first `len`.
 #[inline(always)]
-fn bits_from(tops: u64, len: u32) -> usize
+fn bits_from(tops: u64, len: usize) -> usize
     requires { IsFlag len }
     ensures few { result < 256 }
     ensures moved { result ≡ tops / 2 ^ (len % 16) % 256 }

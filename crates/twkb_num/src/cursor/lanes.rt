@@ -85,7 +85,7 @@ impl<'a> Cursor<'a> {
         if let Some(bytes) = self.bytes[self.place..].first_chunk::<32>() {
             let four = wide_four(bytes);
             if four.len < 128 {
-                self.place += four.len as usize;
+                self.place += four.len;
                 return Four {
                     lanes: four.lanes,
                     is_read: true,
@@ -105,7 +105,7 @@ impl<'a> Cursor<'a> {
         if both.len >= 128 {
             return None;
         }
-        self.place += both.len as usize;
+        self.place += both.len;
         let four = Four {
             lanes: both.lanes,
             is_read: true,
@@ -128,7 +128,7 @@ impl<'a> Cursor<'a> {
         if let Some(bytes) = self.bytes[self.place..].first_chunk::<32>() {
             let eight = narrow_eight(bytes, tops_of_16(bytes));
             if eight.len < 128 {
-                self.place += eight.len as usize;
+                self.place += eight.len;
                 return Eight {
                     lanes: eight.lanes,
                     is_read: true,
@@ -171,7 +171,7 @@ impl<'a> Cursor<'a> {
             }
             to.take_eight(eight.lanes);
             eights += 1;
-            len += eight.len as usize;
+            len += eight.len;
             tops >>= eight.len % 64;
         }
         self.place += len;
