@@ -11,7 +11,7 @@ use Rattle.twkb_num.specs.Varint.{SpellsAll, SpellsAllSigned, zigzag_value}
 use Rattle.twkb_num.specs.Devices.Lanes.{value_at, values, IsTops, IsFlag}
 use Rattle.twkb_num.specs.declared.tables.narrow.TheConstants.{NARROW_PLACES, NARROW_LEN}
 use Rattle.twkb_num.specs.declared.tables.wide.TheConstants.{WIDE_PLACES, WIDE_LEN}
-use Rattle.twkb_num.proofs.LaneLaws.{two_groups, four_groups}
+use Rattle.twkb_num.proofs.LaneLaws.{two_groups}
 use Rattle.twkb_num.proofs.TableLaws.{is_flag, row_ok, wide_rows, narrow_rows, wide_flags, narrow_flags}
 use Rattle.twkb_num.proofs.RowSpells.{IsPicked, row_holds}
 
@@ -143,25 +143,6 @@ value_same xs ys s same (suc n) i h =
     let next : suc (s + i) ≡ s + suc i = omega arith in
     omega (arith, same i (omega (arith, h)), ap (value_at n xs) next, value_same xs ys s same n (suc i) (omega (arith, h)))
 
-wide_lane : (a b c d : ℕ) → a < 256 → b < 256 → c < 256 → d < 256 → four_groups (a + 256 * (b + 256 * (c + 256 * (d + 256 * 0)))) ≡ a % 128 + 128 * (b % 128 + 128 * (c % 128 + 128 * (d % 128 + 128 * 0)))
-wide_lane a b c d in_a in_b in_c in_d = omega (arith, in_a, in_b, in_c, in_d)
-
-narrow_lane : (a b : ℕ) → a < 256 → b < 256 → two_groups (a + 256 * (b + 256 * 0)) ≡ a % 128 + 128 * (b % 128 + 128 * 0)
-narrow_lane a b in_a in_b = omega (arith, in_a, in_b)
-
--- four lanes of four bytes
-pub wide_lanes : (bytes : List ℕ) → length bytes ≡ 16 → Each1 (Fits w8) bytes → map four_groups (digits_l 4294967296 4 (number_l 256 bytes)) ≡ values 4 4 bytes 0
-wide_lanes bytes long fits =
-    let below = below_from_Fits w8 bytes fits in
-    let fit = λ (i : ℕ) (h : i < 16). Each1-get_or (λ x. x < 256) bytes i 0 (omega (arith, h, long)) below in
-    let listed = sym (pick_l_whole 0 bytes 16 long) in
-    let g = λ (i : ℕ). get_or bytes i 0 in
-    let lane = λ (j : ℕ) (h : j < 4). get_or_wider 256 4 4294967296 4 bytes j refl below h ∙ ap (λ l. number_l 256 (take 4 (drop (4 * j) l))) listed in
-    cons_same _ _ _ _ (ap four_groups (lane 0 (omega arith)) ∙ wide_lane (g 0) (g 1) (g 2) (g 3) (fit 0 (omega arith)) (fit 1 (omega arith)) (fit 2 (omega arith)) (fit 3 (omega arith)))
-    (cons_same _ _ _ _ (ap four_groups (lane 1 (omega arith)) ∙ wide_lane (g 4) (g 5) (g 6) (g 7) (fit 4 (omega arith)) (fit 5 (omega arith)) (fit 6 (omega arith)) (fit 7 (omega arith)))
-    (cons_same _ _ _ _ (ap four_groups (lane 2 (omega arith)) ∙ wide_lane (g 8) (g 9) (g 10) (g 11) (fit 8 (omega arith)) (fit 9 (omega arith)) (fit 10 (omega arith)) (fit 11 (omega arith)))
-    (cons_same _ _ _ _ (ap four_groups (lane 3 (omega arith)) ∙ wide_lane (g 12) (g 13) (g 14) (g 15) (fit 12 (omega arith)) (fit 13 (omega arith)) (fit 14 (omega arith)) (fit 15 (omega arith))) refl)))
-
 -- one row of numbers that fit their lanes spells what the first two lanes mean
 pub pair_spelled : (bytes v lanes : List ℕ) (len : ℕ) (zs others : List ℤ) (x y : ℤ) → v ≡ take 16 bytes → IsFlag len → len < 128 → SpellsAll (take len v) (values 4 2 lanes 0)
     → zs ≡ map zigzag_value (values 4 4 lanes 0) → zs ≡ x ∷ y ∷ others → SpellsAllSigned (take len bytes) (x ∷ y ∷ [])
@@ -172,6 +153,10 @@ pair_spelled bytes v lanes len zs others x y v_is flag short spelled means is =
     let second : y ≡ zigzag_value (value_at 4 lanes 4) = cc (both) in
     let all = signed_all (take len bytes) (values 4 2 lanes 0) (at_front bytes v (values 4 2 lanes 0) len v_is (omega (arith, few)) spelled) in
     subst (λ (p : ℤ × ℤ). SpellsAllSigned (take len bytes) (p.0 ∷ p.1 ∷ [])) (λ j. (sym first j, sym second j)) all
+
+-- a lane of two bytes
+narrow_lane : (a b : ℕ) → a < 256 → b < 256 → two_groups (a + 256 * (b + 256 * 0)) ≡ a % 128 + 128 * (b % 128 + 128 * 0)
+narrow_lane a b in_a in_b = omega (arith, in_a, in_b)
 
 -- eight lanes of two bytes
 pub narrow_lanes : (bytes : List ℕ) → length bytes ≡ 16 → Each1 (Fits w8) bytes → map two_groups (digits_l 65536 8 (number_l 256 bytes)) ≡ values 2 8 bytes 0

@@ -1,5 +1,5 @@
 //! Varints at the front of 16 or 32 bytes, read into the lanes of vectors. Used by `cursor/lanes`.
-ghost use Rattle.std.specs.Prelude.{◌≡◌, ◌+◌, ◌<◌, ◌≤◌, ◌/◌, ◌%◌, ◌^◌, ℕ, ℤ, List, [], ◌∷◌, map, slice_index, take, All};
+ghost use Rattle.std.specs.Prelude.{◌≡◌, ◌+◌, ◌*◌, ◌<◌, ◌≤◌, ◌/◌, ◌%◌, ◌^◌, ℕ, ℤ, List, [], ◌∷◌, map, slice_index, take, All};
 ghost use Rattle.std.specs.Int.{w16, w32, cast_signed};
 ghost use Rattle.twkb_num.specs.Varint.{zigzag_value, SpellsAll, SpellsAllSigned, IsShort, IsBrief, HasLong};
 ghost use Rattle.twkb_num.specs.Devices.Lanes.{byte_or_zero, IsTops, IsFlag, values};
@@ -179,19 +179,28 @@ fn low_halves(lo: u8x16, hi: u8x16) -> u8x16
     lo.shuffle(hi, [0, 1, 2, 3, 4, 5, 6, 7, 16, 17, 18, 19, 20, 21, 22, 23])
 }
 
+/// Twice the number that the groups of each two bytes make.
+#[inline(always)]
+fn doubled_numbers(groups: u8x16) -> u16x8
+    ensures { result ≡ map (λ n. 2 * n) (values 2 8 groups 0) }
+{
+    let lanes = u16x8::from_le_bytes(groups);
+    // The lower group, added once more, moves up next to the other.
+    (lanes & u16x8::splat(0x7f7f)) + (lanes & u16x8::splat(0x7f))
+}
+
 /// What the groups of each lane's four bytes mean by zigzag, in two's complement.
 #[inline(always)]
 fn meant_wide(groups: u8x16) -> u32x4
     ensures meaning { map (cast_signed w32) result ≡ map zigzag_value (values 4 4 groups 0) }
     ensures short { All IsShort (map (cast_signed w32) result) }
 {
-    let lanes = u32x4::from_le_bytes(groups);
-    // The number of each two bytes, doubled: the lower group, added once more, moves up next to the other.
-    let twice = (lanes & u32x4::splat(0x7f7f_7f7f)) + (lanes & u32x4::splat(0x007f_007f));
-    let half = ((twice >> u32x4::splat(2)) & u32x4::splat(0x1fff))
-        + ((twice >> u32x4::splat(4)) & u32x4::splat(0x07ff_e000));
-    // The bit is also the lowest of `lanes`, but to test it there takes one instruction more.
-    let odd = (twice & u32x4::splat(2)).simd_eq(u32x4::splat(2));
+    let numbers = doubled_numbers(groups) >> u16x8::splat(1);
+    // The number of the lower two bytes moves up next to that of the upper two, so each lane of 32 bits is four times its number.
+    let placed = numbers << u16x8::from_array([2, 0, 2, 0, 2, 0, 2, 0]);
+    let joined = u32x4::from_le_bytes(placed.to_le_bytes());
+    let half = joined >> u32x4::splat(3);
+    let odd = (joined & u32x4::splat(4)).simd_eq(u32x4::splat(4));
     odd.select(!half, half)
 }
 
@@ -201,11 +210,9 @@ fn meant_narrow(groups: u8x16) -> u16x8
     ensures meaning { map (cast_signed w16) result ≡ map zigzag_value (values 2 8 groups 0) }
     ensures brief { All IsBrief (map (cast_signed w16) result) }
 {
-    let lanes = u16x8::from_le_bytes(groups);
-    // The number, doubled: the lower group, added once more, moves up next to the other.
-    let twice = (lanes & u16x8::splat(0x7f7f)) + (lanes & u16x8::splat(0x7f));
+    let twice = doubled_numbers(groups);
     let half = twice >> u16x8::splat(2);
-    // The bit is also the lowest of `lanes`, but to test it there takes one instruction more.
+    // The bit is also the lowest of each two bytes, but to test it there takes one instruction more.
     let odd = (twice & u16x8::splat(2)).simd_eq(u16x8::splat(2));
     odd.select(!half, half)
 }
