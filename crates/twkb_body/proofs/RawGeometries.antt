@@ -1,6 +1,7 @@
 -- A geometry whose header was read in raw numbers: what its body says of it, and how its header is handed over.
-use Rattle.std.proofs.Common.{◌≡◌, ℕ, ◌-◌, ◌≤◌, ◌↔◌, Bool, false, [], ◌∷◌, ℤ, Option, Some, None, is_some, option_map, IfSome, Result, Ok, Err, refl, sym, ap, subst, ◌∙◌, arith}
+use Rattle.std.proofs.Common.{◌≡◌, ℕ, ◌+◌, ◌-◌, ◌≤◌, ◌↔◌, Bool, length, false, [], ◌∷◌, ℤ, Option, Some, None, is_some, option_map, IfSome, Result, Ok, Err, refl, sym, ap, subst, ◌∙◌, arith}
 use Rattle.std.specs.Prelude.{◌%◌, IsOk, IsSome}
+use Rattle.std.proofs.lemmas.Grind.{common_steps}
 use Rattle.std.proofs.lemmas.Int.{ints}
 use mir.Val.{to_z, of_z}
 use Rattle.std.specs.Int.{w8}
@@ -22,7 +23,8 @@ use Rattle.twkb_body.specs.declared.doubt.Doubt.{Doubt}
 use Rattle.twkb_body.specs.Devices.Stops.{WantsBehind}
 use Rattle.twkb_body.specs.Devices.BodyReader.{body_at, members_under}
 use Rattle.twkb_body.specs.Devices.Inside.{of_head}
-use Rattle.twkb_body.specs.Devices.Sure.{refused, framed, has_further, IsFramed, IsFrameUnder, IsSureBody, IsSureBehind, IsSure, IsJudged, IsApart, HasDoubt, HasReadTwo, HasBegun, HasHead, HasFramedHead, Certifies, CertifiesAfterTwo, CertifiesAfterHead, CertifiesFramed, IsRefutedBody, IsRefutedBehind, IsRefuted}
+use Rattle.twkb_body.specs.Devices.Sure.{refused, framed, has_further, IsFramed, IsFrameUnder, IsSureBody, IsSureBehind, IsSure, IsJudged, IsApart, HasDoubt, IsFrame, HasReadTwo, HasReadThree, HasBegun, HasBegunFurther, HasHead, HasFramedHead, Certifies, CertifiesAfterTwo, CertifiesAfterThree, CertifiesAfterHead, CertifiesFramed, IsRefutedBody, IsRefutedBehind, IsRefuted}
+use Rattle.twkb_head.proofs.HeadSteps.{two_back}
 use Rattle.twkb_body.proofs.Beginning.{announced_same}
 use Rattle.twkb_body.proofs.Keeping.{keeps_body_under, read_keeps}
 use Rattle.twkb_body.proofs.MemberSteps.{long_list_in}
@@ -175,26 +177,37 @@ module _ (depth : ℕ) (above : Option Frame) {first metadata : ℕ} {now : Read
       let b = begins before two.sound two.moved two.bytes in
       rest_refutes m depth above before new some deep two.sound (read depth before two.sound b) (exact depth before two.sound b)
 
--- The rest of its header was read after them.
-pub record HasReadRest (depth : ℕ) (above : Option Frame) (first metadata : ℕ) (now : Reading) (raw : Fields) (new : Reading) : Type 0 where
-  pub begun : HasBegun depth above first metadata now
-  pub read : (before : Reading) → HasReadTwo before first metadata now → ReadsHead depth before new (Ok raw)
+-- Its header was read, from wherever its first bytes were read.
+pub record HasReadRest (Came : Reading → Type 0) (depth : ℕ) (above : Option Frame) (raw : Fields) (new : Reading) : Type 0 where
+  pub shallowest : 1 ≤ depth
+  pub deepest : depth ≤ deepest
+  pub frame : IfSome above IsFrame
+  pub before : (before : Reading) × Came before
+  pub sound : (before : Reading) → Came before → IsSound before
+  pub read : (before : Reading) → Came before → ReadsHead depth before new (Ok raw)
 
--- the rest was read, if it was read of every header that begins with them
+-- the rest was read, if it was read of every header that begins with the two bytes
 pub rest_read : {depth : ℕ} {above : Option Frame} {first metadata : ℕ} {now new : Reading} {begun : Begun} (raw : Fields) → HasBegun depth above first metadata now → BeginsAlways depth first metadata now begun
-    → ((depth : ℕ) (before : Reading) → IsSound before → BeginsHead begun depth before now → ReadsHead depth before new (Ok raw)) → HasReadRest depth above first metadata now raw new
-rest_read {depth} raw begun begins read = record { begun = begun; read = λ before two. read depth before two.sound (begins before two.sound two.moved two.bytes) }
+    → ((depth : ℕ) (before : Reading) → IsSound before → BeginsHead begun depth before now → ReadsHead depth before new (Ok raw)) → HasReadRest (λ before. HasReadTwo before first metadata now) depth above raw new
+rest_read {depth} raw begun begins read = record {
+  shallowest = begun.shallowest;
+  deepest = begun.deepest;
+  frame = begun.frame;
+  before = begun.before;
+  sound = λ before two. two.sound;
+  read = λ before two. read depth before two.sound (begins before two.sound two.moved two.bytes);
+}
 
-module _ {depth : ℕ} {above : Option Frame} {first metadata : ℕ} {now : Reading} {raw : Fields} {new : Reading} (head : HasReadRest depth above first metadata now raw new) where
+module _ {Came : Reading → Type 0} {depth : ℕ} {above : Option Frame} {raw : Fields} {new : Reading} (head : HasReadRest Came depth above raw new) where
   -- so the whole header was read
   pub header_read : raw.empty ≡ false → HasHead depth above raw new
   header_read full =
-      let (before, two) = head.begun.before in
-      record { shallowest = head.begun.shallowest; deepest = head.begun.deepest; full = full; read = (before, two.sound, head.read before two); frame = head.begun.frame }
+      let (before, came) = head.before in
+      record { shallowest = head.shallowest; deepest = head.deepest; full = full; read = (before, head.sound before came, head.read before came); frame = head.frame }
 
-  -- what is certified after the header is certified after the two bytes
-  pub header_certifies : (result : Result ℕ Doubt) (stop : Reading) → CertifiesAfterHead depth above raw new result stop → CertifiesAfterTwo depth above first metadata now result stop
-  header_certifies result stop certifies before two = certifies before two.sound (head.read before two)
+  -- what is certified after the header is certified after its first bytes
+  pub header_certifies : (result : Result ℕ Doubt) (stop : Reading) → CertifiesAfterHead depth above raw new result stop → (before : Reading) → Came before → Certifies depth above before result stop
+  header_certifies result stop certifies before came = certifies before (head.sound before came) (head.read before came)
 
   -- the header without its box, and a frame that has its precisions
   pub header_framed : {further : Bool} {plain : Head} {frame : Option Frame} → raw.empty ≡ false → plain ≡ boxless raw → has_further plain.z plain.m ≡ further → IfSome frame (IsFramed plain) → HasFramedHead depth further plain frame new
@@ -203,6 +216,60 @@ module _ {depth : ℕ} {above : Option Frame} {first metadata : ℕ} {now : Read
     deepest = h.deepest;
     ahead = size_ahead h same new.place (omega arith);
   }
+
+-- ---- a geometry whose first two bytes and extended dimensions byte were read
+-- the header that begins with three bytes, from wherever they were read
+abbrev pub BeginsThree : ℕ → ℕ → ℕ → ℕ → Reading → Begun → Type 0
+BeginsThree depth first metadata extended now begun =
+    (before : Reading) (three : HasReadThree before first metadata extended now) → BeginsHead begun depth before three.middle
+
+-- three bytes were read, if one was read after two
+pub three_read : {before : Reading} {first metadata extended : ℕ} {middle now : Reading} → HasReadTwo before first metadata middle → passed middle now ≡ extended ∷ [] → IsMoved middle now → HasReadThree before first metadata extended now
+three_read {middle = middle} two byte moved = record { middle = middle; two = two; moved = moved; byte = byte }
+
+-- after three bytes the place is three further
+pub three_back : {before : Reading} {first metadata extended : ℕ} {now : Reading} → HasReadThree before first metadata extended now → now.place ≡ before.place + 3
+three_back {before} {first} {metadata} {extended} {now} three =
+    let long : length (passed three.middle now) ≡ now.place - three.middle.place = grind (arith, common_steps, three.moved.within) in
+    omega (arith, two_back before three.middle first metadata three.two.moved three.two.bytes, ap length three.byte, long, three.moved.ahead)
+
+-- two of the three bytes begin the header
+pub three_begin : {depth first metadata extended start : ℕ} {now : Reading} {begun : Begun} → ((before now : Reading) → IsSound before → IsMoved before now → passed before now ≡ first ∷ metadata ∷ [] → before.place ≡ start → BeginsHead begun depth before now)
+    → now.place ≡ start + 3 → BeginsThree depth first metadata extended now begun
+three_begin begins place before three = begins before three.middle three.two.sound three.two.moved three.two.bytes (omega (arith, place, three_back three))
+
+-- also with only the bits of the second byte that announce fields
+pub three_bits : {depth first metadata extended : ℕ} {now : Reading} {begun other : Begun} → BeginsThree depth first metadata extended now begun → other ≡ record begun { metadata = begun.metadata % 32 } → BeginsThree depth first metadata extended now other
+three_bits {depth} {begun = begun} {other = other} begins is before three = announced_same begun other depth (begun.metadata % 32) before three.middle refl is (begins before three)
+
+module _ {depth : ℕ} {above : Option Frame} {first metadata extended : ℕ} {now : Reading} (head : HasBegunFurther depth above first metadata extended now) where
+  -- it is refuted if no header begins with them
+  pub none_further : ((before now : Reading) → IsSound before → IsMoved before now → passed before now ≡ first ∷ metadata ∷ [] → StartsWithHeader depth (rest before) → IsSome {T = Begun} None)
+      → CertifiesAfterThree depth above first metadata extended now (Err refused) now
+  none_further none before three =
+      let two = three.two in
+      (three.moved.bytes ∙ two.moved.bytes, no_header_refutes depth above before head.shallowest head.deepest two.sound (λ starts. cc (none before three.middle two.sound two.moved two.bytes starts)))
+
+  module _ {begun : Begun} {new : Reading} (begins : BeginsThree depth first metadata extended now begun) where
+    -- it is refuted if the rest of its header can't be read
+    pub further_unread : {m : Malformed} → ((depth : ℕ) (before middle : Reading) → IsSound before → BeginsHead begun depth before middle → IsMoved middle now → passed middle now ≡ extended ∷ [] → ReadsHead depth before new (Err m))
+        → ((depth : ℕ) (before middle : Reading) → IsSound before → BeginsHead begun depth before middle → IsMoved middle now → passed middle now ≡ extended ∷ [] → IsOk {T = Fields} {E = Malformed} (Err m) ↔ StartsWithHeader depth (rest before))
+        → CertifiesAfterThree depth above first metadata extended now (Err refused) new
+    further_unread {m} read exact before three =
+        let b = begins before three in
+        rest_refutes m depth above before new head.shallowest head.deepest three.two.sound (read depth before three.middle three.two.sound b three.moved three.byte) (exact depth before three.middle three.two.sound b three.moved three.byte)
+
+    -- the rest was read, if it was read of every header that begins with the three bytes
+    pub further_read : (raw : Fields) → ((depth : ℕ) (before middle : Reading) → IsSound before → BeginsHead begun depth before middle → IsMoved middle now → passed middle now ≡ extended ∷ [] → ReadsHead depth before new (Ok raw))
+        → HasReadRest (λ before. HasReadThree before first metadata extended now) depth above raw new
+    further_read raw read = record {
+      shallowest = head.shallowest;
+      deepest = head.deepest;
+      frame = head.frame;
+      before = head.before;
+      sound = λ before three. three.two.sound;
+      read = λ before three. read depth before three.middle three.two.sound (begins before three) three.moved three.byte;
+    }
 
 -- without Z and M in the header there are none in the header without its box
 pub no_further : (raw : Fields) {plain : Head} → plain ≡ boxless raw → (raw.axes.z ≡ None) × (raw.axes.m ≡ None) → has_further plain.z plain.m ≡ false

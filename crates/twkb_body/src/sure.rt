@@ -1,9 +1,12 @@
 //! The first reading of a blob, which certifies it or ends in a doubt. It hands down the innermost box, and hands up the number of
 //! vertices. Used by `auditing`.
 ghost use Rattle.std.specs.Prelude.{◌≡◌, ◌≤◌, ◌⊎◌, ◌+◌, ◌-◌, bit_and, true, false, None, IfSome, IfOk, Ok};
+ghost use Rattle.twkb_num.specs.Cursor.{Reading};
+ghost use Rattle.twkb_num.specs.Units.{IsPrecision};
+ghost use Rattle.twkb_head.specs.Raw.{BeginsHead};
 ghost use Rattle.twkb_head.specs.BegunHeader.{deepest, is_collection, IsAllowedAt};
 ghost use Rattle.twkb_head.specs.declared.header.Head.{Head as HeadOf};
-ghost use Rattle.twkb_body.specs.Devices.Sure.{counted_in, IsFrame, HasBegun, HasHead, HasBody, HasFramedHead, Certifies, CertifiesAfterTwo, CertifiesAfterHead, CertifiesFramed, CertifiesBody, CertifiesMany};
+ghost use Rattle.twkb_body.specs.Devices.Sure.{counted_in, IsFrame, HasReadThree, HasBegun, HasBegunFurther, HasHead, HasBody, HasFramedHead, Certifies, CertifiesAfterTwo, CertifiesAfterThree, CertifiesAfterHead, CertifiesFramed, CertifiesBody, CertifiesMany};
 
 mod announced;
 mod apart;
@@ -14,7 +17,7 @@ mod shapes;
 mod sizes;
 mod unboxed;
 
-use self::announced::{BOX, FLAT_BOX_BITS, FURTHER_BOX, NO_FIELD, with_bits};
+use self::announced::{BOX, FLAT_BOX_BITS, FURTHER_BOX, NO_FIELD, Z_AND_M, with_bits};
 use self::apart::{take_flat_apart, take_further_apart};
 use self::empty::take_empty;
 use self::plain::take_plain;
@@ -24,7 +27,9 @@ use crate::doubt::Doubt;
 use crate::frame::{Frame, further_frame};
 use crate::lists::take_list;
 use crate::rooms::IdRoom;
-use twkb_head::{BoxCalled, BoxInlined, Head, Kind, begun_as, begun_by, take_rest};
+use twkb_head::{
+    Begun, BoxCalled, BoxInlined, Head, Kind, begun_as, begun_by, begun_from, take_rest, take_rest_after,
+};
 use twkb_num::Cursor;
 
 /// Reads the blob at the place, and returns how many vertices it has and where it ends. A doubt says that it isn't certified,
@@ -178,8 +183,8 @@ fn take_further<R: IdRoom>(
     take_further_framed(room, cursor, depth, &head, &frame)
 }
 
-/// Reads a geometry as [`take_sure`] does, which has a box and an extended dimensions byte, and isn't empty. The reader of the box
-/// is inlined here.
+/// Reads a geometry as [`take_sure`] does, which has a box and an extended dimensions byte, and isn't empty.
+// The byte is compared here, so that the compiler knows in most geometries that there are both Z and M.
 #[cycle(take_flat)]
 #[inline(never)]
 fn take_with_further_box<R: IdRoom>(
@@ -194,10 +199,63 @@ fn take_with_further_box<R: IdRoom>(
     requires bits { bit_and metadata 25 ≡ 9 }
     ensures { CertifiesAfterTwo depth above.now first metadata cursor.old result cursor.new }
 {
-    let Some(begun) = begun_by(cursor, depth, first, metadata) else {
+    let Some(begun) = begun_from(cursor.place() - 2, depth, first, metadata) else {
         return Err(Doubt::REFUSED);
     };
-    let Ok(raw) = take_rest::<BoxInlined>(cursor, with_bits(begun, FURTHER_BOX)) else {
+    let Some(extended) = cursor.byte() else {
+        return Err(Doubt::REFUSED);
+    };
+    if extended % 4 == Z_AND_M {
+        take_further_boxed(room, cursor, depth, above, begun, first, metadata, extended)
+    } else {
+        take_called_further(room, cursor, depth, above, first, metadata, extended)
+    }
+}
+
+/// Reads a geometry as [`take_further_boxed`] does, which doesn't have both Z and M.
+#[cycle(take_flat)]
+#[inline(never)]
+fn take_called_further<R: IdRoom>(
+    room: &mut R,
+    cursor: &mut Cursor,
+    depth: u8,
+    above: &Option<Frame>,
+    first: u8,
+    metadata: u8,
+    extended: u8,
+) -> Result<usize, Doubt>
+    requires begun { HasBegunFurther depth above.now first metadata extended cursor.old }
+    requires bits { bit_and metadata 25 ≡ 9 }
+    ensures { CertifiesAfterThree depth above.now first metadata extended cursor.old result cursor.new }
+{
+    let Some(begun) = begun_from(cursor.place() - 3, depth, first, metadata) else {
+        return Err(Doubt::REFUSED);
+    };
+    take_further_boxed(room, cursor, depth, above, begun, first, metadata, extended)
+}
+
+/// Reads a geometry as [`take_with_further_box`] does, after its extended dimensions byte. The reader of the box is inlined here.
+#[cycle(take_flat)]
+#[inline(always)]
+fn take_further_boxed<R: IdRoom>(
+    room: &mut R,
+    cursor: &mut Cursor,
+    depth: u8,
+    above: &Option<Frame>,
+    begun: Begun,
+    first: u8,
+    metadata: u8,
+    extended: u8,
+) -> Result<usize, Doubt>
+    requires begun { HasBegunFurther depth above.now first metadata extended cursor.old }
+    requires bits { bit_and metadata 25 ≡ 9 }
+    requires same { begun.metadata ≡ metadata }
+    requires xy { IsPrecision begun.xy }
+    requires begins { (before : Reading) (three : HasReadThree before first metadata extended cursor.old)
+        → BeginsHead begun depth before three.middle }
+    ensures { CertifiesAfterThree depth above.now first metadata extended cursor.old result cursor.new }
+{
+    let Ok(raw) = take_rest_after::<BoxInlined>(cursor, with_bits(begun, FURTHER_BOX), extended) else {
         return Err(Doubt::REFUSED);
     };
     let head = raw.boxless();

@@ -1,7 +1,7 @@
 -- A header with an extended dimensions byte, a size and a box, and no other field, read field by field.
 use Rattle.std.proofs.Common.{◌≡◌, ℕ, ◌∙◌, Some, ◌||◌, ◌&&◌, Ok, Err, true, false, is_some, refl, ap}
 use Rattle.twkb_num.specs.Cursor.{Reading}
-use Rattle.twkb_head.specs.Header.{has_ids, z_in, m_in}
+use Rattle.twkb_head.specs.Header.{has_bit, has_ids, z_in, m_in}
 use Rattle.twkb_head.specs.Raw.{ends_of, raw_bounds, head_said}
 use Rattle.twkb_head.specs.Shared.Ranges.{IsRangeIf}
 use Rattle.twkb_head.specs.Shared.Reader.{Answer, ◌>>=◌, viewed, number_at, range_from}
@@ -15,6 +15,7 @@ use Rattle.twkb_head.specs.declared.raw.RawBox.{RawBox}
 use Rattle.twkb_head.specs.declared.raw.RawRange.{RawRange}
 use Rattle.twkb_head.specs.declared.read.Begun.{Begun}
 use Rattle.twkb_head.specs.declared.refusal.Malformed.{Malformed}
+use Rattle.twkb_head.proofs.HeadSteps.{rest_ends}
 use Rattle.twkb_head.proofs.BoxReads.{box_after, flat_first, box_read, third_stop, fourth_stop}
 
 -- the axes that an extended dimensions byte announces
@@ -40,8 +41,7 @@ module _ (begun : Begun) (b c : Reading) where
   rest_of = rest_at begun.kind begun.xy begun.metadata begun.start b
 
   pub extended_stops : begun.metadata ≡ 11 → (w : Malformed) → byte_at b ≡ (Err w, c) → rest_of ≡ (Err w, c)
-  unfolding rest_at
-  extended_stops fields w e = rw (fields, e) refl
+  extended_stops fields w e = rest_ends b c begun.kind begun.xy begun.metadata begun.start w (ap (λ n. has_bit n 8) fields) e
 
   module _ (extended : ℕ) (d : Reading) where
     pub size_stops : begun.metadata ≡ 11 → byte_at b ≡ (Ok extended, c) → (w : Malformed) → number_at c ≡ (Err w, d) → rest_of ≡ (Err w, d)

@@ -45,6 +45,8 @@ pub use header::{BoxField, Head, SizeField};
 pub use kinds::{DEEPEST, Kind};
 pub use ranges::{BoxCalled, BoxInlined};
 pub use raw::{Axes, Fields, RawBox, RawRange};
-pub use read::{Begun, begin_head, begun_as, begun_by, read_head, read_raw, take_rest};
+pub use read::{
+    Begun, begin_head, begun_as, begun_by, begun_from, read_head, read_raw, take_rest, take_rest_after,
+};
 pub use refusal::{Malformed, Why};
 pub use twkb_num::{Cursor, NumFault};

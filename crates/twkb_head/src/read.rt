@@ -7,7 +7,7 @@ ghost use Rattle.twkb_head.specs.declared.refusal.Why.TheVariants.{Range};
 ghost use Rattle.twkb_head.specs.declared.kinds.Kind.TheVariants.{Point};
 ghost use Rattle.twkb_head.specs.Head.{StartsWithHeader, IsHeadAt};
 ghost use Rattle.twkb_head.specs.Refusal.{IsRefusedHead, looked_at_until};
-ghost use Rattle.twkb_head.specs.Devices.HeadReader.{byte_at, head_at, rest_at};
+ghost use Rattle.twkb_head.specs.Devices.HeadReader.{byte_at, head_at, later_at, rest_at};
 ghost use Rattle.twkb_head.specs.Shared.Reader.{number_at, optional_at};
 ghost use Rattle.twkb_head.specs.Devices.Raw.{head_result, ReadsFirstTwo};
 ghost use Rattle.twkb_head.specs.Raw.{HavePrecisions, HasZeros, head_said, BeginsHead, ReadsHead};
@@ -204,7 +204,21 @@ pub fn begun_by(cursor: &Cursor, depth: u8, first: u8, metadata: u8) -> Option<B
     ensures xy { IfSome result (λ begun. IsPrecision begun.xy) }
     ensures metadata { IfSome result (λ begun. begun.metadata ≡ metadata) }
 {
-    let start = cursor.place() - 2;
+    begun_from(cursor.place() - 2, depth, first, metadata)
+}
+
+/// The header of a geometry at `depth` that begins with these two bytes, at `start`. `None` where there is no such header.
+#[inline(always)]
+pub fn begun_from(start: usize, depth: u8, first: u8, metadata: u8) -> Option<Begun>
+    requires shallowest { 1 ≤ depth }
+    requires deepest { depth ≤ deepest }
+    ensures some { IfSome result (λ begun. (before now : Reading) → IsSound before → IsMoved before now
+        → passed before now ≡ first ∷ metadata ∷ [] → before.place ≡ start → BeginsHead begun depth before now) }
+    ensures none { (before now : Reading) → IsSound before → IsMoved before now
+        → passed before now ≡ first ∷ metadata ∷ [] → StartsWithHeader depth (rest before) → IsSome result }
+    ensures xy { IfSome result (λ begun. IsPrecision begun.xy) }
+    ensures metadata { IfSome result (λ begun. begun.metadata ≡ metadata) }
+{
     let Ok(kind) = kind_at(first, depth) else {
         return None;
     };
@@ -262,6 +276,28 @@ pub fn take_rest<R: RangeReader>(cursor: &mut Cursor, begun: Begun) -> Result<Fi
     take_fields::<R>(cursor, begun)
 }
 
+/// Reads the other fields of a header as [`take_rest`] does, after its extended dimensions byte, which was read.
+// Where the byte was compared, the compiler knows which axes there are.
+#[inline(always)]
+pub fn take_rest_after<R: RangeReader>(
+    cursor: &mut Cursor,
+    begun: Begun,
+    extended: u8,
+) -> Result<Fields, Malformed>
+    requires xy { IsPrecision begun.xy }
+    requires announced { has_bit begun.metadata 8 ≡ true }
+    ensures read { (depth : ℕ) (before middle : Reading) → IsSound before → BeginsHead begun depth before middle
+        → IsMoved middle cursor.old → passed middle cursor.old ≡ extended ∷ [] → ReadsHead depth before cursor.new result }
+    ensures exact { (depth : ℕ) (before middle : Reading) → IsSound before → BeginsHead begun depth before middle
+        → IsMoved middle cursor.old → passed middle cursor.old ≡ extended ∷ []
+        → IsOk result ↔ StartsWithHeader depth (rest before) }
+    ensures axes { IfOk result (λ raw. HavePrecisions raw.axes) }
+    ensures empty { IfOk result (λ raw. raw.empty ≡ has_bit begun.metadata 16) }
+    ensures zeros { IfOk result (λ raw. IfSome raw.bounds (HasZeros (is_some raw.axes.z) (is_some raw.axes.m))) }
+{
+    take_later::<R>(cursor, begun, Some(extended))
+}
+
 /// The fields after the first two bytes, in order.
 #[inline(always)]
 #[tactic(auto, unfolding(crate::specs::Devices::HeadReader::rest_at))]
@@ -278,6 +314,27 @@ fn take_fields<R: RangeReader>(cursor: &mut Cursor, begun: Begun) -> Result<Fiel
     ensures zeros { IfOk result (λ raw. IfSome raw.bounds (HasZeros (is_some raw.axes.z) (is_some raw.axes.m))) }
 {
     let extended = take_extended(cursor, has_bit(begun.metadata, EXTENDED))?;
+    take_later::<R>(cursor, begun, extended)
+}
+
+/// The fields after the extended dimensions byte, if there is one, in order.
+#[inline(always)]
+fn take_later<R: RangeReader>(
+    cursor: &mut Cursor,
+    begun: Begun,
+    extended: Option<u8>,
+) -> Result<Fields, Malformed>
+    requires xy { IsPrecision begun.xy }
+    ensures read { later_at begun.kind begun.xy begun.metadata begun.start extended cursor.old
+        ≡ (head_result result, cursor.new) }
+    ensures axes { IfOk result (λ raw. HavePrecisions raw.axes) }
+    ensures flat { extended ≡ None → IfOk result (λ raw. (raw.axes.z ≡ None) × (raw.axes.m ≡ None)) }
+    ensures empty { IfOk result (λ raw. raw.empty ≡ has_bit begun.metadata 16) }
+    ensures no_box { has_bit begun.metadata 1 ≡ false → IfOk result (λ raw. raw.bounds ≡ None) }
+    ensures boxed { has_bit begun.metadata 1 ≡ true → IfOk result (λ raw. IsSome raw.bounds) }
+    ensures kind { IfOk result (λ raw. raw.kind ≡ begun.kind) }
+    ensures zeros { IfOk result (λ raw. IfSome raw.bounds (HasZeros (is_some raw.axes.z) (is_some raw.axes.m))) }
+{
     let z = z_of(extended);
     let m = m_of(extended);
     let size_place = cursor.place();

@@ -225,11 +225,30 @@ abbrev pub CertifiesAfterTwo : ℕ → Option Frame → ℕ → ℕ → Reading 
 CertifiesAfterTwo depth above first metadata now result new =
     (before : Reading) → HasReadTwo before first metadata now → Certifies depth above before result new
 
+-- An extended dimensions byte was read after the first two bytes of a geometry.
+pub record HasReadThree (before : Reading) (first metadata extended : ℕ) (now : Reading) : Type 0 where
+  pub middle : Reading
+  pub two : HasReadTwo before first metadata middle
+  pub moved : IsMoved middle now
+  pub byte : passed middle now ≡ extended ∷ []
+
+-- `Certifies`, of a geometry whose first two bytes and extended dimensions byte were read before
+abbrev pub CertifiesAfterThree : ℕ → Option Frame → ℕ → ℕ → ℕ → Reading → Result ℕ Doubt → Reading → Type 0
+CertifiesAfterThree depth above first metadata extended now result new =
+    (before : Reading) → HasReadThree before first metadata extended now → Certifies depth above before result new
+
 -- The first two bytes of a geometry at an allowed depth were read, and there may be a frame above.
 pub record HasBegun (depth : ℕ) (above : Option Frame) (first metadata : ℕ) (now : Reading) : Type 0 where
   pub shallowest : 1 ≤ depth
   pub deepest : depth ≤ deepest
   pub before : (before : Reading) × HasReadTwo before first metadata now
+  pub frame : IfSome above IsFrame
+
+-- The first two bytes and the extended dimensions byte of a geometry at an allowed depth were read, and there may be a frame above.
+pub record HasBegunFurther (depth : ℕ) (above : Option Frame) (first metadata extended : ℕ) (now : Reading) : Type 0 where
+  pub shallowest : 1 ≤ depth
+  pub deepest : depth ≤ deepest
+  pub before : (before : Reading) × HasReadThree before first metadata extended now
   pub frame : IfSome above IsFrame
 
 -- The header of a geometry with a body was read at an allowed depth, and there may be a frame above.

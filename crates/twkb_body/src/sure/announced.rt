@@ -17,6 +17,9 @@ pub const BOX: u8 = 1;
 /// Of these bits, the two for a box and for an extended dimensions byte.
 pub const FURTHER_BOX: u8 = 9;
 
+/// The lowest two bits of an extended dimensions byte that announces both Z and M (TWKB specification, "Extended Dimensions").
+pub const Z_AND_M: u8 = 3;
+
 /// The other two of the lowest five bits, for a size and ids.
 const SIZE_AND_IDS: u8 = 6;
 

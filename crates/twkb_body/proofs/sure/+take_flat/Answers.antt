@@ -1,10 +1,11 @@
 -- The first reading of a geometry and of members, each by the other: what it certifies, and what it refutes.
-use Rattle.std.proofs.Common.{rules, ◌≡◌, ◌+◌, ◌-◌, ℕ, suc, Bool, false, Option, None, option_map, Ok, refl, sym, ap, subst, ◌∙◌, arith}
+use Rattle.std.proofs.Common.{rules, ◌≡◌, ◌+◌, ◌-◌, ℕ, suc, Bool, true, false, Option, None, option_map, Ok, refl, sym, ap, subst, ◌∙◌, arith}
 use Rattle.std.specs.Prelude.{◌<◌, bit_and}
 use Rattle.std.proofs.lemmas.Result.{err_from_is_err_and}
 use Rattle.twkb_num.specs.Cursor.{Reading, rest}
 use Rattle.twkb_head.proofs.HeadLaws.{header_two}
-use Rattle.twkb_head.proofs.HeadSteps.{box_bits, bits_same}
+use Rattle.twkb_head.proofs.HeadSteps.{box_bits, bits_same, two_back}
+use Rattle.twkb_head.proofs.Rests.{no_further_byte}
 use Rattle.twkb_head.specs.BegunHeader.{deepest}
 use Rattle.twkb_head.specs.Shared.Reader.{Fails}
 use Rattle.twkb_head.specs.Header.{has_bit}
@@ -14,11 +15,11 @@ use Rattle.twkb_body.specs.Devices.BodyReader.{list_at}
 use Rattle.twkb_body.specs.Devices.Found.{named}
 use Rattle.twkb_body.specs.Devices.IdLists.{HasManyIdsAfterCount}
 use Rattle.twkb_body.specs.Devices.Stops.{own_ids, member_ids, WantsBehind}
-use Rattle.twkb_body.specs.Devices.Sure.{framed, HasReadTwo, IsFrameUnder, IsRefuted, IsRefutedBody}
+use Rattle.twkb_body.specs.Devices.Sure.{framed, HasReadTwo, HasReadThree, IsFrameUnder, IsRefuted, IsRefutedBody}
 use Rattle.twkb_body.proofs.Keeping.{keeps_list, read_keeps}
 use Rattle.twkb_body.proofs.MemberSteps.{member_bytes}
 use Rattle.twkb_body.proofs.SureSteps.{two_read, sure_begins, sure_goes_on, members_sure}
-use Rattle.twkb_body.proofs.RawGeometries.{bits_begin, framed_certifies, framed_doubts, header_certifies, header_framed, header_read, no_further, none_begins, rest_read, rest_unread, size_later}
+use Rattle.twkb_body.proofs.RawGeometries.{bits_begin, framed_certifies, framed_doubts, header_certifies, header_framed, header_read, further_read, further_unread, no_further, none_begins, none_further, rest_read, rest_unread, size_later, BeginsThree, three_back, three_begin, three_bits, three_read}
 use Rattle.twkb_body.proofs.Refuting.{doubts_outside, doubts_through, no_header_refutes}
 use Rattle.twkb_body.proofs.RefutedBodies.{ids_refute, list_refutes, members_refute}
 use Rattle.twkb_body.proofs.CertifiedBodies.{none_of, some_of, wants_members}
@@ -28,6 +29,10 @@ use Rattle.twkb_body.proofs.sure.+take_flat.Goals as goal
 -- without the bit of an extended dimensions byte there are X and Y alone
 flat_bits : (metadata bits : ℕ) → bits < 8 → bit_and metadata 25 ≡ bits → has_bit metadata 8 ≡ false
 flat_bits metadata bits few told = bits_same metadata 0 8 (omega (arith, few, told, box_bits metadata))
+
+-- with the bits of a box and of an extended dimensions byte there is this byte
+further_bits : (metadata : ℕ) → bit_and metadata 25 ≡ 9 → has_bit metadata 8 ≡ true
+further_bits metadata told = bits_same metadata 8 8 (omega (arith, told, box_bits metadata))
 
 -- without the bit of a box there is none
 unboxed_bits : (metadata : ℕ) → bit_and metadata 25 ≡ 0 → has_bit metadata 1 ≡ false
@@ -152,17 +157,75 @@ take_with_box-returns-in_default-take_rest g t c = rest_unread c.args.depth c.ar
 pub take_with_box-with_bits-requires : goal.take_with_box-with_bits-requires
 take_with_box-with_bits-requires g t c = ap (λ n. bit_and n 25) c.in-Some.ensures.metadata ∙ c.requires.bits
 
-pub take_with_further_box-begun_by-requires-clause-read : goal.take_with_further_box-begun_by-requires-clause-read
-take_with_further_box-begun_by-requires-clause-read g t c = two_read _ _ _ c.requires.begun.before
-
 pub take_with_further_box-returns-in_default : goal.take_with_further_box-returns-in_default
-take_with_further_box-returns-in_default g t c = none_begins c.args.depth c.args.above.now c.requires.begun.shallowest c.requires.begun.deepest c.in_default.ensures.none
+take_with_further_box-returns-in_default g t c = none_begins c.args.depth c.args.above.now c.requires.begun.shallowest c.requires.begun.deepest (λ before. c.in_default.ensures.none before c.args.cursor.now)
 
-pub take_with_further_box-returns-in_default-take_rest : goal.take_with_further_box-returns-in_default-take_rest
-take_with_further_box-returns-in_default-take_rest g t c = rest_unread c.args.depth c.args.above.now c.requires.begun.shallowest c.requires.begun.deepest (bits_begin c.in-Some.ensures.some c.with_bits.ensures.announcing) c.in_default-take_rest.ensures.read c.in_default-take_rest.ensures.exact
+pub take_with_further_box-returns-in_default-byte : goal.take_with_further_box-returns-in_default-byte
+take_with_further_box-returns-in_default-byte g t c = λ before two.
+    let begins = c.in-Some.ensures.some before c.args.cursor.now two.sound two.moved two.bytes (omega (arith, c.place.ensures.value, two_back before c.args.cursor.now _ _ two.moved two.bytes)) in
+    let announced = ap (λ n. has_bit n 8) c.in-Some.ensures.metadata ∙ further_bits c.args.metadata c.requires.bits in
+    (ap (λ (q : Reading). q.bytes) c.in_default-byte.ensures.none ∙ two.moved.bytes, no_header_refutes c.args.depth c.args.above.now before c.requires.begun.shallowest c.requires.begun.deepest two.sound
+        (no_further_byte c.in-Some.begun c.args.depth before c.args.cursor.now c.args.cursor.now two.sound begins announced (c.in_default-byte.ensures.end.0 refl)))
 
-pub take_with_further_box-with_bits-requires : goal.take_with_further_box-with_bits-requires
-take_with_further_box-with_bits-requires g t c = ap (λ n. bit_and n 25) c.in-Some.ensures.metadata ∙ c.requires.bits
+pub take_with_further_box-take_further_boxed-requires : goal.take_with_further_box-take_further_boxed-requires
+take_with_further_box-take_further_boxed-requires g t c κs within =
+    let (first, two) = c.requires.begun.before in
+    let three = three_read two c.in-Some-byte.ensures.some c.in-Some-byte.ensures.moved in
+    let before : (before : Reading) × HasReadThree before c.args.first c.args.metadata c.in-Some-byte.extended c.byte.new.self = (first, three) in
+    let begins : BeginsThree c.args.depth c.args.first c.args.metadata c.in-Some-byte.extended c.byte.new.self c.in-Some.begun =
+    three_begin c.in-Some.ensures.some (omega (arith, c.place.ensures.value, two_back first c.args.cursor.now _ _ two.moved two.bytes, three_back three)) in
+    let same = c.in-Some.ensures.metadata in
+    let frame = c.requires.begun.frame in
+    search rules
+
+pub take_with_further_box-take_called_further-requires : goal.take_with_further_box-take_called_further-requires
+take_with_further_box-take_called_further-requires g t c κs within =
+    let (first, two) = c.requires.begun.before in
+    let before : (before : Reading) × HasReadThree before c.args.first c.args.metadata c.in-Some-byte.extended c.byte.new.self = (first, three_read two c.in-Some-byte.ensures.some c.in-Some-byte.ensures.moved) in
+    let frame = c.requires.begun.frame in
+    search rules
+
+pub take_with_further_box-returns-then-extended-eq-Z_AND_M : goal.take_with_further_box-returns-then-extended-eq-Z_AND_M
+take_with_further_box-returns-then-extended-eq-Z_AND_M g t c = λ before two. c.take_further_boxed.ensures before (three_read two c.in-Some-byte.ensures.some c.in-Some-byte.ensures.moved)
+
+pub take_with_further_box-returns-else-extended-eq-Z_AND_M : goal.take_with_further_box-returns-else-extended-eq-Z_AND_M
+take_with_further_box-returns-else-extended-eq-Z_AND_M g t c = λ before two. c.take_called_further.ensures before (three_read two c.in-Some-byte.ensures.some c.in-Some-byte.ensures.moved)
+
+pub take_called_further-returns-in_default : goal.take_called_further-returns-in_default
+take_called_further-returns-in_default g t c = none_further c.requires.begun c.in_default.ensures.none
+
+pub take_called_further-take_further_boxed-requires : goal.take_called_further-take_further_boxed-requires
+take_called_further-take_further_boxed-requires g t c κs within =
+    let begins : BeginsThree c.args.depth c.args.first c.args.metadata c.args.extended c.args.cursor.now c.in-Some.begun =
+    three_begin c.in-Some.ensures.some (omega (arith, c.place.ensures.value, three_back c.requires.begun.before.1)) in
+    let same = c.in-Some.ensures.metadata in
+    search rules
+
+pub take_further_boxed-with_bits-requires : goal.take_further_boxed-with_bits-requires
+take_further_boxed-with_bits-requires g t c = ap (λ n. bit_and n 25) c.requires.same ∙ c.requires.bits
+
+pub take_further_boxed-take_rest_after-requires-clause-announced : goal.take_further_boxed-take_rest_after-requires-clause-announced
+take_further_boxed-take_rest_after-requires-clause-announced g t c = further_bits c.with_bits.result.metadata c.with_bits.ensures.bits
+
+pub take_further_boxed-returns-in_default : goal.take_further_boxed-returns-in_default
+take_further_boxed-returns-in_default g t c = further_unread c.requires.begun (three_bits c.requires.begins c.with_bits.ensures.announcing) c.in_default.ensures.read c.in_default.ensures.exact
+
+pub take_further_boxed-take_further_apart-requires-clause-head : goal.take_further_boxed-take_further_apart-requires-clause-head
+take_further_boxed-take_further_apart-requires-clause-head g t c =
+    header_read (further_read c.requires.begun (three_bits c.requires.begins c.with_bits.ensures.announcing) c.in-Ok.raw c.in-Ok.ensures.read) (c.in-Ok.ensures.empty ∙ full_bits c.with_bits.result.metadata 9 (omega arith) c.with_bits.ensures.bits)
+
+pub take_further_boxed-returns-in_default-further_frame : goal.take_further_boxed-returns-in_default-further_frame
+take_further_boxed-returns-in_default-further_frame g t c =
+    header_certifies (further_read c.requires.begun (three_bits c.requires.begins c.with_bits.ensures.announcing) c.in-Ok.raw c.in-Ok.ensures.read) _ _ c.take_further_apart.ensures
+
+pub take_further_boxed-take_further_framed-requires : goal.take_further_boxed-take_further_framed-requires
+take_further_boxed-take_further_framed-requires g t c κs within =
+    let ready = header_framed (further_read c.requires.begun (three_bits c.requires.begins c.with_bits.ensures.announcing) c.in-Ok.raw c.in-Ok.ensures.read) (c.in-Ok.ensures.empty ∙ full_bits c.with_bits.result.metadata 9 (omega arith) c.with_bits.ensures.bits) c.boxless-head.ensures c.in-Some.ensures.further c.in-Some.ensures.frame.framed in
+    search rules
+
+pub take_further_boxed-returns : goal.take_further_boxed-returns
+take_further_boxed-returns g t c =
+    header_certifies (further_read c.requires.begun (three_bits c.requires.begins c.with_bits.ensures.announcing) c.in-Ok.raw c.in-Ok.ensures.read) _ _ (c.take_further_framed.ensures c.args.above.now c.in-Ok.raw c.boxless-head.ensures c.in-Some.ensures.frame)
 
 pub take_flat_framed-returns-in_err-vertices : goal.take_flat_framed-returns-in_err-vertices
 take_flat_framed-returns-in_err-vertices g t c =
@@ -234,20 +297,6 @@ take_further-take_further_framed-requires g t c κs within =
 
 pub take_further-returns : goal.take_further-returns
 take_further-returns g t c = header_certifies (rest_read c.in-Ok.raw c.requires c.in-Some.ensures.some c.in-Ok.ensures.read) _ _ (c.take_further_framed.ensures c.args.above.now c.in-Ok.raw c.boxless-head.ensures c.in-Some-further_frame.ensures.frame)
-
-pub take_with_further_box-take_further_apart-requires-clause-head : goal.take_with_further_box-take_further_apart-requires-clause-head
-take_with_further_box-take_further_apart-requires-clause-head g t c = header_read (rest_read c.in-Ok.raw c.requires.begun (bits_begin c.in-Some.ensures.some c.with_bits.ensures.announcing) c.in-Ok.ensures.read) (c.in-Ok.ensures.empty ∙ full_bits c.with_bits.result.metadata 9 (omega arith) c.with_bits.ensures.bits)
-
-pub take_with_further_box-returns-in_default-further_frame : goal.take_with_further_box-returns-in_default-further_frame
-take_with_further_box-returns-in_default-further_frame g t c = header_certifies (rest_read c.in-Ok.raw c.requires.begun (bits_begin c.in-Some.ensures.some c.with_bits.ensures.announcing) c.in-Ok.ensures.read) _ _ c.take_further_apart.ensures
-
-pub take_with_further_box-take_further_framed-requires : goal.take_with_further_box-take_further_framed-requires
-take_with_further_box-take_further_framed-requires g t c κs within =
-    let ready = header_framed (rest_read c.in-Ok.raw c.requires.begun (bits_begin c.in-Some.ensures.some c.with_bits.ensures.announcing) c.in-Ok.ensures.read) (c.in-Ok.ensures.empty ∙ full_bits c.with_bits.result.metadata 9 (omega arith) c.with_bits.ensures.bits) c.boxless-head.ensures c.in-Some-further_frame.ensures.further c.in-Some-further_frame.ensures.frame.framed in
-    search rules
-
-pub take_with_further_box-returns : goal.take_with_further_box-returns
-take_with_further_box-returns g t c = header_certifies (rest_read c.in-Ok.raw c.requires.begun (bits_begin c.in-Some.ensures.some c.with_bits.ensures.announcing) c.in-Ok.ensures.read) _ _ (c.take_further_framed.ensures c.args.above.now c.in-Ok.raw c.boxless-head.ensures c.in-Some-further_frame.ensures.frame)
 
 pub take_further_framed-returns-in_err-vertices : goal.take_further_framed-returns-in_err-vertices
 take_further_framed-returns-in_err-vertices g t c =
