@@ -1,15 +1,16 @@
 //! The first reading of a blob, which certifies it or ends in a doubt. It hands down the innermost box, and hands up the number of
 //! vertices. Used by `auditing`.
-ghost use Rattle.std.specs.Prelude.{◌≡◌, ◌≤◌, ◌⊎◌, ◌+◌, ◌-◌, bit_and, true, false, None, IfSome, IfOk, Ok};
+ghost use Rattle.std.specs.Prelude.{◌≡◌, ◌≤◌, ◌⊎◌, ◌+◌, ◌-◌, bit_and, true, false, IfSome};
 ghost use Rattle.twkb_num.specs.Cursor.{Reading};
 ghost use Rattle.twkb_num.specs.Units.{IsPrecision};
 ghost use Rattle.twkb_head.specs.Raw.{BeginsHead};
 ghost use Rattle.twkb_head.specs.BegunHeader.{deepest, is_collection, IsAllowedAt};
 ghost use Rattle.twkb_head.specs.declared.header.Head.{Head as HeadOf};
-ghost use Rattle.twkb_body.specs.Devices.Sure.{counted_in, IsFrame, HasReadThree, HasBegun, HasBegunFurther, HasHead, HasBody, HasFramedHead, Certifies, CertifiesAfterTwo, CertifiesAfterThree, CertifiesAfterHead, CertifiesFramed, CertifiesBody, CertifiesMany};
+ghost use Rattle.twkb_body.specs.Devices.Sure.{IsFrame, HasReadThree, HasBegun, HasBegunFurther, HasBody, HasFramedHead, CertifiesAfterTwo, CertifiesAfterThree, CertifiesFramed, CertifiesBody, CertifiesMany};
 
 mod announced;
 mod apart;
+mod blob;
 mod empty;
 mod parts;
 mod plain;
@@ -17,10 +18,10 @@ mod shapes;
 mod sizes;
 mod unboxed;
 
-use self::announced::{BOX, FLAT_BOX_BITS, FURTHER_BOX, NO_FIELD, Z_AND_M, with_bits};
+use self::announced::{BOX, FLAT_BOX_BITS, FURTHER_BOX, Z_AND_M, with_bits};
 use self::apart::{take_flat_apart, take_further_apart};
+pub use self::blob::take_blob;
 use self::empty::take_empty;
-use self::plain::take_plain;
 use self::shapes::{take_flat_list, take_flat_single, take_further_list, take_further_single};
 use self::sizes::judged;
 use crate::doubt::Doubt;
@@ -28,34 +29,9 @@ use crate::frame::{Frame, further_frame};
 use crate::lists::take_list;
 use crate::rooms::IdRoom;
 use twkb_head::{
-    Begun, BoxCalled, BoxInlined, Head, Kind, begun_as, begun_by, begun_from, take_rest, take_rest_after,
+    Begun, BoxCalled, BoxInlined, Head, Kind, begun_by, begun_from, take_rest, take_rest_after,
 };
 use twkb_num::Cursor;
-
-/// Reads the blob at the place, and returns how many vertices it has and where it ends. A doubt says that it isn't certified,
-/// or that a list of ids lacks memory.
-#[inline(always)]
-pub fn take_blob<R: IdRoom>(room: &mut R, cursor: &mut Cursor) -> Result<(usize, usize), Doubt>
-    ensures certified { Certifies 1 None cursor.old (counted_in result) cursor.new }
-    ensures stop { IfOk result (λ both. both.1 ≡ cursor.new.place) }
-{
-    cursor.place_is_within();
-    let Some((first, metadata)) = cursor.two_bytes() else {
-        return Err(Doubt::REFUSED);
-    };
-    if metadata % 32 == NO_FIELD {
-        if let Some(begun) = begun_as(cursor, Kind::Point, NO_FIELD, first, metadata) {
-            let vertices = take_plain(cursor, begun)?;
-            return Ok((vertices, cursor.place()));
-        }
-        if let Some(begun) = begun_as(cursor, Kind::LineString, NO_FIELD, first, metadata) {
-            let vertices = take_plain(cursor, begun)?;
-            return Ok((vertices, cursor.place()));
-        }
-    }
-    let vertices = take_sure(room, cursor, 1, &None, first, metadata)?;
-    Ok((vertices, cursor.place()))
-}
 
 /// Reads a geometry at `depth` after its first two bytes. The frame above has to hold its points.
 // A function for each of the common sets of fields, so that the compiler knows which fields there can be.
@@ -255,7 +231,8 @@ fn take_further_boxed<R: IdRoom>(
         → BeginsHead begun depth before three.middle }
     ensures { CertifiesAfterThree depth above.now first metadata extended cursor.old result cursor.new }
 {
-    let Ok(raw) = take_rest_after::<BoxInlined>(cursor, with_bits(begun, FURTHER_BOX), extended) else {
+    let Ok(raw) = take_rest_after::<BoxInlined>(cursor, with_bits(begun, FURTHER_BOX), extended)
+    else {
         return Err(Doubt::REFUSED);
     };
     let head = raw.boxless();

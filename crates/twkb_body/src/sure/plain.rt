@@ -1,4 +1,4 @@
-//! Blobs that are points or lines of X and Y without a box, in the first reading. Used by `sure`.
+//! Blobs that are points or lines of X and Y without a box, in the first reading. Used by `sure/blob`.
 ghost use Rattle.std.specs.Prelude.{◌≡◌, ◌⊎◌, None};
 ghost use Rattle.twkb_num.specs.Cursor.{Reading, IsSound};
 ghost use Rattle.twkb_head.specs.Raw.{BeginsHead};

@@ -163,9 +163,11 @@ take_with_further_box-returns-in_default g t c = none_begins c.args.depth c.args
 pub take_with_further_box-returns-in_default-byte : goal.take_with_further_box-returns-in_default-byte
 take_with_further_box-returns-in_default-byte g t c = λ before two.
     let begins = c.in-Some.ensures.some before c.args.cursor.now two.sound two.moved two.bytes (omega (arith, c.place.ensures.value, two_back before c.args.cursor.now _ _ two.moved two.bytes)) in
-    let announced = ap (λ n. has_bit n 8) c.in-Some.ensures.metadata ∙ further_bits c.args.metadata c.requires.bits in
-    (ap (λ (q : Reading). q.bytes) c.in_default-byte.ensures.none ∙ two.moved.bytes, no_header_refutes c.args.depth c.args.above.now before c.requires.begun.shallowest c.requires.begun.deepest two.sound
-        (no_further_byte c.in-Some.begun c.args.depth before c.args.cursor.now c.args.cursor.now two.sound begins announced (c.in_default-byte.ensures.end.0 refl)))
+    let announced = ap (λ n. has_bit n 8) c.in-Some.ensures.metadata ∙ further_bits c.args.metadata c.requires.bits in (
+      ap (λ (q : Reading). q.bytes) c.in_default-byte.ensures.none ∙ two.moved.bytes,
+      no_header_refutes c.args.depth c.args.above.now before c.requires.begun.shallowest c.requires.begun.deepest two.sound
+          (no_further_byte c.in-Some.begun c.args.depth before c.args.cursor.now c.args.cursor.now two.sound begins announced (c.in_default-byte.ensures.end.0 refl)),
+    )
 
 pub take_with_further_box-take_further_boxed-requires : goal.take_with_further_box-take_further_boxed-requires
 take_with_further_box-take_further_boxed-requires g t c κs within =

@@ -3,7 +3,7 @@ use Rattle.std.proofs.Common.{None, refl, ap, arith}
 use Rattle.twkb_num.specs.Cursor.{Reading, rest}
 use Rattle.twkb_head.proofs.HeadLaws.{header_two}
 use Rattle.twkb_body.proofs.Refuting.{no_header_refutes}
-use Rattle.twkb_body.proofs.sure.take_blob.Goals as goal
+use Rattle.twkb_body.proofs.sure.blob.take_blob.Goals as goal
 
 pub returns-in_default-clause-certified : goal.returns-in_default-clause-certified
 returns-in_default-clause-certified g c = (
