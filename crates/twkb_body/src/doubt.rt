@@ -1,6 +1,6 @@
 //! [`Doubt`], the reasons why the first reading doesn't certify a blob.
-//! Used by `auditing`, `sure`, `sure/apart`, `sure/empty`, `sure/parts`, `sure/plain`, `sure/shapes`, `sure/sizes` and
-//! `sure/unboxed`.
+//! Used by `auditing`, `sure`, `sure/apart`, `sure/blob`, `sure/empty`, `sure/parts`, `sure/plain`, `sure/shapes`, `sure/sizes`
+//! and `sure/unboxed`.
 ghost use Rattle.std.specs.Prelude.{◌≡◌, ◌≢◌, true, false};
 ghost use Rattle.twkb_body.specs.Devices.Sure.{doubt_of, refused, lacking};
 

@@ -20,7 +20,6 @@ mod unboxed;
 
 use self::announced::{BOX, FLAT_BOX_BITS, FURTHER_BOX, Z_AND_M, with_bits};
 use self::apart::{take_flat_apart, take_further_apart};
-pub use self::blob::take_blob;
 use self::empty::take_empty;
 use self::shapes::{take_flat_list, take_flat_single, take_further_list, take_further_single};
 use self::sizes::judged;
@@ -28,6 +27,7 @@ use crate::doubt::Doubt;
 use crate::frame::{Frame, further_frame};
 use crate::lists::take_list;
 use crate::rooms::IdRoom;
+pub use blob::take_blob;
 use twkb_head::{
     Begun, BoxCalled, BoxInlined, Head, Kind, begun_by, begun_from, take_rest, take_rest_after,
 };
@@ -160,7 +160,7 @@ fn take_further<R: IdRoom>(
 }
 
 /// Reads a geometry as [`take_sure`] does, which has a box and an extended dimensions byte, and isn't empty.
-// The byte is compared here, so that the compiler knows in most geometries that there are both Z and M.
+// In the first of the two calls, which is inlined, the compiler knows that there are both Z and M.
 #[cycle(take_flat)]
 #[inline(never)]
 fn take_with_further_box<R: IdRoom>(
@@ -182,16 +182,16 @@ fn take_with_further_box<R: IdRoom>(
         return Err(Doubt::REFUSED);
     };
     if extended % 4 == Z_AND_M {
-        take_further_boxed(room, cursor, depth, above, begun, first, metadata, extended)
+        take_after_extended(room, cursor, depth, above, begun, first, metadata, extended)
     } else {
-        take_called_further(room, cursor, depth, above, first, metadata, extended)
+        call_after_extended(room, cursor, depth, above, first, metadata, extended)
     }
 }
 
-/// Reads a geometry as [`take_further_boxed`] does, which doesn't have both Z and M.
+/// Reads a geometry as [`take_after_extended`] does, out of line: few geometries have only one of Z and M, or neither.
 #[cycle(take_flat)]
 #[inline(never)]
-fn take_called_further<R: IdRoom>(
+fn call_after_extended<R: IdRoom>(
     room: &mut R,
     cursor: &mut Cursor,
     depth: u8,
@@ -207,13 +207,13 @@ fn take_called_further<R: IdRoom>(
     let Some(begun) = begun_from(cursor.place() - 3, depth, first, metadata) else {
         return Err(Doubt::REFUSED);
     };
-    take_further_boxed(room, cursor, depth, above, begun, first, metadata, extended)
+    take_after_extended(room, cursor, depth, above, begun, first, metadata, extended)
 }
 
 /// Reads a geometry as [`take_with_further_box`] does, after its extended dimensions byte. The reader of the box is inlined here.
 #[cycle(take_flat)]
 #[inline(always)]
-fn take_further_boxed<R: IdRoom>(
+fn take_after_extended<R: IdRoom>(
     room: &mut R,
     cursor: &mut Cursor,
     depth: u8,

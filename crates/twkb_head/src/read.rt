@@ -276,8 +276,8 @@ pub fn take_rest<R: RangeReader>(cursor: &mut Cursor, begun: Begun) -> Result<Fi
     take_fields::<R>(cursor, begun)
 }
 
-/// Reads the other fields of a header as [`take_rest`] does, after its extended dimensions byte, which was read.
-// Where the byte was compared, the compiler knows which axes there are.
+/// Reads the other fields of a header as [`take_rest`] does, after the extended dimensions byte, which the caller read.
+// A caller that compared the byte with a constant lets the compiler know which axes there are.
 #[inline(always)]
 pub fn take_rest_after<R: RangeReader>(
     cursor: &mut Cursor,

@@ -169,8 +169,8 @@ take_with_further_box-returns-in_default-byte g t c = λ before two.
           (no_further_byte c.in-Some.begun c.args.depth before c.args.cursor.now c.args.cursor.now two.sound begins announced (c.in_default-byte.ensures.end.0 refl)),
     )
 
-pub take_with_further_box-take_further_boxed-requires : goal.take_with_further_box-take_further_boxed-requires
-take_with_further_box-take_further_boxed-requires g t c κs within =
+pub take_with_further_box-take_after_extended-requires : goal.take_with_further_box-take_after_extended-requires
+take_with_further_box-take_after_extended-requires g t c κs within =
     let (first, two) = c.requires.begun.before in
     let three = three_read two c.in-Some-byte.ensures.some c.in-Some-byte.ensures.moved in
     let before : (before : Reading) × HasReadThree before c.args.first c.args.metadata c.in-Some-byte.extended c.byte.new.self = (first, three) in
@@ -180,53 +180,53 @@ take_with_further_box-take_further_boxed-requires g t c κs within =
     let frame = c.requires.begun.frame in
     search rules
 
-pub take_with_further_box-take_called_further-requires : goal.take_with_further_box-take_called_further-requires
-take_with_further_box-take_called_further-requires g t c κs within =
+pub take_with_further_box-call_after_extended-requires : goal.take_with_further_box-call_after_extended-requires
+take_with_further_box-call_after_extended-requires g t c κs within =
     let (first, two) = c.requires.begun.before in
     let before : (before : Reading) × HasReadThree before c.args.first c.args.metadata c.in-Some-byte.extended c.byte.new.self = (first, three_read two c.in-Some-byte.ensures.some c.in-Some-byte.ensures.moved) in
     let frame = c.requires.begun.frame in
     search rules
 
 pub take_with_further_box-returns-then-extended-eq-Z_AND_M : goal.take_with_further_box-returns-then-extended-eq-Z_AND_M
-take_with_further_box-returns-then-extended-eq-Z_AND_M g t c = λ before two. c.take_further_boxed.ensures before (three_read two c.in-Some-byte.ensures.some c.in-Some-byte.ensures.moved)
+take_with_further_box-returns-then-extended-eq-Z_AND_M g t c = λ before two. c.take_after_extended.ensures before (three_read two c.in-Some-byte.ensures.some c.in-Some-byte.ensures.moved)
 
 pub take_with_further_box-returns-else-extended-eq-Z_AND_M : goal.take_with_further_box-returns-else-extended-eq-Z_AND_M
-take_with_further_box-returns-else-extended-eq-Z_AND_M g t c = λ before two. c.take_called_further.ensures before (three_read two c.in-Some-byte.ensures.some c.in-Some-byte.ensures.moved)
+take_with_further_box-returns-else-extended-eq-Z_AND_M g t c = λ before two. c.call_after_extended.ensures before (three_read two c.in-Some-byte.ensures.some c.in-Some-byte.ensures.moved)
 
-pub take_called_further-returns-in_default : goal.take_called_further-returns-in_default
-take_called_further-returns-in_default g t c = none_further c.requires.begun c.in_default.ensures.none
+pub call_after_extended-returns-in_default : goal.call_after_extended-returns-in_default
+call_after_extended-returns-in_default g t c = none_further c.requires.begun c.in_default.ensures.none
 
-pub take_called_further-take_further_boxed-requires : goal.take_called_further-take_further_boxed-requires
-take_called_further-take_further_boxed-requires g t c κs within =
+pub call_after_extended-take_after_extended-requires : goal.call_after_extended-take_after_extended-requires
+call_after_extended-take_after_extended-requires g t c κs within =
     let begins : BeginsThree c.args.depth c.args.first c.args.metadata c.args.extended c.args.cursor.now c.in-Some.begun =
     three_begin c.in-Some.ensures.some (omega (arith, c.place.ensures.value, three_back c.requires.begun.before.1)) in
     let same = c.in-Some.ensures.metadata in
     search rules
 
-pub take_further_boxed-with_bits-requires : goal.take_further_boxed-with_bits-requires
-take_further_boxed-with_bits-requires g t c = ap (λ n. bit_and n 25) c.requires.same ∙ c.requires.bits
+pub take_after_extended-with_bits-requires : goal.take_after_extended-with_bits-requires
+take_after_extended-with_bits-requires g t c = ap (λ n. bit_and n 25) c.requires.same ∙ c.requires.bits
 
-pub take_further_boxed-take_rest_after-requires-clause-announced : goal.take_further_boxed-take_rest_after-requires-clause-announced
-take_further_boxed-take_rest_after-requires-clause-announced g t c = further_bits c.with_bits.result.metadata c.with_bits.ensures.bits
+pub take_after_extended-take_rest_after-requires-clause-announced : goal.take_after_extended-take_rest_after-requires-clause-announced
+take_after_extended-take_rest_after-requires-clause-announced g t c = further_bits c.with_bits.result.metadata c.with_bits.ensures.bits
 
-pub take_further_boxed-returns-in_default : goal.take_further_boxed-returns-in_default
-take_further_boxed-returns-in_default g t c = further_unread c.requires.begun (three_bits c.requires.begins c.with_bits.ensures.announcing) c.in_default.ensures.read c.in_default.ensures.exact
+pub take_after_extended-returns-in_default : goal.take_after_extended-returns-in_default
+take_after_extended-returns-in_default g t c = further_unread c.requires.begun (three_bits c.requires.begins c.with_bits.ensures.announcing) c.in_default.ensures.read c.in_default.ensures.exact
 
-pub take_further_boxed-take_further_apart-requires-clause-head : goal.take_further_boxed-take_further_apart-requires-clause-head
-take_further_boxed-take_further_apart-requires-clause-head g t c =
+pub take_after_extended-take_further_apart-requires-clause-head : goal.take_after_extended-take_further_apart-requires-clause-head
+take_after_extended-take_further_apart-requires-clause-head g t c =
     header_read (further_read c.requires.begun (three_bits c.requires.begins c.with_bits.ensures.announcing) c.in-Ok.raw c.in-Ok.ensures.read) (c.in-Ok.ensures.empty ∙ full_bits c.with_bits.result.metadata 9 (omega arith) c.with_bits.ensures.bits)
 
-pub take_further_boxed-returns-in_default-further_frame : goal.take_further_boxed-returns-in_default-further_frame
-take_further_boxed-returns-in_default-further_frame g t c =
+pub take_after_extended-returns-in_default-further_frame : goal.take_after_extended-returns-in_default-further_frame
+take_after_extended-returns-in_default-further_frame g t c =
     header_certifies (further_read c.requires.begun (three_bits c.requires.begins c.with_bits.ensures.announcing) c.in-Ok.raw c.in-Ok.ensures.read) _ _ c.take_further_apart.ensures
 
-pub take_further_boxed-take_further_framed-requires : goal.take_further_boxed-take_further_framed-requires
-take_further_boxed-take_further_framed-requires g t c κs within =
+pub take_after_extended-take_further_framed-requires : goal.take_after_extended-take_further_framed-requires
+take_after_extended-take_further_framed-requires g t c κs within =
     let ready = header_framed (further_read c.requires.begun (three_bits c.requires.begins c.with_bits.ensures.announcing) c.in-Ok.raw c.in-Ok.ensures.read) (c.in-Ok.ensures.empty ∙ full_bits c.with_bits.result.metadata 9 (omega arith) c.with_bits.ensures.bits) c.boxless-head.ensures c.in-Some.ensures.further c.in-Some.ensures.frame.framed in
     search rules
 
-pub take_further_boxed-returns : goal.take_further_boxed-returns
-take_further_boxed-returns g t c =
+pub take_after_extended-returns : goal.take_after_extended-returns
+take_after_extended-returns g t c =
     header_certifies (further_read c.requires.begun (three_bits c.requires.begins c.with_bits.ensures.announcing) c.in-Ok.raw c.in-Ok.ensures.read) _ _ (c.take_further_framed.ensures c.args.above.now c.in-Ok.raw c.boxless-head.ensures c.in-Some.ensures.frame)
 
 pub take_flat_framed-returns-in_err-vertices : goal.take_flat_framed-returns-in_err-vertices
