@@ -178,13 +178,13 @@ module _ (depth : ℕ) (above : Option Frame) {first metadata : ℕ} {now : Read
       rest_refutes m depth above before new some deep two.sound (read depth before two.sound b) (exact depth before two.sound b)
 
 -- Its header was read, from wherever its first bytes were read.
-pub record HasReadRest (Came : Reading → Type 0) (depth : ℕ) (above : Option Frame) (raw : Fields) (new : Reading) : Type 0 where
+pub record HasReadRest (ReadFrom : Reading → Type 0) (depth : ℕ) (above : Option Frame) (raw : Fields) (new : Reading) : Type 0 where
   pub shallowest : 1 ≤ depth
   pub deepest : depth ≤ deepest
   pub frame : IfSome above IsFrame
-  pub before : (before : Reading) × Came before
-  pub sound : (before : Reading) → Came before → IsSound before
-  pub read : (before : Reading) → Came before → ReadsHead depth before new (Ok raw)
+  pub before : (before : Reading) × ReadFrom before
+  pub sound : (before : Reading) → ReadFrom before → IsSound before
+  pub read : (before : Reading) → ReadFrom before → ReadsHead depth before new (Ok raw)
 
 -- the rest was read, if it was read of every header that begins with the two bytes
 pub rest_read : {depth : ℕ} {above : Option Frame} {first metadata : ℕ} {now new : Reading} {begun : Begun} (raw : Fields) → HasBegun depth above first metadata now → BeginsAlways depth first metadata now begun
@@ -198,7 +198,7 @@ rest_read {depth} raw begun begins read = record {
   read = λ before two. read depth before two.sound (begins before two.sound two.moved two.bytes);
 }
 
-module _ {Came : Reading → Type 0} {depth : ℕ} {above : Option Frame} {raw : Fields} {new : Reading} (head : HasReadRest Came depth above raw new) where
+module _ {ReadFrom : Reading → Type 0} {depth : ℕ} {above : Option Frame} {raw : Fields} {new : Reading} (head : HasReadRest ReadFrom depth above raw new) where
   -- so the whole header was read
   pub header_read : raw.empty ≡ false → HasHead depth above raw new
   header_read full =
@@ -206,7 +206,7 @@ module _ {Came : Reading → Type 0} {depth : ℕ} {above : Option Frame} {raw :
       record { shallowest = head.shallowest; deepest = head.deepest; full = full; read = (before, head.sound before came, head.read before came); frame = head.frame }
 
   -- what is certified after the header is certified after its first bytes
-  pub header_certifies : (result : Result ℕ Doubt) (stop : Reading) → CertifiesAfterHead depth above raw new result stop → (before : Reading) → Came before → Certifies depth above before result stop
+  pub header_certifies : (result : Result ℕ Doubt) (stop : Reading) → CertifiesAfterHead depth above raw new result stop → (before : Reading) → ReadFrom before → Certifies depth above before result stop
   header_certifies result stop certifies before came = certifies before (head.sound before came) (head.read before came)
 
   -- the header without its box, and a frame that has its precisions
@@ -233,12 +233,12 @@ three_back {before} {first} {metadata} {extended} {now} three =
     let long : length (passed three.middle now) ≡ now.place - three.middle.place = grind (arith, common_steps, three.moved.within) in
     omega (arith, two_back before three.middle first metadata three.two.moved three.two.bytes, ap length three.byte, long, three.moved.ahead)
 
--- two of the three bytes begin the header
+-- the first two of the three bytes begin the header
 pub three_begin : {depth first metadata extended start : ℕ} {now : Reading} {begun : Begun} → ((before now : Reading) → IsSound before → IsMoved before now → passed before now ≡ first ∷ metadata ∷ [] → before.place ≡ start → BeginsHead begun depth before now)
     → now.place ≡ start + 3 → BeginsThree depth first metadata extended now begun
 three_begin begins place before three = begins before three.middle three.two.sound three.two.moved three.two.bytes (omega (arith, place, three_back three))
 
--- also with only the bits of the second byte that announce fields
+-- the same, with only the bits of the second byte that announce fields
 pub three_bits : {depth first metadata extended : ℕ} {now : Reading} {begun other : Begun} → BeginsThree depth first metadata extended now begun → other ≡ record begun { metadata = begun.metadata % 32 } → BeginsThree depth first metadata extended now other
 three_bits {depth} {begun = begun} {other = other} begins is before three = announced_same begun other depth (begun.metadata % 32) before three.middle refl is (begins before three)
 

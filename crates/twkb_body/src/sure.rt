@@ -1,5 +1,5 @@
-//! The first reading of a blob, which certifies it or ends in a doubt. It hands down the innermost box, and hands up the number of
-//! vertices. Used by `auditing`.
+//! The first reading of a geometry, which certifies it or ends in a doubt. It hands down the innermost box, and hands up the number
+//! of vertices. Used by `auditing`.
 ghost use Rattle.std.specs.Prelude.{◌≡◌, ◌≤◌, ◌⊎◌, ◌+◌, ◌-◌, bit_and, true, false, IfSome};
 ghost use Rattle.twkb_num.specs.Cursor.{Reading};
 ghost use Rattle.twkb_num.specs.Units.{IsPrecision};
@@ -160,7 +160,8 @@ fn take_further<R: IdRoom>(
 }
 
 /// Reads a geometry as [`take_sure`] does, which has a box and an extended dimensions byte, and isn't empty.
-// In the first of the two calls, which is inlined, the compiler knows that there are both Z and M.
+// `take_after_extended` is inlined here, so in its branch the compiler knows that there are both Z and M. `begun_by` won't do: it
+// speaks of a header only where the cursor is, and one more byte is read before the header goes on.
 #[cycle(take_flat)]
 #[inline(never)]
 fn take_with_further_box<R: IdRoom>(
@@ -184,14 +185,15 @@ fn take_with_further_box<R: IdRoom>(
     if extended % 4 == Z_AND_M {
         take_after_extended(room, cursor, depth, above, begun, first, metadata, extended)
     } else {
-        call_after_extended(room, cursor, depth, above, first, metadata, extended)
+        take_called_after_extended(room, cursor, depth, above, first, metadata, extended)
     }
 }
 
-/// Reads a geometry as [`take_after_extended`] does, out of line: few geometries have only one of Z and M, or neither.
+/// [`take_after_extended`] out of line, for the few geometries that have only one of Z and M, or neither.
+// The header is begun again here: a `Begun` isn't passed in registers.
 #[cycle(take_flat)]
 #[inline(never)]
-fn call_after_extended<R: IdRoom>(
+fn take_called_after_extended<R: IdRoom>(
     room: &mut R,
     cursor: &mut Cursor,
     depth: u8,
@@ -211,6 +213,7 @@ fn call_after_extended<R: IdRoom>(
 }
 
 /// Reads a geometry as [`take_with_further_box`] does, after its extended dimensions byte. The reader of the box is inlined here.
+// The contract alone needs the first two bytes.
 #[cycle(take_flat)]
 #[inline(always)]
 fn take_after_extended<R: IdRoom>(

@@ -9,7 +9,7 @@ use Rattle.twkb_num.specs.Varint.{Spells, SpellsAll, SpellsMany, IsSigned, Spell
 use Rattle.twkb_num.proofs.PairLaws.{IsMoved-two}
 use Rattle.twkb_head.specs.Header.{code_of, has_bit, has_ids, z_in, m_in}
 use Rattle.twkb_head.specs.Shared.Reader.{Answer, Reader, ◌>>=◌, viewed, number_at, optional_at, range_from}
-use Rattle.twkb_head.specs.Devices.HeadReader.{byte_at, head_with, kind_from_type, two_ranges_from, bounds_from, head_at, later_at, rest_at}
+use Rattle.twkb_head.specs.Devices.HeadReader.{byte_at, head_with, kind_from_type, two_ranges_from, bounds_from, head_at, size_and_box_at, rest_at}
 use Rattle.twkb_head.specs.BegunHeader.{deepest, IsAllowedAt}
 use Rattle.twkb_head.specs.declared.kinds.Kind.{Kind}
 use Rattle.twkb_head.specs.declared.kinds.Kind.TheVariants.{Point, LineString, Polygon, MultiPoint, MultiLineString, MultiPolygon, GeometryCollection}
@@ -38,26 +38,26 @@ pub head_is : (levels : ℕ) (r a b c d e : Reading) (kind : Kind) (xy : ℤ) (m
 unfolding head_at
 head_is levels r a b c d e kind xy metadata extended size bounds h1 h2 h3 h4 h5 = rw (h1, h2, h3, h4, h5) refl
 
--- the rest of a header after its extended dimensions byte, read field by field
-pub later_is : (c d e : Reading) (kind : Kind) (xy : ℤ) (metadata : ℕ) (extended size : Option ℕ) (bounds : Option Bounds) (start : ℕ)
+-- the size and the box, read one after the other
+pub size_and_box_is : (c d e : Reading) (kind : Kind) (xy : ℤ) (metadata : ℕ) (extended size : Option ℕ) (bounds : Option Bounds) (start : ℕ)
     → optional_at (has_bit metadata 2) number_at c ≡ (Ok size, d) → optional_at (has_bit metadata 1) (bounds_from xy (z_in extended) (m_in extended)) d ≡ (Ok bounds, e)
-    → later_at kind xy metadata start extended c ≡ (Ok (head_with kind xy metadata extended size bounds start c.place d.place e.place), e)
-later_is c d e kind xy metadata extended size bounds start h4 h5 = rw (h4, h5) refl
+    → size_and_box_at kind xy metadata start extended c ≡ (Ok (head_with kind xy metadata extended size bounds start c.place d.place e.place), e)
+size_and_box_is c d e kind xy metadata extended size bounds start h4 h5 = rw (h4, h5) refl
 
--- the rest of a header after its first two bytes is the rest after the extended dimensions byte
-pub rest_later : (b c : Reading) (kind : Kind) (xy : ℤ) (metadata : ℕ) (extended : Option ℕ) (start : ℕ) → optional_at (has_bit metadata 8) byte_at b ≡ (Ok extended, c)
-    → rest_at kind xy metadata start b ≡ later_at kind xy metadata start extended c
+-- once the extended dimensions byte is read, what is left of the rest is the size and the box
+pub rest_goes_on : (b c : Reading) (kind : Kind) (xy : ℤ) (metadata : ℕ) (extended : Option ℕ) (start : ℕ) → optional_at (has_bit metadata 8) byte_at b ≡ (Ok extended, c)
+    → rest_at kind xy metadata start b ≡ size_and_box_at kind xy metadata start extended c
 unfolding rest_at
-rest_later b c kind xy metadata extended start h3 = rw h3 refl
+rest_goes_on b c kind xy metadata extended start h3 = rw h3 refl
 
 -- the rest of a header after its first two bytes, read field by field
 pub rest_is : (b c d e : Reading) (kind : Kind) (xy : ℤ) (metadata : ℕ) (extended size : Option ℕ) (bounds : Option Bounds) (start : ℕ)
     → optional_at (has_bit metadata 8) byte_at b ≡ (Ok extended, c)
     → optional_at (has_bit metadata 2) number_at c ≡ (Ok size, d) → optional_at (has_bit metadata 1) (bounds_from xy (z_in extended) (m_in extended)) d ≡ (Ok bounds, e)
     → rest_at kind xy metadata start b ≡ (Ok (head_with kind xy metadata extended size bounds start c.place d.place e.place), e)
-rest_is b c d e kind xy metadata extended size bounds start h3 h4 h5 = rest_later b c kind xy metadata extended start h3 ∙ later_is c d e kind xy metadata extended size bounds start h4 h5
+rest_is b c d e kind xy metadata extended size bounds start h3 h4 h5 = rest_goes_on b c kind xy metadata extended start h3 ∙ size_and_box_is c d e kind xy metadata extended size bounds start h4 h5
 
--- without the extended dimensions byte that is announced, there is no rest
+-- if an extended dimensions byte is announced and can't be read, the rest can't be read
 pub rest_ends : (b c : Reading) (kind : Kind) (xy : ℤ) (metadata start : ℕ) (m : Malformed) → has_bit metadata 8 ≡ true → byte_at b ≡ (Err m, c) → rest_at kind xy metadata start b ≡ (Err m, c)
 unfolding rest_at
 rest_ends b c kind xy metadata start m announced e = rw (announced, e) refl

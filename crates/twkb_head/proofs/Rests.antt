@@ -31,7 +31,7 @@ module _ (begun : Begun) (depth : ℕ) (before now new : Reading) (sound : IsSou
   )
   answers (Err m) e = ((head_err depth least most before new sound (Err m) e, head_left depth least most before new sound m e), head_exact depth least most before new sound (Err m) e)
 
-  -- no header is there if no byte follows where an extended dimensions byte is announced
+  -- there is no header if an extended dimensions byte is announced and no byte follows
   pub no_further_byte : has_bit begun.metadata 8 ≡ true → rest now ≡ [] → StartsWithHeader depth (rest before) → ⊥
   no_further_byte announced none starts =
       let m : Malformed = record { offset = now.place; why = Cut } in

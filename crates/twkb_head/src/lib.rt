@@ -11,8 +11,8 @@
 //!
 //! [`read_raw`] reads a header with its box in raw integers ([`Fields`]), which are the numbers in the file. [`begin_head`] and
 //! [`take_rest`] read a header in two steps: the first two bytes, and the rest. Audits and skims branch between the two, and choose
-//! whether the reader of the box is inlined ([`BoxInlined`]) or called ([`BoxCalled`]). [`take_rest_after`] goes on
-//! after an extended dimensions byte that the caller read.
+//! whether the reader of the box is inlined ([`BoxInlined`]) or called ([`BoxCalled`]). [`take_rest_after`]
+//! is for a caller that has read the extended dimensions byte itself.
 //!
 //! [`malformed`] makes a refusal out of a fault of a number, also for numbers of the body.
 //!

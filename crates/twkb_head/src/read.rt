@@ -7,7 +7,7 @@ ghost use Rattle.twkb_head.specs.declared.refusal.Why.TheVariants.{Range};
 ghost use Rattle.twkb_head.specs.declared.kinds.Kind.TheVariants.{Point};
 ghost use Rattle.twkb_head.specs.Head.{StartsWithHeader, IsHeadAt};
 ghost use Rattle.twkb_head.specs.Refusal.{IsRefusedHead, looked_at_until};
-ghost use Rattle.twkb_head.specs.Devices.HeadReader.{byte_at, head_at, later_at, rest_at};
+ghost use Rattle.twkb_head.specs.Devices.HeadReader.{byte_at, head_at, size_and_box_at, rest_at};
 ghost use Rattle.twkb_head.specs.Shared.Reader.{number_at, optional_at};
 ghost use Rattle.twkb_head.specs.Devices.Raw.{head_result, ReadsFirstTwo};
 ghost use Rattle.twkb_head.specs.Raw.{HavePrecisions, HasZeros, head_said, BeginsHead, ReadsHead};
@@ -207,7 +207,7 @@ pub fn begun_by(cursor: &Cursor, depth: u8, first: u8, metadata: u8) -> Option<B
     begun_from(cursor.place() - 2, depth, first, metadata)
 }
 
-/// The header of a geometry at `depth` that begins with these two bytes, at `start`. `None` where there is no such header.
+/// The header of a geometry at `depth` whose first two bytes, at `start`, are these. `None` if there is no such header.
 #[inline(always)]
 pub fn begun_from(start: usize, depth: u8, first: u8, metadata: u8) -> Option<Begun>
     requires shallowest { 1 ≤ depth }
@@ -276,8 +276,8 @@ pub fn take_rest<R: RangeReader>(cursor: &mut Cursor, begun: Begun) -> Result<Fi
     take_fields::<R>(cursor, begun)
 }
 
-/// Reads the other fields of a header as [`take_rest`] does, after the extended dimensions byte, which the caller read.
-// A caller that compared the byte with a constant lets the compiler know which axes there are.
+/// Reads the other fields of a header as [`take_rest`] does, after an extended dimensions byte that the caller has read.
+// If the caller compared the byte with a constant, the compiler knows which axes there are.
 #[inline(always)]
 pub fn take_rest_after<R: RangeReader>(
     cursor: &mut Cursor,
@@ -295,7 +295,7 @@ pub fn take_rest_after<R: RangeReader>(
     ensures empty { IfOk result (λ raw. raw.empty ≡ has_bit begun.metadata 16) }
     ensures zeros { IfOk result (λ raw. IfSome raw.bounds (HasZeros (is_some raw.axes.z) (is_some raw.axes.m))) }
 {
-    take_later::<R>(cursor, begun, Some(extended))
+    take_size_and_box::<R>(cursor, begun, Some(extended))
 }
 
 /// The fields after the first two bytes, in order.
@@ -314,18 +314,18 @@ fn take_fields<R: RangeReader>(cursor: &mut Cursor, begun: Begun) -> Result<Fiel
     ensures zeros { IfOk result (λ raw. IfSome raw.bounds (HasZeros (is_some raw.axes.z) (is_some raw.axes.m))) }
 {
     let extended = take_extended(cursor, has_bit(begun.metadata, EXTENDED))?;
-    take_later::<R>(cursor, begun, extended)
+    take_size_and_box::<R>(cursor, begun, extended)
 }
 
-/// The fields after the extended dimensions byte, if there is one, in order.
+/// Reads the size and the box, and makes the header of all its fields.
 #[inline(always)]
-fn take_later<R: RangeReader>(
+fn take_size_and_box<R: RangeReader>(
     cursor: &mut Cursor,
     begun: Begun,
     extended: Option<u8>,
 ) -> Result<Fields, Malformed>
     requires xy { IsPrecision begun.xy }
-    ensures read { later_at begun.kind begun.xy begun.metadata begun.start extended cursor.old
+    ensures read { size_and_box_at begun.kind begun.xy begun.metadata begun.start extended cursor.old
         ≡ (head_result result, cursor.new) }
     ensures axes { IfOk result (λ raw. HavePrecisions raw.axes) }
     ensures flat { extended ≡ None → IfOk result (λ raw. (raw.axes.z ≡ None) × (raw.axes.m ≡ None)) }

@@ -19,14 +19,14 @@ use Rattle.twkb_num.specs.Devices.Lanes.{value_at, values}
 abbrev pub two_groups : ℕ → ℕ
 two_groups n = n % 128 + n / 256 % 128 * 128
 
--- twice the number in a lane of 16 bits, as the code computes it
+-- twice the number that the groups of a lane of 16 bits make, as the code computes it
 pub twice_16 : (n : ℕ) → (bit_and n 0x7f7f + bit_and n 0x7f) % 65536 ≡ 2 * two_groups n
 twice_16 n =
     let split : n ≡ n / 256 * 256 + n % 256 = omega arith in
     let both = ap (λ x. bit_and x 0x7f7f) split ∙ and_block 8 (n / 256) 0x7f (n % 256) 0x7f (omega arith) (omega arith) in
     omega (arith, both, and_mask n 7, and_mask (n / 256) 7, and_mask (n % 256) 7)
 
--- the halves of lanes of 32 bits: the numbers of two bytes each from these places on, the lower one moved up next to the other
+-- for each place, the numbers of the two bytes there and of the next two, in lanes of 16 bits, the first moved up by two bits
 abbrev placed : List ℕ → List ℕ → List ℕ
 placed groups [] = []
 placed groups (i ∷ is) = 2 * value_at 2 groups i / 2 ^ 1 * 2 ^ 2 % 65536 ∷ 2 * value_at 2 groups (suc (suc i)) / 2 ^ 1 * 2 ^ 0 % 65536 ∷ placed groups is
@@ -35,7 +35,7 @@ placed_fits : (groups v : List ℕ) → number_l 65536 (placed groups v) < 42949
 placed_fits groups [] = omega arith
 placed_fits groups (i ∷ is) = omega (arith, placed_fits groups is, pow-suc 4294967296 (length is))
 
--- the lanes that have these halves are four times the numbers of four bytes each
+-- joined in pairs, these lanes are four times the numbers of four bytes each
 placed_joined : (groups v : List ℕ) → digits_l 4294967296 (length v) (number_l 65536 (placed groups v)) ≡ map (λ i. 4 * value_at 4 groups i) v
 placed_joined groups [] = refl
 placed_joined groups (i ∷ is) =
@@ -44,7 +44,7 @@ placed_joined groups (i ∷ is) =
     let others : all / 4294967296 ≡ number_l 65536 (placed groups is) = omega arith in
     λ j. first j ∷ (ap (digits_l 4294967296 (length is)) others ∙ placed_joined groups is) j
 
--- a number is what its bytes spell
+-- the digits of a number in base 256 make this number
 bytes_spell : (many n : ℕ) → n < 256 ^ many → number_l 256 (digits_l 256 many n) ≡ n
 bytes_spell zero n fits = omega (arith, fits)
 bytes_spell (suc many) n fits = ap (λ m. n % 256 + 256 * m) (bytes_spell many (n / 256) (omega (arith, fits, pow-suc 256 many))) ∙ omega arith
@@ -83,7 +83,7 @@ sel_map : (p : ℕ → Bool) (f g : ℕ → ℕ) (v : List ℕ) → sel_l (map p
 sel_map p f g [] = refl
 sel_map p f g (x ∷ xs) = ap (λ ys. cond (p x) (f x) (g x) ∷ ys) (sel_map p f g xs)
 
--- Lanes hold numbers, each times a bit. Half of each number, complemented where the lane has the bit, is what the number means by zigzag.
+-- Lanes hold numbers, each times a power of two (`bit`). Half of each number, complemented where the lane has the bit, is what the number means by zigzag.
 pub lanes_mean : (w : Width) (bit far : ℕ) (number : ℕ → ℕ) → 0 < bit → ((n : ℕ) → bit_and (bit * n) bit ≡ n % 2 * bit) → ((n : ℕ) → bit * n / 2 ^ far ≡ n / 2) → ((i : ℕ) → number i / 2 < 2 ^ hbits w)
     → (v lanes halves : List ℕ) → lanes ≡ map (λ i. bit * number i) v → halves ≡ zip2 (λ a b. a / 2 ^ b) lanes (replicate (length v) far)
     → map (cast_signed w) (sel_l (map (top (hbits w)) (zip2 (λ a b. cond (eqb a b) (2 ^ bits w - 1) 0) (zip2 bit_and lanes (replicate (length v) bit)) (replicate (length v) bit))) (map (bit_not w) halves) halves) ≡ map zigzag_value (map number v)
@@ -108,7 +108,7 @@ brief_number n h =
       | inr odd ↦ subst IsBrief (sym (cond-false (eqb (n % 2) 0) _ (neg_ℤ (pos ((n + 1) / 2))) (ne_eqb (n % 2) 0 (λ e. omega (arith, e, odd))))) (search (arith, ints, h), search (arith, ints, h))
     ]
 
--- what numbers mean by zigzag has a property, if that of the number at each place has it
+-- a property holds of what all these numbers mean by zigzag, if it holds for the number at each place
 pub all_mean : (P : ℤ → Type 0) (number : ℕ → ℕ) → ((i : ℕ) → P (zigzag_value (number i))) → (v : List ℕ) → All P (map zigzag_value (map number v))
 all_mean P number holds v k d h =
     let there : k < length v = omega (arith, h, length-map (map number v) zigzag_value, length-map v number) in

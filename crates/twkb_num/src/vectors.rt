@@ -179,13 +179,13 @@ fn low_halves(lo: u8x16, hi: u8x16) -> u8x16
     lo.shuffle(hi, [0, 1, 2, 3, 4, 5, 6, 7, 16, 17, 18, 19, 20, 21, 22, 23])
 }
 
-/// Twice the number that the groups of each two bytes make.
+/// For each two bytes, twice the number that their groups of seven bits make.
 #[inline(always)]
 fn doubled_numbers(groups: u8x16) -> u16x8
     ensures { result ≡ map (λ n. 2 * n) (values 2 8 groups 0) }
 {
     let lanes = u16x8::from_le_bytes(groups);
-    // The lower group, added once more, moves up next to the other.
+    // Adding the lower group once more doubles it, which moves it up next to the upper group.
     (lanes & u16x8::splat(0x7f7f)) + (lanes & u16x8::splat(0x7f))
 }
 
@@ -196,7 +196,7 @@ fn meant_wide(groups: u8x16) -> u32x4
     ensures short { All IsShort (map (cast_signed w32) result) }
 {
     let numbers = doubled_numbers(groups) >> u16x8::splat(1);
-    // The number of the lower two bytes moves up next to that of the upper two, so each lane of 32 bits is four times its number.
+    // The lower 14 bits move up by two, next to the upper 14, so each lane of 32 bits is four times its number.
     let placed = numbers << u16x8::from_array([2, 0, 2, 0, 2, 0, 2, 0]);
     let joined = u32x4::from_le_bytes(placed.to_le_bytes());
     let half = joined >> u32x4::splat(3);
@@ -212,7 +212,7 @@ fn meant_narrow(groups: u8x16) -> u16x8
 {
     let twice = doubled_numbers(groups);
     let half = twice >> u16x8::splat(2);
-    // The bit is also the lowest of each two bytes, but to test it there takes one instruction more.
+    // This bit is also the lowest of each lane of `groups`, but testing it there takes one instruction more.
     let odd = (twice & u16x8::splat(2)).simd_eq(u16x8::splat(2));
     odd.select(!half, half)
 }

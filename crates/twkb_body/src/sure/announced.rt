@@ -1,4 +1,4 @@
-//! What the second byte of a header announces, and its extended dimensions byte. Used by `sure` and `sure/blob`.
+//! What the second byte of a header and its extended dimensions byte announce. Used by `sure` and `sure/blob`.
 ghost use Rattle.std.specs.Prelude.{◌≡◌, ◌%◌, bit_and};
 
 use twkb_head::Begun;

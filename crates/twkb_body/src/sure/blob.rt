@@ -1,4 +1,4 @@
-//! A whole blob in the first reading. `sure` hands it on.
+//! The first reading of a whole blob, for `auditing`.
 ghost use Rattle.std.specs.Prelude.{◌≡◌, None, IfOk};
 ghost use Rattle.twkb_body.specs.Devices.Sure.{counted_in, Certifies};
 

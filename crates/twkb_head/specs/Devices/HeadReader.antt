@@ -66,9 +66,9 @@ head_at levels r =
     (optional_at (has_bit metadata 1) (bounds_from type.1 (z_in extended) (m_in extended)) d >>= λ bounds e.
     (Ok (head_with type.0 type.1 metadata extended size bounds r.place c.place d.place e.place), e)))))
 
--- the rest of a header that begins at `start`, after its extended dimensions byte, if there is one
-abbrev pub later_at : Kind → ℤ → ℕ → ℕ → Option ℕ → Reader Head
-later_at kind xy metadata start extended c =
+-- the rest of a header that begins at `start`, after its first two bytes and, if it has one, its extended dimensions byte
+abbrev pub size_and_box_at : Kind → ℤ → ℕ → ℕ → Option ℕ → Reader Head
+size_and_box_at kind xy metadata start extended c =
     optional_at (has_bit metadata 2) number_at c >>= λ size d.
     (optional_at (has_bit metadata 1) (bounds_from xy (z_in extended) (m_in extended)) d >>= λ bounds e.
     (Ok (head_with kind xy metadata extended size bounds start c.place d.place e.place), e))
@@ -76,4 +76,4 @@ later_at kind xy metadata start extended c =
 -- the rest of a header that begins at `start`, after its first two bytes
 unfoldable pub rest_at : Kind → ℤ → ℕ → ℕ → Reader Head
 rest_at kind xy metadata start b =
-    optional_at (has_bit metadata 8) byte_at b >>= λ extended c. later_at kind xy metadata start extended c
+    optional_at (has_bit metadata 8) byte_at b >>= λ extended c. size_and_box_at kind xy metadata start extended c

@@ -30,7 +30,7 @@ use Rattle.twkb_body.proofs.sure.+take_flat.Goals as goal
 flat_bits : (metadata bits : ℕ) → bits < 8 → bit_and metadata 25 ≡ bits → has_bit metadata 8 ≡ false
 flat_bits metadata bits few told = bits_same metadata 0 8 (omega (arith, few, told, box_bits metadata))
 
--- with the bits of a box and of an extended dimensions byte there is this byte
+-- if the bits of a box and of an extended dimensions byte are set, this byte is announced
 further_bits : (metadata : ℕ) → bit_and metadata 25 ≡ 9 → has_bit metadata 8 ≡ true
 further_bits metadata told = bits_same metadata 8 8 (omega (arith, told, box_bits metadata))
 
@@ -180,8 +180,8 @@ take_with_further_box-take_after_extended-requires g t c κs within =
     let frame = c.requires.begun.frame in
     search rules
 
-pub take_with_further_box-call_after_extended-requires : goal.take_with_further_box-call_after_extended-requires
-take_with_further_box-call_after_extended-requires g t c κs within =
+pub take_with_further_box-take_called_after_extended-requires : goal.take_with_further_box-take_called_after_extended-requires
+take_with_further_box-take_called_after_extended-requires g t c κs within =
     let (first, two) = c.requires.begun.before in
     let before : (before : Reading) × HasReadThree before c.args.first c.args.metadata c.in-Some-byte.extended c.byte.new.self = (first, three_read two c.in-Some-byte.ensures.some c.in-Some-byte.ensures.moved) in
     let frame = c.requires.begun.frame in
@@ -191,13 +191,13 @@ pub take_with_further_box-returns-then-extended-eq-Z_AND_M : goal.take_with_furt
 take_with_further_box-returns-then-extended-eq-Z_AND_M g t c = λ before two. c.take_after_extended.ensures before (three_read two c.in-Some-byte.ensures.some c.in-Some-byte.ensures.moved)
 
 pub take_with_further_box-returns-else-extended-eq-Z_AND_M : goal.take_with_further_box-returns-else-extended-eq-Z_AND_M
-take_with_further_box-returns-else-extended-eq-Z_AND_M g t c = λ before two. c.call_after_extended.ensures before (three_read two c.in-Some-byte.ensures.some c.in-Some-byte.ensures.moved)
+take_with_further_box-returns-else-extended-eq-Z_AND_M g t c = λ before two. c.take_called_after_extended.ensures before (three_read two c.in-Some-byte.ensures.some c.in-Some-byte.ensures.moved)
 
-pub call_after_extended-returns-in_default : goal.call_after_extended-returns-in_default
-call_after_extended-returns-in_default g t c = none_further c.requires.begun c.in_default.ensures.none
+pub take_called_after_extended-returns-in_default : goal.take_called_after_extended-returns-in_default
+take_called_after_extended-returns-in_default g t c = none_further c.requires.begun c.in_default.ensures.none
 
-pub call_after_extended-take_after_extended-requires : goal.call_after_extended-take_after_extended-requires
-call_after_extended-take_after_extended-requires g t c κs within =
+pub take_called_after_extended-take_after_extended-requires : goal.take_called_after_extended-take_after_extended-requires
+take_called_after_extended-take_after_extended-requires g t c κs within =
     let begins : BeginsThree c.args.depth c.args.first c.args.metadata c.args.extended c.args.cursor.now c.in-Some.begun =
     three_begin c.in-Some.ensures.some (omega (arith, c.place.ensures.value, three_back c.requires.begun.before.1)) in
     let same = c.in-Some.ensures.metadata in

@@ -9,8 +9,8 @@ use Rattle.twkb_head.specs.declared.header.Head.{Head}
 use Rattle.twkb_head.specs.declared.raw.RawBox.{RawBox}
 use Rattle.twkb_head.specs.Header.{has_bit, z_in, m_in}
 use Rattle.twkb_head.specs.Shared.Reader.{Answer, viewed}
-use Rattle.twkb_head.proofs.HeadSteps.{later_is, box_seen}
-use Rattle.twkb_head.proofs.read.take_later.Goals as goal
+use Rattle.twkb_head.proofs.HeadSteps.{size_and_box_is, box_seen}
+use Rattle.twkb_head.proofs.read.take_size_and_box.Goals as goal
 
 pub returns-clause-read : goal.returns-clause-read
 returns-clause-read g c =
@@ -22,7 +22,7 @@ returns-clause-read g c =
     let m : c.m_of-m.result ≡ m_in c.args.extended = c.m_of-m.ensures.value in
     let h5 = rw b1 at c.in_ok-bounds.ensures.read c.args.begun.xy (z_in c.args.extended) (m_in c.args.extended) (ap is_some (sym z) ∙ sym c.is_some.ensures) (ap is_some (sym m) ∙ sym c.is_some-2.ensures) in
     let size = rw (c.place-size_place.ensures.value, c.place-box_place.ensures.value) at c.size_field.ensures in
-    let is = later_is _ _ _ _ _ _ c.args.extended _ _ c.args.begun.start h4 h5 in
+    let is = size_and_box_is _ _ _ _ _ _ c.args.extended _ _ c.args.begun.start h4 h5 in
     is ∙ ap (λ (h : Head). (Ok h, c.take_box.new.cursor)) (λ j. record {
       kind = c.args.begun.kind;
       xy = sym fits j;
