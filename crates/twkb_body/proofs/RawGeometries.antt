@@ -242,6 +242,18 @@ three_begin begins place before three = begins before three.middle three.two.sou
 pub three_bits : {depth first metadata extended : ℕ} {now : Reading} {begun other : Begun} → BeginsThree depth first metadata extended now begun → other ≡ record begun { metadata = begun.metadata % 32 } → BeginsThree depth first metadata extended now other
 three_bits {depth} {begun = begun} {other = other} begins is before three = announced_same begun other depth (begun.metadata % 32) before three.middle refl is (begins before three)
 
+module _ {depth : ℕ} {above : Option Frame} {first metadata extended : ℕ} {now next : Reading} (head : HasBegun depth above first metadata now) (byte : passed now next ≡ extended ∷ []) (moved : IsMoved now next) where
+  -- three bytes begin a geometry, if two do and one was read after them
+  pub byte_read : HasBegunFurther depth above first metadata extended next
+  byte_read = record { shallowest = head.shallowest; deepest = head.deepest; before = (head.before.0, three_read head.before.1 byte moved); frame = head.frame }
+
+  -- the header that begins with the two bytes begins with the three
+  pub byte_begins : {start : ℕ} {begun : Begun} → ((before now : Reading) → IsSound before → IsMoved before now → passed before now ≡ first ∷ metadata ∷ [] → before.place ≡ start → BeginsHead begun depth before now)
+      → now.place ≡ start + 2 → BeginsThree depth first metadata extended next begun
+  byte_begins begins place =
+      let two = head.before.1 in
+      three_begin begins (omega (arith, place, two_back head.before.0 now first metadata two.moved two.bytes, three_back (three_read two byte moved)))
+
 module _ {depth : ℕ} {above : Option Frame} {first metadata extended : ℕ} {now : Reading} (head : HasBegunFurther depth above first metadata extended now) where
   -- it is refuted if no header begins with them
   pub none_further : ((before now : Reading) → IsSound before → IsMoved before now → passed before now ≡ first ∷ metadata ∷ [] → StartsWithHeader depth (rest before) → IsSome {T = Begun} None)

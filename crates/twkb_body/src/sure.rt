@@ -1,12 +1,9 @@
 //! The first reading of a geometry, which certifies it or ends in a doubt. It hands down the innermost box, and hands up the number
 //! of vertices. Used by `auditing`.
 ghost use Rattle.std.specs.Prelude.{◌≡◌, ◌≤◌, ◌⊎◌, ◌+◌, ◌-◌, bit_and, true, false, IfSome};
-ghost use Rattle.twkb_num.specs.Cursor.{Reading};
-ghost use Rattle.twkb_num.specs.Units.{IsPrecision};
-ghost use Rattle.twkb_head.specs.Raw.{BeginsHead};
 ghost use Rattle.twkb_head.specs.BegunHeader.{deepest, is_collection, IsAllowedAt};
 ghost use Rattle.twkb_head.specs.declared.header.Head.{Head as HeadOf};
-ghost use Rattle.twkb_body.specs.Devices.Sure.{IsFrame, HasReadThree, HasBegun, HasBegunFurther, HasBody, HasFramedHead, CertifiesAfterTwo, CertifiesAfterThree, CertifiesFramed, CertifiesBody, CertifiesMany};
+ghost use Rattle.twkb_body.specs.Devices.Sure.{IsFrame, HasBegun, HasBegunFurther, HasBody, HasFramedHead, CertifiesAfterTwo, CertifiesAfterThree, CertifiesFramed, CertifiesBody, CertifiesMany};
 
 mod announced;
 mod apart;
@@ -29,7 +26,7 @@ use crate::lists::take_list;
 use crate::rooms::IdRoom;
 pub use blob::take_blob;
 use twkb_head::{
-    Begun, BoxCalled, BoxInlined, Head, Kind, begun_by, begun_from, take_rest, take_rest_after,
+    BoxCalled, BoxInlined, Head, Kind, begun_by, begun_from, take_rest, take_rest_after,
 };
 use twkb_num::Cursor;
 
@@ -160,8 +157,8 @@ fn take_further<R: IdRoom>(
 }
 
 /// Reads a geometry as [`take_sure`] does, which has a box and an extended dimensions byte, and isn't empty.
-// `take_after_extended` is inlined here, so in its branch the compiler knows that there are both Z and M. `begun_by` won't do: it
-// speaks of a header only where the cursor is, and one more byte is read before the header goes on.
+// The extended dimensions byte is compared before the other fields are read, so the compiler knows here that there are both Z and M.
+// `begun_by` won't do: it speaks of a header only where the cursor is, and one more byte is read before the header goes on.
 #[cycle(take_flat)]
 #[inline(never)]
 fn take_with_further_box<R: IdRoom>(
@@ -182,18 +179,26 @@ fn take_with_further_box<R: IdRoom>(
     let Some(extended) = cursor.byte() else {
         return Err(Doubt::REFUSED);
     };
-    if extended % 4 == Z_AND_M {
-        take_after_extended(room, cursor, depth, above, begun, first, metadata, extended)
-    } else {
-        take_called_after_extended(room, cursor, depth, above, first, metadata, extended)
+    if extended % 4 != Z_AND_M {
+        return take_after_extended(room, cursor, depth, above, first, metadata, extended);
     }
+    let Ok(raw) = take_rest_after::<BoxInlined>(cursor, with_bits(begun, FURTHER_BOX), extended)
+    else {
+        return Err(Doubt::REFUSED);
+    };
+    let head = raw.boxless();
+    let Some(frame) = further_frame(above, &head, &raw.bounds) else {
+        return take_further_apart(room, cursor, depth, above, &raw);
+    };
+    let vertices = take_further_body(room, cursor, depth, &head, &frame)?;
+    judged(&head, cursor, vertices)
 }
 
-/// [`take_after_extended`] out of line, for the few geometries that have only one of Z and M, or neither.
+/// Reads a geometry as [`take_with_further_box`] does, after its extended dimensions byte: it has only one of Z and M, or neither.
 // The header is begun again here: a `Begun` isn't passed in registers.
 #[cycle(take_flat)]
 #[inline(never)]
-fn take_called_after_extended<R: IdRoom>(
+fn take_after_extended<R: IdRoom>(
     room: &mut R,
     cursor: &mut Cursor,
     depth: u8,
@@ -209,31 +214,6 @@ fn take_called_after_extended<R: IdRoom>(
     let Some(begun) = begun_from(cursor.place() - 3, depth, first, metadata) else {
         return Err(Doubt::REFUSED);
     };
-    take_after_extended(room, cursor, depth, above, begun, first, metadata, extended)
-}
-
-/// Reads a geometry as [`take_with_further_box`] does, after its extended dimensions byte. The reader of the box is inlined here.
-// The contract alone needs the first two bytes.
-#[cycle(take_flat)]
-#[inline(always)]
-fn take_after_extended<R: IdRoom>(
-    room: &mut R,
-    cursor: &mut Cursor,
-    depth: u8,
-    above: &Option<Frame>,
-    begun: Begun,
-    first: u8,
-    metadata: u8,
-    extended: u8,
-) -> Result<usize, Doubt>
-    requires begun { HasBegunFurther depth above.now first metadata extended cursor.old }
-    requires bits { bit_and metadata 25 ≡ 9 }
-    requires same { begun.metadata ≡ metadata }
-    requires xy { IsPrecision begun.xy }
-    requires begins { (before : Reading) (three : HasReadThree before first metadata extended cursor.old)
-        → BeginsHead begun depth before three.middle }
-    ensures { CertifiesAfterThree depth above.now first metadata extended cursor.old result cursor.new }
-{
     let Ok(raw) = take_rest_after::<BoxInlined>(cursor, with_bits(begun, FURTHER_BOX), extended)
     else {
         return Err(Doubt::REFUSED);
@@ -246,8 +226,9 @@ fn take_after_extended<R: IdRoom>(
 }
 
 /// Reads a geometry with Z or M after its header. The frame has to hold its points.
+// Out of line: it would be larger than what the compiler inlines, and most geometries with Z or M are read where their header is.
 #[cycle(take_flat)]
-#[inline(always)]
+#[inline(never)]
 fn take_further_framed<R: IdRoom>(
     room: &mut R,
     cursor: &mut Cursor,

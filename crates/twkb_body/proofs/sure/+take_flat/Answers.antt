@@ -1,5 +1,5 @@
 -- The first reading of a geometry and of members, each by the other: what it certifies, and what it refutes.
-use Rattle.std.proofs.Common.{rules, ◌≡◌, ◌+◌, ◌-◌, ℕ, suc, Bool, true, false, Option, None, option_map, Ok, refl, sym, ap, subst, ◌∙◌, arith}
+use Rattle.std.proofs.Common.{rules, ◌≡◌, ◌+◌, ◌-◌, ℕ, suc, Bool, true, false, Option, None, option_map, Ok, Err, refl, sym, ap, subst, ◌∙◌, arith}
 use Rattle.std.specs.Prelude.{◌<◌, bit_and}
 use Rattle.std.proofs.lemmas.Result.{err_from_is_err_and}
 use Rattle.twkb_num.specs.Cursor.{Reading, rest}
@@ -15,11 +15,11 @@ use Rattle.twkb_body.specs.Devices.BodyReader.{list_at}
 use Rattle.twkb_body.specs.Devices.Found.{named}
 use Rattle.twkb_body.specs.Devices.IdLists.{HasManyIdsAfterCount}
 use Rattle.twkb_body.specs.Devices.Stops.{own_ids, member_ids, WantsBehind}
-use Rattle.twkb_body.specs.Devices.Sure.{framed, HasReadTwo, HasReadThree, IsFrameUnder, IsRefuted, IsRefutedBody}
+use Rattle.twkb_body.specs.Devices.Sure.{framed, HasReadTwo, HasBegunFurther, IsFrameUnder, IsRefuted, IsRefutedBody}
 use Rattle.twkb_body.proofs.Keeping.{keeps_list, read_keeps}
 use Rattle.twkb_body.proofs.MemberSteps.{member_bytes}
 use Rattle.twkb_body.proofs.SureSteps.{two_read, sure_begins, sure_goes_on, members_sure}
-use Rattle.twkb_body.proofs.RawGeometries.{bits_begin, framed_certifies, framed_doubts, header_certifies, header_framed, header_read, further_read, further_unread, no_further, none_begins, none_further, rest_read, rest_unread, size_later, BeginsThree, three_back, three_begin, three_bits, three_read}
+use Rattle.twkb_body.proofs.RawGeometries.{bits_begin, framed_certifies, framed_doubts, header_certifies, header_framed, header_read, further_read, further_unread, no_further, none_begins, none_further, rest_read, rest_unread, size_later, byte_begins, byte_read, three_back, three_begin, three_bits, three_read}
 use Rattle.twkb_body.proofs.Refuting.{doubts_outside, doubts_through, no_header_refutes}
 use Rattle.twkb_body.proofs.RefutedBodies.{ids_refute, list_refutes, members_refute}
 use Rattle.twkb_body.proofs.CertifiedBodies.{none_of, some_of, wants_members}
@@ -171,63 +171,77 @@ take_with_further_box-returns-in_default-byte g t c = λ before two.
 
 pub take_with_further_box-take_after_extended-requires : goal.take_with_further_box-take_after_extended-requires
 take_with_further_box-take_after_extended-requires g t c κs within =
-    let (first, two) = c.requires.begun.before in
-    let three = three_read two c.in-Some-byte.ensures.some c.in-Some-byte.ensures.moved in
-    let before : (before : Reading) × HasReadThree before c.args.first c.args.metadata c.in-Some-byte.extended c.byte.new.self = (first, three) in
-    let begins : BeginsThree c.args.depth c.args.first c.args.metadata c.in-Some-byte.extended c.byte.new.self c.in-Some.begun =
-    three_begin c.in-Some.ensures.some (omega (arith, c.place.ensures.value, two_back first c.args.cursor.now _ _ two.moved two.bytes, three_back three)) in
-    let same = c.in-Some.ensures.metadata in
-    let frame = c.requires.begun.frame in
+    let three : HasBegunFurther c.args.depth c.args.above.now c.args.first c.args.metadata c.in-Some-byte.extended c.byte.new.self = byte_read c.requires.begun c.in-Some-byte.ensures.some c.in-Some-byte.ensures.moved in
     search rules
 
-pub take_with_further_box-take_called_after_extended-requires : goal.take_with_further_box-take_called_after_extended-requires
-take_with_further_box-take_called_after_extended-requires g t c κs within =
-    let (first, two) = c.requires.begun.before in
-    let before : (before : Reading) × HasReadThree before c.args.first c.args.metadata c.in-Some-byte.extended c.byte.new.self = (first, three_read two c.in-Some-byte.ensures.some c.in-Some-byte.ensures.moved) in
-    let frame = c.requires.begun.frame in
+pub take_with_further_box-returns-then-extended-ne-Z_AND_M : goal.take_with_further_box-returns-then-extended-ne-Z_AND_M
+take_with_further_box-returns-then-extended-ne-Z_AND_M g t c = λ before two. c.take_after_extended.ensures before (three_read two c.in-Some-byte.ensures.some c.in-Some-byte.ensures.moved)
+
+pub take_with_further_box-with_bits-requires : goal.take_with_further_box-with_bits-requires
+take_with_further_box-with_bits-requires g t c = ap (λ n. bit_and n 25) c.in-Some.ensures.metadata ∙ c.requires.bits
+
+pub take_with_further_box-take_rest_after-requires-clause-announced : goal.take_with_further_box-take_rest_after-requires-clause-announced
+take_with_further_box-take_rest_after-requires-clause-announced g t c = further_bits c.with_bits.result.metadata c.with_bits.ensures.bits
+
+pub take_with_further_box-returns-in_default-take_rest_after : goal.take_with_further_box-returns-in_default-take_rest_after
+take_with_further_box-returns-in_default-take_rest_after g t c = λ before two.
+    further_unread (byte_read c.requires.begun c.in-Some-byte.ensures.some c.in-Some-byte.ensures.moved) (three_bits (byte_begins c.requires.begun c.in-Some-byte.ensures.some c.in-Some-byte.ensures.moved c.in-Some.ensures.some (omega (arith, c.place.ensures.value, two_read _ _ _ c.requires.begun.before))) c.with_bits.ensures.announcing) c.in_default-take_rest_after.ensures.read c.in_default-take_rest_after.ensures.exact before (three_read two c.in-Some-byte.ensures.some c.in-Some-byte.ensures.moved)
+
+pub take_with_further_box-take_further_apart-requires-clause-head : goal.take_with_further_box-take_further_apart-requires-clause-head
+take_with_further_box-take_further_apart-requires-clause-head g t c = header_read (further_read (byte_read c.requires.begun c.in-Some-byte.ensures.some c.in-Some-byte.ensures.moved) (three_bits (byte_begins c.requires.begun c.in-Some-byte.ensures.some c.in-Some-byte.ensures.moved c.in-Some.ensures.some (omega (arith, c.place.ensures.value, two_read _ _ _ c.requires.begun.before))) c.with_bits.ensures.announcing) c.in-Ok.raw c.in-Ok.ensures.read) (c.in-Ok.ensures.empty ∙ full_bits c.with_bits.result.metadata 9 (omega arith) c.with_bits.ensures.bits)
+
+pub take_with_further_box-returns-in_default-further_frame : goal.take_with_further_box-returns-in_default-further_frame
+take_with_further_box-returns-in_default-further_frame g t c = λ before two. header_certifies (further_read (byte_read c.requires.begun c.in-Some-byte.ensures.some c.in-Some-byte.ensures.moved) (three_bits (byte_begins c.requires.begun c.in-Some-byte.ensures.some c.in-Some-byte.ensures.moved c.in-Some.ensures.some (omega (arith, c.place.ensures.value, two_read _ _ _ c.requires.begun.before))) c.with_bits.ensures.announcing) c.in-Ok.raw c.in-Ok.ensures.read) _ _ c.take_further_apart.ensures before (three_read two c.in-Some-byte.ensures.some c.in-Some-byte.ensures.moved)
+
+pub take_with_further_box-take_further_body-requires : goal.take_with_further_box-take_further_body-requires
+take_with_further_box-take_further_body-requires g t c κs within =
+    let ready = header_framed (further_read (byte_read c.requires.begun c.in-Some-byte.ensures.some c.in-Some-byte.ensures.moved) (three_bits (byte_begins c.requires.begun c.in-Some-byte.ensures.some c.in-Some-byte.ensures.moved c.in-Some.ensures.some (omega (arith, c.place.ensures.value, two_read _ _ _ c.requires.begun.before))) c.with_bits.ensures.announcing) c.in-Ok.raw c.in-Ok.ensures.read) (c.in-Ok.ensures.empty ∙ full_bits c.with_bits.result.metadata 9 (omega arith) c.with_bits.ensures.bits) c.boxless-head.ensures c.in-Some-further_frame.ensures.further c.in-Some-further_frame.ensures.frame.framed in
+    let body = ready.body in
     search rules
 
-pub take_with_further_box-returns-then-extended-eq-Z_AND_M : goal.take_with_further_box-returns-then-extended-eq-Z_AND_M
-take_with_further_box-returns-then-extended-eq-Z_AND_M g t c = λ before two. c.take_after_extended.ensures before (three_read two c.in-Some-byte.ensures.some c.in-Some-byte.ensures.moved)
+pub take_with_further_box-returns-in_err-vertices : goal.take_with_further_box-returns-in_err-vertices
+take_with_further_box-returns-in_err-vertices g t c = λ before two.
+    let ready = header_framed (further_read (byte_read c.requires.begun c.in-Some-byte.ensures.some c.in-Some-byte.ensures.moved) (three_bits (byte_begins c.requires.begun c.in-Some-byte.ensures.some c.in-Some-byte.ensures.moved c.in-Some.ensures.some (omega (arith, c.place.ensures.value, two_read _ _ _ c.requires.begun.before))) c.with_bits.ensures.announcing) c.in-Ok.raw c.in-Ok.ensures.read) (c.in-Ok.ensures.empty ∙ full_bits c.with_bits.result.metadata 9 (omega arith) c.with_bits.ensures.bits) c.boxless-head.ensures c.in-Some-further_frame.ensures.further c.in-Some-further_frame.ensures.frame.framed in
+    let p = err_from_is_err_and c.from_residual.result c.from_residual.ensures.1 in
+    let doubts = framed_doubts ready c.take_further_body.new.cursor _ c.in_err-vertices.ensures c.args.above.now c.in-Ok.raw c.boxless-head.ensures c.in-Some-further_frame.ensures.frame in
+    rw (p.1, p.2) (header_certifies (further_read (byte_read c.requires.begun c.in-Some-byte.ensures.some c.in-Some-byte.ensures.moved) (three_bits (byte_begins c.requires.begun c.in-Some-byte.ensures.some c.in-Some-byte.ensures.moved c.in-Some.ensures.some (omega (arith, c.place.ensures.value, two_read _ _ _ c.requires.begun.before))) c.with_bits.ensures.announcing) c.in-Ok.raw c.in-Ok.ensures.read) (Err c.in_err-vertices.field-0.0) c.take_further_body.new.cursor doubts before (three_read two c.in-Some-byte.ensures.some c.in-Some-byte.ensures.moved))
 
-pub take_with_further_box-returns-else-extended-eq-Z_AND_M : goal.take_with_further_box-returns-else-extended-eq-Z_AND_M
-take_with_further_box-returns-else-extended-eq-Z_AND_M g t c = λ before two. c.take_called_after_extended.ensures before (three_read two c.in-Some-byte.ensures.some c.in-Some-byte.ensures.moved)
+pub take_with_further_box-judged-requires : goal.take_with_further_box-judged-requires
+take_with_further_box-judged-requires g t c =
+    let ready = header_framed (further_read (byte_read c.requires.begun c.in-Some-byte.ensures.some c.in-Some-byte.ensures.moved) (three_bits (byte_begins c.requires.begun c.in-Some-byte.ensures.some c.in-Some-byte.ensures.moved c.in-Some.ensures.some (omega (arith, c.place.ensures.value, two_read _ _ _ c.requires.begun.before))) c.with_bits.ensures.announcing) c.in-Ok.raw c.in-Ok.ensures.read) (c.in-Ok.ensures.empty ∙ full_bits c.with_bits.result.metadata 9 (omega arith) c.with_bits.ensures.bits) c.boxless-head.ensures c.in-Some-further_frame.ensures.further c.in-Some-further_frame.ensures.frame.framed in
+    size_later ready c.take_further_body.new.cursor (omega (arith, c.in_ok-vertices.ensures.inside.few))
 
-pub take_called_after_extended-returns-in_default : goal.take_called_after_extended-returns-in_default
-take_called_after_extended-returns-in_default g t c = none_further c.requires.begun c.in_default.ensures.none
+pub take_with_further_box-returns : goal.take_with_further_box-returns
+take_with_further_box-returns g t c = λ before two.
+    let ready = header_framed (further_read (byte_read c.requires.begun c.in-Some-byte.ensures.some c.in-Some-byte.ensures.moved) (three_bits (byte_begins c.requires.begun c.in-Some-byte.ensures.some c.in-Some-byte.ensures.moved c.in-Some.ensures.some (omega (arith, c.place.ensures.value, two_read _ _ _ c.requires.begun.before))) c.with_bits.ensures.announcing) c.in-Ok.raw c.in-Ok.ensures.read) (c.in-Ok.ensures.empty ∙ full_bits c.with_bits.result.metadata 9 (omega arith) c.with_bits.ensures.bits) c.boxless-head.ensures c.in-Some-further_frame.ensures.further c.in-Some-further_frame.ensures.frame.framed in
+    let certifies = framed_certifies ready c.take_further_body.new.cursor c.in_ok-vertices.vertices c.judged.result c.in_ok-vertices.ensures c.judged.ensures.judged c.args.above.now c.in-Ok.raw c.boxless-head.ensures c.in-Some-further_frame.ensures.frame in
+    rw c.judged.ensures.still (header_certifies (further_read (byte_read c.requires.begun c.in-Some-byte.ensures.some c.in-Some-byte.ensures.moved) (three_bits (byte_begins c.requires.begun c.in-Some-byte.ensures.some c.in-Some-byte.ensures.moved c.in-Some.ensures.some (omega (arith, c.place.ensures.value, two_read _ _ _ c.requires.begun.before))) c.with_bits.ensures.announcing) c.in-Ok.raw c.in-Ok.ensures.read) _ _ certifies before (three_read two c.in-Some-byte.ensures.some c.in-Some-byte.ensures.moved))
 
-pub take_called_after_extended-take_after_extended-requires : goal.take_called_after_extended-take_after_extended-requires
-take_called_after_extended-take_after_extended-requires g t c κs within =
-    let begins : BeginsThree c.args.depth c.args.first c.args.metadata c.args.extended c.args.cursor.now c.in-Some.begun =
-    three_begin c.in-Some.ensures.some (omega (arith, c.place.ensures.value, three_back c.requires.begun.before.1)) in
-    let same = c.in-Some.ensures.metadata in
-    search rules
+pub take_after_extended-returns-in_default : goal.take_after_extended-returns-in_default
+take_after_extended-returns-in_default g t c = none_further c.requires.begun c.in_default.ensures.none
 
 pub take_after_extended-with_bits-requires : goal.take_after_extended-with_bits-requires
-take_after_extended-with_bits-requires g t c = ap (λ n. bit_and n 25) c.requires.same ∙ c.requires.bits
+take_after_extended-with_bits-requires g t c = ap (λ n. bit_and n 25) c.in-Some.ensures.metadata ∙ c.requires.bits
 
 pub take_after_extended-take_rest_after-requires-clause-announced : goal.take_after_extended-take_rest_after-requires-clause-announced
 take_after_extended-take_rest_after-requires-clause-announced g t c = further_bits c.with_bits.result.metadata c.with_bits.ensures.bits
 
-pub take_after_extended-returns-in_default : goal.take_after_extended-returns-in_default
-take_after_extended-returns-in_default g t c = further_unread c.requires.begun (three_bits c.requires.begins c.with_bits.ensures.announcing) c.in_default.ensures.read c.in_default.ensures.exact
+pub take_after_extended-returns-in_default-take_rest_after : goal.take_after_extended-returns-in_default-take_rest_after
+take_after_extended-returns-in_default-take_rest_after g t c = further_unread c.requires.begun (three_bits (three_begin c.in-Some.ensures.some (omega (arith, c.place.ensures.value, three_back c.requires.begun.before.1))) c.with_bits.ensures.announcing) c.in_default-take_rest_after.ensures.read c.in_default-take_rest_after.ensures.exact
 
 pub take_after_extended-take_further_apart-requires-clause-head : goal.take_after_extended-take_further_apart-requires-clause-head
-take_after_extended-take_further_apart-requires-clause-head g t c =
-    header_read (further_read c.requires.begun (three_bits c.requires.begins c.with_bits.ensures.announcing) c.in-Ok.raw c.in-Ok.ensures.read) (c.in-Ok.ensures.empty ∙ full_bits c.with_bits.result.metadata 9 (omega arith) c.with_bits.ensures.bits)
+take_after_extended-take_further_apart-requires-clause-head g t c = header_read (further_read c.requires.begun (three_bits (three_begin c.in-Some.ensures.some (omega (arith, c.place.ensures.value, three_back c.requires.begun.before.1))) c.with_bits.ensures.announcing) c.in-Ok.raw c.in-Ok.ensures.read) (c.in-Ok.ensures.empty ∙ full_bits c.with_bits.result.metadata 9 (omega arith) c.with_bits.ensures.bits)
 
 pub take_after_extended-returns-in_default-further_frame : goal.take_after_extended-returns-in_default-further_frame
-take_after_extended-returns-in_default-further_frame g t c =
-    header_certifies (further_read c.requires.begun (three_bits c.requires.begins c.with_bits.ensures.announcing) c.in-Ok.raw c.in-Ok.ensures.read) _ _ c.take_further_apart.ensures
+take_after_extended-returns-in_default-further_frame g t c = header_certifies (further_read c.requires.begun (three_bits (three_begin c.in-Some.ensures.some (omega (arith, c.place.ensures.value, three_back c.requires.begun.before.1))) c.with_bits.ensures.announcing) c.in-Ok.raw c.in-Ok.ensures.read) _ _ c.take_further_apart.ensures
 
 pub take_after_extended-take_further_framed-requires : goal.take_after_extended-take_further_framed-requires
 take_after_extended-take_further_framed-requires g t c κs within =
-    let ready = header_framed (further_read c.requires.begun (three_bits c.requires.begins c.with_bits.ensures.announcing) c.in-Ok.raw c.in-Ok.ensures.read) (c.in-Ok.ensures.empty ∙ full_bits c.with_bits.result.metadata 9 (omega arith) c.with_bits.ensures.bits) c.boxless-head.ensures c.in-Some.ensures.further c.in-Some.ensures.frame.framed in
+    let ready = header_framed (further_read c.requires.begun (three_bits (three_begin c.in-Some.ensures.some (omega (arith, c.place.ensures.value, three_back c.requires.begun.before.1))) c.with_bits.ensures.announcing) c.in-Ok.raw c.in-Ok.ensures.read) (c.in-Ok.ensures.empty ∙ full_bits c.with_bits.result.metadata 9 (omega arith) c.with_bits.ensures.bits) c.boxless-head.ensures c.in-Some-further_frame.ensures.further c.in-Some-further_frame.ensures.frame.framed in
     search rules
 
 pub take_after_extended-returns : goal.take_after_extended-returns
-take_after_extended-returns g t c =
-    header_certifies (further_read c.requires.begun (three_bits c.requires.begins c.with_bits.ensures.announcing) c.in-Ok.raw c.in-Ok.ensures.read) _ _ (c.take_further_framed.ensures c.args.above.now c.in-Ok.raw c.boxless-head.ensures c.in-Some.ensures.frame)
+take_after_extended-returns g t c = header_certifies (further_read c.requires.begun (three_bits (three_begin c.in-Some.ensures.some (omega (arith, c.place.ensures.value, three_back c.requires.begun.before.1))) c.with_bits.ensures.announcing) c.in-Ok.raw c.in-Ok.ensures.read) _ _ (c.take_further_framed.ensures c.args.above.now c.in-Ok.raw c.boxless-head.ensures c.in-Some-further_frame.ensures.frame)
 
 pub take_flat_framed-returns-in_err-vertices : goal.take_flat_framed-returns-in_err-vertices
 take_flat_framed-returns-in_err-vertices g t c =

@@ -15,9 +15,6 @@ decreases-take_with_box g l = 10 * (deepest - l.depth) + 7
 abbrev pub decreases-take_with_further_box : goal.decreases-take_with_further_box
 decreases-take_with_further_box g l = 10 * (deepest - l.depth) + 7
 
-abbrev pub decreases-take_called_after_extended : goal.decreases-take_called_after_extended
-decreases-take_called_after_extended g l = 10 * (deepest - l.depth) + 6
-
 abbrev pub decreases-take_after_extended : goal.decreases-take_after_extended
 decreases-take_after_extended g l = 10 * (deepest - l.depth) + 5
 
