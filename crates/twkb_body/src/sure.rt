@@ -15,7 +15,7 @@ mod shapes;
 mod sizes;
 mod unboxed;
 
-use self::announced::{BOX, FLAT_BOX_BITS, FURTHER_BOX, Z_AND_M, with_bits};
+use self::announced::{FIELDS, FURTHER_OR_EMPTY, SIZED_BOX, SIZED_FURTHER_BOX, Z_AND_M, as_flat, with_fields};
 use self::apart::{take_flat_apart, take_further_apart};
 use self::empty::take_empty;
 use self::shapes::{take_flat_list, take_flat_single, take_further_list, take_further_single};
@@ -31,7 +31,7 @@ use twkb_head::{
 use twkb_num::Cursor;
 
 /// Reads a geometry at `depth` after its first two bytes. The frame above has to hold its points.
-// A function for each of the common sets of fields, so that the compiler knows which fields there can be.
+// A function for each of the common sets of fields, so that the compiler knows which fields there are.
 #[cycle(take_flat)]
 #[inline(always)]
 fn take_sure<R: IdRoom>(
@@ -45,15 +45,17 @@ fn take_sure<R: IdRoom>(
     requires { HasBegun depth above.now first metadata cursor.old }
     ensures { CertifiesAfterTwo depth above.now first metadata cursor.old result cursor.new }
 {
-    match metadata & FLAT_BOX_BITS {
-        BOX => take_with_box(room, cursor, depth, above, first, metadata),
-        FURTHER_BOX => take_with_further_box(room, cursor, depth, above, first, metadata),
-        0 => take_flat(room, cursor, depth, above, first, metadata),
+    match metadata & FIELDS {
+        SIZED_BOX => take_with_box(room, cursor, depth, above, first, metadata),
+        SIZED_FURTHER_BOX => take_with_further_box(room, cursor, depth, above, first, metadata),
+        _ if metadata & FURTHER_OR_EMPTY == 0 => {
+            take_flat(room, cursor, depth, above, first, metadata)
+        }
         _ => take_further(room, cursor, depth, above, first, metadata),
     }
 }
 
-/// Reads a geometry as [`take_sure`] does, which has neither a box nor an extended dimensions byte, and isn't empty.
+/// Reads a geometry as [`take_sure`] does, which has no extended dimensions byte and isn't empty.
 #[cycle(take_flat)]
 #[inline(never)]
 fn take_flat<R: IdRoom>(
@@ -65,23 +67,23 @@ fn take_flat<R: IdRoom>(
     metadata: u8,
 ) -> Result<usize, Doubt>
     requires begun { HasBegun depth above.now first metadata cursor.old }
-    requires bits { bit_and metadata 25 ≡ 0 }
+    requires bits { bit_and metadata 24 ≡ 0 }
     ensures { CertifiesAfterTwo depth above.now first metadata cursor.old result cursor.new }
 {
     let Some(begun) = begun_by(cursor, depth, first, metadata) else {
         return Err(Doubt::REFUSED);
     };
-    let Ok(raw) = take_rest::<BoxCalled>(cursor, with_bits(begun, 0)) else {
+    let Ok(raw) = take_rest::<BoxInlined>(cursor, as_flat(begun)) else {
         return Err(Doubt::REFUSED);
     };
     let head = raw.boxless();
-    let Some(frame) = Frame::under(above, &head, &None) else {
+    let Some(frame) = Frame::under(above, &head, &raw.bounds) else {
         return take_flat_apart(room, cursor, depth, above, &raw);
     };
     take_flat_framed(room, cursor, depth, &head, &frame)
 }
 
-/// Reads a geometry as [`take_sure`] does, which has a box in X and Y, and isn't empty. The reader of the box is inlined here.
+/// Reads a geometry as [`take_sure`] does, which has a size and a box in X and Y, and isn't empty.
 #[cycle(take_flat)]
 #[inline(never)]
 fn take_with_box<R: IdRoom>(
@@ -93,13 +95,13 @@ fn take_with_box<R: IdRoom>(
     metadata: u8,
 ) -> Result<usize, Doubt>
     requires begun { HasBegun depth above.now first metadata cursor.old }
-    requires bits { bit_and metadata 25 ≡ 1 }
+    requires fields { bit_and metadata 27 ≡ 3 }
     ensures { CertifiesAfterTwo depth above.now first metadata cursor.old result cursor.new }
 {
     let Some(begun) = begun_by(cursor, depth, first, metadata) else {
         return Err(Doubt::REFUSED);
     };
-    let Ok(raw) = take_rest::<BoxInlined>(cursor, with_bits(begun, BOX)) else {
+    let Ok(raw) = take_rest::<BoxInlined>(cursor, with_fields(begun, SIZED_BOX)) else {
         return Err(Doubt::REFUSED);
     };
     let head = raw.boxless();
@@ -156,7 +158,7 @@ fn take_further<R: IdRoom>(
     take_further_framed(room, cursor, depth, &head, &frame)
 }
 
-/// Reads a geometry as [`take_sure`] does, which has a box and an extended dimensions byte, and isn't empty.
+/// Reads a geometry as [`take_sure`] does, which has a size, a box and an extended dimensions byte, and isn't empty.
 // The extended dimensions byte is compared before the other fields are read, so the compiler knows here that there are both Z and M.
 // `begun_by` won't do: it speaks of a header only where the cursor is, and one more byte is read before the header goes on.
 #[cycle(take_flat)]
@@ -170,7 +172,7 @@ fn take_with_further_box<R: IdRoom>(
     metadata: u8,
 ) -> Result<usize, Doubt>
     requires begun { HasBegun depth above.now first metadata cursor.old }
-    requires bits { bit_and metadata 25 ≡ 9 }
+    requires fields { bit_and metadata 27 ≡ 11 }
     ensures { CertifiesAfterTwo depth above.now first metadata cursor.old result cursor.new }
 {
     let Some(begun) = begun_from(cursor.place() - 2, depth, first, metadata) else {
@@ -182,7 +184,7 @@ fn take_with_further_box<R: IdRoom>(
     if extended % 4 != Z_AND_M {
         return take_after_extended(room, cursor, depth, above, first, metadata, extended);
     }
-    let Ok(raw) = take_rest_after::<BoxInlined>(cursor, with_bits(begun, FURTHER_BOX), extended)
+    let Ok(raw) = take_rest_after::<BoxInlined>(cursor, with_fields(begun, SIZED_FURTHER_BOX), extended)
     else {
         return Err(Doubt::REFUSED);
     };
@@ -208,13 +210,13 @@ fn take_after_extended<R: IdRoom>(
     extended: u8,
 ) -> Result<usize, Doubt>
     requires begun { HasBegunFurther depth above.now first metadata extended cursor.old }
-    requires bits { bit_and metadata 25 ≡ 9 }
+    requires fields { bit_and metadata 27 ≡ 11 }
     ensures { CertifiesAfterThree depth above.now first metadata extended cursor.old result cursor.new }
 {
     let Some(begun) = begun_from(cursor.place() - 3, depth, first, metadata) else {
         return Err(Doubt::REFUSED);
     };
-    let Ok(raw) = take_rest_after::<BoxInlined>(cursor, with_bits(begun, FURTHER_BOX), extended)
+    let Ok(raw) = take_rest_after::<BoxInlined>(cursor, with_fields(begun, SIZED_FURTHER_BOX), extended)
     else {
         return Err(Doubt::REFUSED);
     };

@@ -92,19 +92,26 @@ two_back old new first metadata moved bytes =
     let long : length (passed old new) ≡ new.place - old.place = grind (arith, common_steps, moved.within) in
     omega (arith, ap length bytes, long, moved.ahead)
 
--- the bits of a metadata byte for a box, extended dimensions and no body
-pub box_bits : (metadata : ℕ) → bit_and metadata 0x19 ≡ metadata % 2 + 8 * (metadata / 8 % 4)
-box_bits metadata =
+-- the bits of a metadata byte for a box, a size, extended dimensions and no body
+pub field_bits : (metadata : ℕ) → bit_and metadata 0x1B ≡ metadata % 4 + 8 * (metadata / 8 % 4)
+field_bits metadata =
     let split : metadata ≡ metadata / 8 * 8 + metadata % 8 = omega arith in
-    let both = and_block 3 (metadata / 8) 3 (metadata % 8) 1 (omega arith) (omega arith) in
-    ap (λ x. bit_and x 0x19) split ∙ omega (arith, both, and_mask (metadata / 8) 2, and_mask (metadata % 8) 1)
+    let both = and_block 3 (metadata / 8) 3 (metadata % 8) 3 (omega arith) (omega arith) in
+    ap (λ x. bit_and x 0x1B) split ∙ omega (arith, both, and_mask (metadata / 8) 2, and_mask (metadata % 8) 2)
 
--- the bits of a metadata byte for a size and ids
-pub size_bits : (metadata : ℕ) → bit_and metadata 6 ≡ 2 * (metadata / 2 % 4)
-size_bits metadata =
-    let split : metadata ≡ metadata / 2 * 2 + metadata % 2 = omega arith in
-    let both = and_block 1 (metadata / 2) 3 (metadata % 2) 0 (omega arith) (omega arith) in
-    ap (λ x. bit_and x 6) split ∙ omega (arith, both, and_mask (metadata / 2) 2, and_le_r (metadata % 2) 0)
+-- the bits of a metadata byte for extended dimensions and no body
+pub further_bits : (metadata : ℕ) → bit_and metadata 0x18 ≡ 8 * (metadata / 8 % 4)
+further_bits metadata =
+    let split : metadata ≡ metadata / 8 * 8 + metadata % 8 = omega arith in
+    let both = and_block 3 (metadata / 8) 3 (metadata % 8) 0 (omega arith) (omega arith) in
+    ap (λ x. bit_and x 0x18) split ∙ omega (arith, both, and_mask (metadata / 8) 2, and_le_r (metadata % 8) 0)
+
+-- the bit of a metadata byte for ids
+pub ids_bit : (metadata : ℕ) → bit_and metadata 4 ≡ 4 * (metadata / 4 % 2)
+ids_bit metadata =
+    let split : metadata ≡ metadata / 4 * 4 + metadata % 4 = omega arith in
+    let both = and_block 2 (metadata / 4) 1 (metadata % 4) 0 (omega arith) (omega arith) in
+    ap (λ x. bit_and x 4) split ∙ omega (arith, both, and_mask (metadata / 4) 1, and_le_r (metadata % 4) 0)
 
 -- each kind is allowed at the first depth
 pub first_allowed : (kind : Kind) → IsAllowedAt kind 1

@@ -7,28 +7,42 @@ use twkb_head::Begun;
 /// Header").
 pub const NO_FIELD: u8 = 0;
 
-/// The bits of a metadata byte for a box, an extended dimensions byte and an empty geometry (TWKB specification, "Metadata
+/// The bits of a metadata byte for a box, a size, an extended dimensions byte and an empty geometry (TWKB specification, "Metadata
 /// Header").
-pub const FLAT_BOX_BITS: u8 = 0x19;
+pub const FIELDS: u8 = 0x1b;
 
-/// Of these bits, the one of a box.
-pub const BOX: u8 = 1;
+/// Of these bits, the two for a box and a size.
+pub const SIZED_BOX: u8 = 3;
 
-/// Of these bits, the two for a box and for an extended dimensions byte.
-pub const FURTHER_BOX: u8 = 9;
+/// Of these bits, the three for a box, a size and an extended dimensions byte.
+pub const SIZED_FURTHER_BOX: u8 = 0xb;
+
+/// Of these bits, the two for an extended dimensions byte and an empty geometry.
+pub const FURTHER_OR_EMPTY: u8 = 0x18;
 
 /// The lowest two bits of an extended dimensions byte that announces both Z and M (TWKB specification, "Extended Dimensions").
 pub const Z_AND_M: u8 = 3;
 
-/// The other two of the lowest five bits, for a size and ids.
-const SIZE_AND_IDS: u8 = 6;
+/// The bit of a metadata byte for ids.
+const IDS: u8 = 4;
 
-/// This header, whose metadata byte has these [`FLAT_BOX_BITS`]. If they are a constant, the compiler knows which fields there are.
+/// This header, whose metadata byte has these of the bits in [`FIELDS`]. If they are a constant, the compiler knows which fields there
+/// are.
 #[inline(always)]
-pub fn with_bits(begun: Begun, bits: u8) -> Begun
-    requires { bit_and begun.metadata 25 ≡ bits }
+pub fn with_fields(begun: Begun, fields: u8) -> Begun
+    requires { bit_and begun.metadata 27 ≡ fields }
     ensures announcing { result ≡ record begun { metadata = begun.metadata % 32 } }
-    ensures bits { bit_and result.metadata 25 ≡ bits }
+    ensures fields { bit_and result.metadata 27 ≡ fields }
 {
-    begun.announcing(bits + (begun.metadata & SIZE_AND_IDS))
+    begun.announcing(fields + (begun.metadata & IDS))
+}
+
+/// This header, which has no extended dimensions byte and isn't empty, so that the compiler knows it.
+#[inline(always)]
+pub fn as_flat(begun: Begun) -> Begun
+    requires { bit_and begun.metadata 24 ≡ 0 }
+    ensures announcing { result ≡ record begun { metadata = begun.metadata % 32 } }
+    ensures flat { bit_and result.metadata 24 ≡ 0 }
+{
+    begun.announcing(begun.metadata % 8)
 }

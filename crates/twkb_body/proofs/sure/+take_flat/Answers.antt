@@ -4,7 +4,7 @@ use Rattle.std.specs.Prelude.{◌<◌, bit_and}
 use Rattle.std.proofs.lemmas.Result.{err_from_is_err_and}
 use Rattle.twkb_num.specs.Cursor.{Reading, rest}
 use Rattle.twkb_head.proofs.HeadLaws.{header_two}
-use Rattle.twkb_head.proofs.HeadSteps.{box_bits, bits_same, two_back}
+use Rattle.twkb_head.proofs.HeadSteps.{field_bits, further_bits, bits_same, two_back}
 use Rattle.twkb_head.proofs.Rests.{no_further_byte}
 use Rattle.twkb_head.specs.BegunHeader.{deepest}
 use Rattle.twkb_head.specs.Shared.Reader.{Fails}
@@ -27,23 +27,27 @@ use Rattle.twkb_body.proofs.EachHeader.{many_certifies, one_certifies, two_axes}
 use Rattle.twkb_body.proofs.sure.+take_flat.Goals as goal
 
 -- without the bit of an extended dimensions byte there are X and Y alone
-flat_bits : (metadata bits : ℕ) → bits < 8 → bit_and metadata 25 ≡ bits → has_bit metadata 8 ≡ false
-flat_bits metadata bits few told = bits_same metadata 0 8 (omega (arith, few, told, box_bits metadata))
-
--- if the bits of a box and of an extended dimensions byte are set, this byte is announced
-further_bits : (metadata : ℕ) → bit_and metadata 25 ≡ 9 → has_bit metadata 8 ≡ true
-further_bits metadata told = bits_same metadata 8 8 (omega (arith, told, box_bits metadata))
-
--- without the bit of a box there is none
-unboxed_bits : (metadata : ℕ) → bit_and metadata 25 ≡ 0 → has_bit metadata 1 ≡ false
-unboxed_bits metadata told = bits_same metadata 0 1 (omega (arith, told, box_bits metadata))
+flat_bits : (metadata : ℕ) → bit_and metadata 24 ≡ 0 → has_bit metadata 8 ≡ false
+flat_bits metadata told = bits_same metadata 0 8 (omega (arith, told, further_bits metadata))
 
 -- without the bit of an empty geometry there is a body
-full_bits : (metadata bits : ℕ) → bits < 16 → bit_and metadata 25 ≡ bits → has_bit metadata 16 ≡ false
-full_bits metadata bits few told = bits_same metadata 0 16 (omega (arith, few, told, box_bits metadata))
+full_bits : (metadata : ℕ) → bit_and metadata 24 ≡ 0 → has_bit metadata 16 ≡ false
+full_bits metadata told = bits_same metadata 0 16 (omega (arith, told, further_bits metadata))
+
+-- where the fields are a box and a size, neither bit is set
+boxed_bits : (metadata : ℕ) → bit_and metadata 27 ≡ 3 → bit_and metadata 24 ≡ 0
+boxed_bits metadata told = omega (arith, told, field_bits metadata, further_bits metadata)
+
+-- where the fields are a box, a size and an extended dimensions byte, this byte is announced
+extended_bits : (metadata : ℕ) → bit_and metadata 27 ≡ 11 → has_bit metadata 8 ≡ true
+extended_bits metadata told = bits_same metadata 8 8 (omega (arith, told, field_bits metadata))
+
+-- and there is a body
+extended_full : (metadata : ℕ) → bit_and metadata 27 ≡ 11 → has_bit metadata 16 ≡ false
+extended_full metadata told = bits_same metadata 0 16 (omega (arith, told, field_bits metadata))
 
 pub take_flat-returns-in_default-take_rest : goal.take_flat-returns-in_default-take_rest
-take_flat-returns-in_default-take_rest g t c = rest_unread c.args.depth c.args.above.now c.requires.begun.shallowest c.requires.begun.deepest (bits_begin c.in-Some.ensures.some c.with_bits.ensures.announcing) c.in_default-take_rest.ensures.read c.in_default-take_rest.ensures.exact
+take_flat-returns-in_default-take_rest g t c = rest_unread c.args.depth c.args.above.now c.requires.begun.shallowest c.requires.begun.deepest (bits_begin c.in-Some.ensures.some c.as_flat.ensures.announcing) c.in_default-take_rest.ensures.read c.in_default-take_rest.ensures.exact
 
 pub take_flat-begun_by-requires-clause-read : goal.take_flat-begun_by-requires-clause-read
 take_flat-begun_by-requires-clause-read g t c = two_read _ _ _ c.requires.begun.before
@@ -142,8 +146,8 @@ take_members-returns-in_err-member g t c =
     (λ wrong. members_refute head (deepest - c.args.depth) inner c.args.cursor.now c.args.frame.now under full many c.take_list.new.cursor list.0 c.in_ok-list.list listed list.2 c.loop.counter c.loop.vertices c.loop.cursor c.loop-test.true l wrong)
     (λ wants. wants_members head c.args.depth c.args.cursor.now full many (member_ids list.0 c.take_list.new.cursor c.loop.cursor c.loop.counter l.loop.front listed (omega (arith, c.loop-test.true, list.2.count)) l.loop.so_far wants)) one)
 
-pub take_flat-with_bits-requires : goal.take_flat-with_bits-requires
-take_flat-with_bits-requires g t c = ap (λ n. bit_and n 25) c.in-Some.ensures.metadata ∙ c.requires.bits
+pub take_flat-as_flat-requires : goal.take_flat-as_flat-requires
+take_flat-as_flat-requires g t c = ap (λ n. bit_and n 24) c.in-Some.ensures.metadata ∙ c.requires.bits
 
 pub take_with_box-begun_by-requires-clause-read : goal.take_with_box-begun_by-requires-clause-read
 take_with_box-begun_by-requires-clause-read g t c = two_read _ _ _ c.requires.begun.before
@@ -152,10 +156,10 @@ pub take_with_box-returns-in_default : goal.take_with_box-returns-in_default
 take_with_box-returns-in_default g t c = none_begins c.args.depth c.args.above.now c.requires.begun.shallowest c.requires.begun.deepest c.in_default.ensures.none
 
 pub take_with_box-returns-in_default-take_rest : goal.take_with_box-returns-in_default-take_rest
-take_with_box-returns-in_default-take_rest g t c = rest_unread c.args.depth c.args.above.now c.requires.begun.shallowest c.requires.begun.deepest (bits_begin c.in-Some.ensures.some c.with_bits.ensures.announcing) c.in_default-take_rest.ensures.read c.in_default-take_rest.ensures.exact
+take_with_box-returns-in_default-take_rest g t c = rest_unread c.args.depth c.args.above.now c.requires.begun.shallowest c.requires.begun.deepest (bits_begin c.in-Some.ensures.some c.with_fields.ensures.announcing) c.in_default-take_rest.ensures.read c.in_default-take_rest.ensures.exact
 
-pub take_with_box-with_bits-requires : goal.take_with_box-with_bits-requires
-take_with_box-with_bits-requires g t c = ap (λ n. bit_and n 25) c.in-Some.ensures.metadata ∙ c.requires.bits
+pub take_with_box-with_fields-requires : goal.take_with_box-with_fields-requires
+take_with_box-with_fields-requires g t c = ap (λ n. bit_and n 27) c.in-Some.ensures.metadata ∙ c.requires.fields
 
 pub take_with_further_box-returns-in_default : goal.take_with_further_box-returns-in_default
 take_with_further_box-returns-in_default g t c = none_begins c.args.depth c.args.above.now c.requires.begun.shallowest c.requires.begun.deepest (λ before. c.in_default.ensures.none before c.args.cursor.now)
@@ -163,7 +167,7 @@ take_with_further_box-returns-in_default g t c = none_begins c.args.depth c.args
 pub take_with_further_box-returns-in_default-byte : goal.take_with_further_box-returns-in_default-byte
 take_with_further_box-returns-in_default-byte g t c = λ before two.
     let begins = c.in-Some.ensures.some before c.args.cursor.now two.sound two.moved two.bytes (omega (arith, c.place.ensures.value, two_back before c.args.cursor.now _ _ two.moved two.bytes)) in
-    let announced = ap (λ n. has_bit n 8) c.in-Some.ensures.metadata ∙ further_bits c.args.metadata c.requires.bits in (
+    let announced = ap (λ n. has_bit n 8) c.in-Some.ensures.metadata ∙ extended_bits c.args.metadata c.requires.fields in (
       ap (λ (q : Reading). q.bytes) c.in_default-byte.ensures.none ∙ two.moved.bytes,
       no_header_refutes c.args.depth c.args.above.now before c.requires.begun.shallowest c.requires.begun.deepest two.sound
           (no_further_byte c.in-Some.begun c.args.depth before c.args.cursor.now c.args.cursor.now two.sound begins announced (c.in_default-byte.ensures.end.0 refl)),
@@ -177,71 +181,71 @@ take_with_further_box-take_after_extended-requires g t c κs within =
 pub take_with_further_box-returns-then-extended-ne-Z_AND_M : goal.take_with_further_box-returns-then-extended-ne-Z_AND_M
 take_with_further_box-returns-then-extended-ne-Z_AND_M g t c = λ before two. c.take_after_extended.ensures before (three_read two c.in-Some-byte.ensures.some c.in-Some-byte.ensures.moved)
 
-pub take_with_further_box-with_bits-requires : goal.take_with_further_box-with_bits-requires
-take_with_further_box-with_bits-requires g t c = ap (λ n. bit_and n 25) c.in-Some.ensures.metadata ∙ c.requires.bits
+pub take_with_further_box-with_fields-requires : goal.take_with_further_box-with_fields-requires
+take_with_further_box-with_fields-requires g t c = ap (λ n. bit_and n 27) c.in-Some.ensures.metadata ∙ c.requires.fields
 
 pub take_with_further_box-take_rest_after-requires-clause-announced : goal.take_with_further_box-take_rest_after-requires-clause-announced
-take_with_further_box-take_rest_after-requires-clause-announced g t c = further_bits c.with_bits.result.metadata c.with_bits.ensures.bits
+take_with_further_box-take_rest_after-requires-clause-announced g t c = extended_bits c.with_fields.result.metadata c.with_fields.ensures.fields
 
 pub take_with_further_box-returns-in_default-take_rest_after : goal.take_with_further_box-returns-in_default-take_rest_after
 take_with_further_box-returns-in_default-take_rest_after g t c = λ before two.
-    further_unread (byte_read c.requires.begun c.in-Some-byte.ensures.some c.in-Some-byte.ensures.moved) (three_bits (byte_begins c.requires.begun c.in-Some-byte.ensures.some c.in-Some-byte.ensures.moved c.in-Some.ensures.some (omega (arith, c.place.ensures.value, two_read _ _ _ c.requires.begun.before))) c.with_bits.ensures.announcing) c.in_default-take_rest_after.ensures.read c.in_default-take_rest_after.ensures.exact before (three_read two c.in-Some-byte.ensures.some c.in-Some-byte.ensures.moved)
+    further_unread (byte_read c.requires.begun c.in-Some-byte.ensures.some c.in-Some-byte.ensures.moved) (three_bits (byte_begins c.requires.begun c.in-Some-byte.ensures.some c.in-Some-byte.ensures.moved c.in-Some.ensures.some (omega (arith, c.place.ensures.value, two_read _ _ _ c.requires.begun.before))) c.with_fields.ensures.announcing) c.in_default-take_rest_after.ensures.read c.in_default-take_rest_after.ensures.exact before (three_read two c.in-Some-byte.ensures.some c.in-Some-byte.ensures.moved)
 
 pub take_with_further_box-take_further_apart-requires-clause-head : goal.take_with_further_box-take_further_apart-requires-clause-head
-take_with_further_box-take_further_apart-requires-clause-head g t c = header_read (further_read (byte_read c.requires.begun c.in-Some-byte.ensures.some c.in-Some-byte.ensures.moved) (three_bits (byte_begins c.requires.begun c.in-Some-byte.ensures.some c.in-Some-byte.ensures.moved c.in-Some.ensures.some (omega (arith, c.place.ensures.value, two_read _ _ _ c.requires.begun.before))) c.with_bits.ensures.announcing) c.in-Ok.raw c.in-Ok.ensures.read) (c.in-Ok.ensures.empty ∙ full_bits c.with_bits.result.metadata 9 (omega arith) c.with_bits.ensures.bits)
+take_with_further_box-take_further_apart-requires-clause-head g t c = header_read (further_read (byte_read c.requires.begun c.in-Some-byte.ensures.some c.in-Some-byte.ensures.moved) (three_bits (byte_begins c.requires.begun c.in-Some-byte.ensures.some c.in-Some-byte.ensures.moved c.in-Some.ensures.some (omega (arith, c.place.ensures.value, two_read _ _ _ c.requires.begun.before))) c.with_fields.ensures.announcing) c.in-Ok.raw c.in-Ok.ensures.read) (c.in-Ok.ensures.empty ∙ extended_full c.with_fields.result.metadata c.with_fields.ensures.fields)
 
 pub take_with_further_box-returns-in_default-further_frame : goal.take_with_further_box-returns-in_default-further_frame
-take_with_further_box-returns-in_default-further_frame g t c = λ before two. header_certifies (further_read (byte_read c.requires.begun c.in-Some-byte.ensures.some c.in-Some-byte.ensures.moved) (three_bits (byte_begins c.requires.begun c.in-Some-byte.ensures.some c.in-Some-byte.ensures.moved c.in-Some.ensures.some (omega (arith, c.place.ensures.value, two_read _ _ _ c.requires.begun.before))) c.with_bits.ensures.announcing) c.in-Ok.raw c.in-Ok.ensures.read) _ _ c.take_further_apart.ensures before (three_read two c.in-Some-byte.ensures.some c.in-Some-byte.ensures.moved)
+take_with_further_box-returns-in_default-further_frame g t c = λ before two. header_certifies (further_read (byte_read c.requires.begun c.in-Some-byte.ensures.some c.in-Some-byte.ensures.moved) (three_bits (byte_begins c.requires.begun c.in-Some-byte.ensures.some c.in-Some-byte.ensures.moved c.in-Some.ensures.some (omega (arith, c.place.ensures.value, two_read _ _ _ c.requires.begun.before))) c.with_fields.ensures.announcing) c.in-Ok.raw c.in-Ok.ensures.read) _ _ c.take_further_apart.ensures before (three_read two c.in-Some-byte.ensures.some c.in-Some-byte.ensures.moved)
 
 pub take_with_further_box-take_further_body-requires : goal.take_with_further_box-take_further_body-requires
 take_with_further_box-take_further_body-requires g t c κs within =
-    let ready = header_framed (further_read (byte_read c.requires.begun c.in-Some-byte.ensures.some c.in-Some-byte.ensures.moved) (three_bits (byte_begins c.requires.begun c.in-Some-byte.ensures.some c.in-Some-byte.ensures.moved c.in-Some.ensures.some (omega (arith, c.place.ensures.value, two_read _ _ _ c.requires.begun.before))) c.with_bits.ensures.announcing) c.in-Ok.raw c.in-Ok.ensures.read) (c.in-Ok.ensures.empty ∙ full_bits c.with_bits.result.metadata 9 (omega arith) c.with_bits.ensures.bits) c.boxless-head.ensures c.in-Some-further_frame.ensures.further c.in-Some-further_frame.ensures.frame.framed in
+    let ready = header_framed (further_read (byte_read c.requires.begun c.in-Some-byte.ensures.some c.in-Some-byte.ensures.moved) (three_bits (byte_begins c.requires.begun c.in-Some-byte.ensures.some c.in-Some-byte.ensures.moved c.in-Some.ensures.some (omega (arith, c.place.ensures.value, two_read _ _ _ c.requires.begun.before))) c.with_fields.ensures.announcing) c.in-Ok.raw c.in-Ok.ensures.read) (c.in-Ok.ensures.empty ∙ extended_full c.with_fields.result.metadata c.with_fields.ensures.fields) c.boxless-head.ensures c.in-Some-further_frame.ensures.further c.in-Some-further_frame.ensures.frame.framed in
     let body = ready.body in
     search rules
 
 pub take_with_further_box-returns-in_err-vertices : goal.take_with_further_box-returns-in_err-vertices
 take_with_further_box-returns-in_err-vertices g t c = λ before two.
-    let ready = header_framed (further_read (byte_read c.requires.begun c.in-Some-byte.ensures.some c.in-Some-byte.ensures.moved) (three_bits (byte_begins c.requires.begun c.in-Some-byte.ensures.some c.in-Some-byte.ensures.moved c.in-Some.ensures.some (omega (arith, c.place.ensures.value, two_read _ _ _ c.requires.begun.before))) c.with_bits.ensures.announcing) c.in-Ok.raw c.in-Ok.ensures.read) (c.in-Ok.ensures.empty ∙ full_bits c.with_bits.result.metadata 9 (omega arith) c.with_bits.ensures.bits) c.boxless-head.ensures c.in-Some-further_frame.ensures.further c.in-Some-further_frame.ensures.frame.framed in
+    let ready = header_framed (further_read (byte_read c.requires.begun c.in-Some-byte.ensures.some c.in-Some-byte.ensures.moved) (three_bits (byte_begins c.requires.begun c.in-Some-byte.ensures.some c.in-Some-byte.ensures.moved c.in-Some.ensures.some (omega (arith, c.place.ensures.value, two_read _ _ _ c.requires.begun.before))) c.with_fields.ensures.announcing) c.in-Ok.raw c.in-Ok.ensures.read) (c.in-Ok.ensures.empty ∙ extended_full c.with_fields.result.metadata c.with_fields.ensures.fields) c.boxless-head.ensures c.in-Some-further_frame.ensures.further c.in-Some-further_frame.ensures.frame.framed in
     let p = err_from_is_err_and c.from_residual.result c.from_residual.ensures.1 in
     let doubts = framed_doubts ready c.take_further_body.new.cursor _ c.in_err-vertices.ensures c.args.above.now c.in-Ok.raw c.boxless-head.ensures c.in-Some-further_frame.ensures.frame in
-    rw (p.1, p.2) (header_certifies (further_read (byte_read c.requires.begun c.in-Some-byte.ensures.some c.in-Some-byte.ensures.moved) (three_bits (byte_begins c.requires.begun c.in-Some-byte.ensures.some c.in-Some-byte.ensures.moved c.in-Some.ensures.some (omega (arith, c.place.ensures.value, two_read _ _ _ c.requires.begun.before))) c.with_bits.ensures.announcing) c.in-Ok.raw c.in-Ok.ensures.read) (Err c.in_err-vertices.field-0.0) c.take_further_body.new.cursor doubts before (three_read two c.in-Some-byte.ensures.some c.in-Some-byte.ensures.moved))
+    rw (p.1, p.2) (header_certifies (further_read (byte_read c.requires.begun c.in-Some-byte.ensures.some c.in-Some-byte.ensures.moved) (three_bits (byte_begins c.requires.begun c.in-Some-byte.ensures.some c.in-Some-byte.ensures.moved c.in-Some.ensures.some (omega (arith, c.place.ensures.value, two_read _ _ _ c.requires.begun.before))) c.with_fields.ensures.announcing) c.in-Ok.raw c.in-Ok.ensures.read) (Err c.in_err-vertices.field-0.0) c.take_further_body.new.cursor doubts before (three_read two c.in-Some-byte.ensures.some c.in-Some-byte.ensures.moved))
 
 pub take_with_further_box-judged-requires : goal.take_with_further_box-judged-requires
 take_with_further_box-judged-requires g t c =
-    let ready = header_framed (further_read (byte_read c.requires.begun c.in-Some-byte.ensures.some c.in-Some-byte.ensures.moved) (three_bits (byte_begins c.requires.begun c.in-Some-byte.ensures.some c.in-Some-byte.ensures.moved c.in-Some.ensures.some (omega (arith, c.place.ensures.value, two_read _ _ _ c.requires.begun.before))) c.with_bits.ensures.announcing) c.in-Ok.raw c.in-Ok.ensures.read) (c.in-Ok.ensures.empty ∙ full_bits c.with_bits.result.metadata 9 (omega arith) c.with_bits.ensures.bits) c.boxless-head.ensures c.in-Some-further_frame.ensures.further c.in-Some-further_frame.ensures.frame.framed in
+    let ready = header_framed (further_read (byte_read c.requires.begun c.in-Some-byte.ensures.some c.in-Some-byte.ensures.moved) (three_bits (byte_begins c.requires.begun c.in-Some-byte.ensures.some c.in-Some-byte.ensures.moved c.in-Some.ensures.some (omega (arith, c.place.ensures.value, two_read _ _ _ c.requires.begun.before))) c.with_fields.ensures.announcing) c.in-Ok.raw c.in-Ok.ensures.read) (c.in-Ok.ensures.empty ∙ extended_full c.with_fields.result.metadata c.with_fields.ensures.fields) c.boxless-head.ensures c.in-Some-further_frame.ensures.further c.in-Some-further_frame.ensures.frame.framed in
     size_later ready c.take_further_body.new.cursor (omega (arith, c.in_ok-vertices.ensures.inside.few))
 
 pub take_with_further_box-returns : goal.take_with_further_box-returns
 take_with_further_box-returns g t c = λ before two.
-    let ready = header_framed (further_read (byte_read c.requires.begun c.in-Some-byte.ensures.some c.in-Some-byte.ensures.moved) (three_bits (byte_begins c.requires.begun c.in-Some-byte.ensures.some c.in-Some-byte.ensures.moved c.in-Some.ensures.some (omega (arith, c.place.ensures.value, two_read _ _ _ c.requires.begun.before))) c.with_bits.ensures.announcing) c.in-Ok.raw c.in-Ok.ensures.read) (c.in-Ok.ensures.empty ∙ full_bits c.with_bits.result.metadata 9 (omega arith) c.with_bits.ensures.bits) c.boxless-head.ensures c.in-Some-further_frame.ensures.further c.in-Some-further_frame.ensures.frame.framed in
+    let ready = header_framed (further_read (byte_read c.requires.begun c.in-Some-byte.ensures.some c.in-Some-byte.ensures.moved) (three_bits (byte_begins c.requires.begun c.in-Some-byte.ensures.some c.in-Some-byte.ensures.moved c.in-Some.ensures.some (omega (arith, c.place.ensures.value, two_read _ _ _ c.requires.begun.before))) c.with_fields.ensures.announcing) c.in-Ok.raw c.in-Ok.ensures.read) (c.in-Ok.ensures.empty ∙ extended_full c.with_fields.result.metadata c.with_fields.ensures.fields) c.boxless-head.ensures c.in-Some-further_frame.ensures.further c.in-Some-further_frame.ensures.frame.framed in
     let certifies = framed_certifies ready c.take_further_body.new.cursor c.in_ok-vertices.vertices c.judged.result c.in_ok-vertices.ensures c.judged.ensures.judged c.args.above.now c.in-Ok.raw c.boxless-head.ensures c.in-Some-further_frame.ensures.frame in
-    rw c.judged.ensures.still (header_certifies (further_read (byte_read c.requires.begun c.in-Some-byte.ensures.some c.in-Some-byte.ensures.moved) (three_bits (byte_begins c.requires.begun c.in-Some-byte.ensures.some c.in-Some-byte.ensures.moved c.in-Some.ensures.some (omega (arith, c.place.ensures.value, two_read _ _ _ c.requires.begun.before))) c.with_bits.ensures.announcing) c.in-Ok.raw c.in-Ok.ensures.read) _ _ certifies before (three_read two c.in-Some-byte.ensures.some c.in-Some-byte.ensures.moved))
+    rw c.judged.ensures.still (header_certifies (further_read (byte_read c.requires.begun c.in-Some-byte.ensures.some c.in-Some-byte.ensures.moved) (three_bits (byte_begins c.requires.begun c.in-Some-byte.ensures.some c.in-Some-byte.ensures.moved c.in-Some.ensures.some (omega (arith, c.place.ensures.value, two_read _ _ _ c.requires.begun.before))) c.with_fields.ensures.announcing) c.in-Ok.raw c.in-Ok.ensures.read) _ _ certifies before (three_read two c.in-Some-byte.ensures.some c.in-Some-byte.ensures.moved))
 
 pub take_after_extended-returns-in_default : goal.take_after_extended-returns-in_default
 take_after_extended-returns-in_default g t c = none_further c.requires.begun c.in_default.ensures.none
 
-pub take_after_extended-with_bits-requires : goal.take_after_extended-with_bits-requires
-take_after_extended-with_bits-requires g t c = ap (λ n. bit_and n 25) c.in-Some.ensures.metadata ∙ c.requires.bits
+pub take_after_extended-with_fields-requires : goal.take_after_extended-with_fields-requires
+take_after_extended-with_fields-requires g t c = ap (λ n. bit_and n 27) c.in-Some.ensures.metadata ∙ c.requires.fields
 
 pub take_after_extended-take_rest_after-requires-clause-announced : goal.take_after_extended-take_rest_after-requires-clause-announced
-take_after_extended-take_rest_after-requires-clause-announced g t c = further_bits c.with_bits.result.metadata c.with_bits.ensures.bits
+take_after_extended-take_rest_after-requires-clause-announced g t c = extended_bits c.with_fields.result.metadata c.with_fields.ensures.fields
 
 pub take_after_extended-returns-in_default-take_rest_after : goal.take_after_extended-returns-in_default-take_rest_after
-take_after_extended-returns-in_default-take_rest_after g t c = further_unread c.requires.begun (three_bits (three_begin c.in-Some.ensures.some (omega (arith, c.place.ensures.value, three_back c.requires.begun.before.1))) c.with_bits.ensures.announcing) c.in_default-take_rest_after.ensures.read c.in_default-take_rest_after.ensures.exact
+take_after_extended-returns-in_default-take_rest_after g t c = further_unread c.requires.begun (three_bits (three_begin c.in-Some.ensures.some (omega (arith, c.place.ensures.value, three_back c.requires.begun.before.1))) c.with_fields.ensures.announcing) c.in_default-take_rest_after.ensures.read c.in_default-take_rest_after.ensures.exact
 
 pub take_after_extended-take_further_apart-requires-clause-head : goal.take_after_extended-take_further_apart-requires-clause-head
-take_after_extended-take_further_apart-requires-clause-head g t c = header_read (further_read c.requires.begun (three_bits (three_begin c.in-Some.ensures.some (omega (arith, c.place.ensures.value, three_back c.requires.begun.before.1))) c.with_bits.ensures.announcing) c.in-Ok.raw c.in-Ok.ensures.read) (c.in-Ok.ensures.empty ∙ full_bits c.with_bits.result.metadata 9 (omega arith) c.with_bits.ensures.bits)
+take_after_extended-take_further_apart-requires-clause-head g t c = header_read (further_read c.requires.begun (three_bits (three_begin c.in-Some.ensures.some (omega (arith, c.place.ensures.value, three_back c.requires.begun.before.1))) c.with_fields.ensures.announcing) c.in-Ok.raw c.in-Ok.ensures.read) (c.in-Ok.ensures.empty ∙ extended_full c.with_fields.result.metadata c.with_fields.ensures.fields)
 
 pub take_after_extended-returns-in_default-further_frame : goal.take_after_extended-returns-in_default-further_frame
-take_after_extended-returns-in_default-further_frame g t c = header_certifies (further_read c.requires.begun (three_bits (three_begin c.in-Some.ensures.some (omega (arith, c.place.ensures.value, three_back c.requires.begun.before.1))) c.with_bits.ensures.announcing) c.in-Ok.raw c.in-Ok.ensures.read) _ _ c.take_further_apart.ensures
+take_after_extended-returns-in_default-further_frame g t c = header_certifies (further_read c.requires.begun (three_bits (three_begin c.in-Some.ensures.some (omega (arith, c.place.ensures.value, three_back c.requires.begun.before.1))) c.with_fields.ensures.announcing) c.in-Ok.raw c.in-Ok.ensures.read) _ _ c.take_further_apart.ensures
 
 pub take_after_extended-take_further_framed-requires : goal.take_after_extended-take_further_framed-requires
 take_after_extended-take_further_framed-requires g t c κs within =
-    let ready = header_framed (further_read c.requires.begun (three_bits (three_begin c.in-Some.ensures.some (omega (arith, c.place.ensures.value, three_back c.requires.begun.before.1))) c.with_bits.ensures.announcing) c.in-Ok.raw c.in-Ok.ensures.read) (c.in-Ok.ensures.empty ∙ full_bits c.with_bits.result.metadata 9 (omega arith) c.with_bits.ensures.bits) c.boxless-head.ensures c.in-Some-further_frame.ensures.further c.in-Some-further_frame.ensures.frame.framed in
+    let ready = header_framed (further_read c.requires.begun (three_bits (three_begin c.in-Some.ensures.some (omega (arith, c.place.ensures.value, three_back c.requires.begun.before.1))) c.with_fields.ensures.announcing) c.in-Ok.raw c.in-Ok.ensures.read) (c.in-Ok.ensures.empty ∙ extended_full c.with_fields.result.metadata c.with_fields.ensures.fields) c.boxless-head.ensures c.in-Some-further_frame.ensures.further c.in-Some-further_frame.ensures.frame.framed in
     search rules
 
 pub take_after_extended-returns : goal.take_after_extended-returns
-take_after_extended-returns g t c = header_certifies (further_read c.requires.begun (three_bits (three_begin c.in-Some.ensures.some (omega (arith, c.place.ensures.value, three_back c.requires.begun.before.1))) c.with_bits.ensures.announcing) c.in-Ok.raw c.in-Ok.ensures.read) _ _ (c.take_further_framed.ensures c.args.above.now c.in-Ok.raw c.boxless-head.ensures c.in-Some-further_frame.ensures.frame)
+take_after_extended-returns g t c = header_certifies (further_read c.requires.begun (three_bits (three_begin c.in-Some.ensures.some (omega (arith, c.place.ensures.value, three_back c.requires.begun.before.1))) c.with_fields.ensures.announcing) c.in-Ok.raw c.in-Ok.ensures.read) _ _ (c.take_further_framed.ensures c.args.above.now c.in-Ok.raw c.boxless-head.ensures c.in-Some-further_frame.ensures.frame)
 
 pub take_flat_framed-returns-in_err-vertices : goal.take_flat_framed-returns-in_err-vertices
 take_flat_framed-returns-in_err-vertices g t c =
@@ -255,41 +259,38 @@ pub take_flat_framed-returns : goal.take_flat_framed-returns
 take_flat_framed-returns g t c = rw c.judged.ensures.still (framed_certifies c.requires c.take_flat_body.new.cursor c.in_ok-vertices.vertices c.judged.result c.in_ok-vertices.ensures c.judged.ensures.judged)
 
 pub take_flat-take_flat_apart-requires-clause-head : goal.take_flat-take_flat_apart-requires-clause-head
-take_flat-take_flat_apart-requires-clause-head g t c = header_read (rest_read c.in-Ok.raw c.requires.begun (bits_begin c.in-Some.ensures.some c.with_bits.ensures.announcing) c.in-Ok.ensures.read) (c.in-Ok.ensures.empty ∙ full_bits c.with_bits.result.metadata 0 (omega arith) c.with_bits.ensures.bits)
+take_flat-take_flat_apart-requires-clause-head g t c = header_read (rest_read c.in-Ok.raw c.requires.begun (bits_begin c.in-Some.ensures.some c.as_flat.ensures.announcing) c.in-Ok.ensures.read) (c.in-Ok.ensures.empty ∙ full_bits c.as_flat.result.metadata c.as_flat.ensures.flat)
 
 pub take_flat-take_flat_apart-requires-clause-flat : goal.take_flat-take_flat_apart-requires-clause-flat
-take_flat-take_flat_apart-requires-clause-flat g t c = c.in-Ok.ensures.flat (flat_bits c.with_bits.result.metadata 0 (omega arith) c.with_bits.ensures.bits)
+take_flat-take_flat_apart-requires-clause-flat g t c = c.in-Ok.ensures.flat (flat_bits c.as_flat.result.metadata c.as_flat.ensures.flat)
 
 pub take_flat-returns-in_default-under : goal.take_flat-returns-in_default-under
-take_flat-returns-in_default-under g t c = header_certifies (rest_read c.in-Ok.raw c.requires.begun (bits_begin c.in-Some.ensures.some c.with_bits.ensures.announcing) c.in-Ok.ensures.read) _ _ c.take_flat_apart.ensures
+take_flat-returns-in_default-under g t c = header_certifies (rest_read c.in-Ok.raw c.requires.begun (bits_begin c.in-Some.ensures.some c.as_flat.ensures.announcing) c.in-Ok.ensures.read) _ _ c.take_flat_apart.ensures
 
 pub take_flat-take_flat_framed-requires : goal.take_flat-take_flat_framed-requires
 take_flat-take_flat_framed-requires g t c κs within =
-    let ready = header_framed (rest_read c.in-Ok.raw c.requires.begun (bits_begin c.in-Some.ensures.some c.with_bits.ensures.announcing) c.in-Ok.ensures.read) (c.in-Ok.ensures.empty ∙ full_bits c.with_bits.result.metadata 0 (omega arith) c.with_bits.ensures.bits) c.boxless-head.ensures (no_further c.in-Ok.raw c.boxless-head.ensures (c.in-Ok.ensures.flat (flat_bits c.with_bits.result.metadata 0 (omega arith) c.with_bits.ensures.bits))) c.in-Some-under.ensures.framed in
+    let ready = header_framed (rest_read c.in-Ok.raw c.requires.begun (bits_begin c.in-Some.ensures.some c.as_flat.ensures.announcing) c.in-Ok.ensures.read) (c.in-Ok.ensures.empty ∙ full_bits c.as_flat.result.metadata c.as_flat.ensures.flat) c.boxless-head.ensures (no_further c.in-Ok.raw c.boxless-head.ensures (c.in-Ok.ensures.flat (flat_bits c.as_flat.result.metadata c.as_flat.ensures.flat))) c.in-Some-under.ensures.framed in
     search rules
 
 pub take_flat-returns : goal.take_flat-returns
-take_flat-returns g t c =
-    let none : c.in-Ok.raw.bounds ≡ None = c.in-Ok.ensures.no_box (unboxed_bits c.with_bits.result.metadata c.with_bits.ensures.bits) in
-    let under = subst (λ (box : Option RawBox). IsFrameUnder c.args.above.now c.boxless-head.result (option_map (framed c.boxless-head.result) box) c.in-Some-under.frame) (sym none) c.in-Some-under.ensures in
-    header_certifies (rest_read c.in-Ok.raw c.requires.begun (bits_begin c.in-Some.ensures.some c.with_bits.ensures.announcing) c.in-Ok.ensures.read) _ _ (c.take_flat_framed.ensures c.args.above.now c.in-Ok.raw c.boxless-head.ensures under)
+take_flat-returns g t c = header_certifies (rest_read c.in-Ok.raw c.requires.begun (bits_begin c.in-Some.ensures.some c.as_flat.ensures.announcing) c.in-Ok.ensures.read) _ _ (c.take_flat_framed.ensures c.args.above.now c.in-Ok.raw c.boxless-head.ensures c.in-Some-under.ensures)
 
 pub take_with_box-take_flat_apart-requires-clause-head : goal.take_with_box-take_flat_apart-requires-clause-head
-take_with_box-take_flat_apart-requires-clause-head g t c = header_read (rest_read c.in-Ok.raw c.requires.begun (bits_begin c.in-Some.ensures.some c.with_bits.ensures.announcing) c.in-Ok.ensures.read) (c.in-Ok.ensures.empty ∙ full_bits c.with_bits.result.metadata 1 (omega arith) c.with_bits.ensures.bits)
+take_with_box-take_flat_apart-requires-clause-head g t c = header_read (rest_read c.in-Ok.raw c.requires.begun (bits_begin c.in-Some.ensures.some c.with_fields.ensures.announcing) c.in-Ok.ensures.read) (c.in-Ok.ensures.empty ∙ full_bits _ (boxed_bits c.with_fields.result.metadata c.with_fields.ensures.fields))
 
 pub take_with_box-take_flat_apart-requires-clause-flat : goal.take_with_box-take_flat_apart-requires-clause-flat
-take_with_box-take_flat_apart-requires-clause-flat g t c = c.in-Ok.ensures.flat (flat_bits c.with_bits.result.metadata 1 (omega arith) c.with_bits.ensures.bits)
+take_with_box-take_flat_apart-requires-clause-flat g t c = c.in-Ok.ensures.flat (flat_bits _ (boxed_bits c.with_fields.result.metadata c.with_fields.ensures.fields))
 
 pub take_with_box-returns-in_default-under : goal.take_with_box-returns-in_default-under
-take_with_box-returns-in_default-under g t c = header_certifies (rest_read c.in-Ok.raw c.requires.begun (bits_begin c.in-Some.ensures.some c.with_bits.ensures.announcing) c.in-Ok.ensures.read) _ _ c.take_flat_apart.ensures
+take_with_box-returns-in_default-under g t c = header_certifies (rest_read c.in-Ok.raw c.requires.begun (bits_begin c.in-Some.ensures.some c.with_fields.ensures.announcing) c.in-Ok.ensures.read) _ _ c.take_flat_apart.ensures
 
 pub take_with_box-take_flat_framed-requires : goal.take_with_box-take_flat_framed-requires
 take_with_box-take_flat_framed-requires g t c κs within =
-    let ready = header_framed (rest_read c.in-Ok.raw c.requires.begun (bits_begin c.in-Some.ensures.some c.with_bits.ensures.announcing) c.in-Ok.ensures.read) (c.in-Ok.ensures.empty ∙ full_bits c.with_bits.result.metadata 1 (omega arith) c.with_bits.ensures.bits) c.boxless-head.ensures (no_further c.in-Ok.raw c.boxless-head.ensures (c.in-Ok.ensures.flat (flat_bits c.with_bits.result.metadata 1 (omega arith) c.with_bits.ensures.bits))) c.in-Some-under.ensures.framed in
+    let ready = header_framed (rest_read c.in-Ok.raw c.requires.begun (bits_begin c.in-Some.ensures.some c.with_fields.ensures.announcing) c.in-Ok.ensures.read) (c.in-Ok.ensures.empty ∙ full_bits _ (boxed_bits c.with_fields.result.metadata c.with_fields.ensures.fields)) c.boxless-head.ensures (no_further c.in-Ok.raw c.boxless-head.ensures (c.in-Ok.ensures.flat (flat_bits _ (boxed_bits c.with_fields.result.metadata c.with_fields.ensures.fields)))) c.in-Some-under.ensures.framed in
     search rules
 
 pub take_with_box-returns : goal.take_with_box-returns
-take_with_box-returns g t c = header_certifies (rest_read c.in-Ok.raw c.requires.begun (bits_begin c.in-Some.ensures.some c.with_bits.ensures.announcing) c.in-Ok.ensures.read) _ _ (c.take_flat_framed.ensures c.args.above.now c.in-Ok.raw c.boxless-head.ensures c.in-Some-under.ensures)
+take_with_box-returns g t c = header_certifies (rest_read c.in-Ok.raw c.requires.begun (bits_begin c.in-Some.ensures.some c.with_fields.ensures.announcing) c.in-Ok.ensures.read) _ _ (c.take_flat_framed.ensures c.args.above.now c.in-Ok.raw c.boxless-head.ensures c.in-Some-under.ensures)
 
 pub take_flat_body-returns-then-is_multi : goal.take_flat_body-returns-then-is_multi
 take_flat_body-returns-then-is_multi g t c = c.take_flat_many.ensures c.args.head.now c.requires.full refl refl (two_axes c.args.head.now.z c.args.head.now.m c.requires.axes) c.requires.framed
