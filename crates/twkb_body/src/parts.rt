@@ -3,13 +3,13 @@
 //! Used by `shape`, `sure/parts` and `sure/shapes`.
 ghost use Rattle.std.specs.Prelude.{◌≡◌, ◌⊎◌, ℕ, List, flat_map, false};
 ghost use Rattle.twkb_head.specs.declared.kinds.Kind.{Kind};
-ghost use Rattle.twkb_head.specs.declared.kinds.Kind.TheVariants.{Point, LineString, Polygon, MultiPolygon};
+ghost use Rattle.twkb_head.specs.declared.kinds.Kind.TheVariants.{Polygon, MultiPolygon};
 ghost use Rattle.twkb_head.specs.Header.{is_multi};
 ghost use Rattle.twkb_head.specs.Shared.Reader.{Reader, many_at};
 ghost use Rattle.twkb_body.specs.Geometry.{PointValue, points_of};
 ghost use Rattle.twkb_body.specs.Devices.Body.{add, sums};
 ghost use Rattle.twkb_body.specs.Devices.BodyReader.{point_at, prefixed_at, lines_at, many_parts_at};
-ghost use Rattle.twkb_body.specs.Devices.PointReader.{IsReady, ReadsOrEnds, HasLength};
+ghost use Rattle.twkb_body.specs.Devices.PointReader.{IsReady, ReadsOrEnds, HasLength, HasRings};
 
 use crate::point_reader::PointReader;
 use crate::varints::take_number;
@@ -72,7 +72,8 @@ pub trait PartLoop {
             (R.stands reader.new) result cursor.old cursor.new };
 }
 
-/// Reads a point, a line or a polygon. A point is a line of one point, so that code which reads points is there once.
+/// Reads a point, a line or a polygon. A point is a line of one point, and most polygons have one ring, which is read as a line. So
+/// code which reads points is there once.
 pub struct OnePart;
 
 /// Reads the parts of a list.
@@ -88,12 +89,16 @@ impl PartLoop for OnePart {
         count: u64,
         reader: &mut R,
     ) -> Result<(), R::Fault> {
-        match kind {
-            Kind::Polygon => take_polygons(cursor, kind, count, reader),
-            _ => match take_length(cursor, kind) {
-                Ok(points) => reader.take_points(cursor, points),
-                Err(malformed) => Err(R::fault_of(malformed)),
-            },
+        let rings = match take_rings(cursor, kind) {
+            Ok(rings) => rings,
+            Err(malformed) => return Err(R::fault_of(malformed)),
+        };
+        if rings != 1 {
+            return OutOfLine(Prefixed(Run)).take(cursor, rings, reader);
+        }
+        match take_length(cursor, kind) {
+            Ok(points) => reader.take_points(cursor, points),
+            Err(malformed) => Err(R::fault_of(malformed)),
         }
     }
 }
@@ -112,10 +117,20 @@ impl PartLoop for ManyParts {
     }
 }
 
-/// How many points a point or a line has.
+/// How many rings a polygon has. A point and a line count as one.
+#[inline(always)]
+fn take_rings(cursor: &mut Cursor, kind: Kind) -> Result<u64, Malformed>
+    ensures { HasRings kind cursor.old result cursor.new }
+{
+    match kind {
+        Kind::Polygon => take_number(cursor),
+        _ => Ok(1),
+    }
+}
+
+/// How many points a point, a line or a ring has.
 #[inline(always)]
 fn take_length(cursor: &mut Cursor, kind: Kind) -> Result<u64, Malformed>
-    requires { (kind ≡ Point) ⊎ (kind ≡ LineString) }
     ensures { HasLength kind cursor.old result cursor.new }
 {
     match kind {

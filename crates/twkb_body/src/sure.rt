@@ -15,7 +15,9 @@ mod shapes;
 mod sizes;
 mod unboxed;
 
-use self::announced::{FIELDS, FURTHER_OR_EMPTY, SIZED_BOX, SIZED_FURTHER_BOX, Z_AND_M, as_flat, with_fields};
+use self::announced::{
+    FIELDS, FURTHER_OR_EMPTY, SIZED_BOX, SIZED_FURTHER_BOX, Z_AND_M, as_flat, with_fields,
+};
 use self::apart::{take_flat_apart, take_further_apart};
 use self::empty::take_empty;
 use self::shapes::{take_flat_list, take_flat_single, take_further_list, take_further_single};
@@ -184,8 +186,11 @@ fn take_with_further_box<R: IdRoom>(
     if extended % 4 != Z_AND_M {
         return take_after_extended(room, cursor, depth, above, first, metadata, extended);
     }
-    let Ok(raw) = take_rest_after::<BoxInlined>(cursor, with_fields(begun, SIZED_FURTHER_BOX), extended)
-    else {
+    let Ok(raw) = take_rest_after::<BoxInlined>(
+        cursor,
+        with_fields(begun, SIZED_FURTHER_BOX),
+        extended,
+    ) else {
         return Err(Doubt::REFUSED);
     };
     let head = raw.boxless();
@@ -216,8 +221,11 @@ fn take_after_extended<R: IdRoom>(
     let Some(begun) = begun_from(cursor.place() - 3, depth, first, metadata) else {
         return Err(Doubt::REFUSED);
     };
-    let Ok(raw) = take_rest_after::<BoxInlined>(cursor, with_fields(begun, SIZED_FURTHER_BOX), extended)
-    else {
+    let Ok(raw) = take_rest_after::<BoxInlined>(
+        cursor,
+        with_fields(begun, SIZED_FURTHER_BOX),
+        extended,
+    ) else {
         return Err(Doubt::REFUSED);
     };
     let head = raw.boxless();
