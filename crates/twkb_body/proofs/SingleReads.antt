@@ -1,4 +1,4 @@
--- A point, a line or a polygon of one ring is read as a run of points, after the number of its rings and the number of its points.
+-- A point, a line or a polygon of one ring is read as a run of points, after the number of its points.
 use Rattle.std.proofs.Common.{◌≡◌, ℕ, List, flat_map, Result, Ok, Err, Option, IfSome, inl, inr, refl, sym, ap, subst, ◌∙◌, arith}
 use Rattle.std.specs.Prelude.{◌≢◌, Bool, false}
 use Rattle.twkb_num.specs.Cursor.{Reading}
@@ -10,7 +10,7 @@ use Rattle.twkb_head.specs.Shared.Reader.{Answer, Reader, number_at, many_at}
 use Rattle.twkb_body.specs.Geometry.{PointValue, Ring, points_of}
 use Rattle.twkb_body.specs.Devices.Body.{add, sums}
 use Rattle.twkb_body.specs.Devices.BodyReader.{point_at, ring_at, lines_at, many_parts_at}
-use Rattle.twkb_body.specs.Devices.PointReader.{Stage, points_at, IsReady, ReadsOrEnds, HasLength, HasRings}
+use Rattle.twkb_body.specs.Devices.PointReader.{Stage, points_at, IsReady, ReadsOrEnds, HasLength, HasOneRing}
 use Rattle.twkb_body.proofs.ListReads.{lists_of, lists_begin, lists_ready, lists_go_on, lists_end, values_fail, length_fails}
 use Rattle.twkb_body.proofs.PointReads.{points_are_parts, lines_are_parts, polygons_are_parts, parts_ready, parts_read_or_end}
 use Rattle.twkb_body.proofs.Sums.{part_points}
@@ -52,22 +52,17 @@ polygon_ready {kind = kind} is counted ready = list_ready sums ring_at part_poin
 one_ready : {S : Type 0} {stands : Stage S → Type 0} {trusts : Bool} (kind : Kind) {count : ℕ} {from : Reading} → count ≡ 1 → IsReady stands trusts (many_parts_at kind count) from → IsReady stands trusts (many_parts_at kind 1) from
 one_ready {stands = stands} {trusts = trusts} kind {from = from} one ready = subst (λ (k : ℕ). IsReady stands trusts (many_parts_at kind k) from) one ready
 
-module _ {S : Type 0} {stands : Stage S → Type 0} {trusts : Bool} {kind : Kind} {count rings : ℕ} {from middle : Reading} (one : count ≡ 1) (ready : IsReady stands trusts (many_parts_at kind count) from) where
-  -- if one part can be read, so can several rings after their number
-  pub rings_ready : HasRings kind from (Ok rings) middle → rings ≢ 1 → IsReady stands trusts (lines_at rings) middle
-  rings_ready (inl (is, counted)) several = polygon_ready is counted (one_ready kind one ready)
-  rings_ready (inr (other, ring, same)) several = absurd (several (cc (ring)))
+-- if one part can be read, so can its points after their number
+pub single_ready : {S : Type 0} {stands : Stage S → Type 0} {trusts : Bool} {kind : Kind} {count n : ℕ} {from middle mid : Reading} → is_multi kind ≡ false → count ≡ 1 → HasOneRing kind from middle → HasLength kind middle (Ok n) mid
+    → IsReady stands trusts (many_parts_at kind count) from → IsReady stands trusts (points_at n) mid
+single_ready single one (inl (is, ring)) (inl (point, length, stays)) ready = absurd (cc (is, point))
+single_ready {kind = kind} single one (inl (is, ring)) (inr (other, counted)) ready = line_ready counted (polygon_ready is ring (one_ready kind one ready))
+single_ready {stands = stands} {trusts = trusts} {kind = kind} {n = n} {from = from} {mid = mid} single one (inr (unringed, same)) (inl (is, length, stays)) ready =
+    same_run (λ k r. IsReady stands trusts (points_at k) r) n from mid (cc (length)) (stays ∙ same) (parts_ready (points_are_parts kind (inl is)) 1 (one_ready kind one ready))
+single_ready {kind = kind} single one (inr (unringed, same)) (inr (other, counted)) ready =
+    line_ready (counted_from number_at same counted) (parts_ready (lines_are_parts kind (inl (line_is kind single unringed other))) 1 (one_ready kind one ready))
 
-  -- and the points of one ring after theirs
-  pub single_ready : {n : ℕ} {mid : Reading} → is_multi kind ≡ false → HasRings kind from (Ok rings) middle → rings ≡ 1 → HasLength kind middle (Ok n) mid → IsReady stands trusts (points_at n) mid
-  single_ready single (inl (is, counted)) ring (inl (point, told, same)) = absurd (cc (is, point))
-  single_ready single (inl (is, counted)) ring (inr (other, lined)) = line_ready lined (subst (λ (k : ℕ). IsReady stands trusts (lines_at k) middle) ring (polygon_ready is counted (one_ready kind one ready)))
-  single_ready {n} {mid} single (inr (unringed, told, same)) ring (inl (is, length, stays)) =
-      same_run (λ k r. IsReady stands trusts (points_at k) r) n from mid (cc (length)) (stays ∙ same) (parts_ready (points_are_parts kind (inl is)) 1 (one_ready kind one ready))
-  single_ready single (inr (unringed, told, same)) ring (inr (other, lined)) =
-      line_ready (counted_from number_at same lined) (parts_ready (lines_are_parts kind (inl (line_is kind single unringed other))) 1 (one_ready kind one ready))
-
--- ---- what a reader of its rings or points did is what a reader of one part does
+-- ---- what a reader of its points did is what a reader of one part does
 module _ {S T F : Type 0} {step : S → PointValue → S} {trusts : Bool} {ends : S → Type 0} {tells : F → Option Malformed} {old new : Stage S → Type 0} (lasts : (s : S) (p : PointValue) → ends s → ends (step s p)) where
   list_reads : {A : Type 0} (after : PointValue → A → PointValue) (value : ℕ → PointValue → Reader A) (points_in : List A → List PointValue) {n : ℕ} {result : Result T F} {from mid to : Reading} → number_at from ≡ (Ok n, mid)
       → ReadsOrEnds (λ axes. many_at n after (value axes)) points_in step trusts ends tells old new result mid to
@@ -87,42 +82,23 @@ module _ {S T F : Type 0} {step : S → PointValue → S} {trusts : Bool} {ends 
       → ReadsOrEnds (lines_at rings) part_points step trusts ends tells old new result mid to → ReadsOrEnds (many_parts_at kind 1) points_of step trusts ends tells old new result from to
   polygon_reads {kind} is counted done = parts_read_or_end (polygons_are_parts kind (inl is)) 1 (list_reads sums ring_at part_points counted done)
 
-  -- a polygon of one ring is what the ring is
-  ring_reads : {kind : Kind} {rings : ℕ} {result : Result T F} {from mid to : Reading} → kind ≡ Polygon → number_at from ≡ (Ok rings, mid) → rings ≡ 1
-      → ReadsOrEnds (lines_at 1) part_points step trusts ends tells old new result mid to → ReadsOrEnds (many_parts_at kind 1) points_of step trusts ends tells old new result from to
-  ring_reads {result = result} {mid = mid} {to = to} is counted ring done =
-      polygon_reads is counted (subst (λ (k : ℕ). ReadsOrEnds (lines_at k) part_points step trusts ends tells old new result mid to) (sym ring) done)
-
   one_reads : (kind : Kind) {count : ℕ} {result : Result T F} {from to : Reading} → count ≡ 1 → ReadsOrEnds (many_parts_at kind 1) points_of step trusts ends tells old new result from to → ReadsOrEnds (many_parts_at kind count) points_of step trusts ends tells old new result from to
   one_reads kind {result = result} {from = from} {to = to} one done = subst (λ (k : ℕ). ReadsOrEnds (many_parts_at kind k) points_of step trusts ends tells old new result from to) (sym one) done
 
-  module _ {kind : Kind} {count : ℕ} (one : count ≡ 1) where
-    -- if its number of rings is malformed, reading it ends early
-    pub rings_fail : {fault : F} {from mid : Reading} {m : Malformed} → HasRings kind from (Err m) mid → IfSome (tells fault) (λ t. t ≡ m)
+  module _ {kind : Kind} {count : ℕ} {from middle : Reading} (single : is_multi kind ≡ false) (one : count ≡ 1) where
+    pub single_reads : {n : ℕ} {result : Result T F} {mid to : Reading} → HasOneRing kind from middle → HasLength kind middle (Ok n) mid
+        → ReadsOrEnds (points_at n) (λ points. points) step trusts ends tells old new result mid to → ReadsOrEnds (many_parts_at kind count) points_of step trusts ends tells old new result from to
+    single_reads (inl (is, ring)) (inl (point, length, stays)) done = absurd (cc (is, point))
+    single_reads (inl (is, ring)) (inr (other, counted)) done = one_reads kind one (polygon_reads is ring (line_reads counted done))
+    single_reads {n} {result} {mid} {to} (inr (unringed, same)) (inl (is, length, stays)) done =
+        one_reads kind one (parts_read_or_end (points_are_parts kind (inl is)) 1 (run_same (λ k r. ReadsOrEnds (points_at k) (λ points. points) step trusts ends tells old new result r to) n from mid (cc (length)) (stays ∙ same) done))
+    single_reads (inr (unringed, same)) (inr (other, counted)) done =
+        one_reads kind one (parts_read_or_end (lines_are_parts kind (inl (line_is kind single unringed other))) 1 (line_reads (counted_from number_at same counted) done))
+
+    -- if its number of points is malformed, reading it ends early
+    pub single_fails : {fault : F} {mid : Reading} {m : Malformed} → HasOneRing kind from middle → HasLength kind middle (Err m) mid → IfSome (tells fault) (λ t. t ≡ m)
         → ReadsOrEnds {T = T} (many_parts_at kind count) points_of step trusts ends tells old new (Err fault) from mid
-    rings_fail (inl (is, failed)) told = one_reads kind one (parts_read_or_end (polygons_are_parts kind (inl is)) 1 (length_fails (lists_begin {after = sums} {value = ring_at} {points_in = part_points} {count = 1}) lasts (omega arith) failed told))
-    rings_fail (inr (other, ring, same)) told = absurd (cc (ring))
-
-    -- several rings
-    pub rings_read : {rings : ℕ} {result : Result T F} {from middle to : Reading} → HasRings kind from (Ok rings) middle → rings ≢ 1
-        → ReadsOrEnds (lines_at rings) part_points step trusts ends tells old new result middle to → ReadsOrEnds (many_parts_at kind count) points_of step trusts ends tells old new result from to
-    rings_read (inl (is, told)) several done = one_reads kind one (polygon_reads is told done)
-    rings_read (inr (other, ring, same)) several done = absurd (several (cc (ring)))
-
-    module _ {rings : ℕ} {from middle : Reading} (single : is_multi kind ≡ false) (ring : rings ≡ 1) where
-      pub single_reads : {n : ℕ} {result : Result T F} {mid to : Reading} → HasRings kind from (Ok rings) middle → HasLength kind middle (Ok n) mid
-          → ReadsOrEnds (points_at n) (λ points. points) step trusts ends tells old new result mid to → ReadsOrEnds (many_parts_at kind count) points_of step trusts ends tells old new result from to
-      single_reads (inl (is, told)) (inl (point, length, stays)) done = absurd (cc (is, point))
-      single_reads (inl (is, told)) (inr (other, lined)) done = one_reads kind one (ring_reads is told ring (line_reads lined done))
-      single_reads {n} {result} {mid} {to} (inr (unringed, told, same)) (inl (is, length, stays)) done =
-          one_reads kind one (parts_read_or_end (points_are_parts kind (inl is)) 1 (run_same (λ k r. ReadsOrEnds (points_at k) (λ points. points) step trusts ends tells old new result r to) n from mid (cc (length)) (stays ∙ same) done))
-      single_reads (inr (unringed, told, same)) (inr (other, lined)) done =
-          one_reads kind one (parts_read_or_end (lines_are_parts kind (inl (line_is kind single unringed other))) 1 (line_reads (counted_from number_at same lined) done))
-
-      -- if its number of points is malformed, reading it ends early
-      pub single_fails : {fault : F} {mid : Reading} {m : Malformed} → HasRings kind from (Ok rings) middle → HasLength kind middle (Err m) mid → IfSome (tells fault) (λ t. t ≡ m)
-          → ReadsOrEnds {T = T} (many_parts_at kind count) points_of step trusts ends tells old new (Err fault) from mid
-      single_fails rings_are (inl (is, length, stays)) told = absurd (cc (length))
-      single_fails (inl (is, known)) (inr (other, failed)) told = one_reads kind one (ring_reads is known ring (line_fails failed told))
-      single_fails (inr (unringed, known, same)) (inr (other, failed)) told =
-          one_reads kind one (parts_read_or_end (lines_are_parts kind (inl (line_is kind single unringed other))) 1 (line_fails (counted_from number_at same failed) told))
+    single_fails rings (inl (is, length, stays)) told = absurd (cc (length))
+    single_fails (inl (is, ring)) (inr (other, failed)) told = one_reads kind one (polygon_reads is ring (line_fails failed told))
+    single_fails (inr (unringed, same)) (inr (other, failed)) told =
+        one_reads kind one (parts_read_or_end (lines_are_parts kind (inl (line_is kind single unringed other))) 1 (line_fails (counted_from number_at same failed) told))

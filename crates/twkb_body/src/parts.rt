@@ -1,7 +1,7 @@
 //! The parts of a body: points, lines and polygons. All are read here, each by a [`PointReader`]: the exact audit reads them by a
 //! `Walk`, a skim by a `CertifiedWalk`, and the first reading by a `LaneTrail` or a `Walk`.
 //! Used by `shape`, `sure/parts` and `sure/shapes`.
-ghost use Rattle.std.specs.Prelude.{◌≡◌, ◌⊎◌, ℕ, List, flat_map, false};
+ghost use Rattle.std.specs.Prelude.{◌≡◌, ◌⊎◌, ℕ, List, flat_map, true, false};
 ghost use Rattle.twkb_head.specs.declared.kinds.Kind.{Kind};
 ghost use Rattle.twkb_head.specs.declared.kinds.Kind.TheVariants.{Polygon, MultiPolygon};
 ghost use Rattle.twkb_head.specs.Header.{is_multi};
@@ -9,7 +9,7 @@ ghost use Rattle.twkb_head.specs.Shared.Reader.{Reader, many_at};
 ghost use Rattle.twkb_body.specs.Geometry.{PointValue, points_of};
 ghost use Rattle.twkb_body.specs.Devices.Body.{add, sums};
 ghost use Rattle.twkb_body.specs.Devices.BodyReader.{point_at, prefixed_at, lines_at, many_parts_at};
-ghost use Rattle.twkb_body.specs.Devices.PointReader.{IsReady, ReadsOrEnds, HasLength, HasRings};
+ghost use Rattle.twkb_body.specs.Devices.PointReader.{IsReady, ReadsOrEnds, HasLength, HasOneRing};
 
 use crate::point_reader::PointReader;
 use crate::varints::take_number;
@@ -89,12 +89,8 @@ impl PartLoop for OnePart {
         count: u64,
         reader: &mut R,
     ) -> Result<(), R::Fault> {
-        let rings = match take_rings(cursor, kind) {
-            Ok(rings) => rings,
-            Err(malformed) => return Err(R::fault_of(malformed)),
-        };
-        if rings != 1 {
-            return OutOfLine(Prefixed(Run)).take(cursor, rings, reader);
+        if !pass_rings(cursor, kind) {
+            return take_polygons(cursor, kind, count, reader);
         }
         match take_length(cursor, kind) {
             Ok(points) => reader.take_points(cursor, points),
@@ -117,14 +113,16 @@ impl PartLoop for ManyParts {
     }
 }
 
-/// How many rings a polygon has. A point and a line count as one.
+/// Moves past the number of rings of a polygon that has one, and past nothing of a point or a line. Returns `false` for another polygon,
+/// or if its one ring is spelled by several bytes, and moves past nothing then.
 #[inline(always)]
-fn take_rings(cursor: &mut Cursor, kind: Kind) -> Result<u64, Malformed>
-    ensures { HasRings kind cursor.old result cursor.new }
+fn pass_rings(cursor: &mut Cursor, kind: Kind) -> bool
+    ensures one { result ≡ true → HasOneRing kind cursor.old cursor.new }
+    ensures more { result ≡ false → (kind ≡ Polygon) × (cursor.new ≡ cursor.old) }
 {
     match kind {
-        Kind::Polygon => take_number(cursor),
-        _ => Ok(1),
+        Kind::Polygon => cursor.pass_one(),
+        _ => true,
     }
 }
 

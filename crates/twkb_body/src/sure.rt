@@ -107,10 +107,10 @@ fn take_with_box<R: IdRoom>(
         return Err(Doubt::REFUSED);
     };
     let head = raw.boxless();
-    let Some(frame) = Frame::under(above, &head, &raw.bounds) else {
+    let Some(own) = Frame::under(above, &head, &raw.bounds) else {
         return take_flat_apart(room, cursor, depth, above, &raw);
     };
-    take_flat_framed(room, cursor, depth, &head, &frame)
+    take_flat_framed(room, cursor, depth, &head, &own)
 }
 
 /// Reads a geometry of X and Y alone after its header. The frame has to hold its points.

@@ -1,5 +1,5 @@
 //! A cursor over bytes, which counts what it reads. Used by other crates.
-ghost use Rattle.std.specs.Prelude.{◌≡◌, ◌+◌, ◌-◌, ◌<◌, ◌≤◌, ◌^◌, ◌↔◌, ◌⊎◌, ℕ, ℤ, List, [], ◌∷◌, ◌++◌, length, take, IsNone, IfOk, IfErr, IfSome, IfNone, OnOk, OnSome};
+ghost use Rattle.std.specs.Prelude.{◌≡◌, ◌+◌, ◌-◌, ◌<◌, ◌≤◌, ◌^◌, ◌↔◌, ◌⊎◌, ℕ, ℤ, List, [], ◌∷◌, ◌++◌, length, take, true, false, IsNone, IfOk, IfErr, IfSome, IfNone, OnOk, OnSome, IsTrue};
 ghost use Rattle.twkb_num.specs.Cursor.{rest, passed, counted, IsMoved, IsSound};
 ghost use Rattle.twkb_num.specs.Devices.Ends.{IsFirstEnd};
 ghost use Rattle.twkb_num.specs.Varint.{SpellsMany, Spells, IsSigned, Faults, IsCut, looked_at, IsStuck, StopsBefore};
@@ -22,11 +22,12 @@ use std::marker::Model;
 /// as reading a cache line does, but count only the bytes of the numbers. If such a call fails (returns `None`, or a result whose
 /// `is_read` is false), reads fewer than four eights or passes fewer numbers than requested, its caller learns something about
 /// bytes that aren't counted: a number is too long for the call, the end is near, no point of the right form is there
-/// ([`Cursor::pass_short_point`]), or (the last two calls below) a count can't be read or is too large. This list says when a call
-/// may fail or stop early, and which clause says so. Where a call may fail, no clause says whether it does, except for
-/// [`Cursor::pass_short_point`] (`exact`); only the code shows that this choice tells nothing else. A byte *goes on* if it is
-/// at least 128.
+/// ([`Cursor::pass_short_point`]), or (the last two calls below) a count can't be read or is too large. So it does where
+/// [`Cursor::pass_one`] returns `false`. This list says when a call may fail or stop early, and which clause says so. Where a call
+/// may fail, no clause says whether it does, except where the clause is `exact`; only the code shows that this choice tells nothing
+/// else. A byte *goes on* if it is at least 128.
 ///
+/// - [`Cursor::pass_one`]: no byte is left, or the next one isn't 1 (`exact`).
 /// - [`Cursor::pass_varint`]: fewer than eight bytes are left, or the next eight all go on (`told`).
 /// - [`Cursor::pass_pair`]: fewer than eight bytes are left, or the next eight don't begin with two varints (`told`).
 /// - [`Cursor::pass_short_point`]: fewer than eleven bytes are left, or the first two don't begin a point with no field or with a
@@ -172,6 +173,22 @@ impl<'a> Cursor<'a> {
         let byte = *self.bytes.get(self.place)?;
         self.place += 1;
         Some(byte)
+    }
+
+    /// Moves past the number 1 if the next byte alone spells it. Otherwise it returns `false`, and the cursor is as it was. `false`
+    /// tells this one bit of a byte that isn't counted.
+    #[inline(always)]
+    pub fn pass_one(&mut self) -> bool
+        ensures passed { result ≡ true → passed self.old self.new ≡ 1 ∷ [] }
+        ensures exact { IsTrue result ↔ take 1 (rest self.old) ≡ 1 ∷ [] }
+        ensures moved { result ≡ true → IsMoved self.old self.new }
+        ensures still { result ≡ false → self.new ≡ self.old }
+    {
+        let is_one = self.bytes.get(self.place) == Some(&1);
+        if is_one {
+            self.place += 1;
+        }
+        is_one
     }
 
     /// Reads the two bytes at the place. If fewer are left, it returns `None`, and the cursor is as it was.

@@ -100,10 +100,9 @@ pub record IsWalkingOn {S : Type 0} (step : Header → S → PointValue → S) (
   pub kept : lost ≡ false → trail ≡ at.trail
   pub still : lost ≡ true → IsStill (step (of_head head)) state
 
--- the number of rings of a polygon, which is told; another part counts as one
-abbrev pub HasRings : Kind → Reading → Result ℕ Malformed → Reading → Type 0
-HasRings kind old result new = ((kind ≡ PolygonKind) × (number_at old ≡ (result, new)))
-    ⊎ ((kind ≢ PolygonKind) × (result ≡ Ok 1) × (new ≡ old))
+-- A polygon has one ring, and its number of rings was read; or it isn't a polygon, and nothing was read.
+abbrev pub HasOneRing : Kind → Reading → Reading → Type 0
+HasOneRing kind old new = ((kind ≡ PolygonKind) × (number_at old ≡ (Ok 1, new))) ⊎ ((kind ≢ PolygonKind) × (new ≡ old))
 
 -- the number of points of a point, which is one, or of a line or a ring, which is told
 abbrev pub HasLength : Kind → Reading → Result ℕ Malformed → Reading → Type 0
