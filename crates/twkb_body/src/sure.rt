@@ -312,20 +312,13 @@ fn take_further_body<R: IdRoom>(
     requires { HasBody depth true head.now frame.now }
     ensures { CertifiesBody depth head.now frame.now cursor.old result cursor.new }
 {
+    let axes = head.axes();
     if head.kind.is_multi() {
         // A copy, as in `take_flat_body`.
         let below = *frame;
-        take_further_many(
-            room,
-            cursor,
-            depth,
-            head.kind,
-            head.ids,
-            head.axes(),
-            &below,
-        )
+        take_further_many(room, cursor, depth, head.kind, head.ids, axes, &below)
     } else {
-        take_further_single(cursor, head.kind, head.axes(), frame)
+        take_further_single(cursor, head.kind, axes, frame)
     }
 }
 

@@ -327,7 +327,7 @@ pub take_further_framed-returns : goal.take_further_framed-returns
 take_further_framed-returns g t c = rw c.judged.ensures.still (framed_certifies c.requires c.take_further_body.new.cursor c.in_ok-vertices.vertices c.judged.result c.in_ok-vertices.ensures c.judged.ensures.judged)
 
 pub take_further_body-returns-else-is_multi : goal.take_further_body-returns-else-is_multi
-take_further_body-returns-else-is_multi g t c = one_certifies c.axes-else-is_multi.result c.args.cursor.now c.take_further_single.new.cursor c.take_further_single.result c.requires c.axes-else-is_multi.ensures.value (sym c.is_multi.ensures ∙ c.if-is_multi.false) c.take_further_single.ensures
+take_further_body-returns-else-is_multi g t c = one_certifies c.axes-axes.result c.args.cursor.now c.take_further_single.new.cursor c.take_further_single.result c.requires c.axes-axes.ensures.value (sym c.is_multi.ensures ∙ c.if-is_multi.false) c.take_further_single.ensures
 
 pub take_further_many-returns-else-is_collection : goal.take_further_many-returns-else-is_collection
 take_further_many-returns-else-is_collection g t c = many_certifies c.args.depth c.args.cursor.now c.take_further_list.new.cursor c.take_further_list.result (sym c.is_collection.ensures ∙ c.if-is_collection.false) c.take_further_list.ensures
