@@ -17,12 +17,12 @@ def built(folder, name, source, *options):
     return path
 
 
-def run(command):
+def run(command, **variables):
     """The lines that a command prints, the seconds of the processor that it took, and its greatest memory in kilobytes.
 
-    These programs have one thread and read a file that is in memory, so on an idle machine the wall says the same.
+    It runs with these variables of the environment, and those of this process. These programs have one thread and read a file that is in memory, so on an idle machine the wall says the same.
     """
-    process = subprocess.Popen(command, stdout=subprocess.PIPE)
+    process = subprocess.Popen(command, stdout=subprocess.PIPE, env=os.environ | variables)
     lines = process.stdout.read().decode().splitlines()
     _, status, usage = os.wait4(process.pid, 0)
     process.stdout.close()

@@ -34,6 +34,10 @@ STEPS = {
     "scan of everything": WHOLE,
 }
 BUILD, LOOKUP = "building a directory", "directory scan without a hit"
+# With this variable glibc asks the kernel for pages of 2 MB, of which a directory needs few: the kernel sets each page to zero when it
+# is first written to.
+LARGE_PAGES = {"GLIBC_TUNABLES": "glibc.malloc.hugetlb=1"}
+BUILD_IN_LARGE = "building a directory, pages of 2 MB"
 # How many blobs of coast_lines_sized PostGIS finds in a window.
 POSTGIS = {ONE_EUROPE: 44, ONE_INDIES: 158, NOTHING: 0}
 
@@ -132,6 +136,8 @@ def note_scans(found, layer, rounds):
     hop_scans = [(time, hits) for time, (hits, _) in (other[MISSED] for other in others)]
     rounds[BUILD].note(told(built), *hop_scans)
     rounds[LOOKUP].note((told(looked_up)[0], field(looked_up, "found")), *hop_scans)
+    (_, built), _, _ = programs.run([found.scanner, layer, "2", "build"], **LARGE_PAGES)
+    rounds[BUILD_IN_LARGE].note(told(built), *hop_scans)
 
 
 def count_audits(found, layer):
@@ -146,7 +152,7 @@ def count_scans(found, layer):
     audit = one_more(ours, 0)
     counts = {(step, "ours"): less(one_more([*ours, window], 0), audit) for step, window in STEPS.items()}
     both = one_more([*ours, "build", NOTHING], 0)
-    counts[BUILD, "ours"] = less(one_more([*ours, "build"], 0), audit)
+    counts[BUILD, "ours"] = counts[BUILD_IN_LARGE, "ours"] = less(one_more([*ours, "build"], 0), audit)
     counts[LOOKUP, "ours"] = less(both, one_more([*ours, "build"], 0))
     for step, window in STEPS.items():
         for name, command in found.scans(layer, window, "REPEATS").items():
@@ -247,7 +253,7 @@ def table_of_scans(found, folder, runs):
     notes, over = [], {}
     for kind in ("the mix", "lines"):
         layer, copies = layers.write_layer(folder, kind, TIMED)
-        rounds = {step: Rounds() for step in [*STEPS, BUILD, LOOKUP]}
+        rounds = {step: Rounds() for step in [*STEPS, BUILD, BUILD_IN_LARGE, LOOKUP]}
         for _ in range(runs):
             note_scans(found, layer, rounds)
         for step, window in STEPS.items():
