@@ -22,6 +22,7 @@ mod random_bodies;
 mod random_frames;
 mod random_runs;
 mod ranges;
+mod rings;
 mod runs;
 mod short_points;
 mod skims;

@@ -1,5 +1,6 @@
-//! Lines in a box, with Z, M or both and without, on each side of each condition of the first reading, against the plain reader.
-use super::bytes::{GREATEST, put_bounds, put_bytes, put_points};
+//! Lines in a box, with a size and without, with Z, M or both and without, on each side of each condition of the first reading,
+//! against the plain reader.
+use super::bytes::{GREATEST, put_bounds, put_bytes, put_points, put_unsigned};
 use super::variants::{agrees, both_agree};
 use std::alloc::{AllocError, Global};
 use std::process::Abort;
@@ -49,24 +50,33 @@ const BOTH: Axes = (&[0x02, 0x09, 0x03], 4);
 // Each axis.
 const EACH: [(Axes, usize); 6] = [(FLAT, 0), (FLAT, 1), (Z, 2), (M, 2), (BOTH, 2), (BOTH, 3)];
 
-// A line with a box, by minimum and extent of each axis, and `after` bytes after it.
+// A line with a box, by minimum and extent of each axis, perhaps with a size, and `after` bytes after it.
 fn line_in_box(
     alloc: Global,
     (before, axes): Axes,
     bounds: &[(i64, i64); 4],
     points: &[[i64; 4]],
-    after: usize,
+    (has_size, after): (bool, usize),
 ) -> Result<Vec<u8>, AllocError> {
+    let mut sized = Vec::new(alloc);
+    put_bounds(&mut sized, &bounds[..axes.min(4)])?;
+    sized.push((points.len() % 128) as u8)?;
+    put_points(&mut sized, axes, points)?;
     let mut out = Vec::new(alloc);
-    out.extend_from_slice(before)?;
-    put_bounds(&mut out, &bounds[..axes.min(4)])?;
-    out.push((points.len() % 128) as u8)?;
-    put_points(&mut out, axes, points)?;
+    match before {
+        [first, metadata, extended @ ..] if has_size => {
+            out.extend_from_slice(&[*first, *metadata | 2])?;
+            out.extend_from_slice(extended)?;
+            put_unsigned(&mut out, sized.len() as u64)?;
+        }
+        _ => out.extend_from_slice(before)?,
+    }
+    out.extend_from_slice(&sized)?;
     put_bytes(&mut out, 0x00, after)?;
     Ok(out)
 }
 
-// Both audits agree with the plain reader on a line with bytes after it and with none.
+// Both audits agree with the plain reader on a line with a size and without, and with bytes after it and with none.
 fn line_agrees(
     rt: &impl Abort,
     alloc: Global,
@@ -74,8 +84,8 @@ fn line_agrees(
     bounds: &[(i64, i64); 4],
     points: &[[i64; 4]],
 ) -> Result<(), AllocError> {
-    for after in [0, 8] {
-        let bytes = line_in_box(alloc, axes, bounds, points, after)?;
+    for ends in [(false, 0), (false, 8), (true, 0), (true, 8)] {
+        let bytes = line_in_box(alloc, axes, bounds, points, ends)?;
         both_agree(rt, alloc, &bytes);
     }
     Ok(())
@@ -186,8 +196,11 @@ fn point_agrees(
                 bounds[missed - 1] = (minimum.wrapping_add(low), extent.wrapping_add(high));
             }
             for after in [0, 5, 6, 7, 8] {
-                let bytes = line_in_box(alloc, axes, &bounds, &[[0; 4], point], after)?;
-                agrees(rt, alloc, &bytes, false);
+                for has_size in [false, true] {
+                    let ends = (has_size, after);
+                    let bytes = line_in_box(alloc, axes, &bounds, &[[0; 4], point], ends)?;
+                    agrees(rt, alloc, &bytes, false);
+                }
             }
         }
     }
@@ -229,8 +242,11 @@ fn bytes_behind_the_last_point(rt: HostRuntime) -> Result<(), Fail> {
         for count in 0..6usize {
             for after in 0..12usize {
                 let points = &POINTS[..count.min(5)];
-                let bytes = line_in_box(rt.alloc(), axes, &bounds, points, after)?;
-                both_agree(&rt, rt.alloc(), &bytes);
+                for has_size in [false, true] {
+                    let ends = (has_size, after);
+                    let bytes = line_in_box(rt.alloc(), axes, &bounds, points, ends)?;
+                    both_agree(&rt, rt.alloc(), &bytes);
+                }
             }
         }
     }
