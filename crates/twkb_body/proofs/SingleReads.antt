@@ -6,8 +6,8 @@ use Rattle.twkb_head.specs.declared.kinds.Kind.{Kind}
 use Rattle.twkb_head.specs.declared.kinds.Kind.TheVariants.{Point, LineString, Polygon, MultiPoint, MultiLineString, MultiPolygon, GeometryCollection}
 use Rattle.twkb_head.specs.declared.refusal.Malformed.{Malformed}
 use Rattle.twkb_head.specs.Header.{is_multi}
-use Rattle.twkb_head.specs.Shared.Reader.{Answer, Reader, number_at, many_at}
-use Rattle.twkb_body.specs.Geometry.{PointValue, Ring, points_of}
+use Rattle.twkb_head.specs.Shared.Reader.{Reader, number_at, many_at}
+use Rattle.twkb_body.specs.Geometry.{PointValue, points_of}
 use Rattle.twkb_body.specs.Devices.Body.{add, sums}
 use Rattle.twkb_body.specs.Devices.BodyReader.{point_at, ring_at, lines_at, many_parts_at}
 use Rattle.twkb_body.specs.Devices.PointReader.{Stage, points_at, IsReady, ReadsOrEnds, HasLength, HasOneRing}
