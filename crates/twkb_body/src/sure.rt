@@ -58,6 +58,7 @@ fn take_sure<R: IdRoom>(
 }
 
 /// Reads a geometry as [`take_sure`] does, which has no extended dimensions byte and isn't empty.
+// It does what `take_with_box` does, where the compiler knows that there are a box and a size.
 #[cycle(take_flat)]
 #[inline(never)]
 fn take_flat<R: IdRoom>(
@@ -162,7 +163,8 @@ fn take_further<R: IdRoom>(
 
 /// Reads a geometry as [`take_sure`] does, which has a size, a box and an extended dimensions byte, and isn't empty.
 // The extended dimensions byte is compared before the other fields are read, so the compiler knows here that there are both Z and M.
-// `begun_by` won't do: it speaks of a header only where the cursor is, and one more byte is read before the header goes on.
+// `begun_by` won't do: it speaks of a header only where the cursor is, and one more byte is read before the header goes on. What
+// follows the header stands in `take_after_extended` and `take_further`, too: a function for it would be too large to inline.
 #[cycle(take_flat)]
 #[inline(never)]
 fn take_with_further_box<R: IdRoom>(

@@ -22,10 +22,10 @@ use std::marker::Model;
 /// as reading a cache line does, but count only the bytes of the numbers. If such a call fails (returns `None`, or a result whose
 /// `is_read` is false), reads fewer than four eights or passes fewer numbers than requested, its caller learns something about
 /// bytes that aren't counted: a number is too long for the call, the end is near, no point of the right form is there
-/// ([`Cursor::pass_short_point`]), or (the last two calls below) a count can't be read or is too large. So it does where
-/// [`Cursor::pass_one`] returns `false`. This list says when a call may fail or stop early, and which clause says so. Where a call
-/// may fail, no clause says whether it does, except where the clause is `exact`; only the code shows that this choice tells nothing
-/// else. A byte *goes on* if it is at least 128.
+/// ([`Cursor::pass_short_point`]), or (the last two calls below) a count can't be read or is too large. If [`Cursor::pass_one`]
+/// returns `false`, its caller learns that the next byte isn't 1. This list says when a call may fail or stop early, and which
+/// clause says so. Where a call may fail, no clause says whether it does, except where the clause is `exact`; only the code shows
+/// that this choice tells nothing else. A byte *goes on* if it is at least 128.
 ///
 /// - [`Cursor::pass_one`]: no byte is left, or the next one isn't 1 (`exact`).
 /// - [`Cursor::pass_varint`]: fewer than eight bytes are left, or the next eight all go on (`told`).
