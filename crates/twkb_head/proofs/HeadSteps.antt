@@ -1,5 +1,5 @@
 -- The steps by which code reads a header, as the reader of headers takes them.
-use Rattle.std.proofs.Common.{◌≡◌, ℕ, ◌+◌, ◌-◌, ◌*◌, ◌/◌, ◌%◌, ◌==◌, List, [], ◌∷◌, ◌++◌, length, Option, Some, None, option_map, Bool, true, false, ℤ, ◌+ℤ◌, Result, Ok, Err, refl, sym, ap, ap₂, subst, ◌∙◌, arith}
+use Rattle.std.proofs.Common.{◌≡◌, ◌<◌, ℕ, ◌+◌, ◌-◌, ◌*◌, ◌/◌, ◌%◌, ◌==◌, List, [], ◌∷◌, ◌++◌, length, Option, Some, None, option_map, Bool, true, false, ℤ, ◌+ℤ◌, Result, Ok, Err, refl, sym, ap, ap₂, subst, ◌∙◌, arith}
 use Rattle.std.specs.Int.Bits.{bit_and}
 use Rattle.std.proofs.lemmas.Nat.{and_block, and_le_r, and_mask}
 use Rattle.std.proofs.lemmas.Grind.{common_steps}
@@ -92,19 +92,20 @@ two_back old new first metadata moved bytes =
     let long : length (passed old new) ≡ new.place - old.place = grind (arith, common_steps, moved.within) in
     omega (arith, ap length bytes, long, moved.ahead)
 
+-- some of the lowest three bits of a metadata byte, beside the bits for extended dimensions and no body
+bits_beside : (metadata low : ℕ) → low < 8 → bit_and metadata (24 + low) ≡ 8 * (metadata / 8 % 4) + bit_and (metadata % 8) low
+bits_beside metadata low few =
+    let split : metadata ≡ metadata / 8 * 8 + metadata % 8 = omega arith in
+    let both = and_block 3 (metadata / 8) 3 (metadata % 8) low (omega arith) few in
+    ap (λ x. bit_and x (24 + low)) split ∙ omega (arith, both, and_mask (metadata / 8) 2)
+
 -- the bits of a metadata byte for a box, a size, extended dimensions and no body
 pub field_bits : (metadata : ℕ) → bit_and metadata 0x1B ≡ metadata % 4 + 8 * (metadata / 8 % 4)
-field_bits metadata =
-    let split : metadata ≡ metadata / 8 * 8 + metadata % 8 = omega arith in
-    let both = and_block 3 (metadata / 8) 3 (metadata % 8) 3 (omega arith) (omega arith) in
-    ap (λ x. bit_and x 0x1B) split ∙ omega (arith, both, and_mask (metadata / 8) 2, and_mask (metadata % 8) 2)
+field_bits metadata = omega (arith, bits_beside metadata 3 (omega arith), and_mask (metadata % 8) 2)
 
 -- the bits of a metadata byte for extended dimensions and no body
 pub further_bits : (metadata : ℕ) → bit_and metadata 0x18 ≡ 8 * (metadata / 8 % 4)
-further_bits metadata =
-    let split : metadata ≡ metadata / 8 * 8 + metadata % 8 = omega arith in
-    let both = and_block 3 (metadata / 8) 3 (metadata % 8) 0 (omega arith) (omega arith) in
-    ap (λ x. bit_and x 0x18) split ∙ omega (arith, both, and_mask (metadata / 8) 2, and_le_r (metadata % 8) 0)
+further_bits metadata = omega (arith, bits_beside metadata 0 (omega arith), and_le_r (metadata % 8) 0)
 
 -- the bit of a metadata byte for ids
 pub ids_bit : (metadata : ℕ) → bit_and metadata 4 ≡ 4 * (metadata / 4 % 2)

@@ -24,6 +24,24 @@ fn bytes_come_in_order(rt: HostRuntime) {
 }
 
 #[test]
+fn a_one_is_passed_if_one_byte_spells_it(rt: HostRuntime) {
+    let mut cursor = Cursor::new(&[1, 0x81, 0, 2, 1]);
+    equal(&rt, cursor.pass_one(), true);
+    equal(&rt, cursor.place(), 1);
+    // Here two bytes spell it, and then there is a two.
+    equal(&rt, cursor.pass_one(), false);
+    equal(&rt, cursor.place(), 1);
+    equal(&rt, cursor.uvarint(), Ok(1));
+    equal(&rt, cursor.pass_one(), false);
+    equal(&rt, cursor.uvarint(), Ok(2));
+    equal(&rt, cursor.pass_one(), true);
+    equal(&rt, cursor.place(), 5);
+    equal(&rt, cursor.pass_one(), false);
+    equal(&rt, cursor.place(), 5);
+    equal(&rt, cursor.read_count(), 5);
+}
+
+#[test]
 fn a_fault_leaves_the_place_of_its_field(rt: HostRuntime) {
     let mut cursor = Cursor::new(&[0xC8, 0x01, 0x80]);
     equal(&rt, cursor.svarint(), Ok(100));

@@ -26,23 +26,6 @@ fn stands_at(rt: &impl Abort, cursor: &Cursor, place: usize) {
 }
 
 #[test]
-fn a_one_is_passed_if_one_byte_spells_it(rt: HostRuntime) {
-    let mut cursor = Cursor::new(&[1, 0x81, 0, 2, 1]);
-    equal(&rt, cursor.pass_one(), true);
-    stands_at(&rt, &cursor, 1);
-    // Here two bytes spell it, and then there is a two.
-    equal(&rt, cursor.pass_one(), false);
-    stands_at(&rt, &cursor, 1);
-    equal(&rt, cursor.uvarint(), Ok(1));
-    equal(&rt, cursor.pass_one(), false);
-    equal(&rt, cursor.uvarint(), Ok(2));
-    equal(&rt, cursor.pass_one(), true);
-    stands_at(&rt, &cursor, 5);
-    equal(&rt, cursor.pass_one(), false);
-    stands_at(&rt, &cursor, 5);
-}
-
-#[test]
 fn runs_are_passed_together_or_not_at_all(rt: HostRuntime) {
     // Two pairs, none, and one, whose second number takes two bytes. Then nine groups are asked for, and seven bytes are left.
     let bytes = [2, 1, 2, 3, 4, 0, 1, 5, 0x80, 6, 9, 1, 1, 1, 1, 1, 1, 1];
