@@ -15,8 +15,8 @@ use Rattle.twkb_body.proofs.Entering.{reaches, boxed_holds}
 use Rattle.twkb_layer.specs.Directory.{Entry, box_of, entry_of, entries, directory_cost}
 use Rattle.twkb_layer.specs.Hits.{hits, found_blobs, cost, filled}
 use Rattle.twkb_layer.specs.Layer.{IsCertifiedLayer, size_of, told_from}
-use Rattle.twkb_layer.specs.Devices.Slots.{half_offset, half_says, is_pair, slot_says, unpacked}
-use Rattle.twkb_layer.specs.Slots.{Said, Written, entry_with, entries_from, says_of}
+use Rattle.twkb_layer.specs.Devices.Slots.{half_offset, half_says, is_pair, is_shared, slot_says, unpacked}
+use Rattle.twkb_layer.specs.Slots.{Said, Written, bare, entry_with, entries_from, says_of}
 use Rattle.twkb_layer.specs.Devices.Seeking.{outside}
 use Rattle.twkb_layer.specs.Window.{is_inside, box_misses, is_missed}
 use Rattle.twkb_layer.specs.declared.hits.Found.{Found}
@@ -24,9 +24,9 @@ use Rattle.twkb_layer.proofs.Layers.{blob_some, layer_short}
 use Rattle.twkb_layer.proofs.EachBlob.{Next, next_of, Walking, walk_begins, walk_goes_on, walk_fits, blob_few, walk_ends}
 use Rattle.twkb_layer.proofs.Scanning.{scan_ends, scan_reads}
 use Rattle.twkb_layer.proofs.Costs.{directory_cost_few}
-use Rattle.twkb_layer.specs.Devices.Layer.{OfEntry}
+use Rattle.twkb_layer.specs.Devices.Layer.{OfBlob, OfEntry}
 use Rattle.twkb_layer.specs.Devices.Scanning.{Scan, finds}
-use Rattle.twkb_layer.proofs.Entries.{entries_of, says_alone, says_two, short_own, unboxed}
+use Rattle.twkb_layer.proofs.Entries.{entries_of, says_alone, says_two, short_own}
 
 -- ---- a box that misses
 
@@ -99,7 +99,7 @@ module _ {S : Type 0} (of : Found → S) (w : Bounds) (bytes : List ℕ) (count0
     pub on : Walking (finds of) (λ s g. directory_cost s.window g) None bytes count0 (record { window = w; found = 0; room = room0 }) rest blob place count (record { window = w; found = found; room = room }) (λ blob more. found + more < 2 ^ 64)
     pub entries_are : entries_from beyond slots ≡ told_from entry_of blob place rest
 
-  pub look_begins : (slots : List Said) (trees : List Geometry) → IsCertifiedLayer trees bytes → entries_of slots ≡ entries trees → length bytes < 2 ^ 64 → count0 < 2 ^ 64 → Looking (unboxed 0) slots count0 0 0 room0
+  pub look_begins : (slots : List Said) (trees : List Geometry) → IsCertifiedLayer trees bytes → entries_of slots ≡ entries trees → length bytes < 2 ^ 64 → count0 < 2 ^ 64 → Looking (bare 0) slots count0 0 0 room0
   look_begins slots trees whole are short small = record {
     place = 0;
     rest = trees;
@@ -119,12 +119,12 @@ module _ {S : Type 0} (of : Found → S) (w : Bounds) (bytes : List ℕ) (count0
   -- the slot of this number, and the slots after it
   module _ (beyond : Said) (slots : List Written) (at : ℕ) (count blob found : ℕ) (room : List S) (s : Looking beyond (flat_map says_of (drop at slots)) count blob found room)
       (slot : Written) (is : slot ≡ get_or slots at slot) (lt : at < length slots) where
-    slot_next : Looking beyond (says_of slot ++ flat_map says_of (drop (at + 1) slots)) count blob found room
+    pub slot_next : Looking beyond (says_of slot ++ flat_map says_of (drop (at + 1) slots)) count blob found room
     slot_next =
         subst (λ ls. Looking beyond (flat_map says_of ls) count blob found room) (drop_more slots at slot lt ∙ ap (λ (l : Written). l ∷ drop (at + 1) slots) (sym is)) s
 
     -- what the slot says, if it isn't of two blobs, and if it is
-    pub one_next : false ≡ is_pair slot → Looking beyond (slot_says slot ∷ flat_map says_of (drop (at + 1) slots)) count blob found room
+    pub one_next : false ≡ is_shared slot → Looking beyond (slot_says slot ∷ flat_map says_of (drop (at + 1) slots)) count blob found room
     one_next alone = subst (λ ls. Looking beyond (ls ++ flat_map says_of (drop (at + 1) slots)) count blob found room) (says_alone slot (sym alone)) slot_next
 
     pub two_next : true ≡ is_pair slot → Looking beyond (half_says false slot ∷ half_says true slot ∷ flat_map says_of (drop (at + 1) slots)) count blob found room
@@ -171,6 +171,30 @@ module _ {S : Type 0} (of : Found → S) (w : Bounds) (bytes : List ℕ) (count0
         let stands = here_stands s.rest bytes now s.place beyond slots blob e here same in
         look_goes_on beyond slot slots count blob found room s e here new (adds here.next.tree stands here.bounds ∙ ap (λ (v : Bounds). added count (directory_cost v here.next.tree)) v_is) more put
         (subst (λ (v : Bounds). finds of (record { window = v; found = found; room = room }) blob e.offset here.next.tree ≡ record { window = v; found = more; room = put }) v_is (found_is here.next.tree stands here.bounds))
+
+  -- the next blob of a run, and the scan after it
+  module _ {beyond : Said} (blobs : List Said) (part : ℕ) (others : List Said) {count blob found : ℕ} {room : List S} (s : Looking beyond (drop part blobs ++ others) count blob found room) where
+    pub run_ends : length blobs ≤ part → Looking beyond others count blob found room
+    run_ends le = subst (λ ls. Looking beyond (ls ++ others) count blob found room) (drop_all part blobs le) s
+
+    module _ {now : List ℕ} (same : now ≡ bytes) {offset : ℕ} (is : bare offset ≡ get_or blobs part (bare 0)) (lt : part < length blobs) where
+      part_next : Looking beyond (bare offset ∷ (drop (part + 1) blobs ++ others)) count blob found room
+      part_next = subst (λ ls. Looking beyond (ls ++ others) count blob found room) (drop_more blobs part (bare 0) lt ∙ ap (λ (l : Said). l ∷ drop (part + 1) blobs) (sym is)) s
+
+      part_entry : record { offset = offset; bounds = None } ≡ entry_with beyond (bare offset)
+      part_entry = let at : offset ≡ offset + 0 = omega arith in (λ j. record { offset = at j; bounds = None })
+
+      pub part_stands : (g : Geometry) × StandsAt g 1 now offset
+      part_stands = slot_stands part_next same part_entry refl
+
+      pub part_fits : (blob < length bytes) × (found + 1 < 2 ^ 64)
+      part_fits = slot_fits part_next same part_entry refl
+
+      pub part_past : {v : Bounds} → v ≡ w → {new more : ℕ} {put : List S}
+          → OfBlob now offset (λ g. finds of (record { window = v; found = found; room = room }) blob offset g ≡ record { window = v; found = more; room = put })
+          → OfBlob now offset (λ g. new ≡ added count (cost v g)) → Looking beyond (drop (part + 1) blobs ++ others) new (blob + 1) more put
+      part_past {v} v_is found_is adds =
+          look_past part_next same part_entry refl v_is (λ g at none. found_is g at) (λ g at none. adds g at ∙ (λ j. added count (cond (is_missed v (none j)) 0 (cost v g))))
 
   -- the result of a scan with slots
   pub look_ends : (beyond : Said) (slots : List Written) (at count blob found : ℕ) (room : List S) → Looking beyond (flat_map says_of (drop at slots)) count blob found room → length slots ≤ at → (trees : List Geometry) → IsCertifiedLayer trees bytes

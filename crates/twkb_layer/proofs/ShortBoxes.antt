@@ -13,7 +13,7 @@ use Rattle.twkb_body.proofs.LaneSums.{wrapped}
 use Rattle.twkb_layer.specs.Devices.RawWindows.{IsRawWindow, raw_box_misses}
 use Rattle.twkb_layer.specs.Devices.ShortWindows.{IsShortOf, nearest, short_misses}
 use Rattle.twkb_layer.specs.Devices.Slots.{AreInner, AreShort, IsBetween, IsShortBox, box_ends, misses_in_x_or_y, slot_says, unpacked, precision_of, short_ends}
-use Rattle.twkb_layer.specs.Slots.{Said, Written, box_with, entry_with, long, range_in, says_with, short_says}
+use Rattle.twkb_layer.specs.Slots.{Said, Written, bare, box_with, entry_with, long, range_in, says_with, short_says}
 use Rattle.twkb_layer.specs.Window.{is_missed, lie_apart, lie_apart_if_both}
 use Rattle.twkb_layer.specs.declared.raw_windows.RawWindow.{RawWindow}
 use Rattle.twkb_layer.specs.declared.short_windows.ShortWindow.{ShortWindow}
@@ -123,14 +123,14 @@ short_more window shorts i raw short within is lanes before code less nowhere = 
 
 -- a form and a code decide whether there is a range
 range_some : (form code : ℕ) (a b : ℤ × ℤ) → is_some (range_in form code a) ≡ is_some (range_in form code b)
-range_some form code a b = go (form == 2) ((form == 3) || (nat_lt 3 form && nat_lt 7 code)) _ _ _ _
+range_some form code a b = go (form == 2) ((form == 3) || (nat_lt 4 form && nat_lt 7 code)) _ _ _ _
   where
     go : (p q : Bool) (v w x y : Span) → is_some (if p then Some v else if q then Some w else None) ≡ is_some (if p then Some x else if q then Some y else None)
     go true q v w x y = refl
     go false true v w x y = refl
     go false false v w x y = refl
 
-with_ranges : (code form : ℕ) (deep : Bool) (rest : ℕ) (a b : ℤ × ℤ) → nat_lt 3 form ≡ false → is_some (says_with code form deep rest a b).first ≡ is_some (says_with code form deep rest a b).second
+with_ranges : (code form : ℕ) (deep : Bool) (rest : ℕ) (a b : ℤ × ℤ) → nat_lt 4 form ≡ false → is_some (says_with code form deep rest a b).first ≡ is_some (says_with code form deep rest a b).second
 with_ranges code form deep rest a b near = range_some form code a b ∙ ap (λ (far : Bool). is_some (range_in form (if far then rest % 16 else code) b)) (sym near)
 
 -- a slot of one blob says a range in X exactly if it says one in Y
@@ -161,5 +161,5 @@ missed_by w None (Some y) z m is = absurd (cc (is))
 
 -- the entry of a slot of one blob misses a window
 pub entry_missed : (w : Bounds) (beyond : Said) (slot : Written) → (slot_says slot).beyond ≡ false → is_missed w (entry_with beyond (slot_says slot)).bounds
-    ≡ (misses_in_x_or_y w (slot_says slot) || (is_some (slot_says slot).first && (lie_apart_if_both (cond (slot_says slot).deep beyond.first None) w.z || lie_apart_if_both (cond (slot_says slot).deep beyond.second None) w.m)))
+    ≡ (misses_in_x_or_y w (slot_says slot) || (is_some (slot_says slot).first && (lie_apart_if_both (cond (slot_says slot).deep beyond (bare 0)).first w.z || lie_apart_if_both (cond (slot_says slot).deep beyond (bare 0)).second w.m)))
 entry_missed w beyond slot own = missed_by w (slot_says slot).first (slot_says slot).second _ _ (both_ranges slot own)

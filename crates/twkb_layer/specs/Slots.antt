@@ -1,5 +1,5 @@
 -- The slots of a directory: boxes in raw integers, with their precisions.
-use Rattle.std.specs.Prelude.{ℕ, ◌+◌, ◌*◌, ◌/◌, ◌%◌, ◌^◌, ◌==◌, nat_lt, ℤ, pos, ◌+ℤ◌, ◌-ℤ◌, ◌-◌, cond, if◌then◌else◌, ◌&&◌, ◌||◌, Bool, false, List, [], ◌∷◌, flat_map, Option, Some, None}
+use Rattle.std.specs.Prelude.{ℕ, ◌+◌, ◌*◌, ◌/◌, ◌%◌, ◌^◌, ◌==◌, nat_lt, ℤ, pos, ◌+ℤ◌, ◌-ℤ◌, ◌-◌, cond, if◌then◌else◌, ◌&&◌, ◌||◌, Bool, false, List, [], ◌∷◌, ◌++◌, map, take, flat_map, Option, Some, None}
 use Rattle.std.specs.Int.{w64, cast_signed}
 use Rattle.twkb_head.specs.declared.boxes.Span.{Span}
 use Rattle.twkb_head.specs.declared.boxes.Bounds.{Bounds}
@@ -8,7 +8,7 @@ use Rattle.twkb_layer.specs.Directory.{Entry}
 use Rattle.twkb_layer.specs.declared.slot_numbers.SlotNumbers.{SlotNumbers}
 
 -- What a slot says of a blob: its offset, X and Y of its box, and whether the slot before says more of it (`deep`); or, in a form of
--- 4 or more (`beyond`), Z and M of the box of the next slot's blob, and what is added to the offset there.
+-- 5 or more (`beyond`), Z and M of the box of the next slot's blob, and what is added to the offset there.
 pub record Said : Type 0 where
   pub beyond : Bool
   pub deep : Bool
@@ -23,22 +23,22 @@ pub record Written : Type 0 where
   pub second : SlotNumbers
 
 -- The range in a slot of this form, with this code of a precision, which is the precision plus 8, and two numbers: its ends in form
--- 2, otherwise a minimum and a width. Form 0 has no range, and in a form of 4 or more a code below 8 says that there is none.
+-- 2, otherwise a minimum and a width. Forms 0 and 4 have no range, and in a form of 5 or more a code below 8 says that there is none.
 abbrev pub range_in : ℕ → ℕ → ℤ × ℤ → Option Span
 range_in form code numbers =
     if form == 2 then Some (span_at (pos code -ℤ pos 8) numbers)
-    else if (form == 3) || (nat_lt 3 form && nat_lt 7 code)
+    else if (form == 3) || (nat_lt 4 form && nat_lt 7 code)
     then Some (span_at (pos code -ℤ pos 8) (numbers.0, numbers.0 +ℤ numbers.1)) else None
 
--- what a slot with this code and form says, whether the slot before says more, and the rest of its word; in a form of 4 or more, eight
--- bits of the rest are the bits of an offset above its lowest 56, and the lowest four are the code of the second range
+-- what a slot says by the parts of its word; in a form of 5 or more, the lowest four bits of the rest are the code of the second range,
+-- and the next eight the bits of an offset above its lowest 56
 abbrev pub says_with : ℕ → ℕ → Bool → ℕ → ℤ × ℤ → ℤ × ℤ → Said
 says_with code form deep rest first second = record {
-  beyond = nat_lt 3 form;
+  beyond = nat_lt 4 form;
   deep = deep;
-  offset = if nat_lt 3 form then (rest / 16) % 256 * 2 ^ 56 else rest;
+  offset = if nat_lt 4 form then (rest / 16) % 256 * 2 ^ 56 else rest;
   first = range_in form code first;
-  second = range_in form (if nat_lt 3 form then rest % 16 else code) second;
+  second = range_in form (if nat_lt 4 form then rest % 16 else code) second;
 }
 
 -- what a slot says by the ends of a box in X and in Y, numbers of 32 bits: 2^31 is added to the least ones, and the greatest are
@@ -52,9 +52,18 @@ short_says code deep offset n = says_with code (if n.x_least == 0 then 0 else 2)
 abbrev pub long : SlotNumbers → ℤ × ℤ
 long n = (cast_signed w64 (n.x_least + 2 ^ 32 * n.y_least), cast_signed w64 (n.x_greatest + 2 ^ 32 * n.y_greatest))
 
--- What a slot says, of one blob or of two. From the lowest bit on, its word has four bits of a code, three of a form, one that says
+-- what a slot says of a blob without a box
+abbrev pub bare : ℕ → Said
+bare offset = record { beyond = false; deep = false; offset = offset; first = None; second = None }
+
+-- the four numbers of 32 bits
+abbrev pub four : SlotNumbers → List ℕ
+four n = n.x_least ∷ n.y_least ∷ n.x_greatest ∷ n.y_greatest ∷ []
+
+-- What a slot says, of one blob or of several. From the lowest bit on, its word has four bits of a code, three of a form, one that says
 -- whether the slot before says more, and the rest. Form 0 is of a blob with numbers of 32 bits, and form 1 of two with one code: the
--- lowest 38 bits of the rest are the offset of the first, and the others say how much further the second begins.
+-- lowest 38 bits of the rest are the offset of the first, and the others say how much further the second begins. Form 4 is of blobs
+-- without a box: the rest is the offset of the first, and as many numbers of 32 bits as the code says how much further others begin.
 abbrev pub says_of : Written → List Said
 says_of slot =
     let code = slot.word % 16 in
@@ -64,6 +73,7 @@ says_of slot =
     let second = short_says code false (rest % 2 ^ 38 + rest / 2 ^ 38) slot.second in
     if form == 0 then short_says code deep rest slot.first ∷ []
     else if form == 1 then short_says code false (rest % 2 ^ 38) slot.first ∷ second ∷ []
+    else if form == 4 then map (λ further. bare (rest + further)) (0 ∷ take code (four slot.first ++ four slot.second))
     else says_with code form deep rest (long slot.first) (long slot.second) ∷ []
 
 -- the box of these ranges, or none if X or Y is missing
@@ -73,10 +83,9 @@ box_with _ _ _ _ = None
 
 -- the entry of a slot's blob. If the slot is deep, Z, M and the rest of the offset are from the last slot that says them.
 abbrev pub entry_with : Said → Said → Entry
-entry_with beyond slot = record {
-  offset = slot.offset + cond slot.deep beyond.offset 0;
-  bounds = box_with slot.first slot.second (cond slot.deep beyond.first None) (cond slot.deep beyond.second None);
-}
+entry_with beyond slot =
+    let more = cond slot.deep beyond (bare 0) in
+    record { offset = slot.offset + more.offset; bounds = box_with slot.first slot.second more.first more.second }
 
 -- the entries of the blobs of slots
 abbrev pub entries_from : Said → List Said → List Entry
@@ -86,5 +95,4 @@ entries_from beyond (slot ∷ slots) =
 
 -- `entries_from` the first slot in memory on, which no slot precedes
 abbrev pub entries_kept : List Written → List Entry
-entries_kept slots =
-    entries_from (record { beyond = false; deep = false; offset = 0; first = None; second = None }) (flat_map says_of slots)
+entries_kept slots = entries_from (bare 0) (flat_map says_of slots)

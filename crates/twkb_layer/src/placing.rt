@@ -6,11 +6,12 @@ ghost use Rattle.twkb_body.specs.Visit.{bytes_to_pass};
 ghost use Rattle.twkb_layer.specs.Directory.{Entry, IsDirectoryOf, entry_of};
 ghost use Rattle.twkb_layer.specs.Layer.{IsCertifiedLayer, AddsAtMost, OfLayer};
 ghost use Rattle.twkb_layer.specs.Devices.EachBlob.{Lent, adds, lent};
-ghost use Rattle.twkb_layer.specs.Devices.Slots.{HasItsLanes, box_said, entry_said, is_pair, own_said, passes_a_slot, said_before, slot_says};
+ghost use Rattle.twkb_layer.specs.Devices.Slots.{HasItsLanes, IsBare, box_said, entry_said, is_shared, own_said, passes_a_slot, said_before, slot_says};
 ghost use Rattle.twkb_layer.specs.Slots.{entries_kept};
 
 use crate::each_blob::{EachBlob, for_each_blob};
-use crate::slots::{Kept, OFFSET_LIMIT, Slot};
+use crate::slot_ranges::Kept;
+use crate::slots::{OFFSET_LIMIT, Slot};
 use std::alloc::Allocator;
 use twkb_body::{Passed, read_and_pass};
 use twkb_head::Fields;
@@ -97,13 +98,17 @@ fn put(room: &mut [Slot], used: usize, offset: usize, passed: &Passed) -> usize
     ensures left { drop result room.new ≡ drop result room.old }
 {
     if let Some(slot) = lane_slot(offset, passed) {
-        return put_one(room, used, slot);
+        return put_one(room, used, slot, false);
     }
     let raw = &passed.header;
+    if raw.bounds.is_none() && offset < OFFSET_LIMIT {
+        let own = Slot::unboxed(offset, false, raw.axes.xy);
+        return put_one(room, used, own, true);
+    }
     let deep = passes_a_slot(offset, raw);
     let own = own_slot(offset, deep, raw);
     if !deep {
-        return put_one(room, used, own);
+        return put_one(room, used, own, false);
     }
     room[used] = slot_before(offset, raw);
     room[used + 1] = own;
@@ -113,15 +118,16 @@ fn put(room: &mut [Slot], used: usize, offset: usize, passed: &Passed) -> usize
 /// Adds the blob of a slot to the last of the `used` slots of the room, if that has place for it. Otherwise puts the slot after them.
 /// Returns how many are used then.
 #[inline(always)]
-fn put_one(room: &mut [Slot], used: usize, own: Slot) -> usize
+fn put_one(room: &mut [Slot], used: usize, own: Slot, is_bare: bool) -> usize
     requires spare { used < length room.old }
+    requires bare { is_bare ≡ true → IsBare own }
     ensures says { entries_kept (take result room.new) ≡ entries_kept (take used room.old ++ own ∷ []) }
     ensures more { used ≤ result }
     ensures few { result ≤ used + 1 }
     ensures room { length room.new ≡ length room.old }
     ensures left { drop result room.new ≡ drop result room.old }
 {
-    if takes_in(&mut room[..used], &own) {
+    if takes_in(&mut room[..used], &own, is_bare) {
         return used;
     }
     room[used] = own;
@@ -140,42 +146,56 @@ fn push<A: Allocator>(slots: &mut Vec<Slot, A>, offset: usize, passed: &Passed)
     ensures len { vec_len slots.new ≤ vec_len slots.old + 2 }
 {
     if let Some(slot) = lane_slot(offset, passed) {
-        push_one(slots, slot);
+        push_one(slots, slot, false);
         return;
     }
     let raw = &passed.header;
+    if raw.bounds.is_none() && offset < OFFSET_LIMIT {
+        let own = Slot::unboxed(offset, false, raw.axes.xy);
+        push_one(slots, own, true);
+        return;
+    }
     let deep = passes_a_slot(offset, raw);
     let own = own_slot(offset, deep, raw);
     if deep {
         slots.push_reserved(slot_before(offset, raw));
         slots.push_reserved(own);
     } else {
-        push_one(slots, own);
+        push_one(slots, own, false);
     }
 }
 
 /// Adds the blob of a slot to the last slot, if that has place for it. Otherwise pushes the slot.
 #[inline(always)]
-fn push_one<A: Allocator>(slots: &mut Vec<Slot, A>, own: Slot)
+fn push_one<A: Allocator>(slots: &mut Vec<Slot, A>, own: Slot, is_bare: bool)
     requires spare { vec_len slots.old < vec_capacity slots.old }
+    requires bare { is_bare ≡ true → IsBare own }
     ensures says { entries_kept slots.new.items ≡ entries_kept (slots.old.items ++ own ∷ []) }
     ensures capacity { vec_capacity slots.new ≡ vec_capacity slots.old }
     ensures len { vec_len slots.new ≤ vec_len slots.old + 1 }
 {
-    if !takes_in(slots, &own) {
+    if !takes_in(slots, &own, is_bare) {
         slots.push_reserved(own);
     }
 }
 
-/// Adds the blob of a slot to the last slot, if there is one and it has place for it. Returns whether it did.
+/// Adds the blob of a slot to the last slot, if there is one and it has place for it. Returns whether it did. `is_bare` says that the
+/// blob has no box, and may be added to others of its kind.
 #[inline(always)]
-fn takes_in(slots: &mut [Slot], own: &Slot) -> bool
+fn takes_in(slots: &mut [Slot], own: &Slot, is_bare: bool) -> bool
+    requires { is_bare ≡ true → IsBare own.now }
     ensures both { result ≡ true → entries_kept slots.new ≡ entries_kept (slots.old ++ own.now ∷ []) }
     ensures same { result ≡ false → slots.new ≡ slots.old }
     ensures len { length slots.new ≡ length slots.old }
 {
     match slots.last_mut() {
-        Some(last) => last.takes_in(own),
+        Some(last) => {
+            if is_bare {
+                last.takes_in_bare(own)
+            } else {
+                last.takes_in(own)
+            }
+        }
         None => false,
     }
 }
@@ -188,7 +208,7 @@ fn lane_slot(offset: usize, passed: &Passed) -> Option<Slot>
     requires lanes { HasItsLanes passed.now }
     ensures says { IfSome result (λ slot. slot_says slot ≡ own_said offset false (box_said passed.now.header)) }
     ensures deep { IfSome result (λ slot. passes_a_slot offset (box_said passed.now.header) ≡ false) }
-    ensures alone { IfSome result (λ slot. is_pair slot ≡ false) }
+    ensures alone { IfSome result (λ slot. is_shared slot ≡ false) }
 {
     if passed.short.is_read && offset < OFFSET_LIMIT {
         Some(Slot::of_lanes(offset, passed.short.lanes, passed.header.axes.xy))
@@ -210,7 +230,7 @@ fn passes_a_slot(offset: usize, raw: &Fields) -> bool
 fn own_slot(offset: usize, deep: bool, raw: &Fields) -> Slot
     requires { HavePrecisions raw.now.axes }
     ensures says { slot_says result ≡ own_said offset deep (box_said raw.now) }
-    ensures alone { is_pair result ≡ false }
+    ensures alone { is_shared result ≡ false }
 {
     match &raw.bounds {
         None => Slot::unboxed(offset % OFFSET_LIMIT, deep, raw.axes.xy),
@@ -223,7 +243,7 @@ fn own_slot(offset: usize, deep: bool, raw: &Fields) -> Slot
 fn slot_before(offset: usize, raw: &Fields) -> Slot
     requires { HavePrecisions raw.now.axes }
     ensures says { slot_says result ≡ said_before offset (box_said raw.now) }
-    ensures alone { is_pair result ≡ false }
+    ensures alone { is_shared result ≡ false }
 {
     match &raw.bounds {
         None => Slot::beyond(offset, Kept::nothing(), Kept::nothing()),

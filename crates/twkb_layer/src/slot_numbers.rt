@@ -1,12 +1,12 @@
-//! [`SlotNumbers`], what a directory's slot keeps of a box: four numbers of 32 bits, or two of 64.
+//! [`SlotNumbers`], half of what a directory's slot keeps beside its word: four numbers of 32 bits, or two of 64.
 //! Used by `short_windows` and `slots`.
-ghost use Rattle.std.specs.Prelude.{◌≡◌, ◌+◌, ◌*◌, ◌^◌, ◌+ℤ◌, ◌-ℤ◌, pos, [], ◌∷◌, All, IfSome, map};
+ghost use Rattle.std.specs.Prelude.{◌≡◌, ◌+◌, ◌*◌, ◌^◌, ◌+ℤ◌, ◌-ℤ◌, pos, [], ◌∷◌, ◌++◌, All, IfSome, map, set, ◌<◌};
 ghost use Rattle.std.specs.Int.{w32, w64, cast_signed};
 ghost use Rattle.twkb_num.specs.Varint.{IsShort};
 ghost use Rattle.twkb_head.specs.Raw.{ends_of};
 ghost use Rattle.twkb_head.specs.declared.raw.RawRange.{RawRange};
 ghost use Rattle.twkb_layer.specs.Devices.Slots.{AreShort, IsBetween, box_ends, no_box};
-ghost use Rattle.twkb_layer.specs.Slots.{long};
+ghost use Rattle.twkb_layer.specs.Slots.{four, long};
 
 use std::simd::prelude::*;
 
@@ -19,7 +19,8 @@ pub const BIAS: i64 = 1 << 31;
 /// Four numbers of 32 bits, by which a slot keeps the ends of a box in X and in Y. 2^31 is added to the least ones, and the greatest are
 /// subtracted from 2^31 - 1, so that a box meets a window if no number is above a limit.
 ///
-/// Or two numbers of 64 bits: the first two fields are the lower and the upper 32 bits of one, and the last two of the other.
+/// Or two numbers of 64 bits: the first two fields are the lower and the upper 32 bits of one, and the last two of the other. Or how much
+/// further than the first of a run four more blobs begin.
 #[repr(C)]
 #[derive(Clone, Copy)]
 pub struct SlotNumbers {
@@ -106,13 +107,45 @@ impl SlotNumbers {
         )
     }
 
+    /// Puts a number of 32 bits in place of one of the four.
+    // By name: the compiler would write an array to memory and read it again.
+    #[inline(always)]
+    pub fn set(&mut self, at: usize, number: u32)
+        requires { at < 4 }
+        ensures { four self.new ≡ set (four self.old) at number }
+    {
+        match at {
+            0 => self.x_least = number,
+            1 => self.y_least = number,
+            2 => self.x_greatest = number,
+            _ => self.y_greatest = number,
+        }
+    }
+
     /// The four numbers of 32 bits in lanes.
     #[inline(always)]
     pub fn lanes(self) -> u32x4
-        ensures { result ≡ self.x_least ∷ self.y_least ∷ self.x_greatest ∷ self.y_greatest ∷ [] }
+        ensures { result ≡ four self }
     {
         u32x4::from_array([self.x_least, self.y_least, self.x_greatest, self.y_greatest])
     }
+}
+
+/// Eight numbers of 32 bits, in the order of a slot.
+#[inline(always)]
+pub fn eight(first: SlotNumbers, second: SlotNumbers) -> [u32; 8]
+    ensures { result ≡ four first ++ four second }
+{
+    [
+        first.x_least,
+        first.y_least,
+        first.x_greatest,
+        first.y_greatest,
+        second.x_least,
+        second.y_least,
+        second.x_greatest,
+        second.y_greatest,
+    ]
 }
 
 /// A number with 2^31 added, if it is between the least and the greatest number of 32 bits.

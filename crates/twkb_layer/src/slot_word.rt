@@ -10,8 +10,10 @@ pub const PAIR: u64 = 1;
 pub const ENDS: u64 = 2;
 /// A slot of a blob whose box is kept by its minima and widths.
 pub const WIDTHS: u64 = 3;
+/// A slot of two or more blobs without a box.
+pub const RUN: u64 = 4;
 /// A slot of what the next slot has no place for.
-pub const BEYOND: u64 = 4;
+pub const BEYOND: u64 = 5;
 
 /// A slot of two blobs can't hold this distance between their offsets, nor a greater one.
 const DISTANCE_LIMIT: u64 = 1 << 18;
@@ -48,7 +50,8 @@ impl Word {
         (self.bits % 16) as usize
     }
 
-    /// What the slot keeps: [`SHORT`], [`PAIR`], [`ENDS`], [`WIDTHS`] or, from [`BEYOND`] on, what another slot has no place for.
+    /// What the slot keeps: [`SHORT`], [`PAIR`], [`ENDS`], [`WIDTHS`], [`RUN`] or, from [`BEYOND`] on, what another slot has no place
+    /// for.
     #[inline(always)]
     pub fn form(&self) -> u64
         ensures { result ≡ (unpacked self.now.bits).form }
@@ -73,6 +76,15 @@ impl Word {
         self.bits / 256
     }
 
+    /// Whether the form is [`SHORT`], and the slot before says nothing more.
+    #[inline(always)]
+    pub fn is_flat_and_short(&self) -> bool
+        ensures form { result ≡ true → (unpacked self.now.bits).form ≡ 0 }
+        ensures flat { result ≡ true → (unpacked self.now.bits).deep ≡ false }
+    {
+        self.bits % 256 < 16
+    }
+
     /// The word of a slot of two blobs, if their own slots have this word and the next one, and it has place for both.
     #[inline(always)]
     pub fn pair(&self, next: &Word) -> Option<Word>
@@ -81,7 +93,7 @@ impl Word {
     {
         let (first, second) = (self.rest(), next.rest());
         // Neither has another form than SHORT, or a slot before it, and their codes are equal.
-        let are_alike = self.bits % 256 < 16 && next.bits % 256 == self.bits % 256;
+        let are_alike = self.is_flat_and_short() && next.bits % 256 == self.bits % 256;
         if are_alike && first < PAIR_LIMIT && first <= second && second - first < DISTANCE_LIMIT {
             Some(Word {
                 bits: self.bits + 16 * PAIR + 256 * PAIR_LIMIT * (second - first),

@@ -1,29 +1,32 @@
 //! [`Slot`], 40 bytes in which a directory keeps the offset and the box of a blob, or of two.
 //! Used by other crates, and here by `certified`, `directory`, `entry`, `placing` and `scans`.
-ghost use Rattle.std.specs.Prelude.{◌≡◌, ◌++◌, ◌+ℤ◌, pos, unsigned_abs, ◌/◌, ◌*◌, ◌^◌, ◌<◌, ◌≤◌, ◌||◌, if◌then◌else◌, [], ◌∷◌, All, false, true, IfSome, None, Some, is_some, map, option_map};
+ghost use Rattle.std.specs.Prelude.{◌≡◌, ◌++◌, ◌+ℤ◌, pos, unsigned_abs, ◌/◌, ◌*◌, ◌^◌, ◌<◌, ◌≤◌, ◌||◌, ◌⊎◌, if◌then◌else◌, [], ◌∷◌, All, get_or, length, false, true, IfSome, None, Some, is_some, map};
 ghost use Rattle.std.specs.Int.{w32, cast_signed};
 ghost use Rattle.twkb_num.specs.Units.{IsPrecision};
 ghost use Rattle.twkb_num.specs.Varint.{IsShort};
 ghost use Rattle.twkb_head.specs.Head.{span_at};
 ghost use Rattle.twkb_head.specs.Raw.{ends_of};
 ghost use Rattle.twkb_head.specs.declared.raw.RawRange.{RawRange as RawRangeOf};
-ghost use Rattle.twkb_layer.specs.Devices.Slots.{IsOwn, IsShortBox, half_says, is_pair, misses_in_x_or_y, slot_says, short_ends};
-ghost use Rattle.twkb_layer.specs.Slots.{range_in, says_of, short_says};
+ghost use Rattle.twkb_layer.specs.Devices.Slots.{IsBare, IsOwn, IsShortBox, half_says, is_pair, is_run, is_shared, misses_in_x_or_y, slot_says, short_ends, unpacked};
+ghost use Rattle.twkb_layer.specs.Slots.{bare, range_in, says_of, short_says};
 ghost use Rattle.twkb_layer.specs.Window.{lie_apart_if_both};
 
 use crate::raw_windows::RawWindows;
 use crate::short_windows::SlotWindows;
-use crate::slot_numbers::{BIAS, SlotNumbers};
-use crate::slot_word::{BEYOND, ENDS, PAIR, SHORT, WIDTHS, Word};
+use crate::slot_numbers::{SlotNumbers, eight};
+use crate::slot_ranges::{Kept, range_in, short_range};
+use crate::slot_word::{BEYOND, ENDS, PAIR, RUN, SHORT, WIDTHS, Word};
 use crate::window::Window;
 use std::marker::Model;
 use std::simd::prelude::*;
 use twkb_body::Span;
 use twkb_head::RawRange;
-use twkb_num::units;
 
 /// The first offset that a slot can't hold. The rest of such an offset goes into a slot before it, as Z and M do.
 pub const OFFSET_LIMIT: usize = 1 << 56;
+
+/// How many blobs a run has at most after the first.
+const MOST_FURTHER: usize = 8;
 
 /// A slot of a directory.
 ///
@@ -43,7 +46,7 @@ pub struct Slot {
 }
 
 impl Model for Slot {
-    ghost use Rattle.twkb_layer.specs.Devices.Slots.{written, KeepsBoxes};
+    ghost use Rattle.twkb_layer.specs.Devices.Slots.{written, IsSlot};
     ghost use Rattle.twkb_layer.specs.Slots.{Written};
 
     ghost Value = { Written };
@@ -52,7 +55,7 @@ impl Model for Slot {
 
     ghost inverse = { λ w. record { word = record { bits = w.word }; first = w.first; second = w.second } };
 
-    ghost invariant = { λ s. KeepsBoxes (written s) };
+    ghost invariant = { λ s. IsSlot (written s) };
 }
 
 impl Slot {
@@ -68,7 +71,8 @@ impl Slot {
           first = None;
           second = None;
         } }
-        ensures alone { is_pair result ≡ false }
+        ensures alone { is_shared result ≡ false }
+        ensures bare { deep ≡ false → IsBare result }
     {
         Slot::kept(precision, deep, offset, SlotNumbers::no_box())
     }
@@ -86,7 +90,7 @@ impl Slot {
           first = Some (span_at precision (ends_of x));
           second = Some (span_at precision (ends_of y));
         } }
-        ensures alone { is_pair result ≡ false }
+        ensures alone { is_shared result ≡ false }
     {
         if !x.is_near() || !y.is_near() {
             return Slot {
@@ -120,7 +124,7 @@ impl Slot {
               first = Some (span_at precision (ends_of x));
               second = Some (span_at precision (ends_of y));
             } }
-        ensures alone { is_pair result ≡ false }
+        ensures alone { is_shared result ≡ false }
     {
         Slot::kept(precision, false, offset, SlotNumbers::of_lanes(lanes))
     }
@@ -132,7 +136,10 @@ impl Slot {
         requires offset { offset < 2 ^ 56 }
         requires first { IsShortBox first }
         ensures says { slot_says result ≡ short_says (unsigned_abs (precision +ℤ pos 8)) deep offset first }
-        ensures alone { is_pair result ≡ false }
+        ensures form { (unpacked result.word).form ≡ 0 }
+        ensures deep { (unpacked result.word).deep ≡ deep }
+        ensures first { result.first ≡ first }
+        ensures alone { is_shared result ≡ false }
     {
         Slot {
             word: Word::new((precision + 8) as u64, SHORT, deep, offset as u64),
@@ -151,13 +158,15 @@ impl Slot {
           first = z;
           second = m;
         } }
-        ensures alone { is_pair result ≡ false }
+        ensures alone { is_shared result ≡ false }
     {
         let passed = (offset / OFFSET_LIMIT) as u64;
+        let (z_code, z_numbers) = z.parts();
+        let (m_code, m_numbers) = m.parts();
         Slot {
-            word: Word::new(z.code, BEYOND, false, m.code + 16 * passed),
-            first: SlotNumbers::long(z.numbers),
-            second: SlotNumbers::long(m.numbers),
+            word: Word::new(z_code, BEYOND, false, m_code + 16 * passed),
+            first: SlotNumbers::long(z_numbers),
+            second: SlotNumbers::long(m_numbers),
         }
     }
 
@@ -177,6 +186,82 @@ impl Slot {
         }
     }
 
+    /// Adds the blob of the next slot, which has no box, to this slot, if there is place for it. Otherwise this slot stays as it is.
+    #[inline(always)]
+    pub(crate) fn takes_in_bare(&mut self, next: &Slot) -> bool
+        requires { IsBare next.now }
+        ensures both { result ≡ true → says_of self.new ≡ says_of self.old ++ says_of next.now }
+        ensures same { result ≡ false → self.new ≡ self.old }
+    {
+        if self.is_run() || self.is_bare() {
+            self.goes_on(next.word.rest())
+        } else {
+            self.takes_in(next)
+        }
+    }
+
+    /// Adds a blob without a box, which begins at the offset, to a run or to another such blob, if there is place for it. Otherwise this
+    /// slot stays as it is.
+    #[inline(always)]
+    fn goes_on(&mut self, offset: u64) -> bool
+        requires { is_run self.old ≡ true ⊎ IsBare self.old }
+        ensures both { result ≡ true → says_of self.new ≡ says_of self.old ++ bare offset ∷ [] }
+        ensures same { result ≡ false → self.new ≡ self.old }
+    {
+        let first = self.word.rest();
+        let further = if self.is_run() { self.word.code() } else { 0 };
+        if further == MOST_FURTHER || offset < first || offset - first > u64::from(u32::MAX) {
+            return false;
+        }
+        let distance = (offset - first) as u32;
+        self.word = Word::new(further as u64 + 1, RUN, false, first);
+        if further < 4 {
+            self.first.set(further, distance);
+        } else {
+            self.second.set(further - 4, distance);
+        }
+        true
+    }
+
+    /// Whether the slot is of one blob without a box, and the slot before it says nothing more of the blob.
+    #[inline(always)]
+    fn is_bare(&self) -> bool
+        ensures { result ≡ true → IsBare self.now }
+    {
+        self.first.x_least == 0 && self.word.is_flat_and_short()
+    }
+
+    /// Whether the slot is of a run of blobs without a box.
+    #[inline(always)]
+    pub(crate) fn is_run(&self) -> bool
+        ensures { result ≡ is_run self.now }
+    {
+        self.word.form() == RUN
+    }
+
+    /// How many blobs a run has.
+    #[inline(always)]
+    pub(crate) fn blobs(&self) -> usize
+        requires { is_run self.now ≡ true }
+        ensures { result ≡ length (says_of self.now) }
+    {
+        self.word.code() + 1
+    }
+
+    /// Where a blob of a run begins.
+    #[inline(always)]
+    pub(crate) fn begin_of(&self, blob: usize) -> usize
+        requires run { is_run self.now ≡ true }
+        requires within { blob < length (says_of self.now) }
+        ensures { bare result ≡ get_or (says_of self.now) blob (bare 0) }
+    {
+        let first = self.word.rest() as usize;
+        if blob == 0 {
+            return first;
+        }
+        first + eight(self.first, self.second)[blob - 1] as usize
+    }
+
     /// Whether the slot is of two blobs.
     #[inline(always)]
     pub(crate) fn is_pair(&self) -> bool
@@ -190,7 +275,7 @@ impl Slot {
     pub(crate) fn half(&self, is_second: bool) -> Slot
         requires { is_pair self.now ≡ true }
         ensures says { slot_says result ≡ half_says is_second self.now }
-        ensures alone { is_pair result ≡ false }
+        ensures alone { is_shared result ≡ false }
     {
         Slot {
             word: self.word.half(is_second),
@@ -301,82 +386,6 @@ impl Slot {
             || lie_apart_if_both (slot_says self.now).second window.now.m) }
     {
         window.misses_in_z_or_m(self.first(), self.second())
-    }
-}
-
-/// The range of an axis that a box may lack: a minimum and a width, and a code, which is their precision plus 8. A code below 8
-/// says that there is no range.
-#[derive(Drop)]
-pub struct Kept {
-    code: u64,
-    numbers: (i64, i64),
-}
-
-impl Model for Kept {
-    ghost use Rattle.std.specs.Prelude.{◌<◌, Option};
-    ghost use Rattle.twkb_head.specs.declared.boxes.Span.{Span};
-    ghost use Rattle.twkb_layer.specs.Slots.{range_in};
-
-    ghost Value = { Option Span };
-
-    ghost view = { λ k. range_in 4 k.code k.numbers };
-
-    ghost invariant = { λ k. k.code < 16 };
-}
-
-impl Kept {
-    /// No range.
-    #[inline(always)]
-    pub fn nothing() -> Kept
-        ensures { result ≡ None }
-    {
-        Kept {
-            code: 0,
-            numbers: (0, 0),
-        }
-    }
-
-    /// The range of an axis at its precision, or no range if it has no precision.
-    #[inline(always)]
-    pub fn of(range: RawRange, precision: Option<u8>) -> Kept
-        requires { IfSome precision (λ p. p ≤ 7) }
-        ensures { result ≡ option_map (λ p. span_at (pos p) (ends_of range)) precision }
-    {
-        match precision {
-            Some(precision) => Kept {
-                code: u64::from(precision) + 8,
-                numbers: (range.minimum, range.extent),
-            },
-            None => Kept::nothing(),
-        }
-    }
-}
-
-/// A range in 32 bits, if there is a box.
-fn short_range(code: usize, is_boxed: bool, least: u32, greatest: u32) -> Option<Span>
-    requires { code < 16 }
-    ensures { result ≡ range_in (if is_boxed then 2 else 0) code (short_ends least greatest) }
-{
-    let form = if is_boxed { ENDS } else { SHORT };
-    let ends = (i64::from(least) - BIAS, BIAS - 1 - i64::from(greatest));
-    range_in(form, code, ends)
-}
-
-/// The range in a slot of this form, if it has one.
-fn range_in(form: u64, code: usize, numbers: (i64, i64)) -> Option<Span>
-    requires { code < 16 }
-    ensures { result ≡ range_in form code numbers }
-{
-    let precision = code as i8 - 8;
-    if form == ENDS {
-        Some(Span {
-            lo: units(i128::from(numbers.0), precision),
-            hi: units(i128::from(numbers.1), precision),
-        })
-    } else if form == WIDTHS || (form >= BEYOND && code > 7) {
-        Some(Span::spelled(numbers.0, numbers.1, precision))
-    } else {
-        None
     }
 }
 

@@ -1,6 +1,6 @@
 -- Devices of proofs: nothing public names them.
 -- What slots keep, and the slots of a blob.
-use Rattle.std.specs.Prelude.{All, IsTrue, [], ◌∷◌, map, ◌≡◌, ℕ, ◌-◌, ◌*◌, ◌/◌, ◌%◌, ◌^◌, ◌+◌, ◌==◌, cond, nat_le, ℤ, pos, neg_ℤ, ◌-ℤ◌, ◌<ℤ◌, ◌<◌, ◌⊎◌, ◌||◌, if◌then◌else◌, Bool, true, false, Option, Some, None, is_some, option_map, option_and_then}
+use Rattle.std.specs.Prelude.{All, IsTrue, [], ◌∷◌, map, ◌≡◌, ℕ, ◌-◌, ◌*◌, ◌/◌, ◌%◌, ◌^◌, ◌+◌, ◌==◌, cond, nat_le, ℤ, pos, neg_ℤ, ◌-ℤ◌, ◌<ℤ◌, ◌<◌, ◌≤◌, ◌⊎◌, ◌||◌, if◌then◌else◌, Bool, true, false, Option, Some, None, is_some, option_map, option_and_then}
 use Rattle.twkb_head.specs.declared.boxes.Span.{Span}
 use Rattle.twkb_head.specs.declared.boxes.Bounds.{Bounds}
 use Rattle.twkb_head.specs.declared.raw.Fields.{Fields}
@@ -34,13 +34,13 @@ pub record Packed : Type 0 where
 abbrev pub unpacked : ℕ → Packed
 unpacked word = record { code = word % 16; form = (word / 16) % 8; deep = (word / 128) % 2 == 1; rest = word / 256 }
 
--- what a slot with this word says, if it isn't of two blobs
+-- what a slot with this word says, if it is of one blob
 abbrev pub says_by : Packed → SlotNumbers → SlotNumbers → Said
 says_by word first second =
     if word.form == 0 then short_says word.code word.deep word.rest first
     else says_with word.code word.form word.deep word.rest (long first) (long second)
 
--- what a slot that isn't of two blobs says
+-- what a slot of one blob says
 abbrev pub slot_says : Written → Said
 slot_says slot = says_by (unpacked slot.word) slot.first slot.second
 
@@ -48,10 +48,24 @@ slot_says slot = says_by (unpacked slot.word) slot.first slot.second
 abbrev pub is_pair : Written → Bool
 is_pair slot = (unpacked slot.word).form == 1
 
+-- the slot is of a run of blobs without a box
+abbrev pub is_run : Written → Bool
+is_run slot = (unpacked slot.word).form == 4
+
+-- the slot is of several blobs
+abbrev pub is_shared : Written → Bool
+is_shared slot = is_pair slot || is_run slot
+
 -- the slot is of one blob
 pub record IsOwn (slot : Written) : Type 0 where
   pub own : (slot_says slot).beyond ≡ false
-  pub alone : is_pair slot ≡ false
+  pub alone : is_shared slot ≡ false
+
+-- the slot is of one blob without a box, and the slot before it says nothing more of the blob
+pub record IsBare (slot : Written) : Type 0 where
+  pub short : (unpacked slot.word).form ≡ 0
+  pub flat : (unpacked slot.word).deep ≡ false
+  pub none : slot.first.x_least ≡ 0
 
 -- the offset of the second or the first of two blobs, by the rest of the word of their slot
 abbrev pub half_offset : Bool → ℕ → ℕ
@@ -117,12 +131,14 @@ no_box = record { x_least = 0; y_least = 0; x_greatest = 0; y_greatest = 0 }
 abbrev pub IsShortBox : SlotNumbers → Type 0
 IsShortBox n = AreShort n ⊎ (n ≡ no_box)
 
--- A slot of numbers of 32 bits keeps short boxes, and one that keeps ends of 64 bits (form 2) inner ends (`AreInner`).
-pub record KeepsBoxes (l : Written) : Type 0 where
+-- A slot of numbers of 32 bits keeps short boxes, one that keeps ends of 64 bits (form 2) inner ends (`AreInner`), and a run at most
+-- eight blobs after the first.
+pub record IsSlot (l : Written) : Type 0 where
   pub short : (unpacked l.word).form < 2 → IsShortBox l.first
   pub pair : (unpacked l.word).form ≡ 1 → IsShortBox l.second
   pub x_ends : (unpacked l.word).form ≡ 2 → AreInner (long l.first)
   pub y_ends : (unpacked l.word).form ≡ 2 → AreInner (long l.second)
+  pub run : (unpacked l.word).form ≡ 4 → (unpacked l.word).code ≤ 8
 
 -- the box that a slot says misses the window in X or in Y
 abbrev pub misses_in_x_or_y : Bounds → Said → Bool

@@ -1,14 +1,19 @@
 -- One slot or two follow the slots that were there, or the last one says the blob too.
-use Rattle.std.proofs.Common.{◌≡◌, ◌+◌, ap, arith, false, refl, slice_set, sym, take, ◌∙◌}
+use Rattle.std.proofs.Common.{◌≡◌, ◌+◌, ap, arith, false, not, refl, slice_set, sym, take, ◌∙◌}
 use Rattle.twkb_layer.specs.Devices.Slots.{box_said}
 use Rattle.twkb_layer.specs.Slots.{entries_kept}
-use Rattle.twkb_layer.proofs.Entries.{kept_one, kept_two, room_two}
+use Rattle.twkb_layer.proofs.Entries.{bare_one, kept_one, kept_two, room_two}
 use Rattle.twkb_layer.proofs.placing.put.Goals as goal
 
 pub returns-in-Some-clause-says : goal.returns-in-Some-clause-says
 returns-in-Some-clause-says c =
     let slot = c.in-Some.ensures in
     c.put_one.ensures.says ∙ kept_one (take c.args.used c.args.room.now) c.args.offset false (box_said c.args.passed.now.header) (sym slot.deep) c.in-Some.slot slot.alone slot.says refl
+
+pub returns-then-offset-lt-OFFSET_LIMIT-clause-says : goal.returns-then-offset-lt-OFFSET_LIMIT-clause-says
+returns-then-offset-lt-OFFSET_LIMIT-clause-says c =
+    let own = c.unboxed-own.ensures in
+    c.put_one-then-offset-lt-OFFSET_LIMIT.ensures.says ∙ bare_one (take c.args.used c.args.room.now) c.args.offset c.args.passed.now.header _ (c.is_none.ensures ∙ ap not c.if-is_none.true) c.if-offset-lt-OFFSET_LIMIT.true own.alone own.says
 
 pub returns-then-not-deep-clause-says : goal.returns-then-not-deep-clause-says
 returns-then-not-deep-clause-says c =

@@ -4,7 +4,7 @@ use Rattle.std.proofs.Math.Bool.{and-false}
 use Rattle.twkb_head.specs.declared.boxes.Bounds.{Bounds}
 use Rattle.twkb_layer.specs.Devices.Slots.{misses_in_x_or_y, slot_says}
 use Rattle.twkb_layer.specs.Directory.{Entry}
-use Rattle.twkb_layer.specs.Slots.{Said, Written, entry_with}
+use Rattle.twkb_layer.specs.Slots.{Said, Written, bare, entry_with}
 use Rattle.twkb_layer.specs.Window.{is_missed, lie_apart_if_both}
 use Rattle.twkb_layer.proofs.ShortBoxes.{entry_missed}
 use Rattle.twkb_layer.proofs.entry.Entry.misses.Goals as goal
@@ -12,7 +12,7 @@ use Rattle.twkb_layer.proofs.entry.Entry.misses.Goals.{then-is_deep, else-is_dee
 
 -- the parts of a box of a slot of one blob that miss a window
 abbrev parts : Bool → Bool → Bool → Said → Bounds → Bool
-parts flat boxed deep beyond w = flat || (boxed && (lie_apart_if_both (cond deep beyond.first None) w.z || lie_apart_if_both (cond deep beyond.second None) w.m))
+parts flat boxed deep beyond w = flat || (boxed && (lie_apart_if_both (cond deep beyond (bare 0)).first w.z || lie_apart_if_both (cond deep beyond (bare 0)).second w.m))
 
 -- the answer, if it is known what the parts are
 answers : (w : Bounds) (e : Entry) (beyond : Said) (slot : Written) (flat boxed deep answer : Bool) → entry_with beyond (slot_says slot) ≡ e → (slot_says slot).beyond ≡ false

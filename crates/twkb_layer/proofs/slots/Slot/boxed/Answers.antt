@@ -43,6 +43,7 @@ invariant_of-result-2 c =
     record {
       short = λ few. absurd (omega (arith, few, form));
       pair = λ one. absurd (omega (arith, one, form));
+      run = λ four. absurd (omega (arith, four, form));
       x_ends = λ ends. subst AreInner (sym (c.long-2.ensures ∙ c.ends-3.ensures)) (inner c.args.x (c.is_near.ensures (let no = c.if-not-is_near.false in grind (arith, nat_tests))));
       y_ends = λ ends. subst AreInner (sym (c.long-3.ensures ∙ c.ends-4.ensures)) (inner c.args.y (c.is_near-else-not-is_near.ensures (let no = c.if-not-is_near-2.false in grind (arith, nat_tests))));
     }

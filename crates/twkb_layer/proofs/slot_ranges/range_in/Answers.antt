@@ -8,7 +8,7 @@ use Rattle.twkb_num.specs.Units.{units_of}
 use Rattle.twkb_head.specs.Head.{span_at}
 use Rattle.twkb_layer.specs.Devices.Slots.{precision_of}
 use Rattle.twkb_layer.specs.Slots.{range_in}
-use Rattle.twkb_layer.proofs.slots.range_in.Goals as goal
+use Rattle.twkb_layer.proofs.slot_ranges.range_in.Goals as goal
 
 pub units-requires-clause-least : goal.units-requires-clause-least
 units-requires-clause-least c = let fits : FitsSigned w64 c.args.numbers.0 = search rules in omega (arith, ints, fits, c.from.ensures)
@@ -43,11 +43,11 @@ returns-then-code-gt7 c =
     let second_fits : FitsSigned w64 c.args.numbers.1 = search rules in
     let precision : to_z w8 (of_z w8 (to_z w8 c.args.code -ℤ pos 8)) ≡ precision_of c.args.code = omega (arith, ints) in
     let near : (c.args.form == 2) ≡ false = grind (arith, nat_tests) in
-    let has : ((c.args.form == 3) || (nat_lt 3 c.args.form && nat_lt 7 c.args.code)) ≡ true =
+    let has : ((c.args.form == 3) || (nat_lt 4 c.args.form && nat_lt 7 c.args.code)) ≡ true =
     elim c.if-code-gt7.either [
-      | inl wide ↦ ap (λ (form : ℕ). (form == 3) || (nat_lt 3 form && nat_lt 7 c.args.code)) wide
+      | inl wide ↦ ap (λ (form : ℕ). (form == 3) || (nat_lt 4 form && nat_lt 7 c.args.code)) wide
       | inr beyond ↦
-          let far : nat_lt 3 c.args.form ≡ true = let more = beyond.1 in grind (arith, nat_tests) in
+          let far : nat_lt 4 c.args.form ≡ true = let more = beyond.1 in grind (arith, nat_tests) in
           let some : nat_lt 7 c.args.code ≡ true = let more = beyond.2 in grind (arith, nat_tests) in
           (λ j. (c.args.form == 3) || (far j && some j)) ∙ or_true (c.args.form == 3)
     ] in
@@ -58,15 +58,15 @@ returns-then-code-gt7 c =
 pub returns-else-code-gt7 : goal.returns-else-code-gt7
 returns-else-code-gt7 c =
     let near : (c.args.form == 2) ≡ false = grind (arith, nat_tests) in
-    let none : ((c.args.form == 3) || (nat_lt 3 c.args.form && nat_lt 7 c.args.code)) ≡ false =
+    let none : ((c.args.form == 3) || (nat_lt 4 c.args.form && nat_lt 7 c.args.code)) ≡ false =
     elim c.if-code-gt7.either [
       | inl beyond ↦
           let wide : (c.args.form == 3) ≡ false = let far = beyond.1 in grind (arith, nat_tests) in
           let few : nat_lt 7 c.args.code ≡ false = let few = beyond.2 in grind (arith, nat_tests) in
-          (λ j. wide j || (nat_lt 3 c.args.form && few j)) ∙ and-false (nat_lt 3 c.args.form)
+          (λ j. wide j || (nat_lt 4 c.args.form && few j)) ∙ and-false (nat_lt 4 c.args.form)
       | inr other ↦
           let wide : (c.args.form == 3) ≡ false = let no = other.0 in grind (arith, nat_tests) in
-          let far : nat_lt 3 c.args.form ≡ false = let no = other.1 in grind (arith, nat_tests) in
+          let far : nat_lt 4 c.args.form ≡ false = let no = other.1 in grind (arith, nat_tests) in
           (λ j. wide j || (far j && nat_lt 7 c.args.code))
     ] in
     let range = Some (span_at (precision_of c.args.code) (c.args.numbers.0, c.args.numbers.0 +ℤ c.args.numbers.1)) in

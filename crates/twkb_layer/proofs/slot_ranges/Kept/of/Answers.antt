@@ -5,7 +5,7 @@ use Rattle.std.proofs.lemmas.Bool.Decides.{nat_tests}
 use Rattle.std.proofs.lemmas.Int.{ints}
 use Rattle.twkb_head.specs.Head.{span_at}
 use Rattle.twkb_head.specs.Raw.{ends_of}
-use Rattle.twkb_layer.proofs.slots.Kept.of.Goals as goal
+use Rattle.twkb_layer.proofs.slot_ranges.Kept.of.Goals as goal
 use Rattle.twkb_layer.specs.Devices.Slots.{precision_of}
 
 pub returns-in-Some : goal.returns-in-Some
