@@ -157,20 +157,27 @@ static void directory(const struct twkb_layer *layer) {
     }
     struct twkb_slot *slots = guarded(room * sizeof *slots);
     size_t count = twkb_directory_build(layer, slots, room);
-    CHECK(layer->blobs <= 2 * count && count <= room);
+    CHECK(layer->blobs <= 9 * count && count <= room);
     CHECK(still(slots + count, (room - count) * sizeof *slots));
     slots_windows(layer, slots, count);
     free_guarded(slots, room * sizeof *slots);
 }
 
-/* Equal points share slots, two by two. */
-static void shared_slots(void) {
-    static const uint8_t points[] = {1, 0, 2, 2, 1, 0, 2, 2, 1, 0, 2, 2, 1, 0, 2, 2, 1, 0, 2, 2};
-    for (size_t blobs = 1; blobs <= 5; blobs++) {
-        struct twkb_layer layer = certified(points, 4 * blobs);
-        struct twkb_slot slots[10];
-        CHECK(twkb_directory_build(&layer, slots, 2 * blobs) == (blobs + 1) / 2);
+/* This many equal points share a slot. */
+static void shared_by(size_t many, const uint8_t *point, size_t len) {
+    uint8_t points[160];
+    struct twkb_slot slots[40];
+    for (size_t blobs = 1; blobs <= 20; blobs++) {
+        memcpy(points + (blobs - 1) * len, point, len);
+        struct twkb_layer layer = certified(points, blobs * len);
+        CHECK(twkb_directory_build(&layer, slots, 2 * blobs) == (blobs + many - 1) / many);
     }
+}
+
+static void shared_slots(void) {
+    static const uint8_t bare[] = {1, 0, 2, 2}, boxed[] = {1, 1, 2, 0, 2, 0, 2, 2};
+    shared_by(9, bare, sizeof bare);
+    shared_by(2, boxed, sizeof boxed);
 }
 
 /* ---- fronts and changes */

@@ -9,8 +9,7 @@ use Rattle.twkb_layer.specs.WindowText.{point_and}
 
 -- ---- texts
 
--- A decimal as it is written: whether it has a minus, its digits read as one number without the point, and how many of them
--- are after the point.
+-- A decimal as it is written: whether it has a minus, its digits as one number without the point, and how many are after the point.
 pub record Decimal : Type 0 where
   pub minus : Bool
   pub number : ℕ
@@ -60,8 +59,7 @@ floor_units r = int_div_euclid (r.numerator *ℤ pos (10 ^ 7)) (pos r.denominato
 abbrev pub ceil_units : Rational → ℤ
 ceil_units r = neg_ℤ (int_div_euclid (neg_ℤ (r.numerator *ℤ pos (10 ^ 7))) (pos r.denominator))
 
--- The greatest distance of a bound from 0, in units. Coordinates are nearer: at most 2^63 steps, and a step of the coarsest
--- precision is 10^15 units.
+-- The greatest distance of a bound from 0, in units. Coordinates are nearer: at most 2^63 steps of at most 10^15 units each.
 abbrev pub farthest : ℕ
 farthest = 10 ^ 34
 

@@ -29,9 +29,8 @@ abbrev pub IsBadField : ℕ → ℕ → ℕ → List ℕ → Type 0
 IsBadField start offset kind bytes =
     (why : Why) × (kind ≡ number_of_why why) × IsMalformed (record { offset = offset; why = why }) start bytes
 
--- The check refuses the layer at this blob, at an offset in the file and for this kind: it accepts the blobs before,
--- which end before the file does; next comes a blob whose first false claim is at the offset, or no blob, and the first
--- wrong field is at the offset.
+-- The check refuses the layer at this blob, at an offset in the file and for this kind: it accepts the blobs before, which end
+-- before the file does; next comes a blob whose first false claim is at the offset, or no blob, and the first wrong field is there.
 pub record IsRefusal (IsTrue : Claim → Type 0) (bytes : List ℕ) (blob offset kind : ℕ) : Type 0 where
   pub before : List Geometry
   pub start : ℕ

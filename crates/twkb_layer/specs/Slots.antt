@@ -41,8 +41,7 @@ says_with code form deep rest first second = record {
   second = range_in form (if nat_lt 4 form then rest % 16 else code) second;
 }
 
--- what a slot says by the ends of a box in X and in Y, numbers of 32 bits: 2^31 is added to the least ones, and the greatest are
--- subtracted from 2^31 - 1; if the first number is 0, there is no box
+-- what a slot says by numbers of 32 bits: least ends plus 2^31, and 2^31 - 1 minus greatest ends; if the first is 0, it is no box
 abbrev pub short_says : ℕ → Bool → ℕ → SlotNumbers → Said
 short_says code deep offset n = says_with code (if n.x_least == 0 then 0 else 2) deep offset
     (pos n.x_least -ℤ pos (2 ^ 31), pos (2 ^ 31 - 1) -ℤ pos n.x_greatest)

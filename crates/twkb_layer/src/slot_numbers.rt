@@ -20,7 +20,7 @@ pub const BIAS: i64 = 1 << 31;
 /// subtracted from 2^31 - 1, so that a box meets a window if no number is above a limit.
 ///
 /// Or two numbers of 64 bits: the first two fields are the lower and the upper 32 bits of one, and the last two of the other. Or how much
-/// further than the first of a run four more blobs begin.
+/// further than the first blob of a run four others begin.
 #[repr(C)]
 #[derive(Clone, Copy)]
 pub struct SlotNumbers {

@@ -76,7 +76,7 @@ impl Word {
         self.bits / 256
     }
 
-    /// Whether the form is [`SHORT`], and the slot before says nothing more.
+    /// Whether the form is [`SHORT`], and the slot before says nothing more of the blob.
     #[inline(always)]
     pub fn is_flat_and_short(&self) -> bool
         ensures form { result ≡ true → (unpacked self.now.bits).form ≡ 0 }

@@ -1,4 +1,4 @@
-//! [`Slot`], 40 bytes in which a directory keeps the offset and the box of a blob, or of two.
+//! [`Slot`], 40 bytes in which a directory keeps the offset and the box of a blob, or of several.
 //! Used by other crates, and here by `certified`, `directory`, `entry`, `placing` and `scans`.
 ghost use Rattle.std.specs.Prelude.{◌≡◌, ◌++◌, ◌+ℤ◌, pos, unsigned_abs, ◌/◌, ◌*◌, ◌^◌, ◌<◌, ◌≤◌, ◌||◌, ◌⊎◌, if◌then◌else◌, [], ◌∷◌, All, get_or, length, false, true, IfSome, None, Some, is_some, map};
 ghost use Rattle.std.specs.Int.{w32, cast_signed};
@@ -34,14 +34,15 @@ const MOST_FURTHER: usize = 8;
 /// two such blobs share a slot if their precisions are equal and there is place for the distance between their offsets. Ends
 /// of 64 bits are kept if all numbers of the box are at most 2^61 from zero, and otherwise its minima and widths, as the header
 /// spells them. So a slot takes 40 bytes, and an `Option<Bounds>` alone would take 176. Few layers have Z or M. These go into a slot of
-/// their own before their blob's slot, so that the other slots stay small: a scan spends its time on reading memory.
+/// their own before their blob's slot, so that the other slots stay small: a scan spends its time on reading memory. Up to nine blobs
+/// without a box share a slot (a *run*), if the last begins less than 2^32 bytes after the first.
 #[repr(C)]
 #[derive(Clone, Copy)]
 pub struct Slot {
     word: Word,
-    /// A box, or its range in X, or a range in Z.
+    /// A box, or its range in X, or a range in Z, or how much further four blobs of a run begin.
     first: SlotNumbers,
-    /// The box of a second blob, or the range in Y of the first, or a range in M.
+    /// The box of a second blob, or the range in Y of the first, or a range in M, or how much further four more blobs begin.
     second: SlotNumbers,
 }
 

@@ -9,8 +9,7 @@ pub record SourceState : Type 0 where
   pub moved : ℕ
   pub failed : Bool
 
--- a sink: whether it states its bytes, the bytes that were put, how many it took, whether its last call failed, and whether
--- its last call was a flush
+-- a sink: whether it states its bytes, the bytes put, how many it took, whether its last call failed, and whether that was a flush
 pub record SinkState : Type 0 where
   pub tells : Bool
   pub bytes : List ℕ

@@ -21,6 +21,7 @@ mod northernmost;
 mod pairs;
 mod plain_scans;
 mod random;
+mod runs;
 mod scans;
 mod slots;
 mod texts;

@@ -14,7 +14,7 @@ use twkb_num::zigzag;
 
 /// A point at some X, and at 0 in Y.
 #[derive(Clone, Copy)]
-enum Point {
+pub enum Point {
     /// At precision 7, with a size and a box.
     Boxed(i64),
     /// At precision 6, with a size and a box.
@@ -86,7 +86,7 @@ fn push_number(bytes: &mut Vec<u8>, number: i64) -> Result<(), Fail> {
 }
 
 /// Scans with a directory agree with the plain reader, for windows around each point.
-fn agrees(rt: &impl Abort, alloc: Global, points: &[Point]) -> Result<(), Fail> {
+pub fn agrees(rt: &impl Abort, alloc: Global, points: &[Point]) -> Result<(), Fail> {
     let mut bytes = Vec::new(alloc);
     for point in points {
         point.push(alloc, &mut bytes)?;
@@ -121,7 +121,7 @@ fn scan_agrees(
 }
 
 /// The first number that 32 bits with a sign don't hold.
-const TOP: i64 = 1 << 31;
+pub const TOP: i64 = 1 << 31;
 
 const NEAR_THE_ENDS: [i64; 6] = [-TOP - 1, -TOP, -TOP + 1, TOP - 2, TOP - 1, TOP];
 

@@ -13,7 +13,7 @@ returns-then-further-lt4-clause-both c = λ _.
     let k = c.if-is_run.further in
     let first = c.rest-first.ensures.value in
     let bare_or_run = subst (λ (s : Written). (is_run s ≡ true) ⊎ IsBare s) (sym c.self.view_is) c.requires in
-    let was = began old k bare_or_run (λ run. elim c.if-is_run.branch [ | then-is_run w ↦ w.further-is ∙ w.code-further.ensures.value | else-is_run w ↦ absurd (let no = w.if-is_run.ensures in cc (no, run)) ]) (λ other. elim c.if-is_run.branch [ | then-is_run w ↦ absurd (let yes = w.if-is_run.ensures in cc (yes, other)) | else-is_run w ↦ w.further-is ]) in
+    let was = began old k bare_or_run (λ run. elim c.if-is_run.branch [ then-is_run w ↦ w.further-is ∙ w.code-further.ensures.value | else-is_run w ↦ absurd (let no = w.if-is_run.ensures in cc (no, run)) ]) (λ other. elim c.if-is_run.branch [ then-is_run w ↦ absurd (let yes = w.if-is_run.ensures in cc (yes, other)) | else-is_run w ↦ w.further-is ]) in
     let are = ap (λ ns. take (k + 1) (ns ++ four c.self.inside.second)) c.set.ensures ∙ near_more c.self.inside.first c.self.inside.second k _ (omega (arith, c.if-further-lt4.true)) in
     one_more old _ k _ c.args.offset was (c.new-self-inside.ensures ∙ (λ j. record { code = k + 1; form = 4; deep = false; rest = first j })) are (omega (arith, first, c.if-offset-first.false))
     ∙ ap (λ (s : Written). says_of s ++ bare c.args.offset ∷ []) c.self.view_is
@@ -24,7 +24,7 @@ returns-else-further-lt4-clause-both c = λ _.
     let k = c.if-is_run.further in
     let first = c.rest-first.ensures.value in
     let bare_or_run = subst (λ (s : Written). (is_run s ≡ true) ⊎ IsBare s) (sym c.self.view_is) c.requires in
-    let was = began old k bare_or_run (λ run. elim c.if-is_run.branch [ | then-is_run w ↦ w.further-is ∙ w.code-further.ensures.value | else-is_run w ↦ absurd (let no = w.if-is_run.ensures in cc (no, run)) ]) (λ other. elim c.if-is_run.branch [ | then-is_run w ↦ absurd (let yes = w.if-is_run.ensures in cc (yes, other)) | else-is_run w ↦ w.further-is ]) in
+    let was = began old k bare_or_run (λ run. elim c.if-is_run.branch [ then-is_run w ↦ w.further-is ∙ w.code-further.ensures.value | else-is_run w ↦ absurd (let no = w.if-is_run.ensures in cc (no, run)) ]) (λ other. elim c.if-is_run.branch [ then-is_run w ↦ absurd (let yes = w.if-is_run.ensures in cc (yes, other)) | else-is_run w ↦ w.further-is ]) in
     let i = k - 4 in
     let at : i + 4 ≡ k = omega (arith, c.if-further-lt4.false) in
     let most : k ≤ 8 = elim c.if-is_run.branch [
