@@ -82,25 +82,28 @@ pub fn read_and_pass(cursor: &mut Cursor) -> Passed
         pass_headed(cursor, passed.header);
         return passed;
     }
-    if begun.is_sized_point() {
-        return pass_begun(cursor, begun.announcing(2));
+    if begun.is_further_boxed() {
+        let header = take_further_boxed(cursor, begun.announcing(11));
+        return pass_taken(cursor, header);
     }
-    pass_begun(cursor, begun)
+    if begun.is_sized_point() {
+        let header = take_begun(cursor, begun.announcing(2));
+        return pass_taken(cursor, header);
+    }
+    let header = take_begun(cursor, begun);
+    pass_taken(cursor, header)
 }
 
-/// Moves past a certified blob whose first two bytes were read, and returns its header.
+/// Moves past a certified blob whose header was read, without a box in lanes.
 #[inline(always)]
-fn pass_begun(cursor: &mut Cursor, begun: Begun) -> Passed
-    requires xy { IsPrecision begun.xy }
-    requires come { (g : Geometry) × (before : Reading) × HasCome begun cursor.old g 1 before }
-    ensures passed { (g : Geometry) (before : Reading) → HasCome begun cursor.old g 1 before
-        → HasPassed result.header cursor.new g before }
-    ensures axes { HavePrecisions result.header.axes }
-    ensures zeros { IfSome result.header.bounds
-        (HasZeros (is_some result.header.axes.z) (is_some result.header.axes.m)) }
+fn pass_taken(cursor: &mut Cursor, header: Fields) -> Passed
+    requires axes { HavePrecisions header.axes }
+    requires read { (g : Geometry) × (before : Reading) × HasRead header cursor.old g 1 before }
+    ensures passed { (g : Geometry) (before : Reading) → HasRead header cursor.old g 1 before
+        → HasPassed header cursor.new g before }
+    ensures result { result ≡ record { header = header; short = result.short } }
     ensures no_lanes { result.short.is_read ≡ false }
 {
-    let header = take_begun(cursor, begun);
     pass_headed(cursor, header);
     Passed {
         header,
@@ -168,6 +171,24 @@ fn take_begun(cursor: &mut Cursor, begun: Begun) -> Fields
     ensures zeros { IfSome result.bounds (HasZeros (is_some result.axes.z) (is_some result.axes.m)) }
 {
     let Ok(header) = take_rest::<BoxCalled>(cursor, begun) else {
+        unreachable!()
+    };
+    header
+}
+
+/// Reads the header of a certified geometry, after its first two bytes: it has an extended dimensions byte, a size and a box, and no
+/// other field. The reader of the box is inlined.
+#[inline(always)]
+fn take_further_boxed(cursor: &mut Cursor, begun: Begun) -> Fields
+    requires xy { IsPrecision begun.xy }
+    requires boxed { begun.metadata ≡ 11 }
+    requires come { (g : Geometry) × (before : Reading) × HasCome begun cursor.old g 1 before }
+    ensures read { (g : Geometry) (before : Reading) → HasCome begun cursor.old g 1 before
+        → HasRead result cursor.new g 1 before }
+    ensures axes { HavePrecisions result.axes }
+    ensures zeros { IfSome result.bounds (HasZeros (is_some result.axes.z) (is_some result.axes.m)) }
+{
+    let Ok(header) = take_rest::<BoxInlined>(cursor, begun) else {
         unreachable!()
     };
     header

@@ -1,5 +1,5 @@
 //! [`SlotNumbers`], half of what a directory's slot keeps beside its word: four numbers of 32 bits, or two of 64.
-//! Used by `short_windows` and `slots`.
+//! Used by `short_windows`, `slot_ranges` and `slots`.
 ghost use Rattle.std.specs.Prelude.{◌≡◌, ◌+◌, ◌*◌, ◌^◌, ◌+ℤ◌, ◌-ℤ◌, pos, [], ◌∷◌, ◌++◌, All, IfSome, map, set, ◌<◌};
 ghost use Rattle.std.specs.Int.{w32, w64, cast_signed};
 ghost use Rattle.twkb_num.specs.Varint.{IsShort};

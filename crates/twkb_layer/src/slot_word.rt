@@ -1,4 +1,4 @@
-//! [`Word`], the 64 bits of a directory's slot besides its ranges. Used by `slots`.
+//! [`Word`], the 64 bits of a directory's slot besides its ranges. Used by `slot_ranges` and `slots`.
 ghost use Rattle.std.specs.Prelude.{◌≡◌, ◌<◌, ◌^◌, false, true, IfSome};
 ghost use Rattle.twkb_layer.specs.Devices.Slots.{IsPairOf, half_of, unpacked};
 
