@@ -1,5 +1,5 @@
 //! [`Word`], the 64 bits of a directory's slot besides its ranges. Used by `slot_ranges` and `slots`.
-ghost use Rattle.std.specs.Prelude.{◌≡◌, ◌<◌, ◌^◌, false, true, IfSome};
+ghost use Rattle.std.specs.Prelude.{◌≡◌, ◌↔◌, ◌<◌, ◌^◌, false, IfSome, IsTrue};
 ghost use Rattle.twkb_layer.specs.Devices.Slots.{IsPairOf, half_of, unpacked};
 
 /// A slot of a blob without a box, or whose box has ends of 32 bits.
@@ -79,8 +79,7 @@ impl Word {
     /// Whether the form is [`SHORT`], and the slot before says nothing more of the blob.
     #[inline(always)]
     pub fn is_flat_and_short(&self) -> bool
-        ensures form { result ≡ true → (unpacked self.now.bits).form ≡ 0 }
-        ensures flat { result ≡ true → (unpacked self.now.bits).deep ≡ false }
+        ensures { IsTrue result ↔ ((unpacked self.now.bits).form ≡ 0) × ((unpacked self.now.bits).deep ≡ false) }
     {
         self.bits % 256 < 16
     }

@@ -1,6 +1,6 @@
 //! [`Slot`], 40 bytes in which a directory keeps the offset and the box of a blob, or of several.
 //! Used by other crates, and here by `certified`, `directory`, `entry`, `placing` and `scans`.
-ghost use Rattle.std.specs.Prelude.{◌≡◌, ◌++◌, ◌+ℤ◌, pos, unsigned_abs, ◌/◌, ◌*◌, ◌^◌, ◌<◌, ◌≤◌, ◌||◌, ◌⊎◌, if◌then◌else◌, [], ◌∷◌, All, get_or, length, false, true, IfSome, None, Some, is_some, map};
+ghost use Rattle.std.specs.Prelude.{◌≡◌, ◌↔◌, ◌++◌, ◌+ℤ◌, pos, unsigned_abs, ◌/◌, ◌*◌, ◌^◌, ◌<◌, ◌≤◌, ◌||◌, ◌⊎◌, if◌then◌else◌, [], ◌∷◌, All, IsTrue, get_or, length, false, true, IfSome, None, Some, is_some, map};
 ghost use Rattle.std.specs.Int.{w32, cast_signed};
 ghost use Rattle.twkb_num.specs.Units.{IsPrecision};
 ghost use Rattle.twkb_num.specs.Varint.{IsShort};
@@ -227,7 +227,7 @@ impl Slot {
     /// Whether the slot is of one blob without a box, and the slot before it says nothing more of the blob.
     #[inline(always)]
     fn is_bare(&self) -> bool
-        ensures { result ≡ true → IsBare self.now }
+        ensures { IsTrue result ↔ IsBare self.now }
     {
         self.first.x_least == 0 && self.word.is_flat_and_short()
     }
@@ -251,7 +251,7 @@ impl Slot {
 
     /// Where a blob of a run begins.
     #[inline(always)]
-    pub(crate) fn begin_of(&self, blob: usize) -> usize
+    pub(crate) fn offset_of(&self, blob: usize) -> usize
         requires run { is_run self.now ≡ true }
         requires within { blob < length (says_of self.now) }
         ensures { bare result ≡ get_or (says_of self.now) blob (bare 0) }

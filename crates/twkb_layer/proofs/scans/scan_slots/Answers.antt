@@ -171,17 +171,17 @@ loop-part-init g c =
 pub look_up-requires-clause-stands : goal.look_up-requires-clause-stands
 look_up-requires-clause-stands g c =
     let part = c.loop-part.invariant in
-    part_stands g.R.FromFound.of _ _ _ _ (says_of c.slot-item.result) c.loop-part.part _ part.going part.bytes c.begin_of.ensures (omega (arith, c.blobs-part-end.ensures, c.loop-part-test.true))
+    part_stands g.R.FromFound.of _ _ _ _ (says_of c.slot-item.result) c.loop-part.part _ part.going part.bytes c.offset_of.ensures (omega (arith, c.blobs-part-end.ensures, c.loop-part-test.true))
 
 pub look_up-requires-clause-fits : goal.look_up-requires-clause-fits
 look_up-requires-clause-fits g c =
     let part = c.loop-part.invariant in
-    omega (arith, (part_fits g.R.FromFound.of _ _ _ _ (says_of c.slot-item.result) c.loop-part.part _ part.going part.bytes c.begin_of.ensures (omega (arith, c.blobs-part-end.ensures, c.loop-part-test.true))).1)
+    omega (arith, (part_fits g.R.FromFound.of _ _ _ _ (says_of c.slot-item.result) c.loop-part.part _ part.going part.bytes c.offset_of.ensures (omega (arith, c.blobs-part-end.ensures, c.loop-part-test.true))).1)
 
 pub overflow_add-blob-in-loop-part : goal.overflow_add-blob-in-loop-part
 overflow_add-blob-in-loop-part g c =
     let part = c.loop-part.invariant in
-    omega (arith, (part_fits g.R.FromFound.of _ _ _ _ (says_of c.slot-item.result) c.loop-part.part _ part.going part.bytes c.begin_of.ensures (omega (arith, c.blobs-part-end.ensures, c.loop-part-test.true))).0, part.small)
+    omega (arith, (part_fits g.R.FromFound.of _ _ _ _ (says_of c.slot-item.result) c.loop-part.part _ part.going part.bytes c.offset_of.ensures (omega (arith, c.blobs-part-end.ensures, c.loop-part-test.true))).0, part.small)
 
 pub loop-part-preserved : goal.loop-part-preserved
 loop-part-preserved g c =
@@ -189,5 +189,5 @@ loop-part-preserved g c =
     record {
       bytes = c.look_up.ensures.bytes ∙ part.bytes;
       small = part.small;
-      going = part_past g.R.FromFound.of _ _ _ _ (says_of c.slot-item.result) c.loop-part.part _ part.going part.bytes c.begin_of.ensures (omega (arith, c.blobs-part-end.ensures, c.loop-part-test.true)) (c.new-raws.ensures) c.look_up.ensures.found c.look_up.ensures.count;
+      going = part_past g.R.FromFound.of _ _ _ _ (says_of c.slot-item.result) c.loop-part.part _ part.going part.bytes c.offset_of.ensures (omega (arith, c.blobs-part-end.ensures, c.loop-part-test.true)) (c.new-raws.ensures) c.look_up.ensures.found c.look_up.ensures.count;
     }

@@ -3,7 +3,7 @@ use Rattle.std.proofs.Common.{◌≡◌, ◌+◌, ◌-◌, ◌<◌, ℕ, suc, tr
 use Rattle.twkb_layer.specs.Devices.Slots.{is_run, unpacked, written}
 use Rattle.twkb_layer.specs.Slots.{Written, bare, says_of}
 use Rattle.twkb_layer.proofs.Runs.{run_at}
-use Rattle.twkb_layer.proofs.slots.Slot.begin_of.Goals as goal
+use Rattle.twkb_layer.proofs.slots.Slot.offset_of.Goals as goal
 
 pub returns : goal.returns
 returns c =
