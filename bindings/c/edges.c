@@ -163,7 +163,7 @@ static void directory(const struct twkb_layer *layer) {
     free_guarded(slots, room * sizeof *slots);
 }
 
-/* This many equal points share a slot. */
+/* Every `many` equal points share a slot. */
 static void shared_by(size_t many, const uint8_t *point, size_t len) {
     uint8_t points[160];
     struct twkb_slot slots[40];

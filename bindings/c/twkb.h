@@ -171,8 +171,8 @@ struct twkb_scanned {
 struct twkb_scanned twkb_scan(const struct twkb_layer *layer, const struct twkb_window *window,
                               struct twkb_hit *hits, size_t room);
 
-/* A slot of a directory, of which a blob has one or two, or shares one with the next. Its numbers mean nothing to callers, nor to
- * other versions of the library. */
+/* A slot of a directory, of which a blob has one or two, or shares one with blobs next to it. Its numbers mean nothing to callers,
+ * nor to other versions of the library. */
 struct twkb_slot {
     uint64_t word;
     int64_t first[2];

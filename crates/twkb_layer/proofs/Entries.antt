@@ -56,7 +56,7 @@ either_alone : {A : Type 0} (b : Bool) (x y : A) → (if b then x ∷ [] else y 
 either_alone true x y = refl
 either_alone false x y = refl
 
--- if one of two is true, then not neither
+-- if `a || b` is false, both are false
 neither : (a b : Bool) → (a || b) ≡ false → (a ≡ false) × (b ≡ false)
 neither false false is = (refl, refl)
 neither true b is = absurd (cc (is))

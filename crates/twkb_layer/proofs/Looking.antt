@@ -123,7 +123,7 @@ module _ {S : Type 0} (of : Found → S) (w : Bounds) (bytes : List ℕ) (count0
     slot_next =
         subst (λ ls. Looking beyond (flat_map says_of ls) count blob found room) (drop_more slots at slot lt ∙ ap (λ (l : Written). l ∷ drop (at + 1) slots) (sym is)) s
 
-    -- what the slot says, if it isn't of two blobs, and if it is
+    -- what the slot says, if it is of one blob, and if it is of two
     pub one_next : false ≡ is_shared slot → Looking beyond (slot_says slot ∷ flat_map says_of (drop (at + 1) slots)) count blob found room
     one_next alone = subst (λ ls. Looking beyond (ls ++ flat_map says_of (drop (at + 1) slots)) count blob found room) (says_alone slot (sym alone)) slot_next
 

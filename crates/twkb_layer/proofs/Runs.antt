@@ -34,7 +34,7 @@ bare_says slot is =
     let short : short_says word.code word.deep word.rest n ≡ bare (word.rest + 0) = (λ j. says_with word.code (if is.none j == 0 then 0 else 2) (is.flat j) (at j) (short_ends n.x_least n.x_greatest) (short_ends n.y_least n.y_greatest)) in
     says_alone slot alone ∙ ap (λ (s : Said). s ∷ []) (says_short slot is.short ∙ short)
 
--- what a slot says to which blobs without a box can be added, by how many it has after the first
+-- what a slot says if blobs without a box can be added to it, by how many it has after the first
 pub began : (slot : Written) (k : ℕ) → (is_run slot ≡ true) ⊎ IsBare slot → (is_run slot ≡ true → k ≡ (unpacked slot.word).code) → (is_run slot ≡ false → k ≡ 0) → says_of slot ≡ bares (unpacked slot.word).rest (take k (numbers slot))
 began slot k (inl run) some none = says_run slot run ∙ (λ j. bares (unpacked slot.word).rest (take (sym (some run) j) (numbers slot)))
 began slot k (inr is) some none =
@@ -54,7 +54,7 @@ one_more old new k more offset was word are at =
 
 -- ---- the blobs of a run
 
--- a blob after the first begins as much further as a number says
+-- a blob after the first begins at the first offset plus its number
 pub run_at : (slot : Written) (i : ℕ) → is_run slot ≡ true → suc i < length (says_of slot) → bare ((unpacked slot.word).rest + get_or (numbers slot) i 0) ≡ get_or (says_of slot) (suc i) (bare 0)
 run_at slot i run within =
     let word = unpacked slot.word in

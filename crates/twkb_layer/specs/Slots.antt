@@ -23,7 +23,7 @@ pub record Written : Type 0 where
   pub second : SlotNumbers
 
 -- The range in a slot of this form, with this code of a precision, which is the precision plus 8, and two numbers: its ends in form
--- 2, otherwise a minimum and a width. Forms 0 and 4 have no range, and in a form of 5 or more a code below 8 says that there is none.
+-- 2, otherwise a minimum and a width. Other forms below 5 have none, and in a form of 5 or more a code below 8 says that there is none.
 abbrev pub range_in : ℕ → ℕ → ℤ × ℤ → Option Span
 range_in form code numbers =
     if form == 2 then Some (span_at (pos code -ℤ pos 8) numbers)
@@ -55,14 +55,14 @@ long n = (cast_signed w64 (n.x_least + 2 ^ 32 * n.y_least), cast_signed w64 (n.x
 abbrev pub bare : ℕ → Said
 bare offset = record { beyond = false; deep = false; offset = offset; first = None; second = None }
 
--- the four numbers of 32 bits
+-- the four numbers as a list, in the order of memory
 abbrev pub four : SlotNumbers → List ℕ
 four n = n.x_least ∷ n.y_least ∷ n.x_greatest ∷ n.y_greatest ∷ []
 
 -- What a slot says, of one blob or of several. From the lowest bit on, its word has four bits of a code, three of a form, one that says
 -- whether the slot before says more, and the rest. Form 0 is of a blob with numbers of 32 bits, and form 1 of two with one code: the
--- lowest 38 bits of the rest are the offset of the first, and the others say how much further the second begins. Form 4 is of blobs
--- without a box: the rest is the offset of the first, and as many numbers of 32 bits as the code says how much further others begin.
+-- lowest 38 bits of the rest are the offset of the first, and the others say how much further the second begins. Form 4 is a run of
+-- blobs without a box: the rest is the offset of the first, the code how many follow, and the numbers their distances from it.
 abbrev pub says_of : Written → List Said
 says_of slot =
     let code = slot.word % 16 in

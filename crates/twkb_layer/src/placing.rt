@@ -180,7 +180,7 @@ fn push_one<A: Allocator>(slots: &mut Vec<Slot, A>, own: Slot, is_bare: bool)
 }
 
 /// Adds the blob of a slot to the last slot, if there is one and it has place for it. Returns whether it did. `is_bare` says that the
-/// blob has no box, and may be added to others of its kind.
+/// blob has no box, so that it may begin or join a run.
 #[inline(always)]
 fn takes_in(slots: &mut [Slot], own: &Slot, is_bare: bool) -> bool
     requires { is_bare ≡ true → IsBare own.now }

@@ -19,8 +19,8 @@ pub const BIAS: i64 = 1 << 31;
 /// Four numbers of 32 bits, by which a slot keeps the ends of a box in X and in Y. 2^31 is added to the least ones, and the greatest are
 /// subtracted from 2^31 - 1, so that a box meets a window if no number is above a limit.
 ///
-/// Or two numbers of 64 bits: the first two fields are the lower and the upper 32 bits of one, and the last two of the other. Or how much
-/// further than the first blob of a run four others begin.
+/// Or two numbers of 64 bits: the first two fields are the lower and the upper 32 bits of one, and the last two of the other. Or the
+/// distances of four blobs of a run from its first.
 #[repr(C)]
 #[derive(Clone, Copy)]
 pub struct SlotNumbers {

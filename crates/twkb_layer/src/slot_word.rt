@@ -1,4 +1,4 @@
-//! [`Word`], the 64 bits of a directory's slot besides its ranges. Used by `slot_ranges` and `slots`.
+//! [`Word`], the 64 bits of a directory's slot besides its numbers. Used by `slot_ranges` and `slots`.
 ghost use Rattle.std.specs.Prelude.{◌≡◌, ◌↔◌, ◌<◌, ◌^◌, false, IfSome, IsTrue};
 ghost use Rattle.twkb_layer.specs.Devices.Slots.{IsPairOf, half_of, unpacked};
 
@@ -10,7 +10,7 @@ pub const PAIR: u64 = 1;
 pub const ENDS: u64 = 2;
 /// A slot of a blob whose box is kept by its minima and widths.
 pub const WIDTHS: u64 = 3;
-/// A slot of two or more blobs without a box.
+/// A slot of two to nine blobs without a box.
 pub const RUN: u64 = 4;
 /// A slot of what the next slot has no place for.
 pub const BEYOND: u64 = 5;
@@ -41,7 +41,7 @@ impl Word {
         }
     }
 
-    /// The lowest four bits: the code of a precision.
+    /// The lowest four bits: the code of a precision, or in a run how many blobs follow the first.
     #[inline(always)]
     pub fn code(&self) -> usize
         ensures value { result ≡ (unpacked self.now.bits).code }
@@ -67,7 +67,7 @@ impl Word {
         self.bits / 128 % 2 == 1
     }
 
-    /// The highest 56 bits: the blob's offset, if the form is below [`BEYOND`].
+    /// The highest 56 bits: the offset of the blob, or of the first of a run; other forms pack more into them.
     #[inline(always)]
     pub fn rest(&self) -> u64
         ensures value { result ≡ (unpacked self.now.bits).rest }

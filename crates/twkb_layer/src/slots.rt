@@ -1,5 +1,5 @@
-//! [`Slot`], 40 bytes in which a directory keeps the offset and the box of a blob, or of several.
-//! Used by other crates, and here by `certified`, `directory`, `entry`, `placing` and `scans`.
+//! [`Slot`], 40 bytes of a directory: the offset and the box of a blob, or of two, or the offsets of up to nine blobs without
+//! a box. Used by other crates, and here by `certified`, `directory`, `entry`, `placing` and `scans`.
 ghost use Rattle.std.specs.Prelude.{◌≡◌, ◌↔◌, ◌++◌, ◌+ℤ◌, pos, unsigned_abs, ◌/◌, ◌*◌, ◌^◌, ◌<◌, ◌≤◌, ◌||◌, ◌⊎◌, if◌then◌else◌, [], ◌∷◌, All, IsTrue, get_or, length, false, true, IfSome, None, Some, is_some, map};
 ghost use Rattle.std.specs.Int.{w32, cast_signed};
 ghost use Rattle.twkb_num.specs.Units.{IsPrecision};
@@ -40,9 +40,9 @@ const MOST_FURTHER: usize = 8;
 #[derive(Clone, Copy)]
 pub struct Slot {
     word: Word,
-    /// A box, or its range in X, or a range in Z, or how much further four blobs of a run begin.
+    /// A box, or its range in X, or a range in Z, or the distances of four blobs of a run from its first.
     first: SlotNumbers,
-    /// The box of a second blob, or the range in Y of the first, or a range in M, or how much further four more blobs begin.
+    /// The box of a second blob, or the range in Y of the first, or a range in M, or the distances of four more blobs.
     second: SlotNumbers,
 }
 
@@ -187,7 +187,7 @@ impl Slot {
         }
     }
 
-    /// Adds the blob of the next slot, which has no box, to this slot, if there is place for it. Otherwise this slot stays as it is.
+    /// Adds the blob of the next slot, which has no box, to this slot, if it fits. Otherwise this slot stays as it is.
     #[inline(always)]
     pub(crate) fn takes_in_bare(&mut self, next: &Slot) -> bool
         requires { IsBare next.now }
@@ -201,8 +201,8 @@ impl Slot {
         }
     }
 
-    /// Adds a blob without a box, which begins at the offset, to a run or to another such blob, if there is place for it. Otherwise this
-    /// slot stays as it is.
+    /// Adds a blob without a box, which begins at the offset, to a run or to another such blob, if it fits. Otherwise this slot
+    /// stays as it is.
     #[inline(always)]
     fn goes_on(&mut self, offset: u64) -> bool
         requires { is_run self.old ≡ true ⊎ IsBare self.old }
@@ -224,7 +224,7 @@ impl Slot {
         true
     }
 
-    /// Whether the slot is of one blob without a box, and the slot before it says nothing more of the blob.
+    /// Whether the slot holds one blob, without a box, of which the slot before says nothing.
     #[inline(always)]
     fn is_bare(&self) -> bool
         ensures { IsTrue result ↔ IsBare self.now }

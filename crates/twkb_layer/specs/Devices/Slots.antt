@@ -131,7 +131,7 @@ no_box = record { x_least = 0; y_least = 0; x_greatest = 0; y_greatest = 0 }
 abbrev pub IsShortBox : SlotNumbers → Type 0
 IsShortBox n = AreShort n ⊎ (n ≡ no_box)
 
--- A slot of numbers of 32 bits keeps short boxes, one that keeps ends of 64 bits (form 2) inner ends (`AreInner`), and a run at most
+-- A slot of numbers of 32 bits keeps short boxes, one that keeps ends of 64 bits (form 2) inner ends (`AreInner`), and a run has at most
 -- eight blobs after the first.
 pub record IsSlot (l : Written) : Type 0 where
   pub short : (unpacked l.word).form < 2 → IsShortBox l.first

@@ -1,4 +1,4 @@
--- Each turn remembers one more slot, or looks at the blob or at the two blobs of one.
+-- Each turn remembers one more slot, or looks at the blobs of one.
 use Rattle.std.proofs.Common.{◌≡◌, ◌+◌, false, true, refl, ap, sym, ◌∙◌, arith}
 use Rattle.twkb_layer.specs.Devices.Slots.{slot_says}
 use Rattle.twkb_layer.specs.Slots.{Said, entry_with, says_of}

@@ -47,7 +47,7 @@ impl Point {
     }
 
     /// Pushes the bytes of the point.
-    fn push(self, alloc: Global, bytes: &mut Vec<u8>) -> Result<(), Fail> {
+    pub fn push(self, alloc: Global, bytes: &mut Vec<u8>) -> Result<(), Fail> {
         let (first, x) = self.parts();
         let mut rest = Vec::new(alloc);
         if !matches!(self, Point::Bare(_)) {
@@ -98,7 +98,7 @@ pub fn agrees(rt: &impl Abort, alloc: Global, points: &[Point]) -> Result<(), Fa
 }
 
 /// Scans with a directory agree with the plain reader, for windows at this X, before it and after it.
-fn scans_agree(rt: &impl Abort, alloc: Global, bytes: &[u8], x: i128) {
+pub fn scans_agree(rt: &impl Abort, alloc: Global, bytes: &[u8], x: i128) {
     let mut layer = certified(rt, alloc, bytes);
     let plain = plain_layer(rt, alloc, bytes);
     let directory = Directory::build(alloc, &mut layer).expect(rt, "there is memory");
@@ -185,16 +185,22 @@ fn neighbours(rt: HostRuntime) -> Result<(), Fail> {
     Ok(())
 }
 
+/// Pushes a line without a box that begins at X, and takes 2^18 bytes, or one less if X takes one byte.
+pub fn push_far_line(bytes: &mut Vec<u8>, x: i64) -> Result<(), Fail> {
+    bytes.extend_from_slice(&[0xE2, 0x00, 0xFD, 0xFF, 0x07])?;
+    push_number(bytes, x)?;
+    for _ in 0..262_137 {
+        bytes.push(0)?;
+    }
+    Ok(())
+}
+
 // A line that takes one byte less than 2^18, or as many, before a point. Its first X takes one byte or two.
 #[test]
 fn far_neighbours(rt: HostRuntime) -> Result<(), Fail> {
     for x in [63, 64] {
         let mut bytes = Vec::new(rt.alloc());
-        bytes.extend_from_slice(&[0xE2, 0x00, 0xFD, 0xFF, 0x07])?;
-        push_number(&mut bytes, x)?;
-        for _ in 0..262_137 {
-            bytes.push(0)?;
-        }
+        push_far_line(&mut bytes, x)?;
         Point::Boxed(7).push(rt.alloc(), &mut bytes)?;
         scans_agree(&rt, rt.alloc(), &bytes, i128::from(x));
         scans_agree(&rt, rt.alloc(), &bytes, 7);

@@ -10,11 +10,11 @@ use std::process::Abort;
 use twkb_layer::{Bounds, Certified, Directory, Hit};
 
 // More places than any layer of the tests has blobs.
-pub type Room = [Hit; 16];
+pub type Room = [Hit; 24];
 
 /// A room with the hits that the plain reader finds, and their number.
 pub fn plain_hits(plain: &Layer, ranges: &Bounds) -> (Room, usize) {
-    let mut room = [NOWHERE; 16];
+    let mut room = [NOWHERE; 24];
     let mut found = 0usize;
     let mut blob = 0usize;
     for geometry in &plain.geometries {
@@ -48,7 +48,7 @@ pub fn scan_agrees(rt: &impl Abort, plain: &Layer, layer: &mut Certified, ranges
     ensures { layer.new.bytes ≡ layer.old.bytes }
 {
     let read = layer.read_count().saturating_add(plain.work(ranges).read);
-    let mut room = [NOWHERE; 16];
+    let mut room = [NOWHERE; 24];
     let found = layer.scan(&window(ranges), &mut room);
     is_as_plain(rt, plain, ranges, (room, found), (layer.read_count(), read));
     found
@@ -68,7 +68,7 @@ pub fn directory_scan_agrees(
     let read = layer
         .read_count()
         .saturating_add(plain.work_by_directory(ranges).read);
-    let mut room = [NOWHERE; 16];
+    let mut room = [NOWHERE; 24];
     let found = directory.scan(layer, &window(ranges), &mut room);
     is_as_plain(rt, plain, ranges, (room, found), (layer.read_count(), read));
 }

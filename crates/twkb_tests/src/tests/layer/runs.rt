@@ -1,8 +1,8 @@
 //! Directories of runs of blobs without a box, against the plain reader. A slot takes nine of them.
-use super::pairs::{Point, TOP, agrees};
+use super::pairs::{Point, TOP, agrees, push_far_line, scans_agree};
 use std::test::Fail;
 
-/// Points of 4 to 12 bytes: the numbers of a run's slot differ.
+/// Points of 4 to 13 bytes, so that the distances in a slot are uneven.
 const NUMBERS: [i64; 6] = [0, -64, 64, 1 << 20, i64::MIN, TOP];
 
 /// Pushes this many points without a box.
@@ -16,7 +16,7 @@ fn push_run(points: &mut Vec<Point>, many: usize) -> Result<(), Fail> {
 // Up to two full slots, and one blob more.
 #[test]
 fn alone(rt: HostRuntime) -> Result<(), Fail> {
-    for many in 0..20 {
+    for many in 1..20 {
         let mut points = Vec::new(rt.alloc());
         push_run(&mut points, many)?;
         agrees(&rt, rt.alloc(), &points)?;
@@ -24,7 +24,7 @@ fn alone(rt: HostRuntime) -> Result<(), Fail> {
     Ok(())
 }
 
-// After a blob that shares its slot with one of them, or doesn't, and before another: with a box, at another precision, with Z, and
+// After a blob that may share a slot with the first of them, and before it again: with a box, at another precision, with Z, and
 // with a box that 32 bits don't hold.
 #[test]
 fn between_others(rt: HostRuntime) -> Result<(), Fail> {
@@ -42,6 +42,21 @@ fn between_others(rt: HostRuntime) -> Result<(), Fail> {
             push_run(&mut points, 2)?;
             agrees(&rt, rt.alloc(), &points)?;
         }
+    }
+    Ok(())
+}
+
+// The second distance of the slot takes three bytes.
+#[test]
+fn far_apart(rt: HostRuntime) -> Result<(), Fail> {
+    let mut bytes = Vec::new(rt.alloc());
+    Point::Bare(3).push(rt.alloc(), &mut bytes)?;
+    push_far_line(&mut bytes, 63)?;
+    for x in [5, 7] {
+        Point::Bare(x).push(rt.alloc(), &mut bytes)?;
+    }
+    for x in [3, 5, 7, 63] {
+        scans_agree(&rt, rt.alloc(), &bytes, x);
     }
     Ok(())
 }
