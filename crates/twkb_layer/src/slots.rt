@@ -1,14 +1,14 @@
 //! [`Slot`], 40 bytes of a directory: the offset and the box of a blob, or of two, or the offsets of up to nine blobs without
 //! a box. Used by other crates, and here by `certified`, `directory`, `entry`, `placing` and `scans`.
-ghost use Rattle.std.specs.Prelude.{◌≡◌, ◌↔◌, ◌++◌, ◌+ℤ◌, pos, unsigned_abs, ◌/◌, ◌*◌, ◌^◌, ◌<◌, ◌≤◌, ◌||◌, ◌⊎◌, if◌then◌else◌, [], ◌∷◌, All, IsTrue, get_or, length, false, true, IfSome, None, Some, is_some, map};
+ghost use Rattle.std.specs.Prelude.{◌≡◌, ◌↔◌, ◌++◌, ◌+ℤ◌, pos, unsigned_abs, ◌/◌, ◌*◌, ◌^◌, ◌<◌, ◌≤◌, ◌||◌, ◌⊎◌, if◌then◌else◌, [], ◌∷◌, All, IsTrue, get_or, length, false, true, None, Some, is_some, map};
 ghost use Rattle.std.specs.Int.{w32, cast_signed};
 ghost use Rattle.twkb_num.specs.Units.{IsPrecision};
 ghost use Rattle.twkb_num.specs.Varint.{IsShort};
 ghost use Rattle.twkb_head.specs.Head.{span_at};
 ghost use Rattle.twkb_head.specs.Raw.{ends_of};
 ghost use Rattle.twkb_head.specs.declared.raw.RawRange.{RawRange as RawRangeOf};
-ghost use Rattle.twkb_layer.specs.Devices.Slots.{IsBare, IsOwn, IsShortBox, half_says, is_pair, is_run, is_shared, misses_in_x_or_y, slot_says, short_ends, unpacked};
-ghost use Rattle.twkb_layer.specs.Slots.{bare, range_in, says_of, short_says};
+ghost use Rattle.twkb_layer.specs.Devices.Slots.{IsBare, IsOwn, IsShortBox, half_says, is_pair, is_run, is_shared, misses_in_x_or_y, slot_says, unpacked};
+ghost use Rattle.twkb_layer.specs.Slots.{bare, says_of, short_says};
 ghost use Rattle.twkb_layer.specs.Window.{lie_apart_if_both};
 
 use crate::raw_windows::RawWindows;

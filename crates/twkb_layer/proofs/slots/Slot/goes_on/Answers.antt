@@ -1,7 +1,7 @@
 -- The run says the blob too.
-use Rattle.std.proofs.Common.{◌≡◌, ◌+◌, ◌-◌, ◌<◌, ◌≤◌, ◌==◌, ◌⊎◌, ℕ, true, false, [], ◌∷◌, ◌++◌, subst, take, ap, sym, ◌∙◌, arith}
+use Rattle.std.proofs.Common.{◌≡◌, ◌+◌, ◌-◌, ◌<◌, ◌≤◌, ◌⊎◌, true, false, [], ◌∷◌, ◌++◌, subst, take, ap, sym, ◌∙◌, arith}
 use Rattle.std.proofs.lemmas.Bool.Decides.{nat_tests}
-use Rattle.twkb_layer.specs.Devices.Slots.{IsBare, Packed, is_run, unpacked, written}
+use Rattle.twkb_layer.specs.Devices.Slots.{IsBare, is_run, unpacked, written}
 use Rattle.twkb_layer.specs.Slots.{Written, bare, four, says_of}
 use Rattle.twkb_layer.proofs.Runs.{began, far_more, near_more, one_more}
 use Rattle.twkb_layer.proofs.slots.Slot.goes_on.Goals as goal

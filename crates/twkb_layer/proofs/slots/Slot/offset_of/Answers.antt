@@ -1,6 +1,6 @@
 -- A blob after the first begins as much further as its number says.
-use Rattle.std.proofs.Common.{◌≡◌, ◌+◌, ◌-◌, ◌<◌, ℕ, suc, true, length, get_or, subst, ap, sym, ◌∙◌, arith}
-use Rattle.twkb_layer.specs.Devices.Slots.{is_run, unpacked, written}
+use Rattle.std.proofs.Common.{◌≡◌, ◌+◌, ◌-◌, ◌<◌, suc, true, length, get_or, subst, ap, sym, ◌∙◌, arith}
+use Rattle.twkb_layer.specs.Devices.Slots.{is_run, written}
 use Rattle.twkb_layer.specs.Slots.{Written, bare, says_of}
 use Rattle.twkb_layer.proofs.Runs.{run_at}
 use Rattle.twkb_layer.proofs.slots.Slot.offset_of.Goals as goal
