@@ -7,12 +7,16 @@ use Rattle.std.proofs.lemmas.Nat.Bits.{bit_at_cat_low, bit_at_cat_high}
 use Rattle.std.proofs.lemmas.Simd.{pick_l_whole, get_or_wider, Each1-get_or, below_from_Fits}
 use Rattle.std.proofs.Math.Seq.{take-add}
 use lib.Lanes.{number_l, digits_l, Each1}
-use Rattle.twkb_num.specs.Varint.{SpellsAll, SpellsAllSigned, zigzag_value}
+use Rattle.std.specs.Prelude.{All}
+use Rattle.std.specs.Int.{cast_signed, w16, w32}
+use Rattle.std.proofs.lemmas.Grind.{same_number_lists}
+use Rattle.std.proofs.lemmas.Int.{ints}
+use Rattle.twkb_num.specs.Varint.{SpellsAll, SpellsAllSigned, IsShort, IsBrief, zigzag_value}
 use Rattle.twkb_num.specs.Devices.Lanes.{value_at, values, IsTops, IsFlag}
-use Rattle.twkb_num.specs.declared.tables.narrow.TheConstants.{NARROW_PLACES, NARROW_LEN}
-use Rattle.twkb_num.specs.declared.tables.wide.TheConstants.{WIDE_PLACES, WIDE_LEN}
+use Rattle.twkb_num.specs.declared.tables.narrow.TheConstants.{NARROW_PLACES, NARROW_LEN, THREE_NARROW_LEN}
+use Rattle.twkb_num.specs.declared.tables.wide.TheConstants.{WIDE_PLACES, WIDE_LEN, FIRST_WIDE_LEN}
 use Rattle.twkb_num.proofs.LaneLaws.{two_groups}
-use Rattle.twkb_num.proofs.TableLaws.{is_flag, row_ok, wide_rows, narrow_rows, wide_flags, narrow_flags}
+use Rattle.twkb_num.proofs.TableLaws.{is_flag, row_ok, wide_rows, narrow_rows, wide_flags, narrow_flags, first_wide_rows, three_narrow_rows, first_wide_flags, three_narrow_flags}
 use Rattle.twkb_num.proofs.RowSpells.{IsPicked, row_holds}
 
 -- ---- lengths
@@ -28,6 +32,12 @@ wide_flag tops len few is = flag_from len (ap is_flag is ∙ wide_flags tops few
 
 pub narrow_flag : (tops len : ℕ) → tops < 256 → len ≡ get_or NARROW_LEN tops 0 → IsFlag len
 narrow_flag tops len few is = flag_from len (ap is_flag is ∙ narrow_flags tops few)
+
+pub first_wide_flag : (tops len : ℕ) → tops < 256 → len ≡ get_or FIRST_WIDE_LEN tops 0 → IsFlag len
+first_wide_flag tops len few is = flag_from len (ap is_flag is ∙ first_wide_flags tops few)
+
+pub three_narrow_flag : (tops len : ℕ) → tops < 256 → len ≡ get_or THREE_NARROW_LEN tops 0 → IsFlag len
+three_narrow_flag tops len few is = flag_from len (ap is_flag is ∙ three_narrow_flags tops few)
 
 pub flag_place : (len : ℕ) → IsFlag len → len % 16 ≤ 8
 flag_place len (inl low) = omega (arith, low)
@@ -55,6 +65,18 @@ narrow_spells v lanes tops len few is p short =
     let low : get_or NARROW_LEN tops 0 < 128 = omega (arith, is, short) in
     let ok = sym (cond-true (ltb (get_or NARROW_LEN tops 0) 128) _ _ (lt-ltb (get_or NARROW_LEN tops 0) 128 low)) ∙ narrow_rows tops few in
     row_spells 2 4 v lanes (get_or NARROW_PLACES tops 0) tops len p (λ i. omega arith) (ap (row_ok 2 4 (get_or NARROW_PLACES tops 0) 0 tops 0) is ∙ ok)
+
+pub first_wide_spells : (v lanes : List ℕ) (tops len : ℕ) → tops < 256 → len ≡ get_or FIRST_WIDE_LEN tops 0 → IsPicked v (get_or WIDE_PLACES tops 0) lanes tops → len < 128 → SpellsAll (take len v) (values 4 1 lanes 0)
+first_wide_spells v lanes tops len few is p short =
+    let low : get_or FIRST_WIDE_LEN tops 0 < 128 = omega (arith, is, short) in
+    let ok = sym (cond-true (ltb (get_or FIRST_WIDE_LEN tops 0) 128) _ _ (lt-ltb (get_or FIRST_WIDE_LEN tops 0) 128 low)) ∙ first_wide_rows tops few in
+    row_spells 4 1 v lanes (get_or WIDE_PLACES tops 0) tops len p (λ i. omega arith) (ap (row_ok 4 1 (get_or WIDE_PLACES tops 0) 0 tops 0) is ∙ ok)
+
+pub three_narrow_spells : (v lanes : List ℕ) (tops len : ℕ) → tops < 256 → len ≡ get_or THREE_NARROW_LEN tops 0 → IsPicked v (get_or NARROW_PLACES tops 0) lanes tops → len < 128 → SpellsAll (take len v) (values 2 3 lanes 0)
+three_narrow_spells v lanes tops len few is p short =
+    let low : get_or THREE_NARROW_LEN tops 0 < 128 = omega (arith, is, short) in
+    let ok = sym (cond-true (ltb (get_or THREE_NARROW_LEN tops 0) 128) _ _ (lt-ltb (get_or THREE_NARROW_LEN tops 0) 128 low)) ∙ three_narrow_rows tops few in
+    row_spells 2 3 v lanes (get_or NARROW_PLACES tops 0) tops len p (λ i. omega arith) (ap (row_ok 2 3 (get_or NARROW_PLACES tops 0) 0 tops 0) is ∙ ok)
 
 -- ---- tops
 low_bits : (t i : ℕ) → i < 8 → t % 256 / 2 ^ i % 2 ≡ t / 2 ^ i % 2
@@ -190,3 +212,54 @@ narrow_values both lo hi in_low in_high =
     let high = value_same both hi 8 in_high 2 in
     cons_same _ _ _ _ (low 0 (omega arith)) (cons_same _ _ _ _ (low 2 (omega arith)) (cons_same _ _ _ _ (low 4 (omega arith)) (cons_same _ _ _ _ (low 6 (omega arith))
     (cons_same _ _ _ _ (high 0 (omega arith)) (cons_same _ _ _ _ (high 2 (omega arith)) (cons_same _ _ _ _ (high 4 (omega arith)) (cons_same _ _ _ _ (high 6 (omega arith)) refl)))))))
+
+-- ---- the first two of four lanes
+pub four_of : (l : List ℕ) → length l ≡ 4 → (a b c d : ℕ) × (l ≡ a ∷ b ∷ c ∷ d ∷ [])
+four_of [] e = absurd (omega (arith, e))
+four_of (a ∷ []) e = absurd (omega (arith, e))
+four_of (a ∷ b ∷ []) e = absurd (omega (arith, e))
+four_of (a ∷ b ∷ c ∷ []) e = absurd (omega (arith, e))
+four_of (a ∷ b ∷ c ∷ d ∷ []) e = (a, b, c, d, refl)
+four_of (a ∷ b ∷ c ∷ d ∷ f ∷ l) e = absurd (omega (arith, e))
+
+pub two_short : (a b c d : ℕ) → All IsShort (map (cast_signed w32) (a ∷ b ∷ c ∷ d ∷ [])) → All IsShort (map (cast_signed w32) (a ∷ b ∷ 0 ∷ 0 ∷ []))
+two_short a b c d all zero e h = all 0 e (omega arith)
+two_short a b c d all (suc zero) e h = all 1 e (omega arith)
+two_short a b c d all (suc (suc zero)) e h = omega (arith, ints)
+two_short a b c d all (suc (suc (suc zero))) e h = omega (arith, ints)
+two_short a b c d all (suc (suc (suc (suc k)))) e h = absurd (omega (arith, h))
+
+pub three_short : (a b c d : ℕ) → All IsShort (map (cast_signed w32) (a ∷ b ∷ c ∷ d ∷ [])) → All IsShort (map (cast_signed w32) (a ∷ b ∷ c ∷ 0 ∷ []))
+three_short a b c d all zero e h = all 0 e (omega arith)
+three_short a b c d all (suc zero) e h = all 1 e (omega arith)
+three_short a b c d all (suc (suc zero)) e h = all 2 e (omega arith)
+three_short a b c d all (suc (suc (suc zero))) e h = omega (arith, ints)
+three_short a b c d all (suc (suc (suc (suc k)))) e h = absurd (omega (arith, h))
+
+-- ---- twice three of eight lanes
+eight_at : (l : List ℕ) (k : ℕ) → k < 8 → get_or l k 0 ≡ get_or (get_or l 0 0 ∷ get_or l 1 0 ∷ get_or l 2 0 ∷ get_or l 3 0 ∷ get_or l 4 0 ∷ get_or l 5 0 ∷ get_or l 6 0 ∷ get_or l 7 0 ∷ []) k 0
+eight_at l zero h = refl
+eight_at l (suc zero) h = refl
+eight_at l (suc (suc zero)) h = refl
+eight_at l (suc (suc (suc zero))) h = refl
+eight_at l (suc (suc (suc (suc zero)))) h = refl
+eight_at l (suc (suc (suc (suc (suc zero))))) h = refl
+eight_at l (suc (suc (suc (suc (suc (suc zero)))))) h = refl
+eight_at l (suc (suc (suc (suc (suc (suc (suc zero))))))) h = refl
+eight_at l (suc (suc (suc (suc (suc (suc (suc (suc k)))))))) h = absurd (omega (arith, h))
+
+pub eight_of : (l : List ℕ) → length l ≡ 8 → (a b c d e f g h : ℕ) × (l ≡ a ∷ b ∷ c ∷ d ∷ e ∷ f ∷ g ∷ h ∷ [])
+eight_of l e =
+    let g = λ (i : ℕ). get_or l i 0 in
+    (g 0, g 1, g 2, g 3, g 4, g 5, g 6, g 7, same_number_lists l (g 0 ∷ g 1 ∷ g 2 ∷ g 3 ∷ g 4 ∷ g 5 ∷ g 6 ∷ g 7 ∷ []) e (λ k h. eight_at l k (omega (arith, h, e))))
+
+pub six_brief : (a b c d e f g h : ℕ) → All IsBrief (map (cast_signed w16) (a ∷ b ∷ c ∷ d ∷ e ∷ f ∷ g ∷ h ∷ [])) → All IsBrief (map (cast_signed w16) (a ∷ b ∷ c ∷ 0 ∷ e ∷ f ∷ g ∷ 0 ∷ []))
+six_brief a b c d e f g h all zero z l = all 0 z (omega arith)
+six_brief a b c d e f g h all (suc zero) z l = all 1 z (omega arith)
+six_brief a b c d e f g h all (suc (suc zero)) z l = all 2 z (omega arith)
+six_brief a b c d e f g h all (suc (suc (suc zero))) z l = omega (arith, ints)
+six_brief a b c d e f g h all (suc (suc (suc (suc zero)))) z l = all 4 z (omega arith)
+six_brief a b c d e f g h all (suc (suc (suc (suc (suc zero))))) z l = all 5 z (omega arith)
+six_brief a b c d e f g h all (suc (suc (suc (suc (suc (suc zero)))))) z l = all 6 z (omega arith)
+six_brief a b c d e f g h all (suc (suc (suc (suc (suc (suc (suc zero))))))) z l = omega (arith, ints)
+six_brief a b c d e f g h all (suc (suc (suc (suc (suc (suc (suc (suc k)))))))) z l = absurd (omega (arith, l))

@@ -1,7 +1,7 @@
 -- The tables of places and lengths are right: computed at each of the 256 masks.
 use Rattle.std.proofs.Common.{◌≡◌, ℕ, zero, suc, ◌+◌, ◌/◌, ◌%◌, ◌<◌, ◌^◌, Bool, true, false, ◌&&◌, ◌||◌, eqb, ltb, cond, refl, get_or}
-use Rattle.twkb_num.specs.declared.tables.narrow.TheConstants.{NARROW_PLACES, NARROW_LEN}
-use Rattle.twkb_num.specs.declared.tables.wide.TheConstants.{WIDE_PLACES, WIDE_LEN}
+use Rattle.twkb_num.specs.declared.tables.narrow.TheConstants.{NARROW_PLACES, NARROW_LEN, THREE_NARROW_LEN}
+use Rattle.twkb_num.specs.declared.tables.wide.TheConstants.{WIDE_PLACES, WIDE_LEN, FIRST_WIDE_LEN}
 use Rattle.twkb_num.specs.Devices.Lanes.{byte_of}
 use Rattle.twkb_num.proofs.Below.{true_below}
 
@@ -40,6 +40,18 @@ wide_flags = true_below (λ mask. is_flag (get_or WIDE_LEN mask 0)) 256 refl
 
 pub narrow_flags : (mask : ℕ) → mask < 256 → is_flag (get_or NARROW_LEN mask 0) ≡ true
 narrow_flags = true_below (λ mask. is_flag (get_or NARROW_LEN mask 0)) 256 refl
+
+pub first_wide_rows : (mask : ℕ) → mask < 256 → cond (ltb (get_or FIRST_WIDE_LEN mask 0) 128) (row_ok 4 1 (get_or WIDE_PLACES mask 0) 0 mask 0 (get_or FIRST_WIDE_LEN mask 0)) true ≡ true
+first_wide_rows = true_below (λ mask. cond (ltb (get_or FIRST_WIDE_LEN mask 0) 128) (row_ok 4 1 (get_or WIDE_PLACES mask 0) 0 mask 0 (get_or FIRST_WIDE_LEN mask 0)) true) 256 refl
+
+pub three_narrow_rows : (mask : ℕ) → mask < 256 → cond (ltb (get_or THREE_NARROW_LEN mask 0) 128) (row_ok 2 3 (get_or NARROW_PLACES mask 0) 0 mask 0 (get_or THREE_NARROW_LEN mask 0)) true ≡ true
+three_narrow_rows = true_below (λ mask. cond (ltb (get_or THREE_NARROW_LEN mask 0) 128) (row_ok 2 3 (get_or NARROW_PLACES mask 0) 0 mask 0 (get_or THREE_NARROW_LEN mask 0)) true) 256 refl
+
+pub first_wide_flags : (mask : ℕ) → mask < 256 → is_flag (get_or FIRST_WIDE_LEN mask 0) ≡ true
+first_wide_flags = true_below (λ mask. is_flag (get_or FIRST_WIDE_LEN mask 0)) 256 refl
+
+pub three_narrow_flags : (mask : ℕ) → mask < 256 → is_flag (get_or THREE_NARROW_LEN mask 0) ≡ true
+three_narrow_flags = true_below (λ mask. is_flag (get_or THREE_NARROW_LEN mask 0)) 256 refl
 
 -- n bits from a place on are set
 abbrev pub all_on : ℕ → ℕ → ℕ → Bool

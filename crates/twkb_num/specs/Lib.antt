@@ -2,6 +2,7 @@
 pub mod Varint
 pub mod Point
 pub mod Cursor
+pub mod Numbers
 pub mod Runs
 pub mod Units
 pub mod Devices

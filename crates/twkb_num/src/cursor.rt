@@ -16,7 +16,12 @@ use std::marker::Model;
 /// A call counts each byte that it returns or passes, and each byte that it looked at to find a fault. No public call lowers the
 /// count, lends the bytes, or returns a second cursor. Only [`Cursor::go_to`] moves without counting, and it reads nothing.
 ///
-/// Some calls read or pass numbers by words of eight bytes, such as [`Cursor::svarint_pair`], [`Cursor::pass_varint`] and
+/// [`Cursor::svarints`], [`Cursor::take_run`] and [`Cursor::pass_numbers`] read or pass as many numbers as a caller says. They return
+/// what single reads of these numbers return, one after another, and leave the cursor where the last of these leaves it. They may
+/// read short numbers together and touch bytes after them, but neither a result, nor a place, nor a count depends on such a byte.
+/// So they tell nothing of bytes that aren't counted.
+///
+/// Other calls read or pass numbers by words of eight bytes, such as [`Cursor::svarint_pair`], [`Cursor::pass_varint`] and
 /// [`Cursor::pass_varints`], or by vectors from the next 16, 32 or 80 bytes, as [`Cursor::svarint_mixed_pair`],
 /// [`Cursor::svarint_four`], [`Cursor::svarint_eight`] and [`Cursor::svarint_eights`] do. They touch bytes after the numbers too,
 /// as reading a cache line does, but count only the bytes of the numbers. If such a call fails (returns `None`, or a result whose
@@ -364,9 +369,11 @@ impl<'a> Cursor<'a> {
 }
 
 mod lanes;
+mod numbers;
 mod pages;
 mod pairs;
 mod point;
+mod points;
 mod runs;
 #[cfg(test)]
 mod tests;
@@ -374,3 +381,4 @@ mod tests;
 pub use lanes::{Eight, Four, TakeEight};
 pub use pages::Prefetch;
 pub use point::TYPE_AND_FIELDS;
+pub use points::TakePoints;

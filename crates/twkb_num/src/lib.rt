@@ -5,6 +5,10 @@
 //!
 //! - [`Cursor::uvarint`] and [`Cursor::svarint`] read the number at the cursor's place, or return one of two faults
 //!   ([`NumFault`]). They are the hot path: numbers of one and of two bytes take no loop.
+//! - [`Cursor::svarints`] reads some signed numbers, [`Cursor::take_run`] reads points and gives their numbers to a [`TakePoints`],
+//!   and [`Cursor::pass_numbers`] moves past numbers and says whether all are below 2^49. A caller says how many, and each call does
+//!   what as many single reads do, whether the numbers are short or long and the end of the bytes is near or not. So these calls
+//!   tell nothing of bytes that aren't counted.
 //! - [`Cursor::svarint_pair`] reads two signed numbers from one word of eight bytes, if both are short. [`Cursor::pass_varint`]
 //!   moves past one number without decoding it, and [`Cursor::pass_pair`] past two. [`Cursor::pass_short_point`] moves past a point
 //!   with its header, and with its size if it has one. The numbers have to end in such a word; otherwise these calls return `None`.
@@ -41,7 +45,7 @@ mod varint;
 mod vectors;
 mod word;
 
-pub use cursor::{Cursor, Eight, Four, Prefetch, TYPE_AND_FIELDS, TakeEight};
+pub use cursor::{Cursor, Eight, Four, Prefetch, TYPE_AND_FIELDS, TakeEight, TakePoints};
 pub use scale::{coordinate_of, units};
 pub use signed::{unzigzag, zigzag};
 pub use varint::NumFault;

@@ -1,4 +1,5 @@
-//! Unsigned varints of any length, and why there is none. Used by other crates, and here by `cursor`.
+//! Unsigned varints of any length, and why there is none. Used by other crates, and here by `cursor`,
+//! `cursor/numbers` and `cursor/points`.
 ghost use Rattle.std.specs.Prelude.{◌≡◌, ◌+◌, ◌<◌, ◌≤◌, ◌↔◌, length, take, IfOk};
 ghost use Rattle.twkb_num.specs.Varint.{Spells, Faults};
 ghost use Rattle.twkb_num.specs.Devices.Varint.{IsBegunBy};

@@ -2,9 +2,12 @@
 ghost use Rattle.std.specs.Prelude.{◌≡◌, ◌+◌, ◌*◌, ◌<◌, ◌≤◌, ◌/◌, ◌%◌, ◌^◌, ℕ, ℤ, List, [], ◌∷◌, map, slice_index, take, All};
 ghost use Rattle.std.specs.Int.{w16, w32, cast_signed};
 ghost use Rattle.twkb_num.specs.Varint.{zigzag_value, SpellsAll, SpellsAllSigned, IsShort, IsBrief, HasLong};
+ghost use Rattle.twkb_num.specs.Numbers.{points_in};
 ghost use Rattle.twkb_num.specs.Devices.Lanes.{byte_or_zero, IsTops, IsFlag, values};
 
-use crate::tables::{narrow_len, narrow_places, wide_len, wide_places};
+use crate::tables::{
+    first_wide_len, narrow_len, narrow_places, three_narrow_len, wide_len, wide_places,
+};
 use std::simd::prelude::*;
 
 /// The first numbers of sixteen bytes, with the bytes of each in a lane, whose groups of seven bits aren't pushed together yet, and
@@ -69,6 +72,28 @@ pub fn wide_pair(bytes: &[u8; 16]) -> Wide
     }
 }
 
+/// The three numbers that the front of the bytes spells, in the first three lanes, if each takes at most four bytes.
+#[inline(always)]
+pub fn wide_three(bytes: &[u8; 32]) -> Wide
+    ensures few { result.len < 128 → result.len ≤ 16 }
+    ensures spelled { result.len < 128
+        → SpellsAllSigned (take result.len bytes.now) (take 3 (map (cast_signed w32) result.lanes)) }
+    ensures short { All IsShort (map (cast_signed w32) result.lanes) }
+{
+    let v = u8x16::from_slice(&bytes[0..16]);
+    let tops = continuation_bits(v);
+    let first = wide_two(v, (tops % 256) as usize);
+    let behind = first.len % 16;
+    let third = wide_one(
+        u8x16::from_slice(&bytes[behind..behind + 16]),
+        bits_from(tops, first.len),
+    );
+    Wide {
+        lanes: meant_wide(low_halves(first.lanes, third.lanes)),
+        len: first.len + third.len,
+    }
+}
+
 /// The eight numbers that the front of the bytes spells, if each takes at most two bytes. The lowest bits of `tops` are the
 /// continuation bits of the first sixteen bytes.
 #[inline(always)]
@@ -89,6 +114,29 @@ pub fn narrow_eight(bytes: &[u8; 32], tops: u64) -> Narrow
     Narrow {
         lanes: meant_narrow(low_halves(first.lanes, second.lanes)),
         len,
+    }
+}
+
+/// The six numbers that the front of the bytes spells, three in each half of the lanes, if each takes at most two bytes. The last lane
+/// of a half means nothing.
+#[inline(always)]
+pub fn narrow_six(bytes: &[u8; 32]) -> Narrow
+    ensures few { result.len < 128 → result.len ≤ 16 }
+    ensures spelled { result.len < 128
+        → SpellsAllSigned (take result.len bytes.now) (points_in 3 (map (cast_signed w16) result.lanes)) }
+    ensures brief { All IsBrief (map (cast_signed w16) result.lanes) }
+{
+    let v = u8x16::from_slice(&bytes[0..16]);
+    let tops = continuation_bits(v);
+    let first = narrow_three(v, (tops % 256) as usize);
+    let behind = first.len % 16;
+    let other = narrow_three(
+        u8x16::from_slice(&bytes[behind..behind + 16]),
+        bits_from(tops, first.len),
+    );
+    Narrow {
+        lanes: meant_narrow(low_halves(first.lanes, other.lanes)),
+        len: first.len + other.len,
     }
 }
 
@@ -119,6 +167,34 @@ fn narrow_four(v: u8x16, tops: usize) -> Unpacked
     Unpacked {
         lanes: picked(v, narrow_places(tops)),
         len: narrow_len(tops) as usize,
+    }
+}
+
+/// The first of two numbers of at most four bytes: the length is its own, and the second lane means nothing.
+#[inline(always)]
+fn wide_one(v: u8x16, tops: usize) -> Unpacked
+    requires few { tops < 256 }
+    requires tops { IsTops 8 tops v }
+    ensures flag { IsFlag result.len }
+    ensures spelled { result.len < 128 → SpellsAll (take result.len v) (values 4 1 result.lanes 0) }
+{
+    Unpacked {
+        lanes: picked(v, wide_places(tops)),
+        len: first_wide_len(tops) as usize,
+    }
+}
+
+/// Three of four numbers of at most two bytes: the length is theirs, and the fourth lane means nothing.
+#[inline(always)]
+fn narrow_three(v: u8x16, tops: usize) -> Unpacked
+    requires few { tops < 256 }
+    requires tops { IsTops 8 tops v }
+    ensures flag { IsFlag result.len }
+    ensures spelled { result.len < 128 → SpellsAll (take result.len v) (values 2 3 result.lanes 0) }
+{
+    Unpacked {
+        lanes: picked(v, narrow_places(tops)),
+        len: three_narrow_len(tops) as usize,
     }
 }
 

@@ -1,6 +1,6 @@
 -- Devices of proofs: nothing public names them.
 -- Varints in the lanes of vectors.
-use Rattle.std.specs.Prelude.{◌≡◌, ℕ, zero, suc, ◌+◌, ◌*◌, ◌/◌, ◌%◌, ◌^◌, ◌<◌, ◌≤◌, if◌then◌else◌, nat_lt, List, [], ◌∷◌, slice_index, ◌⊎◌}
+use Rattle.std.specs.Prelude.{◌≡◌, ℕ, zero, suc, ◌+◌, ◌*◌, ◌/◌, ◌%◌, ◌^◌, ◌<◌, ◌≤◌, if◌then◌else◌, nat_lt, nat_eq, List, [], ◌∷◌, slice_index, ◌⊎◌}
 
 -- the byte at a place of sixteen, or zero at a place from 128 on
 abbrev pub byte_or_zero : List ℕ → ℕ → ℕ
@@ -27,3 +27,7 @@ IsTops many tops bytes = (i : ℕ) → i < many → tops / 2 ^ i % 2 ≡ slice_i
 -- a length of at most eight, or 128 for numbers that are too long
 abbrev pub IsFlag : ℕ → Type 0
 IsFlag len = (len ≤ 8) ⊎ (len ≡ 128)
+
+-- how many numbers of whole points with this many axes eight lanes hold
+abbrev pub count_in : ℕ → ℕ
+count_in axes = if nat_eq axes 3 then 6 else 8

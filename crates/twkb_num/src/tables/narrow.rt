@@ -1,7 +1,7 @@
 //! Four varints of at most two bytes each, by the continuation bits of eight bytes.
 ghost use Rattle.std.specs.Prelude.{◌≡◌, ◌<◌, ℕ, slice_index};
 ghost use Rattle.twkb_num.specs.Devices.Lanes.{byte_of};
-ghost use Rattle.twkb_num.specs.declared.tables.narrow.TheConstants.{NARROW_LEN, NARROW_PLACES};
+ghost use Rattle.twkb_num.specs.declared.tables.narrow.TheConstants.{NARROW_LEN, THREE_NARROW_LEN, NARROW_PLACES};
 
 use std::simd::prelude::*;
 
@@ -21,6 +21,15 @@ pub fn narrow_len(bits: usize) -> u32
     ensures { result ≡ slice_index NARROW_LEN bits }
 {
     NARROW_LEN[bits] as u32
+}
+
+/// How many bytes the first three of them take, whatever the fourth one is.
+#[inline(always)]
+pub fn three_narrow_len(bits: usize) -> u32
+    requires few { bits < 256 }
+    ensures { result ≡ slice_index THREE_NARROW_LEN bits }
+{
+    THREE_NARROW_LEN[bits] as u32
 }
 
 static NARROW_PLACES: [u64; 256] = [
@@ -295,4 +304,19 @@ static NARROW_LEN: [u8; 256] = [
     128, 5, 6, 128, 128, 5, 6, 6, 128, 128, 128, 128, 128, 4, 6, 6, 128, 6, 128, 128, 128, 128,
     128, 128, 128, 128, 128, 128, 128, 4, 5, 5, 128, 5, 128, 128, 128, 5, 128, 128, 128, 128, 128,
     128, 128, 4, 128, 128, 128, 128, 128, 128, 128, 128, 128, 128, 128, 128, 128, 128, 128,
+];
+
+static THREE_NARROW_LEN: [u8; 256] = [
+    3, 4, 4, 128, 4, 5, 128, 128, 3, 5, 5, 128, 128, 128, 128, 128, 3, 4, 4, 128, 4, 6, 128, 128,
+    3, 128, 128, 128, 128, 128, 128, 128, 3, 4, 4, 128, 4, 5, 128, 128, 3, 5, 5, 128, 128, 128,
+    128, 128, 3, 4, 4, 128, 4, 128, 128, 128, 3, 128, 128, 128, 128, 128, 128, 128, 3, 4, 4, 128,
+    4, 5, 128, 128, 3, 5, 5, 128, 128, 128, 128, 128, 3, 4, 4, 128, 4, 6, 128, 128, 3, 128, 128,
+    128, 128, 128, 128, 128, 3, 4, 4, 128, 4, 5, 128, 128, 3, 5, 5, 128, 128, 128, 128, 128, 3, 4,
+    4, 128, 4, 128, 128, 128, 3, 128, 128, 128, 128, 128, 128, 128, 3, 4, 4, 128, 4, 5, 128, 128,
+    3, 5, 5, 128, 128, 128, 128, 128, 3, 4, 4, 128, 4, 6, 128, 128, 3, 128, 128, 128, 128, 128,
+    128, 128, 3, 4, 4, 128, 4, 5, 128, 128, 3, 5, 5, 128, 128, 128, 128, 128, 3, 4, 4, 128, 4, 128,
+    128, 128, 3, 128, 128, 128, 128, 128, 128, 128, 3, 4, 4, 128, 4, 5, 128, 128, 3, 5, 5, 128,
+    128, 128, 128, 128, 3, 4, 4, 128, 4, 6, 128, 128, 3, 128, 128, 128, 128, 128, 128, 128, 3, 4,
+    4, 128, 4, 5, 128, 128, 3, 5, 5, 128, 128, 128, 128, 128, 3, 4, 4, 128, 4, 128, 128, 128, 3,
+    128, 128, 128, 128, 128, 128, 128,
 ];

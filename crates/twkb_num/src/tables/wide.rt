@@ -1,7 +1,7 @@
 //! Two varints of at most four bytes each, by the continuation bits of eight bytes.
 ghost use Rattle.std.specs.Prelude.{◌≡◌, ◌<◌, ℕ, slice_index};
 ghost use Rattle.twkb_num.specs.Devices.Lanes.{byte_of};
-ghost use Rattle.twkb_num.specs.declared.tables.wide.TheConstants.{WIDE_LEN, WIDE_PLACES};
+ghost use Rattle.twkb_num.specs.declared.tables.wide.TheConstants.{WIDE_LEN, FIRST_WIDE_LEN, WIDE_PLACES};
 
 use std::simd::prelude::*;
 
@@ -21,6 +21,15 @@ pub fn wide_len(bits: usize) -> u32
     ensures { result ≡ slice_index WIDE_LEN bits }
 {
     WIDE_LEN[bits] as u32
+}
+
+/// How many bytes the first one of them takes, whatever the second one is.
+#[inline(always)]
+pub fn first_wide_len(bits: usize) -> u32
+    requires few { bits < 256 }
+    ensures { result ≡ slice_index FIRST_WIDE_LEN bits }
+{
+    FIRST_WIDE_LEN[bits] as u32
 }
 
 static WIDE_PLACES: [u64; 256] = [
@@ -292,4 +301,16 @@ static WIDE_LEN: [u8; 256] = [
     3, 3, 4, 2, 4, 4, 7, 2, 3, 3, 7, 2, 128, 128, 128, 2, 3, 3, 4, 2, 4, 4, 5, 2, 3, 3, 5, 2, 5, 5,
     128, 2, 3, 3, 4, 2, 4, 4, 6, 2, 3, 3, 6, 2, 6, 128, 128, 2, 3, 3, 4, 2, 4, 4, 5, 2, 3, 3, 5, 2,
     5, 5, 128, 2, 3, 3, 4, 2, 4, 4, 128, 2, 3, 3, 128, 2, 128, 128, 128,
+];
+
+static FIRST_WIDE_LEN: [u8; 256] = [
+    1, 2, 1, 3, 1, 2, 1, 4, 1, 2, 1, 3, 1, 2, 1, 128, 1, 2, 1, 3, 1, 2, 1, 4, 1, 2, 1, 3, 1, 2, 1,
+    128, 1, 2, 1, 3, 1, 2, 1, 4, 1, 2, 1, 3, 1, 2, 1, 128, 1, 2, 1, 3, 1, 2, 1, 4, 1, 2, 1, 3, 1,
+    2, 1, 128, 1, 2, 1, 3, 1, 2, 1, 4, 1, 2, 1, 3, 1, 2, 1, 128, 1, 2, 1, 3, 1, 2, 1, 4, 1, 2, 1,
+    3, 1, 2, 1, 128, 1, 2, 1, 3, 1, 2, 1, 4, 1, 2, 1, 3, 1, 2, 1, 128, 1, 2, 1, 3, 1, 2, 1, 4, 1,
+    2, 1, 3, 1, 2, 1, 128, 1, 2, 1, 3, 1, 2, 1, 4, 1, 2, 1, 3, 1, 2, 1, 128, 1, 2, 1, 3, 1, 2, 1,
+    4, 1, 2, 1, 3, 1, 2, 1, 128, 1, 2, 1, 3, 1, 2, 1, 4, 1, 2, 1, 3, 1, 2, 1, 128, 1, 2, 1, 3, 1,
+    2, 1, 4, 1, 2, 1, 3, 1, 2, 1, 128, 1, 2, 1, 3, 1, 2, 1, 4, 1, 2, 1, 3, 1, 2, 1, 128, 1, 2, 1,
+    3, 1, 2, 1, 4, 1, 2, 1, 3, 1, 2, 1, 128, 1, 2, 1, 3, 1, 2, 1, 4, 1, 2, 1, 3, 1, 2, 1, 128, 1,
+    2, 1, 3, 1, 2, 1, 4, 1, 2, 1, 3, 1, 2, 1, 128,
 ];

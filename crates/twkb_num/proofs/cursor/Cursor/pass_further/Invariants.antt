@@ -1,0 +1,13 @@
+-- All numbers but those left were passed.
+use Rattle.std.proofs.Common.{◌-◌, ◌≤◌}
+use Rattle.twkb_num.specs.Numbers.{PassesNumbers}
+use Rattle.twkb_num.proofs.cursor.Cursor.pass_further.Given as goal
+
+abbrev pub invariant-loop-left : goal.invariant-loop-left
+invariant-loop-left l = record {
+  few : l.left ≤ l.many;
+  numbers : PassesNumbers (l.many - l.left) l.fn.self l.self l.are_small;
+}
+
+abbrev pub decreases-loop-left : goal.decreases-loop-left
+decreases-loop-left l = l.left
