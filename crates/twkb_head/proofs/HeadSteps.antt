@@ -9,7 +9,7 @@ use Rattle.twkb_num.specs.Varint.{Spells, SpellsAll, SpellsMany, IsSigned, Spell
 use Rattle.twkb_num.proofs.PairLaws.{IsMoved-two}
 use Rattle.twkb_head.specs.Header.{code_of, has_bit, has_ids, z_in, m_in}
 use Rattle.twkb_head.specs.Shared.Reader.{Answer, Reader, ◌>>=◌, viewed, number_at, optional_at, range_from}
-use Rattle.twkb_head.specs.Devices.HeadReader.{byte_at, head_with, kind_from_type, two_ranges_from, bounds_from, head_at, size_and_box_at, rest_at}
+use Rattle.twkb_head.specs.Devices.HeadReader.{byte_at, head_with, kind_from_type, bounds_from, head_at, size_and_box_at, rest_at}
 use Rattle.twkb_head.specs.BegunHeader.{deepest, IsAllowedAt}
 use Rattle.twkb_head.specs.declared.kinds.Kind.{Kind}
 use Rattle.twkb_head.specs.declared.kinds.Kind.TheVariants.{Point, LineString, Polygon, MultiPoint, MultiLineString, MultiPolygon, GeometryCollection}
@@ -172,16 +172,6 @@ pair_range minimum extent old new spells moved =
     let first : IsSigned minimum (passed old way.0) = (spells.0, rw way.3 two.first, spells.3) in
     let second : IsSigned extent (passed way.0 new) = (spells.1, rw way.4 two.second, spells.4) in
     rw (read_signed old way.0 minimum first way.1, read_signed way.0 new extent second way.2) refl
-
--- two pairs of signed numbers, one after another, are two ranges, also as the code holds them
-pub two_pair_ranges : (x y first second : RawRange) (old between new : Reading) → first ≡ x → second ≡ y
-    → SpellsTwoSigned (passed old between) x.minimum x.extent → IsMoved old between
-    → SpellsTwoSigned (passed between new) y.minimum y.extent → IsMoved between new
-    → two_ranges_from old ≡ (Ok (ends_of first, ends_of second), new)
-unfolding two_ranges_from
-two_pair_ranges x y first second old between new first_is second_is x_spells x_moved y_spells y_moved =
-    let whole : two_ranges_from old ≡ (Ok (ends_of x, ends_of y), new) = rw (pair_range x.minimum x.extent old between x_spells x_moved, pair_range y.minimum y.extent between new y_spells y_moved) refl in
-    whole ∙ ap₂ (λ (a b : RawRange). (Ok (ends_of a, ends_of b), new)) (sym first_is) (sym second_is)
 
 -- two signed numbers that one move passes are a range, also as the code holds them
 pub pair_range_held : (minimum extent low more : ℤ) (old new : Reading) → low ≡ minimum → more ≡ extent → SpellsTwoSigned (passed old new) minimum extent → IsMoved old new → range_from old ≡ (Ok (low, low +ℤ more), new)

@@ -10,6 +10,7 @@ pub mod FurtherBoxes
 pub mod Heads
 pub mod Readings
 pub mod Steps
+mod NumberRuns
 pub mod HeadSteps
 pub mod HeadRuns
 pub mod Loops

@@ -6,7 +6,7 @@ ghost use Rattle.std.specs.Prelude.{◌≡◌, ◌≤◌, ◌-◌, IfOk};
 ghost use Rattle.twkb_num.specs.Units.{IsPrecision};
 ghost use Rattle.twkb_head.specs.BegunHeader.{deepest};
 ghost use Rattle.twkb_head.specs.Devices.HeadReader.{byte_at, kind_from_type};
-ghost use Rattle.twkb_head.specs.Shared.Reader.{number_at, signed_at};
+ghost use Rattle.twkb_head.specs.Shared.Reader.{number_at};
 ghost use Rattle.twkb_head.specs.Refusal.{why_of};
 
 use crate::bits::precision_of;
@@ -57,17 +57,6 @@ pub fn take_number(cursor: &mut Cursor) -> Result<u64, Malformed>
 {
     match cursor.uvarint() {
         Ok(number) => Ok(number),
-        Err(fault) => Err(malformed(cursor, fault)),
-    }
-}
-
-/// Reads the signed number at the place, by zigzag, as [`take_number`] reads an unsigned one.
-#[inline(always)]
-pub fn take_signed(cursor: &mut Cursor) -> Result<i64, Malformed>
-    ensures { signed_at cursor.old ≡ (result, cursor.new) }
-{
-    match cursor.svarint() {
-        Ok(signed) => Ok(signed),
         Err(fault) => Err(malformed(cursor, fault)),
     }
 }

@@ -1,9 +1,19 @@
--- Two pairs are two ranges.
-use Rattle.twkb_head.proofs.HeadSteps.{two_pair_ranges}
+-- Four numbers, one after another, are two ranges, and the fault of one of them is the fault of both.
+use Rattle.std.proofs.Common.{◌≡◌, rules, length, slice_index_or, pos, arith}
+use Rattle.std.proofs.lemmas.Int.{ints}
+use mir.Val.{SFits}
+use Rattle.std.specs.Int.{w64}
+use Rattle.twkb_head.proofs.NumberRuns.{two_ranges_held, two_ranges_stop}
 use Rattle.twkb_head.proofs.ranges.take_two_ranges.Goals as goal
 
-pub returns-in-Some : goal.returns-in-Some
-returns-in-Some c =
-    let read = c.in-Some.ensures.some in
-    two_pair_ranges (record { minimum = c.in-Some.first.0; extent = c.in-Some.first.1 }) (record { minimum = c.in-Some.second.0; extent = c.in-Some.second.1 }) _ _ c.args.cursor.now read.0 c.svarint_two_pairs.new.self
-    c.from.ensures c.from-in-Some.ensures read.1 read.2 read.3 read.4
+pub returns-in-Ok : goal.returns-in-Ok
+returns-in-Ok c =
+    let long : length c.in-Ok.numbers ≡ 4 = search rules in
+    let low : SFits w64 (slice_index_or c.in-Ok.numbers 0 (pos 0)) = search rules in
+    let width : SFits w64 (slice_index_or c.in-Ok.numbers 1 (pos 0)) = search rules in
+    let next : SFits w64 (slice_index_or c.in-Ok.numbers 2 (pos 0)) = search rules in
+    let more : SFits w64 (slice_index_or c.in-Ok.numbers 3 (pos 0)) = search rules in
+    two_ranges_held c.in-Ok.numbers _ _ _ _ long (omega (arith, ints)) (omega (arith, ints)) (omega (arith, ints)) (omega (arith, ints)) c.in-Ok.ensures.ok
+
+pub returns-in-Err : goal.returns-in-Err
+returns-in-Err c = two_ranges_stop _ c.in-Err.fault c.malformed.result c.malformed.ensures.offset c.malformed.ensures.why _ c.in-Err.ensures.err

@@ -1,0 +1,106 @@
+-- Signed numbers that a cursor reads, one after another, or the fault of one of them, are what the readers of ranges answer.
+use Rattle.std.proofs.Common.{◌≡◌, ℕ, ◌-◌, ◌<◌, List, [], ◌∷◌, ◌++◌, length, drop, slice_index_or, ℤ, pos, ◌+ℤ◌, Ok, Err, refl, sym, ap, ap₂, subst, ◌∙◌, arith}
+use Rattle.std.proofs.lemmas.Grind.{common_steps}
+use Rattle.std.proofs.lemmas.List.{append-nil}
+use Rattle.twkb_num.specs.Cursor.{Reading, passed, rest, counted}
+use Rattle.twkb_num.specs.Numbers.{ReadsNumbers, StopsReading, StopsAt}
+use Rattle.twkb_num.specs.Varint.{IsSigned, SpellsAllSigned, Faults, looked_at}
+use Rattle.twkb_num.specs.declared.varint.NumFault.{NumFault}
+use Rattle.twkb_num.proofs.PairLaws.{IsMoved-two}
+use Rattle.twkb_head.specs.Shared.Reader.{signed_at, range_from}
+use Rattle.twkb_head.specs.Devices.HeadReader.{two_ranges_from}
+use Rattle.twkb_head.specs.Raw.{ends_of}
+use Rattle.twkb_head.specs.Refusal.{why_of}
+use Rattle.twkb_head.specs.declared.raw.RawRange.{RawRange}
+use Rattle.twkb_head.specs.declared.refusal.Malformed.{Malformed}
+use Rattle.twkb_head.proofs.Readings.{reading_path}
+use Rattle.twkb_head.proofs.Steps.{read_signed, read_no_signed}
+
+-- the first of some numbers was read, and then the others
+first_read : (z : ℤ) (zs : List ℤ) (old new : Reading) → ReadsNumbers old new (z ∷ zs) → (mid : Reading) × (signed_at old ≡ (Ok z, mid)) × ReadsNumbers mid new zs
+first_read z zs old new read =
+    let all = read.spelled in
+    let way = IsMoved-two old new all.0 all.1 read.moved all.2 in
+    let here : IsSigned z (passed old way.0) = subst (λ bytes. IsSigned z bytes) (sym way.3) all.3 in
+    (way.0, read_signed old way.0 z here way.1, record { spelled = subst (λ bytes. SpellsAllSigned bytes zs) (sym way.4) all.4; moved = way.2 })
+
+-- one number was read
+one_read : (z : ℤ) (old new : Reading) → ReadsNumbers old new (z ∷ []) → signed_at old ≡ (Ok z, new)
+one_read z old new read =
+    let all = read.spelled in
+    let whole : passed old new ≡ all.0 = all.2 ∙ ap (λ bytes. all.0 ++ bytes) all.4 ∙ append-nil all.0 in
+    read_signed old new z (subst (λ bytes. IsSigned z bytes) (sym whole) all.3) read.moved
+
+pub range_read : (low width : ℤ) (old new : Reading) → ReadsNumbers old new (low ∷ width ∷ []) → range_from old ≡ (Ok (low, low +ℤ width), new)
+unfolding range_from
+range_read low width old new read =
+    let first = first_read low (width ∷ []) old new read in
+    rw (first.1, one_read width first.0 new first.2) refl
+
+pub two_ranges_read : (low width next more : ℤ) (old new : Reading) → ReadsNumbers old new (low ∷ width ∷ next ∷ more ∷ [])
+    → two_ranges_from old ≡ (Ok ((low, low +ℤ width), (next, next +ℤ more)), new)
+unfolding range_from two_ranges_from
+two_ranges_read low width next more old new read =
+    let first = first_read low (width ∷ next ∷ more ∷ []) old new read in
+    let second = first_read width (next ∷ more ∷ []) first.0 new first.2 in
+    let third = first_read next (more ∷ []) second.0 new second.2 in
+    rw (first.1, second.1, third.1, one_read more third.0 new third.2) refl
+
+-- numbers as the code holds them, in a list of two or four
+pub range_held : (numbers : List ℤ) (low width : ℤ) (old new : Reading) → length numbers ≡ 2 → low ≡ slice_index_or numbers 0 (pos 0) → width ≡ slice_index_or numbers 1 (pos 0)
+    → ReadsNumbers old new numbers → range_from old ≡ (Ok (low, low +ℤ width), new)
+range_held [] low width old new long low_is width_is read = absurd (omega (arith, long))
+range_held (a ∷ []) low width old new long low_is width_is read = absurd (omega (arith, long))
+range_held (a ∷ b ∷ []) low width old new long low_is width_is read = range_read a b old new read ∙ ap₂ (λ (x y : ℤ). (Ok (x, x +ℤ y), new)) (sym low_is) (sym width_is)
+range_held (a ∷ b ∷ c ∷ zs) low width old new long low_is width_is read = absurd (omega (arith, long))
+
+pub two_ranges_held : (numbers : List ℤ) (first second : RawRange) (old new : Reading) → length numbers ≡ 4
+    → first.minimum ≡ slice_index_or numbers 0 (pos 0) → first.extent ≡ slice_index_or numbers 1 (pos 0) → second.minimum ≡ slice_index_or numbers 2 (pos 0) → second.extent ≡ slice_index_or numbers 3 (pos 0)
+    → ReadsNumbers old new numbers → two_ranges_from old ≡ (Ok (ends_of first, ends_of second), new)
+two_ranges_held [] first second old new long low_is width_is next_is more_is read = absurd (omega (arith, long))
+two_ranges_held (a ∷ []) first second old new long low_is width_is next_is more_is read = absurd (omega (arith, long))
+two_ranges_held (a ∷ b ∷ []) first second old new long low_is width_is next_is more_is read = absurd (omega (arith, long))
+two_ranges_held (a ∷ b ∷ c ∷ []) first second old new long low_is width_is next_is more_is read = absurd (omega (arith, long))
+two_ranges_held (a ∷ b ∷ c ∷ d ∷ []) first second old new long low_is width_is next_is more_is read =
+    two_ranges_read a b c d old new read ∙ (λ j. (Ok ((sym low_is j, sym low_is j +ℤ sym width_is j), (sym next_is j, sym next_is j +ℤ sym more_is j)), new))
+two_ranges_held (a ∷ b ∷ c ∷ d ∷ e ∷ zs) first second old new long low_is width_is next_is more_is read = absurd (omega (arith, long))
+
+module _ (new : Reading) (fault : NumFault) (m : Malformed) (offset : m.offset ≡ new.place) (why : m.why ≡ why_of fault) where
+  -- there is a fault where the numbers before it end
+  stop : (old : Reading) → StopsAt old new fault → signed_at old ≡ (Err m, new)
+  stop old stops = read_no_signed old new fault m stops.0 stops.1 offset why
+
+  -- there is a fault, and no number before it
+  first_stops : (old middle : Reading) → ReadsNumbers old middle [] → StopsAt middle new fault → signed_at old ≡ (Err m, new)
+  first_stops old middle read stops =
+      let long : length (passed old middle) ≡ middle.place - old.place = grind (arith, common_steps, read.moved.within) in
+      let place : middle.place ≡ old.place = omega (arith, long, ap length read.spelled, read.moved.ahead) in
+      let left : rest middle ≡ rest old = ap₂ (λ (n : ℕ) (bytes : List ℕ). drop n bytes) place read.moved.bytes in
+      let back : counted middle (looked_at fault (rest middle)) ≡ counted old (looked_at fault (rest old)) =
+      reading_path _ _ read.moved.bytes place (omega (arith, place, read.moved.count, ap (looked_at fault) left)) in
+      stop old (subst (λ bytes. Faults fault bytes) left stops.0, stops.1 ∙ back)
+
+  pub range_stops : (old : Reading) → StopsReading 2 old new fault → range_from old ≡ (Err m, new)
+  unfolding range_from
+  range_stops old s = go s.numbers s.middle s.fewer s.read s.stops
+    where
+      go : (numbers : List ℤ) (middle : Reading) → length numbers < 2 → ReadsNumbers old middle numbers → StopsAt middle new fault → range_from old ≡ (Err m, new)
+      go [] middle fewer read stops = rw (first_stops old middle read stops) refl
+      go (low ∷ []) middle fewer read stops = rw (one_read low old middle read, stop middle stops) refl
+      go (low ∷ width ∷ zs) middle fewer read stops = absurd (omega (arith, fewer))
+
+  pub two_ranges_stop : (old : Reading) → StopsReading 4 old new fault → two_ranges_from old ≡ (Err m, new)
+  unfolding range_from two_ranges_from
+  two_ranges_stop old s = go s.numbers s.middle s.fewer s.read s.stops
+    where
+      go : (numbers : List ℤ) (middle : Reading) → length numbers < 4 → ReadsNumbers old middle numbers → StopsAt middle new fault → two_ranges_from old ≡ (Err m, new)
+      go [] middle fewer read stops = rw (first_stops old middle read stops) refl
+      go (low ∷ []) middle fewer read stops = rw (one_read low old middle read, stop middle stops) refl
+      go (low ∷ width ∷ []) middle fewer read stops =
+          let first = first_read low (width ∷ []) old middle read in
+          rw (first.1, one_read width first.0 middle first.2, stop middle stops) refl
+      go (low ∷ width ∷ next ∷ []) middle fewer read stops =
+          let first = first_read low (width ∷ next ∷ []) old middle read in
+          let second = first_read width (next ∷ []) first.0 middle first.2 in
+          rw (first.1, second.1, one_read next second.0 middle second.2, stop middle stops) refl
+      go (low ∷ width ∷ next ∷ more ∷ zs) middle fewer read stops = absurd (omega (arith, fewer))
