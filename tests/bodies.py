@@ -8,7 +8,8 @@ apart   tries the wrong bodies in must-fail-apart/, which the gate leaves out
 twins   tries the twins, and prints how many wrong bodies have none; --untwinned also prints the names of these
 
 `apart` and `twins` run the kit's `rt check` on a copy of the crates, with the proofs that earlier checks kept. One check tries many
-changes, in different functions. If it doesn't confirm a change, that change is tried again alone. Each change gets an output line.
+changes, in different functions. If it doesn't confirm a change, that change is tried again alone. A wrong body that names an error
+has to be refused by the compiler, with this error and no other. Each change gets an output line.
 --only WORD skips names without the word. The last line is `N passed, M failed`, and the exit status is 1 if a change failed or if
 there was none.
 """
@@ -27,6 +28,8 @@ from sources.files import TOP, all_crates, listed_crates, text_of, write
 # A line about a function that isn't proved, except if the first reason is a function that it calls.
 ELSEWHERE = r"it calls|it passes|a call of|in `\S+`, of this cycle"
 UNPROVED = re.compile(rf"^fn (\S+): (?:not proved|no proof)(?!: (?:{ELSEWHERE}))", re.MULTILINE)
+# An error of the compiler, with its file and its name.
+ERROR = re.compile(r"^(\S+?\.rt):\d+:\d+: error\[([\w-]+)\]", re.MULTILINE)
 
 
 class Check:
@@ -39,9 +42,13 @@ class Check:
         self.is_proved = status == 0 and verdict == ["logic=proved"]
         self.is_refused = status == 1 and verdict == ["logic=not-proved"]
         self.unproved = [name.split("::") for name in UNPROVED.findall(output)]
+        self.errors = set(ERROR.findall(output)) if status == 1 and not self.is_refused else set()
 
     def refuses(self, change):
-        """Whether the proof of the changed function fails, or any proof if the change isn't in a single function."""
+        """Whether the proof of the changed function fails, or any proof if the change isn't in a single function. If the compiler has
+        to refuse the change, whether it does so with that error, in each of its files and nowhere else."""
+        if change.error:
+            return self.errors == {(file, change.error) for file in change.before}
         if not self.is_refused or not change.is_in_one_function():
             return self.is_refused and bool(self.unproved)
         ((file, function),) = change.functions
@@ -71,7 +78,7 @@ def checked(folder, texts):
 
 
 def fault_of_body(check, change):
-    """Returns an error if the prover didn't reject a wrong body."""
+    """Returns an error if a wrong body wasn't rejected as it has to be."""
     if check.is_proved:
         return "NOT REFUSED: the crate is proved with it"
     return None if check.refuses(change) else f"BAD EDIT\n    {check.told()}"

@@ -145,6 +145,7 @@ EDITS = {
     "new-first": ("new: 0\nold: step(n)\n", "a line 'new:' has no 'file:' and 'old:' before it"),
     "no-old": ("old: step(n)\nnew: n\nnew: 0\n", "a line 'new:' has no 'file:' and 'old:' before it"),
     "empty": ("old: self.size\n", "it has no pair of lines 'old:' and 'new:'"),
+    "error": ("error: private-field\nold:         self.size\nnew:         self.text\n", {"size"}),
 }
 HEAD, SHARED_HEAD = HEADS.values()
 
@@ -212,6 +213,18 @@ CHECKS = (
     ("fn made::code::Bag::step: not proved: goal 1", 1, "not-proved", (False, False)),
     ("fn made::code::Bag::size: not proved: goal 1", 2, "not-proved", (False, False)),
     ("logic=proved low", 1, "not-known", (False, False)),
+)
+# What a check prints, its exit status, and whether the compiler refuses an edit of a file as it has to.
+PRIVATE = "src/code/inner.rt:6:5: error[private-field]: field `text` of struct `Bag` is private\n"
+ERRORS = (
+    (PRIVATE, 1, True),
+    ("logic=proved low\n" + PRIVATE * 2, 1, True),
+    (PRIVATE, 0, False),
+    (PRIVATE + "logic=not-proved made\n", 1, False),
+    (PRIVATE + PRIVATE.replace("inner", "outer"), 1, False),
+    (PRIVATE + PRIVATE.replace("private-field", "unknown-name"), 1, False),
+    (PRIVATE.replace("private-field", "unknown-name"), 1, False),
+    ("logic=proved made\n", 0, False),
 )
 
 
@@ -299,9 +312,10 @@ def edits_cases():
             except edits.BadEdit as why:
                 count(f"edit {name}", str(why), wanted)
     count("edits that change nothing", [name for name, change in changes.items() if change.changes_nothing], ["same"])
+    count("error of an edit", [changes[name].error for name in ("size", "error")], [None, "private-field"])
     count("lines of an edit", changes["both"].lines, {("src/lib.rt", 29), ("src/lib.rt", 34)})
     found = edits.rounds(changes.values())
-    rounds = [["says", "same"], ["size"], ["cycle"], ["field"], ["both"], ["in-turn"]]
+    rounds = [["says", "same"], ["size"], ["cycle"], ["field"], ["both"], ["in-turn"], ["error"]]
     count("rounds", [[change.name for change in members] for members, _ in found], rounds)
     wanted = [CODE.replace("    step(n)", "        self.size"), CODE.replace("        self.size", "        0")]
     count("texts of rounds", [texts["src/lib.rt"] for _, texts in found[:2]], wanted)
@@ -382,10 +396,14 @@ def script_cases():
         with made({f"crates/{path}": text for path, text in texts}) as top:
             lines = [line.split(",")[0] for line in borders.checked(top, ("low", "high")) if line]
             count(f"{root}{code}", lines, [f"high names {name}" for name in wanted])
-    change = SimpleNamespace(crate="made", functions={("src/code/inner.rt", "size")}, is_in_one_function=lambda: True)
+    files = {"src/code/inner.rt": ""}
+    change = SimpleNamespace(crate="made", functions={("src/code/inner.rt", "size")}, is_in_one_function=lambda: True, error=None)
     for line, status, verdict, wanted in CHECKS:
         check = Check(status, f"{line}\nlogic={verdict} made\n")
         count(f"{line}, {status}", (check.is_proved, check.refuses(change)), wanted)
+    for output, status, wanted in ERRORS:
+        found = Check(status, output).refuses(SimpleNamespace(error="private-field", before=files))
+        count(f"{output}, {status}", found, wanted)
 
 
 def main():

@@ -1,7 +1,7 @@
 """Parses edits (.edit), which are wrong bodies and their twins, and applies them to the texts of files.
 
 An edit has lines `file: PATH`, and after each of them pairs of lines `old: TEXT` and `new: TEXT`. The file must have each old text
-exactly once."""
+exactly once. If the compiler has to refuse it, before the prover sees it, a line `error: NAME` names the error."""
 import glob
 import os
 
@@ -39,6 +39,12 @@ def pairs(text):
             old = None
 
 
+def error_in(text):
+    """Returns the name of the error with which the compiler has to refuse an edit. It returns None if the prover has to."""
+    words = (line.partition(":") for line in text.splitlines())
+    return next((rest.strip() for word, _, rest in words if word == "error"), None)
+
+
 def function_at(text, line):
     """Returns the name of the function at a line. It returns None if there is none, or if a cycle of functions shares one proof."""
     found = (one for one in code.read(text).functions if one.first <= line <= one.last)
@@ -51,7 +57,8 @@ class Change:
     def __init__(self, crate, folder, name, top=TOP):
         root = os.path.join(top, "crates", crate)
         self.crate, self.name, self.before = crate, name, {}
-        self.pairs = list(pairs(text_of(root, folder, name + ".edit")))
+        text = text_of(root, folder, name + ".edit")
+        self.pairs, self.error = list(pairs(text)), error_in(text)
         if not self.pairs:
             raise BadEdit("it has no pair of lines 'old:' and 'new:'")
         for file, _, _ in self.pairs:
@@ -81,17 +88,21 @@ class Change:
         """Whether it changes a single function, which has a proof of its own."""
         return len(self.functions) == 1 and all(name for _, name in self.functions)
 
+    def is_alone(self):
+        """Whether no other change can be tried in the same check."""
+        return bool(self.error) or not self.is_in_one_function()
+
 
 def rounds(changes):
     """Divides changes into rounds, so that one check can try all changes of a round. Returns the changes of each round, and the
     texts of files with all of them.
 
     A proof depends on the body of its own function and on the contracts of others. So the changes of a round are in different
-    functions. A change that isn't in a single function is alone in its round."""
+    functions. A change that isn't in a single function, or that the compiler has to refuse, is alone in its round."""
     found = []
     for change in changes:
         for members, texts in found:
-            is_alone = not all(member.is_in_one_function() for member in [change, *members])
+            is_alone = any(member.is_alone() for member in [change, *members])
             if is_alone or any(change.functions & other.functions for other in members):
                 continue
             try:

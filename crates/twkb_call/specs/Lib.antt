@@ -1,4 +1,5 @@
 -- In reading order.
+pub mod Lent
 pub mod Verdict
 pub mod Window
 pub mod Rows

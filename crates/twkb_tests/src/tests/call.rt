@@ -137,11 +137,7 @@ fn layer_of<'a, A: Allocator>(rt: &impl Abort, mut alloc: &A, bytes: &'a [u8]) -
     if verdict.answer != 0 {
         panic!(rt; "{verdict:?}, of {bytes:?}");
     }
-    Layer {
-        bytes,
-        blobs: verdict.blobs,
-        vertices: verdict.vertices,
-    }
+    Layer::new(bytes, verdict.blobs, verdict.vertices)
 }
 
 const NONE: Row = Row {
