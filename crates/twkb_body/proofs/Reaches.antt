@@ -61,7 +61,7 @@ reach_of-append vs ws =
 pub both-assoc : (a b c : Reach) → both (both a b) c ≡ both a (both b c)
 both-assoc a b c = rw (joined-assoc a.x b.x c.x, joined-assoc a.y b.y c.y, joined-assoc a.z b.z c.z, joined-assoc a.m b.m c.m)
 
-joined-none : (a : Option Span) → joined a None ≡ a
+pub joined-none : (a : Option Span) → joined a None ≡ a
 joined-none None = refl
 joined-none (Some a) = refl
 

@@ -22,3 +22,5 @@ pub mod Standing
 pub mod Known
 pub mod Skimmed
 pub mod Pending
+pub mod Columns
+pub mod Extents

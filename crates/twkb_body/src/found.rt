@@ -1,7 +1,7 @@
 //! [`Found`], what the exact audit keeps of the geometries it has read, and the judging of claims.
 //! Used by `geometry`, `inside`, `lists` and `shape`.
 ghost use Rattle.std.specs.Prelude.{◌≡◌, ◌+◌, ◌^◌, ◌<◌, ◌≤◌, IfSome, None};
-ghost use Rattle.twkb_head.specs.Raw.{HavePrecisions};
+ghost use Rattle.twkb_head.specs.Raw.{HavePrecisions, head_said};
 ghost use Rattle.twkb_body.specs.Devices.Inside.{of_head};
 ghost use Rattle.twkb_body.specs.Devices.Pass.{first, false_at, is_tight};
 ghost use Rattle.twkb_body.specs.Devices.Found.{named, size_judged, box_judged};
@@ -10,7 +10,7 @@ ghost use Rattle.twkb_body.specs.Devices.Walk.{precisions_of};
 
 use crate::answers::Claim;
 use crate::extent::Extent;
-use twkb_head::{BoxField, Head, SizeField};
+use twkb_head::{BoxField, Fields, Head, SizeField};
 
 /// A claim that is false, and its offset.
 #[derive(Clone, Copy, Debug, PartialEq, Eq)]
@@ -70,9 +70,19 @@ pub fn judge_size(size: Option<SizeField>, stop: usize) -> Option<FalseClaim>
     }
 }
 
+/// Judges the box of a header as [`judge_box`] does.
+// It isn't inlined, so that no box in units is set up for each geometry.
+#[inline(never)]
+pub fn judge_raw(raw: &Fields, extent: &Extent, tight: bool) -> Option<FalseClaim>
+    requires precisions { HavePrecisions raw.now.axes }
+    ensures { named result ≡ box_judged tight (of_head (head_said raw.now)) (head_said raw.now).bounds extent.now }
+{
+    judge_box(&raw.whole(), extent, tight)
+}
+
 /// `Claim::Box`, if some vertex of this extent is outside the box. With `tight`, `Claim::Loose` if the box is loose.
 #[inline(always)]
-pub fn judge_box(head: &Head, extent: &Extent, tight: bool) -> Option<FalseClaim>
+fn judge_box(head: &Head, extent: &Extent, tight: bool) -> Option<FalseClaim>
     requires precisions { HavePrecisions (precisions_of head.now) }
     ensures { named result ≡ box_judged tight (of_head head.now) head.now.bounds extent.now }
 {

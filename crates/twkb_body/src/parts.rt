@@ -1,5 +1,5 @@
-//! The parts of a body: points, lines and polygons. All are read here, each by a [`PointReader`]: the exact audit reads them by a
-//! `Walk`, a skim by a `CertifiedWalk`, and the first reading by a `LaneTrail` or a `Walk`.
+//! The parts of a body: points, lines and polygons. All are read here, each by a [`PointReader`]: the exact audit reads them by an
+//! `ExtentReader`, a skim by a `CertifiedWalk`, and the first reading by a `LaneTrail` or a `Walk`.
 //! Used by `shape`, `sure/parts` and `sure/shapes`.
 ghost use Rattle.std.specs.Prelude.{◌≡◌, ◌⊎◌, ℕ, List, flat_map, true, false};
 ghost use Rattle.twkb_head.specs.declared.kinds.Kind.{Kind};
@@ -137,8 +137,9 @@ fn take_length(cursor: &mut Cursor, kind: Kind) -> Result<u64, Malformed>
     }
 }
 
-/// Whether the loop over lines is inlined: it is in skims, and in audits for points that a box has to hold and lanes can compare. The
-/// other functions of audits that call it would grow so large that the compiler inlines less into them.
+/// Whether the loop over lines is inlined: it is in skims, in the exact audit, and in the first reading for points that a box has to
+/// hold and lanes can compare. The other functions of audits that call it would grow so large that the compiler inlines less into
+/// them.
 pub trait LineLoop {
     /// Reads `count` lines.
     fn take<R: PointReader>(cursor: &mut Cursor, count: u64, reader: &mut R) -> Result<(), R::Fault>

@@ -1,5 +1,5 @@
 //! [`Points`], the trait of what the points under one header are added to.
-//! Used by `box_test`, `certified_walk`, `range`, `sure/parts`, `trail`, `vertices` and `walk`.
+//! Used by `box_test`, `certified_walk`, `sure/parts`, `trail`, `vertices` and `walk`.
 ghost use Rattle.std.specs.Prelude.{◌≡◌, ◌≤◌};
 ghost use Rattle.twkb_head.specs.Header.{Header};
 ghost use Rattle.twkb_head.specs.Raw.{HavePrecisions};

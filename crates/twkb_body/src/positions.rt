@@ -3,7 +3,7 @@
 //! A lane holds a point's distance in one axis from the minimum of the box. Without signs a distance below zero is a great number, so
 //! the box holds points if their greatest distances are no greater than its extents. For points of X and Y alone, lanes of differences
 //! hold four points in 16 bits or two in 32, and the last point and the widths of the box are in lanes twice.
-//! Used by `flat_lanes`, `further_lanes`, `lane_trail` and `quads`.
+//! Used by `extent_lanes`, `flat_lanes`, `further_lanes`, `lane_trail` and `quads`.
 ghost use Rattle.std.specs.Prelude.{◌≡◌, true, ◌+◌, ◌-◌, ◌%◌, ◌^◌, ◌<◌, ◌&&◌, ◌+ℤ◌, neg_ℤ, ℕ, ℤ, map, [], ◌∷◌, List, All, false, IfSome, IfNone};
 ghost use Rattle.std.specs.Int.{w16, w32, cast_signed, cast_unsigned};
 ghost use Rattle.twkb_num.specs.Varint.{IsBrief, IsShort};
@@ -301,7 +301,7 @@ fn with_half_before(d: u16x8) -> u16x8
 /// Lanes, widened with their signs.
 // The compiler makes one instruction of these steps. A cast to signed lanes would have to be proved to fit.
 #[inline(always)]
-fn widened(d: u16x4) -> u32x4
+pub fn widened(d: u16x4) -> u32x4
     ensures { result ≡ map (λ n. cast_unsigned w32 (cast_signed w16 n)) d }
 {
     (d + u16x4::splat(0x8000)).cast::<u32>() - u32x4::splat(0x8000)

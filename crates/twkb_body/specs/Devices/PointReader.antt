@@ -6,7 +6,7 @@ use Rattle.twkb_num.specs.Cursor.{Reading}
 use Rattle.twkb_head.specs.declared.header.Head.{Head}
 use Rattle.twkb_head.specs.declared.refusal.Malformed.{Malformed}
 use Rattle.twkb_head.specs.Header.{Header, axes_with}
-use Rattle.twkb_head.specs.Shared.Reader.{Reader, many_at, number_at, Fails}
+use Rattle.twkb_head.specs.Shared.Reader.{Answer, Reader, many_at, number_at, Fails}
 use Rattle.twkb_head.specs.declared.kinds.Kind.{Kind}
 use Rattle.twkb_head.specs.declared.kinds.Kind.TheVariants.{Point as PointKind, Polygon as PolygonKind}
 use Rattle.twkb_head.specs.Raw.{HavePrecisions}
@@ -34,6 +34,10 @@ points_at count axes = many_at count add (point_at axes)
 -- a value can be read, from the last point of a stage on
 abbrev pub CanRead : {A S : Type 0} → (PointValue → Reader A) → Stage S → Reading → Type 0
 CanRead {A} each at r = (x : A) × (stop : Reading) × (each at.trail.last r ≡ (Ok x, stop))
+
+-- no value can be read
+abbrev pub IsUnreadable : {A : Type 0} → Answer A → Type 0
+IsUnreadable {A} answer = (x : A) (stop : Reading) → answer ≡ (Ok x, stop) → ⊥
 
 -- A reader is at a stage before a value, and has read no more points than bytes. If it trusts the bytes, the value can be read.
 pub record IsBefore {A S : Type 0} (stands : Stage S → Type 0) (trusts : Bool) (each : ℕ → PointValue → Reader A) (r : Reading) (at : Stage S) : Type 0 where

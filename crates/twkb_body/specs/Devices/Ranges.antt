@@ -1,9 +1,10 @@
 -- Devices of proofs: nothing public names them.
 -- The ranges of raw coordinates under one header, scaled once at its end.
-use Rattle.std.specs.Prelude.{◌-◌, ◌^◌, ◌≡◌, ℕ, cond, ℤ, pos, neg_ℤ, ◌<ℤ◌, int_lt, [], ◌∷◌, Option, Some, None, option_map}
+use Rattle.std.specs.Prelude.{◌-◌, ◌^◌, ◌≡◌, ℕ, cond, ℤ, pos, neg_ℤ, ◌+ℤ◌, ◌<ℤ◌, int_lt, [], ◌∷◌, Option, Some, None, option_map}
 use Rattle.twkb_num.specs.Units.{units_of}
 use Rattle.twkb_head.specs.declared.boxes.Span.{Span}
 use Rattle.twkb_head.specs.declared.boxes.Vertex.{Vertex}
+use Rattle.twkb_head.specs.declared.raw.RawRange.{RawRange}
 use Rattle.twkb_head.specs.Header.{Header}
 use Rattle.twkb_head.specs.Head.{m_axis}
 use Rattle.twkb_body.specs.declared.range.Range.TheInside.{Inside}
@@ -17,6 +18,10 @@ range_view r = cond (int_lt r.greatest r.least) None (Some (record { lo = r.leas
 -- a range of no number has the greatest number of 64 bits as its least, and the least as its greatest
 abbrev pub IsRange : Inside → Type 0
 IsRange r = r.greatest <ℤ r.least → (r.least ≡ pos (2 ^ 63 - 1)) × (r.greatest ≡ neg_ℤ (pos (2 ^ 63)))
+
+-- the numbers that a raw range holds
+abbrev pub span_in : RawRange → Span
+span_in range = record { lo = range.minimum; hi = range.minimum +ℤ range.extent }
 
 -- a range in units, at a precision
 abbrev pub scaled : ℤ → Option Span → Option Span

@@ -4,15 +4,16 @@ use Rattle.std.specs.Prelude.{◌≡◌, ◌≢◌, ◌↔◌, ℕ, ◌+◌, ◌
 use Rattle.twkb_num.specs.Cursor.{Reading, rest}
 use Rattle.twkb_head.specs.declared.header.Head.{Head}
 use Rattle.twkb_head.specs.BegunHeader.{deepest, is_collection}
+use Rattle.twkb_head.specs.Header.{is_multi}
 use Rattle.twkb_head.specs.Shared.Reader.{Answer, Fails, signeds_at}
 use Rattle.twkb_body.specs.Geometry.{Geometry, vertices}
 use Rattle.twkb_body.specs.Audited.{HasLongList}
 use Rattle.twkb_body.specs.Extent.{reach_of}
 use Rattle.twkb_body.specs.Devices.Body.{ListHead, Body}
-use Rattle.twkb_body.specs.Devices.BodyReader.{list_at, geometries_at, geometry_at}
+use Rattle.twkb_body.specs.Devices.BodyReader.{list_at, count_at, geometries_at, geometry_at}
 use Rattle.twkb_body.specs.Devices.Found.{IsFound}
 use Rattle.twkb_body.specs.Devices.Seen.{HasSeen}
-use Rattle.twkb_body.specs.Devices.Inside.{of_head, IsInside}
+use Rattle.twkb_body.specs.Devices.Inside.{of_head, shape_behind, IsInside}
 use Rattle.twkb_body.specs.Devices.IdLists.{HasManyIds, HasManyIdsAfterCount, IsListFound}
 use Rattle.twkb_body.specs.declared.found.Found.{Found}
 use Rattle.twkb_body.specs.declared.inside.Inside.{Inside}
@@ -50,6 +51,12 @@ ReadsInside tight head answer Wants above after old result new =
     ReadsOrStops answer
     (λ body inside. IsInside tight (of_head head) head.bounds body old.place new.place above after inside)
     Wants old result new
+
+-- `ReadsInside` for a body that is no collection, after its count and its ids
+abbrev pub ReadsParts : Bool → Head → ListFound → Seen → Seen → Reading → Result Inside Stopped → Reading → Type 0
+ReadsParts tight head list above after old result new =
+    (x : ListHead) (before : Reading) → count_at (is_multi head.kind) head.ids before ≡ (Ok x, old) → IsListFound before old x list
+    → ReadsInside tight head (shape_behind head before) (HasManyIdsAfterCount head.ids (rest before)) above after before result new
 
 -- `ReadsOrStops` for a whole geometry at a depth
 abbrev pub ReadsGeometry : Bool → ℕ → Seen → Seen → Reading → Result Found Stopped → Reading → Type 0

@@ -3,7 +3,7 @@
 ghost use Rattle.std.specs.Prelude.{◌≡◌, ◌≤◌, ◌-◌, false, Option, None, Some, is_some, IfSome, Ok};
 ghost use Rattle.twkb_num.specs.Units.{IsPrecision};
 ghost use Rattle.twkb_head.specs.BegunHeader.{IsAllowedAt};
-ghost use Rattle.twkb_head.specs.Raw.{HavePrecisions, flat_box};
+ghost use Rattle.twkb_head.specs.Raw.{HavePrecisions, flat_box, head_said};
 ghost use Rattle.twkb_head.specs.declared.header.Head.{Head as HeadOf};
 ghost use Rattle.twkb_head.specs.declared.raw.RawBox.{RawBox as BoxOf};
 ghost use Rattle.twkb_body.specs.Devices.Sure.{HasHead, IsFrame, IsApart, CertifiesAfterHead, CertifiesBehind};
@@ -14,7 +14,7 @@ use crate::frame::Frame;
 use crate::geometry::take_inside;
 use crate::rooms::IdRoom;
 use crate::seen::Seen;
-use twkb_head::{Axes, BoxField, Fields, Head, Kind, RawBox, RawRange};
+use twkb_head::{Axes, Fields, Head, Kind, RawBox, RawRange};
 use twkb_num::Cursor;
 
 /// Reads a geometry of X and Y alone after its header, as [`take_apart`] does.
@@ -148,9 +148,9 @@ fn take_apart<R: IdRoom>(
     ensures { (head : HeadOf) → IsApart head kind xy z m ids bounds.now
         → CertifiesBehind depth head above.now cursor.old result cursor.new }
 {
-    let head = head_apart(kind, xy, z, m, ids, bounds);
+    let raw = raw_apart(kind, Axes { xy, z, m }, ids, bounds);
     let mut seen = Seen::unasked().for_members(above.is_some());
-    let inside = take_inside::<R, false>(room, cursor, depth, &head, &mut seen)?;
+    let inside = take_inside::<R, false>(room, cursor, depth, &raw, &mut seen)?;
     if inside.boxed.is_some() || inside.ids.is_some() || inside.found.refused.is_some() {
         return Err(Doubt::REFUSED);
     }
@@ -165,31 +165,17 @@ fn take_apart<R: IdRoom>(
 /// The header of a geometry that is read apart. Its size is judged elsewhere, so it has none. Only the exact audit names places of
 /// claims, so it has zeros for them.
 #[inline(always)]
-fn head_apart(
-    kind: Kind,
-    xy: i8,
-    z: Option<u8>,
-    m: Option<u8>,
-    ids: bool,
-    bounds: &Option<RawBox>,
-) -> Head
-    requires precisions { HavePrecisions (record { xy = xy; z = z; m = m }) }
-    ensures { IsApart result kind xy z m ids bounds.now }
+fn raw_apart(kind: Kind, axes: Axes, ids: bool, bounds: &Option<RawBox>) -> Fields
+    ensures axes { result.axes ≡ axes }
+    ensures kind { result.kind ≡ kind }
+    ensures apart { IsApart (head_said result) kind axes.xy axes.z axes.m ids bounds.now }
 {
-    let bounds = match bounds {
-        Some(bounds) => Some(BoxField {
-            bounds: bounds.in_units(Axes { xy, z, m }),
-            offset: 0,
-        }),
-        None => None,
-    };
-    Head {
+    Fields {
         kind,
-        xy,
-        z,
-        m,
+        axes,
         size: None,
-        bounds,
+        bounds: *bounds,
+        box_place: 0,
         ids,
         empty: false,
         start: 0,

@@ -3,6 +3,7 @@ use Rattle.std.proofs.Common.{◌-◌, Option, w8, refl, sym, subst, ◌∙◌}
 use Rattle.std.proofs.lemmas.Int.{to_z-of_z}
 use Rattle.std.proofs.lemmas.Result.{err_from_is_err_and}
 use Rattle.twkb_head.specs.BegunHeader.{deepest}
+use Rattle.twkb_head.specs.Raw.{head_said}
 use Rattle.twkb_body.specs.declared.frame.Frame.{Frame}
 use Rattle.twkb_body.specs.Devices.Inside.{of_head}
 use Rattle.twkb_body.specs.Devices.Sure.{IsHeldBy, body_vertices}
@@ -14,15 +15,15 @@ use Rattle.twkb_body.proofs.sure.apart.take_apart.Goals as goal
 pub returns-in_err-inside : goal.returns-in_err-inside
 returns-in_err-inside g c = λ head apart.
     let p = err_from_is_err_and c.from_residual.result c.from_residual.ensures.1 in
-    let made = c.head_apart-head.result in
-    let (same, bounds) = same_apart head made c.args.kind c.args.xy _ c.args.z c.args.m c.args.ids c.args.bounds.now (to_z-of_z w8 c.args.xy c.ranges.xy) apart c.head_apart-head.ensures in
+    let made = head_said c.raw_apart-raw.result in
+    let (same, bounds) = same_apart head made c.args.kind c.args.xy _ c.args.z c.args.m c.args.ids c.args.bounds.now (to_z-of_z w8 c.args.xy c.ranges.xy) apart c.raw_apart-raw.ensures.apart in
     rw (p.1, p.2) (apart_doubts (deepest - c.args.depth) head made c.args.above.now c.args.cursor.now c.take_inside.new.cursor same bounds c.args.depth _ c.in_err-inside.ensures)
 
 pub returns-then-is_some : goal.returns-then-is_some
 returns-then-is_some g c = λ head apart.
     let s = c.in_ok-inside.ensures in
-    let made = c.head_apart-head.result in
-    let (same, bounds) = same_apart head made c.args.kind c.args.xy _ c.args.z c.args.m c.args.ids c.args.bounds.now (to_z-of_z w8 c.args.xy c.ranges.xy) apart c.head_apart-head.ensures in
+    let made = head_said c.raw_apart-raw.result in
+    let (same, bounds) = same_apart head made c.args.kind c.args.xy _ c.args.z c.args.m c.args.ids c.args.bounds.now (to_z-of_z w8 c.args.xy c.ranges.xy) apart c.raw_apart-raw.ensures.apart in
     found_refutes (deepest - c.args.depth) head made c.args.above.now c.args.cursor.now c.take_inside.new.cursor same bounds
     c.for_members-seen.result c.take_inside.new.seen c.in_ok-inside.inside s.0 s.1 s.2
     (λ none. elim c.then-is_some.branch [
@@ -34,8 +35,8 @@ returns-then-is_some g c = λ head apart.
 pub returns-then-not-within : goal.returns-then-not-within
 returns-then-not-within g c = λ head apart.
     let s = c.in_ok-inside.ensures in
-    let made = c.head_apart-head.result in
-    let (same, bounds) = same_apart head made c.args.kind c.args.xy _ c.args.z c.args.m c.args.ids c.args.bounds.now (to_z-of_z w8 c.args.xy c.ranges.xy) apart c.head_apart-head.ensures in
+    let made = head_said c.raw_apart-raw.result in
+    let (same, bounds) = same_apart head made c.args.kind c.args.xy _ c.args.z c.args.m c.args.ids c.args.bounds.now (to_z-of_z w8 c.args.xy c.ranges.xy) apart c.raw_apart-raw.ensures.apart in
     let frame = c.in-Some.frame in
     let seen = seen_is (deepest - c.args.depth) head made c.args.above.now c.args.cursor.now c.take_inside.new.cursor same bounds c.for_members-seen.result c.take_inside.new.seen c.in_ok-inside.inside s.0 s.1 s.2
     (asked_for c.for_members-seen.result.asked c.unasked.result.asked c.is_some.result c.args.above.now frame c.for_members-seen.ensures.asked c.is_some.ensures c.in-Some.is) c.for_members-seen.ensures.extent in
@@ -47,8 +48,8 @@ returns-then-not-within g c = λ head apart.
 pub returns-else-not-within : goal.returns-else-not-within
 returns-else-not-within g c = λ head apart.
     let s = c.in_ok-inside.ensures in
-    let made = c.head_apart-head.result in
-    let (same, bounds) = same_apart head made c.args.kind c.args.xy _ c.args.z c.args.m c.args.ids c.args.bounds.now (to_z-of_z w8 c.args.xy c.ranges.xy) apart c.head_apart-head.ensures in
+    let made = head_said c.raw_apart-raw.result in
+    let (same, bounds) = same_apart head made c.args.kind c.args.xy _ c.args.z c.args.m c.args.ids c.args.bounds.now (to_z-of_z w8 c.args.xy c.ranges.xy) apart c.raw_apart-raw.ensures.apart in
     let frame = c.in-Some.frame in
     let seen = seen_is (deepest - c.args.depth) head made c.args.above.now c.args.cursor.now c.take_inside.new.cursor same bounds c.for_members-seen.result c.take_inside.new.seen c.in_ok-inside.inside s.0 s.1 s.2
     (asked_for c.for_members-seen.result.asked c.unasked.result.asked c.is_some.result c.args.above.now frame c.for_members-seen.ensures.asked c.is_some.ensures c.in-Some.is) c.for_members-seen.ensures.extent in
@@ -60,8 +61,8 @@ returns-else-not-within g c = λ head apart.
 pub returns-in_default : goal.returns-in_default
 returns-in_default g c = λ head apart.
     let s = c.in_ok-inside.ensures in
-    let made = c.head_apart-head.result in
-    let (same, bounds) = same_apart head made c.args.kind c.args.xy _ c.args.z c.args.m c.args.ids c.args.bounds.now (to_z-of_z w8 c.args.xy c.ranges.xy) apart c.head_apart-head.ensures in
+    let made = head_said c.raw_apart-raw.result in
+    let (same, bounds) = same_apart head made c.args.kind c.args.xy _ c.args.z c.args.m c.args.ids c.args.bounds.now (to_z-of_z w8 c.args.xy c.ranges.xy) apart c.raw_apart-raw.ensures.apart in
     found_sure (deepest - c.args.depth) head made c.args.above.now c.args.cursor.now c.take_inside.new.cursor same bounds
     c.for_members-seen.result c.take_inside.new.seen c.in_ok-inside.inside s.0 s.1 s.2
     (none_of c.in_ok-inside.inside.boxed (sym c.is_some-2.ensures ∙ c.if-is_some.false)) (none_of c.in_ok-inside.inside.ids (sym c.is_some-else-is_some.ensures ∙ c.if-is_some-2.false))

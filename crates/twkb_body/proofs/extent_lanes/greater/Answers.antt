@@ -1,0 +1,16 @@
+use Rattle.std.proofs.Common.{rules, ℕ, List, Bool, ap, ap₂, ◌∙◌, w32}
+use Rattle.std.specs.Prelude.{nat_lt, slice_index}
+use Rattle.std.proofs.lemmas.Simd.{tops_compared}
+use lib.Lanes.{sel_l, zip2}
+use Rattle.twkb_body.proofs.LaneSums.{four_lanes_are}
+use Rattle.twkb_body.proofs.ExtentLanes.{greater_lane}
+use Rattle.twkb_body.proofs.extent_lanes.greater.Goals as goal
+
+pub returns : goal.returns
+returns k i few =
+    let first = k.args.first in
+    let second = k.args.second in
+    ap (λ (lanes : List ℕ). slice_index lanes i)
+    (ap (λ (bits : List Bool). sel_l bits second first) (tops_compared w32 nat_lt first second)
+    ∙ ap₂ (λ (first second : List ℕ). sel_l (zip2 nat_lt first second) second first) (four_lanes_are first (search rules)) (four_lanes_are second (search rules)))
+    ∙ greater_lane first second i few
