@@ -14,6 +14,7 @@ mod bare;
 mod blobs;
 mod bytes;
 mod depths;
+mod extents;
 mod faults;
 mod frames;
 mod lent;

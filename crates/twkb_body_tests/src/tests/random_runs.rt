@@ -8,8 +8,8 @@ use std::alloc::{AllocError, Global};
 use std::process::Abort;
 use std::test::Fail;
 
-// Mostly 0, otherwise -1, 0 or 1.
-fn off_by_one(dice: &mut Dice) -> i64 {
+/// Mostly 0, otherwise -1, 0 or 1.
+pub fn off_by_one(dice: &mut Dice) -> i64 {
     if dice.once_in(12) {
         dice.around(0, 1)
     } else {
