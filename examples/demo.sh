@@ -24,9 +24,9 @@ for layer in points_sized coast_lines_sized coast_collections coast_z; do
 done
 some 1,3p "$program" list "$here/coast_lines_sized.twkb"
 some 1,3p "$program" list "$here/coast_collections.twkb"
-echo "# One window: the headers of all blobs are read, and the blobs whose box meets it."
+echo "# One window: as many bytes are read as are in the headers of all blobs, and in the blobs whose box meets it."
 some '$p' "$program" scan "$here/coast_lines_sized.twkb" x=10..30,y=35..45
-echo "# Two windows: nothing is read of a blob whose box misses a window."
+echo "# Two windows: as many bytes are read as if the blobs whose box misses a window weren't there."
 some '/^hits/p' "$program" scan "$here/coast_lines_sized.twkb" x=10..30,y=35..45 x=100..140,y=-10..10
 echo "# Z is 7.3 everywhere, so a window above it has no hits."
 shown "$program" scan "$here/coast_z.twkb" x=-180..180,y=-90..90,z=8..9

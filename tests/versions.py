@@ -29,6 +29,8 @@ STATED = {
     "docs/USAGE.md": r"dozhemik-(\d.*?)-x86_64",
     "docs/BINDINGS.md": r"dozhemik-(\d.*?)-py3",
 }
+# The heading of a version in the list of changes: it has the day on which the version was published, or says that it isn't.
+NEWEST = r"^## (.*) - (?:\d{4}-\d\d-\d\d|not published)$"
 # Prints the version of the header, by its numbers and as a text, and the library's.
 PROGRAM = r"""
 #include "twkb.h"
@@ -49,7 +51,7 @@ def text_of(path):
 def stated(version):
     for path, form in STATED.items():
         count(path, set(re.findall(form, text_of(path), re.MULTILINE)), {version})
-    count("CHANGELOG.md: the newest", re.findall(r"^## (.*) - \d{4}-\d\d-\d\d$", text_of("CHANGELOG.md"), re.MULTILINE)[:1], [version])
+    count("CHANGELOG.md: the newest", re.findall(NEWEST, text_of("CHANGELOG.md"), re.MULTILINE)[:1], [version])
 
 
 def of_the_library(version, folder):

@@ -184,8 +184,8 @@ struct twkb_slot {
  * and the result is two for each blob, which is more than `room`. What is after the slots is unchanged. */
 size_t twkb_directory_build(const struct twkb_layer *layer, struct twkb_slot *slots, size_t room);
 
-/* Scans as twkb_scan does, and reads nothing of a blob whose box misses the window. The slots are those that
- * twkb_directory_build wrote for this layer, and `count` is what it returned. */
+/* Scans as twkb_scan does, and reads as many bytes as if the blobs whose box misses the window weren't there. The slots are those
+ * that twkb_directory_build wrote for this layer, and `count` is what it returned. */
 struct twkb_scanned twkb_directory_scan(const struct twkb_layer *layer, const struct twkb_slot *slots, size_t count,
                                         const struct twkb_window *window, struct twkb_hit *hits, size_t room);
 

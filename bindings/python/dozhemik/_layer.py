@@ -110,7 +110,8 @@ class Layer:
         return self.directory().scan_many(windows)
 
     def directory(self) -> "Directory":
-        """A directory: its scans read nothing of a blob whose box misses the window. It takes 80 bytes a blob."""
+        """A directory, which takes 80 bytes a blob. Its scans read as many bytes as if the blobs whose box misses the window
+        weren't there."""
         layer = self._open
         slots = (_library.Slot * (2 * layer.blobs))()
         count = library.twkb_directory_build(ctypes.byref(layer), slots, len(slots))
@@ -170,7 +171,7 @@ class Directory:
         m: Optional[Range] = None,
         bbox: Optional[Box] = None,
     ) -> Scan:
-        """Finds what `Layer.scan` finds. It reads nothing of a blob whose box misses the window."""
+        """Finds what `Layer.scan` finds. It reads as many bytes as if the blobs whose box misses the window weren't there."""
         return _scan(self._layer._open, _window(window, x, y, z, m, bbox), self)
 
     def scan_many(self, windows: Iterable[Union[Window, str]]) -> List[Scan]:

@@ -10,7 +10,7 @@ usage: serve.py FILE [PORT]   (8000 by default; 0 means any free port)
 In place of x and y a query may have bbox=XMIN,YMIN,XMAX,YMAX. Numbers are decimals of any length. /scan and /list
 answer in JSON, /blobs in bytes. A query that can't be read gets 400, and any other path 404, each with a line that says
 what is wrong. HEAD is answered as GET is, without the body. The layer is certified once, before the first query. All
-threads share it and its directory, so a query reads nothing of a blob whose box misses the window.
+threads share it and its directory, so a query reads as many bytes as if the blobs whose box misses the window weren't there.
 """
 import json
 import sys

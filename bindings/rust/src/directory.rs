@@ -6,7 +6,8 @@ use std::collections::TryReserveError;
 use std::fmt;
 use std::mem::MaybeUninit;
 
-/// The offsets and boxes of a layer's blobs. Its scans read nothing of a blob whose box misses the window.
+/// The offsets and boxes of a layer's blobs. Its scans read as many bytes as if the blobs whose box misses the window
+/// weren't there.
 ///
 /// [`Layer::directory`] makes it. It holds its layer, so it can't be used with another one or outlive the bytes:
 ///
@@ -37,7 +38,7 @@ impl<'a> Directory<'a> {
         self.layer
     }
 
-    /// Finds what [`Layer::scan`] finds, and reads nothing of a blob whose box misses the window.
+    /// Finds what [`Layer::scan`] finds, and reads as many bytes as if the blobs whose box misses the window weren't there.
     ///
     /// ```
     /// # use dozhemik::{Hit, Layer};

@@ -162,7 +162,7 @@ impl<'a> Layer<'a> {
         self.bytes.get(hit.offset..hit.offset.checked_add(hit.bytes)?)
     }
 
-    /// A directory, whose scans read nothing of a blob whose box misses the window.
+    /// A directory, whose scans read as many bytes as if the blobs whose box misses the window weren't there.
     ///
     /// # Errors
     ///

@@ -115,7 +115,7 @@ impl<B: FixedBytes> OwnedDirectory<B> {
         self.layer.layer()
     }
 
-    /// Finds what [`Layer::scan`] finds, and reads nothing of a blob whose box misses the window.
+    /// Finds what [`Layer::scan`] finds, and reads as many bytes as if the blobs whose box misses the window weren't there.
     ///
     /// # Errors
     ///
