@@ -3,11 +3,11 @@
 
 usage: tests/stack.py [PROGRAM]   (by default build/twkb_tool)
 
-The layers are a point in 0, 31 and 63 collections, which the first reading certifies, and two points there with equal ids, which
-the exact audit reads too and refuses. For each layer it prints the least stack limit, in steps of a page, with which `check`,
-`check --tight` and `scan` give their answers TRIES times in a row, without environment variables. It tries often because the place
-where the stack begins varies. With gdb it then reads the stack pointer at each call of the recursive functions for the deepest
-layers, and counts how often a scan enters its loop over members.
+The layers are a point in 0, 31 and 63 collections, which is certified, and two points there with equal ids, which are refused. For
+each layer it prints the least stack limit, in steps of a page, with which `check`, `check --tight` and `scan` give their answers
+TRIES times in a row, without environment variables. It tries often because the place where the stack begins varies. With gdb it
+then reads the stack pointer at each call of the recursive functions for the deepest layers, and counts how often a scan enters its
+loop over members.
 """
 import os
 import re
@@ -24,7 +24,7 @@ WINDOW = "x=1..1,y=2..2"
 # The geometry in the collections: a name, its bytes, and the exit status of the program.
 POINTS = (("a point", "01000204", 0), ("points with equal ids", "040402020202040000", 1))
 # The functions at which gdb reads the stack pointer, each with a name for its output.
-ENTRIES = {"first": "sure::take_flat", "audit": "geometry::take_geometry", "scan": "skimming::skim_members"}
+ENTRIES = {"audit": "geometry::take_collection", "scan": "skimming::skim_members"}
 READ = 'rbreak {}\ncommands\nsilent\nprintf "{} %ld\\n", (long)$rsp\ncont\nend\n'
 WHERE = "set pagination off\n" + "".join(READ.format(function, name) for name, function in ENTRIES.items()) + "run\n"
 
@@ -63,12 +63,12 @@ def main():
             deepest.append(runs)
         if shutil.which("gdb"):
             certified, refused = deepest
-            first, _, scan = places([program, *certified["scan"]], folder)
-            _, audit, _ = places([program, *refused["check"]], folder)
-            _, tight, _ = places([program, *certified["check --tight"]], folder)
-            for name, entered in (("first reading", first), ("exact audit", audit), ("tight audit", tight)):
+            audit, scan = places([program, *certified["scan"]], folder)
+            again, _ = places([program, *refused["check"]], folder)
+            tight, _ = places([program, *certified["check --tight"]], folder)
+            for name, entered in (("audit", audit), ("audit that refuses", again), ("tight audit", tight)):
                 levels = {above - below for above, below in zip(entered, entered[1:])}
-                print(f"{name}: {len(entered)} geometries; how many bytes each is below the one before it: {sorted(levels)}")
+                print(f"{name}: {len(entered)} collections; how many bytes each is below the one before it: {sorted(levels)}")
             print(f"scan: goes over members {len(scan)} times")
 
 

@@ -12,7 +12,7 @@ LIBRARY, PROGRAM, LAWS = "lib", "main", "laws"
 
 
 def modules(top, crate):
-    """Maps each module of a crate but tests to its text. A module is named by its path, such as `sure/parts`."""
+    """Maps each module of a crate but tests to its text. A module is named by its path, such as `cursor/points`."""
     folder = os.path.join(top, "crates", crate, "src")
     paths = (path for path in files(top, crate, "src", ".rt") if "tests" not in os.path.relpath(path, folder)[:-3].split(os.sep))
     return {os.path.relpath(path, folder)[:-3]: text_of(path) for path in paths}

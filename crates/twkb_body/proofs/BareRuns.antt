@@ -13,12 +13,11 @@ use Rattle.twkb_head.specs.declared.kinds.Kind.{Kind}
 use Rattle.twkb_head.specs.Shared.Reader.{Answer, Reader, ◌>>=◌, viewed, number_at, many_at, coordinate_at}
 use Rattle.twkb_head.proofs.Steps.{read_number, read_signed, coordinate_ok, fits_true}
 use Rattle.twkb_body.specs.declared.trail.Trail.{Trail}
-use Rattle.twkb_body.specs.Devices.Bare.{unchanged}
 use Rattle.twkb_body.specs.Geometry.{PointValue, Ring, PolygonValue, points_of}
 use Rattle.twkb_body.specs.Devices.Body.{first_of, behind, add, sums, ring_sums, zeros}
 use Rattle.twkb_body.specs.Devices.BodyReader.{point_at, ring_at, polygon_at, many_parts_at}
-use Rattle.twkb_body.specs.Devices.Sure.{ReadParts}
 use Rattle.twkb_body.specs.Devices.Walk.{no_points, HaveAxes, IsWalked}
+use Rattle.twkb_body.specs.Devices.Bare.{unchanged, ReadParts}
 use Rattle.twkb_body.proofs.Coordinates.{coordinate_ahead}
 use Rattle.twkb_body.proofs.FlatRuns.{has_64_bits}
 use Rattle.twkb_body.proofs.Walks.{number_ahead, walked_from, IsWalkLoop, walk_begins, walk_goes_on, walk_ends, counted_ends, ring_points, rings_are_sums}
@@ -357,7 +356,7 @@ one_polygon_leads axes points r new some le few sound passed =
     lead_ends axes ring_sums (polygon_at axes) part_points rings_sums_flat 1 0 r 1 points new refl one
 
 -- parts that lead on from a trail of no points are parts that were read
-pub parts_read : (kind : Kind) (axes count points : ℕ) (old new : Reading) → Leads axes (many_parts_at kind count axes) points_of old new 0 points → ReadParts unchanged kind axes count old new tt tt points
+pub parts_read : (kind : Kind) (axes count points : ℕ) (old new : Reading) → Leads axes (many_parts_at kind count axes) points_of old new 0 points → ReadParts kind axes count old new points
 parts_read kind axes count points old new leads =
     let (parts, u, read, walked, near) = leads (no_points) (some_points 0 (omega arith)) in
     record { parts = parts; after = u; read = read; walked = walked; vertices_are = sym near.counted }

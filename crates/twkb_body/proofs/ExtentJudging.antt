@@ -15,15 +15,17 @@ use Rattle.twkb_head.specs.Head.{span_at, m_axis}
 use Rattle.twkb_head.specs.Raw.{ends_of, fields_box, head_said, raw_bounds}
 use Rattle.twkb_head.specs.Shared.Reader.{Reader}
 use Rattle.twkb_body.specs.declared.extents.Extents.{Extents}
+use Rattle.twkb_body.specs.declared.range.Ranges.{Ranges}
 use Rattle.twkb_body.specs.declared.trail.Trail.{Trail}
 use Rattle.twkb_body.specs.Geometry.{PointValue}
 use Rattle.twkb_body.specs.Extent.{Reach, reach_of, IsCovered}
-use Rattle.twkb_body.specs.Devices.Extents.{axis_of, range_of, range_if, raw_reach, settled_reach, HoldsPoints}
+use Rattle.twkb_body.specs.Devices.Extents.{range_of, range_if, raw_reach, HoldsPoints}
 use Rattle.twkb_body.specs.Devices.Found.{box_judged}
 use Rattle.twkb_body.specs.Devices.Inside.{of_head}
 use Rattle.twkb_body.specs.Devices.Pass.{covers, hugs, hugs_if_both, first, false_at, is_within, is_tight}
 use Rattle.twkb_body.specs.Devices.PointReader.{HasRead}
-use Rattle.twkb_body.specs.Devices.Ranges.{span_in, scaled, reach_in_units, widened}
+use Rattle.twkb_body.specs.Devices.Ranges.{range_at, span_in, scaled, reach_in_units, widened, IsHeldRaw, AreHeldRaw}
+use Rattle.twkb_body.specs.Devices.Seen.{in_units, ranges_reach}
 use Rattle.twkb_body.specs.Devices.Walk.{no_points, lasts_from, IsWalked}
 use Rattle.twkb_body.proofs.Judging.{covers_decides, hugs_decides}
 use Rattle.twkb_body.proofs.Scales.{times_le}
@@ -35,10 +37,12 @@ judged_none false h field reach within hugged = ap (λ (b : Bool). first (false_
 judged_none true h field reach within hugged = ap₂ (λ (a b : Bool). first (false_at a field.offset 7) (false_at b field.offset 9)) within (hugged refl)
 
 -- ---- no points
+-- a span covers no points
 covers_none : (span : Option Span) → covers span None ≡ true
 covers_none None = refl
 covers_none (Some span) = refl
 
+-- a span is tight round no points
 hugs_none : (span : Option Span) (p : Option ℕ) → hugs_if_both span p None ≡ true
 hugs_none None p = refl
 hugs_none (Some span) None = refl
@@ -57,41 +61,37 @@ box_there raw = go raw.bounds
     go None = refl
     go (Some box) = refl
 
--- ---- after `settle`
+-- ---- the ranges of points
 -- each axis that the header has is in its own range
-pub settled_is : (h : Header) (axes : ℕ) (old new : Extents) → axes ≡ axes_with h.z h.m → ((k : ℕ) → k < axes → k < 4 → (axis_of new k).range ≡ range_of axes old k)
-    → reach_in_units h.xy h.z h.m (settled_reach h.z new) ≡ reach_in_units h.xy h.z h.m (raw_reach h axes old)
-settled_is h axes old new axes_are is = go h.z h.m axes_are
+pub settled_is : (h : Header) (axes : ℕ) (e : Extents) (ranges : Ranges) → axes ≡ axes_with h.z h.m → ((k : ℕ) → k < axes → k < 4 → range_at ranges k ≡ range_of axes e k)
+    → in_units (record { xy = h.xy; z = h.z; m = h.m }) ranges ≡ reach_in_units h.xy h.z h.m (raw_reach h axes e)
+settled_is h axes e ranges axes_are is = go h.z h.m axes_are
   where
     go : (z m : Option ℕ) → axes ≡ axes_with z m
-        → reach_in_units h.xy z m (settled_reach z new) ≡ reach_in_units h.xy z m (record { x = range_of axes old 0; y = range_of axes old 1; z = range_if z (range_of axes old 2); m = range_if m (range_of axes old (m_axis z)) })
-    go None None e =
-        let x = is 0 (omega (arith, e)) (omega arith) in
-        let y = is 1 (omega (arith, e)) (omega arith) in
+        → reach_in_units h.xy z m (ranges_reach z ranges) ≡ reach_in_units h.xy z m (record { x = range_of axes e 0; y = range_of axes e 1; z = range_if z (range_of axes e 2); m = range_if m (range_of axes e (m_axis z)) })
+    go None None a =
+        let x = is 0 (omega (arith, a)) (omega arith) in
+        let y = is 1 (omega (arith, a)) (omega arith) in
         (λ j. record { x = scaled h.xy (x j); y = scaled h.xy (y j); z = None; m = None })
-    go (Some p) None e =
-        let x = is 0 (omega (arith, e)) (omega arith) in
-        let y = is 1 (omega (arith, e)) (omega arith) in
-        let z = is 2 (omega (arith, e)) (omega arith) in
+    go (Some p) None a =
+        let x = is 0 (omega (arith, a)) (omega arith) in
+        let y = is 1 (omega (arith, a)) (omega arith) in
+        let z = is 2 (omega (arith, a)) (omega arith) in
         (λ j. record { x = scaled h.xy (x j); y = scaled h.xy (y j); z = scaled (pos p) (z j); m = None })
-    go None (Some q) e =
-        let x = is 0 (omega (arith, e)) (omega arith) in
-        let y = is 1 (omega (arith, e)) (omega arith) in
-        let m = is 2 (omega (arith, e)) (omega arith) in
+    go None (Some q) a =
+        let x = is 0 (omega (arith, a)) (omega arith) in
+        let y = is 1 (omega (arith, a)) (omega arith) in
+        let m = is 2 (omega (arith, a)) (omega arith) in
         (λ j. record { x = scaled h.xy (x j); y = scaled h.xy (y j); z = None; m = scaled (pos q) (m j) })
-    go (Some p) (Some q) e =
-        let x = is 0 (omega (arith, e)) (omega arith) in
-        let y = is 1 (omega (arith, e)) (omega arith) in
-        let z = is 2 (omega (arith, e)) (omega arith) in
-        let m = is 3 (omega (arith, e)) (omega arith) in
+    go (Some p) (Some q) a =
+        let x = is 0 (omega (arith, a)) (omega arith) in
+        let y = is 1 (omega (arith, a)) (omega arith) in
+        let z = is 2 (omega (arith, a)) (omega arith) in
+        let m = is 3 (omega (arith, a)) (omega arith) in
         (λ j. record { x = scaled h.xy (x j); y = scaled h.xy (y j); z = scaled (pos p) (z j); m = scaled (pos q) (m j) })
 
 -- ---- from raw coordinates to units
--- a raw range holds a range, and in tight checking it is the same
-pub record IsHeldRaw (tight : Bool) (range : RawRange) (reached : Option Span) : Type 0 where
-  pub held : IsCovered (Some (span_in range)) reached
-  pub same : tight ≡ true → IfSome reached (λ r. r ≡ span_in range)
-
+-- a raw range that holds a range holds it in units
 covers_scaled : (p : ℤ) (range : RawRange) (reached : Option Span) → IsCovered (Some (span_in range)) reached → covers (Some (span_at p (ends_of range))) (scaled p reached) ≡ true
 covers_scaled p range None held = refl
 covers_scaled p range (Some r) held = (covers_decides (Some (span_at p (ends_of range))) (scaled p (Some r))).1 (times_le (10 ^ unsigned_abs (pos 7 -ℤ p)) _ _ held.0, times_le (10 ^ unsigned_abs (pos 7 -ℤ p)) _ _ held.1)
@@ -100,6 +100,7 @@ covers_scaled p range (Some r) held = (covers_decides (Some (span_at p (ends_of 
 above : (p a : ℤ) → (a -ℤ a) <ℤ units_of (pos 1) p
 above p a = let some = one-le-pow (unsigned_abs (pos 7 -ℤ p)) 10 (omega arith) in omega (arith, ints)
 
+-- a raw range that is the range itself is tight in units
 hugs_scaled : (p : ℤ) (range : RawRange) (reached : Option Span) → IfSome reached (λ r. r ≡ span_in range) → hugs (span_at p (ends_of range)) (units_of (pos 1) p) (scaled p reached) ≡ true
 hugs_scaled p range None same = refl
 hugs_scaled p range (Some r) same =
@@ -107,38 +108,42 @@ hugs_scaled p range (Some r) same =
     ∙ (hugs_decides (span_at p (ends_of range)) (units_of (pos 1) p) (scaled p (Some (span_in range)))).1 (above p (units_of (span_in range).lo p), above p (units_of (span_in range).hi p))
 
 -- a box that holds all points in raw coordinates isn't refused
-pub held_judged : (tight : Bool) (raw : Fields) (box : RawBox) (e : Extents) (axes : ℕ) → axes ≡ axes_with raw.axes.z raw.axes.m → raw.bounds ≡ Some box
-    → IsHeldRaw tight box.x e.x.range → IsHeldRaw tight box.y e.y.range → (2 < axes → IsHeldRaw tight box.third e.third.range) → (3 < axes → IsHeldRaw tight box.fourth e.fourth.range)
-    → box_judged tight (of_head (head_said raw)) (head_said raw).bounds (reach_in_units raw.axes.xy raw.axes.z raw.axes.m (settled_reach raw.axes.z e)) ≡ None
-held_judged tight raw box e axes axes_are is x y third fourth =
-    ap (λ (o : Option RawBox). box_judged tight (of_head (head_said raw)) (option_map (fields_box raw) o) (reach_in_units raw.axes.xy raw.axes.z raw.axes.m (settled_reach raw.axes.z e))) is
-    ∙ judged_none tight (of_head (head_said raw)) (fields_box raw box) (reach_in_units raw.axes.xy raw.axes.z raw.axes.m (settled_reach raw.axes.z e)) (within raw.axes.z raw.axes.m axes_are) (λ t. hugged t raw.axes.z raw.axes.m axes_are)
+pub held_judged : (tight : Bool) (raw : Fields) (box : RawBox) (ranges : Ranges) → raw.bounds ≡ Some box → AreHeldRaw tight raw.axes box ranges
+    → box_judged tight (of_head (head_said raw)) (head_said raw).bounds (in_units raw.axes ranges) ≡ None
+held_judged tight raw box ranges is held =
+    ap (λ (o : Option RawBox). box_judged tight (of_head (head_said raw)) (option_map (fields_box raw) o) (in_units raw.axes ranges)) is
+    ∙ judged_none tight (of_head (head_said raw)) (fields_box raw box) (in_units raw.axes ranges) (within raw.axes.z raw.axes.m held.third held.fourth) (λ t. hugged t raw.axes.z raw.axes.m held.third held.fourth)
   where
-    within : (z m : Option ℕ) → axes ≡ axes_with z m → is_within (reach_in_units raw.axes.xy z m (settled_reach z e)) (raw_bounds raw.axes.xy z m box) ≡ true
-    within None None a = ap₂ (λ (p q : Bool). p && (q && true)) (covers_scaled raw.axes.xy box.x e.x.range x.held) (covers_scaled raw.axes.xy box.y e.y.range y.held)
-    within (Some p) None a =
-        let z = covers_scaled (pos p) box.third e.third.range (third (omega (arith, a))).held in
-        (λ j. covers_scaled raw.axes.xy box.x e.x.range x.held j && (covers_scaled raw.axes.xy box.y e.y.range y.held j && (z j && true)))
-    within None (Some q) a =
-        let m = covers_scaled (pos q) box.third e.third.range (third (omega (arith, a))).held in
-        (λ j. covers_scaled raw.axes.xy box.x e.x.range x.held j && (covers_scaled raw.axes.xy box.y e.y.range y.held j && m j))
-    within (Some p) (Some q) a =
-        let z = covers_scaled (pos p) box.third e.third.range (third (omega (arith, a))).held in
-        let m = covers_scaled (pos q) box.fourth e.fourth.range (fourth (omega (arith, a))).held in
-        (λ j. covers_scaled raw.axes.xy box.x e.x.range x.held j && (covers_scaled raw.axes.xy box.y e.y.range y.held j && (z j && m j)))
+    xy : ℤ
+    xy = raw.axes.xy
 
-    hugged : tight ≡ true → (z m : Option ℕ) → axes ≡ axes_with z m → is_tight raw.axes.xy z m (raw_bounds raw.axes.xy z m box) (reach_in_units raw.axes.xy z m (settled_reach z e)) ≡ true
-    hugged t None None a = ap₂ (λ (p q : Bool). p && (q && true)) (hugs_scaled raw.axes.xy box.x e.x.range (x.same t)) (hugs_scaled raw.axes.xy box.y e.y.range (y.same t))
-    hugged t (Some p) None a =
-        let z = hugs_scaled (pos p) box.third e.third.range ((third (omega (arith, a))).same t) in
-        (λ j. hugs_scaled raw.axes.xy box.x e.x.range (x.same t) j && (hugs_scaled raw.axes.xy box.y e.y.range (y.same t) j && (z j && true)))
-    hugged t None (Some q) a =
-        let m = hugs_scaled (pos q) box.third e.third.range ((third (omega (arith, a))).same t) in
-        (λ j. hugs_scaled raw.axes.xy box.x e.x.range (x.same t) j && (hugs_scaled raw.axes.xy box.y e.y.range (y.same t) j && m j))
-    hugged t (Some p) (Some q) a =
-        let z = hugs_scaled (pos p) box.third e.third.range ((third (omega (arith, a))).same t) in
-        let m = hugs_scaled (pos q) box.fourth e.fourth.range ((fourth (omega (arith, a))).same t) in
-        (λ j. hugs_scaled raw.axes.xy box.x e.x.range (x.same t) j && (hugs_scaled raw.axes.xy box.y e.y.range (y.same t) j && (z j && m j)))
+    within : (z m : Option ℕ) → (2 < axes_with z m → IsHeldRaw tight box.third ranges.third) → (3 < axes_with z m → IsHeldRaw tight box.fourth ranges.fourth)
+        → is_within (reach_in_units xy z m (ranges_reach z ranges)) (raw_bounds xy z m box) ≡ true
+    within None None third fourth = ap₂ (λ (p q : Bool). p && (q && true)) (covers_scaled xy box.x ranges.x held.x.held) (covers_scaled xy box.y ranges.y held.y.held)
+    within (Some p) None third fourth =
+        let z = covers_scaled (pos p) box.third ranges.third (third (omega arith)).held in
+        (λ j. covers_scaled xy box.x ranges.x held.x.held j && (covers_scaled xy box.y ranges.y held.y.held j && (z j && true)))
+    within None (Some q) third fourth =
+        let m = covers_scaled (pos q) box.third ranges.third (third (omega arith)).held in
+        (λ j. covers_scaled xy box.x ranges.x held.x.held j && (covers_scaled xy box.y ranges.y held.y.held j && m j))
+    within (Some p) (Some q) third fourth =
+        let z = covers_scaled (pos p) box.third ranges.third (third (omega arith)).held in
+        let m = covers_scaled (pos q) box.fourth ranges.fourth (fourth (omega arith)).held in
+        (λ j. covers_scaled xy box.x ranges.x held.x.held j && (covers_scaled xy box.y ranges.y held.y.held j && (z j && m j)))
+
+    hugged : tight ≡ true → (z m : Option ℕ) → (2 < axes_with z m → IsHeldRaw tight box.third ranges.third) → (3 < axes_with z m → IsHeldRaw tight box.fourth ranges.fourth)
+        → is_tight xy z m (raw_bounds xy z m box) (reach_in_units xy z m (ranges_reach z ranges)) ≡ true
+    hugged t None None third fourth = ap₂ (λ (p q : Bool). p && (q && true)) (hugs_scaled xy box.x ranges.x (held.x.same t)) (hugs_scaled xy box.y ranges.y (held.y.same t))
+    hugged t (Some p) None third fourth =
+        let z = hugs_scaled (pos p) box.third ranges.third ((third (omega arith)).same t) in
+        (λ j. hugs_scaled xy box.x ranges.x (held.x.same t) j && (hugs_scaled xy box.y ranges.y (held.y.same t) j && (z j && true)))
+    hugged t None (Some q) third fourth =
+        let m = hugs_scaled (pos q) box.third ranges.third ((third (omega arith)).same t) in
+        (λ j. hugs_scaled xy box.x ranges.x (held.x.same t) j && (hugs_scaled xy box.y ranges.y (held.y.same t) j && m j))
+    hugged t (Some p) (Some q) third fourth =
+        let z = hugs_scaled (pos p) box.third ranges.third ((third (omega arith)).same t) in
+        let m = hugs_scaled (pos q) box.fourth ranges.fourth ((fourth (omega arith)).same t) in
+        (λ j. hugs_scaled xy box.x ranges.x (held.x.same t) j && (hugs_scaled xy box.y ranges.y (held.y.same t) j && (z j && m j)))
 
 -- ---- points that were read
 -- Points were read under a header: their number, and their reach in raw coordinates.
@@ -149,6 +154,7 @@ pub record IsExtentRead {A : Type 0} (each : PointValue → Reader A) (points_in
   pub walked : IsWalked (widened h) axes no_points trail (reach_of []) (raw_reach h axes e) from.place to.place (points_in value)
   pub many : trail.points ≡ points
 
+-- an extent reader's result says that its points were read, and gives their number and their reach
 pub extent_read : {A : Type 0} (each : PointValue → Reader A) (points_in : A → List PointValue) (h : Header) (axes : ℕ) (e : Extents) (points : ℕ) (from to : Reading)
     → HasRead each points_in (beside widened) (HoldsPoints axes e points) (record { axes = axes; trail = no_points; state = (h, reach_of []) }) from to → IsExtentRead each points_in h axes e points from to
 extent_read each points_in h axes e points from to r =

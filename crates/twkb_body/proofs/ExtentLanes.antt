@@ -9,10 +9,10 @@ use Rattle.std.proofs.lemmas.Int.{ints, clamps}
 use Rattle.std.proofs.lemmas.List.Sums.{fold-append}
 use Rattle.twkb_head.specs.declared.boxes.Span.{Span}
 use Rattle.twkb_body.specs.declared.extent_lanes.Lanes.{Lanes}
-use Rattle.twkb_body.specs.declared.extents.Extents.{Extents}
+use Rattle.twkb_body.specs.declared.extents.Base.{Base}
 use Rattle.twkb_body.specs.Extent.{span_of, joined}
 use Rattle.twkb_body.specs.Devices.Columns.{Stays, running, sum_fits}
-use Rattle.twkb_body.specs.Devices.Extents.{distance, lane_sum, lane_span, steps, lane_range, lanes_range, axis_of, no_lanes, IsLane, IsHeld, IsNearZero, Grows}
+use Rattle.twkb_body.specs.Devices.Extents.{distance, lane_sum, lane_span, steps, lane_range, lanes_range, axis_in, no_lanes, IsLane, AreHeld, IsNearZero, Grows}
 use Rattle.twkb_body.proofs.LaneSums.{wrapped}
 use Rattle.twkb_body.proofs.NumberRuns.{Stays-append, running-append, within_fits}
 use Rattle.twkb_body.proofs.Reaches.{joined-assoc, span_of-append}
@@ -308,52 +308,52 @@ zero_lane (suc (suc (suc zero))) h = refl
 zero_lane (suc (suc (suc (suc k)))) h = absurd (omega (arith, h))
 
 -- what is seen of an axis when its lanes become its base
-pub record Settles (axes : ℕ) (e : Extents) (k l g : ℕ) : Type 0 where
-  pub last : sum_fits ((axis_of e k).last +ℤ distance (slice_index e.lanes.last k))
-  pub ends : l ≤ g → sum_fits ((axis_of e k).last +ℤ distance l) × sum_fits ((axis_of e k).last +ℤ distance g)
-  pub range : lane_span (axis_of e k).last l g ≡ lanes_range axes (axis_of e k).last e.lanes k
+pub record Settles (axes : ℕ) (b : Base) (lanes : Lanes) (k l g : ℕ) : Type 0 where
+  pub last : sum_fits ((axis_in b k).last +ℤ distance (slice_index lanes.last k))
+  pub ends : l ≤ g → sum_fits ((axis_in b k).last +ℤ distance l) × sum_fits ((axis_in b k).last +ℤ distance g)
+  pub range : lane_span (axis_in b k).last l g ≡ lanes_range axes (axis_in b k).last lanes k
 
-pub settles : (axes : ℕ) (e : Extents) (k : ℕ) → IsHeld axes e → k < axes → k < 4 → Settles axes e k (least_in axes e.lanes.least k) (greatest_in axes e.lanes.greatest k)
-settles axes e k held few four = go e.is_near refl
+pub settles : (axes : ℕ) (b : Base) (lanes : Lanes) (k : ℕ) → AreHeld axes b lanes → k < axes → k < 4 → Settles axes b lanes k (least_in axes lanes.least k) (greatest_in axes lanes.greatest k)
+settles axes b lanes k held few four = go b.is_near refl
   where
-    range : lane_span (axis_of e k).last (least_in axes e.lanes.least k) (greatest_in axes e.lanes.greatest k) ≡ lanes_range axes (axis_of e k).last e.lanes k
-    range = joined_lanes axes (axis_of e k).last e.lanes k held.each few four
+    range : lane_span (axis_in b k).last (least_in axes lanes.least k) (greatest_in axes lanes.greatest k) ≡ lanes_range axes (axis_in b k).last lanes k
+    range = joined_lanes axes (axis_in b k).last lanes k held.each few four
 
-    least_small : least_in axes e.lanes.least k < 4294967296
+    least_small : least_in axes lanes.least k < 4294967296
     least_small = small (axes == 2)
       where
-        small : (b : Bool) → (if b then min (slice_index e.lanes.least k) (slice_index e.lanes.least (2 + k)) else slice_index e.lanes.least k) < 4294967296
+        small : (b : Bool) → (if b then min (slice_index lanes.least k) (slice_index lanes.least (2 + k)) else slice_index lanes.least k) < 4294967296
         small true = omega (arith, (held.each k four).least)
         small false = (held.each k four).least
 
-    greatest_small : greatest_in axes e.lanes.greatest k < 4294967296
+    greatest_small : greatest_in axes lanes.greatest k < 4294967296
     greatest_small = small (axes == 2) refl
       where
-        small : (b : Bool) → (axes == 2) ≡ b → (if b then max (slice_index e.lanes.greatest k) (slice_index e.lanes.greatest (2 + k)) else slice_index e.lanes.greatest k) < 4294967296
+        small : (b : Bool) → (axes == 2) ≡ b → (if b then max (slice_index lanes.greatest k) (slice_index lanes.greatest (2 + k)) else slice_index lanes.greatest k) < 4294967296
         small true is = omega (arith, (held.each k four).greatest, (held.each (2 + k) (two_ends axes k (eqb-true axes 2 is) few)).greatest)
         small false is = (held.each k four).greatest
 
-    go : (b : Bool) → e.is_near ≡ b → Settles axes e k (least_in axes e.lanes.least k) (greatest_in axes e.lanes.greatest k)
+    go : (near : Bool) → b.is_near ≡ near → Settles axes b lanes k (least_in axes lanes.least k) (greatest_in axes lanes.greatest k)
     go true is =
         let near = held.near is k few in
         record {
-          last = near_fits (axis_of e k).last _ near (held.each k four).last;
-          ends = λ some. (near_fits (axis_of e k).last _ near least_small, near_fits (axis_of e k).last _ near greatest_small);
+          last = near_fits (axis_in b k).last _ near (held.each k four).last;
+          ends = λ some. (near_fits (axis_in b k).last _ near least_small, near_fits (axis_in b k).last _ near greatest_small);
           range = range;
         }
     go false is =
-        let none : lanes_range axes (axis_of e k).last e.lanes k ≡ None = ap (λ (lanes : Lanes). lanes_range axes (axis_of e k).last lanes k) (held.far is) ∙ none_in_lanes axes (axis_of e k).last k four few in
-        let zero : slice_index e.lanes.last k ≡ 2147483648 = ap (λ (lanes : Lanes). slice_index lanes.last k) (held.far is) ∙ zero_lane k four in
-        let same : (axis_of e k).last +ℤ distance (slice_index e.lanes.last k) ≡ (axis_of e k).last = omega (arith, ints, zero) in
+        let none : lanes_range axes (axis_in b k).last lanes k ≡ None = ap (λ (l : Lanes). lanes_range axes (axis_in b k).last l k) (held.far is) ∙ none_in_lanes axes (axis_in b k).last k four few in
+        let zero : slice_index lanes.last k ≡ 2147483648 = ap (λ (l : Lanes). slice_index l.last k) (held.far is) ∙ zero_lane k four in
+        let same : (axis_in b k).last +ℤ distance (slice_index lanes.last k) ≡ (axis_in b k).last = omega (arith, ints, zero) in
         record {
           last = subst sum_fits (sym same) (held.fits k few);
-          ends = λ some. absurd (cc (sym (some_span (axis_of e k).last _ _ some) ∙ range ∙ none));
+          ends = λ some. absurd (cc (sym (some_span (axis_in b k).last _ _ some) ∙ range ∙ none));
           range = range;
         }
 
-pub settles_by : (axes : ℕ) (e : Extents) (k l g : ℕ) → IsHeld axes e → k < axes → k < 4 → l ≡ least_in axes e.lanes.least k → g ≡ greatest_in axes e.lanes.greatest k → Settles axes e k l g
-settles_by axes e k l g held few four l_is g_is =
-    subst (λ (n : ℕ). Settles axes e k n g) (sym l_is) (subst (λ (n : ℕ). Settles axes e k (least_in axes e.lanes.least k) n) (sym g_is) (settles axes e k held few four))
+pub settles_by : (axes : ℕ) (b : Base) (lanes : Lanes) (k l g : ℕ) → AreHeld axes b lanes → k < axes → k < 4 → l ≡ least_in axes lanes.least k → g ≡ greatest_in axes lanes.greatest k → Settles axes b lanes k l g
+settles_by axes b lanes k l g held few four l_is g_is =
+    subst (λ (n : ℕ). Settles axes b lanes k n g) (sym l_is) (subst (λ (n : ℕ). Settles axes b lanes k (least_in axes lanes.least k) n) (sym g_is) (settles axes b lanes k held few four))
 
 -- there are four steps
 steps_front : (axes : ℕ) (a b c d : ℤ) (zs : List ℤ) → (take 4 (steps axes a b c d ++ zs) ≡ steps axes a b c d) × (drop 4 (steps axes a b c d ++ zs) ≡ zs)

@@ -13,7 +13,7 @@ use Rattle.twkb_body.specs.Extent.{Reach, reach_of, span_of, joined}
 use Rattle.twkb_body.specs.Geometry.{PointValue, coordinate}
 use Rattle.twkb_body.specs.Devices.Body.{sums, zeros}
 use Rattle.twkb_body.specs.Devices.Columns.{column, running, Stays}
-use Rattle.twkb_body.specs.Devices.Extents.{range_of, last_of, raw_reach, range_if, IsHeld, HoldsPoints, GrowTo, Leaves, Took}
+use Rattle.twkb_body.specs.Devices.Extents.{range_of, last_of, has_left, raw_reach, range_if, IsHeld, HoldsPoints, GrowTo, Leaves, Took}
 use Rattle.twkb_body.specs.Devices.PointReader.{Stage, HasRead, points_at}
 use Rattle.twkb_body.specs.Devices.Ranges.{raw_of, widened}
 use Rattle.twkb_body.specs.Devices.Walk.{lasts_from, IsWalked}
@@ -118,7 +118,7 @@ none_reach h axes e axes_are none =
 
 -- ---- what a reader has read
 -- numbers that were taken lead to the stage after their points
-pub run_read : (axes n : ℕ) (old new : Extents) (count : ℕ) (at : Stage (Header × Reach)) (a b : Reading) (zs : List ℤ) → HoldsPoints axes old count at → IsSound a → ReadsNumbers a b zs → length zs ≡ axes * n → IsHeld axes new → new.has_left ≡ false → GrowTo axes old zs new
+pub run_read : (axes n : ℕ) (old new : Extents) (count : ℕ) (at : Stage (Header × Reach)) (a b : Reading) (zs : List ℤ) → HoldsPoints axes old count at → IsSound a → ReadsNumbers a b zs → length zs ≡ axes * n → IsHeld axes new → has_left new ≡ false → GrowTo axes old zs new
     → HasRead (points_at n at.axes) (λ points. points) (λ (s : Header × Reach) point. (s.0, widened s.0 s.1 point)) (HoldsPoints axes new (count + n)) at a b
 run_read axes n old new count at a b zs holds sound reads many held stays grow =
     let h = at.state.0 in

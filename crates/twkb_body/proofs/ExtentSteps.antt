@@ -1,5 +1,5 @@
 -- Numbers that are taken, one after another or in lanes, and the extents of their points.
-use Rattle.std.proofs.Common.{◌≡◌, ℕ, zero, suc, ◌+◌, ◌*◌, ◌%◌, ◌<◌, ◌≤◌, ◌==◌, List, [], ◌∷◌, ◌++◌, map, length, ℤ, pos, neg_ℤ, ◌+ℤ◌, ◌≤ℤ◌, Bool, nat_eq, true, false, Some, inl, inr, refl, sym, ap, ap₂, ◌∙◌, subst, arith, slice_index, w32}
+use Rattle.std.proofs.Common.{◌≡◌, ℕ, zero, suc, ◌+◌, ◌*◌, ◌%◌, ◌<◌, ◌≤◌, ◌==◌, List, [], ◌∷◌, ◌++◌, map, length, ℤ, pos, neg_ℤ, ◌+ℤ◌, ◌≤ℤ◌, Bool, nat_eq, true, false, Some, inl, inr, refl, sym, ap, ◌∙◌, subst, arith, slice_index, w32}
 use Rattle.std.specs.Prelude.{if◌then◌else◌, Option, All, ◌||◌, ◌⊎◌, ◌-◌, take, drop, replicate}
 use Rattle.std.proofs.lemmas.Bool.{eqb-true, eqb-false}
 use Rattle.std.proofs.lemmas.Int.{ints, clamps}
@@ -9,12 +9,13 @@ use Rattle.twkb_num.specs.Varint.{IsBrief, IsShort}
 use Rattle.std.proofs.lemmas.List.{append-nil}
 use Rattle.twkb_head.specs.declared.boxes.Span.{Span}
 use Rattle.twkb_body.specs.declared.extents.AxisExtent.{AxisExtent}
+use Rattle.twkb_body.specs.declared.extents.Base.{Base}
 use Rattle.twkb_body.specs.declared.extent_lanes.Lanes.{Lanes}
 use Rattle.twkb_body.specs.declared.extents.Extents.{Extents}
 use Rattle.twkb_body.specs.Extent.{span_of, joined}
 use Rattle.twkb_body.specs.Devices.Columns.{column, Stays, sum_fits}
-use Rattle.twkb_body.specs.Devices.Extents.{distance, lane_sum, last_place, steps, Sees, HaveRoom, axis_of, last_of, range_of, lane_range, lanes_range, no_lanes, IsLane, IsHeld, IsNearZero, Grows, AddsNumber, HasAdded, GrowTo, Leaves, Took}
-use Rattle.twkb_body.proofs.ExtentLanes.{none_in_lanes, zero_lane, settles, grows_on, grows_after, ends_more, one_seen, two_seen, IsStep, IsMiddle, moved_lane}
+use Rattle.twkb_body.specs.Devices.Extents.{distance, lane_sum, last_place, steps, Sees, HaveRoom, axis_in, base_of, has_left, last_from, last_of, range_from, range_of, lane_range, lanes_range, no_lanes, IsLane, IsHeld, IsNearZero, Grows, AddsNumber, AddsToBase, HasAdded, GrowTo, Leaves, Took}
+use Rattle.twkb_body.proofs.ExtentLanes.{none_in_lanes, zero_lane, grows_on, grows_after, ends_more, one_seen, two_seen, IsStep, IsMiddle, moved_lane}
 use Rattle.twkb_body.proofs.NumberRuns.{column-append, column-same, column-other, append-Stays}
 use Rattle.twkb_body.proofs.Reaches.{joined-none}
 
@@ -35,72 +36,67 @@ no_lane (suc (suc zero)) h = record { last = omega arith; least = omega arith; g
 no_lane (suc (suc (suc zero))) h = record { last = omega arith; least = omega arith; greatest = omega arith; empty = λ lt. (refl, refl) }
 no_lane (suc (suc (suc (suc i)))) h = absurd (omega (arith, h))
 
-module _ (axes : ℕ) (e : Extents) (none : e.lanes ≡ no_lanes) (four : axes ≤ 4) (k : ℕ) (few : k < axes) where
+module _ (axes : ℕ) (b : Base) (four : axes ≤ 4) (k : ℕ) (few : k < axes) where
   -- without points in lanes the last coordinate is the base
-  last_there : last_of e k ≡ (axis_of e k).last
+  last_there : last_from b no_lanes k ≡ (axis_in b k).last
   last_there =
-      let zero_there : slice_index e.lanes.last k ≡ 2147483648 = ap (λ (lanes : Lanes). slice_index lanes.last k) none ∙ zero_lane k (omega (arith, four, few)) in
+      let zero_there = zero_lane k (omega (arith, four, few)) in
       omega (arith, ints, zero_there)
 
-  range_there : range_of axes e k ≡ (axis_of e k).range
-  range_there =
-      ap (joined (axis_of e k).range) (ap (λ (lanes : Lanes). lanes_range axes (axis_of e k).last lanes k) none ∙ none_in_lanes axes (axis_of e k).last k (omega (arith, four, few)) few)
-      ∙ joined-none (axis_of e k).range
+  range_there : range_from axes b no_lanes k ≡ (axis_in b k).range
+  range_there = ap (joined (axis_in b k).range) (none_in_lanes axes (axis_in b k).last k (omega (arith, four, few)) few) ∙ joined-none (axis_in b k).range
 
--- the extents after a number of an axis, over bases that have all points
-pub record AddsTo (axes axis : ℕ) (number : ℤ) (old mid new : Extents) (leaves : ℕ → Bool) : Type 0 where
+-- a base after a number of an axis
+pub record AddsTo (axes axis : ℕ) (number : ℤ) (old new : Base) (leaves : ℕ → Bool) : Type 0 where
   pub few : axes ≤ 4
-  pub held : IsHeld axes old
-  pub lanes : new.lanes ≡ no_lanes
-  pub last : (k : ℕ) → k < axes → (axis_of mid k).last ≡ last_of old k
-  pub range : (k : ℕ) → k < axes → (axis_of mid k).range ≡ range_of axes old k
-  pub adds : (k : ℕ) → k < 4 → AddsIf (axis == k) number (axis_of mid k) (axis_of new k) (leaves k)
-  pub near : new.is_near ≡ true → (k : ℕ) → k < axes → IsNearZero (axis_of new k).last
+  pub fits : (k : ℕ) → k < axes → sum_fits (axis_in old k).last
+  pub adds : (k : ℕ) → k < 4 → AddsIf (axis == k) number (axis_in old k) (axis_in new k) (leaves k)
+  pub near : new.is_near ≡ true → (k : ℕ) → k < axes → IsNearZero (axis_in new k).last
 
 -- an axis after a number
-added_axis : (is : Bool) (number last : ℤ) (range : Option Span) (mid new : AxisExtent) → AddsIf is number mid new false → mid.last ≡ last → mid.range ≡ range → sum_fits last
-    → Grows last range (if is then number ∷ [] else []) new.last new.range × sum_fits new.last
-added_axis true number last range mid new a last_is range_is fits =
-    let there : new.last ≡ last +ℤ number = a.last refl refl ∙ ap (λ (l : ℤ). l +ℤ number) last_is in
-    let fit : sum_fits (last +ℤ number) = subst (λ (l : ℤ). sum_fits (l +ℤ number)) last_is (a.fits refl refl) in (
-      record {
-        sum = there;
-        reach = a.range refl refl ∙ ap₂ (λ (r : Option Span) (l : ℤ). joined r (span_of ((l +ℤ number) ∷ []))) range_is last_is;
-        stays = (fit, tt);
-      },
-      subst sum_fits (sym there) fit,
-    )
-added_axis false number last range mid new a last_is range_is fits =
+added_axis : (is : Bool) (number : ℤ) (old new : AxisExtent) → AddsIf is number old new false → sum_fits old.last
+    → Grows old.last old.range (if is then number ∷ [] else []) new.last new.range × sum_fits new.last
+added_axis true number old new a fits =
+    let there : new.last ≡ old.last +ℤ number = a.last refl refl in
+    let fit : sum_fits (old.last +ℤ number) = a.fits refl refl in
+    (record { sum = there; reach = a.range refl refl; stays = (fit, tt) }, subst sum_fits (sym there) fit)
+added_axis false number old new a fits =
     let same = a.still refl in
-    let there : new.last ≡ last = ap (λ (e : AxisExtent). e.last) same ∙ last_is in
-    let there' : new.range ≡ range = ap (λ (e : AxisExtent). e.range) same ∙ range_is in (
+    let there : new.last ≡ old.last = ap (λ (e : AxisExtent). e.last) same in (
       record {
         sum = there;
-        reach = there' ∙ sym (joined-none range);
+        reach = ap (λ (e : AxisExtent). e.range) same ∙ sym (joined-none old.range);
         stays = tt;
       },
       subst sum_fits (sym there) fits,
     )
 
-module _ (axes axis : ℕ) (number : ℤ) (old mid new : Extents) (leaves : ℕ → Bool) (p : AddsTo axes axis number old mid new leaves) (stay : (k : ℕ) → k < 4 → leaves k ≡ false) where
-  added_at : (k : ℕ) → k < axes → Grows (last_of old k) (range_of axes old k) (if axis == k then number ∷ [] else []) (axis_of new k).last (axis_of new k).range × sum_fits (axis_of new k).last
+-- a base without points in lanes, as extents
+abbrev pub alone : Base → Extents
+alone b = record { lanes = no_lanes; base = Some b }
+
+-- an axis grows as its base does, without points in lanes
+grows_alone : (axes k : ℕ) (numbers : List ℤ) (old new : Base) → axes ≤ 4 → k < axes → Grows (axis_in old k).last (axis_in old k).range numbers (axis_in new k).last (axis_in new k).range
+    → Grows (last_from old no_lanes k) (range_from axes old no_lanes k) numbers (last_from new no_lanes k) (range_from axes new no_lanes k)
+grows_alone axes k numbers old new four few p =
+    rw (last_there axes old four k few, last_there axes new four k few, range_there axes old four k few, range_there axes new four k few) p
+
+module _ (axes axis : ℕ) (number : ℤ) (old new : Base) (leaves : ℕ → Bool) (p : AddsTo axes axis number old new leaves) (stay : (k : ℕ) → k < 4 → leaves k ≡ false) where
+  added_at : (k : ℕ) → k < axes → Grows (axis_in old k).last (axis_in old k).range (if axis == k then number ∷ [] else []) (axis_in new k).last (axis_in new k).range × sum_fits (axis_in new k).last
   added_at k few =
       let four : k < 4 = omega (arith, few, p.few) in
-      added_axis (axis == k) number (last_of old k) (range_of axes old k) (axis_of mid k) (axis_of new k) (subst (AddsIf (axis == k) number (axis_of mid k) (axis_of new k)) (stay k four) (p.adds k four))
-      (p.last k few) (p.range k few) (settles axes old k p.held few four).last
+      added_axis (axis == k) number (axis_in old k) (axis_in new k) (subst (AddsIf (axis == k) number (axis_in old k) (axis_in new k)) (stay k four) (p.adds k four)) (p.fits k few)
 
-  pub added_stays : IsHeld axes new × HasAdded axes axis number old new
+  pub added_stays : IsHeld axes (alone new) × HasAdded axes axis number (alone old) (alone new)
   added_stays = (
     record {
       fits = λ k few. (added_at k few).1;
       near = p.near;
-      far = λ is. p.lanes;
-      each = λ i few. subst (λ (lanes : Lanes). IsLane lanes i) (sym p.lanes) (no_lane i few);
-      twice = λ two i few. ap (λ (lanes : Lanes). slice_index lanes.last (2 + i)) p.lanes ∙ zero_lane (2 + i) (omega (arith, few)) ∙ sym (ap (λ (lanes : Lanes). slice_index lanes.last i) p.lanes ∙ zero_lane i (omega (arith, few)));
+      far = λ is. refl;
+      each = no_lane;
+      twice = λ two i few. zero_lane (2 + i) (omega (arith, few)) ∙ sym (zero_lane i (omega (arith, few)));
     },
-    λ k few.
-        subst (λ (l : ℤ). Grows (last_of old k) (range_of axes old k) (if axis == k then number ∷ [] else []) l (range_of axes new k)) (sym (last_there axes new p.lanes p.few k few))
-        (subst (λ (r : Option Span). Grows (last_of old k) (range_of axes old k) (if axis == k then number ∷ [] else []) (axis_of new k).last r) (sym (range_there axes new p.lanes p.few k few)) (added_at k few).0),
+    λ k few. grows_alone axes k _ old new p.few few (added_at k few).0,
   )
 
 -- of four answers, one an axis, that of an axis
@@ -129,23 +125,40 @@ some_leaves false false false true h = (3, (omega arith, refl))
 some_leaves false false false false h = absurd (cc (h))
 
 -- an axis whose sum leaves 64 bits is that of the number
-pub added_leaves : (axes axis : ℕ) (number : ℤ) (old mid new : Extents) (leaves : ℕ → Bool) → AddsTo axes axis number old mid new leaves → axis < axes → (k : ℕ) → k < 4 → leaves k ≡ true → sum_fits (last_of old axis +ℤ number) → ⊥
-added_leaves axes axis number old mid new leaves p there k four is fits = go (axis == k) refl (subst (AddsIf (axis == k) number (axis_of mid k) (axis_of new k)) is (p.adds k four))
+pub added_leaves : (axes axis : ℕ) (number : ℤ) (old new : Base) (leaves : ℕ → Bool) → AddsTo axes axis number old new leaves → axis < axes → (k : ℕ) → k < 4 → leaves k ≡ true → sum_fits (last_from old no_lanes axis +ℤ number) → ⊥
+added_leaves axes axis number old new leaves p there k four is fits = go (axis == k) refl (subst (AddsIf (axis == k) number (axis_in old k) (axis_in new k)) is (p.adds k four))
   where
-    go : (b : Bool) → (axis == k) ≡ b → AddsIf b number (axis_of mid k) (axis_of new k) true → ⊥
+    go : (b : Bool) → (axis == k) ≡ b → AddsIf b number (axis_in old k) (axis_in new k) true → ⊥
     go false is' a = cc (a.stays refl)
     go true is' a =
         let same = eqb-true axis k is' in
-        a.leaves_64 refl refl (subst (λ (i : ℕ). sum_fits ((axis_of mid i).last +ℤ number)) same (subst (λ (l : ℤ). sum_fits (l +ℤ number)) (sym (p.last axis there)) fits))
+        a.leaves_64 refl refl (subst (λ (i : ℕ). sum_fits ((axis_in old i).last +ℤ number)) same (subst (λ (l : ℤ). sum_fits (l +ℤ number)) (last_there axes old p.few axis there) fits))
 
 -- what each of four axes adds
-pub each_adds : (axis : ℕ) (number : ℤ) (mid new : Extents) (a b c d : Bool) → AddsIf (axis == 0) number mid.x new.x a → AddsIf (axis == 1) number mid.y new.y b → AddsIf (axis == 2) number mid.third new.third c → AddsIf (axis == 3) number mid.fourth new.fourth d
-    → (k : ℕ) → k < 4 → AddsIf (axis == k) number (axis_of mid k) (axis_of new k) (of_four a b c d k)
-each_adds axis number mid new a b c d p q r s zero four = p
-each_adds axis number mid new a b c d p q r s (suc zero) four = q
-each_adds axis number mid new a b c d p q r s (suc (suc zero)) four = r
-each_adds axis number mid new a b c d p q r s (suc (suc (suc zero))) four = s
-each_adds axis number mid new a b c d p q r s (suc (suc (suc (suc k)))) four = absurd (omega (arith, four))
+pub each_adds : (axis : ℕ) (number : ℤ) (old new : Base) (a b c d : Bool) → AddsIf (axis == 0) number old.x new.x a → AddsIf (axis == 1) number old.y new.y b → AddsIf (axis == 2) number old.third new.third c → AddsIf (axis == 3) number old.fourth new.fourth d
+    → (k : ℕ) → k < 4 → AddsIf (axis == k) number (axis_in old k) (axis_in new k) (of_four a b c d k)
+each_adds axis number old new a b c d p q r s zero four = p
+each_adds axis number old new a b c d p q r s (suc zero) four = q
+each_adds axis number old new a b c d p q r s (suc (suc zero)) four = r
+each_adds axis number old new a b c d p q r s (suc (suc (suc zero))) four = s
+each_adds axis number old new a b c d p q r s (suc (suc (suc (suc k)))) four = absurd (omega (arith, four))
+
+-- a number that was added to a base with all points was added to the points
+pub added_after : (axes axis : ℕ) (number : ℤ) (old : Extents) (mid new : Base) → axes ≤ 4 → axis < axes
+    → ((k : ℕ) → k < axes → (axis_in mid k).last ≡ last_of old k) → ((k : ℕ) → k < axes → (axis_in mid k).range ≡ range_of axes old k)
+    → AddsToBase axes axis number mid new → AddsNumber axes axis number old (alone new)
+added_after axes axis number old mid new four there last range adds = (
+  λ stays.
+      let p = adds.0 stays in (
+        p.0,
+        λ k few.
+            let last_is : last_from mid no_lanes k ≡ last_of old k = last_there axes mid four k few ∙ last k few in
+            let range_is : range_from axes mid no_lanes k ≡ range_of axes old k = range_there axes mid four k few ∙ range k few in
+            subst (λ (l : ℤ). Grows l (range_of axes old k) (if axis == k then number ∷ [] else []) (last_from new no_lanes k) (range_from axes new no_lanes k)) last_is
+            (subst (λ (r : Option Span). Grows (last_from mid no_lanes k) r (if axis == k then number ∷ [] else []) (last_from new no_lanes k) (range_from axes new no_lanes k)) range_is (p.1 k few)),
+      ),
+  λ leaves fits. adds.1 leaves (subst (λ (l : ℤ). sum_fits (l +ℤ number)) (sym (last_there axes mid four axis there ∙ last axis there)) fits),
+)
 
 -- a sum has left 64 bits now, if one had before
 pub left_now : (before now all : Bool) → before ≡ false → all ≡ before || now → now ≡ all
@@ -164,9 +177,9 @@ column_one axes axis points k before number many there few = go (axis == k) refl
 still_leaves : (axes k : ℕ) (first : Extents) (before all more : List ℤ) → column axes k all ≡ column axes k before ++ more → (Stays (last_of first k) (column axes k before) → ⊥) → Stays (last_of first k) (column axes k all) → ⊥
 still_leaves axes k first before all more is leaves stays = leaves (append-Stays (last_of first k) (column axes k before) more (subst (Stays (last_of first k)) is stays)).0
 
-pub took_one : (axes axis : ℕ) (number : ℤ) (old new : Extents) → axis < axes → (old.has_left ≡ true → new.has_left ≡ true) → (IsHeld axes old → old.has_left ≡ false → AddsNumber axes axis number old new)
+pub took_one : (axes axis : ℕ) (number : ℤ) (old new : Extents) → axis < axes → (has_left old ≡ true → has_left new ≡ true) → (IsHeld axes old → has_left old ≡ false → AddsNumber axes axis number old new)
     → (first : Extents) (before : List ℤ) (points : ℕ) → Took axes first before old → length before ≡ axes * points + axis → Took axes first (before ++ number ∷ []) new
-took_one axes axis number old new there left adds first before points took many = λ held stays. go held stays old.has_left refl
+took_one axes axis number old new there left adds first before points took many = λ held stays. go held stays (has_left old) refl
   where
     all : List ℤ
     all = before ++ number ∷ []
@@ -174,8 +187,8 @@ took_one axes axis number old new there left adds first before points took many 
     columns : (k : ℕ) → k < axes → column axes k all ≡ column axes k before ++ (if axis == k then number ∷ [] else [])
     columns k few = column_one axes axis points k before number many there few
 
-    go : IsHeld axes first → first.has_left ≡ false → (b : Bool) → old.has_left ≡ b
-        → (new.has_left ≡ false → IsHeld axes new × GrowTo axes first all new) × (new.has_left ≡ true → Leaves axes first all)
+    go : IsHeld axes first → has_left first ≡ false → (b : Bool) → has_left old ≡ b
+        → (has_left new ≡ false → IsHeld axes new × GrowTo axes first all new) × (has_left new ≡ true → Leaves axes first all)
     go held stays false is =
         let p = (took held stays).0 is in
         let q = adds p.0 is in (
@@ -193,7 +206,7 @@ took_one axes axis number old new there left adds first before points took many 
         let (k, few, leaves) = (took held stays).1 is in
         (λ now. absurd (cc (sym now ∙ left is)), λ now. (k, few, still_leaves axes k first before all _ (columns k few) leaves))
 
-pub took_more : (axes : ℕ) (more : List ℤ) (old new : Extents) → new.has_left ≡ old.has_left → (IsHeld axes old → old.has_left ≡ false → IsHeld axes new × GrowTo axes old more new)
+pub took_more : (axes : ℕ) (more : List ℤ) (old new : Extents) → has_left new ≡ has_left old → (IsHeld axes old → has_left old ≡ false → IsHeld axes new × GrowTo axes old more new)
     → (first : Extents) (before : List ℤ) (points : ℕ) → Took axes first before old → length before ≡ axes * points + 0 → Took axes first (before ++ more) new
 took_more axes more old new left grow first before points took many = λ held stays. (
   λ now.
@@ -228,24 +241,17 @@ module _ (axes : ℕ) (more : List ℕ) (old new : Lanes) (p : Sees axes more ol
 
 -- the extents with other lanes
 abbrev pub with_lanes : Extents → Lanes → Extents
-with_lanes e lanes = record { lanes = lanes; x = e.x; y = e.y; third = e.third; fourth = e.fourth; is_near = e.is_near; has_left = e.has_left }
-
--- the other lanes don't change the bases
-same_base : (e : Extents) (lanes : Lanes) (k : ℕ) → axis_of (with_lanes e lanes) k ≡ axis_of e k
-same_base e lanes zero = refl
-same_base e lanes (suc zero) = refl
-same_base e lanes (suc (suc zero)) = refl
-same_base e lanes (suc (suc (suc k))) = refl
+with_lanes e lanes = record { lanes = lanes; base = e.base }
 
 twice_on : (more : List ℕ) (old new : Lanes) → Sees 2 more old new → (i : ℕ) → i < 2 → slice_index new.last (2 + i) ≡ slice_index new.last i
 twice_on more old new p zero few = p.last 2 (omega arith) ∙ sym (p.last 0 (omega arith))
 twice_on more old new p (suc zero) few = p.last 3 (omega arith) ∙ sym (p.last 1 (omega arith))
 twice_on more old new p (suc (suc i)) few = absurd (omega (arith, few))
 
-pub seen_held : (axes : ℕ) (more : List ℕ) (e : Extents) (new : Lanes) → Sees axes more e.lanes new → IsHeld axes e → e.is_near ≡ true → IsHeld axes (with_lanes e new)
+pub seen_held : (axes : ℕ) (more : List ℕ) (e : Extents) (new : Lanes) → Sees axes more e.lanes new → IsHeld axes e → (base_of e).is_near ≡ true → IsHeld axes (with_lanes e new)
 seen_held axes more e new p held near = record {
-  fits = λ k few. subst (λ (a : AxisExtent). sum_fits a.last) (sym (same_base e new k)) (held.fits k few);
-  near = λ is k few. subst (λ (a : AxisExtent). IsNearZero a.last) (sym (same_base e new k)) (held.near near k few);
+  fits = held.fits;
+  near = held.near;
   far = λ is. absurd (cc (sym is ∙ near));
   each = λ i few. seen_lane axes more e.lanes new p i few (held.each i few);
   twice = λ two i few. twice_on more e.lanes new (subst (λ (n : ℕ). Sees n more e.lanes new) two p) i few;
@@ -291,7 +297,7 @@ numbers_in_four axes a b c d = if nat_eq axes 3 then a ∷ b ∷ c ∷ [] else a
 pub record SeesFour (axes : ℕ) (a b c d : ℤ) (e : Extents) (new : Lanes) : Type 0 where
   pub sees : Sees axes (map (cast_unsigned w32) (steps axes a b c d)) e.lanes new
   pub held : IsHeld axes e
-  pub near : e.is_near ≡ true
+  pub near : (base_of e).is_near ≡ true
   pub middle : AreMiddle e.lanes
   pub one : IsHalf a
   pub two : IsHalf b
@@ -300,29 +306,29 @@ pub record SeesFour (axes : ℕ) (a b c d : ℤ) (e : Extents) (new : Lanes) : T
 
 two_grow : (a b c d : ℤ) (e : Extents) (new : Lanes) → SeesFour 2 a b c d e new → GrowTo 2 e (a ∷ b ∷ c ∷ d ∷ []) (with_lanes e new)
 two_grow a b c d e new p zero few =
-    grows_after _ _ e.x.range _ _ _ (seen_two 0 few e.x.last a c _ e.lanes new p.sees (p.held.near p.near 0 few) refl refl (half_step a p.one) (both_step a c p.one p.three) p.middle p.held.each (p.held.twice refl 0 few) refl)
+    grows_after _ _ (base_of e).x.range _ _ _ (seen_two 0 few (base_of e).x.last a c _ e.lanes new p.sees (p.held.near p.near 0 few) refl refl (half_step a p.one) (both_step a c p.one p.three) p.middle p.held.each (p.held.twice refl 0 few) refl)
 two_grow a b c d e new p (suc zero) few =
-    grows_after _ _ e.y.range _ _ _ (seen_two 1 few e.y.last b d _ e.lanes new p.sees (p.held.near p.near 1 few) refl refl (half_step b p.two) (both_step b d p.two p.four) p.middle p.held.each (p.held.twice refl 1 few) refl)
+    grows_after _ _ (base_of e).y.range _ _ _ (seen_two 1 few (base_of e).y.last b d _ e.lanes new p.sees (p.held.near p.near 1 few) refl refl (half_step b p.two) (both_step b d p.two p.four) p.middle p.held.each (p.held.twice refl 1 few) refl)
 two_grow a b c d e new p (suc (suc k)) few = absurd (omega (arith, few))
 
 three_grow : (a b c d : ℤ) (e : Extents) (new : Lanes) → SeesFour 3 a b c d e new → GrowTo 3 e (a ∷ b ∷ c ∷ []) (with_lanes e new)
 three_grow a b c d e new p zero few =
-    grows_after _ _ e.x.range _ _ _ (seen_one 3 0 (omega arith) e.x.last a _ e.lanes new p.sees (p.held.near p.near 0 few) refl (half_step a p.one) p.middle (p.held.each 0 (omega arith)) refl)
+    grows_after _ _ (base_of e).x.range _ _ _ (seen_one 3 0 (omega arith) (base_of e).x.last a _ e.lanes new p.sees (p.held.near p.near 0 few) refl (half_step a p.one) p.middle (p.held.each 0 (omega arith)) refl)
 three_grow a b c d e new p (suc zero) few =
-    grows_after _ _ e.y.range _ _ _ (seen_one 3 1 (omega arith) e.y.last b _ e.lanes new p.sees (p.held.near p.near 1 few) refl (half_step b p.two) p.middle (p.held.each 1 (omega arith)) refl)
+    grows_after _ _ (base_of e).y.range _ _ _ (seen_one 3 1 (omega arith) (base_of e).y.last b _ e.lanes new p.sees (p.held.near p.near 1 few) refl (half_step b p.two) p.middle (p.held.each 1 (omega arith)) refl)
 three_grow a b c d e new p (suc (suc zero)) few =
-    grows_after _ _ e.third.range _ _ _ (seen_one 3 2 (omega arith) e.third.last c _ e.lanes new p.sees (p.held.near p.near 2 few) refl (half_step c p.three) p.middle (p.held.each 2 (omega arith)) refl)
+    grows_after _ _ (base_of e).third.range _ _ _ (seen_one 3 2 (omega arith) (base_of e).third.last c _ e.lanes new p.sees (p.held.near p.near 2 few) refl (half_step c p.three) p.middle (p.held.each 2 (omega arith)) refl)
 three_grow a b c d e new p (suc (suc (suc k))) few = absurd (omega (arith, few))
 
 four_grow : (a b c d : ℤ) (e : Extents) (new : Lanes) → SeesFour 4 a b c d e new → GrowTo 4 e (a ∷ b ∷ c ∷ d ∷ []) (with_lanes e new)
 four_grow a b c d e new p zero few =
-    grows_after _ _ e.x.range _ _ _ (seen_one 4 0 (omega arith) e.x.last a _ e.lanes new p.sees (p.held.near p.near 0 few) refl (half_step a p.one) p.middle (p.held.each 0 (omega arith)) refl)
+    grows_after _ _ (base_of e).x.range _ _ _ (seen_one 4 0 (omega arith) (base_of e).x.last a _ e.lanes new p.sees (p.held.near p.near 0 few) refl (half_step a p.one) p.middle (p.held.each 0 (omega arith)) refl)
 four_grow a b c d e new p (suc zero) few =
-    grows_after _ _ e.y.range _ _ _ (seen_one 4 1 (omega arith) e.y.last b _ e.lanes new p.sees (p.held.near p.near 1 few) refl (half_step b p.two) p.middle (p.held.each 1 (omega arith)) refl)
+    grows_after _ _ (base_of e).y.range _ _ _ (seen_one 4 1 (omega arith) (base_of e).y.last b _ e.lanes new p.sees (p.held.near p.near 1 few) refl (half_step b p.two) p.middle (p.held.each 1 (omega arith)) refl)
 four_grow a b c d e new p (suc (suc zero)) few =
-    grows_after _ _ e.third.range _ _ _ (seen_one 4 2 (omega arith) e.third.last c _ e.lanes new p.sees (p.held.near p.near 2 few) refl (half_step c p.three) p.middle (p.held.each 2 (omega arith)) refl)
+    grows_after _ _ (base_of e).third.range _ _ _ (seen_one 4 2 (omega arith) (base_of e).third.last c _ e.lanes new p.sees (p.held.near p.near 2 few) refl (half_step c p.three) p.middle (p.held.each 2 (omega arith)) refl)
 four_grow a b c d e new p (suc (suc (suc zero))) few =
-    grows_after _ _ e.fourth.range _ _ _ (seen_one 4 3 (omega arith) e.fourth.last d _ e.lanes new p.sees (p.held.near p.near 3 few) refl (half_step d p.four) p.middle (p.held.each 3 (omega arith)) refl)
+    grows_after _ _ (base_of e).fourth.range _ _ _ (seen_one 4 3 (omega arith) (base_of e).fourth.last d _ e.lanes new p.sees (p.held.near p.near 3 few) refl (half_step d p.four) p.middle (p.held.each 3 (omega arith)) refl)
 four_grow a b c d e new p (suc (suc (suc (suc k)))) few = absurd (omega (arith, few))
 
 pub four_seen : (axes : ℕ) → IsAxes axes → (a b c d : ℤ) (e : Extents) (new : Lanes) → SeesFour axes a b c d e new → IsHeld axes (with_lanes e new) × GrowTo axes e (numbers_in_four axes a b c d) (with_lanes e new)
@@ -396,7 +402,7 @@ short_half z h = (omega (arith, ints, h.0), omega (arith, ints, h.1))
 
 -- eight lanes of 16 bits
 pub eight_seen : (axes : ℕ) → IsAxes axes → (a b c d e f g h : ℤ) (old : Extents) (mid new : Lanes) → All IsBrief (a ∷ b ∷ c ∷ d ∷ e ∷ f ∷ g ∷ h ∷ [])
-    → Sees axes (map (cast_unsigned w32) (steps axes a b c d)) old.lanes mid → Sees axes (map (cast_unsigned w32) (steps axes e f g h)) mid new → IsHeld axes old → old.is_near ≡ true → HaveRoom old.lanes
+    → Sees axes (map (cast_unsigned w32) (steps axes a b c d)) old.lanes mid → Sees axes (map (cast_unsigned w32) (steps axes e f g h)) mid new → IsHeld axes old → (base_of old).is_near ≡ true → HaveRoom old.lanes
     → IsHeld axes (with_lanes old new) × GrowTo axes old (points_in axes (a ∷ b ∷ c ∷ d ∷ e ∷ f ∷ g ∷ h ∷ [])) (with_lanes old new)
 eight_seen axes is a b c d e f g h old mid new brief first second held near room =
     let one : IsBrief a = brief 0 (pos 0) (omega arith) in
@@ -456,7 +462,7 @@ one_point_alone a b c d e f none none' p (suc (suc k)) few = absurd (omega (arit
 
 -- up to four lanes of 32 bits
 pub wide_seen : (axes many : ℕ) → IsAxes axes → (many ≡ axes) ⊎ ((axes ≡ 2) × (many ≡ 4)) → (a b c d : ℤ) (old : Extents) (new : Lanes) → All IsShort (a ∷ b ∷ c ∷ d ∷ []) → drop many (a ∷ b ∷ c ∷ d ∷ []) ≡ replicate (4 - many) (pos 0)
-    → Sees axes (map (cast_unsigned w32) (steps axes a b c d)) old.lanes new → IsHeld axes old → old.is_near ≡ true → HaveRoom old.lanes
+    → Sees axes (map (cast_unsigned w32) (steps axes a b c d)) old.lanes new → IsHeld axes old → (base_of old).is_near ≡ true → HaveRoom old.lanes
     → IsHeld axes (with_lanes old new) × GrowTo axes old (take many (a ∷ b ∷ c ∷ d ∷ [])) (with_lanes old new)
 wide_seen axes many is whole a b c d old new short zeros sees held near room =
     let one : IsShort a = short 0 (pos 0) (omega arith) in

@@ -1,5 +1,5 @@
 -- Runs of points of two axes, whose sums are locals.
-use Rattle.std.proofs.Common.{◌≡◌, ℕ, ◌+◌, ◌^◌, [], ◌∷◌, length, drop, set, slice_index_or, ℤ, pos, negsuc, neg_ℤ, ◌+ℤ◌, ◌≤ℤ◌, ◌<ℤ◌, Ok, refl, sym, ap, ap₂, subst, ◌∙◌, arith}
+use Rattle.std.proofs.Common.{◌≡◌, ℕ, ◌+◌, ◌^◌, [], ◌∷◌, length, drop, slice_index_or, ℤ, pos, negsuc, neg_ℤ, ◌+ℤ◌, ◌≤ℤ◌, ◌<ℤ◌, Ok, refl, sym, ap, ap₂, subst, ◌∙◌, arith}
 use Rattle.std.proofs.lemmas.Int.{ints}
 use mir.Val.{SFits}
 use Rattle.std.specs.Int.{w64}
@@ -79,18 +79,3 @@ module _ {S : Type 0} (step : S → PointValue → S) (start : Trail) (state : S
   flat_goes_on x y x_more y_more x_next y_next now next r new i spells moved x_fits y_fits x_is y_is step_is run =
       let pair = pair_read x y x_more y_more r new spells moved x_fits y_fits in
       flat_adds x y x_more y_more x_next y_next now next r pair.0 new i pair.1 pair.2 x_is y_is step_is run
-
-  -- a run that is written back to the trail is a run
-  pub flat_ends : (x y : ℤ) (now : S) (r : Reading) (i : ℕ) (after : Trail) (left : S) → length start.last ≡ 4 → after ≡ record { last = set (set start.last 0 x) 1 y; points = start.points + i }
-      → left ≡ now → IsFlatRun x y now r i → IsRun step 2 start after state left from r i
-  flat_ends x y now r i after left four is left_is run =
-      subst (λ (t : Trail). IsRun step 2 start t state left from r i) (same ∙ sym is)
-      (subst (λ (u : S). IsRun step 2 start (flat_trail start x y i) state u from r i) (sym left_is) run)
-    where
-      two_set : (s : PointValue) → length s ≡ 4 → x ∷ y ∷ drop 2 s ≡ set (set s 0 x) 1 y
-      two_set [] e = absurd (omega (arith, e))
-      two_set (a ∷ []) e = absurd (omega (arith, e))
-      two_set (a ∷ b ∷ s) e = refl
-
-      same : flat_trail start x y i ≡ record { last = set (set start.last 0 x) 1 y; points = start.points + i }
-      same = λ j. record { last = two_set start.last four j; points = start.points + i }

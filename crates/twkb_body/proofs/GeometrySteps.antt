@@ -9,20 +9,15 @@ use Rattle.twkb_head.specs.BegunHeader.{is_collection}
 use Rattle.twkb_head.specs.Head.{bounds_of, head_of, IsHeadAt}
 use Rattle.twkb_head.specs.Shared.HeadPlan.{HeadValue, head_plan}
 use Rattle.twkb_head.specs.Shared.Reader.{Answer, Reader, ◌>>=◌, viewed, read, Fails}
-use Rattle.twkb_body.specs.declared.found.Found.{Found}
-use Rattle.twkb_body.specs.declared.inside.Inside.{Inside}
-use Rattle.twkb_body.specs.declared.seen.Seen.{Seen}
 use Rattle.twkb_body.specs.Geometry.{Geometry, Members, Lengths, points_of, vertex_of, vertices}
 use Rattle.twkb_body.specs.Extent.{Reach, reach_of, both}
 use Rattle.twkb_body.specs.Devices.Body.{Body, no_body, geometry_from}
 use Rattle.twkb_body.specs.Devices.BodyReader.{spanned, shape_at, body_at, parts_at, geometry_by, geometry_at, members_under}
 use Rattle.twkb_body.specs.Devices.Pass.{NamesFirstOf, MemberSums, Sums, first, false_at, is_within, is_tight, ids_refused}
 use Rattle.twkb_body.proofs.TreeSums.{nothing, over, size_refused, box_refused}
-use Rattle.twkb_body.specs.Devices.Found.{named, size_judged, box_judged, IsFound}
-use Rattle.twkb_body.specs.Devices.Seen.{HasSeen}
-use Rattle.twkb_body.specs.Devices.Inside.{of_head, IsInside}
+use Rattle.twkb_body.specs.Devices.Found.{Found, size_judged, box_judged, IsFound}
+use Rattle.twkb_body.specs.Devices.Inside.{Inside, of_head, first_inside, IsInside}
 use Rattle.twkb_body.proofs.Passes.{over_sums, none_sums}
-use Rattle.twkb_body.proofs.Reaches.{both-none}
 
 geometry_is : (levels : ℕ) (r : Reading) → geometry_at levels r ≡ geometry_by levels (members_under levels) r
 unfolding geometry_at
@@ -95,18 +90,22 @@ body_of_head head h start size_place box_place stop e members r =
     same false true = refl
     same false false = shape (is_multi h.kind)
 
--- nothing is found in an empty body, and nothing is seen
-pub nothing_inside : (tight : Bool) (h : Header) (bounds : Option BoxField) (place : ℕ) (above : Seen) (inside : Inside) → inside.found.vertices ≡ 0 → inside.found.refused ≡ None
-    → named inside.boxed ≡ box_judged tight h bounds (reach_of []) → inside.ids ≡ None → IsInside tight h bounds no_body place place above above inside
-nothing_inside tight h bounds place above inside v r boxed n = record {
+-- nothing is found in an empty body
+abbrev pub nothing_found : Inside
+nothing_found = record { found = record { vertices = 0; refused = None }; boxed = None; ids = None }
+
+-- nothing is found in an empty body, where no vertices were seen
+pub nothing_inside : (tight : Bool) (h : Header) (bounds : Option BoxField) (place : ℕ) (Saw : Reach → Type 0) → Saw (reach_of []) → None ≡ box_judged tight h bounds (reach_of [])
+    → IsInside tight h bounds no_body place place Saw nothing_found
+nothing_inside tight h bounds place Saw saw boxed = record {
   below = nothing;
   members = none_sums tight (place + 0);
-  vertices = v;
+  vertices = refl;
   boxed = boxed;
-  seen = record { asked = refl; extent = λ t. sym (both-none above.extent) };
-  refused = ap named r;
-  ids = ap named n;
-  few = omega (arith, v);
+  seen = saw;
+  refused = refl;
+  ids = refl;
+  few = omega arith;
 }
 
 -- ---- the geometry, judged
@@ -135,12 +134,12 @@ module _ (tight : Bool) (head : Head) (depth : ℕ) (r a new : Reading) (at : Is
           let box = bounds_of at.header.xy at.header.z at.header.m ranges in
           ap₂ (λ (x : Reach) (p : ℕ). first (false_at (is_within x box) p 7) (cond tight (false_at (is_tight at.header.xy at.header.z at.header.m box x) p 9) None)) e place
 
-  pub geometry_found : a.place ≤ new.place → (b : Body) (inside : Inside) (above after : Seen) (judged : Found) → IsInside tight (of_head head) head.bounds b a.place new.place above after inside
+  pub geometry_found : a.place ≤ new.place → (b : Body) (inside : Inside) (Saw : Reach → Type 0) (judged : Found) → IsInside tight (of_head head) head.bounds b a.place new.place Saw inside
       → judged.vertices ≡ inside.found.vertices
-      → named judged.refused ≡ first (size_judged head.size new.place) (first (named inside.boxed) (first (named inside.ids) (named inside.found.refused)))
+      → judged.refused ≡ first (size_judged head.size new.place) (first_inside inside)
       → IsFound tight (geometry_from ((record { header = at.header; before = 2 + length at.is.extended_bytes; size = length at.is.size_bytes }, a.place - r.place), b) (new.place - r.place)) r.place new.place judged
-      × HasSeen above after (reach_of (vertices (geometry_from ((record { header = at.header; before = 2 + length at.is.extended_bytes; size = length at.is.size_bytes }, a.place - r.place), b) (new.place - r.place))))
-  geometry_found ahead b inside above after judged i counted refused =
+      × Saw (reach_of (vertices (geometry_from ((record { header = at.header; before = 2 + length at.is.extended_bytes; size = length at.is.size_bytes }, a.place - r.place), b) (new.place - r.place))))
+  geometry_found ahead b inside Saw judged i counted refused =
       let g : Geometry = geometry_from ((record { header = at.header; before = 2 + length at.is.extended_bytes; size = length at.is.size_bytes }, a.place - r.place), b) (new.place - r.place) in
       let l : Lengths = record { before = 2 + length at.is.extended_bytes; size = length at.is.size_bytes; header = a.place - r.place; count = b.count; list = b.list; whole = new.place - r.place } in
       let own = reach_of (map (vertex_of at.header) (points_of b.polygons)) in
@@ -148,7 +147,7 @@ module _ (tight : Bool) (head : Head) (depth : ℕ) (r a new : Reading) (at : Is
       let below : MemberSums tight b.members (r.place + l.header + l.list) i.below = subst (λ (p : ℕ). MemberSums tight b.members (p + b.list) i.below) body i.members in
       let same : both (reach_of (map (vertex_of (of_head head)) (points_of b.polygons))) i.below.reach ≡ both own i.below.reach =
       ap (λ (h : Head). both (reach_of (map (vertex_of (of_head h)) (points_of b.polygons))) i.below.reach) at.fields in
-      let named_first : named judged.refused ≡ (over tight at.header l b.ids r.place (length (points_of b.polygons)) own i.below).refused =
+      let named_first : judged.refused ≡ (over tight at.header l b.ids r.place (length (points_of b.polygons)) own i.below).refused =
       refused ∙ (λ j. first (size_same l refl refl refl j) (first ((i.boxed ∙ box_same l _ (both own i.below.reach) refl refl same) j)
       (first ((i.ids ∙ ap (λ (p : ℕ). ids_refused (p + b.count) b.ids) body) j) (i.refused j)))) in
       let all : Sums tight g r.place (over tight at.header l b.ids r.place (length (points_of b.polygons)) own i.below) = over_sums tight at.header l b.ids b.polygons b.members r.place i.below below in (
@@ -161,5 +160,5 @@ module _ (tight : Bool) (head : Head) (depth : ℕ) (r a new : Reading) (at : Is
           stop_is = omega (arith, moved.ahead, ahead);
           few = omega (arith, counted, i.few, moved.ahead);
         },
-        record { asked = i.seen.asked; extent = λ t. i.seen.extent t ∙ ap (both above.extent) (same ∙ all.reach) },
+        subst Saw (same ∙ all.reach) i.seen,
       )

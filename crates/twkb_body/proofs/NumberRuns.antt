@@ -11,13 +11,13 @@
 -- coordinate_is, within_fits, fits_within: coordinates as items of a vector, and sums that fit as bounds.
 -- run_stays, run_leaves: if points can be read, the sums of each axis stay within 64 bits.
 -- run_ends_early: if fewer numbers were read, and then there is a fault, the points can't be read.
-use Rattle.std.proofs.Common.{◌≡◌, ℕ, zero, suc, ◌+◌, ◌-◌, ◌*◌, ◌^◌, ◌<◌, ◌≤◌, inl, inr, Bool, true, false, List, [], ◌∷◌, ◌++◌, length, fold, map, take, drop, replicate, slice_index_or, ℤ, pos, negsuc, neg_ℤ, ◌+ℤ◌, ◌≤ℤ◌, ◌<ℤ◌, Ok, refl, sym, ap, ap₂, subst, ◌∙◌, arith, append_assoc, length-append, length-drop}
+use Rattle.std.proofs.Common.{◌≡◌, ℕ, zero, suc, ◌+◌, ◌-◌, ◌*◌, ◌^◌, ◌<◌, ◌≤◌, inl, inr, Bool, true, false, List, [], ◌∷◌, ◌++◌, length, fold, map, take, drop, ℤ, pos, neg_ℤ, ◌+ℤ◌, ◌≤ℤ◌, ◌<ℤ◌, Ok, refl, sym, ap, ap₂, subst, ◌∙◌, arith, append_assoc, length-append, length-drop}
 use Rattle.std.specs.Prelude.{◌≢◌}
 use Rattle.std.proofs.Math.Nat.{mul-add, mul-suc, mul-le-mul_left, mul-le-mul_right}
-use Rattle.std.proofs.lemmas.Bool.{cases_lt, ltb-true}
+use Rattle.std.proofs.lemmas.Bool.{cases_lt}
 use Rattle.std.proofs.lemmas.Grind.{common_steps}
 use Rattle.std.proofs.lemmas.Int.{ints}
-use Rattle.std.proofs.lemmas.List.{append-nil, length-take, length-take-le, take-append-drop}
+use Rattle.std.proofs.lemmas.List.{append-nil, length-take-le, take-append-drop}
 use Rattle.twkb_num.specs.Cursor.{Reading, passed, IsMoved, IsSound}
 use Rattle.twkb_num.specs.Numbers.{ReadsNumbers, StopsAt}
 use Rattle.twkb_num.specs.Varint.{IsSigned, SpellsAllSigned}
@@ -25,7 +25,7 @@ use Rattle.twkb_num.specs.declared.varint.NumFault.{NumFault}
 use Rattle.twkb_num.proofs.CursorLemmas.{IsSound-moved}
 use Rattle.twkb_num.proofs.PairLaws.{IsMoved-two}
 use Rattle.twkb_head.specs.Shared.Plan.{fits}
-use Rattle.twkb_head.specs.Shared.Reader.{Answer, many_at, signed_at, coordinate_at, signeds_at}
+use Rattle.twkb_head.specs.Shared.Reader.{Answer, many_at, signed_at, coordinate_at}
 use Rattle.twkb_head.specs.Refusal.{why_of}
 use Rattle.twkb_head.specs.declared.refusal.Why.TheVariants.{Range}
 use Rattle.twkb_head.proofs.Readings.{ok_not_err, one_answer}
@@ -194,13 +194,6 @@ read_split a c xs ys r =
       record { spelled = subst (λ (ds : List ℕ). SpellsAllSigned ds ys) (sym way.4) t; moved = way.2 },
     )
 
--- numbers that a cursor read are signed numbers that are read
-pub numbers_read : (a b : Reading) (zs : List ℤ) → IsSound a → ReadsNumbers a b zs → signeds_at (length zs) a ≡ (Ok zs, b)
-numbers_read a b [] sound r = ap (λ (q : Reading). (Ok [], q)) (moved_none a b sound r.moved r.spelled)
-numbers_read a b (z ∷ zs) sound r =
-    let (mid, there, one, rest) = read_first a b z zs r in
-    many_then (λ (s z : ℤ). s) (λ (s : ℤ). signed_at) (length zs) (pos 0) a mid z (Ok zs, b) one (numbers_read mid b zs (IsSound-moved a mid sound there) rest)
-
 -- the numbers of a point, and the others
 read_row : (axes : ℕ) (a c : Reading) (zs : List ℤ) → ReadsNumbers a c zs → (b : Reading) × ReadsNumbers a b (take axes zs) × ReadsNumbers b c (drop axes zs)
 read_row axes a c zs r = read_split a c (take axes zs) (drop axes zs) (subst (ReadsNumbers a c) (sym (take-append-drop axes zs)) r)
@@ -260,53 +253,6 @@ sums_column axes (suc n) k s zs whole few =
     ∙ ap (λ (c : ℤ). fold ◌+ℤ◌ c (column axes k (drop axes zs))) (added_at s (take axes zs) k)
     ∙ ap (fold ◌+ℤ◌ (coordinate s k)) (sym (column_cut axes k zs long few))
 
--- a point has no coordinate beyond its axes
-none_at : (p : PointValue) (k : ℕ) → length p ≤ k → coordinate p k ≡ pos 0
-none_at [] k few = refl
-none_at (c ∷ p) zero few = absurd (omega (arith, few))
-none_at (c ∷ p) (suc k) few = none_at p k (omega (arith, few))
-
--- adding a point leaves the coordinates beyond its axes
-added_beyond : (axes k : ℕ) (s : PointValue) (zs : List ℤ) → axes ≤ k → coordinate (add s (take axes zs)) k ≡ coordinate s k
-added_beyond axes k s zs beyond =
-    let none = none_at (take axes zs) k (omega (arith, beyond, length-take axes zs)) in
-    added_at s (take axes zs) k ∙ ap (λ (c : ℤ). coordinate s k +ℤ c) none ∙ omega (arith, ints)
-
--- a coordinate beyond the axes stays
-pub sums_beyond : (axes n k : ℕ) (s : PointValue) (zs : List ℤ) → axes ≤ k → coordinate (sums s (rows axes n zs)) k ≡ coordinate s k
-sums_beyond axes zero k s zs beyond = refl
-sums_beyond axes (suc n) k s zs beyond = sums_beyond axes n k (add s (take axes zs)) (drop axes zs) beyond ∙ added_beyond axes k s zs beyond
-
-length_added : (s p : PointValue) → length p ≤ length s → length (add s p) ≡ length s
-length_added s [] few = refl
-length_added [] (n ∷ p) few = absurd (omega (arith, few))
-length_added (c ∷ s) (n ∷ p) few = ap suc (length_added s p (omega (arith, few)))
-
--- there are as many sums as before
-pub length_sums : (axes n : ℕ) (s : PointValue) (zs : List ℤ) → axes ≤ length s → length (sums s (rows axes n zs)) ≡ length s
-length_sums axes zero s zs few = refl
-length_sums axes (suc n) s zs few =
-    let same = length_added s (take axes zs) (omega (arith, few, length-take axes zs)) in
-    length_sums axes n (add s (take axes zs)) (drop axes zs) (omega (arith, few, same)) ∙ same
-
--- points of as many coordinates, which are the same, are the same
-same_coordinates : (p q : PointValue) → length p ≡ length q → ((k : ℕ) → k < length q → coordinate p k ≡ coordinate q k) → p ≡ q
-same_coordinates [] [] long each = refl
-same_coordinates [] (d ∷ q) long each = absurd (omega (arith, long))
-same_coordinates (c ∷ p) [] long each = absurd (omega (arith, long))
-same_coordinates (c ∷ p) (d ∷ q) long each =
-    ap₂ (λ (e : ℤ) (es : PointValue). e ∷ es) (each 0 (omega arith)) (same_coordinates p q (omega (arith, long)) (λ k lt. each (suc k) (omega (arith, lt))))
-
--- coordinates that are the sums of their columns, and that stay beyond the axes, are the ones after the points
-pub sums_are : (axes n : ℕ) (s p : PointValue) (zs : List ℤ) → length zs ≡ axes * n → axes ≤ length s → length p ≡ length s → ((k : ℕ) → k < axes → coordinate p k ≡ fold ◌+ℤ◌ (coordinate s k) (column axes k zs))
-    → ((k : ℕ) → axes ≤ k → k < length s → coordinate p k ≡ coordinate s k) → p ≡ sums s (rows axes n zs)
-sums_are axes n s p zs whole few long within beyond =
-    let many = length_sums axes n s zs few in
-    same_coordinates p (sums s (rows axes n zs)) (long ∙ sym many) (λ k lt. elim (cases_lt k axes) [
-      | inl here ↦ within k here ∙ sym (sums_column axes n k s zs whole here)
-      | inr there ↦ beyond k there (omega (arith, lt, many)) ∙ sym (sums_beyond axes n k s zs there)
-    ])
-
 -- the coordinates of the points on an axis are the running sums of its column
 pub lasts_column : (axes n k : ℕ) (s : PointValue) (zs : List ℤ) → length zs ≡ axes * n → k < axes
     → map (λ (p : PointValue). coordinate p k) (lasts_from s (rows axes n zs)) ≡ running (coordinate s k) (column axes k zs)
@@ -317,13 +263,6 @@ lasts_column axes (suc n) k s zs whole few =
     ap (λ (cs : List ℤ). coordinate (add s (take axes zs)) k ∷ cs) (lasts_column axes n k (add s (take axes zs)) (drop axes zs) left few)
     ∙ ap (λ (c : ℤ). c ∷ running c (column axes k (drop axes zs))) (added_at s (take axes zs) k)
     ∙ ap (running (coordinate s k)) (sym (column_cut axes k zs long few))
-
--- beyond the axes all points have the coordinate from before them
-pub lasts_beyond : (axes n k : ℕ) (s : PointValue) (zs : List ℤ) → axes ≤ k → map (λ (p : PointValue). coordinate p k) (lasts_from s (rows axes n zs)) ≡ replicate n (coordinate s k)
-lasts_beyond axes zero k s zs beyond = refl
-lasts_beyond axes (suc n) k s zs beyond =
-    let same = added_beyond axes k s zs beyond in
-    ap₂ (λ (c : ℤ) (cs : List ℤ). c ∷ cs) same (lasts_beyond axes n k (add s (take axes zs)) (drop axes zs) beyond ∙ ap (replicate n) same)
 
 -- numbers that were read are a run of points, if the sums of each axis stay within 64 bits
 pub run_walked : {S : Type 0} (step : S → PointValue → S) (axes n : ℕ) (old new : Trail) (state state' : S) (a b : Reading) (zs : List ℤ) → 1 ≤ axes → IsSound a → ReadsNumbers a b zs → length zs ≡ axes * n
@@ -342,19 +281,9 @@ run_walked step axes n old new state state' a b zs some sound r whole stay last 
   };
 }
 
--- the coordinate of a vector of four is its item
-pub coordinate_is : (s : PointValue) (k : ℕ) → slice_index_or s k (pos 0) ≡ coordinate s k
-coordinate_is [] k = refl
-coordinate_is (c ∷ s) zero = refl
-coordinate_is (c ∷ s) (suc k) = coordinate_is s k
-
 -- ---- which sums fit
 pub within_fits : (z : ℤ) → neg_ℤ (pos (2 ^ 63)) ≤ℤ z → z <ℤ pos (2 ^ 63) → sum_fits z
 within_fits z low high = fits_true z (has_64_bits z low high)
-
-pub fits_within : (z : ℤ) → sum_fits z → (neg_ℤ (pos (2 ^ 63)) ≤ℤ z) × (z <ℤ pos (2 ^ 63))
-fits_within (pos n) fit = let lt : n < 2 ^ 63 = ltb-true n (2 ^ 63) fit in (omega (arith, ints), omega (arith, ints, lt))
-fits_within (negsuc n) fit = let lt : n < 2 ^ 63 = ltb-true n (2 ^ 63) fit in (omega (arith, ints, lt), omega (arith, ints))
 
 -- ---- points that can be read, back to their numbers
 -- a coordinate that is read has a sum that fits

@@ -234,22 +234,10 @@ module _ {S : Type 0} (step : S → PointValue → S) (at : Stage S) where
                 ∙ (λ j. fold step (sym l.walked.added j) (lasts_from (sym l.walked.last j) (flat_map points_in ys))),
           )
 
-      -- if these lead to an end, all do
-      pub rest_leads : (ends : S → Type 0) → Leads (many_at (count - i) after each) all_points step ends now.last t r → Leads (many_at count after each) all_points step ends at.trail.last at.state from
-      rest_leads ends leads xs stop e =
-          let o = others xs stop e in
-          subst ends (sym o.2) (leads o.0 stop o.1)
-
       module _ (ends : S → Type 0) (lasts : (s : S) (p : PointValue) → ends s → ends (step s p)) where
         ends_on : (s : S) (points : List PointValue) → ends s → ends (fold step s points)
         ends_on s [] end = end
         ends_on s (p ∷ points) end = ends_on (step s p) points (lasts s p end)
-
-        -- if the points so far lead to an end, all do
-        pub loop_leads : ends t → Leads (many_at count after each) all_points step ends at.trail.last at.state from
-        loop_leads end xs stop e =
-            let o = others xs stop e in
-            subst ends (sym o.2) (ends_on t (lasts_from now.last (flat_map points_in o.0)) end)
 
         -- if the next value leads to an end, all do
         pub next_leads : i < count → Leads each points_in step ends now.last t r → Leads (many_at count after each) all_points step ends at.trail.last at.state from

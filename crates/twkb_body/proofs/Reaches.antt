@@ -68,6 +68,25 @@ joined-none (Some a) = refl
 pub both-none : (r : Reach) → both r (reach_of []) ≡ r
 both-none r = λ j. record { x = joined-none r.x j; y = joined-none r.y j; z = joined-none r.z j; m = joined-none r.m j }
 
+-- the lesser of two numbers doesn't depend on their order
+int_min-comm : (a b : ℤ) → int_min a b ≡ int_min b a
+int_min-comm a b = omega (arith, ints, clamps)
+
+-- the greater of two numbers doesn't depend on their order
+int_max-comm : (a b : ℤ) → int_max a b ≡ int_max b a
+int_max-comm a b = omega (arith, ints, clamps)
+
+-- two ranges joined don't depend on their order
+swapped : (a b : Option Span) → joined a b ≡ joined b a
+swapped None None = refl
+swapped None (Some b) = refl
+swapped (Some a) None = refl
+swapped (Some a) (Some b) = (λ j. Some (record { lo = int_min-comm a.lo b.lo j; hi = int_max-comm a.hi b.hi j }))
+
+-- the reach of both doesn't depend on their order
+pub both-comm : (a b : Reach) → both a b ≡ both b a
+both-comm a b = (λ j. record { x = swapped a.x b.x j; y = swapped a.y b.y j; z = swapped a.z b.z j; m = swapped a.m b.m j })
+
 -- ---- boxes
 least_above : (a b low : ℤ) → (low ≤ℤ int_min a b → (low ≤ℤ a) × (low ≤ℤ b))
 least_above a b low h = (omega (arith, ints, clamps), omega (arith, ints, clamps))

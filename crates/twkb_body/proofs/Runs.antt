@@ -1,5 +1,5 @@
 -- Runs of points: many points read at once, within a loop over more, and one more point after a run.
-use Rattle.std.proofs.Common.{◌≡◌, ℕ, zero, suc, ◌+◌, ◌≤◌, List, [], ◌∷◌, ◌++◌, flat_map, Ok, Err, refl, sym, ap, ap₂, subst, ◌∙◌, append_assoc, arith, length-append}
+use Rattle.std.proofs.Common.{◌≡◌, ℕ, zero, suc, ◌+◌, ◌≤◌, List, [], ◌∷◌, ◌++◌, flat_map, Ok, Err, refl, sym, ap, subst, ◌∙◌, append_assoc, arith, length-append}
 use Rattle.std.proofs.lemmas.List.{append-nil}
 use Rattle.std.proofs.lemmas.Grind.{flat_map-append}
 use Rattle.twkb_num.specs.Cursor.{Reading}
@@ -84,22 +84,4 @@ module _ {S : Type 0} (step : S → PointValue → S) (axes : ℕ) where
         read = loop_ends add (point_at axes) (i + 1) total (run.numbers ++ p ∷ []) (0 + i + 1) (add now.last p) new (omega arith)
             (loop_goes_on add (point_at axes) (i + 1) total run.numbers (0 + i) now.last r new p (omega arith) one here);
         walked = walked_then step axes start now next s t u from.place r.place new.place run.numbers (p ∷ []) run.walked walked;
-      }
-
-  -- a run and another after it are a run
-  pub run_append : (start now next : Trail) (s t u : S) (from r new : Reading) (i k : ℕ) → IsRun step axes start now s t from r i → IsRun step axes now next t u r new k → IsRun step axes start next s u from new (i + k)
-  run_append start now next s t u from r new i k run more =
-      let total = many_at (i + k) add (point_at axes) start.last from in
-      let begun : IsLoop add (point_at axes) (i + k) total [] 0 start.last from = loop_begins add (point_at axes) (i + k) total start.last from refl in
-      let there : IsLoop add (point_at axes) (i + k) total ([] ++ run.numbers) (0 + i) (after_all add start.last run.numbers) r =
-      goes_far add (point_at axes) (i + k) total i [] 0 start.last from r run.numbers (omega arith) run.read begun in
-      let here : IsLoop add (point_at axes) (i + k) total run.numbers (0 + i) now.last r =
-      subst (λ (s : PointValue). IsLoop add (point_at axes) (i + k) total run.numbers (0 + i) s r) (after_points start.last run.numbers ∙ sym run.walked.last) there in
-      let far : IsLoop add (point_at axes) (i + k) total (run.numbers ++ more.numbers) (0 + i + k) (after_all add now.last more.numbers) new =
-      goes_far add (point_at axes) (i + k) total k run.numbers (0 + i) now.last r new more.numbers (omega arith) more.read here in
-      record {
-        numbers = run.numbers ++ more.numbers;
-        many = length-append run.numbers more.numbers ∙ ap₂ (λ (m n : ℕ). m + n) run.many more.many;
-        read = loop_ends add (point_at axes) (i + k) total (run.numbers ++ more.numbers) (0 + i + k) (after_all add now.last more.numbers) new (omega arith) far;
-        walked = walked_then step axes start now next s t u from.place r.place new.place run.numbers more.numbers run.walked more.walked;
       }

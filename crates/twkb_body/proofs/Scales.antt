@@ -6,11 +6,12 @@ use Rattle.std.specs.Int.{int_min, int_max}
 use Rattle.std.specs.Prelude.{option_map}
 use Rattle.std.specs.List.{cons_option}
 use Rattle.twkb_num.specs.Units.{units_of}
+use Rattle.twkb_head.specs.declared.boxes.Span.{Span}
 use Rattle.twkb_head.specs.declared.boxes.Vertex.{Vertex}
 use Rattle.twkb_head.specs.Header.{Header}
 use Rattle.twkb_head.specs.Head.{m_axis}
 use Rattle.twkb_body.specs.Geometry.{PointValue, coordinate, vertex_of}
-use Rattle.twkb_body.specs.Extent.{Reach, reach_of, span_of, both}
+use Rattle.twkb_body.specs.Extent.{Reach, reach_of, span_of, both, joined}
 use Rattle.twkb_body.specs.Devices.Ranges.{scaled, scaled_if, raw_of, widened, reach_in_units}
 use Rattle.twkb_body.proofs.Reaches.{reach_of-append, both-assoc, both-none}
 
@@ -59,6 +60,20 @@ span_times p (c ∷ cs) =
     let least = fold_min_times (10 ^ unsigned_abs (pos 7 -ℤ p)) c cs in
     let greatest = fold_max_times (10 ^ unsigned_abs (pos 7 -ℤ p)) c cs in
     cc
+
+-- joining two ranges and scaling the whole is scaling both and joining them
+pub scaled_joined : (p : ℤ) (a b : Option Span) → scaled p (joined a b) ≡ joined (scaled p a) (scaled p b)
+scaled_joined p None b = refl
+scaled_joined p (Some a) None = refl
+scaled_joined p (Some a) (Some b) =
+    let least = min_times (10 ^ unsigned_abs (pos 7 -ℤ p)) a.lo b.lo in
+    let greatest = max_times (10 ^ unsigned_abs (pos 7 -ℤ p)) a.hi b.hi in
+    cc
+
+-- `scaled_joined` for an axis that may have no precision
+pub scaled_if_joined : (p : Option ℕ) (a b : Option Span) → scaled_if p (joined a b) ≡ joined (scaled_if p a) (scaled_if p b)
+scaled_if_joined None a b = refl
+scaled_if_joined (Some p) a b = scaled_joined (pos p) a b
 
 -- ---- the points under one header
 module _ (h : Header) where

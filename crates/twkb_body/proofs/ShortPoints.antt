@@ -1,5 +1,5 @@
 -- Points of X and Y with or without a size, passed by their first bytes and the ends of two numbers.
-use Rattle.std.proofs.Common.{◌≡◌, ◌≢◌, ◌⊎◌, inl, inr, ℕ, ◌-◌, ◌/◌, ◌%◌, ◌≤◌, ◌==◌, ℤ, Bool, true, false, List, [], ◌∷◌, ◌++◌, length, Option, Some, None, Ok, refl, sym, ap, ◌∙◌, arith}
+use Rattle.std.proofs.Common.{◌≡◌, ◌≢◌, ◌⊎◌, inl, inr, ℕ, ◌-◌, ◌/◌, ◌%◌, ◌≤◌, ◌==◌, ℤ, Bool, true, false, List, [], ◌∷◌, ◌++◌, length, fold, Option, Some, None, Ok, refl, sym, ap, ◌∙◌, arith}
 use Rattle.std.proofs.lemmas.Bool.Decides.{eqb_tells}
 use Rattle.std.proofs.lemmas.Grind.{common_steps}
 use Rattle.twkb_num.specs.Cursor.{Reading, passed, IsMoved, IsSound}
@@ -11,17 +11,46 @@ use Rattle.twkb_head.specs.declared.header.SizeField.{SizeField}
 use Rattle.twkb_head.specs.declared.kinds.Kind.TheVariants.{Point}
 use Rattle.twkb_head.specs.declared.raw.Fields.{Fields}
 use Rattle.twkb_head.specs.declared.read.Begun.{Begun}
-use Rattle.twkb_head.specs.Raw.{BeginsHead, head_said, boxless}
+use Rattle.twkb_head.specs.BegunHeader.{deepest}
+use Rattle.twkb_head.specs.declared.header.Head.{Head}
+use Rattle.twkb_head.specs.Raw.{BeginsHead, head_said}
 use Rattle.twkb_head.specs.Devices.HeadReader.{rest_at}
 use Rattle.twkb_head.specs.Shared.Reader.{number_at}
+use Rattle.twkb_head.proofs.HeadBack.{head_value}
 use Rattle.twkb_head.proofs.HeadSteps.{first_allowed, rest_is}
 use Rattle.twkb_head.proofs.Rests.{rest_reads}
 use Rattle.twkb_head.proofs.Steps.{read_number}
-use Rattle.twkb_body.specs.Devices.Found.{size_judged}
-use Rattle.twkb_body.specs.Devices.Pass.{false_at}
-use Rattle.twkb_body.specs.Devices.Sure.{Certifies}
+use Rattle.twkb_body.specs.Devices.Inside.{Inside}
+use Rattle.twkb_body.specs.Geometry.{Geometry, points_of}
+use Rattle.twkb_body.specs.Extent.{Reach, reach_of}
+use Rattle.twkb_body.specs.Devices.Body.{ListHead, zeros, parts_body}
+use Rattle.twkb_body.specs.Devices.BodyReader.{geometry_at, members_under}
+use Rattle.twkb_body.specs.Devices.Found.{Found, size_judged, IsFound}
+use Rattle.twkb_body.specs.Devices.IdLists.{IsListFound}
+use Rattle.twkb_body.specs.Devices.Inside.{of_head}
+use Rattle.twkb_body.specs.Devices.Pass.{first as earlier, false_at}
+use Rattle.twkb_body.specs.Devices.Ranges.{widened}
+use Rattle.twkb_body.specs.Devices.Walk.{no_points, lasts_from}
 use Rattle.twkb_body.proofs.BareRuns.{single_points_lead, parts_read}
-use Rattle.twkb_body.proofs.FirstReading.{bare_certifies}
+use Rattle.twkb_body.proofs.GeometrySteps.{body_gives, shape_body, body_of_head, geometry_found}
+use Rattle.twkb_body.proofs.ShapeSteps.{shape_of_parts}
+
+-- this many vertices were found, and no false claim
+abbrev pub faultless : ℕ → Found
+faultless vertices = record { vertices = vertices; refused = None }
+
+-- no box above asks for the vertices
+abbrev Unseen : Reach → Type 0
+Unseen reach = Unit {0}
+
+abbrev inside_point : Inside
+inside_point = record { found = faultless 1; boxed = None; ids = None }
+
+-- the blob between two readings has one vertex, and no claim of it is false
+pub record IsOnePoint (old new : Reading) : Type 0 where
+  pub whole : Geometry
+  pub read : geometry_at (deepest - 1) old ≡ (Ok whole, new)
+  pub found : IsFound false whole old.place new.place (faultless 1)
 
 module _ (old new : Reading) (sound : IsSound old) (first metadata : ℕ) (size numbers : List ℕ) (bytes : passed old new ≡ first ∷ metadata ∷ size ++ numbers) (is_point : first % 16 ≡ 1) (few : length numbers ≤ 8)
     (two : SpellsMany numbers 2) (moved : IsMoved old new) where
@@ -70,16 +99,32 @@ module _ (old new : Reading) (sound : IsSound old) (first metadata : ℕ) (size 
       start = refl;
     }
 
-    header_certifies : Certifies 1 None old (Ok 1) new
-    header_certifies =
-        let raw : Fields = fields field mid in
-        let read = (rest_reads begun 1 old now mid sound begins (Ok raw) head_read).0 in
+    one_point : IsOnePoint old new
+    one_point =
+        let head : Head = head_said (fields field mid) in
+        let read = (rest_reads begun 1 old now mid sound begins (Ok (fields field mid)) head_read).0 in
+        let at = read.0 in
+        let members = members_under (deepest - 1) in
+        let headed = head_value 1 (omega arith) (omega arith) old mid head sound at read.1 in
         let parts = parts_read Point 2 1 1 mid new (single_points_lead 2 1 mid new (omega arith) (omega arith) (omega arith) (IsSound-moved now mid sound_now before) (rw behind two) after) in
-        bare_certifies raw (boxless raw) refl Point old mid new sound read.0 read.1 refl refl (record { has_kind = refl; z = refl; m = refl; full = refl; no_box = refl }) 1 (Ok 1) parts (refl, judged)
+        let list : ListHead = ((1, 0), (None, 0)) in
+        let counted : IsListFound mid mid list (record { count = 1; ids = None }) = record { count = refl; lengths = omega arith; refused = refl } in
+        let w = parts.walked in
+        let shape = shape_of_parts (of_head head) mid 2 mid list 1 no_points refl refl refl refl
+        false (record { count = 1; ids = None }) new parts.parts None parts.after (reach_of []) (fold (widened (of_head head)) (reach_of []) (lasts_from zeros (points_of parts.parts))) Unseen inside_point
+        counted refl refl parts.read (record { last = w.last; points = w.points; added = refl; have = w.have; ahead = w.ahead }) parts.vertices_are refl
+        tt refl refl in
+        let body = parts_body list parts.parts in
+        let body_read = shape_body (of_head head) members mid refl refl ∙ shape.0 in
+        record {
+          whole = _;
+          read = body_gives (deepest - 1) old mid _ headed body new (sym (body_of_head head at.header _ _ _ _ at.fields members mid) ∙ body_read);
+          found = (geometry_found false head 1 old mid new at read.1 (omega (arith, shape.1.few)) body inside_point Unseen (faultless 1) shape.1 refl (ap (λ o. earlier o (earlier None (earlier None None))) (sym judged))).0;
+        }
 
-  certifies_without_size : metadata % 32 ≡ 0 → size ≡ [] → Certifies 1 None old (Ok 1) new
-  certifies_without_size none no_size =
-      header_certifies 0 none None now (IsMoved-here now sound_now) begun_way.2 (begun_way.4 ∙ ap (λ (bs : List ℕ). bs ++ numbers) no_size) (rest_is now now now now Point xy 0 None None None old.place refl refl refl) refl
+  point_without_size : metadata % 32 ≡ 0 → size ≡ [] → IsOnePoint old new
+  point_without_size none no_size =
+      one_point 0 none None now (IsMoved-here now sound_now) begun_way.2 (begun_way.4 ∙ ap (λ (bs : List ℕ). bs ++ numbers) no_size) (rest_is now now now now Point xy 0 None None None old.place refl refl refl) refl
 
   -- after the size
   module _ (is_sized : metadata % 32 ≡ 2) (one_byte : size ≡ length numbers ∷ []) where
@@ -110,9 +155,9 @@ module _ (old new : Reading) (sound : IsSound old) (first metadata : ℕ) (size 
         equal (inl (t, e)) = t
         equal (inr (f, n)) = absurd (n stop)
 
-    certifies_with_size : Certifies 1 None old (Ok 1) new
-    certifies_with_size = header_certifies 2 is_sized (Some field) mid sized_way.1 sized_way.2 sized_way.4 head_read judged
+    point_with_size : IsOnePoint old new
+    point_with_size = one_point 2 is_sized (Some field) mid sized_way.1 sized_way.2 sized_way.4 head_read judged
 
-  pub short_certifies : ((metadata % 32 ≡ 0) × (size ≡ [])) ⊎ ((metadata % 32 ≡ 2) × (size ≡ length numbers ∷ [])) → Certifies 1 None old (Ok 1) new
-  short_certifies (inl (none, no_size)) = certifies_without_size none no_size
-  short_certifies (inr (is_sized, one_byte)) = certifies_with_size is_sized one_byte
+  pub short_is_point : ((metadata % 32 ≡ 0) × (size ≡ [])) ⊎ ((metadata % 32 ≡ 2) × (size ≡ length numbers ∷ [])) → IsOnePoint old new
+  short_is_point (inl (none, no_size)) = point_without_size none no_size
+  short_is_point (inr (is_sized, one_byte)) = point_with_size is_sized one_byte

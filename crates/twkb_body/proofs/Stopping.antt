@@ -14,8 +14,10 @@ use Rattle.twkb_body.specs.declared.stopped.Stopped.TheVariants.{Malformed as Ba
 use Rattle.twkb_body.specs.Devices.Stops.{HasStopped, ReadsInside}
 use Rattle.twkb_head.specs.declared.header.Head.{Head}
 use Rattle.twkb_body.specs.Devices.Body.{Body}
-use Rattle.twkb_body.specs.declared.inside.Inside.{Inside}
-use Rattle.twkb_body.specs.declared.seen.Seen.{Seen}
+use Rattle.twkb_body.specs.declared.found.Halted.{Halted}
+use Rattle.twkb_body.specs.declared.found.Pass.{Pass}
+use Rattle.twkb_body.specs.Extent.{Reach}
+use Rattle.twkb_body.specs.Devices.Pass.{Refused}
 
 pub stops_outside : {A B : Type 0} (inner : Answer A) (outer : Answer B) (W V : Type 0) (mid old : Reading) (e : Stopped) (new : Reading)
     → ((m : Malformed) → Fails inner m new → Fails outer m new) → (new.bytes ≡ mid.bytes → W → (new.bytes ≡ old.bytes) × V)
@@ -23,12 +25,11 @@ pub stops_outside : {A B : Type 0} (inner : Answer A) (outer : Answer B) (W V : 
 stops_outside inner outer W V mid old (BadField m) new fails wants s = fails m s
 stops_outside inner outer W V mid old Memory new fails wants s = wants s.0 s.1
 
--- code that reads as one reader does also reads as another that gives the same answer
-pub reads_through : (tight : Bool) (head : Head) (inner outer : Answer Body) (W V : Type 0) (above after : Seen) (old new : Reading) (result : Result Inside Stopped) → outer ≡ inner → (W → V)
-    → ReadsInside tight head inner W above after old result new → ReadsInside tight head outer V above after old result new
-reads_through tight head inner outer W V above after old new (Ok y) same wants s = (s.0, same ∙ s.1, s.2)
-reads_through tight head inner outer W V above after old new (Err (BadField m)) same wants s = record { left = s.left; is = same ∙ s.is; bytes = s.bytes }
-reads_through tight head inner outer W V above after old new (Err Memory) same wants s = (s.0, wants s.1)
+-- reading that stops as one reader does also stops as another that gives the same answer
+pub stops_through : {A : Type 0} (inner outer : Answer A) (W V : Type 0) (old : Reading) (e : Stopped) (new : Reading) → outer ≡ inner → (W → V)
+    → HasStopped inner W old e new → HasStopped outer V old e new
+stops_through inner outer W V old (BadField m) new same wants s = record { left = s.left; is = same ∙ s.is; bytes = s.bytes }
+stops_through inner outer W V old Memory new same wants s = (s.0, wants s.1)
 
 -- the bytes of a value that a plan read are at the front of the rest
 pub plan_stands : {A : Type 0} (p : Plan A) (r new : Reading) (x : A) → IsSound r → read p r ≡ (Ok x, new)

@@ -1,8 +1,8 @@
 -- The summary of a tree: the number of its vertices, their reach, and the first claim that is false.
-use Rattle.std.specs.Prelude.{ℕ, ◌+◌, ◌-◌, ◌≤◌, ⊤, ◌==◌, Bool, cond, List, [], length, map, ℤ, Option, Some, None}
+use Rattle.std.specs.Prelude.{ℕ, ◌+◌, ◌-◌, ◌≤◌, ⊤, ◌==◌, Bool, cond, List, [], ℤ, Option, Some, None}
 use Rattle.twkb_head.specs.Header.{Header}
 use Rattle.twkb_head.specs.Head.{bounds_of}
-use Rattle.twkb_body.specs.Geometry.{Geometry, Members, geometry, none, more, Lengths, lengths_of, vertex_of, points_of}
+use Rattle.twkb_body.specs.Geometry.{Geometry, Members, geometry, none, more, Lengths, lengths_of}
 use Rattle.twkb_body.specs.Extent.{Reach, reach_of, both}
 use Rattle.twkb_body.specs.Devices.Pass.{Refused, Summary, false_at, first, ids_refused, is_tight, is_within}
 
@@ -38,16 +38,6 @@ over tight h l ids start count own below =
       refused = first (size_refused start l h.size)
           (first (box_refused tight (start + l.before + l.size) h reach h.box) (first (ids_refused (start + l.header + l.count) ids) below.refused));
     }
-
-unfoldable mutual
-  pub summary_of : Bool → Geometry → ℕ → Summary
-  summary_of tight (geometry h l ids polygons members) start =
-      over tight h l ids start (length (points_of polygons)) (reach_of (map (vertex_of h) (points_of polygons)))
-      (member_summary tight members (start + l.header + l.list))
-
-  pub member_summary : Bool → Members → ℕ → Summary
-  member_summary tight none start = nothing
-  member_summary tight (more g gs) start = after (summary_of tight g start) (member_summary tight gs (start + (lengths_of g).whole))
 
 -- how many bytes members take
 abbrev pub member_total : Members → ℕ

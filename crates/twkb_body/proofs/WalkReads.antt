@@ -1,10 +1,10 @@
 -- Points that are read one after another and added to something: a loop that reaches the end, and one that fails.
-use Rattle.std.proofs.Common.{◌≡◌, ℕ, ◌<◌, ◌≤◌, List, [], ◌∷◌, fold, Ok, Some, refl, sym, ap, subst, ◌∙◌, arith}
+use Rattle.std.proofs.Common.{◌≡◌, ℕ, ◌<◌, ◌≤◌, List, [], ◌∷◌, fold, Some, refl, sym, ap, subst, ◌∙◌, arith}
 use Rattle.twkb_num.specs.Cursor.{Reading}
 use Rattle.twkb_head.specs.declared.header.Head.{Head}
 use Rattle.twkb_head.specs.declared.refusal.Malformed.{Malformed}
 use Rattle.twkb_head.specs.Header.{Header, axes_with}
-use Rattle.twkb_head.specs.Shared.Reader.{Reader, many_at, Fails}
+use Rattle.twkb_head.specs.Shared.Reader.{many_at, Fails}
 use Rattle.twkb_head.specs.Raw.{HavePrecisions}
 use Rattle.twkb_body.specs.declared.trail.Trail.{Trail}
 use Rattle.twkb_body.specs.Geometry.{PointValue}
@@ -34,18 +34,6 @@ module _ {H S : Type 0} (step : H → S → PointValue → S) where
       record { last = w.last; points = w.points; added = ap (λ (z : H × S). z.1) (w.added ∙ fold_beside h s (lasts_from old.last points)); have = w.have; ahead = w.ahead }
 
 module _ {S : Type 0} (step : Header → S → PointValue → S) where
-  -- what was read from the stage of a walk
-  pub value_read : {A : Type 0} (each : PointValue → Reader A) (points_in : A → List PointValue) (h : Header) (axes : ℕ) (old : Trail) (s : S) (now : Head) (many : ℕ) (new : Trail) (t : S) (from to : Reading)
-      → HasRead each points_in (beside step) (IsWalking now many new t) (record { axes = axes; trail = old; state = (h, s) }) from to
-      → (value : A) × (each old.last from ≡ (Ok value, to)) × IsWalked (step h) axes old new s t from.place to.place (points_in value)
-  value_read each points_in h axes old s now many new t from to read =
-      let is = read.there.at_is in (
-        read.value,
-        read.read,
-        walked_apart step h axes old new s t (of_head now) from.place to.place (points_in read.value)
-            (subst (λ (at : Stage (Header × S)). IsWalked (beside step) axes old at.trail (h, s) at.state from.place to.place (points_in read.value)) is read.walked),
-      )
-
   module _ (head : Head) (axes : ℕ) (old : Trail) (s : S) (count : ℕ) (from : Reading) where
     abbrev pub Loop : Head → ℕ → ℕ → Trail → S → Reading → Type 0
     Loop head axes = IsRingLoop (step (of_head head)) axes count old s from

@@ -1,11 +1,10 @@
 //! Points in lanes of 32 bits, as distances from a base, and the steps from point to point that lead there.
-//! Used by `extents`.
+//! Used by `extents` and `range`.
 ghost use Rattle.std.specs.Prelude.{◌≡◌, ◌+◌, ◌<◌, ◌%◌, ◌==◌, if◌then◌else◌, ℕ, ℤ, [], ◌∷◌, ◌++◌, map, slice_index, true, min, max, All};
 ghost use Rattle.std.specs.Int.{w16, w32, cast_signed, cast_unsigned};
 ghost use Rattle.twkb_num.specs.Varint.{IsBrief, IsShort};
-ghost use Rattle.twkb_body.specs.Devices.Extents.{lane_sum, last_place, no_lanes, steps, HaveRoom, AreLanes, Sees};
+ghost use Rattle.twkb_body.specs.Devices.Extents.{lane_sum, lanes_within, last_place, no_lanes, steps, HaveRoom, AreLanes, Sees};
 
-use crate::positions::{are_within, widened};
 use std::simd::prelude::*;
 
 /// The distance zero in a lane. A distance d is 2^31 + d there, so that lanes without signs compare as distances do.
@@ -182,4 +181,21 @@ fn with_brief_pair_before(n: u16x8) -> u16x8
         ∷ ((g + e) % 65536) ∷ ((h + f) % 65536) ∷ [] }
 {
     n + n.shuffle(u16x8::splat(0), [8, 9, 0, 1, 8, 9, 4, 5])
+}
+
+/// Lanes, widened with their signs.
+// The compiler makes one instruction of these steps. A cast to signed lanes would have to be proved to fit.
+#[inline(always)]
+fn widened(d: u16x4) -> u32x4
+    ensures { result ≡ map (λ n. cast_unsigned w32 (cast_signed w16 n)) d }
+{
+    (d + u16x4::splat(0x8000)).cast::<u32>() - u32x4::splat(0x8000)
+}
+
+/// Whether no lane is greater than the limit in its place.
+#[inline(always)]
+fn are_within(lanes: u32x4, limits: u32x4) -> bool
+    ensures { result ≡ lanes_within lanes limits }
+{
+    lanes.simd_le(limits).to_bitmask() == 15
 }

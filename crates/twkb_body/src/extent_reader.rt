@@ -65,7 +65,7 @@ impl<const AXES: usize> PointReader for ExtentReader<AXES> {
         if let Err(_fault) = cursor.take_run::<AXES, _>(count, &mut self.all) {
             return Err(Unreadable);
         }
-        if self.all.has_left {
+        if self.all.has_left() {
             return Err(Unreadable);
         }
         self.points += count as usize;

@@ -1,15 +1,16 @@
-//! [`Found`], what the exact audit keeps of the geometries it has read, and the judging of claims.
-//! Used by `geometry`, `inside`, `lists` and `shape`.
-ghost use Rattle.std.specs.Prelude.{◌≡◌, ◌+◌, ◌^◌, ◌<◌, ◌≤◌, IfSome, None};
+//! [`Pass`], what an audit finds on its way, and the judging of claims.
+//! Used by `auditing`, `geometry`, `lists` and `shape`.
+ghost use Rattle.std.specs.Prelude.{◌≡◌, ◌≤◌, IfSome, is_some, None, Some};
 ghost use Rattle.twkb_head.specs.Raw.{HavePrecisions, head_said};
 ghost use Rattle.twkb_body.specs.Devices.Inside.{of_head};
-ghost use Rattle.twkb_body.specs.Devices.Pass.{first, false_at, is_tight};
-ghost use Rattle.twkb_body.specs.Devices.Found.{named, size_judged, box_judged};
+ghost use Rattle.twkb_body.specs.Devices.Pass.{false_at, is_tight};
+ghost use Rattle.twkb_body.specs.Devices.Found.{named, size_judged, box_judged, Notes};
 ghost use Rattle.twkb_body.specs.Audited.{number_of};
 ghost use Rattle.twkb_body.specs.Devices.Walk.{precisions_of};
 
 use crate::answers::Claim;
 use crate::extent::Extent;
+use crate::stopped::Stopped;
 use twkb_head::{BoxField, Fields, Head, SizeField};
 
 /// A claim that is false, and its offset.
@@ -19,38 +20,68 @@ pub struct FalseClaim {
     pub claim: Claim,
 }
 
-/// The number of vertices, and the first false claim.
-#[derive(Clone, Copy, Debug)]
-pub struct Found {
-    pub vertices: usize,
+/// What an audit finds on its way through a blob.
+#[derive(Drop)]
+pub struct Pass {
+    /// Of the claims that were judged, the false one of least offset.
     pub refused: Option<FalseClaim>,
+    /// Why reading stopped, once it has.
+    pub stopped: Stopped,
 }
 
-impl Found {
-    /// The result of reading nothing.
+/// Reading stopped before the end. The pass says why.
+#[derive(Clone, Copy, Debug, PartialEq, Eq)]
+pub struct Halted;
+
+impl Pass {
+    /// Nothing was read.
     #[inline(always)]
-    pub fn nothing() -> Found
-        ensures vertices { result.vertices ≡ 0 }
-        ensures refused { result.refused ≡ None }
+    pub fn new() -> Pass
+        ensures { named result.refused ≡ None }
     {
-        Found {
-            vertices: 0,
+        Pass {
             refused: None,
+            stopped: Stopped::Memory,
         }
     }
 
-    /// Joins what was found in the members so far with what was found in the next one: the vertices of both, and the first false
-    /// claim.
+    /// Whether some claim is false.
     #[inline(always)]
-    pub fn then(self, next: Found) -> Found
-        requires { self.vertices + next.vertices < 2 ^ 64 }
-        ensures vertices { result.vertices ≡ self.vertices + next.vertices }
-        ensures refused { named result.refused ≡ first (named self.refused) (named next.refused) }
+    pub fn is_refused(&self) -> bool
+        ensures { result ≡ is_some (named self.now.refused) }
     {
-        Found {
-            vertices: self.vertices + next.vertices,
-            refused: self.refused.or(next.refused),
+        self.refused.is_some()
+    }
+
+    /// Notes a claim, if it is false. It precedes all claims that were noted since `was_refused` was [`Pass::is_refused`].
+    #[inline(always)]
+    pub fn note(&mut self, was_refused: bool, claim: Option<FalseClaim>)
+        ensures { Notes was_refused self.old self.new (named claim) }
+    {
+        if let Some(claim) = claim {
+            self.refuse(was_refused, claim);
         }
+    }
+
+    /// Notes a false claim as [`Pass::note`] does.
+    #[cold]
+    #[inline(never)]
+    fn refuse(&mut self, was_refused: bool, claim: FalseClaim)
+        ensures { Notes was_refused self.old self.new (named (Some claim)) }
+    {
+        if !was_refused {
+            self.refused = Some(claim);
+        }
+    }
+
+    /// Stops reading.
+    #[cold]
+    #[inline(never)]
+    pub fn stop(&mut self, stopped: Stopped) -> Halted
+        ensures { self.new.stopped ≡ stopped }
+    {
+        self.stopped = stopped;
+        Halted
     }
 }
 

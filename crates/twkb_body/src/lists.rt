@@ -1,47 +1,43 @@
 //! Reading the count and the ids of a list: an audit judges the ids, and a skim passes them.
-//! Used by `body`, `geometry`, `shape`, `sure` and `sure/parts`.
+//! Used by `body`, `geometry` and `shape`.
 ghost use Rattle.std.specs.Prelude.{◌≡◌, Ok};
 ghost use Rattle.twkb_head.specs.Shared.Reader.{signeds_at, Reads};
 ghost use Rattle.twkb_body.specs.Devices.Stops.{ReadsList};
 ghost use Rattle.twkb_body.specs.Devices.BodyReader.{list_at};
 
 use crate::answers::Claim;
-use crate::found::{FalseClaim, claimed};
+use crate::found::{Halted, Pass, claimed};
 use crate::rooms::IdRoom;
 use crate::stopped::Stopped;
 use crate::varints::{take_number, take_signed};
 use twkb_head::Malformed;
 use twkb_num::Cursor;
 
-/// A count, and the claim of the ids, if ids are announced and aren't distinct.
-#[derive(Clone, Copy, Debug)]
-pub struct List {
-    pub count: u64,
-    pub ids: Option<FalseClaim>,
-}
-
-/// Reads the count of a list, and its ids if they are announced.
+/// Reads the count of a list, and its ids if they are announced. If these aren't distinct, the pass has their claim.
 #[tactic(auto, unfolding(crate::specs::Devices::BodyReader::list_at))]
 #[inline(always)]
 pub fn take_list<R: IdRoom>(
     room: &mut R,
+    pass: &mut Pass,
     cursor: &mut Cursor,
     has_ids: bool,
-) -> Result<List, Stopped>
-    ensures { ReadsList (list_at has_ids cursor.old) has_ids cursor.old result cursor.new }
+) -> Result<u64, Halted>
+    ensures { ReadsList (list_at has_ids cursor.old) has_ids pass.old pass.new cursor.old result cursor.new }
 {
     cursor.place_is_within();
-    let count = take_number(cursor)?;
+    let count = match take_number(cursor) {
+        Ok(count) => count,
+        Err(malformed) => return Err(pass.stop(Stopped::Malformed(malformed))),
+    };
     if has_ids {
         let offset = cursor.place();
-        let distinct = room.take_ids(cursor, count)?;
-        Ok(List {
-            count,
-            ids: claimed(distinct, offset, Claim::Ids),
-        })
-    } else {
-        Ok(List { count, ids: None })
+        let was_refused = pass.is_refused();
+        match room.take_ids(cursor, count) {
+            Ok(distinct) => pass.note(was_refused, claimed(distinct, offset, Claim::Ids)),
+            Err(stopped) => return Err(pass.stop(stopped)),
+        }
     }
+    Ok(count)
 }
 
 /// Reads the count of a list, and moves past its ids if they are announced.

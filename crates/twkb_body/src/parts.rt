@@ -1,19 +1,16 @@
-//! The parts of a body: points, lines and polygons. All are read here, each by a [`PointReader`]: the exact audit reads them by an
-//! `ExtentReader`, a skim by a `CertifiedWalk`, and the first reading by a `LaneTrail` or a `Walk`.
-//! Used by `shape`, `sure/parts` and `sure/shapes`.
-ghost use Rattle.std.specs.Prelude.{◌≡◌, ◌⊎◌, ℕ, List, flat_map, true, false};
-ghost use Rattle.twkb_head.specs.declared.kinds.Kind.{Kind};
+//! The parts of a body: points, lines and polygons. All are read here, each by a [`PointReader`]: an audit reads them by an
+//! `ExtentReader`, and by a `Walk` to find a malformed field, and a skim reads them by a `CertifiedWalk`. Used by `shape`.
+ghost use Rattle.std.specs.Prelude.{◌≡◌, ◌⊎◌, ℕ, List, flat_map};
 ghost use Rattle.twkb_head.specs.declared.kinds.Kind.TheVariants.{Polygon, MultiPolygon};
-ghost use Rattle.twkb_head.specs.Header.{is_multi};
 ghost use Rattle.twkb_head.specs.Shared.Reader.{Reader, many_at};
 ghost use Rattle.twkb_body.specs.Geometry.{PointValue, points_of};
 ghost use Rattle.twkb_body.specs.Devices.Body.{add, sums};
 ghost use Rattle.twkb_body.specs.Devices.BodyReader.{point_at, prefixed_at, lines_at, many_parts_at};
-ghost use Rattle.twkb_body.specs.Devices.PointReader.{IsReady, ReadsOrEnds, HasLength, HasOneRing};
+ghost use Rattle.twkb_body.specs.Devices.PointReader.{IsReady, ReadsOrEnds};
 
 use crate::point_reader::PointReader;
 use crate::varints::take_number;
-use twkb_head::{Kind, Malformed};
+use twkb_head::Kind;
 use twkb_num::Cursor;
 
 /// Reads `count` points, lines or polygons, by the kind. Of a collection it reads nothing. `L` says whether the loop over lines is
@@ -54,92 +51,7 @@ fn take_polygons<R: PointReader>(
     OutOfLine(Prefixed(rings)).take(cursor, count, reader)
 }
 
-/// A reader of the parts of a body that is no collection's.
-pub trait PartLoop {
-    /// The kinds and the numbers of parts that it reads.
-    ghost fits: { Kind → ℕ → Type 0 };
-
-    /// Reads `count` parts, by the kind.
-    fn take<R: PointReader>(
-        cursor: &mut Cursor,
-        kind: Kind,
-        count: u64,
-        reader: &mut R,
-    ) -> Result<(), R::Fault>
-        requires fits { fits kind count }
-        requires ready { IsReady (R.stands reader.old) R.trusts (many_parts_at kind count) cursor.old }
-        ensures { ReadsOrEnds (many_parts_at kind count) points_of R.step R.trusts R.ends R.tells (R.stands reader.old)
-            (R.stands reader.new) result cursor.old cursor.new };
-}
-
-/// Reads a point, a line or a polygon. A point is a line of one point, and most polygons have one ring, which is read as a line. So
-/// code which reads points is there once.
-pub struct OnePart;
-
-/// Reads the parts of a list.
-pub struct ManyParts;
-
-impl PartLoop for OnePart {
-    ghost fits = { λ kind count. (is_multi kind ≡ false) × (count ≡ 1) };
-
-    #[inline(always)]
-    fn take<R: PointReader>(
-        cursor: &mut Cursor,
-        kind: Kind,
-        count: u64,
-        reader: &mut R,
-    ) -> Result<(), R::Fault> {
-        if !pass_rings(cursor, kind) {
-            return take_polygons(cursor, kind, count, reader);
-        }
-        match take_length(cursor, kind) {
-            Ok(points) => reader.take_points(cursor, points),
-            Err(malformed) => Err(R::fault_of(malformed)),
-        }
-    }
-}
-
-impl PartLoop for ManyParts {
-    ghost fits = { λ kind count. Unit {0} };
-
-    #[inline(always)]
-    fn take<R: PointReader>(
-        cursor: &mut Cursor,
-        kind: Kind,
-        count: u64,
-        reader: &mut R,
-    ) -> Result<(), R::Fault> {
-        take_parts::<LinesInlined, _>(cursor, kind, count, reader)
-    }
-}
-
-/// Moves past the number of rings of a polygon that has one, and past nothing of a point or a line. Returns `false` for another polygon,
-/// or if its one ring is spelled by several bytes, and moves past nothing then.
-#[inline(always)]
-fn pass_rings(cursor: &mut Cursor, kind: Kind) -> bool
-    ensures one { result ≡ true → HasOneRing kind cursor.old cursor.new }
-    ensures more { result ≡ false → (kind ≡ Polygon) × (cursor.new ≡ cursor.old) }
-{
-    match kind {
-        Kind::Polygon => cursor.pass_one(),
-        _ => true,
-    }
-}
-
-/// How many points a point, a line or a ring has.
-#[inline(always)]
-fn take_length(cursor: &mut Cursor, kind: Kind) -> Result<u64, Malformed>
-    ensures { HasLength kind cursor.old result cursor.new }
-{
-    match kind {
-        Kind::Point => Ok(1),
-        _ => take_number(cursor),
-    }
-}
-
-/// Whether the loop over lines is inlined: it is in skims, in the exact audit, and in the first reading for points that a box has to
-/// hold and lanes can compare. The other functions of audits that call it would grow so large that the compiler inlines less into
-/// them.
+/// Whether the loop over lines is inlined: it is in skims and in audits, but not where a malformed field is looked for.
 pub trait LineLoop {
     /// Reads `count` lines.
     fn take<R: PointReader>(cursor: &mut Cursor, count: u64, reader: &mut R) -> Result<(), R::Fault>

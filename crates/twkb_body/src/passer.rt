@@ -1,4 +1,4 @@
-//! [`Passer`], the visitor that looks at nothing. Used by `headed`, `shape` and `sure/unboxed`.
+//! [`Passer`], the visitor that looks at nothing. Used by `headed` and `shape`.
 
 use crate::visit::Visit;
 use twkb_head::{Axes, Bounds, RawBox, RawRange, Vertex};

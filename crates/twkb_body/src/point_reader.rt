@@ -1,11 +1,10 @@
 //! [`PointReader`], a trait for what reads the points of a body.
 //!
-//! There are four implementations. [`Walk`](crate::walk::Walk) adds up the coordinates of every point.
+//! There are three implementations. [`Walk`](crate::walk::Walk) adds up the coordinates of every point.
 //! [`ExtentReader`](crate::extent_reader::ExtentReader) keeps the least and the greatest coordinate of each axis.
 //! [`CertifiedWalk`](crate::certified_walk::CertifiedWalk) shows the points of certified bytes to a
 //! visitor until it is settled.
-//! [`LaneTrail`](crate::lane_trail::LaneTrail) stops at the first point outside a box.
-//! Used by `certified_walk`, `extent_reader`, `lane_trail`, `parts` and `walk`.
+//! Used by `certified_walk`, `extent_reader`, `parts` and `walk`.
 ghost use Rattle.std.specs.Prelude.{◌≡◌, Bool, Option, IfSome};
 ghost use Rattle.twkb_head.specs.declared.refusal.Malformed.{Malformed as MalformedOf};
 ghost use Rattle.twkb_body.specs.Geometry.{PointValue};

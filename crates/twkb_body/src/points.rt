@@ -1,5 +1,5 @@
 //! [`Points`], the trait of what the points under one header are added to.
-//! Used by `box_test`, `certified_walk`, `sure/parts`, `trail`, `vertices` and `walk`.
+//! Used by `certified_walk`, `trail`, `vertices` and `walk`.
 ghost use Rattle.std.specs.Prelude.{◌≡◌, ◌≤◌};
 ghost use Rattle.twkb_head.specs.Header.{Header};
 ghost use Rattle.twkb_head.specs.Raw.{HavePrecisions};
@@ -26,22 +26,18 @@ pub trait Points {
         requires precisions { HavePrecisions (precisions_of head.now) }
         ensures { state self.new ≡ step (of_head head.now) (state self.old) point.now };
 
-    /// Reads some of the points at the place, `_most` of them or fewer, by words of eight bytes. Returns how many it read.
-    /// If it reads none, as it does if it isn't overridden, the next point is read alone.
-    #[inline(always)]
+    /// Reads some of the points at the place, `most` of them or fewer, by words of eight bytes. Returns how many it read. If it
+    /// reads none, the next point is read alone.
     fn take_run(
         &mut self,
-        _cursor: &mut Cursor,
-        _head: &Head,
-        _axes: usize,
-        _most: u64,
-        _trail: &mut Trail,
+        cursor: &mut Cursor,
+        head: &Head,
+        axes: usize,
+        most: u64,
+        trail: &mut Trail,
     ) -> u64
-        requires walk { IsWalk _head.now _axes _trail.old _cursor.old }
-        ensures few { result ≤ _most }
-        ensures run { IsRun (step (of_head _head.now)) _axes _trail.old _trail.new (state self.old) (state self.new)
-            _cursor.old _cursor.new result }
-    {
-        0
-    }
+        requires walk { IsWalk head.now axes trail.old cursor.old }
+        ensures few { result ≤ most }
+        ensures run { IsRun (step (of_head head.now)) axes trail.old trail.new (state self.old) (state self.new)
+            cursor.old cursor.new result };
 }

@@ -1,6 +1,5 @@
 //! Room for the ids of a list: memory that grows, or a slice that is lent.
-//! Used by other crates, and here by `auditing`, `geometry`, `lists`, `shape`, `sure`, `sure/apart`, `sure/blob`,
-//! `sure/parts` and `sure/shapes`.
+//! Used by other crates, and here by `auditing`, `geometry`, `lists` and `shape`.
 ghost use Rattle.std.specs.Prelude.{◌≡◌, ◌≢◌, ◌≤◌, ◌<ℤ◌, ◌↔◌, ℤ, List, [], ◌∷◌, ◌++◌, length, take, AllPairs, IsTrue, OnOk, OnErr, IfErr};
 ghost use Rattle.twkb_body.specs.declared.stopped.Stopped.TheVariants.{Memory};
 ghost use Rattle.twkb_body.specs.Devices.Stops.{ReadsIds};

@@ -1,5 +1,5 @@
 //! The numbers of a body, each read by itself.
-//! Used by `flat_lanes`, `further_lanes`, `headed`, `known`, `lists`, `parts`, `rooms`, `settled`, `step` and `trail`.
+//! Used by `headed`, `known`, `lists`, `parts`, `rooms`, `settled`, `step` and `trail`.
 ghost use Rattle.std.specs.Prelude.{◌≡◌};
 ghost use Rattle.twkb_head.specs.Shared.Reader.{number_at, signed_at};
 

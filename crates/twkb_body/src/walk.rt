@@ -1,5 +1,5 @@
 //! [`Walk`], which reads points one after another, adds up their differences, and shows each point to a [`Points`].
-//! Used by `shape`, `sure/parts` and `sure/unboxed`.
+//! Used by `shape`.
 ghost use Rattle.std.specs.Prelude.{◌≡◌, ◌≤◌, None, false};
 ghost use Rattle.twkb_head.specs.Header.{Header, axes_with};
 ghost use Rattle.twkb_head.specs.Raw.{HavePrecisions};
@@ -19,9 +19,9 @@ pub struct Walk<'h, P> {
     head: &'h Head,
     axes: usize,
     /// The last point, and how many there were.
-    pub trail: Trail,
+    trail: Trail,
     /// What the points are added to.
-    pub points: P,
+    points: P,
 }
 
 impl<'h, P: Points> Walk<'h, P> {

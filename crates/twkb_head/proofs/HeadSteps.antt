@@ -1,15 +1,13 @@
 -- The steps by which code reads a header, as the reader of headers takes them.
-use Rattle.std.proofs.Common.{◌≡◌, ◌<◌, ℕ, ◌+◌, ◌-◌, ◌*◌, ◌/◌, ◌%◌, ◌==◌, List, [], ◌∷◌, ◌++◌, length, Option, Some, None, option_map, Bool, true, false, ℤ, ◌+ℤ◌, Result, Ok, Err, refl, sym, ap, ap₂, subst, ◌∙◌, arith}
-use Rattle.std.specs.Int.Bits.{bit_and}
-use Rattle.std.proofs.lemmas.Nat.{and_block, and_le_r, and_mask}
+use Rattle.std.proofs.Common.{◌≡◌, ℕ, ◌+◌, ◌-◌, ◌/◌, ◌%◌, ◌==◌, List, [], ◌∷◌, ◌++◌, length, Option, Some, None, option_map, true, false, ℤ, ◌+ℤ◌, Result, Ok, Err, refl, sym, ap, ap₂, subst, ◌∙◌, arith}
 use Rattle.std.proofs.lemmas.Grind.{common_steps}
 use Rattle.std.proofs.lemmas.List.{append-nil}
 use Rattle.twkb_num.specs.Cursor.{Reading, passed, IsMoved, IsSound}
 use Rattle.twkb_num.specs.Varint.{Spells, SpellsAll, SpellsMany, IsSigned, SpellsTwoSigned, zigzag_value}
 use Rattle.twkb_num.proofs.PairLaws.{IsMoved-two}
 use Rattle.twkb_head.specs.Header.{code_of, has_bit, has_ids, z_in, m_in}
-use Rattle.twkb_head.specs.Shared.Reader.{Answer, Reader, ◌>>=◌, viewed, number_at, optional_at, range_from}
-use Rattle.twkb_head.specs.Devices.HeadReader.{byte_at, head_with, kind_from_type, bounds_from, head_at, size_and_box_at, rest_at}
+use Rattle.twkb_head.specs.Shared.Reader.{Answer, ◌>>=◌, viewed, number_at, optional_at, range_from}
+use Rattle.twkb_head.specs.Devices.HeadReader.{byte_at, head_with, bounds_from, head_at, size_and_box_at, rest_at}
 use Rattle.twkb_head.specs.BegunHeader.{deepest, IsAllowedAt}
 use Rattle.twkb_head.specs.declared.kinds.Kind.{Kind}
 use Rattle.twkb_head.specs.declared.kinds.Kind.TheVariants.{Point, LineString, Polygon, MultiPoint, MultiLineString, MultiPolygon, GeometryCollection}
@@ -30,13 +28,6 @@ use Rattle.twkb_head.proofs.Heads.{allowed_with}
 use Rattle.twkb_head.proofs.FieldCuts.{ok_is}
 use Rattle.twkb_head.proofs.Readings.{ok_not_err}
 use Rattle.twkb_head.proofs.Steps.{read_byte, read_signed, type_ok, type_refused}
-
-pub head_is : (levels : ℕ) (r a b c d e : Reading) (kind : Kind) (xy : ℤ) (metadata : ℕ) (extended size : Option ℕ) (bounds : Option Bounds)
-    → kind_from_type levels r ≡ (Ok (kind, xy), a) → byte_at a ≡ (Ok metadata, b) → optional_at (has_bit metadata 8) byte_at b ≡ (Ok extended, c)
-    → optional_at (has_bit metadata 2) number_at c ≡ (Ok size, d) → optional_at (has_bit metadata 1) (bounds_from xy (z_in extended) (m_in extended)) d ≡ (Ok bounds, e)
-    → head_at levels r ≡ (Ok (head_with kind xy metadata extended size bounds r.place c.place d.place e.place), e)
-unfolding head_at
-head_is levels r a b c d e kind xy metadata extended size bounds h1 h2 h3 h4 h5 = rw (h1, h2, h3, h4, h5) refl
 
 -- the size and the box, read one after the other
 pub size_and_box_is : (c d e : Reading) (kind : Kind) (xy : ℤ) (metadata : ℕ) (extended size : Option ℕ) (bounds : Option Bounds) (start : ℕ)
@@ -92,28 +83,6 @@ two_back old new first metadata moved bytes =
     let long : length (passed old new) ≡ new.place - old.place = grind (arith, common_steps, moved.within) in
     omega (arith, ap length bytes, long, moved.ahead)
 
--- some of the lowest three bits of a metadata byte, beside the bits for extended dimensions and no body
-bits_beside : (metadata low : ℕ) → low < 8 → bit_and metadata (24 + low) ≡ 8 * (metadata / 8 % 4) + bit_and (metadata % 8) low
-bits_beside metadata low few =
-    let split : metadata ≡ metadata / 8 * 8 + metadata % 8 = omega arith in
-    let both = and_block 3 (metadata / 8) 3 (metadata % 8) low (omega arith) few in
-    ap (λ x. bit_and x (24 + low)) split ∙ omega (arith, both, and_mask (metadata / 8) 2)
-
--- the bits of a metadata byte for a box, a size, extended dimensions and no body
-pub field_bits : (metadata : ℕ) → bit_and metadata 0x1B ≡ metadata % 4 + 8 * (metadata / 8 % 4)
-field_bits metadata = omega (arith, bits_beside metadata 3 (omega arith), and_mask (metadata % 8) 2)
-
--- the bits of a metadata byte for extended dimensions and no body
-pub further_bits : (metadata : ℕ) → bit_and metadata 0x18 ≡ 8 * (metadata / 8 % 4)
-further_bits metadata = omega (arith, bits_beside metadata 0 (omega arith), and_le_r (metadata % 8) 0)
-
--- the bit of a metadata byte for ids
-pub ids_bit : (metadata : ℕ) → bit_and metadata 4 ≡ 4 * (metadata / 4 % 2)
-ids_bit metadata =
-    let split : metadata ≡ metadata / 4 * 4 + metadata % 4 = omega arith in
-    let both = and_block 2 (metadata / 4) 1 (metadata % 4) 0 (omega arith) (omega arith) in
-    ap (λ x. bit_and x 4) split ∙ omega (arith, both, and_mask (metadata / 4) 1, and_le_r (metadata % 4) 0)
-
 -- each kind is allowed at the first depth
 pub first_allowed : (kind : Kind) → IsAllowedAt kind 1
 first_allowed GeometryCollection = (omega arith, omega arith)
@@ -158,10 +127,6 @@ begins_goes_on begun depth before now sound begins answer new e =
     let four : m / 4 % 2 ≡ n / 4 % 2 = omega (arith, begins.announced) in
     head_of_rest levels (record begun { metadata = m }) before now new answer has
     (rest_same begun.kind begun.xy m n begun.start now (bits_same m n 8 eight) (bits_same m n 2 two) (bits_same m n 1 one) (bits_same m n 16 sixteen) (bits_same m n 4 four) ∙ e)
-
--- a field that is announced is read
-pub is_read : {A : Type 0} (announced : Bool) (f : Reader A) (x : A) (r new : Reading) → announced ≡ true → f r ≡ (Ok x, new) → optional_at announced f r ≡ (Ok (Some x), new)
-is_read announced f x r new e read = ap (λ (b : Bool). optional_at b f r) e ∙ ap (viewed Some) read
 
 -- two signed numbers that one move passes are a range
 pub pair_range : (minimum extent : ℤ) (old new : Reading) → SpellsTwoSigned (passed old new) minimum extent → IsMoved old new → range_from old ≡ (Ok (minimum, minimum +ℤ extent), new)

@@ -1,20 +1,16 @@
 -- The rest of a begun header makes the whole header, or a refusal.
-use Rattle.std.proofs.Common.{◌≡◌, ◌↔◌, ℕ, ◌-◌, ◌≤◌, true, [], Result, Ok, Err, IsOk, refl, arith}
+use Rattle.std.proofs.Common.{◌≡◌, ◌↔◌, ℕ, ◌-◌, ◌≤◌, Result, Ok, Err, IsOk, arith}
 use Rattle.twkb_num.specs.Cursor.{Reading, rest, IsSound}
 use Rattle.twkb_head.specs.declared.raw.Fields.{Fields}
 use Rattle.twkb_head.specs.declared.read.Begun.{Begun}
 use Rattle.twkb_head.specs.declared.refusal.Malformed.{Malformed}
-use Rattle.twkb_head.specs.declared.refusal.Why.TheVariants.{Cut}
-use Rattle.twkb_head.specs.Header.{has_bit}
 use Rattle.twkb_head.specs.BegunHeader.{deepest}
 use Rattle.twkb_head.specs.Head.{StartsWithHeader}
 use Rattle.twkb_head.specs.Raw.{BeginsHead, head_said, ReadsHead}
 use Rattle.twkb_head.specs.Devices.HeadReader.{head_at, rest_at}
 use Rattle.twkb_head.specs.Devices.Raw.{head_result}
 use Rattle.twkb_head.proofs.HeadLaws.{head_ok, head_moved, head_exact, head_err, head_left}
-use Rattle.twkb_head.proofs.HeadSteps.{begins_goes_on, rest_ends}
-use Rattle.twkb_head.proofs.Steps.{read_no_byte}
-use Rattle.twkb_num.proofs.CursorLemmas.{IsSound-moved}
+use Rattle.twkb_head.proofs.HeadSteps.{begins_goes_on}
 
 -- a header that is allowed at the depth was begun, and the code reads the rest of it as the reader does
 module _ (begun : Begun) (depth : ℕ) (before now new : Reading) (sound : IsSound before) (begins : BeginsHead begun depth before now) where
@@ -30,13 +26,6 @@ module _ (begun : Begun) (depth : ℕ) (before now new : Reading) (sound : IsSou
     head_exact depth least most before new sound (Ok (head_said raw)) e,
   )
   answers (Err m) e = ((head_err depth least most before new sound (Err m) e, head_left depth least most before new sound m e), head_exact depth least most before new sound (Err m) e)
-
-  -- there is no header if an extended dimensions byte is announced and no byte follows
-  pub no_further_byte : has_bit begun.metadata 8 ≡ true → rest now ≡ [] → StartsWithHeader depth (rest before) → ⊥
-  no_further_byte announced none starts =
-      let m : Malformed = record { offset = now.place; why = Cut } in
-      let ends = rest_ends now now begun.kind begun.xy begun.metadata begun.start m announced (read_no_byte now now none refl (IsSound-moved before now sound begins.moved)) in
-      absurd (cc ((head_exact depth least most before now sound (Err m) (begins_goes_on begun depth before now sound begins (Err m) now ends)).1 starts))
 
   pub rest_reads : (result : Result Fields Malformed) → rest_at begun.kind begun.xy begun.metadata begun.start now ≡ (head_result result, new) → ReadsHead depth before new result × (IsOk result ↔ StartsWithHeader depth (rest before))
   rest_reads result e = answers result (begins_goes_on begun depth before now sound begins (head_result result) new e)

@@ -1,5 +1,5 @@
 -- Headers whose boxes are raw integers.
-use Rattle.std.specs.Prelude.{◌≡◌, ◌||◌, ◌&&◌, Bool, false, ℕ, ◌/◌, ◌%◌, ◌^◌, ◌≤◌, ℤ, pos, neg_ℤ, ◌+ℤ◌, ◌≤ℤ◌, List, [], ◌∷◌, Option, None, option_map, IfSome, Result, Ok, Err}
+use Rattle.std.specs.Prelude.{◌≡◌, ◌||◌, ◌&&◌, Bool, false, ℕ, ◌/◌, ◌%◌, ◌^◌, ◌≤◌, ℤ, pos, neg_ℤ, ◌+ℤ◌, ◌≤ℤ◌, List, [], ◌∷◌, Option, option_map, IfSome, Result, Ok, Err}
 use Rattle.twkb_head.specs.declared.boxes.Bounds.{Bounds}
 use Rattle.twkb_head.specs.declared.raw.RawRange.{RawRange}
 use Rattle.twkb_head.specs.declared.raw.RawBox.{RawBox}
@@ -77,10 +77,6 @@ head_said f = record {
   start = f.start;
   stop = f.stop;
 }
-
--- the header of these fields, without its box
-abbrev pub boxless : Fields → Head
-boxless f = record (head_said f) { bounds = None }
 
 -- The first two bytes of a header that is allowed at the depth were read; the three highest bits of the second don't matter.
 pub record BeginsHead (begun : Begun) (depth : ℕ) (before now : Reading) : Type 0 where

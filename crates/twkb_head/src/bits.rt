@@ -15,7 +15,7 @@ pub const BOX: u8 = 1;
 pub const SIZE: u8 = 2;
 
 /// A bit of the metadata byte: the body has ids, if it has a list.
-pub const IDS: u8 = 4;
+const IDS: u8 = 4;
 
 /// A bit of the metadata byte: the header has an extended dimensions byte.
 pub const EXTENDED: u8 = 8;

@@ -11,8 +11,7 @@
 //!
 //! [`read_raw`] reads a header with its box in raw integers ([`Fields`]), which are the numbers in the file. [`begin_head`] and
 //! [`take_rest`] read a header in two steps: the first two bytes, and the rest. Audits and skims branch between the two, and choose
-//! whether the reader of the box is inlined ([`BoxInlined`]) or called ([`BoxCalled`]). [`take_rest_after`]
-//! is for a caller that has read the extended dimensions byte itself.
+//! whether the reader of the box is inlined ([`BoxInlined`]) or called ([`BoxCalled`]).
 //!
 //! [`malformed`] makes a refusal out of a fault of a number, also for numbers of the body.
 //!
@@ -46,9 +45,6 @@ pub use header::{BoxField, Head, SizeField};
 pub use kinds::{DEEPEST, Kind};
 pub use ranges::{BoxCalled, BoxInlined};
 pub use raw::{Axes, Fields, RawBox, RawRange};
-pub use read::{
-    Begun, begin_head, begun_as, begun_by, begun_from, read_head, read_raw, take_rest,
-    take_rest_after,
-};
+pub use read::{Begun, begin_head, begun_as, begun_by, read_head, read_raw, take_rest};
 pub use refusal::{Malformed, Why};
 pub use twkb_num::{Cursor, NumFault};

@@ -1,8 +1,8 @@
 //! Boxes and headers in raw integers. Numbers of one precision compare without units. `ranges` and `read` read them.
 //! Used by other crates, and here by `header`, `ranges` and `read`.
-ghost use Rattle.std.specs.Prelude.{◌≡◌, ◌≤◌, ◌^◌, ◌≤ℤ◌, pos, neg_ℤ, None, Some, true, option_map, IfSome};
+ghost use Rattle.std.specs.Prelude.{◌≡◌, ◌↔◌, IsTrue, ◌≤◌, ◌^◌, ◌≤ℤ◌, pos, neg_ℤ, None, Some, true, option_map, IfSome};
 ghost use Rattle.twkb_num.specs.Units.{IsPrecision};
-ghost use Rattle.twkb_head.specs.Raw.{HavePrecisions, ends_of, ranges_in, flat_box, raw_bounds, head_said, boxless, IsNear, HasNearRanges};
+ghost use Rattle.twkb_head.specs.Raw.{HavePrecisions, ends_of, ranges_in, flat_box, raw_bounds, head_said, IsNear, HasNearRanges};
 ghost use Rattle.twkb_head.specs.Head.{span_at, range_of, m_axis};
 ghost use Rattle.twkb_head.specs.Header.{z_in, m_in};
 ghost use Rattle.twkb_head.specs.declared.kinds.Kind.TheVariants.{Point};
@@ -193,6 +193,17 @@ impl Axes {
         }
     }
 
+    /// Whether these are the axes of another header, at the same precisions.
+    // `==` is a call here.
+    #[inline(always)]
+    pub fn are(&self, others: Axes) -> bool
+        ensures { IsTrue result ↔ (self.now ≡ others) }
+    {
+        self.xy == others.xy
+            && are_same_precision(self.z, others.z)
+            && are_same_precision(self.m, others.m)
+    }
+
     /// If `true`, there is neither Z nor M. `false` says nothing.
     #[inline(always)]
     pub fn is_flat(&self) -> bool
@@ -212,6 +223,18 @@ impl Axes {
     }
 }
 
+/// Whether both axes are missing, or have one precision.
+#[inline(always)]
+fn are_same_precision(a: Option<u8>, b: Option<u8>) -> bool
+    ensures { IsTrue result ↔ (a ≡ b) }
+{
+    match (a, b) {
+        (None, None) => true,
+        (Some(a), Some(b)) => a == b,
+        _ => false,
+    }
+}
+
 impl Fields {
     /// If `true`, it is the header of a point in X and Y. `false` says nothing.
     #[inline(always)]
@@ -221,25 +244,6 @@ impl Fields {
         ensures m { result ≡ true → self.now.axes.m ≡ None }
     {
         matches!(self.kind, Kind::Point) && self.axes.is_flat()
-    }
-
-    /// What the header says, without its box.
-    #[inline(always)]
-    pub fn boxless(&self) -> Head
-        ensures { result ≡ boxless self.now }
-    {
-        Head {
-            kind: self.kind,
-            xy: self.axes.xy,
-            z: self.axes.z,
-            m: self.axes.m,
-            size: self.size,
-            bounds: None,
-            ids: self.ids,
-            empty: self.empty,
-            start: self.start,
-            stop: self.stop,
-        }
     }
 
     /// What the header says, with its box in units.
@@ -256,8 +260,16 @@ impl Fields {
             None => None,
         };
         Head {
+            kind: self.kind,
+            xy: self.axes.xy,
+            z: self.axes.z,
+            m: self.axes.m,
+            size: self.size,
             bounds,
-            ..self.boxless()
+            ids: self.ids,
+            empty: self.empty,
+            start: self.start,
+            stop: self.stop,
         }
     }
 }

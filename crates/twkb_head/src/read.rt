@@ -1,5 +1,5 @@
 //! [`read_head`] and the other functions that read a header, whole or in two steps. Used by other crates.
-ghost use Rattle.std.specs.Prelude.{◌≡◌, ◌≢◌, ◌↔◌, ◌⊎◌, is_some, ℕ, ◌+◌, ◌-◌, ◌≤◌, ◌<◌, ◌%◌, [], ◌∷◌, true, false, not, None, Err, option_map, IfOk, OnOk, IfErr, IfSome, IfNone, IsOk, IsSome, IsTrue};
+ghost use Rattle.std.specs.Prelude.{◌≡◌, ◌≢◌, ◌↔◌, ◌⊎◌, is_some, ℕ, ◌+◌, ◌-◌, ◌≤◌, ◌<◌, ◌%◌, [], ◌∷◌, true, false, None, Err, option_map, IfOk, OnOk, IfErr, IfSome, IfNone, IsOk, IsSome, IsTrue};
 ghost use Rattle.twkb_num.specs.Cursor.{Reading, rest, passed, counted, IsMoved, IsSound};
 ghost use Rattle.twkb_num.specs.Units.{IsPrecision};
 ghost use Rattle.twkb_head.specs.BegunHeader.{deepest};
@@ -13,7 +13,7 @@ ghost use Rattle.twkb_head.specs.Devices.Raw.{head_result, ReadsFirstTwo};
 ghost use Rattle.twkb_head.specs.Raw.{HavePrecisions, HasZeros, head_said, BeginsHead, ReadsHead};
 ghost use Rattle.twkb_head.specs.Header.{has_bit, code_of};
 
-use crate::bits::{BOX, EMPTY, EXTENDED, IDS, SIZE, has_bit, ids_of, m_of, precision_of, z_of};
+use crate::bits::{BOX, EMPTY, EXTENDED, SIZE, has_bit, ids_of, m_of, precision_of, z_of};
 use crate::field_readers::{take_byte, take_number, take_type};
 use crate::header::{Head, SizeField};
 use crate::kinds::{Kind, kind_at};
@@ -108,22 +108,6 @@ impl Begun {
         self.metadata % 32 == SIZE && matches!(self.kind, Kind::Point)
     }
 
-    /// Whether there is no extended dimensions byte, so that the axes are X and Y.
-    #[inline(always)]
-    pub fn is_flat(self) -> bool
-        ensures { result ≡ not (has_bit self.metadata 8) }
-    {
-        !has_bit(self.metadata, EXTENDED)
-    }
-
-    /// Whether the geometry is empty: it has no body.
-    #[inline(always)]
-    pub fn is_empty(self) -> bool
-        ensures { result ≡ has_bit self.metadata 16 }
-    {
-        has_bit(self.metadata, EMPTY)
-    }
-
     /// This header with another metadata byte that announces these fields too; the bits from 32 on announce none. If the byte is a
     /// constant, the compiler knows which fields there are.
     #[inline(always)]
@@ -204,21 +188,7 @@ pub fn begun_by(cursor: &Cursor, depth: u8, first: u8, metadata: u8) -> Option<B
     ensures xy { IfSome result (λ begun. IsPrecision begun.xy) }
     ensures metadata { IfSome result (λ begun. begun.metadata ≡ metadata) }
 {
-    begun_from(cursor.place() - 2, depth, first, metadata)
-}
-
-/// The header of a geometry at `depth` whose first two bytes, at `start`, are these. `None` if there is no such header.
-#[inline(always)]
-pub fn begun_from(start: usize, depth: u8, first: u8, metadata: u8) -> Option<Begun>
-    requires shallowest { 1 ≤ depth }
-    requires deepest { depth ≤ deepest }
-    ensures some { IfSome result (λ begun. (before now : Reading) → IsSound before → IsMoved before now
-        → passed before now ≡ first ∷ metadata ∷ [] → before.place ≡ start → BeginsHead begun depth before now) }
-    ensures none { (before now : Reading) → IsSound before → IsMoved before now
-        → passed before now ≡ first ∷ metadata ∷ [] → StartsWithHeader depth (rest before) → IsSome result }
-    ensures xy { IfSome result (λ begun. IsPrecision begun.xy) }
-    ensures metadata { IfSome result (λ begun. begun.metadata ≡ metadata) }
-{
+    let start = cursor.place() - 2;
     let Ok(kind) = kind_at(first, depth) else {
         return None;
     };
@@ -274,28 +244,6 @@ pub fn take_rest<R: RangeReader>(cursor: &mut Cursor, begun: Begun) -> Result<Fi
     ensures zeros { IfOk result (λ raw. IfSome raw.bounds (HasZeros (is_some raw.axes.z) (is_some raw.axes.m))) }
 {
     take_fields::<R>(cursor, begun)
-}
-
-/// Reads the other fields of a header as [`take_rest`] does, after an extended dimensions byte that the caller has read.
-// If the caller compared the byte with a constant, the compiler knows which axes there are.
-#[inline(always)]
-pub fn take_rest_after<R: RangeReader>(
-    cursor: &mut Cursor,
-    begun: Begun,
-    extended: u8,
-) -> Result<Fields, Malformed>
-    requires xy { IsPrecision begun.xy }
-    requires announced { has_bit begun.metadata 8 ≡ true }
-    ensures read { (depth : ℕ) (before middle : Reading) → IsSound before → BeginsHead begun depth before middle
-        → IsMoved middle cursor.old → passed middle cursor.old ≡ extended ∷ [] → ReadsHead depth before cursor.new result }
-    ensures exact { (depth : ℕ) (before middle : Reading) → IsSound before → BeginsHead begun depth before middle
-        → IsMoved middle cursor.old → passed middle cursor.old ≡ extended ∷ []
-        → IsOk result ↔ StartsWithHeader depth (rest before) }
-    ensures axes { IfOk result (λ raw. HavePrecisions raw.axes) }
-    ensures empty { IfOk result (λ raw. raw.empty ≡ has_bit begun.metadata 16) }
-    ensures zeros { IfOk result (λ raw. IfSome raw.bounds (HasZeros (is_some raw.axes.z) (is_some raw.axes.m))) }
-{
-    take_size_and_box::<R>(cursor, begun, Some(extended))
 }
 
 /// The fields after the first two bytes, in order.

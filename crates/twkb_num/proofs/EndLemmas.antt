@@ -1,5 +1,5 @@
 -- The first end among eight bytes, by the lowest bit of a word.
-use Rattle.std.proofs.Common.{◌≡◌, ℕ, zero, suc, ◌+◌, ◌-◌, ◌*◌, ◌/◌, ◌^◌, ◌<◌, ◌≤◌, List, length, take, drop, slice_index, slice_range, Option, Some, None, IfSome, IfNone, subst, ap, ap₂, ◌∙◌, sym, refl, ◌⊎◌, inl, inr, arith}
+use Rattle.std.proofs.Common.{◌≡◌, ℕ, zero, suc, ◌+◌, ◌-◌, ◌*◌, ◌/◌, ◌^◌, ◌<◌, ◌≤◌, List, length, take, drop, slice_index, slice_range, ap, ap₂, ◌∙◌, refl, ◌⊎◌, inl, inr, arith}
 use Rattle.std.specs.Int.{Width, w64, from_le_bytes, bit_at, trailing_zeros}
 use mir.Val.{bits}
 use Rattle.std.specs.Int.Bits.{bit_and}
@@ -7,11 +7,8 @@ use Rattle.std.proofs.lemmas.Nat.{and_block, pow_pos}
 use Rattle.std.proofs.lemmas.Nat.Bits.{bit_at_cat_low, bit_at-pow_same, bit_at-pow_other, bit_at-trailing_zeros}
 use Rattle.std.proofs.lemmas.Bool.{cases_lt}
 use Rattle.std.proofs.lemmas.Grind.{common_steps}
-use Rattle.std.proofs.lemmas.List.{get_or-take}
-use Rattle.twkb_num.specs.Varint.{sum_of_groups, Spells, IsStuck}
-use Rattle.twkb_num.proofs.VarintLemmas.{sum_of_groups-fits, Spells-take}
 use Rattle.twkb_num.proofs.WordLemmas.{tops_4}
-use Rattle.twkb_num.specs.Devices.Ends.{IsFirstEnd, ended, four_bytes, eight_bytes}
+use Rattle.twkb_num.specs.Devices.Ends.{ended, four_bytes, eight_bytes}
 
 -- the lowest 1 of a number
 pub lowest_at : (w : Width) (n m k : ℕ) → n < 2 ^ bits w → n ≡ m * 2 ^ (k + 1) + 2 ^ k → trailing_zeros w n ≡ k
@@ -57,16 +54,6 @@ turned bs word fit e = turned_by (slice_index bs) (λ k. 255 - slice_index bs k)
 pub ends_are : (bs : List ℕ) (word : ℕ) → ((k : ℕ) → slice_index bs k < 256) → word ≡ from_le_bytes w64 bs → bit_and (2 ^ 64 - 1 - word) 0x8080808080808080 ≡ eight_bytes (λ k. ended bs k * 128)
 ends_are bs word fit e =
     ap (λ x. bit_and x 0x8080808080808080) (turned bs word fit e) ∙ tops_eight (λ k. 255 - slice_index bs k) (λ k h. omega arith)
-
--- a byte goes on where it isn't ended
-is_end : (b : ℕ) → (255 - b) / 128 ≡ 1 → b < 128
-is_end b h = omega (arith, h)
-
-is_ended : (b : ℕ) → (255 - b) / 128 ≡ 0 → 128 ≤ b
-is_ended b h = omega (arith, h)
-
-at_most_one : (b : ℕ) → (255 - b) / 128 ≤ 1
-at_most_one b = omega arith
 
 -- if the values before i are zero, and the i-th is too, the values up to i are zero
 more : (f : ℕ → ℕ) (i : ℕ) → ((k : ℕ) → k < i → f k ≡ 0) → f i ≡ 0 → (k : ℕ) → k < i + 1 → f k ≡ 0
@@ -157,50 +144,6 @@ module _ (f : ℕ → ℕ) (n : ℕ) (bound : (k : ℕ) → k < 8 → f k ≤ 1)
   all_zero none (suc (suc (suc (suc (suc (suc (suc zero))))))) h = omega (arith, is, none)
   all_zero none (suc (suc (suc (suc (suc (suc (suc (suc k)))))))) h = absurd (omega (arith, h))
 
-module _ (bs : List ℕ) (word : ℕ) (len : length bs ≡ 8) (fit : (k : ℕ) → slice_index bs k < 256) (e : word ≡ from_le_bytes w64 bs) where
-  pub end_found : ((bit_and (2 ^ 64 - 1 - word) 0x8080808080808080 ≡ 0) → ⊥) → IsFirstEnd bs (trailing_zeros w64 (bit_and (2 ^ 64 - 1 - word) 0x8080808080808080) / 8 + 1)
-  end_found some =
-      let n : ℕ = bit_and (2 ^ 64 - 1 - word) 0x8080808080808080 in
-      let (i, few, at, on, end) = lowest_0 (ended bs) n (λ k h. at_most_one (slice_index bs k)) (ends_are bs word fit e) some (λ k h. absurd (omega (arith, h))) in
-      let many : trailing_zeros w64 n / 8 + 1 ≡ i + 1 = omega (arith, at) in
-      rw many record {
-        some = omega arith;
-        few = omega (arith, few);
-        within = omega (arith, few, len);
-        goes_on = λ k h. is_ended (slice_index bs k) (on k (omega (arith, h)));
-        ends = let same : i + 1 - 1 ≡ i = omega arith in rw same (is_end (slice_index bs i) end);
-      }
-
-  pub no_end : bit_and (2 ^ 64 - 1 - word) 0x8080808080808080 ≡ 0 → (k : ℕ) → k < 8 → 128 ≤ slice_index bs k
-  no_end none k h =
-      is_ended (slice_index bs k) (all_zero (ended bs) (bit_and (2 ^ 64 - 1 - word) 0x8080808080808080) (λ k h. at_most_one (slice_index bs k)) (ends_are bs word fit e) none k h)
-
--- the first end in a chunk of eight bytes is the first end of the bytes that begin with the chunk
-pub end_in_chunk : (bytes chunk : List ℕ) → chunk ≡ take 8 bytes → 8 ≤ length bytes → (end : Option ℕ) → IfSome end (IsFirstEnd chunk) → IfSome end (IsFirstEnd bytes)
-end_in_chunk bytes chunk same enough None h = tt
-end_in_chunk bytes chunk same enough (Some many) h =
-    let at : (k : ℕ) → k < 8 → slice_index chunk k ≡ slice_index bytes k = λ k few. ap (λ bs. slice_index bs k) same ∙ get_or-take 8 bytes k 0 few in
-    record {
-      some = h.some;
-      few = h.few;
-      within = omega (arith, h.few, enough);
-      goes_on = λ k before. omega (arith, h.goes_on k before, at k (omega (arith, h.few, before)));
-      ends = omega (arith, h.ends, at (many - 1) (omega (arith, h.few, h.some)));
-    }
-
--- where none of a chunk's bytes ends a varint, none of the first eight does
-pub none_in_chunk : (bytes chunk : List ℕ) → chunk ≡ take 8 bytes → (end : Option ℕ) → IfNone end ((k : ℕ) → k < 8 → 128 ≤ slice_index chunk k) → IfNone end (IsStuck 8 8 bytes)
-none_in_chunk bytes chunk same None h = inr (0, omega arith, λ k few. let here : 0 + k ≡ k = omega arith in omega (arith, h k few, ap (λ bs. slice_index bs k) same ∙ get_or-take 8 bytes k 0 few, ap (slice_index bytes) here))
-none_in_chunk bytes chunk same (Some many) h = tt
-
--- bytes up to the first end spell a number
-pub end_spells : (bytes : List ℕ) (many : ℕ) → IsFirstEnd bytes many → Spells (take many bytes) (sum_of_groups 0 (take many bytes))
-end_spells bytes many h =
-    let last : many ≡ many - 1 + 1 = omega (arith, h.some) in
-    let sum : sum_of_groups 0 (take (many - 1 + 1) bytes) < 2 ^ 63 = sum_of_groups-fits bytes (many - 1) (omega (arith, h.some, h.within)) (omega (arith, h.some, h.few)) in
-    subst (λ m. Spells (take m bytes) (sum_of_groups 0 (take m bytes))) (sym last)
-    (Spells-take bytes (many - 1) _ (omega (arith, h.some, h.within)) (omega (arith, h.some, h.few)) (λ k before. h.goes_on k (omega (arith, before, h.some))) h.ends refl (omega (arith, sum)))
-
 -- the bytes from a place on, as a slice
 from_place : (bytes : List ℕ) (place : ℕ) → slice_range bytes place (length bytes) ≡ drop place bytes
 from_place bytes place = grind (arith, common_steps)
@@ -211,6 +154,3 @@ chunk_at n bytes chunk place same = same ∙ ap (take n) (from_place bytes place
 
 pub few_at : (n : ℕ) (bytes : List ℕ) (place : ℕ) → length (slice_range bytes place (length bytes)) < n → length (drop place bytes) < n
 few_at n bytes place few = rw (from_place bytes place) at few
-
-pub enough_at : (n : ℕ) (bytes : List ℕ) (place : ℕ) → n ≤ length (slice_range bytes place (length bytes)) → n ≤ length (drop place bytes)
-enough_at n bytes place enough = rw (from_place bytes place) at enough

@@ -1,9 +1,8 @@
 -- Two rows, one after the other, and their lanes.
 use Rattle.std.proofs.Common.{◌≡◌, ℕ, ℤ, zero, suc, ◌+◌, ◌-◌, ◌*◌, ◌/◌, ◌%◌, ◌<◌, ◌≤◌, ◌^◌, true, eqb, ltb, refl, sym, ap, ◌∙◌, subst, List, [], ◌∷◌, ◌++◌, map, length, take, drop, get_or, arith, inl, inr, Fits, w8}
-use Rattle.std.proofs.lemmas.Bool.{eqb-true, ltb-true, lt-ltb, cond-true, or_cases, cases_lt}
+use Rattle.std.proofs.lemmas.Bool.{eqb-true, ltb-true, lt-ltb, cond-true, or_cases}
 use Rattle.std.proofs.lemmas.List.{take-take, get_or-take, get_or-drop, append_assoc, map-append}
 use Rattle.std.proofs.lemmas.Nat.{shr-shr}
-use Rattle.std.proofs.lemmas.Nat.Bits.{bit_at_cat_low, bit_at_cat_high}
 use Rattle.std.proofs.lemmas.Simd.{pick_l_whole, get_or_wider, Each1-get_or, below_from_Fits}
 use Rattle.std.proofs.Math.Seq.{take-add}
 use lib.Lanes.{number_l, digits_l, Each1}
@@ -109,16 +108,6 @@ tops_behind many s tops bytes all i h = ap (λ x. x % 2) (shr-shr tops s i) ∙ 
 pub second_tops : (tops from s : ℕ) (bytes w : List ℕ) → IsTops 16 tops bytes → w ≡ take 16 (drop s bytes) → s ≤ 8 → from ≡ tops / 2 ^ s % 256 → IsTops 8 from w
 second_tops tops from s bytes w all w_is few is i h =
     ap (λ x. x / 2 ^ i % 2) is ∙ low_bits (tops / 2 ^ s) i h ∙ front_tops (16 - s) 16 (tops / 2 ^ s) (drop s bytes) w w_is (omega arith) (tops_behind 16 s tops bytes all) i (omega (arith, h, few))
-
--- the tops of bytes and, moved up by their count, those of the bytes after them
-pub tops_joined : (n many low high both : ℕ) (bytes v : List ℕ) → low < 2 ^ n → IsTops n low bytes → v ≡ take many (drop n bytes) → IsTops many high v → both ≡ high * 2 ^ n + low → IsTops (n + many) both bytes
-tops_joined n many low high both bytes v fits first is second sum i h =
-    ap (λ x. x / 2 ^ i % 2) sum ∙ elim (cases_lt i n) [
-      | inl before ↦ bit_at_cat_low high n low i before ∙ first i before
-      | inr after ↦
-          let there : n + (i - n) ≡ i = omega (arith, after) in
-          bit_at_cat_high high n low i fits after ∙ tops_of_front many high (drop n bytes) v is second (i - n) (omega (arith, h, after)) ∙ ap (λ x. x / 128) (get_or-drop n bytes (i - n) 0 ∙ ap (λ k. get_or bytes k 0) there)
-    ]
 
 -- ---- pieces
 pub first_piece : (bytes : List ℕ) → take 16 (take 16 bytes) ≡ take 16 bytes

@@ -1,17 +1,16 @@
 -- Numbers that are passed, and more after them.
 use Rattle.std.proofs.Common.{◌≡◌, ◌+◌, ◌<◌, ◌^◌, ◌&&◌, Bool, true, ℕ, suc, List, Ok, Err, [], ◌∷◌, ◌++◌, ap, sym, subst, refl, ◌∙◌, arith, append_assoc, length-append}
-use Rattle.std.proofs.lemmas.Grind.{common_steps}
 use Rattle.std.specs.Prelude.{All, Result, IfOk, IfErr}
 use Rattle.std.specs.List.{list_all}
 use Rattle.std.proofs.lemmas.Bool.{lt-ltb}
 use Rattle.std.proofs.lemmas.List.{append-nil}
 use Rattle.std.proofs.lemmas.List.Folds.{list_all-append}
 use Rattle.std.proofs.Math.Bool.{and-true}
-use Rattle.twkb_num.specs.Cursor.{Reading, passed, IsMoved, IsSound}
+use Rattle.twkb_num.specs.Cursor.{Reading, passed, IsMoved}
 use Rattle.twkb_num.specs.Varint.{Spells, SpellsAll, SpellsMany}
 use Rattle.twkb_num.specs.Numbers.{is_small, PassesNumbers, StopsAmong}
 use Rattle.twkb_num.specs.declared.varint.NumFault.{NumFault}
-use Rattle.twkb_num.proofs.CursorLemmas.{passed-append, IsMoved-after, IsMoved-here}
+use Rattle.twkb_num.proofs.CursorLemmas.{passed-append, IsMoved-after}
 
 SpellsAll-append : (bs cs ns ms : List ℕ) → SpellsAll bs ns → SpellsAll cs ms → SpellsAll (bs ++ cs) (ns ++ ms)
 SpellsAll-append bs cs [] ms a b = subst (λ ds. SpellsAll (ds ++ cs) ms) (sym a) b
@@ -20,16 +19,6 @@ SpellsAll-append bs cs (n ∷ ns) ms a b = (a.0, a.1 ++ cs, ap (λ ds. ds ++ cs)
 all_small : (ns : List ℕ) → All (λ n. n < 2 ^ 49) ns → list_all is_small ns ≡ true
 all_small [] all = refl
 all_small (n ∷ ns) all = rw (lt-ltb n (2 ^ 49) (all 0 0 (omega arith))) (all_small ns (λ k d h. all (suc k) d (omega (arith, h))))
-
--- none at all
-pub none_passed : (r : Reading) → IsSound r → PassesNumbers 0 r r true
-none_passed r h = record {
-  numbers = [];
-  count = refl;
-  small = refl;
-  spelled = grind (arith, common_steps);
-  moved = IsMoved-here r h;
-}
 
 -- short ones
 pub short_passed : (n : ℕ) (a b : Reading) → SpellsMany (passed a b) n → IsMoved a b → PassesNumbers n a b true

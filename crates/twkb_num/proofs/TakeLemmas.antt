@@ -1,15 +1,14 @@
 -- Numbers that are read and taken, and more after them.
 use Rattle.std.proofs.Common.{nat_eq, ap, ◌∙◌, take, drop, length-drop, ◌≡◌, ◌⊎◌, inl, inr, ℕ, ℤ, ◌+◌, ◌*◌, ◌<◌, ◌≤◌, List, [], ◌∷◌, ◌++◌, length, sym, subst, refl, arith, append_assoc, length-append}
-use Rattle.std.proofs.lemmas.Grind.{common_steps}
 use Rattle.std.proofs.lemmas.Bool.{cases_Bool, cond-true, cond-false}
 use Rattle.std.proofs.lemmas.List.{append-nil, length-take}
 use Rattle.std.proofs.Math.Nat.{mul-add}
-use Rattle.twkb_num.specs.Cursor.{Reading, passed, IsMoved, IsSound}
+use Rattle.twkb_num.specs.Cursor.{Reading, passed, IsMoved}
 use Rattle.twkb_num.specs.Varint.{IsSigned, SpellsAllSigned}
 use Rattle.twkb_num.specs.Devices.Lanes.{count_in}
 use Rattle.twkb_num.specs.Numbers.{IsAxes, points_in, ReadsNumbers, StopsAt, TakesOn, Takes, StopsTaking}
 use Rattle.twkb_num.specs.declared.varint.NumFault.{NumFault}
-use Rattle.twkb_num.proofs.CursorLemmas.{passed-append, IsMoved-after, IsMoved-here}
+use Rattle.twkb_num.proofs.CursorLemmas.{passed-append, IsMoved-after}
 use Rattle.twkb_num.proofs.LaneLemmas.{SpellsAllSigned-append}
 
 -- at most four
@@ -31,10 +30,6 @@ length-points_in axes lanes eight =
       | inr other ↦ ap length (cond-false (nat_eq axes 3) (take 3 lanes ++ take 3 (drop 4 lanes)) lanes other) ∙ eight ∙ sym (cond-false (nat_eq axes 3) 6 8 other)
     ]
 
--- no number was read
-pub nothing_read : (r : Reading) → IsSound r → ReadsNumbers r r []
-nothing_read r h = record { spelled = grind (arith, common_steps); moved = IsMoved-here r h }
-
 -- one number was read
 pub one_read : (a b : Reading) (z : ℤ) → IsSigned z (passed a b) → IsMoved a b → ReadsNumbers a b (z ∷ [])
 one_read a b z one moved = record { spelled = (passed a b, [], sym (append-nil (passed a b)), one, refl); moved = moved }
@@ -47,18 +42,11 @@ more_read a b c xs ys p q = record {
 }
 
 module _ {S : Type 0} (took : S → List ℤ → S → Type 0) (axes : ℕ) where
-  -- nothing is taken
-  pub nothing_on : (axis : ℕ) (s : S) → TakesOn took axes axis s [] s
-  nothing_on axis s first before points t e = subst (λ l. took first l s) (sym (append-nil before)) t
-
   -- numbers were taken, and then more, from a later axis on
   pub more_on : (axis next k : ℕ) (s t u : S) (xs ys : List ℤ) → TakesOn took axes axis s xs t → TakesOn took axes next t ys u → length xs + axis ≡ axes * k + next → TakesOn took axes axis s (xs ++ ys) u
   more_on axis next k s t u xs ys p q e first before points h n =
       let sum : length (before ++ xs) ≡ axes * (points + k) + next = omega (arith, length-append before xs, n, e, mul-add axes points k) in
       subst (λ l. took first l u) (append_assoc before xs ys) (q first (before ++ xs) (points + k) (p first before points h n) sum)
-
-  pub takes_nothing : (axis : ℕ) (r : Reading) (s : S) → IsSound r → Takes took axes axis 0 r r s s
-  takes_nothing axis r s h = ([], refl, nothing_read r h, nothing_on axis s)
 
   pub takes_more : (axis next k m n all : ℕ) (a b c : Reading) (s t u : S) → Takes took axes axis m a b s t → Takes took axes next n b c t u → m + axis ≡ axes * k + next → m + n ≡ all → Takes took axes axis all a c s u
   takes_more axis next k m n all a b c s t u p q e sum =

@@ -1,16 +1,10 @@
 -- What a call that reads nothing tells: few bytes are left, or some go on.
-use Rattle.std.proofs.Common.{◌≡◌, ℕ, ◌+◌, ◌-◌, ◌<◌, ◌≤◌, ◌^◌, inl, inr, ℤ, List, length, take, drop, slice_index, slice_range, sym, ap, ◌∙◌, arith, length-take, length-drop}
-use Rattle.std.proofs.Math.Nat.{pow-le-pow_right}
-use Rattle.std.proofs.lemmas.Bool.{cases_lt}
+use Rattle.std.proofs.Common.{◌≡◌, ℕ, ◌+◌, ◌-◌, ◌<◌, ◌≤◌, inl, inr, List, length, take, drop, slice_index, slice_range, ap, ◌∙◌, arith, length-drop}
 use Rattle.std.proofs.lemmas.Grind.{common_steps}
 use Rattle.std.proofs.lemmas.List.{get_or-take, get_or-drop}
 use Rattle.twkb_num.specs.Cursor.{Reading, rest, IsMoved}
-use Rattle.twkb_num.specs.Varint.{HasLong, IsStuck, IsSigned, IsShort, Faults}
+use Rattle.twkb_num.specs.Varint.{HasLong, IsStuck}
 use Rattle.twkb_num.specs.Devices.Ends.{EndsOnce}
-use Rattle.twkb_num.specs.declared.varint.NumFault.{NumFault}
-use Rattle.twkb_num.specs.declared.varint.NumFault.TheVariants.{Cut, Long}
-use Rattle.twkb_num.proofs.VarintLemmas.{sum_of_groups-lt}
-use Rattle.twkb_num.proofs.PairLaws.{zigzag_short}
 use Rattle.twkb_num.proofs.LongLemmas.{long_in_front}
 
 -- what a chunk of the next eight bytes tells of them
@@ -40,28 +34,3 @@ told_after n within old new moved few (inr h) = inr (new.place - old.place + h.0
     go k l =
         let there : old.place + (new.place - old.place + h.0 + k) ≡ new.place + (h.0 + k) = omega (arith, moved.ahead) in
         omega (arith, h.2 k l, get_or-drop new.place new.bytes (h.0 + k) 0, get_or-drop old.place old.bytes (new.place - old.place + h.0 + k) 0, ap (λ (bs : List ℕ). slice_index bs (new.place + (h.0 + k))) moved.bytes, ap (slice_index old.bytes) there)
-
--- bytes that all go on
-first_four : (bytes : List ℕ) → ((k : ℕ) → k < 4 → 128 ≤ slice_index bytes k) → IsStuck 4 4 bytes
-first_four bytes on = inr (0, omega arith, λ k l. let same : 0 + k ≡ k = omega arith in omega (arith, on k l, ap (slice_index bytes) same))
-
--- a fault is found where few are left, or the first four go on
-pub told_by_fault : (fault : NumFault) (bytes : List ℕ) → Faults fault bytes → IsStuck 4 4 bytes
-told_by_fault Cut bytes h =
-    elim (cases_lt (length bytes) 4) [
-      | inl few ↦ inl few
-      | inr more ↦ first_four bytes (λ k l. h.goes_on k (omega (arith, l, more)))
-    ]
-told_by_fault Long bytes h = first_four bytes (λ k l. h.goes_on k (omega (arith, l)))
-
--- a number that isn't short is spelled by more than four bytes
-pub told_by_number : (z : ℤ) (bytes : List ℕ) (many : ℕ) → IsSigned z (take many bytes) → (IsShort z → ⊥) → IsStuck 4 4 bytes
-told_by_number z bytes many signed far =
-    let front : List ℕ = take many bytes in
-    let spells = signed.1 in
-    elim (cases_lt (length front) 5) [
-      | inl few ↦
-          let p : 128 ^ (0 + length front) ≤ 128 ^ 4 = pow-le-pow_right {n = 128} (omega arith) {i = 0 + length front} {j = 4} (omega (arith, few)) in
-          absurd (far (zigzag_short signed.0 z (omega (arith, p, spells.value, sum_of_groups-lt 0 front)) (sym signed.2)))
-      | inr more ↦ first_four bytes (λ k l. omega (arith, spells.goes_on k (omega (arith, l, more)), get_or-take many bytes k 0 (omega (arith, l, more, length-take many bytes))))
-    ]

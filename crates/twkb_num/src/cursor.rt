@@ -1,12 +1,11 @@
 //! A cursor over bytes, which counts what it reads. Used by other crates.
-ghost use Rattle.std.specs.Prelude.{◌≡◌, ◌+◌, ◌-◌, ◌<◌, ◌≤◌, ◌^◌, ◌↔◌, ◌⊎◌, ℕ, ℤ, List, [], ◌∷◌, ◌++◌, length, take, true, false, IsNone, IfOk, IfErr, IfSome, IfNone, OnOk, OnSome, IsTrue};
+ghost use Rattle.std.specs.Prelude.{◌≡◌, ◌+◌, ◌-◌, ◌<◌, ◌≤◌, ◌^◌, ◌↔◌, ◌⊎◌, ℕ, ℤ, List, [], ◌∷◌, ◌++◌, length, take, false, IsNone, IfOk, IfErr, IfSome, IfNone, OnOk, OnSome};
 ghost use Rattle.twkb_num.specs.Cursor.{rest, passed, counted, IsMoved, IsSound};
-ghost use Rattle.twkb_num.specs.Devices.Ends.{IsFirstEnd};
 ghost use Rattle.twkb_num.specs.Varint.{SpellsMany, Spells, IsSigned, Faults, IsCut, looked_at, IsStuck, StopsBefore};
 ghost use Rattle.twkb_num.specs.declared.varint.NumFault.TheVariants.{Cut};
 ghost use Rattle.twkb_num.specs.Devices.Varint.{IsBegunBy};
 
-use crate::ends::{first_end, first_varints};
+use crate::ends::first_varints;
 use crate::signed::unzigzag;
 use crate::varint::{NumFault, decode};
 use std::marker::Model;
@@ -21,19 +20,16 @@ use std::marker::Model;
 /// read short numbers together and touch bytes after them, but neither a result, nor a place, nor a count depends on such a byte.
 /// So they tell nothing of bytes that aren't counted.
 ///
-/// Other calls read or pass numbers by words of eight bytes, such as [`Cursor::svarint_pair`], [`Cursor::pass_varint`] and
-/// [`Cursor::pass_varints`], or by vectors from the next 16, 32 or 80 bytes, as [`Cursor::svarint_mixed_pair`],
-/// [`Cursor::svarint_four`], [`Cursor::svarint_eight`] and [`Cursor::svarint_eights`] do. They touch bytes after the numbers too,
-/// as reading a cache line does, but count only the bytes of the numbers. If such a call fails (returns `None`, or a result whose
-/// `is_read` is false), reads fewer than four eights or passes fewer numbers than requested, its caller learns something about
-/// bytes that aren't counted: a number is too long for the call, the end is near, no point of the right form is there
-/// ([`Cursor::pass_short_point`]), or (the last two calls below) a count can't be read or is too large. If [`Cursor::pass_one`]
-/// returns `false`, its caller learns that the next byte isn't 1. This list says when a call may fail or stop early, and which
-/// clause says so. Where a call may fail, no clause says whether it does, except where the clause is `exact`; only the code shows
-/// that this choice tells nothing else. A byte *goes on* if it is at least 128.
+/// Other calls read or pass numbers by words of eight bytes, such as [`Cursor::svarint_pair`], [`Cursor::pass_pair`] and
+/// [`Cursor::pass_varints`], or by vectors from the next 16 or 32 bytes, as [`Cursor::svarint_mixed_pair`] and
+/// [`Cursor::svarint_four`] do. They touch bytes after the numbers too, as reading a cache line does, but count only the bytes of
+/// the numbers. If such a call fails (returns `None`, or a result whose `is_read` is false) or passes fewer numbers than requested,
+/// its caller learns something about bytes that aren't counted: a number is too long for the call, the end is near, no point of
+/// the right form is there ([`Cursor::pass_short_point`]), or (the last two calls below) a count can't be read or is too large.
+/// This list says when a call may fail or stop early, and which clause says so. Where a call may fail, no clause says whether it
+/// does, except where the clause is `exact`; only the code shows that this choice tells nothing else. A byte *goes on* if it is at
+/// least 128.
 ///
-/// - [`Cursor::pass_one`]: no byte is left, or the next one isn't 1 (`exact`).
-/// - [`Cursor::pass_varint`]: fewer than eight bytes are left, or the next eight all go on (`told`).
 /// - [`Cursor::pass_pair`]: fewer than eight bytes are left, or the next eight don't begin with two varints (`told`).
 /// - [`Cursor::pass_short_point`]: fewer than eleven bytes are left, or the first two don't begin a point with no field or with a
 ///   size alone. Without a size, it may also be that at most one of the eight bytes after the first two ends a varint. With a size,
@@ -41,12 +37,8 @@ use std::marker::Model;
 ///   the third byte says (`exact`).
 /// - [`Cursor::svarint_pair`] and [`Cursor::svarint_mixed_pair`]: fewer than eight bytes are left, or four in a row of the next
 ///   eight go on (`told`).
-/// - [`Cursor::svarint_pair_and_one`]: fewer than twelve bytes are left, or four in a row of the next twelve go on (`told`).
 /// - [`Cursor::svarint_two_pairs`]: fewer than sixteen bytes are left, or four in a row of the next sixteen go on (`told`).
 /// - [`Cursor::svarint_four`]: fewer than 32 bytes are left, or four in a row of the next sixteen go on (`told`).
-/// - [`Cursor::svarint_eight`]: fewer than 32 bytes are left, or two in a row of the next sixteen go on (`told`).
-/// - [`Cursor::svarint_eights`]: fewer than 80 bytes are left, or, after the eights that it read, two in a row of the next sixteen
-///   go on (`told`).
 /// - [`Cursor::pass_varints`]: after the numbers that it passed fewer than eleven bytes are left, or four in a row of the next
 ///   eleven go on (`stops`).
 /// - [`Cursor::pass_short_varints`]: fewer bytes are left than numbers were requested, or [`Cursor::pass_varints`] may stop after
@@ -180,22 +172,6 @@ impl<'a> Cursor<'a> {
         Some(byte)
     }
 
-    /// Moves past the number 1 if the next byte alone spells it. Otherwise it returns `false`, and the cursor is as it was. `false`
-    /// tells this one bit of a byte that isn't counted.
-    #[inline(always)]
-    pub fn pass_one(&mut self) -> bool
-        ensures passed { result ≡ true → passed self.old self.new ≡ 1 ∷ [] }
-        ensures exact { IsTrue result ↔ take 1 (rest self.old) ≡ 1 ∷ [] }
-        ensures moved { result ≡ true → IsMoved self.old self.new }
-        ensures still { result ≡ false → self.new ≡ self.old }
-    {
-        let is_one = self.bytes.get(self.place) == Some(&1);
-        if is_one {
-            self.place += 1;
-        }
-        is_one
-    }
-
     /// Reads the two bytes at the place. If fewer are left, it returns `None`, and the cursor is as it was.
     #[inline(always)]
     pub fn two_bytes(&mut self) -> Option<(u8, u8)>
@@ -303,20 +279,6 @@ impl<'a> Cursor<'a> {
         Ok(unzigzag(self.uvarint()?))
     }
 
-    /// Moves past the varint at the place without decoding it, if it takes at most eight bytes and eight bytes are left. Otherwise
-    /// it returns `None`, and the cursor is as it was. `None` tells this one bit of bytes that aren't counted.
-    #[inline(always)]
-    pub fn pass_varint(&mut self) -> Option<()>
-        ensures some { OnSome result ((n : ℕ) × Spells (passed self.old self.new) n) }
-        ensures moved { OnSome result (IsMoved self.old self.new) }
-        ensures none { IfNone result (self.new ≡ self.old) }
-        ensures told { IfNone result (IsStuck 8 8 (rest self.old)) }
-    {
-        let len = self.short_length()?;
-        self.place += len;
-        Some(())
-    }
-
     /// Moves past at most `many` varints without decoding them, and returns how many it passed. It finds their ends in words of
     /// eight bytes, and stops before a word that the bytes don't fill, or in one half of which no varint ends (in the first word:
     /// in its first seven bytes, or in its second half). So each varint that it passes takes at most seven bytes.
@@ -357,15 +319,6 @@ impl<'a> Cursor<'a> {
         self.place += front.size;
         Some(())
     }
-
-    // How many bytes the varint at the place takes, where eight bytes are left and it takes no more.
-    #[inline(always)]
-    fn short_length(&self) -> Option<usize>
-        ensures some { IfSome result (IsFirstEnd (rest self.now)) }
-        ensures told { IfNone result (IsStuck 8 8 (rest self.now)) }
-    {
-        first_end(self.bytes[self.place..].first_chunk::<8>()?)
-    }
 }
 
 mod lanes;
@@ -378,7 +331,7 @@ mod runs;
 #[cfg(test)]
 mod tests;
 
-pub use lanes::{Eight, Four, TakeEight};
+pub use lanes::Four;
 pub use pages::Prefetch;
 pub use point::TYPE_AND_FIELDS;
 pub use points::TakePoints;

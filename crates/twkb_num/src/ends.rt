@@ -1,7 +1,7 @@
 //! Where varints end, found in words of eight bytes. Used by `cursor`, `cursor/pairs` and `cursor/point`.
-ghost use Rattle.std.specs.Prelude.{◌≡◌, ◌↔◌, ◌+◌, ◌*◌, ◌-◌, ◌≤◌, ◌<◌, ◌^◌, ℕ, drop, slice_index, IsTrue, IfSome, IfNone};
+ghost use Rattle.std.specs.Prelude.{◌≡◌, ◌↔◌, ◌+◌, ◌*◌, ◌-◌, ◌≤◌, ◌<◌, ◌^◌, drop, IsTrue, IfSome, IfNone};
 ghost use Rattle.twkb_num.specs.Varint.{IsStuck};
-ghost use Rattle.twkb_num.specs.Devices.Ends.{IsFirstEnd, EndsOnce, ended, ends_to, eight_bytes, IsEnd, IsLastEnd, IsFrontOf};
+ghost use Rattle.twkb_num.specs.Devices.Ends.{EndsOnce, ended, ends_to, eight_bytes, IsEnd, IsLastEnd, IsFrontOf};
 
 /// The top bit of each byte of a word, which is set where a varint goes on.
 const TOPS: u64 = 0x8080_8080_8080_8080;
@@ -13,20 +13,6 @@ const ONES: u64 = 0x0101_0101_0101_0101;
 const SEVEN: u64 = 0x00ff_ffff_ffff_ffff;
 
 const FOUR: u64 = 0xffff_ffff;
-
-/// The length of the varint at the front of the eight bytes, or `None` if none of them ends it.
-#[inline(always)]
-pub fn first_end(bytes: &[u8; 8]) -> Option<usize>
-    ensures some { IfSome result (IsFirstEnd bytes.now) }
-    ensures none { IfNone result ((k : ℕ) → k < 8 → 128 ≤ slice_index bytes.now k) }
-{
-    let word = u64::from_le_bytes(*bytes);
-    let ends = !word & TOPS;
-    if ends == 0 {
-        return None;
-    }
-    Some((ends.trailing_zeros() / 8) as usize + 1)
-}
 
 /// The length of the first two varints together, if both end in the eight bytes.
 #[inline(always)]

@@ -206,18 +206,6 @@ pub fn tops_of_16(bytes: &[u8; 32]) -> u64
     continuation_bits(u8x16::from_slice(&bytes[0..16]))
 }
 
-/// The continuation bits of the first 64 bytes.
-#[inline(always)]
-pub fn tops_of_64(bytes: &[u8; 80]) -> u64
-    ensures { IsTops 64 result bytes.now }
-{
-    let first = continuation_bits(u8x16::from_slice(&bytes[0..16]));
-    let second = continuation_bits(u8x16::from_slice(&bytes[16..32]));
-    let third = continuation_bits(u8x16::from_slice(&bytes[32..48]));
-    let fourth = continuation_bits(u8x16::from_slice(&bytes[48..64]));
-    first + (second << 16) + (third << 32) + (fourth << 48)
-}
-
 /// Bit i is the top bit of byte i, which is set where a varint goes on.
 #[inline(always)]
 fn continuation_bits(v: u8x16) -> u64

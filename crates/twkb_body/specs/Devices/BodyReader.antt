@@ -92,10 +92,6 @@ geometries_at each n = many_at n (λ (s : ℤ) (g : Geometry). s) (λ s. each) (
 abbrev pub members_at : Reader Geometry → ℕ → Reader Members
 members_at each n r = viewed members_of (geometries_at each n r)
 
--- the body of a collection, over the reader of a member
-abbrev pub collection_at : Reader Geometry → Bool → Reader Body
-collection_at each ids r = list_at ids r >>= λ list a. viewed (members_body list) (members_at each (list.0).0 a)
-
 -- a geometry, over the reader of its members
 abbrev pub geometry_by : ℕ → (ℕ → Reader Members) → Reader Geometry
 geometry_by levels members r = viewed (λ x. geometry_from x.0 x.1) (spanned r (parts_at levels members r))

@@ -1,11 +1,11 @@
 -- Devices of proofs: nothing public names them.
 -- What the code keeps of the geometries it has read, in the words of `Pass`.
-use Rattle.std.specs.Prelude.{◌≡◌, ◌==◌, ℕ, ◌+◌, ◌-◌, ◌≤◌, Bool, cond, Option, Some, None, option_map}
+use Rattle.std.specs.Prelude.{◌≡◌, ◌==◌, ℕ, ◌+◌, ◌-◌, ◌≤◌, Bool, cond, Option, Some, None, is_some, option_map}
 use Rattle.twkb_head.specs.Header.{Header}
 use Rattle.twkb_head.specs.declared.header.SizeField.{SizeField}
 use Rattle.twkb_head.specs.declared.header.BoxField.{BoxField}
 use Rattle.twkb_body.specs.declared.found.FalseClaim.{FalseClaim}
-use Rattle.twkb_body.specs.declared.found.Found.{Found}
+use Rattle.twkb_body.specs.declared.found.Pass.{Pass}
 use Rattle.twkb_body.specs.Geometry.{Geometry, lengths_of, vertices}
 use Rattle.twkb_body.specs.Extent.{Reach, reach_of}
 use Rattle.twkb_body.specs.Devices.Pass.{Summary, Refused, Sums, first, false_at, is_within, is_tight}
@@ -15,9 +15,19 @@ use Rattle.twkb_body.specs.Audited.{number_of}
 abbrev pub named : Option FalseClaim → Refused
 named refused = option_map (λ f. (f.offset, number_of f.claim)) refused
 
+-- what was found of geometries: how many vertices they have, and the first false claim
+pub record Found : Type 0 where
+  pub vertices : ℕ
+  pub refused : Refused
+
 -- the summary of what was found, of geometries of this reach
 abbrev pub summary : Found → Reach → Summary
-summary f reach = record { count = f.vertices; reach = reach; refused = named f.refused }
+summary f reach = record { count = f.vertices; reach = reach; refused = f.refused }
+
+-- A claim was noted, if it is false: it precedes what was found since the pass had found this much.
+abbrev pub Notes : Bool → Pass → Pass → Refused → Type 0
+Notes was_refused old new claim = (before since : Refused) → was_refused ≡ is_some before
+    → named old.refused ≡ first before since → named new.refused ≡ first before (first claim since)
 
 -- the claim of the size, if it is false of a geometry that ends at stop
 abbrev pub size_judged : Option SizeField → ℕ → Refused

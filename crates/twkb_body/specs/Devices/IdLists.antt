@@ -4,10 +4,8 @@ use Rattle.std.specs.Prelude.{◌≡◌, ℕ, ◌+◌, ◌≤◌, Bool, true, Li
 use Rattle.twkb_num.specs.Cursor.{Reading}
 use Rattle.twkb_num.specs.Varint.{Spells, IsSigned}
 use Rattle.twkb_head.specs.Parts.{Times}
-use Rattle.twkb_body.specs.declared.lists.List.{List as ListFound}
 use Rattle.twkb_body.specs.Devices.Body.{ListHead}
-use Rattle.twkb_body.specs.Devices.Pass.{ids_refused}
-use Rattle.twkb_body.specs.Devices.Found.{named}
+use Rattle.twkb_body.specs.Devices.Pass.{Refused, ids_refused}
 
 -- there are this many ids, and the bytes begin with seventeen of them
 abbrev pub HasManyIds : ℕ → List ℕ → Type 0
@@ -21,8 +19,13 @@ HasManyIdsAfterCount has_ids bytes =
     × ((n : ℕ) × (count : List ℕ) × (behind : List ℕ)
     × (bytes ≡ count ++ behind) × Spells count n × HasManyIds n behind)
 
--- the code found this of the count and the ids between two readings
+-- what was found of a list: its count, and the claim of its ids, if it is false
+pub record ListFound : Type 0 where
+  pub count : ℕ
+  pub ids : Refused
+
+-- this was found of the count and the ids between two readings
 pub record IsListFound (old new : Reading) (head : ListHead) (list : ListFound) : Type 0 where
   pub count : list.count ≡ (head.0).0
   pub lengths : new.place ≡ old.place + ((head.0).1 + (head.1).1)
-  pub refused : named list.ids ≡ ids_refused (old.place + (head.0).1) (head.1).0
+  pub refused : list.ids ≡ ids_refused (old.place + (head.0).1) (head.1).0

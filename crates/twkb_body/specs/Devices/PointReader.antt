@@ -1,14 +1,12 @@
 -- Devices of proofs: nothing public names them.
 -- What readers of points have read: a value of the grammar, whose points changed a state. Or they ended early.
-use Rattle.std.specs.Prelude.{◌≡◌, ◌≢◌, ℕ, ◌≤◌, ◌⊎◌, Bool, true, false, List, fold, Result, Ok, Option, Some, None, IfOk, IfErr}
+use Rattle.std.specs.Prelude.{◌≡◌, ℕ, ◌≤◌, Bool, true, false, List, fold, Result, Ok, Option, Some, None, IfOk, IfErr}
 use Rattle.std.specs.Borrow.{GName}
 use Rattle.twkb_num.specs.Cursor.{Reading}
 use Rattle.twkb_head.specs.declared.header.Head.{Head}
 use Rattle.twkb_head.specs.declared.refusal.Malformed.{Malformed}
 use Rattle.twkb_head.specs.Header.{Header, axes_with}
-use Rattle.twkb_head.specs.Shared.Reader.{Answer, Reader, many_at, number_at, Fails}
-use Rattle.twkb_head.specs.declared.kinds.Kind.{Kind}
-use Rattle.twkb_head.specs.declared.kinds.Kind.TheVariants.{Point as PointKind, Polygon as PolygonKind}
+use Rattle.twkb_head.specs.Shared.Reader.{Answer, Reader, many_at, Fails}
 use Rattle.twkb_head.specs.Raw.{HavePrecisions}
 use Rattle.twkb_body.specs.declared.trail.Trail.{Trail}
 use Rattle.twkb_body.specs.Geometry.{PointValue}
@@ -103,12 +101,3 @@ pub record IsWalkingOn {S : Type 0} (step : Header → S → PointValue → S) (
   pub at_is : at ≡ record { axes = axes; trail = at.trail; state = ((of_head head, name), state) }
   pub kept : lost ≡ false → trail ≡ at.trail
   pub still : lost ≡ true → IsStill (step (of_head head)) state
-
--- A polygon has one ring, and its number of rings was read; or it isn't a polygon, and nothing was read.
-abbrev pub HasOneRing : Kind → Reading → Reading → Type 0
-HasOneRing kind old new = ((kind ≡ PolygonKind) × (number_at old ≡ (Ok 1, new))) ⊎ ((kind ≢ PolygonKind) × (new ≡ old))
-
--- the number of points of a point, which is one, or of a line or a ring, which is told
-abbrev pub HasLength : Kind → Reading → Result ℕ Malformed → Reading → Type 0
-HasLength kind old result new = ((kind ≡ PointKind) × (result ≡ Ok 1) × (new ≡ old))
-    ⊎ ((kind ≢ PointKind) × (number_at old ≡ (result, new)))

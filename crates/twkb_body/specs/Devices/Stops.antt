@@ -1,6 +1,6 @@
 -- Devices of proofs: nothing public names them.
 -- The answers of code that reads and may want memory, by the answers of the readers.
-use Rattle.std.specs.Prelude.{◌≡◌, ◌≢◌, ◌↔◌, ℕ, ◌+◌, ◌-◌, ◌<◌, Bool, true, false, IsTrue, List, AllPairs, Result, Ok, Err}
+use Rattle.std.specs.Prelude.{◌≡◌, ◌≢◌, ◌↔◌, ℕ, ◌+◌, ◌-◌, ◌<◌, Bool, true, false, IsTrue, is_some, List, AllPairs, Result, Ok, Err}
 use Rattle.twkb_num.specs.Cursor.{Reading, rest}
 use Rattle.twkb_head.specs.declared.header.Head.{Head}
 use Rattle.twkb_head.specs.BegunHeader.{deepest, is_collection}
@@ -8,17 +8,15 @@ use Rattle.twkb_head.specs.Header.{is_multi}
 use Rattle.twkb_head.specs.Shared.Reader.{Answer, Fails, signeds_at}
 use Rattle.twkb_body.specs.Geometry.{Geometry, vertices}
 use Rattle.twkb_body.specs.Audited.{HasLongList}
-use Rattle.twkb_body.specs.Extent.{reach_of}
+use Rattle.twkb_body.specs.Extent.{Reach, reach_of}
 use Rattle.twkb_body.specs.Devices.Body.{ListHead, Body}
 use Rattle.twkb_body.specs.Devices.BodyReader.{list_at, count_at, geometries_at, geometry_at}
-use Rattle.twkb_body.specs.Devices.Found.{IsFound}
-use Rattle.twkb_body.specs.Devices.Seen.{HasSeen}
-use Rattle.twkb_body.specs.Devices.Inside.{of_head, shape_behind, IsInside}
-use Rattle.twkb_body.specs.Devices.IdLists.{HasManyIds, HasManyIdsAfterCount, IsListFound}
-use Rattle.twkb_body.specs.declared.found.Found.{Found}
-use Rattle.twkb_body.specs.declared.inside.Inside.{Inside}
-use Rattle.twkb_body.specs.declared.lists.List.{List as ListFound}
-use Rattle.twkb_body.specs.declared.seen.Seen.{Seen}
+use Rattle.twkb_body.specs.Devices.Pass.{Refused, first}
+use Rattle.twkb_body.specs.Devices.Found.{Found, IsFound, named}
+use Rattle.twkb_body.specs.Devices.Inside.{Inside, of_head, shape_behind, first_inside, IsInside}
+use Rattle.twkb_body.specs.Devices.IdLists.{HasManyIds, HasManyIdsAfterCount, ListFound, IsListFound}
+use Rattle.twkb_body.specs.declared.found.Halted.{Halted}
+use Rattle.twkb_body.specs.declared.found.Pass.{Pass}
 use Rattle.twkb_body.specs.declared.stopped.Stopped.{Stopped}
 use Rattle.twkb_body.specs.declared.stopped.Stopped.TheVariants.{Malformed as BadField, Memory}
 
@@ -39,31 +37,43 @@ ReadsIds count old result new =
     ReadsOrStops (signeds_at count old) (λ ids distinct. IsTrue distinct ↔ AllPairs (λ a b. a ≢ b) ids)
     (HasManyIds count (rest old)) old result new
 
--- `ReadsOrStops` for a list: its count, and its ids if they are announced
-abbrev pub ReadsList : Answer ListHead → Bool → Reading → Result ListFound Stopped → Reading → Type 0
-ReadsList answer has_ids old result new =
-    ReadsOrStops answer (IsListFound old new) (HasManyIdsAfterCount has_ids (rest old)) old result new
+-- `ReadsOrStops` for code that says in a pass why it stopped
+abbrev pub ReadsOrHalts : {A B : Type 0} → Answer A → (A → B → Type 0) → Type 0
+    → Pass → Reading → Result B Halted → Reading → Type 0
+ReadsOrHalts {A} answer Gives Wants pass old (Ok y) new = (x : A) × (answer ≡ (Ok x, new)) × Gives x y
+ReadsOrHalts answer Gives Wants pass old (Err e) new = HasStopped answer Wants old pass.stopped new
 
--- `ReadsOrStops` for a body, of which the code says what was found inside
-abbrev pub ReadsInside : Bool → Head → Answer Body → Type 0 → Seen → Seen
-    → Reading → Result Inside Stopped → Reading → Type 0
-ReadsInside tight head answer Wants above after old result new =
-    ReadsOrStops answer
-    (λ body inside. IsInside tight (of_head head) head.bounds body old.place new.place above after inside)
-    Wants old result new
+-- `ReadsOrHalts` for a list: its count, and its ids if they are announced
+abbrev pub ReadsList : Answer ListHead → Bool → Pass → Pass → Reading → Result ℕ Halted → Reading → Type 0
+ReadsList answer has_ids before after old result new =
+    ReadsOrHalts answer
+    (λ head count. (list : ListFound) × IsListFound old new head list × (count ≡ list.count)
+    × (named after.refused ≡ first (named before.refused) list.ids))
+    (HasManyIdsAfterCount has_ids (rest old)) after old result new
+
+-- `ReadsOrHalts` for a body, of which the code says how many vertices it has, and notes the first false claim after this one
+abbrev pub ReadsInside : Bool → Head → Answer Body → Type 0 → (Reach → Type 0) → Refused → Pass
+    → Reading → Result ℕ Halted → Reading → Type 0
+ReadsInside tight head answer Wants Saw before after old result new =
+    ReadsOrHalts answer
+    (λ body vertices. (inside : Inside) × IsInside tight (of_head head) head.bounds body old.place new.place Saw inside
+    × (vertices ≡ inside.found.vertices) × (named after.refused ≡ first before (first_inside inside)))
+    Wants after old result new
 
 -- `ReadsInside` for a body that is no collection, after its count and its ids
-abbrev pub ReadsParts : Bool → Head → ListFound → Seen → Seen → Reading → Result Inside Stopped → Reading → Type 0
-ReadsParts tight head list above after old result new =
-    (x : ListHead) (before : Reading) → count_at (is_multi head.kind) head.ids before ≡ (Ok x, old) → IsListFound before old x list
-    → ReadsInside tight head (shape_behind head before) (HasManyIdsAfterCount head.ids (rest before)) above after before result new
+abbrev pub ReadsParts : Bool → Head → ℕ → Bool → (Reach → Type 0) → Pass → Pass → Reading → Result ℕ Halted → Reading → Type 0
+ReadsParts tight head count was_refused Saw now after old result new =
+    (x : ListHead) (start : Reading) (list : ListFound) (before : Refused) → count_at (is_multi head.kind) head.ids start ≡ (Ok x, old)
+    → IsListFound start old x list → count ≡ list.count → was_refused ≡ is_some before → named now.refused ≡ first before list.ids
+    → ReadsInside tight head (shape_behind head start) (HasManyIdsAfterCount head.ids (rest start)) Saw before after start result new
 
--- `ReadsOrStops` for a whole geometry at a depth
-abbrev pub ReadsGeometry : Bool → ℕ → Seen → Seen → Reading → Result Found Stopped → Reading → Type 0
-ReadsGeometry tight depth above after old result new =
-    ReadsOrStops (geometry_at (deepest - depth) old)
-    (λ g found. IsFound tight g old.place new.place found × HasSeen above after (reach_of (vertices g)))
-    (HasLongList depth (rest old)) old result new
+-- `ReadsOrHalts` for a whole geometry at a depth
+abbrev pub ReadsGeometry : Bool → ℕ → (Reach → Type 0) → Pass → Pass → Reading → Result ℕ Halted → Reading → Type 0
+ReadsGeometry tight depth Saw before after old result new =
+    ReadsOrHalts (geometry_at (deepest - depth) old)
+    (λ g counted. (found : Found) × IsFound tight g old.place new.place found × Saw (reach_of (vertices g))
+    × (counted ≡ found.vertices) × (named after.refused ≡ first (named before.refused) found.refused))
+    (HasLongList depth (rest old)) after old result new
 
 -- Memory was wanted in the body of a collection, whose members have this many levels below them: for the ids of its own list,
 -- or for the ids of a list in a member, after the members that were read.

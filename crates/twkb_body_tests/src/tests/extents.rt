@@ -1,4 +1,4 @@
-//! Points at the limits of what the exact audit adds in lanes, against the plain reader: far from the base, bases far from zero,
+//! Points at the limits of what an audit adds in lanes, against the plain reader: far from the base, bases far from zero,
 //! sums that leave 64 bits by one, long numbers at each place, and such points at random.
 use self::run::{Axes, BOTH, Case, EACH, FLAT, FORMS, Form, M, Run, Z, blob, boxes_agree};
 use super::bytes::{GREATEST, number_of};

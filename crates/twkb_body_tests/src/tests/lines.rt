@@ -1,4 +1,4 @@
-//! Lines in a box, with a size and without, with Z, M or both and without, on each side of each condition of the first reading,
+//! Lines in a box, with a size and without, with Z, M or both and without, with minima and extents near zero and far from it,
 //! against the plain reader.
 use super::bytes::{GREATEST, put_bounds, put_bytes, put_points, put_unsigned};
 use super::variants::{agrees, both_agree};

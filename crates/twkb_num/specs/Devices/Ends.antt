@@ -3,14 +3,6 @@
 use Rattle.std.specs.Prelude.{◌≡◌, ◌+◌, ◌-◌, ◌*◌, ◌/◌, ◌<◌, ◌≤◌, ℕ, zero, suc, List, length, take, slice_index}
 use Rattle.twkb_num.specs.Varint.{SpellsMany}
 
--- the first byte below 128 is the last of the first `many` bytes, and `many` is at most 8
-pub record IsFirstEnd (bytes : List ℕ) (many : ℕ) : Type 0 where
-  pub some : 1 ≤ many
-  pub few : many ≤ 8
-  pub within : many ≤ length bytes
-  pub goes_on : (k : ℕ) → k + 1 < many → 128 ≤ slice_index bytes k
-  pub ends : slice_index bytes (many - 1) < 128
-
 -- at most one of the first eight bytes ends a varint: the bytes after it go on
 abbrev pub EndsOnce : List ℕ → Type 0
 EndsOnce bytes = (i k : ℕ) → i < k → k < 8 → slice_index bytes i < 128 → 128 ≤ slice_index bytes k

@@ -1,5 +1,5 @@
 //! Signed numbers at a cursor's place, read together into the lanes of a vector. Used by `cursor/numbers`.
-ghost use Rattle.std.specs.Prelude.{◌≡◌, ◌-◌, ◌<◌, ◌≤◌, ◌*◌, ◌⊎◌, ℤ, List, length, [], ◌∷◌, ◌++◌, false, map, replicate, take, drop, ℕ, All, IsTrue};
+ghost use Rattle.std.specs.Prelude.{◌≡◌, ◌-◌, ◌<◌, ◌⊎◌, length, [], ◌∷◌, false, map, replicate, take, drop, ℕ, All, IsTrue};
 ghost use Rattle.std.specs.Int.{w16, w32, cast_signed};
 ghost use Rattle.twkb_num.specs.Cursor.{passed, rest, IsMoved};
 ghost use Rattle.twkb_num.specs.Devices.Pairs.{ReadsPair};
@@ -7,9 +7,7 @@ ghost use Rattle.twkb_num.specs.Numbers.{IsAxes, points_in, HaveZeros};
 ghost use Rattle.twkb_num.specs.Varint.{SpellsAllSigned, IsShort, IsBrief, HasLong};
 
 use super::Cursor;
-use crate::vectors::{
-    narrow_eight, narrow_six, tops_of_16, tops_of_64, wide_four, wide_pair, wide_three,
-};
+use crate::vectors::{narrow_eight, narrow_six, tops_of_16, wide_four, wide_pair, wide_three};
 use std::simd::prelude::*;
 
 /// Four signed numbers in lanes of 32 bits, in two's complement. If `is_read` is false, none were read and the lanes are zero.
@@ -24,18 +22,6 @@ pub struct Four {
 pub struct Eight {
     pub lanes: u16x8,
     pub is_read: bool,
-}
-
-/// What [`Cursor::svarint_eights`] gives the numbers to.
-pub trait TakeEight {
-    /// The first became the second by taking these numbers.
-    ghost has_taken: { Self → List ℤ → Self → Type 0 };
-
-    /// Takes eight numbers more, in lanes of 16 bits, in two's complement.
-    fn take_eight(&mut self, eight: u16x8)
-        requires { All IsBrief (map (cast_signed w16) eight) }
-        ensures { (first : Self) (before : List ℤ) → has_taken first before self.old
-            → has_taken first (before ++ map (cast_signed w16) eight) self.new };
 }
 
 impl Four {
@@ -262,14 +248,14 @@ impl<'a> Cursor<'a> {
         if axes == 3 {
             self.lane_six()
         } else {
-            self.svarint_eight()
+            self.lane_eight()
         }
     }
 
     /// Reads the eight signed varints at the place, if each takes at most two bytes and 32 bytes are left. Otherwise it reads
     /// nothing: `is_read` is false, and the lanes are zero.
     #[inline(always)]
-    pub fn svarint_eight(&mut self) -> Eight
+    fn lane_eight(&mut self) -> Eight
         ensures some { IsTrue result.is_read
             → SpellsAllSigned (passed self.old self.new) (map (cast_signed w16) result.lanes) }
         ensures brief { All IsBrief (map (cast_signed w16) result.lanes) }
@@ -289,43 +275,6 @@ impl<'a> Cursor<'a> {
             }
         }
         Eight::nothing()
-    }
-
-    /// Reads up to four times eight signed varints at the place, gives each eight to `to`, and returns how many eights were read.
-    /// It stops before eight of which one takes more than two bytes, and reads none if fewer than 80 bytes are left.
-    // The places of all numbers are told by the continuation bits of 64 bytes, which are found together. So the processor knows
-    // where the next eight begin earlier than by `svarint_eight`, which finds the bits of sixteen bytes from there on.
-    #[inline(always)]
-    pub fn svarint_eights<T: TakeEight>(&mut self, to: &mut T) -> u64
-        requires { T.has_taken to.old [] to.old }
-        ensures few { result ≤ 4 }
-        ensures some { (numbers : List ℤ) × SpellsAllSigned (passed self.old self.new) numbers
-            × (length numbers ≡ 8 * result) × T.has_taken to.old numbers to.new }
-        ensures told { result < 4 → (length (rest self.old) < 80) ⊎ HasLong 2 16 (rest self.new) }
-        ensures moved { 1 ≤ result → IsMoved self.old self.new }
-        ensures none { result ≡ 0 → self.new ≡ self.old }
-    {
-        let Some(bytes) = self.bytes[self.place..].first_chunk::<80>() else {
-            return 0;
-        };
-        let mut tops = tops_of_64(bytes);
-        let mut len = 0;
-        let mut eights = 0;
-        for _ in 0..4 {
-            let Some(ahead) = bytes[len..].first_chunk::<32>() else {
-                unreachable!()
-            };
-            let eight = narrow_eight(ahead, tops);
-            if eight.len >= 128 {
-                break;
-            }
-            to.take_eight(eight.lanes);
-            eights += 1;
-            len += eight.len;
-            tops >>= eight.len % 64;
-        }
-        self.place += len;
-        eights
     }
 }
 

@@ -1,8 +1,8 @@
 //! Two to four signed numbers at a cursor's place, read together, and two numbers passed together.
-ghost use Rattle.std.specs.Prelude.{◌≡◌, ◌↔◌, ◌+◌, ◌<◌, ◌≤◌, ◌⊎◌, ℕ, length, take, IfSome, IfNone, OnSome, IsTrue};
+ghost use Rattle.std.specs.Prelude.{◌≡◌, ◌+◌, ◌<◌, ◌≤◌, ◌⊎◌, ℕ, length, take, IfSome, IfNone, OnSome};
 ghost use Rattle.twkb_num.specs.Devices.Pairs.{ReadsPair, PassesTwoPairs};
 ghost use Rattle.twkb_num.specs.Cursor.{Reading, passed, rest, IsMoved};
-ghost use Rattle.twkb_num.specs.Varint.{SpellsMany, SpellsTwoSigned, IsSigned, IsShort, IsStuck};
+ghost use Rattle.twkb_num.specs.Varint.{SpellsMany, SpellsTwoSigned, IsShort, IsStuck};
 
 use super::Cursor;
 use crate::ends::second_end;
@@ -93,30 +93,6 @@ impl<'a> Cursor<'a> {
         Some((first, second))
     }
 
-    /// Reads a pair as [`Cursor::svarint_pair`] does, and the signed varint after it, if its number fits four bytes. Otherwise it
-    /// returns `None`, and the cursor is as it was.
-    #[inline(always)]
-    pub fn svarint_pair_and_one(&mut self) -> Option<((i64, i64), i64)>
-        ensures some { IfSome result (λ three. (middle : Reading)
-            × SpellsTwoSigned (passed self.old middle) (three.0).0 (three.0).1 × IsMoved self.old middle
-            × IsSigned three.1 (passed middle self.new) × IsMoved middle self.new) }
-        ensures pair { IfSome result (λ three. IsShort (three.0).0 × IsShort (three.0).1) }
-        ensures one { IfSome result (λ three. IsShort three.1) }
-        ensures told { IfNone result (IsStuck 4 12 (rest self.old)) }
-        ensures none { IfNone result (self.new ≡ self.old) }
-    {
-        let mut ahead = self.copied();
-        let pair = ahead.svarint_pair()?;
-        let Ok(one) = ahead.svarint() else {
-            return None;
-        };
-        if !is_short(one) {
-            return None;
-        }
-        *self = ahead;
-        Some((pair, one))
-    }
-
     // A copy for calls that read all or nothing: it replaces the cursor, or is dropped with what it read.
     #[inline(always)]
     pub(super) fn copied(&self) -> Cursor<'a>
@@ -145,12 +121,4 @@ impl<'a> Cursor<'a> {
         self.place += both;
         Some(())
     }
-}
-
-/// Whether four bytes can spell a number.
-#[inline(always)]
-fn is_short(number: i64) -> bool
-    ensures { IsTrue result ↔ IsShort number }
-{
-    -(1 << 27) <= number && number < 1 << 27
 }

@@ -24,24 +24,6 @@ fn bytes_come_in_order(rt: HostRuntime) {
 }
 
 #[test]
-fn a_one_is_passed_if_one_byte_spells_it(rt: HostRuntime) {
-    let mut cursor = Cursor::new(&[1, 0x81, 0, 2, 1]);
-    equal(&rt, cursor.pass_one(), true);
-    equal(&rt, cursor.place(), 1);
-    // Here two bytes spell it, and then there is a two.
-    equal(&rt, cursor.pass_one(), false);
-    equal(&rt, cursor.place(), 1);
-    equal(&rt, cursor.uvarint(), Ok(1));
-    equal(&rt, cursor.pass_one(), false);
-    equal(&rt, cursor.uvarint(), Ok(2));
-    equal(&rt, cursor.pass_one(), true);
-    equal(&rt, cursor.place(), 5);
-    equal(&rt, cursor.pass_one(), false);
-    equal(&rt, cursor.place(), 5);
-    equal(&rt, cursor.read_count(), 5);
-}
-
-#[test]
 fn a_fault_leaves_the_place_of_its_field(rt: HostRuntime) {
     let mut cursor = Cursor::new(&[0xC8, 0x01, 0x80]);
     equal(&rt, cursor.svarint(), Ok(100));
@@ -101,30 +83,6 @@ fn four_numbers_are_read_together_or_not_at_all(rt: HostRuntime) {
     equal(&rt, cursor.svarint_two_pairs(), None);
     equal(&rt, cursor.place(), 4);
     equal(&rt, cursor.read_count(), 5);
-}
-
-#[test]
-fn three_numbers_are_read_together_or_not_at_all(rt: HostRuntime) {
-    let bytes = [2, 1, 3, 5, 6, 7, 8, 0xfe, 0xff, 0xff, 0xff, 0x0f];
-    let mut cursor = Cursor::new(&bytes);
-    equal(&rt, cursor.svarint_pair_and_one(), Some(((1, -1), -2)));
-    equal(&rt, cursor.place(), 3);
-    equal(&rt, cursor.read_count(), 3);
-    // The third number is 2^31 - 1, which takes five bytes.
-    cursor.go_to(4);
-    equal(&rt, cursor.svarint_pair_and_one(), Some(((3, -4), 4)));
-    cursor.go_to(2);
-    equal(&rt, cursor.svarint_pair_and_one(), Some(((-2, -3), 3)));
-    equal(&rt, cursor.read_count(), 9);
-    let far = [2, 1, 0xfe, 0xff, 0xff, 0xff, 0x0f, 0, 0, 0];
-    let mut cursor = Cursor::new(&far);
-    equal(&rt, cursor.svarint_pair_and_one(), None);
-    equal(&rt, cursor.place(), 0);
-    equal(&rt, cursor.read_count(), 0);
-    // No byte is left for the third one.
-    let mut cursor = Cursor::new(&[2, 1]);
-    equal(&rt, cursor.svarint_pair_and_one(), None);
-    equal(&rt, cursor.read_count(), 0);
 }
 
 #[test]

@@ -55,7 +55,7 @@ fn reads_eight(rt: &impl Abort, bytes: &[u8]) {
     let reads = read_each(bytes, 8);
     let is_read = reads.longest <= 2 && 32 <= bytes.len();
     let mut cursor = Cursor::new(bytes);
-    let eight = cursor.svarint_eight();
+    let eight = cursor.lane_eight();
     equal(rt, eight.is_read, is_read);
     for (lane, number) in i16x8::from_le_bytes(eight.lanes.to_le_bytes())
         .to_array()
@@ -70,37 +70,6 @@ fn reads_eight(rt: &impl Abort, bytes: &[u8]) {
 fn ends(rt: &impl Abort, cursor: &Cursor, place: usize) {
     equal(rt, cursor.place(), place);
     equal(rt, cursor.read_count(), place as u64);
-}
-
-/// Takes eights, and compares them with those that a cursor of its own reads.
-#[derive(Drop)]
-struct EachEight<'a> {
-    cursor: Cursor<'a>,
-    are_same: bool,
-}
-
-impl TakeEight for EachEight<'_> {
-    ghost has_taken = { λ first numbers last. Unit {0} };
-
-    fn take_eight(&mut self, eight: u16x8) {
-        let read = self.cursor.svarint_eight();
-        let is_same = read.is_read && read.lanes.to_array() == eight.to_array();
-        self.are_same = self.are_same && is_same;
-    }
-}
-
-// As many eights are read as by `svarint_eight`, but at most four, with the same lanes, and none if fewer than 80 bytes are left.
-fn reads_eights(rt: &impl Abort, bytes: &[u8], eights: u64) {
-    let mut cursor = Cursor::new(bytes);
-    let mut each = EachEight {
-        cursor: Cursor::new(bytes),
-        are_same: true,
-    };
-    equal(rt, cursor.svarint_eights(&mut each), eights);
-    equal(rt, each.are_same, true);
-    ends(rt, &cursor, each.cursor.place());
-    let may_stop = eights == 4 || bytes.len() < 80;
-    equal(rt, may_stop || !each.cursor.svarint_eight().is_read, true);
 }
 
 // Both calls, with all bytes, with 32 of them and with 31.
@@ -122,32 +91,6 @@ fn each_lane_has_each_length(rt: HostRuntime) {
             reads_both(&rt, &bytes);
         }
     }
-}
-
-#[test]
-fn four_eights_are_read(rt: HostRuntime) {
-    for step in 2..20 {
-        let mut bytes = [0; 80];
-        for (place, byte) in bytes.iter_mut().enumerate() {
-            *byte = place as u8 + if place % step == 0 { 128 } else { 0 };
-        }
-        reads_eights(&rt, &bytes, 4);
-    }
-}
-
-#[test]
-fn eights_are_read_up_to_a_longer_number(rt: HostRuntime) {
-    for place in 0..32 {
-        let mut bytes = [0x33; 80];
-        bytes[place] = 0x95;
-        bytes[place + 1] = 0x95;
-        reads_eights(&rt, &bytes, place as u64 / 8);
-    }
-}
-
-#[test]
-fn no_eight_is_read_near_the_end(rt: HostRuntime) {
-    reads_eights(&rt, &[0x33; 79], 0);
 }
 
 #[test]

@@ -1,5 +1,4 @@
 //! Passes over varints without their numbers.
-use super::NUMBERS;
 use crate::cursor::Cursor;
 use crate::tests::equal;
 use std::process::Abort;
@@ -95,49 +94,6 @@ fn counted_runs_are_few(rt: HostRuntime) -> Result<(), Fail> {
         stands_at(&rt, &cursor, place);
     }
     Ok(())
-}
-
-// Varints of each length, with eight bytes left, or fewer, or more.
-#[test]
-fn passing_is_reading_without_the_number(rt: HostRuntime) {
-    for place in 0..10 {
-        for left in 0..=18 {
-            let bytes = &NUMBERS[place..place + left];
-            passes_as_it_reads(&rt, bytes, left >= 8 && place >= 2);
-        }
-    }
-}
-
-// If `is_passed`, the varint at the front is passed up to where a read of it ends. If not, the cursor is unchanged.
-fn passes_as_it_reads(rt: &impl Abort, bytes: &[u8], is_passed: bool) {
-    let mut reads = Cursor::new(bytes);
-    let mut passes = Cursor::new(bytes);
-    if is_passed {
-        assert!(rt; reads.uvarint().is_ok());
-        equal(rt, passes.pass_varint(), Some(()));
-    } else {
-        equal(rt, passes.pass_varint(), None);
-    }
-    equal(rt, passes.place(), reads.place());
-    equal(rt, passes.read_count(), reads.read_count());
-}
-
-#[test]
-fn varints_are_passed_up_to_their_ends(rt: HostRuntime) {
-    // Three bytes, one, and eight; then seven are left.
-    let bytes = [
-        0xFF, 0xFF, 0x01, 0x00, 0x80, 0x80, 0x80, 0x80, 0x80, 0x80, 0x80, 0x7F, 0x01, 0x01, 0x01,
-        0x01, 0x01, 0x01, 0x01,
-    ];
-    let mut cursor = Cursor::new(&bytes);
-    for place in [3, 4, 12] {
-        equal(&rt, cursor.pass_varint(), Some(()));
-        equal(&rt, cursor.place(), place);
-        equal(&rt, cursor.read_count(), place as u64);
-    }
-    equal(&rt, cursor.pass_varint(), None);
-    equal(&rt, cursor.place(), 12);
-    equal(&rt, cursor.read_count(), 12);
 }
 
 // A varint of one to seven bytes, eight of one to four in many orders, and bytes after them.

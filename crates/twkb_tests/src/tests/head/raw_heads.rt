@@ -134,7 +134,7 @@ fn headers_have_two_bytes(rt: HostRuntime) {
     }
 }
 
-// The questions that audits and skims ask about the first two bytes: which fields follow, and whether a body does.
+// The questions that skims ask about the first two bytes: which fields follow.
 #[test]
 fn every_first_two_bytes(rt: HostRuntime) {
     for first in 0..=255u8 {
@@ -144,8 +144,6 @@ fn every_first_two_bytes(rt: HostRuntime) {
                     metadata & 31 == 3,
                     metadata & 31 == 11,
                     metadata & 31 == 2 && first & 15 == 1,
-                    metadata & 8 == 0,
-                    metadata & 16 != 0,
                 ]),
                 _ => None,
             };
@@ -154,8 +152,6 @@ fn every_first_two_bytes(rt: HostRuntime) {
                     begun.is_flat_boxed(),
                     begun.is_further_boxed(),
                     begun.is_sized_point(),
-                    begun.is_flat(),
-                    begun.is_empty(),
                 ]
             });
             equal(&rt, (said, first, metadata), (expected, first, metadata));

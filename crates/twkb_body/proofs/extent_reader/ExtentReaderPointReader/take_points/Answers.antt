@@ -18,13 +18,13 @@ returns-in-Err g c =
       bytes = ap (λ (r : Reading). r.bytes) stops.stops.1 ∙ stops.read.moved.bytes;
     }
 
-pub returns-then-self : goal.returns-then-self
-returns-then-self g c =
+pub returns-then-has_left : goal.returns-then-has_left
+returns-then-has_left g c =
     let (zs, many, reads, on) = c.in_default.ensures.ok in
     let took = on c.args.self.now.all [] 0 (took_nothing g.row.AXES c.args.self.now.all) (omega arith) in
     record {
       read = tt;
-      ended = λ at before. run_leaving g.row.AXES c.args.count c.args.self.now.all c.args.self.now.points at c.args.cursor.now c.take_run.new.self zs before.there c.place_is_within.ensures reads many ((took before.there.held before.there.stays).1 c.if-self.true);
+      ended = λ at before. run_leaving g.row.AXES c.args.count c.args.self.now.all c.args.self.now.points at c.args.cursor.now c.take_run.new.self zs before.there c.place_is_within.ensures reads many ((took before.there.held before.there.stays).1 (sym c.has_left.ensures ∙ c.if-has_left.true));
       bytes = reads.moved.bytes;
     }
 
@@ -42,8 +42,9 @@ returns g c =
     let took = on c.args.self.now.all [] 0 (took_nothing g.row.AXES c.args.self.now.all) (omega arith) in
     record {
       read = λ at before.
-          let grown = (took before.there.held before.there.stays).0 c.if-self.false in
-          run_read g.row.AXES c.args.count c.args.self.now.all c.take_run.new.to c.args.self.now.points at c.args.cursor.now c.take_run.new.self zs before.there c.place_is_within.ensures reads many grown.0 c.if-self.false grown.1;
+          let stays = sym c.has_left.ensures ∙ c.if-has_left.false in
+          let grown = (took before.there.held before.there.stays).0 stays in
+          run_read g.row.AXES c.args.count c.args.self.now.all c.take_run.new.to c.args.self.now.points at c.args.cursor.now c.take_run.new.self zs before.there c.place_is_within.ensures reads many grown.0 stays grown.1;
       ended = tt;
       bytes = reads.moved.bytes;
     }

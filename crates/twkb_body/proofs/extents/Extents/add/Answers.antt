@@ -1,46 +1,46 @@
--- The axis of the number grows by it.
-use Rattle.std.proofs.Common.{◌≡◌, ◌+◌, ◌==◌, ℤ, Bool, refl, ◌∙◌, subst, arith, w64}
+-- The base sees the points in lanes, and then the axis of the number grows by it.
+use Rattle.std.proofs.Common.{◌≡◌, ◌∙◌, ◌<◌, ℕ, ℤ, Some, sym, ap, subst, arith, w64}
 use Rattle.std.proofs.lemmas.Int.{ints}
 use mir.Val.{to_z, of_z}
-use Rattle.twkb_body.specs.declared.extents.Extents.{Extents}
-use Rattle.twkb_body.specs.Devices.Extents.{AddsNumber}
-use Rattle.std.specs.Prelude.{◌||◌, ◌&&◌}
-use Rattle.twkb_body.proofs.BoxDistances.{both_true}
-use Rattle.twkb_body.proofs.ExtentSteps.{AddsTo, added_stays, added_leaves, of_four, none_leaves, some_leaves, each_adds, left_now}
+use Rattle.twkb_body.specs.declared.extents.Base.{Base}
+use Rattle.twkb_body.specs.declared.extent_lanes.Lanes.{Lanes}
+use Rattle.twkb_body.specs.Devices.Columns.{sum_fits}
+use Rattle.twkb_body.specs.Devices.Extents.{axis_in, base_of, base_or_zero, last_from, last_of, range_from, AreHeld, AddsNumber}
+use Rattle.twkb_body.proofs.ExtentLanes.{settles}
+use Rattle.twkb_body.proofs.ExtentSteps.{added_after, alone}
 use Rattle.twkb_body.proofs.extents.Extents.add.Goals as goal
+use Rattle.twkb_body.proofs.extents.Extents.add.Goals.{in-Some, in-None}
 
 pub returns-clause-added : goal.returns-clause-added
 returns-clause-added g c held stays =
+    let base_is : c.match-self.base ≡ base_of c.args.self.now = elim c.match-self.branch [
+      | in-Some w ↦ w.base-is ∙ sym (ap base_or_zero w.in-Some.is)
+      | in-None w ↦ w.base-is ∙ w.zero-base.ensures ∙ sym (ap base_or_zero w.in-None.is)
+    ] in
+    let lanes_are : c.match-self.self.lanes ≡ c.args.self.now.lanes = elim c.match-self.branch [
+      | in-Some w ↦ ap (λ e. e.lanes) w.self-is
+      | in-None w ↦ ap (λ e. e.lanes) w.self-is
+    ] in
     let raw : ℤ = to_z w64 (of_z w64 c.args.number) in
     let is : raw ≡ c.args.number = omega (arith, ints) in
-    let leaves = of_four c.add_if.result c.add_if-2.result c.add_if-3.result c.add_if-4.result in
-    let any : Bool = ((c.add_if.result || c.add_if-2.result) || c.add_if-3.result) || c.add_if-4.result in
-    let new : Extents = record {
-      lanes = c.settle.new.self.lanes;
-      x = c.add_if.new.self;
-      y = c.add_if-2.new.self;
-      third = c.add_if-3.new.self;
-      fourth = c.add_if-4.new.self;
-      is_near = (c.args.axis + 1 == g.row.AXES) && c.are_near_zero.result;
-      has_left = c.settle.new.self.has_left || any;
-    } in
-    let same = left_now c.settle.new.self.has_left any (c.settle.new.self.has_left || any) (c.settle.ensures.left ∙ stays) refl in
-    let adds : AddsTo g.row.AXES c.args.axis raw c.args.self.now c.settle.new.self new leaves = record {
-      few = c.requires.axes;
-      held = held;
-      lanes = c.settle.ensures.lanes;
-      last = λ k few. c.settle.ensures.last held k few (omega (arith, few, c.requires.axes));
-      range = λ k few. c.settle.ensures.range held k few (omega (arith, few, c.requires.axes));
-      adds = each_adds c.args.axis raw c.settle.new.self new c.add_if.result c.add_if-2.result c.add_if-3.result c.add_if-4.result
-          (record { fits = c.add_if.ensures.fits; leaves_64 = c.add_if.ensures.leaves_64; last = c.add_if.ensures.last; range = c.add_if.ensures.range; still = c.add_if.ensures.still; stays = c.add_if.ensures.stays })
-          (record { fits = c.add_if-2.ensures.fits; leaves_64 = c.add_if-2.ensures.leaves_64; last = c.add_if-2.ensures.last; range = c.add_if-2.ensures.range; still = c.add_if-2.ensures.still; stays = c.add_if-2.ensures.stays })
-          (record { fits = c.add_if-3.ensures.fits; leaves_64 = c.add_if-3.ensures.leaves_64; last = c.add_if-3.ensures.last; range = c.add_if-3.ensures.range; still = c.add_if-3.ensures.still; stays = c.add_if-3.ensures.stays })
-          (record { fits = c.add_if-4.ensures.fits; leaves_64 = c.add_if-4.ensures.leaves_64; last = c.add_if-4.ensures.last; range = c.add_if-4.ensures.range; still = c.add_if-4.ensures.still; stays = c.add_if-4.ensures.stays });
-      near = λ near k few. c.are_near_zero.ensures (both_true (c.args.axis + 1 == g.row.AXES) c.are_near_zero.result near).1 k few (omega (arith, few, c.requires.axes));
-    } in
-    subst (λ (n : ℤ). AddsNumber g.row.AXES c.args.axis n c.args.self.now new) is (
-      λ left. added_stays g.row.AXES c.args.axis raw c.args.self.now c.settle.new.self new leaves adds
-          (λ k few. none_leaves c.add_if.result c.add_if-2.result c.add_if-3.result c.add_if-4.result (same ∙ left) k),
-      λ left. let some = some_leaves c.add_if.result c.add_if-2.result c.add_if-3.result c.add_if-4.result (same ∙ left) in
-          added_leaves g.row.AXES c.args.axis raw c.args.self.now c.settle.new.self new leaves adds c.requires.axis some.0 some.1.0 some.1.1,
-    )
+    let axes : ℕ = g.row.AXES in
+    let held' : AreHeld axes c.match-self.base c.match-self.self.lanes =
+    subst (λ (b : Base). AreHeld axes b c.match-self.self.lanes) (sym base_is) (subst (AreHeld axes (base_of c.args.self.now)) (sym lanes_are) held) in
+    let last : (k : ℕ) → k < axes → (axis_in c.see.new.self k).last ≡ last_of c.args.self.now k =
+    λ k few. c.see.ensures.last held' k few (omega (arith, few, c.requires.axes)) ∙ (λ j. last_from (base_is j) (lanes_are j) k) in
+    let fits : (k : ℕ) → k < axes → sum_fits (axis_in c.see.new.self k).last =
+    λ k few. subst sum_fits (sym (last k few)) (settles axes (base_of c.args.self.now) c.args.self.now.lanes k held few (omega (arith, few, c.requires.axes))).last in
+    let added = c.add.ensures.added fits (c.see.ensures.left ∙ ap (λ (b : Base). b.has_left) base_is ∙ stays) in
+    subst (λ (l : Lanes). AddsNumber axes c.args.axis c.args.number c.args.self.now (record { lanes = l; base = Some c.add.new.self })) (sym c.none-self.ensures)
+    (subst (λ (n : ℤ). AddsNumber axes c.args.axis n c.args.self.now (alone c.add.new.self)) is
+    (added_after axes c.args.axis raw c.args.self.now c.see.new.self c.add.new.self c.requires.axes c.requires.axis last
+    (λ k few. c.see.ensures.range held' k few (omega (arith, few, c.requires.axes)) ∙ (λ j. range_from axes (base_is j) (lanes_are j) k))
+    added))
+
+pub returns-clause-left : goal.returns-clause-left
+returns-clause-left g c left =
+    let base_is : c.match-self.base ≡ base_of c.args.self.now = elim c.match-self.branch [
+      | in-Some w ↦ w.base-is ∙ sym (ap base_or_zero w.in-Some.is)
+      | in-None w ↦ w.base-is ∙ w.zero-base.ensures ∙ sym (ap base_or_zero w.in-None.is)
+    ] in
+    c.add.ensures.left (c.see.ensures.left ∙ ap (λ (b : Base). b.has_left) base_is ∙ left)

@@ -36,7 +36,7 @@ take_point-requires g c =
     let ready = c.requires.ready in
     let far = ring_goes_far (g.P.Points.step (of_head c.loop-done.self.head.now)) c.loop-done.self.axes c.args.count c.args.self.now.trail (g.P.Points.state c.args.self.now.points) c.args.cursor.now c.loop-done.done c.take_run-done.result _ _ _ _ _ _ (omega (arith, c.if-done-count.true)) c.take_run-done.ensures.run i.read in
     record {
-      walk = loop_ready g.P.Points.step c.args.self.now.head.now c.args.self.now.axes c.args.self.now.trail (g.P.Points.state c.args.self.now.points) c.args.count c.args.cursor.now c.loop-done.self.head.now c.loop-done.self.axes c.take_run-done.new._trail (g.P.Points.state c.take_run-done.new.self) (c.loop-done.done + c.take_run-done.result) c.take_run-done.new._cursor
+      walk = loop_ready g.P.Points.step c.args.self.now.head.now c.args.self.now.axes c.args.self.now.trail (g.P.Points.state c.args.self.now.points) c.args.count c.args.cursor.now c.loop-done.self.head.now c.loop-done.self.axes c.take_run-done.new.trail (g.P.Points.state c.take_run-done.new.self) (c.loop-done.done + c.take_run-done.result) c.take_run-done.new.cursor
           i.head i.axes far ready.0 ready.1.there ready.1.counted;
     }
 
@@ -47,10 +47,10 @@ returns-in_err-take_point g c =
     let far = ring_goes_far (g.P.Points.step (of_head c.loop-done.self.head.now)) c.loop-done.self.axes c.args.count c.args.self.now.trail (g.P.Points.state c.args.self.now.points) c.args.cursor.now c.loop-done.done c.take_run-done.result _ _ _ _ _ _ (omega (arith, c.if-done-count.true)) c.take_run-done.ensures.run i.read in
     rw (p.1, p.2) (record {
       read = tt;
-      ended = λ at before. loop_ended g.P.Points.step c.args.self.now.head.now c.args.self.now.axes c.args.self.now.trail (g.P.Points.state c.args.self.now.points) c.args.count c.args.cursor.now c.loop-done.self.head.now c.loop-done.self.axes c.take_run-done.new._trail (g.P.Points.state c.take_run-done.new.self) (c.loop-done.done + c.take_run-done.result) c.take_run-done.new._cursor c.take_point.new.cursor _
+      ended = λ at before. loop_ended g.P.Points.step c.args.self.now.head.now c.args.self.now.axes c.args.self.now.trail (g.P.Points.state c.args.self.now.points) c.args.count c.args.cursor.now c.loop-done.self.head.now c.loop-done.self.axes c.take_run-done.new.trail (g.P.Points.state c.take_run-done.new.self) (c.loop-done.done + c.take_run-done.result) c.take_run-done.new.cursor c.take_point.new.cursor _
           i.head i.axes c.if-done-count.true far c.in_err-take_point.ensures at before.there;
-      bytes = failure_keeps (point_at c.loop-done.self.axes c.take_run-done.new._trail.last) c.take_run-done.new._cursor c.take_point.new.cursor _ (keeps_point c.loop-done.self.axes c.take_run-done.new._trail.last) c.in_err-take_point.ensures
-          ∙ read_keeps (many_at _ add (point_at c.loop-done.self.axes) c.loop-done.self.trail.last) c.loop-done.cursor c.take_run-done.new._cursor c.take_run-done.ensures.run.numbers (keeps_points c.loop-done.self.axes _ c.loop-done.self.trail.last) c.take_run-done.ensures.run.read
+      bytes = failure_keeps (point_at c.loop-done.self.axes c.take_run-done.new.trail.last) c.take_run-done.new.cursor c.take_point.new.cursor _ (keeps_point c.loop-done.self.axes c.take_run-done.new.trail.last) c.in_err-take_point.ensures
+          ∙ read_keeps (many_at _ add (point_at c.loop-done.self.axes) c.loop-done.self.trail.last) c.loop-done.cursor c.take_run-done.new.cursor c.take_run-done.ensures.run.numbers (keeps_points c.loop-done.self.axes _ c.loop-done.self.trail.last) c.take_run-done.ensures.run.read
           ∙ i.bytes;
     })
 
@@ -63,8 +63,8 @@ loop-done-preserved-then-done-count g c =
       head = i.head;
       axes = i.axes;
       within = omega (arith, c.if-done-count.true);
-      bytes = read_keeps (point_at c.loop-done.self.axes c.take_run-done.new._trail.last) c.take_run-done.new._cursor c.take_point.new.cursor read.0 (keeps_point c.loop-done.self.axes c.take_run-done.new._trail.last) read.1
-          ∙ read_keeps (many_at _ add (point_at c.loop-done.self.axes) c.loop-done.self.trail.last) c.loop-done.cursor c.take_run-done.new._cursor c.take_run-done.ensures.run.numbers (keeps_points c.loop-done.self.axes _ c.loop-done.self.trail.last) c.take_run-done.ensures.run.read
+      bytes = read_keeps (point_at c.loop-done.self.axes c.take_run-done.new.trail.last) c.take_run-done.new.cursor c.take_point.new.cursor read.0 (keeps_point c.loop-done.self.axes c.take_run-done.new.trail.last) read.1
+          ∙ read_keeps (many_at _ add (point_at c.loop-done.self.axes) c.loop-done.self.trail.last) c.loop-done.cursor c.take_run-done.new.cursor c.take_run-done.ensures.run.numbers (keeps_points c.loop-done.self.axes _ c.loop-done.self.trail.last) c.take_run-done.ensures.run.read
           ∙ i.bytes;
       read = walk_goes_on (g.P.Points.step (of_head c.loop-done.self.head.now)) c.loop-done.self.axes add (point_at c.loop-done.self.axes) one_point add_is_sums c.args.count c.args.self.now.trail (g.P.Points.state c.args.self.now.points) c.args.cursor.now _ _ _ _ _ _ _ read.0 c.if-done-count.true read.1 read.2 far;
     }
@@ -76,7 +76,7 @@ loop-done-preserved g c =
       head = i.head;
       axes = i.axes;
       within = omega (arith, i.within, c.take_run-done.ensures.few);
-      bytes = read_keeps (many_at _ add (point_at c.loop-done.self.axes) c.loop-done.self.trail.last) c.loop-done.cursor c.take_run-done.new._cursor c.take_run-done.ensures.run.numbers (keeps_points c.loop-done.self.axes _ c.loop-done.self.trail.last) c.take_run-done.ensures.run.read ∙ i.bytes;
+      bytes = read_keeps (many_at _ add (point_at c.loop-done.self.axes) c.loop-done.self.trail.last) c.loop-done.cursor c.take_run-done.new.cursor c.take_run-done.ensures.run.numbers (keeps_points c.loop-done.self.axes _ c.loop-done.self.trail.last) c.take_run-done.ensures.run.read ∙ i.bytes;
       read = ring_goes_far (g.P.Points.step (of_head c.loop-done.self.head.now)) c.loop-done.self.axes c.args.count c.args.self.now.trail (g.P.Points.state c.args.self.now.points) c.args.cursor.now c.loop-done.done c.take_run-done.result _ _ _ _ _ _ (omega (arith, i.within, c.take_run-done.ensures.few)) c.take_run-done.ensures.run i.read;
     }
 

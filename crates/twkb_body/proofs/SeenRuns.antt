@@ -1,0 +1,50 @@
+-- What a box asks for: ranges of raw coordinates and an extent in units, which are joined only when they are needed.
+use Rattle.std.proofs.Common.{◌≡◌, ℕ, [], Option, Some, None, false, is_some, refl, sym, ap, ◌∙◌}
+use Rattle.std.proofs.lemmas.Bool.{false≢true}
+use Rattle.twkb_head.specs.declared.raw.Axes.{Axes}
+use Rattle.twkb_head.specs.Head.{m_axis}
+use Rattle.twkb_body.specs.declared.range.Ranges.{Ranges}
+use Rattle.twkb_body.specs.Extent.{Reach, reach_of, both, joined}
+use Rattle.twkb_body.specs.Devices.Ranges.{range_at, scaled_if}
+use Rattle.twkb_body.specs.Devices.Seen.{in_units, reach_if}
+use Rattle.twkb_body.proofs.Reaches.{both-assoc, both-comm, both-none}
+use Rattle.twkb_body.proofs.Scales.{scaled_joined, scaled_if_joined}
+
+-- both ranges, axis by axis
+abbrev pub ranges_joined : Ranges → Ranges → Ranges
+ranges_joined a b = record { x = joined a.x b.x; y = joined a.y b.y; third = joined a.third b.third; fourth = joined a.fourth b.fourth }
+
+-- no range in any axis
+abbrev pub no_ranges : Ranges
+no_ranges = record { x = None; y = None; third = None; fourth = None }
+
+-- joining ranges and scaling them is scaling both and joining their reaches
+pub in_units_joined : (axes : Axes) (a b : Ranges) → in_units axes (ranges_joined a b) ≡ both (in_units axes a) (in_units axes b)
+in_units_joined axes a b =
+    (λ j. record { x = scaled_joined axes.xy a.x b.x j; y = scaled_joined axes.xy a.y b.y j; z = scaled_if_joined axes.z a.third b.third j; m = of_m axes.z j })
+  where
+    of_m : (z : Option ℕ) → scaled_if axes.m (range_at (ranges_joined a b) (m_axis z)) ≡ joined (scaled_if axes.m (range_at a (m_axis z))) (scaled_if axes.m (range_at b (m_axis z)))
+    of_m None = scaled_if_joined axes.m a.third b.third
+    of_m (Some p) = scaled_if_joined axes.m a.fourth b.fourth
+
+-- no ranges are no vertices
+pub in_units_none : (axes : Axes) → in_units axes no_ranges ≡ reach_of []
+in_units_none axes = go axes.z axes.m
+  where
+    go : (z m : Option ℕ) → in_units (record { xy = axes.xy; z = z; m = m }) no_ranges ≡ reach_of []
+    go None None = refl
+    go (Some p) None = refl
+    go None (Some q) = refl
+    go (Some p) (Some q) = refl
+
+-- ranges that are joined to the raw ones are added to the whole
+pub raw_grows : (axes : Axes) (raw more : Ranges) (others : Reach) → both (in_units axes (ranges_joined raw more)) others ≡ both (both (in_units axes raw) others) (in_units axes more)
+raw_grows axes raw more others =
+    let a = in_units axes raw in
+    let b = in_units axes more in
+    ap (λ (r : Reach). both r others) (in_units_joined axes raw more) ∙ both-assoc a b others ∙ ap (both a) (both-comm b others) ∙ sym (both-assoc a others b)
+
+-- without others, under headers of the same axes, the whole reach is that of the raw ranges
+pub only_raw : (axes same : Axes) (raw : Ranges) (others : Option Reach) → axes ≡ same → is_some others ≡ false → both (in_units axes raw) (reach_if others) ≡ in_units same raw
+only_raw axes same raw None are none = both-none (in_units axes raw) ∙ ap (λ (a : Axes). in_units a raw) are
+only_raw axes same raw (Some r) are none = absurd (false≢true (sym none))
