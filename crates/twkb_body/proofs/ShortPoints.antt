@@ -46,13 +46,13 @@ Unseen reach = Unit {0}
 abbrev inside_point : Inside
 inside_point = record { found = faultless 1; boxed = None; ids = None }
 
--- the blob between two readings has one vertex, and no claim of it is false
-pub record IsOnePoint (old new : Reading) : Type 0 where
+-- the blob between two readings has one vertex, and no claim of it is false, in tight checking too if `tight`
+pub record IsOnePoint (tight : Bool) (old new : Reading) : Type 0 where
   pub whole : Geometry
   pub read : geometry_at (deepest - 1) old ≡ (Ok whole, new)
-  pub found : IsFound false whole old.place new.place (faultless 1)
+  pub found : IsFound tight whole old.place new.place (faultless 1)
 
-module _ (old new : Reading) (sound : IsSound old) (first metadata : ℕ) (size numbers : List ℕ) (bytes : passed old new ≡ first ∷ metadata ∷ size ++ numbers) (is_point : first % 16 ≡ 1) (few : length numbers ≤ 8)
+module _ (tight : Bool) (old new : Reading) (sound : IsSound old) (first metadata : ℕ) (size numbers : List ℕ) (bytes : passed old new ≡ first ∷ metadata ∷ size ++ numbers) (is_point : first % 16 ≡ 1) (few : length numbers ≤ 8)
     (two : SpellsMany numbers 2) (moved : IsMoved old new) where
   -- after the first two bytes
   begun_way : (now : Reading) × IsMoved old now × IsMoved now new × (passed old now ≡ first ∷ metadata ∷ []) × (passed now new ≡ size ++ numbers)
@@ -99,7 +99,7 @@ module _ (old new : Reading) (sound : IsSound old) (first metadata : ℕ) (size 
       start = refl;
     }
 
-    one_point : IsOnePoint old new
+    one_point : IsOnePoint tight old new
     one_point =
         let head : Head = head_said (fields field mid) in
         let read = (rest_reads begun 1 old now mid sound begins (Ok (fields field mid)) head_read).0 in
@@ -111,7 +111,7 @@ module _ (old new : Reading) (sound : IsSound old) (first metadata : ℕ) (size 
         let counted : IsListFound mid mid list (record { count = 1; ids = None }) = record { count = refl; lengths = omega arith; refused = refl } in
         let w = parts.walked in
         let shape = shape_of_parts (of_head head) mid 2 mid list 1 no_points refl refl refl refl
-        false (record { count = 1; ids = None }) new parts.parts None parts.after (reach_of []) (fold (widened (of_head head)) (reach_of []) (lasts_from zeros (points_of parts.parts))) Unseen inside_point
+        tight (record { count = 1; ids = None }) new parts.parts None parts.after (reach_of []) (fold (widened (of_head head)) (reach_of []) (lasts_from zeros (points_of parts.parts))) Unseen inside_point
         counted refl refl parts.read (record { last = w.last; points = w.points; added = refl; have = w.have; ahead = w.ahead }) parts.vertices_are refl
         tt refl refl in
         let body = parts_body list parts.parts in
@@ -119,10 +119,10 @@ module _ (old new : Reading) (sound : IsSound old) (first metadata : ℕ) (size 
         record {
           whole = _;
           read = body_gives (deepest - 1) old mid _ headed body new (sym (body_of_head head at.header _ _ _ _ at.fields members mid) ∙ body_read);
-          found = (geometry_found false head 1 old mid new at read.1 (omega (arith, shape.1.few)) body inside_point Unseen (faultless 1) shape.1 refl (ap (λ o. earlier o (earlier None (earlier None None))) (sym judged))).0;
+          found = (geometry_found tight head 1 old mid new at read.1 (omega (arith, shape.1.few)) body inside_point Unseen (faultless 1) shape.1 refl (ap (λ o. earlier o (earlier None (earlier None None))) (sym judged))).0;
         }
 
-  point_without_size : metadata % 32 ≡ 0 → size ≡ [] → IsOnePoint old new
+  point_without_size : metadata % 32 ≡ 0 → size ≡ [] → IsOnePoint tight old new
   point_without_size none no_size =
       one_point 0 none None now (IsMoved-here now sound_now) begun_way.2 (begun_way.4 ∙ ap (λ (bs : List ℕ). bs ++ numbers) no_size) (rest_is now now now now Point xy 0 None None None old.place refl refl refl) refl
 
@@ -155,9 +155,9 @@ module _ (old new : Reading) (sound : IsSound old) (first metadata : ℕ) (size 
         equal (inl (t, e)) = t
         equal (inr (f, n)) = absurd (n stop)
 
-    point_with_size : IsOnePoint old new
+    point_with_size : IsOnePoint tight old new
     point_with_size = one_point 2 is_sized (Some field) mid sized_way.1 sized_way.2 sized_way.4 head_read judged
 
-  pub short_is_point : ((metadata % 32 ≡ 0) × (size ≡ [])) ⊎ ((metadata % 32 ≡ 2) × (size ≡ length numbers ∷ [])) → IsOnePoint old new
+  pub short_is_point : ((metadata % 32 ≡ 0) × (size ≡ [])) ⊎ ((metadata % 32 ≡ 2) × (size ≡ length numbers ∷ [])) → IsOnePoint tight old new
   short_is_point (inl (none, no_size)) = point_without_size none no_size
   short_is_point (inr (is_sized, one_byte)) = point_with_size is_sized one_byte

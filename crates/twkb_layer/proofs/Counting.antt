@@ -9,8 +9,8 @@ use Rattle.twkb_body.specs.declared.answers.Audit.{Audit}
 use Rattle.twkb_body.specs.declared.answers.AuditFault.{AuditFault}
 use Rattle.twkb_body.specs.declared.answers.AuditFault.TheVariants.{Malformed as BadField, FalseClaim, Memory as NoMemory}
 use Rattle.twkb_body.specs.Geometry.{Geometry, vertices}
-use Rattle.twkb_body.specs.Claims.{IsCertified}
-use Rattle.twkb_body.specs.Tight.{HasTightBoxes}
+use Rattle.twkb_body.specs.Claims.{IsCertified, IsTrueClaim}
+use Rattle.twkb_body.specs.Tight.{HasTightBoxes, IsTightlyTrue}
 use Rattle.twkb_body.specs.Audited.{IsAudited, IsRefusedBlob}
 use Rattle.twkb_body.specs.Devices.Tight.{IsCertifiedBy}
 use Rattle.twkb_body.proofs.Tightness.{tight_both, both_tight}
@@ -91,6 +91,11 @@ pub adds_fit : (tight : Bool) (bytes : List ℕ) (a b : Reading) (blobs count mo
     → IsCountedBy tight (take a.place bytes) blobs count → length bytes < 2 ^ 64 → (blobs + more < 2 ^ 64) × (count + added < 2 ^ 64)
 adds_fit tight bytes a b blobs count more added adds same counted fits =
     counted_fits tight bytes b.place (blobs + more) (count + added) (adds bytes blobs count same counted) fits
+
+-- what is audited plainly and tightly is audited either way
+pub audited_by : (tight : Bool) (audit : Audit) (place : ℕ) (bytes : List ℕ) → IsAudited IsTrueClaim audit place bytes → IsAudited IsTightlyTrue audit place bytes → IsAudited (IsTrueBy tight) audit place bytes
+audited_by false audit place bytes plain tightly = plain
+audited_by true audit place bytes plain tightly = tightly
 
 -- an audit moves ahead
 pub audit_ahead : (tight : Bool) (a b : Reading) (audit : Audit) → IsMoved a b → IsAudited (IsTrueBy tight) audit a.place (passed a b) → a.place < b.place

@@ -37,7 +37,7 @@ pub take_collection-stop_at_header-requires-clause-malformed : goal.take_collect
 take_collection-stop_at_header-requires-clause-malformed g t c = λ starts.
     let (before, sound, begins) = c.requires.begun in
     let refused = c.in_default.ensures.read c.args.depth before sound begins in
-    let rest_is = same_rest before (record c.take_rest_of_collection.new.cursor { place = c.args.begun.start }) (ap (λ (r : Reading). r.bytes) refused.1) begins.start in
+    let rest_is = same_rest before (record c.take_rest.new.cursor { place = c.args.begun.start }) (ap (λ (r : Reading). r.bytes) refused.1) begins.start in
     cc ((c.in_default.ensures.exact c.args.depth before sound begins).1 (subst (StartsWithHeader c.args.depth) rest_is starts))
 
 pub take_collection-returns-in_default : goal.take_collection-returns-in_default
@@ -57,20 +57,20 @@ pub take_collection-returns-in_err-vertices : goal.take_collection-returns-in_er
 take_collection-returns-in_err-vertices g t c = λ before sound begins.
     let h = c.in-Ok.ensures.read c.args.depth before sound begins in
     let p = err_from_is_err_and c.from_residual.result c.from_residual.ensures.1 in
-    rw p.1 (body_stops (not (g.row.TIGHT == 0)) c.args.depth c.requires.shallowest c.requires.deepest before c.take_rest_of_collection.new.cursor sound (head_said c.in-Ok.raw) h.0 h.1 c.take_members.new.pass.stopped c.take_members.new.cursor
+    rw p.1 (body_stops (not (g.row.TIGHT == 0)) c.args.depth c.requires.shallowest c.requires.deepest before c.take_rest.new.cursor sound (head_said c.in-Ok.raw) h.0 h.1 c.take_members.new.pass.stopped c.take_members.new.cursor
     c.in_err-vertices.ensures)
 
 pub take_collection-judge_size-requires : goal.take_collection-judge_size-requires
 take_collection-judge_size-requires g t c =
     let (before, sound, begins) = c.requires.begun in
     let h = c.in-Ok.ensures.read c.args.depth before sound begins in
-    head_size before c.take_rest_of_collection.new.cursor (head_said c.in-Ok.raw) c.args.depth h.0 h.1 _ (omega (arith, c.place.ensures.value, c.in_ok-vertices.ensures.2.1.few))
+    head_size before c.take_rest.new.cursor (head_said c.in-Ok.raw) c.args.depth h.0 h.1 _ (omega (arith, c.place.ensures.value, c.in_ok-vertices.ensures.2.1.few))
 
 pub take_collection-returns : goal.take_collection-returns
 take_collection-returns g t c = λ before sound begins.
     let h = c.in-Ok.ensures.read c.args.depth before sound begins in
     let read = c.in_ok-vertices.ensures in
-    body_ends (not (g.row.TIGHT == 0)) c.args.depth c.requires.shallowest c.requires.deepest before c.take_rest_of_collection.new.cursor sound (head_said c.in-Ok.raw) h.0 h.1 (HasSeen c.args.seen.now c.take_members.new.seen) read.0 c.take_members.new.cursor
+    body_ends (not (g.row.TIGHT == 0)) c.args.depth c.requires.shallowest c.requires.deepest before c.take_rest.new.cursor sound (head_said c.in-Ok.raw) h.0 h.1 (HasSeen c.args.seen.now c.take_members.new.seen) read.0 c.take_members.new.cursor
     read.2.0 read.1 read.2.1 c.is_refused-was_refused.result (named c.args.pass.now.refused) c.take_members.new.pass c.note.new.self (named c.judge_size.result) c.in_ok-vertices.vertices c.place.result
     c.is_refused-was_refused.ensures read.2.3 c.note.ensures c.judge_size.ensures c.place.ensures.value read.2.2
 
