@@ -26,7 +26,7 @@ help:
 	@echo 'make install    install the program, its manual page and completions below $(PREFIX), or PREFIX=..'
 	@echo 'make uninstall  remove them'
 	@echo 'make demo       build, and check, list and scan layers written by PostGIS'
-	@echo 'make test       run the merge gate: every proof, and every test (an hour or more on two processors)'
+	@echo 'make test       run the merge gate: every proof, and every test (27 minutes on four processors)'
 	@echo 'make library    prove and build the library for C, Rust and Python: build/bindings'
 	@echo 'make install-library    install the library, its header and its pkg-config file below $(PREFIX), or PREFIX=..'
 	@echo 'make uninstall-library  remove them'
