@@ -117,7 +117,7 @@ fn coordinate_at(base: i64, lane: u32) -> i64
     base.wrapping_add(i64::from(lane) - i64::from(ZERO))
 }
 
-/// What is kept of the points up to a base, axis by axis.
+/// The last point that came by itself, which is the base of the lanes, and the range of all points up to it, axis by axis.
 #[derive(Clone, Copy)]
 pub struct Base {
     x: AxisExtent,
