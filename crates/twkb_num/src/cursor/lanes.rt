@@ -64,6 +64,43 @@ impl Eight {
     }
 }
 
+/// The counts of numbers for which there is a kernel.
+pub struct Wide;
+
+/// Reading `K` numbers together.
+// A trait and not a `match`: where it judges whether a function is too large to inline, the compiler counts all arms of a `match`.
+pub trait Together<const K: usize> {
+    /// [`Cursor::wide_lanes`] for `K` numbers.
+    fn lanes(cursor: &mut Cursor) -> Four
+        ensures axes { IsAxes K }
+        ensures some { IsTrue result.is_read
+            → SpellsAllSigned (passed cursor.old cursor.new) (take K (map (cast_signed w32) result.lanes)) }
+        ensures short { All IsShort (map (cast_signed w32) result.lanes) }
+        ensures moved { IsTrue result.is_read → IsMoved cursor.old cursor.new }
+        ensures none { result.is_read ≡ false → cursor.new ≡ cursor.old };
+}
+
+impl Together<2> for Wide {
+    #[inline(always)]
+    fn lanes(cursor: &mut Cursor) -> Four {
+        cursor.lane_two()
+    }
+}
+
+impl Together<3> for Wide {
+    #[inline(always)]
+    fn lanes(cursor: &mut Cursor) -> Four {
+        cursor.lane_three()
+    }
+}
+
+impl Together<4> for Wide {
+    #[inline(always)]
+    fn lanes(cursor: &mut Cursor) -> Four {
+        cursor.svarint_four()
+    }
+}
+
 /// What a lane means in two's complement.
 #[inline(always)]
 pub(super) fn signed_lane(lane: u32) -> i64

@@ -2,29 +2,29 @@
 ghost use Rattle.std.specs.Prelude.{◌≡◌, ◌++◌, ℕ, ℤ, List, length, Ok, IfOk, IfErr, IfSome, IfNone};
 ghost use Rattle.twkb_num.specs.Cursor.{rest, passed};
 ghost use Rattle.twkb_num.specs.Varint.{SpellsAllSigned};
-ghost use Rattle.twkb_num.specs.Numbers.{IsAxes, PassesNumbers, StopsAmong, ReadsNumbers, StopsReading};
+ghost use Rattle.twkb_num.specs.Numbers.{PassesNumbers, StopsAmong, ReadsNumbers, StopsReading};
 
 use super::Cursor;
-use super::lanes::signed_lane;
+use super::lanes::{Together, Wide, signed_lane};
 use crate::varint::NumFault;
 
 /// Numbers of at most seven bytes are below this.
 const SMALL: u64 = 1 << 49;
 
 impl<'a> Cursor<'a> {
-    /// Reads `K` signed varints, as `K` calls of [`Cursor::svarint`] in turn do. Two to four of them are read together, if they are short.
-    /// At a fault it stops: the numbers before it are passed.
+    /// Reads two to four signed varints, as `K` calls of [`Cursor::svarint`] in turn do. They are read together, if they are short. At a
+    /// fault it stops: the numbers before it are passed.
     #[inline(always)]
     pub fn svarints<const K: usize>(&mut self) -> Result<[i64; K], NumFault>
+    where
+        Wide: Together<K>,
         ensures ok { IfOk result (λ numbers. ReadsNumbers self.old self.new numbers) }
         ensures complete { (numbers : List ℤ) (front behind : List ℕ) → rest self.old ≡ front ++ behind
             → SpellsAllSigned front numbers → length numbers ≡ K → (result ≡ Ok numbers) × (passed self.old self.new ≡ front) }
         ensures err { IfErr result (λ fault. StopsReading K self.old self.new fault) }
     {
-        if K >= 2 && K <= 4 {
-            if let Some(numbers) = self.wide_svarints::<K>() {
-                return Ok(numbers);
-            }
+        if let Some(numbers) = self.wide_svarints::<K>() {
+            return Ok(numbers);
         }
         // A copy, so that the cursor stays in registers elsewhere.
         let mut ahead = self.copied();
@@ -33,15 +33,16 @@ impl<'a> Cursor<'a> {
         numbers
     }
 
-    // Two to four numbers by a vector. `None`: none was read.
+    // The numbers by a vector. `None`: none was read.
     #[inline(always)]
     fn wide_svarints<const K: usize>(&mut self) -> Option<[i64; K]>
-        requires { IsAxes K }
+    where
+        Wide: Together<K>,
         ensures all { IfSome result (λ numbers. length numbers ≡ K) }
         ensures some { IfSome result (λ numbers. ReadsNumbers self.old self.new numbers) }
         ensures none { IfNone result (self.new ≡ self.old) }
     {
-        let wide = self.wide_lanes(K);
+        let wide = <Wide as Together<K>>::lanes(self);
         if !wide.is_read {
             return None;
         }

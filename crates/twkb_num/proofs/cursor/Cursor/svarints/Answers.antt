@@ -6,7 +6,6 @@ use Rattle.twkb_num.specs.declared.varint.NumFault.{NumFault}
 use Rattle.twkb_num.specs.Numbers.{ReadsNumbers, StopsReading}
 use Rattle.twkb_num.proofs.ManyLaws.{read_complete}
 use Rattle.twkb_num.proofs.cursor.Cursor.svarints.Goals as goal
-use Rattle.twkb_num.proofs.cursor.Cursor.svarints.Goals.{then-this-ge2+then-this-le4+in_default, else-this-ge2}
 
 pub returns-in-Some-clause-complete : goal.returns-in-Some-clause-complete
 returns-in-Some-clause-complete g c =
@@ -17,10 +16,7 @@ returns-clause-complete g c =
     let k = g.row.K in
     let old = c.args.self.now in
     let read = c.each_svarint-numbers in
-    let here : c.copied-ahead.result ≡ old = c.copied-ahead.ensures ∙ elim c.if-this-ge2.branch [
-      | then-this-ge2+then-this-le4+in_default w ↦ search rules
-      | else-this-ge2 w ↦ w.self-is
-    ] in
+    let here : c.copied-ahead.result ≡ old = c.copied-ahead.ensures ∙ search rules in
     let ok = subst (λ (r : Reading). IfOk read.result (λ (ns : List ℤ). ReadsNumbers r read.new.self ns)) here read.ensures.ok in
     let err = subst (λ (r : Reading). IfErr read.result (λ (fault : NumFault). StopsReading k r read.new.self fault)) here read.ensures.err in
     read_complete k old read.new.self read.result read.ensures.all ok err

@@ -14,9 +14,9 @@ pub loop-i-preserved : goal.loop-i-preserved
 loop-i-preserved g c =
     let l = c.loop-i in
     let z = c.signed_lane.result in
-    let lanes = c.wide_lanes-wide.result.lanes in
+    let lanes = c.lanes-wide.result.lanes in
     let zs : List ℤ = map (cast_signed w32) lanes in
-    let k : g.row.K ≤ 4 = few_axes g.row.K c.requires in
+    let k : g.row.K ≤ 4 = few_axes g.row.K c.lanes-wide.ensures.axes in
     let four : length lanes ≡ 4 = search rules in
     let many : length zs ≡ 4 = search (rules, length-map) in
     let there : l.i < length l.numbers = omega (arith, l.invariant.all, c.loop-i-test.true) in
@@ -32,10 +32,10 @@ loop-i-preserved g c =
 pub returns-clause-some : goal.returns-clause-some
 returns-clause-some g c =
     let l = c.loop-i in
-    let wide = c.wide_lanes-wide in
+    let wide = c.lanes-wide in
     let zs : List ℤ = map (cast_signed w32) wide.result.lanes in
     let is_read : wide.result.is_read ≡ true = not-false _ c.if-not-wide.false in
     let done : take l.i l.numbers ≡ l.numbers = take_all l.i l.numbers (omega (arith, l.invariant.all, c.loop-i-test.false)) in
     let at : l.i ≡ g.row.K = omega (arith, c.loop-i-test.false, c.loop-i.auto.i-end) in
-    let read : ReadsNumbers c.args.self.now wide.new.self (take g.row.K zs) = record { spelled = wide.ensures.some is_read; moved = wide.ensures.moved is_read } in
-    subst (ReadsNumbers c.args.self.now wide.new.self) (sym (ap (λ (k : ℕ). take k zs) at) ∙ sym l.invariant.meant ∙ done) read
+    let read : ReadsNumbers c.args.self.now wide.new.cursor (take g.row.K zs) = record { spelled = wide.ensures.some is_read; moved = wide.ensures.moved is_read } in
+    subst (ReadsNumbers c.args.self.now wide.new.cursor) (sym (ap (λ (k : ℕ). take k zs) at) ∙ sym l.invariant.meant ∙ done) read

@@ -1,0 +1,14 @@
+-- All four lanes are the numbers.
+use Rattle.std.proofs.Common.{◌≡◌, ℤ, List, length, map, take, w32, subst, sym, rules, arith}
+use Rattle.std.specs.Int.{cast_signed}
+use Rattle.std.proofs.lemmas.List.{take_all, length-map}
+use Rattle.twkb_num.specs.Cursor.{passed}
+use Rattle.twkb_num.specs.Varint.{SpellsAllSigned}
+use Rattle.twkb_num.proofs.cursor.lanes.WideTogether4.lanes.Goals as goal
+
+pub returns-clause-some : goal.returns-clause-some
+returns-clause-some c =
+    let zs : List ℤ = map (cast_signed w32) c.svarint_four.result.lanes in
+    let four : length zs ≡ 4 = search (rules, length-map) in
+    let all : take 4 zs ≡ zs = take_all 4 zs (omega (arith, four)) in
+    λ read. subst (SpellsAllSigned (passed c.args.cursor.now c.svarint_four.new.self)) (sym all) (c.svarint_four.ensures.some read)
