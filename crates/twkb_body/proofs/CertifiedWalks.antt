@@ -3,24 +3,18 @@ use Rattle.std.proofs.Common.{◌≡◌, ℕ, ◌+◌, ◌-◌, ◌<◌, ◌≤�
 use Rattle.std.specs.Borrow.{GName}
 use Rattle.twkb_num.specs.Cursor.{Reading}
 use Rattle.twkb_head.specs.declared.header.Head.{Head}
-use Rattle.twkb_head.specs.declared.refusal.Malformed.{Malformed}
 use Rattle.twkb_head.specs.Header.{Header}
-use Rattle.twkb_head.specs.Shared.Reader.{Reader, Fails}
+use Rattle.twkb_head.specs.Shared.Reader.{Reader}
 use Rattle.twkb_body.specs.declared.trail.Trail.{Trail}
 use Rattle.twkb_body.specs.Geometry.{PointValue}
 use Rattle.twkb_body.specs.Devices.BodyReader.{point_at}
 use Rattle.twkb_body.specs.Devices.Inside.{of_head}
 use Rattle.twkb_body.specs.Devices.PointReader.{Stage, IsBefore, HasRead, IsWalkingOn, points_at}
-use Rattle.twkb_body.specs.Devices.Walk.{IsWalk, IsWalked, IsRun, IsStill, lasts_from}
-use Rattle.twkb_body.proofs.Runs.{run_none}
+use Rattle.twkb_body.specs.Devices.Walk.{IsPoint, IsWalked, IsRun, IsStill, lasts_from}
+use Rattle.twkb_body.proofs.Runs.{run_none, run_goes_on}
 use Rattle.twkb_body.proofs.Settling.{ArePassed, axes_some, run_next, run_passed, run_rest, run_then}
 use Rattle.twkb_body.proofs.WalkReads.{beside, fold_beside, walked_beside, walked_apart}
-
--- a run under a header that is another's equal
-run_under : {S : Type 0} (step : Header → S → PointValue → S) (head now : Head) (axes many : ℕ) (old new : Trail) (s t : S) (from to : Reading) (count : ℕ) → now ≡ head → many ≡ axes
-    → IsRun (step (of_head now)) many old new s t from to count → IsRun (step (of_head head)) axes old new s t from to count
-run_under step head now axes many old new s t from to count same axes_same run =
-    subst (λ (n : ℕ). IsRun (step (of_head head)) n old new s t from to count) axes_same (subst (λ (h : Head). IsRun (step (of_head h)) many old new s t from to count) same run)
+use Rattle.twkb_body.proofs.Walks.{point_walked}
 
 module _ {S : Type 0} (step : Header → S → PointValue → S) (head : Head) (axes : ℕ) (lost : Bool) (trail : Trail) (name : GName) (state : S) (count : ℕ) (from : Reading) where
   -- a walk is at a stage before its points
@@ -46,10 +40,13 @@ module _ {S : Type 0} (step : Header → S → PointValue → S) (head : Head) (
       still = λ is. absurd (cc (keeps, is));
     }
 
-    -- a run under an equal header is added to what was shown
-    pub run_shown : (under : Head) (many i k : ℕ) (gone : Bool) (now next : Trail) (t u : S) (r new : Reading) → under ≡ head → many ≡ axes → gone ≡ false → IsRun (step (of_head under)) many now next t u r new k → HasShown i gone now t r → HasShown (i + k) gone next u new
-    run_shown under many i k gone now next t u r new same axes_same keeps more =
-        shown_more i k gone now next t u r new keeps (run_under step head under axes many now next t u r new k same axes_same more)
+    -- one more point is added to what was shown
+    pub point_shown : (many i : ℕ) (gone : Bool) (now next : Trail) (t u : S) (r new : Reading) (point : PointValue) → many ≡ axes → gone ≡ false → point_at many now.last r ≡ (Ok point, new) → IsPoint many now next r.place new.place point
+        → u ≡ step (of_head head) t next.last → HasShown i gone now t r → HasShown (i + 1) gone next u new
+    point_shown many i gone now next t u r new point same keeps read taken is h =
+        let one = subst (λ (n : ℕ). point_at n now.last r ≡ (Ok point, new)) same read in
+        let walked = point_walked (step (of_head head)) axes now next t u r.place new.place point (subst (λ (n : ℕ). IsPoint n now next r.place new.place point) same taken) is in
+        shown_more i 1 gone now next t u r new keeps (run_goes_on (step (of_head head)) axes now now next t t u r r new 0 point one walked (run_none (step (of_head head)) axes now t r)) h
 
     -- all points can be read
     readable : (points : List PointValue) × (stop : Reading) × (points_at count axes at.trail.last from ≡ (Ok points, stop))
@@ -57,17 +54,18 @@ module _ {S : Type 0} (step : Header → S → PointValue → S) (head : Head) (
         let (points, stop, e) = before.readable refl in
         (points, stop, ap (λ (s : Stage ((Header × GName) × S)). points_at count s.axes at.trail.last from) (sym before.there.at_is) ∙ e)
 
-    -- so reading the next one doesn't fail
-    pub shown_reads : (i : ℕ) (gone : Bool) (now : Trail) (t : S) (r new : Reading) (m : Malformed) → i < count → gone ≡ false → HasShown i gone now t r → Fails (point_at axes now.last r) m new → ⊥
-    shown_reads i gone now t r new m lt keeps h fails =
+    -- so the next one can
+    pub shown_reads : (i : ℕ) (gone : Bool) (now : Trail) (t : S) (r : Reading) → i < count → gone ≡ false → HasShown i gone now t r → (point : PointValue) × (stop : Reading) × (point_at axes now.last r ≡ (Ok point, stop))
+    shown_reads i gone now t r lt keeps h =
         let (points, stop, e) = readable in
-        run_next (step (of_head head)) axes count at.trail h.last state t from r new stop i points m e lt h.run (subst (λ (w : Trail). Fails (point_at axes w.last r) m new) (h.kept keeps) fails)
+        subst (λ (w : Trail). (point : PointValue) × (stop : Reading) × (point_at axes w.last r ≡ (Ok point, stop))) (sym (h.kept keeps))
+        (run_next (step (of_head head)) axes count at.trail h.last state t from r stop i points e lt h.run)
 
-    -- a run or a point may follow
-    pub shown_ready : (i : ℕ) (gone : Bool) (now : Trail) (t : S) (r : Reading) → gone ≡ false → HasShown i gone now t r → IsWalk head axes now r
-    shown_ready i gone now t r keeps h =
+    -- no more points were read than bytes
+    pub shown_counted : (i : ℕ) (gone : Bool) (now : Trail) (t : S) (r : Reading) → gone ≡ false → HasShown i gone now t r → now.points ≤ r.place
+    shown_counted i gone now t r keeps h =
         let same = ap (λ (w : Trail). w.points) (h.kept keeps) in
-        (before.there.precisions, before.there.axes_are, omega (arith, before.counted, same, h.run.walked.points, h.run.walked.ahead))
+        omega (arith, before.counted, same, h.run.walked.points, h.run.walked.ahead)
 
     -- the points after those shown can be read
     pub shown_rest : (i : ℕ) (gone : Bool) (now : Trail) (t : S) (r : Reading) → i ≤ count → HasShown i gone now t r → (s : PointValue) × (points : List PointValue) × (stop : Reading) × (points_at (count - i) axes s r ≡ (Ok points, stop))

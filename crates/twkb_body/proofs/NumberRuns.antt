@@ -11,15 +11,17 @@
 -- coordinate_is, within_fits, fits_within: coordinates as items of a vector, and sums that fit as bounds.
 -- run_stays, run_leaves: if points can be read, the sums of each axis stay within 64 bits.
 -- run_ends_early: if fewer numbers were read, and then there is a fault, the points can't be read.
-use Rattle.std.proofs.Common.{◌≡◌, ℕ, zero, suc, ◌+◌, ◌-◌, ◌*◌, ◌^◌, ◌<◌, ◌≤◌, inl, inr, Bool, true, false, List, [], ◌∷◌, ◌++◌, length, fold, map, take, drop, ℤ, pos, neg_ℤ, ◌+ℤ◌, ◌≤ℤ◌, ◌<ℤ◌, Ok, refl, sym, ap, ap₂, subst, ◌∙◌, arith, append_assoc, length-append, length-drop}
+-- two_added, two_are, two_fit, two_stand: a point of two numbers, and the coordinates after it.
+use Rattle.std.proofs.Common.{◌≡◌, ℕ, zero, suc, ◌+◌, ◌-◌, ◌*◌, ◌^◌, ◌<◌, ◌≤◌, inl, inr, Bool, true, false, List, [], ◌∷◌, ◌++◌, length, fold, map, take, drop, ℤ, pos, neg_ℤ, ◌+ℤ◌, ◌≤ℤ◌, ◌<ℤ◌, Ok, refl, sym, ap, ap₂, subst, ◌∙◌, arith, append_assoc, length-append, length-drop, FitsSigned, w64, slice_index_or}
 use Rattle.std.specs.Prelude.{◌≢◌}
 use Rattle.std.proofs.Math.Nat.{mul-add, mul-suc, mul-le-mul_left, mul-le-mul_right}
 use Rattle.std.proofs.lemmas.Bool.{cases_lt}
 use Rattle.std.proofs.lemmas.Grind.{common_steps}
 use Rattle.std.proofs.lemmas.Int.{ints}
 use Rattle.std.proofs.lemmas.List.{append-nil, length-take-le, take-append-drop}
+use Rattle.std.proofs.lemmas.Option.{unwrap_or-slice_get}
 use Rattle.twkb_num.specs.Cursor.{Reading, passed, IsMoved, IsSound}
-use Rattle.twkb_num.specs.Numbers.{ReadsNumbers, StopsAt}
+use Rattle.twkb_num.specs.Numbers.{ReadsNumbers, StopsAt, StopsReading}
 use Rattle.twkb_num.specs.Varint.{IsSigned, SpellsAllSigned}
 use Rattle.twkb_num.specs.declared.varint.NumFault.{NumFault}
 use Rattle.twkb_num.proofs.CursorLemmas.{IsSound-moved}
@@ -40,7 +42,8 @@ use Rattle.twkb_body.proofs.BareRuns.{moved_none}
 use Rattle.twkb_body.proofs.Coordinates.{signed_back}
 use Rattle.twkb_body.proofs.FlatRuns.{has_64_bits}
 use Rattle.twkb_body.proofs.Runs.{values_of}
-use Rattle.twkb_body.proofs.Settling.{point_numbers}
+use Rattle.twkb_body.proofs.Settling.{no_number, point_numbers}
+use Rattle.twkb_body.proofs.Sums.{fits_signed}
 use Rattle.twkb_body.proofs.Tracing.{many_back, many_then, point_back}
 
 -- this many points, each of as many numbers as there are axes
@@ -199,7 +202,7 @@ read_row : (axes : ℕ) (a c : Reading) (zs : List ℤ) → ReadsNumbers a c zs 
 read_row axes a c zs r = read_split a c (take axes zs) (drop axes zs) (subst (ReadsNumbers a c) (sym (take-append-drop axes zs)) r)
 
 -- numbers that were read are a point, if the sums fit
-numbers_point : (s : PointValue) (a b : Reading) (zs : List ℤ) → IsSound a → ReadsNumbers a b zs → ((k : ℕ) → k < length zs → sum_fits (coordinate s k +ℤ coordinate zs k)) → point_at (length zs) s a ≡ (Ok zs, b)
+pub numbers_point : (s : PointValue) (a b : Reading) (zs : List ℤ) → IsSound a → ReadsNumbers a b zs → ((k : ℕ) → k < length zs → sum_fits (coordinate s k +ℤ coordinate zs k)) → point_at (length zs) s a ≡ (Ok zs, b)
 numbers_point s a b [] sound r fit = ap (λ (q : Reading). (Ok [], q)) (moved_none a b sound r.moved r.spelled)
 numbers_point s a b (z ∷ zs) sound r fit =
     let (mid, there, one, rest) = read_first a b z zs r in
@@ -295,12 +298,12 @@ coordinate_fits before z r stop e = go (fits (before +ℤ z)) refl
     go false fit = absurd (ok_not_err z _ stop _ (sym e ∙ coordinate_refused before r stop z (record { offset = r.place; why = Range }) (record stop { place = r.place }) fit refl refl refl (signed_back before r stop z e)))
 
 -- a point is the numbers that were read, and their sums fit
-record IsPointOf (s : PointValue) (b : Reading) (zs : List ℤ) (stop : Reading) (p : PointValue) : Type 0 where
-  same : p ≡ zs
-  there : stop ≡ b
-  fit : (k : ℕ) → k < length zs → sum_fits (coordinate s k +ℤ coordinate zs k)
+pub record IsPointOf (s : PointValue) (b : Reading) (zs : List ℤ) (stop : Reading) (p : PointValue) : Type 0 where
+  pub same : p ≡ zs
+  pub there : stop ≡ b
+  pub fit : (k : ℕ) → k < length zs → sum_fits (coordinate s k +ℤ coordinate zs k)
 
-point_of : (s : PointValue) (a b : Reading) (zs : List ℤ) (stop : Reading) (p : PointValue) → IsSound a → ReadsNumbers a b zs → point_at (length zs) s a ≡ (Ok p, stop) → IsPointOf s b zs stop p
+pub point_of : (s : PointValue) (a b : Reading) (zs : List ℤ) (stop : Reading) (p : PointValue) → IsSound a → ReadsNumbers a b zs → point_at (length zs) s a ≡ (Ok p, stop) → IsPointOf s b zs stop p
 point_of s a b [] stop p sound r e = record {
   same = sym (ap values_of e);
   there = sym (ap (λ (x : Answer PointValue). x.1) e) ∙ moved_none a b sound r.moved r.spelled;
@@ -366,10 +369,6 @@ next_signed (suc n) a b (x ∷ xs) stop sound r fewer (z, mid, one, more) =
     let same = one_answer (signed_at a) z x mid next one first in
     next_signed n next b xs stop (IsSound-moved a next sound there) rest (omega (arith, fewer)) (subst (λ (q : Reading). NumbersLead n q stop) same.1 more)
 
--- where there is a fault, no number can be read
-no_number : (b c mid : Reading) (fault : NumFault) (z : ℤ) → StopsAt b c fault → signed_at b ≡ (Ok z, mid) → ⊥
-no_number b c mid fault z stops e = ok_not_err z (record { offset = c.place; why = why_of fault }) mid c (sym e ∙ read_no_signed b c fault (record { offset = c.place; why = why_of fault }) stops.0 stops.1 refl refl)
-
 -- if fewer numbers were read, and then there is a fault, the points can't be read
 pub run_ends_early : (axes n : ℕ) (last : PointValue) (a middle c : Reading) (zs : List ℤ) (fault : NumFault) → IsSound a → ReadsNumbers a middle zs → length zs < axes * n → StopsAt middle c fault
     → (ps : List PointValue) (stop : Reading) → many_at n add (point_at axes) last a ≡ (Ok ps, stop) → ⊥
@@ -384,3 +383,40 @@ run_ends_early axes (suc n) last a middle c zs fault sound r fewer stops ps stop
       let p = first_point axes n last a mid (take axes zs) stop ps sound first (length-take-le axes zs long) e in
       run_ends_early axes n (add last (take axes zs)) mid middle c (drop axes zs) fault (IsSound-moved a mid sound first.moved) rest (omega (arith, fewer, long, mul-suc axes n, length-drop axes zs)) stops p.others stop p.rest
 ]
+
+-- ---- a point of two numbers
+-- these are added to the first two coordinates
+pub two_added : (s zs : PointValue) → length s ≡ 4 → length zs ≡ 2
+    → add s zs ≡ (slice_index_or s 0 (pos 0) +ℤ slice_index_or zs 0 (pos 0)) ∷ (slice_index_or s 1 (pos 0) +ℤ slice_index_or zs 1 (pos 0)) ∷ slice_index_or s 2 (pos 0) ∷ slice_index_or s 3 (pos 0) ∷ []
+two_added [] zs four two = absurd (omega (arith, four))
+two_added (a ∷ []) zs four two = absurd (omega (arith, four))
+two_added (a ∷ b ∷ []) zs four two = absurd (omega (arith, four))
+two_added (a ∷ b ∷ c ∷ []) zs four two = absurd (omega (arith, four))
+two_added (a ∷ b ∷ c ∷ d ∷ e ∷ s) zs four two = absurd (omega (arith, four))
+two_added (a ∷ b ∷ c ∷ d ∷ []) [] four two = absurd (omega (arith, two))
+two_added (a ∷ b ∷ c ∷ d ∷ []) (x ∷ []) four two = absurd (omega (arith, two))
+two_added (a ∷ b ∷ c ∷ d ∷ []) (x ∷ y ∷ []) four two = refl
+two_added (a ∷ b ∷ c ∷ d ∷ []) (x ∷ y ∷ z ∷ zs) four two = absurd (omega (arith, two))
+
+pub two_are : (zs : PointValue) → length zs ≡ 2 → zs ≡ slice_index_or zs 0 (pos 0) ∷ slice_index_or zs 1 (pos 0) ∷ []
+two_are [] two = absurd (omega (arith, two))
+two_are (x ∷ []) two = absurd (omega (arith, two))
+two_are (x ∷ y ∷ []) two = refl
+two_are (x ∷ y ∷ z ∷ zs) two = absurd (omega (arith, two))
+
+-- if such a point can be read, it is the two numbers that were read there, and the sums fit
+pub two_fit : (s zs : PointValue) (a b stop : Reading) (p : PointValue) → length zs ≡ 2 → IsSound a → ReadsNumbers a b zs → point_at 2 s a ≡ (Ok p, stop)
+    → (p ≡ zs) × (stop ≡ b) × FitsSigned w64 (slice_index_or s 0 (pos 0) +ℤ slice_index_or zs 0 (pos 0)) × FitsSigned w64 (slice_index_or s 1 (pos 0) +ℤ slice_index_or zs 1 (pos 0))
+two_fit s zs a b stop p two sound read e =
+    let is = point_of s a b zs stop p sound read (subst (λ (n : ℕ). point_at n s a ≡ (Ok p, stop)) (sym two) e) in
+    let at = λ (l : PointValue) (k : ℕ). unwrap_or-slice_get l k (pos 0) in (
+      is.same,
+      is.there,
+      subst (FitsSigned w64) (ap₂ ◌+ℤ◌ (at s 0) (at zs 0)) (fits_signed (coordinate s 0 +ℤ coordinate zs 0) (is.fit 0 (omega (arith, two)))),
+      subst (FitsSigned w64) (ap₂ ◌+ℤ◌ (at s 1) (at zs 1)) (fits_signed (coordinate s 1 +ℤ coordinate zs 1) (is.fit 1 (omega (arith, two)))),
+    )
+
+-- if it can be read, no fault comes first
+pub two_stand : (s : PointValue) (a b stop : Reading) (p : PointValue) (fault : NumFault) → IsSound a → StopsReading 2 a b fault → point_at 2 s a ≡ (Ok p, stop) → ⊥
+two_stand s a b stop p fault sound stops e =
+    run_ends_early 2 1 s a stops.middle b stops.numbers fault sound stops.read (omega (arith, stops.fewer)) stops.stops (p ∷ []) stop (many_then add (point_at 2) 0 s a stop p (Ok [], stop) e refl)

@@ -1,7 +1,9 @@
--- Points that can be read are passed as numbers: by their ends, or a number by itself. Points that change no state may be passed.
-use Rattle.std.proofs.Common.{◌≡◌, ℕ, Option, Some, None, zero, suc, ◌+◌, ◌-◌, ◌*◌, ◌^◌, ◌<◌, ◌≤◌, List, [], ◌∷◌, ◌++◌, length, length-append, fold, ℤ, Ok, Err, refl, ap, sym, subst, ◌∙◌, arith}
+-- Points that can be read are passed as numbers. Points that change no state may be passed.
+use Rattle.std.proofs.Common.{◌≡◌, ℕ, Bool, Option, Some, None, zero, suc, ◌+◌, ◌-◌, ◌*◌, ◌^◌, ◌<◌, ◌≤◌, List, [], ◌∷◌, ◌++◌, length, length-append, fold, ℤ, Ok, Err, refl, ap, sym, subst, ◌∙◌, arith}
 use Rattle.twkb_num.specs.Cursor.{Reading, passed, IsMoved, IsSound}
-use Rattle.twkb_num.specs.Varint.{SpellsAll, SpellsMany, zigzag_value}
+use Rattle.twkb_num.specs.Numbers.{PassesNumbers, StopsAmong, StopsAt}
+use Rattle.twkb_num.specs.Varint.{SpellsAll, zigzag_value}
+use Rattle.twkb_num.specs.declared.varint.NumFault.{NumFault}
 use Rattle.twkb_num.proofs.CursorLemmas.{IsMoved-here, IsMoved-after, IsSound-moved}
 use Rattle.twkb_head.specs.Header.{axes_with}
 use Rattle.twkb_head.specs.Shared.Reader.{Answer, Reader, many_at, signed_at, Fails}
@@ -9,7 +11,8 @@ use Rattle.twkb_head.specs.declared.refusal.Malformed.{Malformed}
 use Rattle.twkb_head.proofs.Combinators.{after_all}
 use Rattle.twkb_head.proofs.Loops.{IsLoop, loop_begins, loop_fails, loop_ends, behind_front}
 use Rattle.twkb_head.proofs.Readings.{ok_not_err, one_answer, no_failure}
-use Rattle.twkb_head.proofs.Steps.{read_signed, signed_moved}
+use Rattle.twkb_head.specs.Refusal.{why_of}
+use Rattle.twkb_head.proofs.Steps.{read_signed, read_no_signed, signed_moved}
 use Rattle.twkb_body.specs.declared.trail.Trail.{Trail}
 use Rattle.twkb_body.specs.Geometry.{PointValue}
 use Rattle.twkb_body.specs.Devices.Body.{first_of, behind, add, sums}
@@ -72,33 +75,30 @@ points_numbers axes (suc count) s r stop ps e =
     let all : suc count * axes ≡ axes + count * axes = omega arith in
     rw all (NumbersLead-append axes (count * axes) r b.middle stop (point_numbers axes s r b.middle b.first b.one) (points_numbers axes count (add s b.first) b.middle stop b.others b.rest))
 
--- numbers that are passed by their ends lead on
-run_leads : (done : ℕ) (r mid : Reading) → IsSound r → SpellsMany (passed r mid) done → IsMoved r mid → NumbersLead done r mid
-run_leads done r mid sound spells moved = subst (λ (n : ℕ). NumbersLead n r mid) spells.count (spelled_lead spells.numbers r mid sound spells.spelled moved)
+-- ---- numbers that are passed by one call
+passes_lead : (many : ℕ) (are_small : Bool) (r mid : Reading) → IsSound r → PassesNumbers many r mid are_small → NumbersLead many r mid
+passes_lead many are_small r mid sound passes = subst (λ (n : ℕ). NumbersLead n r mid) passes.count (spelled_lead passes.numbers r mid sound passes.spelled passes.moved)
 
--- after numbers that are passed by their ends, the other numbers of the points lead on
-pub points_rest : (axes count done : ℕ) (s : PointValue) (r mid stop : Reading) (ps : List PointValue) → IsSound r → done ≤ count * axes → SpellsMany (passed r mid) done → IsMoved r mid → many_at count add (point_at axes) s r ≡ (Ok ps, stop) → NumbersLead (count * axes - done) mid stop
-points_rest axes count done s r mid stop ps sound few spells moved e = numbers_rest done (count * axes) r mid stop few (run_leads done r mid sound spells moved) (points_numbers axes count s r stop ps e)
+-- where there is a fault, no number can be read
+pub no_number : (b c mid : Reading) (fault : NumFault) (z : ℤ) → StopsAt b c fault → signed_at b ≡ (Ok z, mid) → ⊥
+no_number b c mid fault z stops e = ok_not_err z (record { offset = c.place; why = why_of fault }) mid c (sym e ∙ read_no_signed b c fault (record { offset = c.place; why = why_of fault }) stops.0 stops.1 refl refl)
 
--- ---- numbers that are passed in a loop
-abbrev pub IsPassing : ℕ → Reading → ℕ → Reading → Type 0
-IsPassing many from left r = (stop : Reading) → NumbersLead many from stop → NumbersLead left r stop
+no_number_leads : (left : ℕ) (b c stop : Reading) (fault : NumFault) → 0 < left → StopsAt b c fault → NumbersLead left b stop → ⊥
+no_number_leads zero b c stop fault some stops lead = omega (arith, some)
+no_number_leads (suc n) b c stop fault some stops (z, mid, one, others) = no_number b c mid fault z stops one
 
--- if numbers are left, a number can be read
-passing_next : (left : ℕ) (r stop : Reading) → 0 < left → NumbersLead left r stop → (z : ℤ) × (mid : Reading) × (signed_at r ≡ (Ok z, mid)) × NumbersLead (left - 1) mid stop
-passing_next zero r stop some l = absurd (omega (arith, some))
-passing_next (suc n) r stop some (z, mid, one, others) = let less : suc n - 1 ≡ n = omega arith in (z, mid, one, rw less others)
+-- points that can be read are passed without a fault
+pub points_stand : (axes count : ℕ) (s : PointValue) (r new stop : Reading) (ps : List PointValue) (fault : NumFault) → IsSound r → StopsAmong (count * axes) r new fault → many_at count add (point_at axes) s r ≡ (Ok ps, stop) → ⊥
+points_stand axes count s r new stop ps fault sound f e =
+    no_number_leads (count * axes - f.before) f.middle new stop fault (omega (arith, f.fewer)) f.stops
+    (numbers_rest f.before (count * axes) r f.middle stop (omega (arith, f.fewer)) (passes_lead f.before f.are_small r f.middle sound f.numbers) (points_numbers axes count s r stop ps e))
 
-pub passing_reads : (many left : ℕ) (from r stop new : Reading) (m : Malformed) → 0 < left → NumbersLead many from stop → signed_at r ≡ (Err m, new) → IsPassing many from left r → ⊥
-passing_reads many left from r stop new m some known fault l =
-    let n = passing_next left r stop some (l stop known) in
-    ok_not_err n.0 m n.1 new (sym n.2 ∙ fault)
-
-pub passing_goes_on : (many left done : ℕ) (from r mid new : Reading) (z : ℤ) → 0 < left → signed_at r ≡ (Ok z, mid) → IsSound mid → done ≤ left - 1 → SpellsMany (passed mid new) done → IsMoved mid new → IsPassing many from left r → IsPassing many from (left - 1 - done) new
-passing_goes_on many left done from r mid new z some one sound few spells moved l stop known =
-    let n = passing_next left r stop some (l stop known) in
-    let same : n.1 ≡ mid = (one_answer (signed_at r) n.0 z n.1 mid n.2 one).1 in
-    numbers_rest done (left - 1) mid new stop few (run_leads done mid new sound spells moved) (subst (λ (q : Reading). NumbersLead (left - 1) q stop) same n.3)
+-- and this leads to their end
+pub points_passed : (axes count : ℕ) (are_small : Bool) (s : PointValue) (r new stop : Reading) (ps : List PointValue) → IsSound r → PassesNumbers (count * axes) r new are_small → many_at count add (point_at axes) s r ≡ (Ok ps, stop) → new ≡ stop
+points_passed axes count are_small s r new stop ps sound passes e =
+    let none : count * axes - count * axes ≡ 0 = omega arith in
+    subst (λ (n : ℕ). NumbersLead n new stop) none
+    (numbers_rest (count * axes) (count * axes) r new stop (omega arith) (passes_lead (count * axes) are_small r new sound passes) (points_numbers axes count s r stop ps e))
 
 -- ---- values that are read one after another
 module _ {A S : Type 0} (after : S → A → S) (each : S → Reader A) (count : ℕ) where
@@ -194,11 +194,10 @@ module _ {S : Type 0} (step : S → PointValue → S) (axes : ℕ) where
       (subst (λ (n : ℕ). IsLoop add (point_at axes) count total run.numbers n (after_all add start.last run.numbers) r) zero far)
 
   -- if all points are read, reading the point after a run doesn't fail
-  pub run_next : (count : ℕ) (start now : Trail) (s t : S) (from r new stop : Reading) (i : ℕ) (ps : List PointValue) (m : Malformed) → many_at count add (point_at axes) start.last from ≡ (Ok ps, stop) → i < count
-      → IsRun step axes start now s t from r i → Fails (point_at axes now.last r) m new → ⊥
-  run_next count start now s t from r new stop i ps m e lt run fails =
-      let n = next_read add (point_at axes) count (many_at count add (point_at axes) start.last from) run.numbers i now.last r stop ps e lt (run_loop count start now s t from r i (omega (arith, lt)) run) in
-      no_failure (point_at axes now.last r) n.0 n.1 new m n.2 fails
+  pub run_next : (count : ℕ) (start now : Trail) (s t : S) (from r stop : Reading) (i : ℕ) (ps : List PointValue) → many_at count add (point_at axes) start.last from ≡ (Ok ps, stop) → i < count
+      → IsRun step axes start now s t from r i → (point : PointValue) × (end : Reading) × (point_at axes now.last r ≡ (Ok point, end))
+  run_next count start now s t from r stop i ps e lt run =
+      next_read add (point_at axes) count (many_at count add (point_at axes) start.last from) run.numbers i now.last r stop ps e lt (run_loop count start now s t from r i (omega (arith, lt)) run)
 
   -- a run and another after it are a run
   pub run_then : (start now next : Trail) (s t u : S) (from r new : Reading) (i k : ℕ) → IsRun step axes now next t u r new k → IsRun step axes start now s t from r i → IsRun step axes start next s u from new (i + k)

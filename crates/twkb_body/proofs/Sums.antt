@@ -114,7 +114,7 @@ add_is [] (n ∷ p) axis = sym (nil_int (coordinate (n ∷ p) axis))
 add_is (c ∷ s) (n ∷ p) zero = refl
 add_is (c ∷ s) (n ∷ p) (suc axis) = add_is s p axis
 
-fits_signed : (z : ℤ) → fits z ≡ true → FitsSigned w64 z
+pub fits_signed : (z : ℤ) → fits z ≡ true → FitsSigned w64 z
 fits_signed (pos n) e = record { sfits = ltb-true n 9223372036854775808 e }
 fits_signed (negsuc n) e = record { sfits = ltb-true n 9223372036854775808 e }
 

@@ -1,16 +1,19 @@
 //! [`CertifiedWalk`], which shows the points of a certified body to a visitor until the visitor is settled. Then it moves past the
 //! other points without decoding them. Used by `shape`.
-ghost use Rattle.std.specs.Prelude.{◌≡◌};
+ghost use Rattle.std.specs.Prelude.{◌≡◌, List, Ok};
+ghost use Rattle.twkb_num.specs.Cursor.{Reading};
 ghost use Rattle.twkb_head.specs.Header.{axes_with};
 ghost use Rattle.twkb_head.specs.Raw.{HavePrecisions};
+ghost use Rattle.twkb_head.specs.Shared.Reader.{many_at};
+ghost use Rattle.twkb_body.specs.Geometry.{PointValue};
+ghost use Rattle.twkb_body.specs.Devices.Body.{add};
+ghost use Rattle.twkb_body.specs.Devices.BodyReader.{point_at};
 ghost use Rattle.twkb_body.specs.Devices.Inside.{of_head};
 ghost use Rattle.twkb_body.specs.Devices.PointReader.{IsWalkingOn};
 ghost use Rattle.twkb_body.specs.Devices.Walk.{precisions_of, no_points, shown};
 
 use crate::point_reader::PointReader;
-use crate::points::Points;
-use crate::settled::pass_known;
-use crate::trail::{Trail, take_point};
+use crate::trail::{Trail, take_known_point};
 use crate::visit::Visit;
 use twkb_head::{Head, Malformed};
 use twkb_num::Cursor;
@@ -85,24 +88,17 @@ impl<'h, 'v, V: Visit> PointReader for CertifiedWalk<'h, 'v, V> {
     fn take_points(&mut self, cursor: &mut Cursor, count: u64) -> Result<(), Malformed> {
         // A local copy: its coordinates are indexed, which would otherwise keep all of `self` out of registers.
         let mut trail = self.trail;
+        let axes = self.head.precisions();
         let mut done = 0;
         while done < count && !self.lost && !self.visitor.is_settled() {
-            let run = self
-                .visitor
-                .take_run(cursor, self.head, self.axes, count - done, &mut trail);
-            done += run;
-            if run == 0 {
-                let Ok(()) = take_point(cursor, self.head, self.axes, &mut trail, self.visitor)
-                else {
-                    unreachable!()
-                };
-                done += 1;
-            }
+            take_known_point(cursor, self.axes, &mut trail);
+            self.visitor.add_raw(axes, &trail.last);
+            done += 1;
         }
         self.trail = trail;
         if done < count {
             self.lost = true;
-            pass_known(cursor, self.axes, count - done);
+            pass_points(cursor, self.axes, count - done);
         }
         Ok(())
     }
@@ -113,4 +109,19 @@ impl<'h, 'v, V: Visit> PointReader for CertifiedWalk<'h, 'v, V> {
     {
         malformed
     }
+}
+
+/// Moves past `count` points that can be read.
+#[inline(always)]
+fn pass_points(cursor: &mut Cursor, axes: usize, count: u64)
+    requires known { (s : PointValue) × (points : List PointValue) × (stop : Reading)
+        × (many_at count add (point_at axes) s cursor.old ≡ (Ok points, stop)) }
+    ensures { (s : PointValue) (points : List PointValue) (stop : Reading)
+        → many_at count add (point_at axes) s cursor.old ≡ (Ok points, stop) → cursor.new ≡ stop }
+{
+    cursor.place_is_within();
+    // The product fits, since each number takes at least a byte.
+    let Ok(_) = cursor.pass_numbers(count * axes as u64) else {
+        unreachable!()
+    };
 }

@@ -1,14 +1,14 @@
-//! [`Passer`], the visitor that looks at nothing. Used by `headed` and `shape`.
+//! [`Passer`], the visitor that looks at nothing. Used by `headed`.
 
 use crate::visit::Visit;
-use twkb_head::{Axes, Bounds, RawBox, RawRange, Vertex};
+use twkb_head::{Axes, Bounds, RawBox, Vertex};
 
-/// A visitor that looks at no vertex and skips every box. If `SETTLED`, it is settled from the start, so points are passed without
-/// decoding their numbers. Otherwise these are summed, to find a coordinate that doesn't fit 64 bits.
+/// A visitor that looks at no vertex and skips every box. It is settled from the start, so points are passed without decoding their
+/// numbers.
 #[derive(Drop)]
-pub struct Passer<const SETTLED: bool>;
+pub struct Passer;
 
-impl<const SETTLED: bool> Visit for Passer<SETTLED> {
+impl Visit for Passer {
     ghost use Rattle.std.specs.Prelude.{true, refl};
 
     ghost State = { Unit {0} };
@@ -35,15 +35,10 @@ impl<const SETTLED: bool> Visit for Passer<SETTLED> {
     }
 
     #[inline(always)]
-    fn skips_by_x(&self, _xy: i8, _x: &RawRange) -> bool {
-        true
-    }
-
-    #[inline(always)]
     fn add_raw(&mut self, _axes: Axes, _point: &[i64; 4]) {}
 
     #[inline(always)]
     fn is_settled(&self) -> bool {
-        SETTLED
+        true
     }
 }

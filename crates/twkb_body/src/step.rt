@@ -5,19 +5,17 @@ ghost use Rattle.twkb_num.specs.Units.{IsPrecision};
 ghost use Rattle.twkb_head.specs.declared.kinds.Kind.TheVariants.{Point};
 ghost use Rattle.twkb_body.specs.Geometry.{Geometry};
 ghost use Rattle.twkb_head.specs.declared.raw.RawRange.{RawRange};
-ghost use Rattle.twkb_body.specs.Devices.Known.{HasFlatBox, JudgesFlatBox};
+ghost use Rattle.twkb_body.specs.Devices.Known.{HasFlatBox};
 ghost use Rattle.twkb_body.specs.Devices.Skimmed.{hop_of, Entered, HasCome, HasRead, IsThere, Enters};
 ghost use Rattle.twkb_head.specs.Raw.{HavePrecisions, head_said, flat_box, raw_bounds, IsNear};
 ghost use Rattle.twkb_body.specs.Standing.{StandsAt};
 
-use crate::body::{enter_deep_body, enter_flat, enter_point};
-use crate::known::{
-    further_ranges, known_range, pass_further, pass_range, short_ranges, two_ranges,
-};
+use crate::body::{enter_body, enter_flat, enter_point};
+use crate::known::two_ranges;
 use crate::varints::take_number;
 use crate::visit::Visit;
 use twkb_head::{
-    Axes, Begun, BoxCalled, Fields, Kind, RawBox, RawRange, SizeField, begun_as, begun_by,
+    Axes, Begun, BoxCalled, BoxInlined, Fields, Kind, RangeReader, RawBox, RawRange, begun_as, begun_by,
     take_rest,
 };
 use twkb_num::Cursor;
@@ -79,75 +77,29 @@ fn enter_apart<V: Visit>(
         metadata,
         start,
     };
-    enter_begun(cursor, begun, visitor)
+    // Of these, most have Z or M, a size and a box: there the compiler knows which fields there are.
+    if begun.is_further_boxed() {
+        return enter_begun::<BoxInlined, V>(cursor, begun.announcing(11), visitor);
+    }
+    enter_begun::<BoxCalled, V>(cursor, begun, visitor)
 }
 
-/// Enters a geometry whose first two bytes were read.
+/// Enters a geometry whose first two bytes were read, and reads its box by `B`.
 #[inline(always)]
-fn enter_begun<V: Visit>(cursor: &mut Cursor, begun: Begun, visitor: &mut V) -> u64
+fn enter_begun<B: RangeReader, V: Visit>(
+    cursor: &mut Cursor,
+    begun: Begun,
+    visitor: &mut V,
+) -> u64
     requires xy { IsPrecision begun.xy }
     requires come { IsThere (HasCome begun cursor.old) }
     ensures { Enters V.step V.passes (HasCome begun cursor.old)
         (V.state visitor.old) (V.state visitor.new) cursor.new result }
 {
-    if begun.is_further_boxed() {
-        return enter_further_boxed(cursor, begun.announcing(11), visitor);
-    }
-    let Ok(raw) = take_rest::<BoxCalled>(cursor, begun) else {
+    let Ok(raw) = take_rest::<B>(cursor, begun) else {
         unreachable!()
     };
     enter_headed(cursor, &raw, visitor)
-}
-
-/// Enters a geometry that has a size, a box and an extended dimensions byte, and no other field. If the range in X shows that the
-/// visitor skips the box, the ranges of Z and M are passed as [`pass_range`] does, and the place is set to the end that the size says.
-/// Otherwise the whole header is read.
-#[inline(always)]
-fn enter_further_boxed<V: Visit>(cursor: &mut Cursor, begun: Begun, visitor: &mut V) -> u64
-    requires xy { IsPrecision begun.xy }
-    requires boxed { begun.metadata ≡ 11 }
-    requires come { IsThere (HasCome begun cursor.old) }
-    ensures { Enters V.step V.passes (HasCome begun cursor.old)
-        (V.state visitor.old) (V.state visitor.new) cursor.new result }
-{
-    let Some(extended) = cursor.byte() else {
-        unreachable!()
-    };
-    let axes = Axes::announced(begun.xy, extended);
-    let offset = cursor.place();
-    let Ok(value) = take_number(cursor) else {
-        unreachable!()
-    };
-    let after = cursor.place();
-    let stop = after + value as usize;
-    let (x, y) = two_ranges(cursor);
-    if x.is_near() && visitor.skips_by_x(begun.xy, &x) {
-        pass_further(cursor, axes);
-        cursor.go_to(stop);
-        return 0;
-    }
-    let (third, fourth) = further_ranges(cursor, axes);
-    let header = Fields {
-        kind: begun.kind,
-        axes,
-        size: Some(SizeField {
-            value,
-            offset,
-            after,
-        }),
-        bounds: Some(RawBox {
-            x,
-            y,
-            third,
-            fourth,
-        }),
-        box_place: after,
-        ids: false,
-        empty: false,
-        start: begun.start,
-        stop: cursor.place(),
-    };
-    enter_headed(cursor, &header, visitor)
 }
 
 /// Enters a point that has a size, and no other field. The next geometry begins where the size says, which is known before the
@@ -165,7 +117,7 @@ fn enter_sized_point<V: Visit>(cursor: &mut Cursor, begun: Begun, visitor: &mut 
         unreachable!()
     };
     let stop = cursor.place() + size as usize;
-    let members = enter_point(cursor, Axes::flat(begun.xy), false, visitor);
+    let members = enter_point(cursor, begun.xy, visitor);
     cursor.go_on_from(stop);
     members
 }
@@ -223,13 +175,7 @@ fn enter_after_header<V: Visit>(cursor: &mut Cursor, raw: &Fields, visitor: &mut
     if raw.empty {
         return 0;
     }
-    if raw.is_flat_point() {
-        return enter_point(cursor, raw.axes, raw.ids, visitor);
-    }
-    if raw.axes.is_flat() {
-        return enter_flat(cursor, raw.kind, raw.axes, raw.ids, visitor);
-    }
-    enter_deep_body(cursor, raw.kind, raw.axes, raw.ids, visitor)
+    enter_body(cursor, raw.kind, raw.axes, raw.ids, visitor)
 }
 
 /// The end of the geometry, if it has a size and a box that the visitor skips.
@@ -273,55 +219,23 @@ fn enter_boxed<V: Visit>(cursor: &mut Cursor, begun: Begun, visitor: &mut V) -> 
         unreachable!()
     };
     let stop = cursor.place() + size as usize;
-    if skips_box(cursor, begun.xy, visitor) {
+    let (x, y) = two_ranges(cursor);
+    if skips_flat(visitor, begun.xy, x, y) {
         cursor.go_to(stop);
         return 0;
     }
-    let members = enter_flat(cursor, begun.kind, Axes::flat(begun.xy), false, visitor);
+    let members = enter_flat(cursor, begun.kind, begun.xy, visitor);
     go_on_after(cursor, members, Some(stop));
     members
 }
 
-/// Reads a box in X and Y, and says whether the visitor skips it.
+/// Whether the visitor skips a box in X and Y. It is asked in raw numbers if they are near zero, and otherwise in units.
 #[inline(always)]
-fn skips_box<V: Visit>(cursor: &mut Cursor, xy: i8, visitor: &V) -> bool
-    requires xy { IsPrecision xy }
-    requires there { HasFlatBox cursor.old }
-    ensures { JudgesFlatBox (V.passes (V.state visitor.now)) xy result cursor.old cursor.new }
-{
-    match short_ranges(cursor) {
-        Some((x, y)) => skips_flat(visitor, xy, x, y, true),
-        None => skips_long_box(cursor, xy, visitor),
-    }
-}
-
-/// Reads a box as [`skips_box`] does, whose ranges can't be read together. If the range in X shows that the visitor skips the box,
-/// the range in Y is passed by the ends of its numbers.
-// It isn't inlined, so that the step for short boxes is small enough to be.
-#[inline(never)]
-fn skips_long_box<V: Visit>(cursor: &mut Cursor, xy: i8, visitor: &V) -> bool
-    requires xy { IsPrecision xy }
-    requires there { HasFlatBox cursor.old }
-    ensures { JudgesFlatBox (V.passes (V.state visitor.now)) xy result cursor.old cursor.new }
-{
-    let (x, x_near) = known_range(cursor);
-    if x_near && visitor.skips_by_x(xy, &x) {
-        pass_range(cursor);
-        return true;
-    }
-    let (y, y_near) = known_range(cursor);
-    skips_flat(visitor, xy, x, y, x_near && y_near)
-}
-
-/// Whether the visitor skips a box in X and Y, whose numbers may be known to be near zero.
-#[inline(always)]
-fn skips_flat<V: Visit>(visitor: &V, xy: i8, x: RawRange, y: RawRange, near: bool) -> bool
-    requires xy { IsPrecision xy }
-    requires x_near { near ≡ true → IsNear x }
-    requires y_near { near ≡ true → IsNear y }
+fn skips_flat<V: Visit>(visitor: &V, xy: i8, x: RawRange, y: RawRange) -> bool
+    requires { IsPrecision xy }
     ensures { result ≡ V.passes (V.state visitor.now) (raw_bounds xy None None (flat_box x y)) }
 {
-    if near {
+    if x.is_near() && y.is_near() {
         visitor.skips_raw(Axes::flat(xy), &RawBox::flat(x, y))
     } else {
         skips_far(visitor, xy, x, y)

@@ -10,7 +10,7 @@ pub mod FurtherBoxes
 pub mod Heads
 pub mod Readings
 pub mod Steps
-mod NumberRuns
+pub mod NumberRuns
 pub mod HeadSteps
 pub mod HeadRuns
 pub mod Loops

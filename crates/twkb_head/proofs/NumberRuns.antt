@@ -1,5 +1,6 @@
 -- Signed numbers that a cursor reads, one after another, or the fault of one of them, are what the readers of ranges answer.
 use Rattle.std.proofs.Common.{◌≡◌, ℕ, ◌-◌, ◌<◌, List, [], ◌∷◌, ◌++◌, length, drop, slice_index_or, ℤ, pos, ◌+ℤ◌, Ok, Err, refl, sym, ap, ap₂, subst, ◌∙◌, arith}
+use Rattle.std.specs.Prelude.{◌≢◌}
 use Rattle.std.proofs.lemmas.Grind.{common_steps}
 use Rattle.std.proofs.lemmas.List.{append-nil}
 use Rattle.twkb_num.specs.Cursor.{Reading, passed, rest, counted}
@@ -37,14 +38,14 @@ range_read low width old new read =
     let first = first_read low (width ∷ []) old new read in
     rw (first.1, one_read width first.0 new first.2) refl
 
-pub two_ranges_read : (low width next more : ℤ) (old new : Reading) → ReadsNumbers old new (low ∷ width ∷ next ∷ more ∷ [])
-    → two_ranges_from old ≡ (Ok ((low, low +ℤ width), (next, next +ℤ more)), new)
-unfolding range_from two_ranges_from
-two_ranges_read low width next more old new read =
+-- four numbers are two ranges, one after the other
+ranges_read : (low width next more : ℤ) (old new : Reading) → ReadsNumbers old new (low ∷ width ∷ next ∷ more ∷ []) → (between : Reading) × (range_from old ≡ (Ok (low, low +ℤ width), between)) × (range_from between ≡ (Ok (next, next +ℤ more), new))
+unfolding range_from
+ranges_read low width next more old new read =
     let first = first_read low (width ∷ next ∷ more ∷ []) old new read in
     let second = first_read width (next ∷ more ∷ []) first.0 new first.2 in
     let third = first_read next (more ∷ []) second.0 new second.2 in
-    rw (first.1, second.1, third.1, one_read more third.0 new third.2) refl
+    (second.0, rw (first.1, second.1) refl, rw (third.1, one_read more third.0 new third.2) refl)
 
 -- numbers as the code holds them, in a list of two or four
 pub range_held : (numbers : List ℤ) (low width : ℤ) (old new : Reading) → length numbers ≡ 2 → low ≡ slice_index_or numbers 0 (pos 0) → width ≡ slice_index_or numbers 1 (pos 0)
@@ -54,16 +55,25 @@ range_held (a ∷ []) low width old new long low_is width_is read = absurd (omeg
 range_held (a ∷ b ∷ []) low width old new long low_is width_is read = range_read a b old new read ∙ ap₂ (λ (x y : ℤ). (Ok (x, x +ℤ y), new)) (sym low_is) (sym width_is)
 range_held (a ∷ b ∷ c ∷ zs) low width old new long low_is width_is read = absurd (omega (arith, long))
 
+pub ranges_held : (numbers : List ℤ) (first second : RawRange) (old new : Reading) → length numbers ≡ 4
+    → first.minimum ≡ slice_index_or numbers 0 (pos 0) → first.extent ≡ slice_index_or numbers 1 (pos 0) → second.minimum ≡ slice_index_or numbers 2 (pos 0) → second.extent ≡ slice_index_or numbers 3 (pos 0)
+    → ReadsNumbers old new numbers → (between : Reading) × (range_from old ≡ (Ok (ends_of first), between)) × (range_from between ≡ (Ok (ends_of second), new))
+ranges_held [] first second old new long low_is width_is next_is more_is read = absurd (omega (arith, long))
+ranges_held (a ∷ []) first second old new long low_is width_is next_is more_is read = absurd (omega (arith, long))
+ranges_held (a ∷ b ∷ []) first second old new long low_is width_is next_is more_is read = absurd (omega (arith, long))
+ranges_held (a ∷ b ∷ c ∷ []) first second old new long low_is width_is next_is more_is read = absurd (omega (arith, long))
+ranges_held (a ∷ b ∷ c ∷ d ∷ []) first second old new long low_is width_is next_is more_is read =
+    let (between, one, other) = ranges_read a b c d old new read in
+    (between, one ∙ (λ j. (Ok (sym low_is j, sym low_is j +ℤ sym width_is j), between)), other ∙ (λ j. (Ok (sym next_is j, sym next_is j +ℤ sym more_is j), new)))
+ranges_held (a ∷ b ∷ c ∷ d ∷ e ∷ zs) first second old new long low_is width_is next_is more_is read = absurd (omega (arith, long))
+
 pub two_ranges_held : (numbers : List ℤ) (first second : RawRange) (old new : Reading) → length numbers ≡ 4
     → first.minimum ≡ slice_index_or numbers 0 (pos 0) → first.extent ≡ slice_index_or numbers 1 (pos 0) → second.minimum ≡ slice_index_or numbers 2 (pos 0) → second.extent ≡ slice_index_or numbers 3 (pos 0)
     → ReadsNumbers old new numbers → two_ranges_from old ≡ (Ok (ends_of first, ends_of second), new)
-two_ranges_held [] first second old new long low_is width_is next_is more_is read = absurd (omega (arith, long))
-two_ranges_held (a ∷ []) first second old new long low_is width_is next_is more_is read = absurd (omega (arith, long))
-two_ranges_held (a ∷ b ∷ []) first second old new long low_is width_is next_is more_is read = absurd (omega (arith, long))
-two_ranges_held (a ∷ b ∷ c ∷ []) first second old new long low_is width_is next_is more_is read = absurd (omega (arith, long))
-two_ranges_held (a ∷ b ∷ c ∷ d ∷ []) first second old new long low_is width_is next_is more_is read =
-    two_ranges_read a b c d old new read ∙ (λ j. (Ok ((sym low_is j, sym low_is j +ℤ sym width_is j), (sym next_is j, sym next_is j +ℤ sym more_is j)), new))
-two_ranges_held (a ∷ b ∷ c ∷ d ∷ e ∷ zs) first second old new long low_is width_is next_is more_is read = absurd (omega (arith, long))
+unfolding two_ranges_from
+two_ranges_held numbers first second old new long low_is width_is next_is more_is read =
+    let (between, one, other) = ranges_held numbers first second old new long low_is width_is next_is more_is read in
+    rw (one, other) refl
 
 module _ (new : Reading) (fault : NumFault) (m : Malformed) (offset : m.offset ≡ new.place) (why : m.why ≡ why_of fault) where
   -- there is a fault where the numbers before it end
@@ -104,3 +114,25 @@ module _ (new : Reading) (fault : NumFault) (m : Malformed) (offset : m.offset �
           let second = first_read width (next ∷ []) first.0 middle first.2 in
           rw (first.1, second.1, one_read next second.0 middle second.2, stop middle stops) refl
       go (low ∷ width ∷ next ∷ more ∷ zs) middle fewer read stops = absurd (omega (arith, fewer))
+
+-- if neither range is malformed, no fault comes before the end of the second
+pub ranges_stand : (old new : Reading) (fault : NumFault) → ((m : Malformed) (end : Reading) → range_from old ≢ (Err m, end)) → ((range : RawRange) (between : Reading) → range_from old ≡ (Ok (ends_of range), between) → (m : Malformed) (end : Reading) → range_from between ≢ (Err m, end))
+    → StopsReading 4 old new fault → ⊥
+unfolding range_from
+ranges_stand old new fault first second s = go s.numbers s.middle s.fewer s.read s.stops
+  where
+    m : Malformed
+    m = record { offset = new.place; why = why_of fault }
+
+    early : StopsReading 2 old new fault → ⊥
+    early stops = first m new (range_stops new fault m refl refl old stops)
+
+    go : (numbers : List ℤ) (middle : Reading) → length numbers < 4 → ReadsNumbers old middle numbers → StopsAt middle new fault → ⊥
+    go [] middle fewer read stops = early (record { numbers = []; middle = middle; fewer = omega arith; read = read; stops = stops })
+    go (low ∷ []) middle fewer read stops = early (record { numbers = low ∷ []; middle = middle; fewer = omega arith; read = read; stops = stops })
+    go (low ∷ width ∷ zs) middle fewer read stops =
+        let one = first_read low (width ∷ zs) old middle read in
+        let two = first_read width zs one.0 middle one.2 in
+        let range : RawRange = record { minimum = low; extent = width } in
+        let whole : range_from old ≡ (Ok (ends_of range), two.0) = rw (one.1, two.1) refl in
+        second range two.0 whole m new (range_stops new fault m refl refl two.0 (record { numbers = zs; middle = middle; fewer = omega (arith, fewer); read = two.2; stops = stops }))

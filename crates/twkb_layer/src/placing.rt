@@ -13,7 +13,7 @@ use crate::each_blob::{EachBlob, for_each_blob};
 use crate::slot_ranges::Kept;
 use crate::slots::{OFFSET_LIMIT, Slot};
 use std::alloc::Allocator;
-use twkb_body::{Passed, read_and_pass};
+use twkb_body::read_and_pass;
 use twkb_head::Fields;
 use twkb_num::Cursor;
 
@@ -86,7 +86,7 @@ pub fn put_slots(room: &mut [Slot], cursor: &mut Cursor) -> usize
 /// Puts the slots of a blob that begins at the offset with this header after the `used` ones of the room, or adds the blob to the last
 /// of them, if that has place for it. Returns how many are used then.
 #[inline(always)]
-fn put(room: &mut [Slot], used: usize, offset: usize, passed: &Passed) -> usize
+fn put(room: &mut [Slot], used: usize, offset: usize, raw: &Fields) -> usize
     requires axes { HavePrecisions passed.now.header.axes }
     requires lanes { HasItsLanes passed.now }
     requires spare { used + 1 < length room.old }
@@ -97,10 +97,6 @@ fn put(room: &mut [Slot], used: usize, offset: usize, passed: &Passed) -> usize
     ensures room { length room.new ≡ length room.old }
     ensures left { drop result room.new ≡ drop result room.old }
 {
-    if let Some(slot) = lane_slot(offset, passed) {
-        return put_one(room, used, slot, false);
-    }
-    let raw = &passed.header;
     if raw.bounds.is_none() && offset < OFFSET_LIMIT {
         let own = Slot::unboxed(offset, false, raw.axes.xy);
         return put_one(room, used, own, true);
@@ -136,7 +132,7 @@ fn put_one(room: &mut [Slot], used: usize, own: Slot, is_bare: bool) -> usize
 
 /// Pushes the slots of a blob that begins at the offset with this header, or adds the blob to the last slot, if that has place for it.
 #[inline(always)]
-fn push<A: Allocator>(slots: &mut Vec<Slot, A>, offset: usize, passed: &Passed)
+fn push<A: Allocator>(slots: &mut Vec<Slot, A>, offset: usize, raw: &Fields)
     requires axes { HavePrecisions passed.now.header.axes }
     requires lanes { HasItsLanes passed.now }
     requires spare { vec_len slots.old + 1 < vec_capacity slots.old }
@@ -145,11 +141,6 @@ fn push<A: Allocator>(slots: &mut Vec<Slot, A>, offset: usize, passed: &Passed)
     ensures capacity { vec_capacity slots.new ≡ vec_capacity slots.old }
     ensures len { vec_len slots.new ≤ vec_len slots.old + 2 }
 {
-    if let Some(slot) = lane_slot(offset, passed) {
-        push_one(slots, slot, false);
-        return;
-    }
-    let raw = &passed.header;
     if raw.bounds.is_none() && offset < OFFSET_LIMIT {
         let own = Slot::unboxed(offset, false, raw.axes.xy);
         push_one(slots, own, true);
@@ -197,23 +188,6 @@ fn takes_in(slots: &mut [Slot], own: &Slot, is_bare: bool) -> bool
             }
         }
         None => false,
-    }
-}
-
-/// The slot of a blob whose box was read into lanes. `None` if it wasn't, or if the offset of the blob is 2^56 or more.
-// Most blobs with a box are such, and go to their slot by a path of their own, in which the compiler keeps the box in lanes.
-#[inline(always)]
-fn lane_slot(offset: usize, passed: &Passed) -> Option<Slot>
-    requires axes { HavePrecisions passed.now.header.axes }
-    requires lanes { HasItsLanes passed.now }
-    ensures says { IfSome result (λ slot. slot_says slot ≡ own_said offset false (box_said passed.now.header)) }
-    ensures deep { IfSome result (λ slot. passes_a_slot offset (box_said passed.now.header) ≡ false) }
-    ensures alone { IfSome result (λ slot. is_shared slot ≡ false) }
-{
-    if passed.short.is_read && offset < OFFSET_LIMIT {
-        Some(Slot::of_lanes(offset, passed.short.lanes, passed.header.axes.xy))
-    } else {
-        None
     }
 }
 

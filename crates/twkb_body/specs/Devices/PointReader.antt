@@ -86,11 +86,11 @@ pub record ReadsOrEnds {A S T F : Type 0} (each : ℕ → PointValue → Reader 
   pub ended : IfErr result (λ fault. StopsEarly each points_in step trusts old ends (tells fault) from to)
   pub bytes : to.bytes ≡ from.bytes
 
--- the stage of a walk: its trail, and its header beside the state of what the points are added to
-pub record IsWalking {S : Type 0} (head : Head) (axes : ℕ) (trail : Trail) (state : S) (at : Stage (Header × S)) : Type 0 where
-  pub precisions : HavePrecisions (precisions_of head)
-  pub axes_are : axes ≡ axes_with head.z head.m
-  pub at_is : at ≡ record { axes = axes; trail = trail; state = (of_head head, state) }
+-- the stage of a walk that keeps its trail alone
+pub record IsWalking (axes : ℕ) (trail : Trail) (at : Stage (Unit {0})) : Type 0 where
+  pub some : 1 ≤ axes
+  pub few : axes ≤ 4
+  pub at_is : at ≡ record { axes = axes; trail = trail; state = tt }
 
 -- The stage of a walk over certified bytes: its header and the name of its visitor's reference, beside the visitor's state. The trail may
 -- be lost, if no point changes the state any more.

@@ -17,10 +17,6 @@ use Rattle.twkb_body.specs.Devices.BodyReader.{point_at}
 abbrev pub precisions_of : Head → Axes
 precisions_of head = record { xy = head.xy; z = head.z; m = head.m }
 
--- What a pass over the points under a header carries: how many axes they have, and no more points than bytes.
-abbrev pub IsWalk : Head → ℕ → Trail → Reading → Type 0
-IsWalk head axes trail r = HavePrecisions (precisions_of head) × (axes ≡ axes_with head.z head.m) × (trail.points ≤ r.place)
-
 -- the trail of no points, from which differences start
 abbrev pub no_points : Trail
 no_points = record { last = zeros; points = 0 }
@@ -47,6 +43,10 @@ pub record IsWalked {S : Type 0} (step : S → PointValue → S) (axes : ℕ) (o
   pub added : state' ≡ fold step state (lasts_from old.last numbers)
   pub have : HaveAxes axes numbers
   pub ahead : length numbers + start ≤ stop
+
+-- A point was read between two places, these numbers, one for each axis, and added to the last point.
+abbrev pub IsPoint : ℕ → Trail → Trail → ℕ → ℕ → PointValue → Type 0
+IsPoint axes old new start stop numbers = IsWalked {S = Unit {0}} (λ s point. s) axes old new tt tt start stop (numbers ∷ [])
 
 -- This many points were read, one after another, and added.
 pub record IsRun {S : Type 0} (step : S → PointValue → S) (axes : ℕ) (old new : Trail) (state state' : S)

@@ -1,48 +1,46 @@
--- Two short numbers that a vector shows are the point.
-use Rattle.std.proofs.Common.{◌≡◌, ℤ, pos, ◌+ℤ◌, None, ℕ, [], ◌∷◌, fold, map, option_map, refl, ap, sym, subst, ◌∙◌, arith}
+-- The two numbers are the point.
+use Rattle.std.proofs.Common.{◌≡◌, ℤ, pos, ◌+ℤ◌, false, None, [], ◌∷◌, fold, map, length, slice_index_or, rules, refl, ap, ap₂, subst, ◌∙◌, arith}
 use Rattle.std.proofs.lemmas.Int.{ints}
-use mir.Val.{to_z, of_z}
-use Rattle.std.specs.Int.{w64}
-use Rattle.twkb_num.specs.Cursor.{Reading}
+use mir.Val.{SFits, to_z, of_z}
+use Rattle.std.specs.Int.{w64, w8}
+use Rattle.twkb_num.specs.Numbers.{ReadsNumbers}
 use Rattle.twkb_num.specs.Units.{units_of}
-use Rattle.twkb_head.specs.Head.{m_axis}
 use Rattle.twkb_head.specs.declared.kinds.Kind.TheVariants.{Point}
 use Rattle.twkb_head.proofs.Readings.{one_answer}
-use Rattle.twkb_body.specs.Geometry.{coordinate, vertex_of, points_of}
+use Rattle.twkb_body.specs.Geometry.{vertex_of, points_of}
 use Rattle.twkb_body.specs.Devices.Body.{Body}
 use Rattle.twkb_body.specs.Devices.Inside.{of_head, shape_behind}
-use Rattle.twkb_body.specs.Devices.Skimmed.{full_head, IsBehind}
-use Rattle.twkb_body.proofs.HeadStands.{enter_shape}
-use Rattle.twkb_body.proofs.PointShapes.{point_body, point_shape}
+use Rattle.twkb_body.specs.Devices.Skimmed.{full_head, flat_axes}
+use Rattle.twkb_body.proofs.HeadStands.{enter_shape, shape_stands}
+use Rattle.twkb_body.proofs.NumberRuns.{two_are}
+use Rattle.twkb_body.proofs.PointShapes.{point_body, point_shape, point_stands}
 use Rattle.twkb_body.proofs.body.enter_point.Goals as goal
 
-pub enter_deep_body-requires-clause-behind : goal.enter_deep_body-requires-clause-behind
-enter_deep_body-requires-clause-behind g c =
-    let b = c.requires.behind in
-    (b.0, b.1, b.2, subst (λ (r : Reading). IsBehind (g.V.Visit.passes (g.V.Visit.state c.args.visitor.now)) Point c.args.axes c.args.ids r b.0 b.1 b.2) (sym c.in-None.ensures.none) b.3)
+pub unreachable-requires : goal.unreachable-requires
+unreachable-requires g c =
+    let (t, depth, before, b) = c.requires.behind in
+    let h = full_head Point (flat_axes c.args.xy) false b.size b.bounds b.start b.stop in
+    let (body, stop, e) = shape_stands t depth before c.args.cursor.now h b.sound b.stands b.at b.moved refl refl in
+    point_stands h c.args.cursor.now refl refl refl c.svarints.new.self stop body c.in_default.field-0 c.place_is_within.ensures e c.in_default.ensures.err
 
-pub returns-in-None-clause-entered : goal.returns-in-None-clause-entered
-returns-in-None-clause-entered g c = λ t depth before b.
-    c.enter_deep_body.ensures.entered t depth before (subst (λ (r : Reading). IsBehind (g.V.Visit.passes (g.V.Visit.state c.args.visitor.now)) Point c.args.axes c.args.ids r t depth before) (sym c.in-None.ensures.none) b)
-
-pub returns-in-Some-clause-entered : goal.returns-in-Some-clause-entered
-returns-in-Some-clause-entered g c = λ t depth before b.
-    let axes = c.args.axes in
-    let h = full_head Point axes c.args.ids b.size b.bounds b.start b.stop in
-    let x = c.in-Some.x in
-    let y = c.in-Some.y in
-    let short = c.in-Some.ensures.short in
-    let numbers = (pos 0 +ℤ x) ∷ (pos 0 +ℤ y) ∷ [] in
+pub returns-clause-entered : goal.returns-clause-entered
+returns-clause-entered g c = λ t depth before b.
+    let h = full_head Point (flat_axes c.args.xy) false b.size b.bounds b.start b.stop in
+    let two : length c.in-Ok.point ≡ 2 = search rules in
+    let x = slice_index_or c.in-Ok.point 0 (pos 0) in
+    let y = slice_index_or c.in-Ok.point 1 (pos 0) in
+    let x_fits : SFits w64 x = search rules in
+    let y_fits : SFits w64 y = search rules in
+    let read = subst (ReadsNumbers c.args.cursor.now c.svarints.new.self) (two_are c.in-Ok.point two) c.in-Ok.ensures.ok in
     let s = g.V.Visit.state c.args.visitor.now in
-    let bits = to_z w64 (of_z w64 x) ∷ to_z w64 (of_z w64 y) ∷ pos 0 ∷ pos 0 ∷ [] in
-    let at_x : to_z w64 (of_z w64 x) ≡ pos 0 +ℤ x = omega (arith, ints, short.0.0, short.0.1) in
-    let at_y : to_z w64 (of_z w64 y) ≡ pos 0 +ℤ y = omega (arith, ints, short.1.0, short.1.1) in
-    let same_x = ap (λ (u : ℤ). units_of u axes.xy) at_x in
-    let same_y = ap (λ (u : ℤ). units_of u axes.xy) at_y in
-    let no_z : (f : ℕ → ℤ) → option_map f axes.z ≡ None = λ f. ap (option_map f) c.requires.z in
-    let no_m : (f : ℕ → ℤ) → option_map f axes.m ≡ None = λ f. ap (option_map f) c.requires.m in
-    let seen = c.add_raw.ensures ∙ ap (g.V.Visit.step s) (λ j. record { x = same_x j; y = same_y j; z = (no_z (λ p. units_of (coordinate bits 2) (pos p)) ∙ sym (no_z (λ p. units_of (coordinate numbers 2) (pos p)))) j; m = (no_m (λ p. units_of (coordinate bits (m_axis axes.z)) (pos p)) ∙ sym (no_m (λ p. units_of (coordinate numbers (m_axis axes.z)) (pos p)))) j }) in
+    let at_x : to_z w64 (of_z w64 x) ≡ pos 0 +ℤ x = omega (arith, ints) in
+    let at_y : to_z w64 (of_z w64 y) ≡ pos 0 +ℤ y = omega (arith, ints) in
+    let fits : to_z w8 (of_z w8 c.args.xy) ≡ c.args.xy = omega (arith, ints) in
+    let at = rw c.flat.ensures at c.add_raw.ensures in
+    let same_x = ap₂ units_of at_x fits in
+    let same_y = ap₂ units_of at_y fits in
+    let seen = at ∙ ap (g.V.Visit.step s) (λ j. record { x = same_x j; y = same_y j; z = None; m = None }) in
     enter_shape g.V.Visit.step g.V.Visit.passes s t depth before _ _ h _ b.sound b.stands b.at b.moved b.stays refl refl
     (λ body stop e.
-    let same = one_answer (shape_behind h c.args.cursor.now) (point_body x y) body _ stop (point_shape h c.args.cursor.now _ x y refl c.requires.z c.requires.m c.in-Some.ensures.some c.in-Some.ensures.moved short.0 short.1) e in
+    let same = one_answer (shape_behind h c.args.cursor.now) (point_body x y) body _ stop (point_shape h c.args.cursor.now refl refl refl c.svarints.new.self x y c.place_is_within.ensures read x_fits y_fits) e in
     (same.1, seen ∙ ap (λ (q : Body). fold g.V.Visit.step s (map (vertex_of (of_head h)) (points_of q.polygons))) same.0))

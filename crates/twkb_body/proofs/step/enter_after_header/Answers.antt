@@ -1,12 +1,10 @@
 -- Each end of a step is on the way of the walk: hopped over, empty, or before its body.
-use Rattle.std.proofs.Common.{◌≡◌, ℕ, Bool, false, None, refl, sym, subst}
+use Rattle.std.proofs.Common.{◌≡◌, ℕ, Bool, false, None, sym, subst}
 use Rattle.twkb_num.specs.Cursor.{Reading, passed}
 use Rattle.twkb_head.specs.Head.{IsHeadAt}
 use Rattle.twkb_head.specs.Raw.{head_said, fields_box}
 use Rattle.twkb_head.specs.declared.header.Head.{Head}
-use Rattle.twkb_head.specs.declared.kinds.Kind.TheVariants.{Point}
 use Rattle.std.specs.Prelude.{option_map}
-use Rattle.twkb_head.specs.declared.kinds.Kind.{Kind}
 use Rattle.twkb_head.specs.declared.raw.Fields.{Fields}
 use Rattle.twkb_head.specs.declared.boxes.Bounds.{Bounds}
 use Rattle.twkb_body.specs.Geometry.{Geometry}
@@ -33,45 +31,26 @@ returns-then-raw g c = λ t depth before come.
     enter_empty g.V.Visit.step g.V.Visit.passes _ t depth before _ (head_said c.args.raw.now) come.stands come.at come.moved (sym c.in_default.ensures) c.if-raw.true
 
 -- the header of a geometry that isn't hopped over, as far as its body depends on it
-module _ (passes : Bounds → Bool) (raw : Fields) (now : Reading) (g : Geometry) (depth : ℕ) (before : Reading) (come : HasRead raw now g depth before) (stays : None ≡ hop_of passes (head_said raw).size (head_said raw).bounds) (full : raw.empty ≡ false) where
-  behind : (kind : Kind) → raw.kind ≡ kind → IsBehind passes kind raw.axes raw.ids now g depth before
-  behind kind is =
-      let same : head_said raw ≡ full_head kind raw.axes raw.ids raw.size (option_map (fields_box raw) raw.bounds) raw.start raw.stop = λ j. record (head_said raw) { kind = is j; empty = full j } in
-      record {
-        size = raw.size;
-        bounds = option_map (fields_box raw) raw.bounds;
-        start = raw.start;
-        stop = raw.stop;
-        stands = come.stands;
-        sound = come.sound;
-        at = subst (λ (h : Head). IsHeadAt h 1 before.place (passed before now)) same come.at;
-        moved = come.moved;
-        stays = sym stays;
-      }
+behind : (passes : Bounds → Bool) (raw : Fields) (now : Reading) (g : Geometry) (depth : ℕ) (before : Reading) → HasRead raw now g depth before → None ≡ hop_of passes (head_said raw).size (head_said raw).bounds → raw.empty ≡ false → IsBehind passes raw.kind raw.axes raw.ids now g depth before
+behind passes raw now g depth before come stays full =
+    let same : head_said raw ≡ full_head raw.kind raw.axes raw.ids raw.size (option_map (fields_box raw) raw.bounds) raw.start raw.stop = λ j. record (head_said raw) { empty = full j } in
+    record {
+      size = raw.size;
+      bounds = option_map (fields_box raw) raw.bounds;
+      start = raw.start;
+      stop = raw.stop;
+      stands = come.stands;
+      sound = come.sound;
+      at = subst (λ (h : Head). IsHeadAt h 1 before.place (passed before now)) same come.at;
+      moved = come.moved;
+      stays = sym stays;
+    }
 
-pub enter_point-requires-clause-behind : goal.enter_point-requires-clause-behind
-enter_point-requires-clause-behind g c =
+pub enter_body-requires-clause-behind : goal.enter_body-requires-clause-behind
+enter_body-requires-clause-behind g c =
     let (t, depth, before, come) = c.requires.come in
-    (t, depth, before, behind _ c.args.raw.now c.args.cursor.now t depth before come c.in_default.ensures c.if-raw.false Point (c.is_flat_point.ensures.kind c.if-is_flat_point.true))
-
-pub returns-then-is_flat_point : goal.returns-then-is_flat_point
-returns-then-is_flat_point g c = λ t depth before come.
-    c.enter_point.ensures.entered t depth before (behind _ c.args.raw.now c.args.cursor.now t depth before come c.in_default.ensures c.if-raw.false Point (c.is_flat_point.ensures.kind c.if-is_flat_point.true))
-
-pub enter_flat-requires-clause-behind : goal.enter_flat-requires-clause-behind
-enter_flat-requires-clause-behind g c =
-    let (t, depth, before, come) = c.requires.come in
-    (t, depth, before, behind _ c.args.raw.now c.args.cursor.now t depth before come c.in_default.ensures c.if-raw.false c.args.raw.now.kind refl)
-
-pub returns-then-is_flat : goal.returns-then-is_flat
-returns-then-is_flat g c = λ t depth before come.
-    c.enter_flat.ensures t depth before (behind _ c.args.raw.now c.args.cursor.now t depth before come c.in_default.ensures c.if-raw.false c.args.raw.now.kind refl)
-
-pub enter_deep_body-requires-clause-behind : goal.enter_deep_body-requires-clause-behind
-enter_deep_body-requires-clause-behind g c =
-    let (t, depth, before, come) = c.requires.come in
-    (t, depth, before, behind _ c.args.raw.now c.args.cursor.now t depth before come c.in_default.ensures c.if-raw.false c.args.raw.now.kind refl)
+    (t, depth, before, behind _ c.args.raw.now c.args.cursor.now t depth before come c.in_default.ensures c.if-raw.false)
 
 pub returns : goal.returns
 returns g c = λ t depth before come.
-    c.enter_deep_body.ensures.entered t depth before (behind _ c.args.raw.now c.args.cursor.now t depth before come c.in_default.ensures c.if-raw.false c.args.raw.now.kind refl)
+    c.enter_body.ensures t depth before (behind _ c.args.raw.now c.args.cursor.now t depth before come c.in_default.ensures c.if-raw.false)

@@ -25,7 +25,7 @@ enter_point-members-requires-clause-behind g c =
     let (t, depth, before, come) = c.requires.come in
     let passes = g.V.Visit.passes (g.V.Visit.state c.args.visitor.now) in
     let fits : to_z w8 (of_z w8 c.args.begun.xy) ≡ c.args.begun.xy = omega (arith, ints) in
-    (t, depth, before, sized_behind c.args.begun t depth before c.args.cursor.now come c.requires.sized passes c.in-Ok.size c.take_number.new.cursor _ c.requires.kind c.in-Ok.ensures (c.flat.ensures ∙ ap flat_axes fits))
+    (t, depth, before, sized_behind c.args.begun t depth before c.args.cursor.now come c.requires.sized passes c.in-Ok.size c.take_number.new.cursor _ c.requires.kind c.in-Ok.ensures (ap flat_axes fits))
 
 pub go_on_from-requires : goal.go_on_from-requires
 go_on_from-requires g c =
@@ -33,7 +33,7 @@ go_on_from-requires g c =
     let passes = g.V.Visit.passes (g.V.Visit.state c.args.visitor.now) in
     let fits : to_z w8 (of_z w8 c.args.begun.xy) ≡ c.args.begun.xy = omega (arith, ints) in
     let leads = sized_leads c.args.begun t depth before c.args.cursor.now come c.requires.sized c.in-Ok.size c.take_number.new.cursor c.requires.kind c.in-Ok.ensures in
-    let entered = c.enter_point-members.ensures.entered t depth before (sized_behind c.args.begun t depth before c.args.cursor.now come c.requires.sized passes c.in-Ok.size c.take_number.new.cursor _ c.requires.kind c.in-Ok.ensures (c.flat.ensures ∙ ap flat_axes fits)) in
+    let entered = c.enter_point-members.ensures.entered t depth before (sized_behind c.args.begun t depth before c.args.cursor.now come c.requires.sized passes c.in-Ok.size c.take_number.new.cursor _ c.requires.kind c.in-Ok.ensures (ap flat_axes fits)) in
     let none : member_count entered.below ≡ 0 = omega (arith, entered.count, c.enter_point-members.ensures.none) in
     let end = ap (λ (d : Config g.V.Visit.State). d.reading.place) (none_left _ _ _ _ none ∙ entered.left) in
     omega (arith, c.place.ensures.value, leads.stop, end)
@@ -42,4 +42,4 @@ pub returns : goal.returns
 returns g c = λ t depth before come.
     let passes = g.V.Visit.passes (g.V.Visit.state c.args.visitor.now) in
     let fits : to_z w8 (of_z w8 c.args.begun.xy) ≡ c.args.begun.xy = omega (arith, ints) in
-    rw c.go_on_from.ensures (c.enter_point-members.ensures.entered t depth before (sized_behind c.args.begun t depth before c.args.cursor.now come c.requires.sized passes c.in-Ok.size c.take_number.new.cursor _ c.requires.kind c.in-Ok.ensures (c.flat.ensures ∙ ap flat_axes fits)))
+    rw c.go_on_from.ensures (c.enter_point-members.ensures.entered t depth before (sized_behind c.args.begun t depth before c.args.cursor.now come c.requires.sized passes c.in-Ok.size c.take_number.new.cursor _ c.requires.kind c.in-Ok.ensures (ap flat_axes fits)))

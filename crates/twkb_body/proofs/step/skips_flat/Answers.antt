@@ -9,4 +9,4 @@ none_near = record { low = omega (arith, ints); high = omega (arith, ints); leas
 
 pub skips_raw-requires-clause-near : goal.skips_raw-requires-clause-near
 skips_raw-requires-clause-near g c =
-    subst HasNearRanges (sym c.flat-then-near.ensures) (record { x = c.requires.x_near c.if-near.true; y = c.requires.y_near c.if-near.true; third = none_near; fourth = none_near })
+    subst HasNearRanges (sym c.flat-then-is_near-2.ensures) (record { x = c.is_near.ensures c.if-is_near.true; y = c.is_near-then-is_near.ensures c.if-is_near-2.true; third = none_near; fourth = none_near })

@@ -3,4 +3,4 @@ use Rattle.twkb_body.proofs.Coordinates.{IsPointLoop}
 use Rattle.twkb_body.proofs.trail.take_point.Given as goal
 
 abbrev pub invariant-loop-axis : goal.invariant-loop-axis
-invariant-loop-axis g l = IsPointLoop l.axes l.fn.trail l.fn.cursor l.axis l.trail l.cursor
+invariant-loop-axis l = IsPointLoop l.axes l.fn.trail l.fn.cursor l.axis l.trail l.cursor
