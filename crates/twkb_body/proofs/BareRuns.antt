@@ -1,5 +1,7 @@
 -- Numbers that are passed by their ends, as points: while they are short and few, no sum leaves 64 bits.
-use Rattle.std.proofs.Common.{◌≡◌, ℕ, zero, suc, ◌+◌, ◌-◌, ◌*◌, ◌/◌, ◌%◌, ◌^◌, ◌<◌, ◌≤◌, ◌==◌, Bool, true, false, if◌then◌else◌, List, [], ◌∷◌, length, map, flat_map, All, ℤ, pos, neg_ℤ, ◌+ℤ◌, ◌≤ℤ◌, Ok, Err, refl, sym, ap, subst, ◌∙◌, arith}
+use Rattle.std.proofs.Common.{◌≡◌, ℕ, zero, suc, ◌+◌, ◌-◌, ◌*◌, ◌/◌, ◌%◌, ◌^◌, ◌<◌, ◌≤◌, ◌==◌, Bool, true, false, if◌then◌else◌, List, [], ◌∷◌, length, map, flat_map, All, ℤ, pos, neg_ℤ, ◌+ℤ◌, ◌≤ℤ◌, Ok, Err, refl, sym, ap, subst, ◌∙◌, arith, ◌<ℤ◌, negsuc}
+use Rattle.std.specs.Int.{w64}
+use mir.Val.{SFits}
 use Rattle.std.proofs.lemmas.Grind.{common_steps}
 use Rattle.std.proofs.lemmas.Int.{ints}
 use Rattle.std.proofs.lemmas.List.{append-nil}
@@ -19,9 +21,13 @@ use Rattle.twkb_body.specs.Devices.BodyReader.{point_at, ring_at, polygon_at, ma
 use Rattle.twkb_body.specs.Devices.Walk.{no_points, HaveAxes, IsWalked}
 use Rattle.twkb_body.specs.Devices.Bare.{unchanged, ReadParts}
 use Rattle.twkb_body.proofs.Coordinates.{coordinate_ahead}
-use Rattle.twkb_body.proofs.FlatRuns.{has_64_bits}
 use Rattle.twkb_body.proofs.Walks.{number_ahead, walked_from, IsWalkLoop, walk_begins, walk_goes_on, walk_ends, counted_ends, ring_points, rings_are_sums}
 use Rattle.twkb_body.proofs.Sums.{part_points, rings_sums_flat}
+
+-- a number of 64 bits
+pub has_64_bits : (z : ℤ) → neg_ℤ (pos (2 ^ 63)) ≤ℤ z → z <ℤ pos (2 ^ 63) → SFits w64 z
+has_64_bits (pos n) low high = record { sfits = omega (arith, ints, high) }
+has_64_bits (negsuc n) low high = record { sfits = omega (arith, ints, low) }
 
 -- a sum of this many numbers of seven bytes, each at most 2^48 from zero
 abbrev pub IsInSteps : ℕ → ℤ → Type 0

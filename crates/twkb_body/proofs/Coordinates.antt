@@ -9,7 +9,7 @@ use Rattle.twkb_head.specs.declared.refusal.Malformed.{Malformed}
 use Rattle.twkb_head.specs.declared.refusal.Why.{Why}
 use Rattle.twkb_head.specs.declared.refusal.Why.TheVariants.{Range}
 use Rattle.twkb_head.specs.BegunHeader.{coordinate_field, IsField}
-use Rattle.twkb_head.specs.Header.{Header, axes_with, axes_of}
+use Rattle.twkb_head.specs.Header.{Header, axes_of}
 use Rattle.twkb_head.specs.Head.{m_axis}
 use Rattle.twkb_head.specs.Shared.Plan.{coordinate as coordinate_request, cut_field, fits, judge, done}
 use Rattle.twkb_head.specs.Shared.Reader.{Answer, read_judged, read_field, read, signed_at, coordinate_at, Fails}
@@ -169,13 +169,6 @@ coordinates_same (c ∷ s) (n ∷ ns) (suc k) lt = coordinates_same s ns k (omeg
 if_there : {A : Type 0} (f : ℕ → ℤ → A) (o : Option ℕ) (a b : ℤ) → (is_some o ≡ true → a ≡ b) → option_map (λ p. f p a) o ≡ option_map (λ p. f p b) o
 if_there f None a b e = refl
 if_there f (Some p) a b e = ap (λ (c : ℤ). Some (f p c)) (e refl)
-
--- a point has two to four coordinates
-pub axes_few : (z m : Option ℕ) → axes_with z m ≤ 4
-axes_few None None = omega arith
-axes_few None (Some q) = omega arith
-axes_few (Some p) None = omega arith
-axes_few (Some p) (Some q) = omega arith
 
 module _ (h : Header) where
   module _ (s ns : PointValue) (all : length ns ≡ axes_of h) where

@@ -28,19 +28,17 @@ use Rattle.twkb_num.proofs.CursorLemmas.{IsSound-moved}
 use Rattle.twkb_num.proofs.PairLaws.{IsMoved-two}
 use Rattle.twkb_head.specs.Shared.Plan.{fits}
 use Rattle.twkb_head.specs.Shared.Reader.{Answer, many_at, signed_at, coordinate_at}
-use Rattle.twkb_head.specs.Refusal.{why_of}
 use Rattle.twkb_head.specs.declared.refusal.Why.TheVariants.{Range}
 use Rattle.twkb_head.proofs.Readings.{ok_not_err, one_answer}
-use Rattle.twkb_head.proofs.Steps.{read_signed, read_no_signed, coordinate_ok, coordinate_refused, fits_true}
+use Rattle.twkb_head.proofs.Steps.{read_signed, coordinate_ok, coordinate_refused, fits_true}
 use Rattle.twkb_body.specs.declared.trail.Trail.{Trail}
 use Rattle.twkb_body.specs.Geometry.{PointValue, coordinate}
 use Rattle.twkb_body.specs.Devices.Body.{first_of, behind, add, sums}
 use Rattle.twkb_body.specs.Devices.BodyReader.{point_at, NumbersLead}
 use Rattle.twkb_body.specs.Devices.Columns.{column, sum_fits, Stays, running}
 use Rattle.twkb_body.specs.Devices.Walk.{HaveAxes, lasts_from, IsRun}
-use Rattle.twkb_body.proofs.BareRuns.{moved_none}
+use Rattle.twkb_body.proofs.BareRuns.{has_64_bits, moved_none}
 use Rattle.twkb_body.proofs.Coordinates.{signed_back}
-use Rattle.twkb_body.proofs.FlatRuns.{has_64_bits}
 use Rattle.twkb_body.proofs.Runs.{values_of}
 use Rattle.twkb_body.proofs.Settling.{no_number, point_numbers}
 use Rattle.twkb_body.proofs.Sums.{fits_signed}

@@ -1,7 +1,6 @@
 -- Runs of points: many points read at once, within a loop over more, and one more point after a run.
-use Rattle.std.proofs.Common.{◌≡◌, ℕ, zero, suc, ◌+◌, ◌≤◌, List, [], ◌∷◌, ◌++◌, flat_map, Ok, Err, refl, sym, ap, subst, ◌∙◌, append_assoc, arith, length-append}
+use Rattle.std.proofs.Common.{◌≡◌, ℕ, zero, suc, ◌+◌, ◌≤◌, List, [], ◌∷◌, ◌++◌, Ok, Err, refl, sym, ap, subst, ◌∙◌, append_assoc, arith, length-append}
 use Rattle.std.proofs.lemmas.List.{append-nil}
-use Rattle.std.proofs.lemmas.Grind.{flat_map-append}
 use Rattle.twkb_num.specs.Cursor.{Reading}
 use Rattle.twkb_head.specs.Shared.Reader.{Answer, Reader, many_at}
 use Rattle.twkb_head.proofs.Combinators.{after_all}
@@ -11,10 +10,9 @@ use Rattle.twkb_body.specs.Geometry.{PointValue}
 use Rattle.twkb_body.specs.Devices.Body.{add}
 use Rattle.twkb_body.specs.Devices.BodyReader.{point_at}
 use Rattle.twkb_body.specs.Devices.Walk.{IsWalked, IsRun}
-use Rattle.twkb_body.proofs.PartPlans.{flat_single}
 use Rattle.twkb_body.proofs.Sums.{after_points}
 use Rattle.twkb_body.proofs.Tracing.{many_back}
-use Rattle.twkb_body.proofs.Walks.{IsRingLoop, one_point, walked_none, walked_then}
+use Rattle.twkb_body.proofs.Walks.{walked_none, walked_then}
 
 -- the values of an answer, if any
 abbrev pub values_of : {A : Type 0} → Answer (List A) → List A
@@ -53,20 +51,6 @@ module _ {S : Type 0} (step : S → PointValue → S) (axes : ℕ) where
   -- a run of no points
   pub run_none : (a : Trail) (s : S) (r : Reading) → IsRun step axes a a s s r r 0
   run_none a s r = record { numbers = []; many = refl; read = refl; walked = walked_none step axes a s r.place }
-
-  -- a ring's loop goes on by a run
-  pub ring_goes_far : (count : ℕ) (start : Trail) (state : S) (from : Reading) (i k : ℕ) (now next : Trail) (t u : S) (r new : Reading) → i + k ≤ count → IsRun step axes now next t u r new k
-      → IsRingLoop step axes count start state from i now t r → IsRingLoop step axes count start state from (i + k) next u new
-  ring_goes_far count start state from i k now next t u r new le run l = record {
-    front = l.front ++ run.numbers;
-    read = subst (λ (s : PointValue). IsLoop add (point_at axes) count (many_at count add (point_at axes) start.last from) (l.front ++ run.numbers) (i + k) s new)
-        (after_points now.last run.numbers ∙ sym run.walked.last)
-        (goes_far add (point_at axes) count (many_at count add (point_at axes) start.last from) k l.front i now.last r new run.numbers le run.read l.read);
-    number = length-append l.front run.numbers ∙ omega (arith, l.number, run.many);
-    walked = subst (IsWalked step axes start next state u from.place new.place)
-        (ap (λ (zs : List PointValue). flat_map one_point l.front ++ zs) (sym (flat_single run.numbers)) ∙ sym (flat_map-append one_point l.front run.numbers))
-        (walked_then step axes start now next state t u from.place r.place new.place (flat_map one_point l.front) run.numbers l.walked run.walked);
-  }
 
   -- a run and one more point are a run
   pub run_goes_on : (start now next : Trail) (s t u : S) (from r new : Reading) (i : ℕ) (p : PointValue) → point_at axes now.last r ≡ (Ok p, new) → IsWalked step axes now next t u r.place new.place (p ∷ [])

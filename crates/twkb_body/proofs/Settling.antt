@@ -6,8 +6,7 @@ use Rattle.twkb_num.specs.Varint.{SpellsAll, zigzag_value}
 use Rattle.twkb_num.specs.declared.varint.NumFault.{NumFault}
 use Rattle.twkb_num.proofs.CursorLemmas.{IsMoved-here, IsMoved-after, IsSound-moved}
 use Rattle.twkb_head.specs.Header.{axes_with}
-use Rattle.twkb_head.specs.Shared.Reader.{Answer, Reader, many_at, signed_at, Fails}
-use Rattle.twkb_head.specs.declared.refusal.Malformed.{Malformed}
+use Rattle.twkb_head.specs.Shared.Reader.{Answer, Reader, many_at, signed_at}
 use Rattle.twkb_head.proofs.Combinators.{after_all}
 use Rattle.twkb_head.proofs.Loops.{IsLoop, loop_begins, loop_fails, loop_ends, behind_front}
 use Rattle.twkb_head.proofs.Readings.{ok_not_err, one_answer, no_failure}

@@ -108,13 +108,6 @@ third_stop xy None None x y r b c w some flat read = absurd (cc (some))
 third_stop xy None (Some q) x y r b c w some flat read = flat ∙ rw read refl
 third_stop xy (Some p) m x y r b c w some flat read = flat ∙ rw read refl
 
--- the fault of the range of M after the one of Z
-pub fourth_stop : (xy : ℤ) (z m : Option ℕ) (x y third : RawRange) (r b c d : Reading) (w : Malformed) → (is_some z && is_some m) ≡ true
-    → bounds_from xy z m r ≡ box_after xy z m (Ok (x, y)) b → range_from b ≡ (Ok (ends_of third), c) → range_from c ≡ (Err w, d) → bounds_from xy z m r ≡ (Err w, d)
-fourth_stop xy (Some p) (Some q) x y third r b c d w both flat read stop = flat ∙ rw (read, stop) refl
-fourth_stop xy (Some p) None x y third r b c d w both flat read stop = absurd (cc (both))
-fourth_stop xy None m x y third r b c d w both flat read stop = absurd (cc (both))
-
 -- an axis that isn't there has no range to read
 pub absent_range : (there : Bool) (r : Reading) → there ≡ false → IsRangeIf there zero_range r r
 absent_range false r e = (refl, refl)

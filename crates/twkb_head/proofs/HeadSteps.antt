@@ -1,9 +1,8 @@
 -- The steps by which code reads a header, as the reader of headers takes them.
-use Rattle.std.proofs.Common.{◌≡◌, ℕ, ◌+◌, ◌-◌, ◌/◌, ◌%◌, ◌==◌, List, [], ◌∷◌, ◌++◌, length, Option, Some, None, option_map, true, false, ℤ, ◌+ℤ◌, Result, Ok, Err, refl, sym, ap, ap₂, subst, ◌∙◌, arith}
+use Rattle.std.proofs.Common.{◌≡◌, ℕ, ◌+◌, ◌-◌, ◌/◌, ◌%◌, ◌==◌, [], ◌∷◌, length, Option, Some, None, option_map, false, ℤ, Result, Ok, Err, refl, sym, ap, ◌∙◌, arith}
 use Rattle.std.proofs.lemmas.Grind.{common_steps}
-use Rattle.std.proofs.lemmas.List.{append-nil}
 use Rattle.twkb_num.specs.Cursor.{Reading, passed, IsMoved, IsSound}
-use Rattle.twkb_num.specs.Varint.{Spells, SpellsAll, SpellsMany, IsSigned, SpellsTwoSigned, zigzag_value}
+use Rattle.twkb_num.specs.Varint.{zigzag_value}
 use Rattle.twkb_num.proofs.PairLaws.{IsMoved-two}
 use Rattle.twkb_head.specs.Header.{code_of, has_bit, has_ids, z_in, m_in}
 use Rattle.twkb_head.specs.Shared.Reader.{Answer, ◌>>=◌, viewed, number_at, optional_at, range_from}
@@ -27,7 +26,7 @@ use Rattle.twkb_head.specs.declared.refusal.Malformed.{Malformed}
 use Rattle.twkb_head.proofs.Heads.{allowed_with}
 use Rattle.twkb_head.proofs.FieldCuts.{ok_is}
 use Rattle.twkb_head.proofs.Readings.{ok_not_err}
-use Rattle.twkb_head.proofs.Steps.{read_byte, read_signed, type_ok, type_refused}
+use Rattle.twkb_head.proofs.Steps.{read_byte, type_ok, type_refused}
 
 -- the size and the box, read one after the other
 pub size_and_box_is : (c d e : Reading) (kind : Kind) (xy : ℤ) (metadata : ℕ) (extended size : Option ℕ) (bounds : Option Bounds) (start : ℕ)
@@ -47,11 +46,6 @@ pub rest_is : (b c d e : Reading) (kind : Kind) (xy : ℤ) (metadata : ℕ) (ext
     → optional_at (has_bit metadata 2) number_at c ≡ (Ok size, d) → optional_at (has_bit metadata 1) (bounds_from xy (z_in extended) (m_in extended)) d ≡ (Ok bounds, e)
     → rest_at kind xy metadata start b ≡ (Ok (head_with kind xy metadata extended size bounds start c.place d.place e.place), e)
 rest_is b c d e kind xy metadata extended size bounds start h3 h4 h5 = rest_goes_on b c kind xy metadata extended start h3 ∙ size_and_box_is c d e kind xy metadata extended size bounds start h4 h5
-
--- if an extended dimensions byte is announced and can't be read, the rest can't be read
-pub rest_ends : (b c : Reading) (kind : Kind) (xy : ℤ) (metadata start : ℕ) (m : Malformed) → has_bit metadata 8 ≡ true → byte_at b ≡ (Err m, c) → rest_at kind xy metadata start b ≡ (Err m, c)
-unfolding rest_at
-rest_ends b c kind xy metadata start m announced e = rw (announced, e) refl
 
 -- a header from its first two bytes and the rest
 pub head_of_rest : (levels : ℕ) (begun : Begun) (r b new : Reading) (answer : Result Head Malformed) → ReadsFirstTwo levels begun r b
@@ -127,45 +121,6 @@ begins_goes_on begun depth before now sound begins answer new e =
     let four : m / 4 % 2 ≡ n / 4 % 2 = omega (arith, begins.announced) in
     head_of_rest levels (record begun { metadata = m }) before now new answer has
     (rest_same begun.kind begun.xy m n begun.start now (bits_same m n 8 eight) (bits_same m n 2 two) (bits_same m n 1 one) (bits_same m n 16 sixteen) (bits_same m n 4 four) ∙ e)
-
--- two signed numbers that one move passes are a range
-pub pair_range : (minimum extent : ℤ) (old new : Reading) → SpellsTwoSigned (passed old new) minimum extent → IsMoved old new → range_from old ≡ (Ok (minimum, minimum +ℤ extent), new)
-unfolding range_from
-pair_range minimum extent old new spells moved =
-    let two = spells.2 in
-    let way = IsMoved-two old new two.front two.behind moved two.whole in
-    let first : IsSigned minimum (passed old way.0) = (spells.0, rw way.3 two.first, spells.3) in
-    let second : IsSigned extent (passed way.0 new) = (spells.1, rw way.4 two.second, spells.4) in
-    rw (read_signed old way.0 minimum first way.1, read_signed way.0 new extent second way.2) refl
-
--- two signed numbers that one move passes are a range, also as the code holds them
-pub pair_range_held : (minimum extent low more : ℤ) (old new : Reading) → low ≡ minimum → more ≡ extent → SpellsTwoSigned (passed old new) minimum extent → IsMoved old new → range_from old ≡ (Ok (low, low +ℤ more), new)
-pair_range_held minimum extent low more old new low_is more_is spells moved = pair_range minimum extent old new spells moved ∙ ap₂ (λ (a b : ℤ). (Ok (a, a +ℤ b), new)) (sym low_is) (sym more_is)
-
--- two numbers, one after another, are a minimum and an extent
-pub two_spelled : (bytes : List ℕ) → SpellsMany bytes 2 → (range : RawRange) × SpellsTwoSigned bytes range.minimum range.extent
-two_spelled bytes s = go s.numbers s.count s.spelled
-  where
-    go : (numbers : List ℕ) → length numbers ≡ 2 → SpellsAll bytes numbers → (range : RawRange) × SpellsTwoSigned bytes range.minimum range.extent
-    go [] count all = absurd (omega (arith, count))
-    go (n ∷ []) count all = absurd (omega (arith, count))
-    go (n ∷ m ∷ []) count (front, behind, whole, first, (next, none, rest, second, empty)) = (
-      record { minimum = zigzag_value n; extent = zigzag_value m },
-      (
-        n,
-        m,
-        record {
-          front = front;
-          behind = behind;
-          whole = whole;
-          first = first;
-          second = subst (λ (bs : List ℕ). Spells bs m) (sym (rest ∙ ap (λ (bs : List ℕ). next ++ bs) empty ∙ append-nil next)) second;
-        },
-        refl,
-        refl,
-      ),
-    )
-    go (n ∷ m ∷ k ∷ ns) count all = absurd (omega (arith, count))
 
 -- a box of raw integers in units, with its place
 pub box_seen : (p q : ℤ) (z y m n : Option ℕ) (offset place : ℕ) → p ≡ q → z ≡ y → m ≡ n → offset ≡ place → (o : Option RawBox)

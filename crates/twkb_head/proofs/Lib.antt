@@ -6,7 +6,6 @@ pub mod Combinators
 pub mod Leaves
 pub mod BoxFields
 mod BoxReads
-pub mod FurtherBoxes
 pub mod Heads
 pub mod Readings
 pub mod Steps

@@ -1,5 +1,5 @@
 -- The two numbers are the point.
-use Rattle.std.proofs.Common.{◌≡◌, ℤ, pos, ◌+ℤ◌, false, None, [], ◌∷◌, fold, map, length, slice_index_or, rules, refl, ap, ap₂, subst, ◌∙◌, arith}
+use Rattle.std.proofs.Common.{◌≡◌, pos, ◌+ℤ◌, false, None, fold, map, length, slice_index_or, rules, refl, ap, ap₂, subst, ◌∙◌, arith}
 use Rattle.std.proofs.lemmas.Int.{ints}
 use mir.Val.{SFits, to_z, of_z}
 use Rattle.std.specs.Int.{w64, w8}

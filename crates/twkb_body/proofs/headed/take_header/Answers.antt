@@ -1,9 +1,4 @@
 -- The first two bytes were read, and then the rest.
-use Rattle.twkb_num.specs.Cursor.{Reading}
-use Rattle.twkb_head.specs.declared.read.Begun.{Begun}
-use Rattle.twkb_body.specs.Geometry.{Geometry}
-use Rattle.twkb_body.specs.Standing.{StandsAt}
-use Rattle.twkb_body.specs.Devices.Skimmed.{HasCome}
 use Rattle.twkb_body.proofs.Beginning.{come_same}
 use Rattle.twkb_body.proofs.HeadStands.{header_starts}
 use Rattle.twkb_body.proofs.headed.take_header.Goals as goal

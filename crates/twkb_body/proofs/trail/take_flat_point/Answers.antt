@@ -1,5 +1,5 @@
 -- The two numbers are the point that can be read, so their sums fit.
-use Rattle.std.proofs.Common.{◌≡◌, rules, ◌+ℤ◌, ℤ, List, length, pos, slice_index_or, refl, ap, sym, subst, ◌∙◌, arith, Ok, to_z, of_z, w64}
+use Rattle.std.proofs.Common.{◌≡◌, rules, ◌+ℤ◌, length, pos, slice_index_or, refl, ap, sym, subst, ◌∙◌, arith, Ok, to_z, of_z, w64}
 use Rattle.std.proofs.lemmas.Int.{ints}
 use Rattle.twkb_num.specs.Cursor.{Reading}
 use Rattle.twkb_body.specs.Devices.BodyReader.{point_at}

@@ -1,9 +1,7 @@
 -- Points are shown up to where the visitor is settled, and the others are passed.
-use Rattle.std.proofs.Common.{◌≡◌, ◌-◌, ◌≤◌, ℕ, Ok, refl, sym, subst, ap, ◌∙◌, arith}
-use Rattle.twkb_num.specs.Cursor.{Reading}
+use Rattle.std.proofs.Common.{◌-◌, ℕ, refl, subst, ap, ◌∙◌, arith}
 use Rattle.twkb_head.specs.declared.raw.Axes.{Axes}
-use Rattle.twkb_body.specs.Geometry.{PointValue, vertex_at, vertex_of}
-use Rattle.twkb_body.specs.Devices.BodyReader.{point_at}
+use Rattle.twkb_body.specs.Geometry.{vertex_at, vertex_of}
 use Rattle.twkb_body.specs.Devices.Inside.{of_head}
 use Rattle.twkb_body.specs.Devices.Walk.{IsStill, shown}
 use Rattle.twkb_body.proofs.CertifiedWalks.{point_shown, shown_none, shown_reads, shown_counted, shown_rest, shown_ends, shown_passed}

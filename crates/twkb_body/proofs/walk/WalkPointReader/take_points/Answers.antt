@@ -1,5 +1,5 @@
 -- Each turn adds one more point; a malformed point ends the reading.
-use Rattle.std.proofs.Common.{◌≡◌, ℕ, Ok, refl, subst, ◌∙◌, arith}
+use Rattle.std.proofs.Common.{◌≡◌, ℕ, Ok, subst, ◌∙◌, arith}
 use Rattle.std.proofs.lemmas.Result.{err_from_is_err_and}
 use Rattle.twkb_head.specs.Shared.Reader.{Fails}
 use Rattle.twkb_body.specs.Devices.BodyReader.{point_at}
