@@ -1,10 +1,10 @@
 //! [`RawWindows`], a window in raw integers at each precision: in the numbers that headers and bodies have.
-//! Used by `scans`, `seeker`, `short_windows`, `slots` and `window`.
+//! Used by `entry`, `scans`, `seeker`, `slots` and `window`.
 ghost use Rattle.std.specs.Prelude.{◌≡◌, ◌<◌, ◌<ℤ◌, ◌*ℤ◌, ◌||◌, ◌∷◌, [], ℤ, pos, int_lt, true, IfSome};
 ghost use Rattle.std.specs.Int.RustNames.{int_div, int_rem};
 ghost use Rattle.twkb_num.specs.Units.{IsPrecision};
 ghost use Rattle.twkb_layer.specs.Devices.RawWindows.{IsRawEnds, IsRawWindow, IsExactEnds, IsExactWindow, AreCoarserEnds, IsCoarserWindow, AreRawWindows, raw_range_misses, raw_box_misses, misses_in_z_or_m};
-ghost use Rattle.twkb_layer.specs.Devices.Slots.{IsInner, precision_of};
+ghost use Rattle.twkb_layer.specs.Devices.RawWindows.{IsInner, precision_of};
 ghost use Rattle.twkb_layer.specs.Window.{is_inside, box_misses};
 ghost use Rattle.twkb_head.specs.Head.{span_at};
 ghost use Rattle.twkb_head.specs.Raw.{HavePrecisions, ends_of, raw_bounds, IsNear, HasNearRanges};
@@ -178,6 +178,19 @@ impl<'w> RawWindows<'w> {
     {
         let raw = self.at((axes.xy + 8) as usize);
         raw.misses(b.x.ends(), b.y.ends()) || self.misses_in_z_or_m(axes, *b)
+    }
+
+    /// Whether the box misses the window. It is compared in units if its numbers are far from zero.
+    #[inline(always)]
+    pub fn misses_anywhere(&self, axes: Axes, b: &RawBox) -> bool
+        requires { HavePrecisions axes }
+        ensures { result ≡ box_misses self.now (raw_bounds axes.xy axes.z axes.m b.now) }
+    {
+        if b.is_near() {
+            self.misses(axes, b)
+        } else {
+            self.window.misses(&b.in_units(axes))
+        }
     }
 
     /// Whether each box that has this range in X misses the window. `false` says nothing.
