@@ -11,9 +11,8 @@ use Rattle.twkb_head.specs.declared.raw.RawBox.{RawBox}
 use Rattle.twkb_head.specs.declared.boxes.Bounds.{Bounds}
 use Rattle.twkb_head.specs.declared.boxes.Span.{Span}
 use Rattle.twkb_layer.specs.declared.raw_windows.RawWindow.{RawWindow}
-use Rattle.twkb_layer.specs.Devices.RawWindows.{IsRawWindow, raw_box_misses}
-use Rattle.twkb_layer.specs.Devices.Slots.{IsInner, AreInner}
-use Rattle.twkb_layer.specs.Window.{in_span, in_bound, is_inside, lie_apart}
+use Rattle.twkb_layer.specs.Devices.RawWindows.{AreInner, IsInner, IsRawWindow, raw_box_misses}
+use Rattle.twkb_layer.specs.Window.{in_span, in_bound, is_inside, box_misses, lie_apart}
 use Rattle.twkb_layer.proofs.RawWindows.{misses_raw}
 
 -- the ends of a near range are neither the least nor the greatest number of 64 bits
@@ -29,6 +28,16 @@ pub box_judged : (xy : ℤ) (w : Bounds) (raw : RawWindow) (box : RawBox) (p : �
     → misses ≡ (lie_apart (span_at xy (ends_of box.x)) w.x || lie_apart (span_at xy (ends_of box.y)) w.y)
 box_judged xy w raw box p misses is near p_is missed =
     missed ∙ misses_raw xy w raw (subst (λ (q : ℤ). IsRawWindow q w raw) p_is is) (ends_of box.x) (ends_of box.y) (inner box.x near.x) (inner box.y near.y)
+
+-- a box in X and Y alone misses the window in units exactly if its raw ends do
+pub short_judged : (w : Bounds) (raw : RawWindow) (p : ℤ) (x y : ℤ × ℤ) → IsRawWindow p w raw → AreInner x → AreInner y
+    → raw_box_misses raw x y ≡ box_misses w (record { x = span_at p x; y = span_at p y; z = None; m = None })
+short_judged w raw p x y is x_inner y_inner =
+    misses_raw p w raw is x y x_inner y_inner ∙ ap (λ (b : Bool). lie_apart (span_at p x) w.x || b) (or_nothing (lie_apart (span_at p y) w.y))
+  where
+    or_nothing : (b : Bool) → b ≡ (b || false)
+    or_nothing true = refl
+    or_nothing false = refl
 
 pub or_true : (a b c d : Bool) → a ≡ (b || c) → a ≡ true → (b || (c || d)) ≡ true
 or_true a true c d same h = refl

@@ -15,7 +15,7 @@ use Rattle.twkb_body.proofs.Scales.{times_suc, times_le}
 use Rattle.twkb_layer.specs.declared.raw_windows.RawEnds.{RawEnds}
 use Rattle.twkb_layer.specs.declared.raw_windows.RawWindow.{RawWindow}
 use Rattle.twkb_layer.specs.Devices.RawWindows.{IsRawEnds, IsRawWindow, IsExactEnds, IsExactWindow, raw_range_misses, raw_box_misses}
-use Rattle.twkb_layer.specs.Devices.Slots.{IsInner, AreInner, precision_of}
+use Rattle.twkb_layer.specs.Devices.RawWindows.{IsInner, AreInner, precision_of}
 use Rattle.twkb_layer.specs.Window.{lie_apart}
 
 is_less : (a b : ℤ) → a <ℤ b → int_lt a b ≡ true

@@ -7,6 +7,5 @@ pub mod Seeking
 pub mod Scanning
 pub mod RawWindows
 pub mod Slots
-pub mod ShortWindows
 pub mod TextReader
 pub mod Decimals

@@ -1,13 +1,12 @@
 //! [`RawWindows`], a window in raw integers at each precision: in the numbers that headers and bodies have.
-//! Used by `scans`, `seeker`, `short_windows`, `slots` and `window`.
+//! Used by `entry`, `scans`, `seeker`, `slots` and `window`.
 ghost use Rattle.std.specs.Prelude.{◌≡◌, ◌<◌, ◌<ℤ◌, ◌*ℤ◌, ◌||◌, ◌∷◌, [], ℤ, pos, int_lt, true, IfSome};
 ghost use Rattle.std.specs.Int.RustNames.{int_div, int_rem};
 ghost use Rattle.twkb_num.specs.Units.{IsPrecision};
 ghost use Rattle.twkb_layer.specs.Devices.RawWindows.{IsRawEnds, IsRawWindow, IsExactEnds, IsExactWindow, AreCoarserEnds, IsCoarserWindow, AreRawWindows, raw_range_misses, raw_box_misses, misses_in_z_or_m};
-ghost use Rattle.twkb_layer.specs.Devices.Slots.{IsInner, precision_of};
+ghost use Rattle.twkb_layer.specs.Devices.RawWindows.{IsInner, precision_of};
 ghost use Rattle.twkb_layer.specs.Window.{is_inside, box_misses};
-ghost use Rattle.twkb_head.specs.Head.{span_at};
-ghost use Rattle.twkb_head.specs.Raw.{HavePrecisions, ends_of, raw_bounds, IsNear, HasNearRanges};
+ghost use Rattle.twkb_head.specs.Raw.{HavePrecisions, raw_bounds, HasNearRanges};
 ghost use Rattle.twkb_head.specs.declared.boxes.Bounds.{Bounds};
 ghost use Rattle.twkb_head.specs.declared.boxes.Span.{Span};
 ghost use Rattle.twkb_body.specs.Geometry.{vertex_at};
@@ -15,7 +14,7 @@ ghost use Rattle.twkb_body.specs.Geometry.{vertex_at};
 use crate::window::Window;
 use std::marker::Model;
 use twkb_body::{Span, vertex_at};
-use twkb_head::{Axes, RawBox, RawRange};
+use twkb_head::{Axes, RawBox};
 use twkb_num::units;
 
 /// The ends of a range in raw integers at some precision. An end beyond 64 bits is the nearest number of 64 bits.
@@ -180,15 +179,17 @@ impl<'w> RawWindows<'w> {
         raw.misses(b.x.ends(), b.y.ends()) || self.misses_in_z_or_m(axes, *b)
     }
 
-    /// Whether each box that has this range in X misses the window. `false` says nothing.
+    /// Whether the box misses the window. It is compared in units if its numbers are far from zero.
     #[inline(always)]
-    pub fn misses_in_x(&self, xy: i8, x: &RawRange) -> bool
-        requires xy { IsPrecision xy }
-        requires near { IsNear x.now }
-        ensures { result ≡ true → (b : Bounds) → b.x ≡ span_at xy (ends_of x.now) → box_misses self.now b ≡ true }
+    pub fn misses_anywhere(&self, axes: Axes, b: &RawBox) -> bool
+        requires { HavePrecisions axes }
+        ensures { result ≡ box_misses self.now (raw_bounds axes.xy axes.z axes.m b.now) }
     {
-        let raw = self.at((xy + 8) as usize);
-        raw.x.misses(x.ends())
+        if b.is_near() {
+            self.misses(axes, b)
+        } else {
+            self.window.misses(&b.in_units(axes))
+        }
     }
 
     /// Whether the box misses the window in Z or in M. It doesn't if the box has neither, or the window bounds neither.

@@ -1,13 +1,26 @@
 -- Devices of proofs: nothing public names them.
 -- Windows in raw integers, the numbers that headers and bodies have, at a precision.
-use Rattle.std.specs.Prelude.{◌≡◌, ℕ, ◌<◌, ℤ, pos, ◌≤ℤ◌, ◌-ℤ◌, int_lt, ◌||◌, Bool, List, get_or, length}
+use Rattle.std.specs.Prelude.{◌≡◌, ℕ, ◌<◌, ◌-◌, ◌^◌, ℤ, pos, neg_ℤ, ◌≤ℤ◌, ◌<ℤ◌, ◌-ℤ◌, int_lt, ◌||◌, Bool, List, get_or, length}
 use Rattle.twkb_num.specs.Units.{units_of}
 use Rattle.twkb_head.specs.declared.boxes.Span.{Span}
 use Rattle.twkb_head.specs.declared.boxes.Bounds.{Bounds}
 use Rattle.twkb_layer.specs.Window.{lie_apart_if_both}
-use Rattle.twkb_layer.specs.Devices.Slots.{IsInner, precision_of}
 use Rattle.twkb_layer.specs.declared.raw_windows.RawEnds.{RawEnds}
 use Rattle.twkb_layer.specs.declared.raw_windows.RawWindow.{RawWindow}
+
+-- the precision of a code of four bits: code 0 is -8
+abbrev pub precision_of : ℕ → ℤ
+precision_of code = pos code -ℤ pos 8
+
+-- a number of 64 bits that is neither the least nor the greatest of them
+pub record IsInner (c : ℤ) : Type 0 where
+  pub low : neg_ℤ (pos (2 ^ 63)) <ℤ c
+  pub high : c <ℤ pos (2 ^ 63 - 1)
+
+-- both ends of a range are numbers of 64 bits, and neither is the least or the greatest of them
+pub record AreInner (ends : ℤ × ℤ) : Type 0 where
+  pub first : IsInner ends.0
+  pub second : IsInner ends.1
 
 -- The ends of a range at a precision: a number's units lie below the range exactly if the number is below the lower end, and
 -- above the range exactly if the number is above the upper end.

@@ -12,11 +12,6 @@ returns-clause-directory c = λ trees h.
     let ends = lent_ends (adds entry_of) trees _ _ _ _ (c.for_each_blob.ensures.state trees h) in
     lent_back (λ room. entries_kept (take c.for_each_blob.new.each.used room)) _ _ _ _ _ ends.1 (ends.0 ∙ all_added entry_of [] 0 0 trees) (search rules)
 
-pub returns-clause-few : goal.returns-clause-few
-returns-clause-few c = λ trees h.
-    let kept = c.for_each_blob.ensures.keeps trees h (omega arith, refl) in
-    omega (arith, kept.1, kept.2.0)
-
 pub returns-clause-rest : goal.returns-clause-rest
 returns-clause-rest c =
     let ends = lent_ends (adds entry_of) c.requires.0 _ _ _ _ (c.for_each_blob.ensures.state c.requires.0 c.requires.1) in

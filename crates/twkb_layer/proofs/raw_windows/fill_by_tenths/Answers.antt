@@ -6,7 +6,7 @@ use Rattle.std.proofs.lemmas.Bool.Decides.{Decides-and, Decides-int_eq}
 use Rattle.std.proofs.Math.ListN.{length-set}
 use Rattle.twkb_head.specs.declared.boxes.Bounds.{Bounds}
 use Rattle.twkb_layer.specs.Devices.RawWindows.{IsExactWindow}
-use Rattle.twkb_layer.specs.Devices.Slots.{precision_of}
+use Rattle.twkb_layer.specs.Devices.RawWindows.{precision_of}
 use Rattle.twkb_layer.specs.declared.raw_windows.RawWindow.{RawWindow}
 use Rattle.twkb_layer.proofs.RawWindows.{raw_before, exact_raw}
 use Rattle.twkb_layer.proofs.raw_windows.fill_by_tenths.Goals as goal

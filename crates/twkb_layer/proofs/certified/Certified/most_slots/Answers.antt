@@ -1,14 +1,8 @@
--- The number of two slots for each blob fits its type, and is 0 for an empty layer.
+-- The slots of the most that the blobs can take, and none for an empty layer.
 use Rattle.std.proofs.Common.{arith}
 use Rattle.twkb_layer.proofs.Counting.{counted_is}
 use Rattle.twkb_layer.proofs.Keeping.{no_blobs}
-use Rattle.twkb_layer.proofs.Layers.{layer_short}
 use Rattle.twkb_layer.proofs.certified.Certified.most_slots.Goals as goal
-
-pub overflow_mul-result : goal.overflow_mul-result
-overflow_mul-result c =
-    let counted = c.self.invariant in
-    omega (arith, counted.blobs_are, layer_short counted.trees _ counted.layer.layer, c.place_is_within.ensures.length_fits)
 
 pub returns-clause-slots : goal.returns-clause-slots
 returns-clause-slots c = λ trees layer. omega (arith, (counted_is _ _ _ c.self.invariant trees (rw (← c.self.view_is) at layer)).0)

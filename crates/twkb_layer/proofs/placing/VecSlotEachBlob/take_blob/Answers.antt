@@ -1,12 +1,28 @@
 -- The blob's slots say its entry.
-use Rattle.std.proofs.Common.{ap, ◌++◌, ◌∷◌, [], ◌∙◌}
-use Rattle.twkb_layer.specs.Directory.{Entry}
+use Rattle.std.proofs.Common.{◌∷◌, [], ap, subst, sym, ◌∙◌, arith}
+use Rattle.twkb_layer.specs.Devices.Slots.{AreWhole, entry_said}
 use Rattle.twkb_layer.specs.Slots.{entries_kept}
-use Rattle.twkb_layer.proofs.Entries.{entry_read}
-use Rattle.twkb_layer.proofs.Keeping.{says_of}
+use Rattle.twkb_layer.proofs.Entries.{blob_more, whole_more}
 use Rattle.twkb_layer.proofs.placing.VecSlotEachBlob.take_blob.Goals as goal
 
-pub returns-clause-state : goal.returns-clause-state
-returns-clause-state g c = λ tree at.
-    let raw = c.read_and_pass-passed.result.header in
-    c.push.ensures.says ∙ ap (λ (e : Entry). entries_kept c.args.self.now.items ++ e ∷ []) (entry_read c.place-offset.result c.args.cursor.now tree raw c.place-offset.ensures.value (says_of tree c.args.cursor.now.place raw (c.read_and_pass-passed.ensures.header tree at)))
+pub returns-in-Some-clause-state : goal.returns-in-Some-clause-state
+returns-in-Some-clause-state g c = λ tree at.
+    ap entries_kept c.push.ensures.items
+    ∙ blob_more c.args.self.now.items (c.in-Some.slot ∷ []) c.place-offset.result c.args.cursor.now tree c.read_and_pass.result.header c.requires.fits.1.0 c.in-Some.ensures c.place-offset.ensures.value (c.read_and_pass.ensures.header tree at)
+
+pub returns-in-Some-clause-fits : goal.returns-in-Some-clause-fits
+returns-in-Some-clause-fits g c = λ more fits. (
+  subst AreWhole (sym c.push.ensures.items) (whole_more c.args.self.now.items (c.in-Some.slot ∷ []) (entry_said c.place-offset.result c.read_and_pass.result.header) fits.0 c.in-Some.ensures),
+  omega (arith, fits.1, c.push.ensures.len, c.push.ensures.capacity),
+)
+
+pub returns-in-None-clause-state : goal.returns-in-None-clause-state
+returns-in-None-clause-state g c = λ tree at.
+    ap entries_kept c.push-in-None.ensures.items
+    ∙ blob_more c.args.self.now.items c.long.result c.place-offset.result c.args.cursor.now tree c.read_and_pass.result.header c.requires.fits.1.0 c.long.ensures c.place-offset.ensures.value (c.read_and_pass.ensures.header tree at)
+
+pub returns-in-None-clause-fits : goal.returns-in-None-clause-fits
+returns-in-None-clause-fits g c = λ more fits. (
+  subst AreWhole (sym c.push-in-None.ensures.items) (whole_more c.args.self.now.items c.long.result (entry_said c.place-offset.result c.read_and_pass.result.header) fits.0 c.long.ensures),
+  omega (arith, fits.1, c.push-in-None.ensures.len, c.push-in-None.ensures.capacity),
+)
