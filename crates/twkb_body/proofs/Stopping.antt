@@ -1,5 +1,5 @@
 -- If reading stops in a part, reading the whole stops for the same reason.
-use Rattle.std.proofs.Common.{◌≡◌, ◌∙◌, Bool, List, ◌++◌, ℕ, Result, Ok, Err}
+use Rattle.std.proofs.Common.{◌≡◌, ◌∙◌, List, ◌++◌, ℕ, Ok}
 use Rattle.twkb_num.specs.Cursor.{Reading, rest, IsMoved, IsSound}
 use Rattle.twkb_num.specs.Varint.{Spells}
 use Rattle.twkb_head.specs.declared.refusal.Malformed.{Malformed}
@@ -11,13 +11,7 @@ use Rattle.twkb_head.proofs.Leaves.{number_laws}
 use Rattle.twkb_head.proofs.Readings.{read_ok}
 use Rattle.twkb_body.specs.declared.stopped.Stopped.{Stopped}
 use Rattle.twkb_body.specs.declared.stopped.Stopped.TheVariants.{Malformed as BadField, Memory}
-use Rattle.twkb_body.specs.Devices.Stops.{HasStopped, ReadsInside}
-use Rattle.twkb_head.specs.declared.header.Head.{Head}
-use Rattle.twkb_body.specs.Devices.Body.{Body}
-use Rattle.twkb_body.specs.declared.found.Halted.{Halted}
-use Rattle.twkb_body.specs.declared.found.Pass.{Pass}
-use Rattle.twkb_body.specs.Extent.{Reach}
-use Rattle.twkb_body.specs.Devices.Pass.{Refused}
+use Rattle.twkb_body.specs.Devices.Stops.{HasStopped}
 
 pub stops_outside : {A B : Type 0} (inner : Answer A) (outer : Answer B) (W V : Type 0) (mid old : Reading) (e : Stopped) (new : Reading)
     → ((m : Malformed) → Fails inner m new → Fails outer m new) → (new.bytes ≡ mid.bytes → W → (new.bytes ≡ old.bytes) × V)
