@@ -1,11 +1,9 @@
 -- A geometry whose header was read ends as its body does, and then its own claims are judged.
-use Rattle.std.proofs.Common.{◌≡◌, ℕ, suc, ◌+◌, ◌-◌, ◌≤◌, ◌%◌, Bool, true, false, is_some, Result, Ok, Err, refl, sym, ap, subst, ◌∙◌, arith}
+use Rattle.std.proofs.Common.{◌≡◌, ℕ, suc, ◌+◌, ◌-◌, ◌≤◌, Bool, true, false, is_some, Result, Ok, Err, refl, sym, ap, subst, ◌∙◌, arith}
 use Rattle.twkb_num.specs.Cursor.{Reading, rest, passed, IsMoved, IsSound}
 use Rattle.twkb_head.specs.declared.header.Head.{Head}
-use Rattle.twkb_head.specs.declared.read.Begun.{Begun}
 use Rattle.twkb_head.specs.BegunHeader.{deepest, is_collection}
 use Rattle.twkb_head.specs.Head.{IsHeadAt}
-use Rattle.twkb_head.specs.Raw.{BeginsHead}
 use Rattle.twkb_head.proofs.HeadBack.{head_value}
 use Rattle.twkb_body.specs.declared.found.Halted.{Halted}
 use Rattle.twkb_body.specs.declared.found.Pass.{Pass}
@@ -23,20 +21,6 @@ use Rattle.twkb_body.specs.Devices.Stops.{HasStopped, ReadsGeometry, WantsBehind
 use Rattle.twkb_body.proofs.GeometrySteps.{shape_body, body_gives, body_fails, body_of_head, geometry_found}
 use Rattle.twkb_body.proofs.MemberSteps.{collection_at, collection_body, long_list_in}
 use Rattle.twkb_body.proofs.Stopping.{stops_outside, stops_through}
-
--- a header is begun also by a metadata byte without the bits that announce nothing
-pub begun_known : (begun known : Begun) (depth : ℕ) (before now : Reading) → known ≡ record begun { metadata = begun.metadata % 32 } → BeginsHead begun depth before now → BeginsHead known depth before now
-begun_known begun known depth before now is b = subst (λ (k : Begun). BeginsHead k depth before now) (sym is) (record {
-  type_byte = b.type_byte;
-  metadata = b.metadata;
-  bytes = b.bytes;
-  moved = b.moved;
-  kind = b.kind;
-  allowed = b.allowed;
-  precision = b.precision;
-  announced = omega (arith, b.announced);
-  start = b.start;
-})
 
 -- a geometry that was shown to the boxes above was read
 pub read_unseen : (tight : Bool) (depth : ℕ) (Saw : Reach → Type 0) (before after : Pass) (old new : Reading) (result : Result ℕ Halted) → ReadsGeometry tight depth Saw before after old result new

@@ -1,5 +1,5 @@
 -- What a box asks for: ranges of raw coordinates and an extent in units, which are joined only when they are needed.
-use Rattle.std.proofs.Common.{◌≡◌, ℕ, [], Option, Some, None, false, is_some, refl, sym, ap, ◌∙◌}
+use Rattle.std.proofs.Common.{◌≡◌, ℕ, [], Option, Some, None, false, is_some, refl, sym, ap, subst, ◌∙◌}
 use Rattle.std.proofs.lemmas.Bool.{false≢true}
 use Rattle.twkb_head.specs.declared.raw.Axes.{Axes}
 use Rattle.twkb_head.specs.Head.{m_axis}
@@ -27,6 +27,15 @@ in_units_joined axes a b =
     of_m None = scaled_if_joined axes.m a.third b.third
     of_m (Some p) = scaled_if_joined axes.m a.fourth b.fourth
 
+-- without Z and M, joining the first two ranges is enough
+pub flat_joined : (axes : Axes) (a b : Ranges) → axes.z ≡ None → axes.m ≡ None → in_units axes (record a { x = joined a.x b.x; y = joined a.y b.y }) ≡ both (in_units axes a) (in_units axes b)
+flat_joined axes a b no_z no_m =
+    subst (λ (other : Axes). in_units other (record a { x = joined a.x b.x; y = joined a.y b.y }) ≡ both (in_units other a) (in_units other b)) flat
+    (λ j. record { x = scaled_joined axes.xy a.x b.x j; y = scaled_joined axes.xy a.y b.y j; z = None; m = None })
+  where
+    flat : record { xy = axes.xy; z = None; m = None } ≡ axes
+    flat = λ j. record { xy = axes.xy; z = (sym no_z) j; m = (sym no_m) j }
+
 -- no ranges are no vertices
 pub in_units_none : (axes : Axes) → in_units axes no_ranges ≡ reach_of []
 in_units_none axes = go axes.z axes.m
@@ -37,12 +46,9 @@ in_units_none axes = go axes.z axes.m
     go None (Some q) = refl
     go (Some p) (Some q) = refl
 
--- ranges that are joined to the raw ones are added to the whole
-pub raw_grows : (axes : Axes) (raw more : Ranges) (others : Reach) → both (in_units axes (ranges_joined raw more)) others ≡ both (both (in_units axes raw) others) (in_units axes more)
-raw_grows axes raw more others =
-    let a = in_units axes raw in
-    let b = in_units axes more in
-    ap (λ (r : Reach). both r others) (in_units_joined axes raw more) ∙ both-assoc a b others ∙ ap (both a) (both-comm b others) ∙ sym (both-assoc a others b)
+-- what is added to the raw ranges is added to the whole
+pub raw_grows : (grown raw others more : Reach) → grown ≡ both raw more → both grown others ≡ both (both raw others) more
+raw_grows grown raw others more is = ap (λ (r : Reach). both r others) is ∙ both-assoc raw more others ∙ ap (both raw) (both-comm more others) ∙ sym (both-assoc raw others more)
 
 -- without others, under headers of the same axes, the whole reach is that of the raw ranges
 pub only_raw : (axes same : Axes) (raw : Ranges) (others : Option Reach) → axes ≡ same → is_some others ≡ false → both (in_units axes raw) (reach_if others) ≡ in_units same raw

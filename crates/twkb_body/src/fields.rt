@@ -1,7 +1,18 @@
-//! [`FieldSet`], which fields a header has, where that is known before they are read. Used by `geometry` and `shape`.
-ghost use Rattle.std.specs.Prelude.{◌≡◌, ◌%◌, bit_and, ℕ};
+//! The headers of an audit, and [`FieldSet`], which fields a header has, where that is known before they are read.
+//! Used by `geometry` and `shape`.
+ghost use Rattle.std.specs.Prelude.{◌≡◌, ◌-◌, ◌%◌, ◌==◌, ◌≤◌, bit_and, ℕ, length, IfOk, OnOk, OnErr};
+ghost use Rattle.twkb_num.specs.Cursor.{Reading, rest, passed, IsMoved, IsSound};
+ghost use Rattle.twkb_head.specs.BegunHeader.{deepest, is_collection};
+ghost use Rattle.twkb_head.specs.Head.{StartsWithHeader, IsHeadAt};
+ghost use Rattle.twkb_head.specs.Raw.{HavePrecisions, head_said};
+ghost use Rattle.twkb_body.specs.Audited.{HasLongList};
+ghost use Rattle.twkb_body.specs.Devices.BodyReader.{geometry_at};
+ghost use Rattle.twkb_body.specs.Devices.Stops.{AreRead, HasStopped};
 
-use twkb_head::Begun;
+use crate::found::{Halted, Pass};
+use crate::stopped::Stopped;
+use twkb_head::{BoxCalled, BoxInlined, Fields, Malformed, begun_by, read_raw, take_rest};
+use twkb_num::Cursor;
 
 /// The bits of a metadata byte for a box, a size, an extended dimensions byte and an empty geometry (TWKB specification, "Metadata
 /// Header").
@@ -24,10 +35,10 @@ pub trait FieldSet {
     /// The metadata bytes that announce them.
     ghost fits: { ℕ → Type 0 };
 
-    /// The header, whose metadata byte announces these fields. If they are a constant, the compiler knows which fields there are.
-    fn known(begun: Begun) -> Begun
-        requires { fits begun.metadata }
-        ensures { result ≡ record begun { metadata = begun.metadata % 32 } };
+    /// The bits of a metadata byte that announces these fields. If they are a constant, the compiler knows which fields there are.
+    fn known(metadata: u8) -> u8
+        requires { fits metadata }
+        ensures { result ≡ metadata % 32 };
 }
 
 /// A body alone.
@@ -48,8 +59,8 @@ impl FieldSet for NoField {
     ghost fits = { λ metadata. bit_and metadata 27 ≡ 0 };
 
     #[inline(always)]
-    fn known(begun: Begun) -> Begun {
-        with_fields(begun, NO_FIELD)
+    fn known(metadata: u8) -> u8 {
+        with_fields(metadata, NO_FIELD)
     }
 }
 
@@ -59,8 +70,8 @@ impl FieldSet for SizedBox {
     ghost fits = { λ metadata. bit_and metadata 27 ≡ 3 };
 
     #[inline(always)]
-    fn known(begun: Begun) -> Begun {
-        with_fields(begun, SIZED_BOX)
+    fn known(metadata: u8) -> u8 {
+        with_fields(metadata, SIZED_BOX)
     }
 }
 
@@ -70,8 +81,8 @@ impl FieldSet for SizedFurtherBox {
     ghost fits = { λ metadata. bit_and metadata 27 ≡ 11 };
 
     #[inline(always)]
-    fn known(begun: Begun) -> Begun {
-        with_fields(begun, SIZED_FURTHER_BOX)
+    fn known(metadata: u8) -> u8 {
+        with_fields(metadata, SIZED_FURTHER_BOX)
     }
 }
 
@@ -79,16 +90,70 @@ impl FieldSet for AnyFields {
     ghost fits = { λ metadata. Unit {0} };
 
     #[inline(always)]
-    fn known(begun: Begun) -> Begun {
-        begun.announcing(begun.metadata % 32)
+    fn known(metadata: u8) -> u8 {
+        metadata % 32
     }
 }
 
-/// This header, whose metadata byte has these of the bits in [`FIELDS`].
+/// The bits of a metadata byte that has these of the bits in [`FIELDS`].
 #[inline(always)]
-fn with_fields(begun: Begun, fields: u8) -> Begun
-    requires { bit_and begun.metadata 27 ≡ fields }
-    ensures { result ≡ record begun { metadata = begun.metadata % 32 } }
+fn with_fields(metadata: u8, fields: u8) -> u8
+    requires { bit_and metadata 27 ≡ fields }
+    ensures { result ≡ metadata % 32 }
 {
-    begun.announcing(fields + (begun.metadata & IDS))
+    fields + (metadata & IDS)
+}
+
+/// Reads the header of a geometry at `depth` that begins with these two bytes, which were just read; `F` knows which fields they
+/// announce. It stops at a malformed field.
+// Two bytes go from function to function in registers.
+#[inline(always)]
+pub fn take_header<F: FieldSet>(
+    pass: &mut Pass,
+    cursor: &mut Cursor,
+    depth: u8,
+    first: u8,
+    metadata: u8,
+) -> Result<Fields, Halted>
+    requires shallowest { 1 ≤ depth }
+    requires deepest { depth ≤ deepest }
+    requires fields { F.fits metadata }
+    requires read { (before : Reading) × AreRead first metadata before cursor.old }
+    ensures ok { IfOk result (λ raw. (before : Reading) → AreRead first metadata before cursor.old
+        → IsHeadAt (head_said raw) depth before.place (passed before cursor.new) × IsMoved before cursor.new) }
+    ensures collection { IfOk result (λ raw. is_collection raw.kind ≡ (first % 16 == 7)) }
+    ensures precisions { IfOk result (λ raw. HavePrecisions raw.axes) }
+    ensures same { OnOk result (pass.new ≡ pass.old) }
+    ensures stopped { OnErr result ((before : Reading) → AreRead first metadata before cursor.old
+        → HasStopped (geometry_at (deepest - depth) before) (HasLongList depth (rest before)) before pass.new.stopped cursor.new) }
+{
+    cursor.place_is_within();
+    let start = cursor.place() - 2;
+    let Some(begun) = begun_by(cursor, depth, first, metadata) else {
+        return Err(stop_at_header(pass, cursor, start, depth));
+    };
+    let known = begun.announcing(F::known(metadata));
+    let Ok(raw) = take_rest::<BoxInlined>(cursor, known) else {
+        return Err(stop_at_header(pass, cursor, start, depth));
+    };
+    Ok(raw)
+}
+
+/// Stops at the malformed field of the header that begins at `start`, of a geometry at `depth`.
+#[cold]
+#[inline(never)]
+pub fn stop_at_header(pass: &mut Pass, cursor: &mut Cursor, start: usize, depth: u8) -> Halted
+    requires shallowest { 1 ≤ depth }
+    requires deepest { depth ≤ deepest }
+    requires start { start ≤ length cursor.old.bytes }
+    requires malformed { StartsWithHeader depth (rest (record cursor.old { place = start })) → ⊥ }
+    ensures stopped { (before : Reading) → before.bytes ≡ cursor.old.bytes → before.place ≡ start → IsSound before
+        → HasStopped (geometry_at (deepest - depth) before) (HasLongList depth (rest before)) before pass.new.stopped cursor.new }
+{
+    cursor.go_to(start);
+    cursor.place_is_within();
+    let Err(malformed) = read_raw(cursor, depth) else {
+        unreachable!()
+    };
+    pass.stop(Stopped::Malformed(malformed))
 }

@@ -5,7 +5,7 @@
 //! units. Used by `extents`, `geometry`, `seen` and `shape`.
 ghost use Rattle.std.specs.Prelude.{◌≡◌, ◌≤◌, IfSome, None, Some, true, pos, [], ◌∷◌};
 ghost use Rattle.twkb_num.specs.Units.{IsPrecision};
-ghost use Rattle.twkb_body.specs.Extent.{joined, span_of};
+ghost use Rattle.twkb_body.specs.Extent.{joined, span_of, both};
 ghost use Rattle.twkb_body.specs.Devices.Extents.{lane_span};
 ghost use Rattle.twkb_body.specs.Devices.Ranges.{range_at, scaled, scaled_if, IsHeldRaw, AreHeldRaw};
 ghost use Rattle.twkb_body.specs.Devices.Seen.{in_units};
@@ -151,20 +151,17 @@ impl Ranges {
         }
     }
 
-    /// Adds the coordinates of other ranges, axis by axis.
+    /// Adds the coordinates of other ranges, in these axes.
     #[inline(always)]
-    pub fn join(&mut self, more: &Ranges)
-        ensures { self.new ≡ record {
-          x = joined self.old.x more.now.x;
-          y = joined self.old.y more.now.y;
-          third = joined self.old.third more.now.third;
-          fourth = joined self.old.fourth more.now.fourth;
-        } }
+    pub fn join(&mut self, more: &Ranges, axes: Axes)
+        ensures { in_units axes self.new ≡ both (in_units axes self.old) (in_units axes more.now) }
     {
         self.x.join(&more.x);
         self.y.join(&more.y);
-        self.third.join(&more.third);
-        self.fourth.join(&more.fourth);
+        if !axes.is_flat() {
+            self.third.join(&more.third);
+            self.fourth.join(&more.fourth);
+        }
     }
 
     /// If `true`, a box of a header with these axes holds all coordinates, and in tight checking it is tight. `false` says nothing.

@@ -164,7 +164,7 @@ impl Seen {
         ensures extent { self.new.extent ≡ both self.old.extent (in_units axes ranges.now) }
     {
         if self.axes.are(axes) {
-            self.raw.join(ranges);
+            self.raw.join(ranges, axes);
         } else {
             // A copy, so that the ranges stay in registers elsewhere.
             let copy = *ranges;

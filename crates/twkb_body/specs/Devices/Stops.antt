@@ -1,7 +1,7 @@
 -- Devices of proofs: nothing public names them.
 -- The answers of code that reads and may want memory, by the answers of the readers.
-use Rattle.std.specs.Prelude.{◌≡◌, ◌≢◌, ◌↔◌, ℕ, ◌+◌, ◌-◌, ◌<◌, Bool, true, false, IsTrue, is_some, List, AllPairs, Result, Ok, Err}
-use Rattle.twkb_num.specs.Cursor.{Reading, rest}
+use Rattle.std.specs.Prelude.{◌≡◌, ◌≢◌, ◌↔◌, ℕ, ◌+◌, ◌-◌, ◌<◌, Bool, true, false, IsTrue, is_some, List, [], ◌∷◌, AllPairs, Result, Ok, Err}
+use Rattle.twkb_num.specs.Cursor.{Reading, rest, passed, IsMoved, IsSound}
 use Rattle.twkb_head.specs.declared.header.Head.{Head}
 use Rattle.twkb_head.specs.BegunHeader.{deepest, is_collection}
 use Rattle.twkb_head.specs.Header.{is_multi}
@@ -66,6 +66,12 @@ ReadsParts tight head count was_refused Saw now after old result new =
     (x : ListHead) (start : Reading) (list : ListFound) (before : Refused) → count_at (is_multi head.kind) head.ids start ≡ (Ok x, old)
     → IsListFound start old x list → count ≡ list.count → was_refused ≡ is_some before → named now.refused ≡ first before list.ids
     → ReadsInside tight head (shape_behind head start) (HasManyIdsAfterCount head.ids (rest start)) Saw before after start result new
+
+-- these two bytes were read, and nothing else
+pub record AreRead (first metadata : ℕ) (before now : Reading) : Type 0 where
+  pub sound : IsSound before
+  pub moved : IsMoved before now
+  pub two : passed before now ≡ first ∷ metadata ∷ []
 
 -- `ReadsOrHalts` for a whole geometry at a depth
 abbrev pub ReadsGeometry : Bool → ℕ → (Reach → Type 0) → Pass → Pass → Reading → Result ℕ Halted → Reading → Type 0

@@ -1,11 +1,10 @@
 -- The passes over a collection and over its members, each by the other: header, body, then the judging of claims.
-use Rattle.std.proofs.Common.{rules, ◌≡◌, ◌+◌, ◌-◌, suc, Bool, true, None, not, ◌==◌, ◌||◌, ℕ, length, refl, sym, ap, subst, ◌∙◌, arith}
+use Rattle.std.proofs.Common.{rules, ◌≡◌, ◌+◌, ◌-◌, suc, Bool, None, not, ◌==◌, ◌||◌, ℕ, refl, sym, ap, subst, ◌∙◌, arith}
 use Rattle.std.proofs.lemmas.Result.{err_from_is_err_and}
-use Rattle.twkb_num.specs.Cursor.{Reading, rest, IsSound}
+use Rattle.twkb_num.specs.Cursor.{rest}
 use Rattle.twkb_head.specs.declared.header.Head.{Head}
-use Rattle.twkb_head.specs.BegunHeader.{deepest, is_collection, IsAllowedAt}
-use Rattle.twkb_head.specs.Head.{StartsWithHeader}
-use Rattle.twkb_head.specs.Raw.{BeginsHead, head_said}
+use Rattle.twkb_head.specs.BegunHeader.{deepest, IsAllowedAt}
+use Rattle.twkb_head.specs.Raw.{head_said}
 use Rattle.twkb_body.specs.Audited.{HasLongList}
 use Rattle.twkb_body.specs.Devices.Body.{no_body, members_body, members_of}
 use Rattle.twkb_body.specs.Devices.BodyReader.{list_at, geometry_at, members_under}
@@ -21,65 +20,39 @@ use Rattle.twkb_body.proofs.GeometrySteps.{empty_body, nothing_found, nothing_in
 use Rattle.twkb_body.proofs.HeadFacts.{head_size}
 use Rattle.twkb_body.proofs.MemberSteps.{collection_at, collection_below, collection_body, members_read, members_begin, members_go_on, members_fail, members_end, no_list, no_member, collection_gives, members_inside, member_bytes}
 use Rattle.twkb_body.proofs.Noting.{first_none, first_assoc}
-use Rattle.twkb_body.proofs.Rereading.{same_rest}
 use Rattle.twkb_body.proofs.SeenRuns.{in_units_none}
 use Rattle.twkb_body.proofs.Stopping.{stops_outside}
 use Rattle.twkb_body.proofs.geometry.+take_member.Goals as goal
 
 -- ---- take_collection
-pub take_collection-stop_at_header-requires-clause-start : goal.take_collection-stop_at_header-requires-clause-start
-take_collection-stop_at_header-requires-clause-start g t c =
-    let (before, sound, begins) = c.requires.begun in
-    let refused = c.in_default.ensures.read c.args.depth before sound begins in
-    omega (arith, begins.start, sound.within, ap (λ (r : Reading). length r.bytes) refused.1)
-
-pub take_collection-stop_at_header-requires-clause-malformed : goal.take_collection-stop_at_header-requires-clause-malformed
-take_collection-stop_at_header-requires-clause-malformed g t c = λ starts.
-    let (before, sound, begins) = c.requires.begun in
-    let refused = c.in_default.ensures.read c.args.depth before sound begins in
-    let rest_is = same_rest before (record c.take_rest.new.cursor { place = c.args.begun.start }) (ap (λ (r : Reading). r.bytes) refused.1) begins.start in
-    cc ((c.in_default.ensures.exact c.args.depth before sound begins).1 (subst (StartsWithHeader c.args.depth) rest_is starts))
-
-pub take_collection-returns-in_default : goal.take_collection-returns-in_default
-take_collection-returns-in_default g t c = λ before sound begins.
-    let refused = c.in_default.ensures.read c.args.depth before sound begins in
-    c.stop_at_header.ensures.stopped before (sym (ap (λ (r : Reading). r.bytes) refused.1)) (sym begins.start) sound
-
 pub take_collection-take_members-requires : goal.take_collection-take_members-requires
 take_collection-take_members-requires g t c =
-    let (before, sound, begins) = c.requires.begun in
-    let at = (c.in-Ok.ensures.read c.args.depth before sound begins).0 in
+    let (before, read) = c.requires.read in
+    let at = (c.in_ok-raw.ensures.ok before read).0 in
     let allowed = subst (λ (h : Head). IsAllowedAt h.kind c.args.depth) (sym at.fields) at.allowed in
-    let many = ap is_collection c.in-Ok.ensures.kind ∙ c.requires.collection in
+    let many = c.in_ok-raw.ensures.collection ∙ c.requires.collection in
     search rules
 
 pub take_collection-returns-in_err-vertices : goal.take_collection-returns-in_err-vertices
-take_collection-returns-in_err-vertices g t c = λ before sound begins.
-    let h = c.in-Ok.ensures.read c.args.depth before sound begins in
-    let p = err_from_is_err_and c.from_residual.result c.from_residual.ensures.1 in
-    rw p.1 (body_stops (not (g.row.TIGHT == 0)) c.args.depth c.requires.shallowest c.requires.deepest before c.take_rest.new.cursor sound (head_said c.in-Ok.raw) h.0 h.1 c.take_members.new.pass.stopped c.take_members.new.cursor
+take_collection-returns-in_err-vertices g t c = λ before read.
+    let h = c.in_ok-raw.ensures.ok before read in
+    let p = err_from_is_err_and c.from_residual-in_err-vertices.result c.from_residual-in_err-vertices.ensures.1 in
+    rw p.1 (body_stops (not (g.row.TIGHT == 0)) c.args.depth c.requires.shallowest c.requires.deepest before c.take_header.new.cursor read.sound (head_said c.in_ok-raw.raw) h.0 h.1 c.take_members.new.pass.stopped c.take_members.new.cursor
     c.in_err-vertices.ensures)
 
 pub take_collection-judge_size-requires : goal.take_collection-judge_size-requires
 take_collection-judge_size-requires g t c =
-    let (before, sound, begins) = c.requires.begun in
-    let h = c.in-Ok.ensures.read c.args.depth before sound begins in
-    head_size before c.take_rest.new.cursor (head_said c.in-Ok.raw) c.args.depth h.0 h.1 _ (omega (arith, c.place.ensures.value, c.in_ok-vertices.ensures.2.1.few))
+    let (before, read) = c.requires.read in
+    let h = c.in_ok-raw.ensures.ok before read in
+    head_size before c.take_header.new.cursor (head_said c.in_ok-raw.raw) c.args.depth h.0 h.1 _ (omega (arith, c.place.ensures.value, c.in_ok-vertices.ensures.2.1.few))
 
 pub take_collection-returns : goal.take_collection-returns
-take_collection-returns g t c = λ before sound begins.
-    let h = c.in-Ok.ensures.read c.args.depth before sound begins in
-    let read = c.in_ok-vertices.ensures in
-    body_ends (not (g.row.TIGHT == 0)) c.args.depth c.requires.shallowest c.requires.deepest before c.take_rest.new.cursor sound (head_said c.in-Ok.raw) h.0 h.1 (HasSeen c.args.seen.now c.take_members.new.seen) read.0 c.take_members.new.cursor
-    read.2.0 read.1 read.2.1 c.is_refused-was_refused.result (named c.args.pass.now.refused) c.take_members.new.pass c.note.new.self (named c.judge_size.result) c.in_ok-vertices.vertices c.place.result
-    c.is_refused-was_refused.ensures read.2.3 c.note.ensures c.judge_size.ensures c.place.ensures.value read.2.2
-
--- ---- take_member
-pub take_member-take_collection-requires : goal.take_member-take_collection-requires
-take_member-take_collection-requires g t c =
-    let many : is_collection c.in-Some.begun.kind ≡ true = sym c.is_collection.ensures ∙ c.if-is_collection.true in
-    let begun : (before : Reading) × IsSound before × BeginsHead c.in-Some.begun c.args.depth before c.begin_head.new.cursor = (c.args.cursor.now, c.place_is_within.ensures, c.in-Some.ensures.some) in
-    search rules
+take_collection-returns g t c = λ before read.
+    let h = c.in_ok-raw.ensures.ok before read in
+    let ended = c.in_ok-vertices.ensures in
+    rw (sym c.in_ok-raw.ensures.same) (body_ends (not (g.row.TIGHT == 0)) c.args.depth c.requires.shallowest c.requires.deepest before c.take_header.new.cursor read.sound (head_said c.in_ok-raw.raw) h.0 h.1 (HasSeen c.args.seen.now c.take_members.new.seen) ended.0 c.take_members.new.cursor
+    ended.2.0 ended.1 ended.2.1 c.is_refused-was_refused.result (named c.take_header.new.pass.refused) c.take_members.new.pass c.note.new.self (named c.judge_size.result) c.in_ok-vertices.vertices c.place.result
+    c.is_refused-was_refused.ensures ended.2.3 c.note.ensures c.judge_size.ensures c.place.ensures.value ended.2.2)
 
 -- ---- take_members
 pub take_members-returns-then-raw : goal.take_members-returns-then-raw

@@ -5,5 +5,5 @@ use Rattle.twkb_body.proofs.Ending.{read_unseen}
 use Rattle.twkb_body.proofs.geometry.take_whole_collection.Goals as goal
 
 pub returns : goal.returns
-returns g c = λ before sound begins.
-    read_unseen (not (g.row.TIGHT == 0)) 1 (HasSeen c.unasked.result c.take_collection.new.seen) c.args.pass.now c.take_collection.new.pass before c.take_collection.new.cursor c.take_collection.result (c.take_collection.ensures before sound begins)
+returns g c = λ before read.
+    read_unseen (not (g.row.TIGHT == 0)) 1 (HasSeen c.unasked.result c.take_collection.new.seen) c.args.pass.now c.take_collection.new.pass before c.take_collection.new.cursor c.take_collection.result (c.take_collection.ensures before read)

@@ -1,7 +1,6 @@
 -- Ranges of the same axes are joined in raw coordinates, which is joining them in units.
-use Rattle.std.proofs.Common.{ap, ◌∙◌}
+use Rattle.std.proofs.Common.{◌≡◌, sym, ap, ◌∙◌}
 use Rattle.twkb_head.specs.declared.raw.Axes.{Axes}
-use Rattle.twkb_body.specs.declared.range.Ranges.{Ranges}
 use Rattle.twkb_body.specs.Extent.{both}
 use Rattle.twkb_body.specs.Devices.Seen.{Seen, in_units, reach_if}
 use Rattle.twkb_body.proofs.SeenRuns.{raw_grows}
@@ -11,6 +10,8 @@ pub returns-then-are-clause-extent : goal.returns-then-are-clause-extent
 returns-then-are-clause-extent c =
     let s = c.self.inside in
     let more = c.args.ranges.now in
-    ap (λ (r : Ranges). both (in_units s.axes r) (reach_if s.others)) c.join.ensures ∙ raw_grows s.axes s.raw more (reach_if s.others)
-    ∙ ap (λ (t : Seen). both t.extent (in_units s.axes more)) c.self.view_is
-    ∙ ap (λ (a : Axes). both c.args.self.now.extent (in_units a more)) (c.are.ensures.0 c.if-are.true)
+    let same : c.args.axes ≡ s.axes = sym (c.are.ensures.0 c.if-are.true) in
+    ap (λ (a : Axes). both (in_units a c.join.new.self) (reach_if s.others)) (sym same)
+    ∙ raw_grows (in_units c.args.axes c.join.new.self) (in_units c.args.axes s.raw) (reach_if s.others) (in_units c.args.axes more) c.join.ensures
+    ∙ ap (λ (a : Axes). both (both (in_units a s.raw) (reach_if s.others)) (in_units c.args.axes more)) same
+    ∙ ap (λ (t : Seen). both t.extent (in_units c.args.axes more)) c.self.view_is

@@ -9,7 +9,7 @@ use Rattle.twkb_body.specs.Devices.BodyReader.{geometry_at}
 use Rattle.twkb_body.specs.Devices.Stops.{HasStopped}
 use Rattle.twkb_body.proofs.GeometrySteps.{header_fails}
 use Rattle.twkb_body.proofs.Rereading.{refused_again}
-use Rattle.twkb_body.proofs.geometry.stop_at_header.Goals as goal
+use Rattle.twkb_body.proofs.fields.stop_at_header.Goals as goal
 
 pub returns : goal.returns
 returns c = record {
