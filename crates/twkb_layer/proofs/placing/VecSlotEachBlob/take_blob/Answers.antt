@@ -8,21 +8,21 @@ use Rattle.twkb_layer.proofs.placing.VecSlotEachBlob.take_blob.Goals as goal
 pub returns-in-Some-clause-state : goal.returns-in-Some-clause-state
 returns-in-Some-clause-state g c = λ tree at.
     ap entries_kept c.push.ensures.items
-    ∙ blob_more c.args.self.now.items (c.in-Some.slot ∷ []) c.place-offset.result c.args.cursor.now tree c.read_and_pass.result.header c.requires.fits.1.0 c.in-Some.ensures c.place-offset.ensures.value (c.read_and_pass.ensures.header tree at)
+    ∙ blob_more c.args.self.now.items (c.in-Some.slot ∷ []) c.place-offset.result c.args.cursor.now tree c.read_and_pass-header.result c.requires.fits.1.0 c.in-Some.ensures c.place-offset.ensures.value (c.read_and_pass-header.ensures.header tree at)
 
 pub returns-in-Some-clause-fits : goal.returns-in-Some-clause-fits
 returns-in-Some-clause-fits g c = λ more fits. (
-  subst AreWhole (sym c.push.ensures.items) (whole_more c.args.self.now.items (c.in-Some.slot ∷ []) (entry_said c.place-offset.result c.read_and_pass.result.header) fits.0 c.in-Some.ensures),
+  subst AreWhole (sym c.push.ensures.items) (whole_more c.args.self.now.items (c.in-Some.slot ∷ []) (entry_said c.place-offset.result c.read_and_pass-header.result) fits.0 c.in-Some.ensures),
   omega (arith, fits.1, c.push.ensures.len, c.push.ensures.capacity),
 )
 
 pub returns-in-None-clause-state : goal.returns-in-None-clause-state
 returns-in-None-clause-state g c = λ tree at.
     ap entries_kept c.push-in-None.ensures.items
-    ∙ blob_more c.args.self.now.items c.long.result c.place-offset.result c.args.cursor.now tree c.read_and_pass.result.header c.requires.fits.1.0 c.long.ensures c.place-offset.ensures.value (c.read_and_pass.ensures.header tree at)
+    ∙ blob_more c.args.self.now.items c.long.result c.place-offset.result c.args.cursor.now tree c.read_and_pass-header.result c.requires.fits.1.0 c.long.ensures c.place-offset.ensures.value (c.read_and_pass-header.ensures.header tree at)
 
 pub returns-in-None-clause-fits : goal.returns-in-None-clause-fits
 returns-in-None-clause-fits g c = λ more fits. (
-  subst AreWhole (sym c.push-in-None.ensures.items) (whole_more c.args.self.now.items c.long.result (entry_said c.place-offset.result c.read_and_pass.result.header) fits.0 c.long.ensures),
+  subst AreWhole (sym c.push-in-None.ensures.items) (whole_more c.args.self.now.items c.long.result (entry_said c.place-offset.result c.read_and_pass-header.result) fits.0 c.long.ensures),
   omega (arith, fits.1, c.push-in-None.ensures.len, c.push-in-None.ensures.capacity),
 )
