@@ -1,5 +1,5 @@
 //! [`Stopped`], the reasons why reading stops before the end of a blob.
-//! Used by `auditing`, `found`, `geometry`, `lists`, `rooms` and `shape`.
+//! Used by `auditing`, `fields`, `found`, `lists`, `rooms` and `shape`.
 ghost use Rattle.std.specs.Prelude.{◌≡◌};
 ghost use Rattle.twkb_body.specs.declared.stopped.Stopped.TheVariants.{Malformed as BadField, Memory as NoMemory};
 
