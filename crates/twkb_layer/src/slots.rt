@@ -37,7 +37,7 @@ pub struct Slot {
     /// In the first slot of a blob, from the lowest bit on: four bits of the precision of X and Y, plus 8; whether there is a box;
     /// whether the blob takes four slots; and if it takes one, its offset. Of four slots, the second has the offset, and the third
     /// and the fourth have the precisions of Z and M, or [`NO_AXIS`].
-    word: u64,
+    pub(crate) word: u64,
     /// The least end in X, and above it the greatest one; of four slots, the minimum of a range.
     first: u64,
     /// The least end in Y, and above it the greatest one; of four slots, the extent of a range.
@@ -143,14 +143,6 @@ impl Slot {
             && windows
                 .at(self.code())
                 .misses(ends(self.first), ends(self.second))
-    }
-
-    /// The number in the word, which is the offset in the second of four slots.
-    #[inline(always)]
-    pub(crate) fn word(&self) -> usize
-        ensures { result ≡ self.now.word }
-    {
-        self.word as usize
     }
 
     /// The range of an axis, in one of four slots.
