@@ -159,7 +159,7 @@ SHARED = STEPS.replace(HEAD, SHARED_HEAD).replace("IsStep", "IsLeap")
 STEPPING = SHARED.replace("Plain.{IsSmall}", "Devices.Steps.{IsStep}").replace("IsSmall n", "IsStep n")
 LEAPS = {"shared": SHARED, "upper": ("Shared.Leaps", "IsLeap")}
 EXTRA = defined("large", "IsLarge", "9 ≤ n")
-GROUP = "\nunfoldable mutual\n  -- a number is a turn\n  pub IsTurn : ℕ → Type 0\n  IsTurn n = IsSmall n\n"
+GROUP = "\nabbrev mutual\n  -- a number is a turn\n  pub IsTurn : ℕ → Type 0\n  IsTurn n = IsSmall n\n"
 USES = PLAIN.replace("n ≤ 9", "IsStep n").replace("ℕ}\n", "ℕ}\nuse Rattle.made.specs.Devices.Steps.{IsStep}\n")
 LEAPING = PLAIN.replace("n ≤ 9", "IsLeap n").replace("ℕ}\n", "ℕ}\nuse Rattle.made.specs.Shared.Leaps.{IsLeap}\n")
 BAGS = PLAIN.replace("n ≤ 9", "Bag").replace("ℕ}\n", "ℕ}\nuse Rattle.made.specs.declared.code.Bag.{Bag}\n")

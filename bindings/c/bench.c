@@ -94,7 +94,7 @@ static void time_many(const struct twkb_layer *layer, const struct twkb_slot *sl
 
 static void time_directory(const struct twkb_layer *layer) {
     double start = nanoseconds();
-    size_t most = 2 * layer->blobs;
+    size_t most = TWKB_MOST_SLOTS * layer->blobs;
     struct twkb_slot *slots = room_for(most, sizeof *slots);
     size_t count = twkb_directory_build(layer, slots, most);
     printf("directory: %.1f ms, %zu slots\n", milliseconds_since(start), count);

@@ -80,7 +80,7 @@ static void print_scan(const struct twkb_layer *layer, struct twkb_scanned scann
 
 static void print_by_slots(const struct twkb_layer *layer, struct twkb_slot *slots, const struct twkb_window *windows,
                            int count, struct twkb_hit *hits) {
-    size_t made = twkb_directory_build(layer, slots, 2 * layer->blobs);
+    size_t made = twkb_directory_build(layer, slots, TWKB_MOST_SLOTS * layer->blobs);
     for (int i = 0; i < count; i++) {
         print_scan(layer, twkb_directory_scan(layer, slots, made, &windows[i], hits, layer->blobs), hits);
     }
@@ -89,7 +89,7 @@ static void print_by_slots(const struct twkb_layer *layer, struct twkb_slot *slo
 /* With a directory where there are several windows. */
 static int print_hits(const struct twkb_layer *layer, const struct twkb_window *windows, int count) {
     struct twkb_hit *hits = calloc(layer->blobs + 1, sizeof *hits);
-    struct twkb_slot *slots = count > 1 ? calloc(layer->blobs + 1, 2 * sizeof *slots) : NULL;
+    struct twkb_slot *slots = count > 1 ? calloc(layer->blobs + 1, TWKB_MOST_SLOTS * sizeof *slots) : NULL;
     bool memory = hits && (slots || count == 1);
     if (memory && slots) print_by_slots(layer, slots, windows, count, hits);
     if (memory && !slots) print_scan(layer, twkb_scan(layer, windows, hits, layer->blobs), hits);

@@ -120,7 +120,7 @@ static void rooms(const struct twkb_layer *layer) {
 /* Into too little room nothing is written. */
 static void too_few_slots(const struct twkb_layer *layer, size_t room) {
     struct twkb_slot *slots = guarded(room * sizeof *slots);
-    CHECK(twkb_directory_build(layer, slots, room) == 2 * layer->blobs);
+    CHECK(twkb_directory_build(layer, slots, room) == TWKB_MOST_SLOTS * layer->blobs);
     CHECK(still(slots, room * sizeof *slots));
     free_guarded(slots, room * sizeof *slots);
 }
@@ -150,34 +150,38 @@ static void slots_windows(const struct twkb_layer *layer, const struct twkb_slot
 }
 
 static void directory(const struct twkb_layer *layer) {
-    size_t room = 2 * layer->blobs;
+    size_t room = TWKB_MOST_SLOTS * layer->blobs;
     size_t small[] = {0, 1, layer->blobs, room - 1};
     for (size_t i = 0; i < sizeof small / sizeof *small; i++) {
         if (small[i] < room) too_few_slots(layer, small[i]);
     }
     struct twkb_slot *slots = guarded(room * sizeof *slots);
     size_t count = twkb_directory_build(layer, slots, room);
-    CHECK(layer->blobs <= 9 * count && count <= room);
+    CHECK(layer->blobs <= count && count <= room);
     CHECK(still(slots + count, (room - count) * sizeof *slots));
     slots_windows(layer, slots, count);
     free_guarded(slots, room * sizeof *slots);
 }
 
-/* Every `many` equal points share a slot. */
-static void shared_by(size_t many, const uint8_t *point, size_t len) {
-    uint8_t points[160];
-    struct twkb_slot slots[40];
+/* Each of some equal points takes this many slots. */
+static void takes(size_t each, const uint8_t *point, size_t len) {
+    uint8_t points[20 * 16];
+    struct twkb_slot slots[20 * TWKB_MOST_SLOTS];
     for (size_t blobs = 1; blobs <= 20; blobs++) {
         memcpy(points + (blobs - 1) * len, point, len);
         struct twkb_layer layer = certified(points, blobs * len);
-        CHECK(twkb_directory_build(&layer, slots, 2 * blobs) == (blobs + many - 1) / many);
+        CHECK(twkb_directory_build(&layer, slots, TWKB_MOST_SLOTS * blobs) == each * blobs);
     }
 }
 
-static void shared_slots(void) {
+static void slots_taken(void) {
     static const uint8_t bare[] = {1, 0, 2, 2}, boxed[] = {1, 1, 2, 0, 2, 0, 2, 2};
-    shared_by(9, bare, sizeof bare);
-    shared_by(2, boxed, sizeof boxed);
+    static const uint8_t high[] = {1, 9, 1, 2, 0, 2, 0, 2, 0, 2, 2, 2};
+    static const uint8_t far[] = {1, 1, 128, 128, 128, 128, 32, 0, 2, 0, 128, 128, 128, 128, 32, 2};
+    takes(1, bare, sizeof bare);
+    takes(1, boxed, sizeof boxed);
+    takes(TWKB_MOST_SLOTS, high, sizeof high);
+    takes(TWKB_MOST_SLOTS, far, sizeof far);
 }
 
 /* ---- fronts and changes */
@@ -315,7 +319,7 @@ int main(int argc, char **argv) {
     struct twkb_layer layer = certified(bytes, len);
     rooms(&layer);
     directory(&layer);
-    shared_slots();
+    slots_taken();
     fronts(&layer);
     small_stack(argc > 2 ? (size_t)atoi(argv[2]) : 192);
     threads(&layer);

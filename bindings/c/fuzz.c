@@ -74,10 +74,10 @@ static void try_many(const struct twkb_layer *layer, const struct twkb_slot *slo
 
 /* Each window, by a scan of the layer and by one of a directory. */
 static void print_scans(const struct twkb_layer *layer, uint32_t count, size_t room) {
-    size_t size = 2 * layer->blobs * sizeof(struct twkb_slot), place = room * sizeof(struct twkb_hit);
+    size_t most = TWKB_MOST_SLOTS * layer->blobs, size = most * sizeof(struct twkb_slot), place = room * sizeof(struct twkb_hit);
     struct twkb_slot *slots = guarded(size);
-    size_t made = twkb_directory_build(layer, slots, 2 * layer->blobs);
-    if (made > 2 * layer->blobs) printf("%zu slots\n", made);
+    size_t made = twkb_directory_build(layer, slots, most);
+    if (made > most) printf("%zu slots\n", made);
     for (uint32_t i = 0; i < count; i++) {
         struct twkb_hit *hits = guarded(place);
         print_scan(layer, twkb_scan(layer, &windows[i], hits, room), hits, room);

@@ -62,7 +62,7 @@ SIZE(twkb_scanned, 16);
 PLACE(twkb_scanned, hits, 0, 8);
 PLACE(twkb_scanned, bytes_read, 8, 8);
 
-SIZE(twkb_slot, 40);
+SIZE(twkb_slot, 24);
 PLACE(twkb_slot, word, 0, 8);
-PLACE(twkb_slot, first, 8, 16);
-PLACE(twkb_slot, second, 24, 16);
+PLACE(twkb_slot, first, 8, 8);
+PLACE(twkb_slot, second, 16, 8);

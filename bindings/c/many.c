@@ -29,10 +29,10 @@ struct wanted {
 
 static struct wanted one_by_one(struct twkb_layer layer) {
     struct wanted wanted = {.layer = layer, .windows = guarded(MANY * sizeof *wanted.windows)};
-    wanted.slots = malloc((2 * layer.blobs + 1) * sizeof *wanted.slots);
+    wanted.slots = malloc((TWKB_MOST_SLOTS * layer.blobs + 1) * sizeof *wanted.slots);
     wanted.hits = malloc((MANY * layer.blobs + 1) * sizeof *wanted.hits);
     if (!wanted.slots || !wanted.hits) abort();
-    wanted.count = twkb_directory_build(&layer, wanted.slots, 2 * layer.blobs);
+    wanted.count = twkb_directory_build(&layer, wanted.slots, TWKB_MOST_SLOTS * layer.blobs);
     for (size_t i = 0; i < MANY; i++) {
         wanted.windows[i] = window_of(TEXTS[i]);
         wanted.scanned[i] = twkb_directory_scan(&layer, wanted.slots, wanted.count, &wanted.windows[i], wanted.hits + wanted.all,

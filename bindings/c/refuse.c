@@ -122,10 +122,10 @@ static void others_take_nothing(const struct bytes *layer) {
     window.has_z = window.has_m = false;
     CHECK(twkb_list(&certified, &row, 1) == 1 && row.vertices == IDS);
     CHECK(twkb_scan(&certified, &window, &hit, 1).hits == 1);
-    struct twkb_slot slots[2];
+    struct twkb_slot slots[TWKB_MOST_SLOTS];
     struct twkb_scanned scanned;
-    size_t count = twkb_directory_build(&certified, slots, 2);
-    CHECK(count > 0 && count <= 2 && twkb_directory_scan(&certified, slots, count, &window, &hit, 1).hits == 1);
+    size_t count = twkb_directory_build(&certified, slots, TWKB_MOST_SLOTS);
+    CHECK(count > 0 && count <= TWKB_MOST_SLOTS && twkb_directory_scan(&certified, slots, count, &window, &hit, 1).hits == 1);
     CHECK(twkb_directory_scan_many(&certified, slots, count, &window, 1, &scanned, 1, &hit, 1) == 1 && scanned.hits == 1);
     CHECK(calls == 0);
 }

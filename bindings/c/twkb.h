@@ -171,17 +171,21 @@ struct twkb_scanned {
 struct twkb_scanned twkb_scan(const struct twkb_layer *layer, const struct twkb_window *window,
                               struct twkb_hit *hits, size_t room);
 
-/* A slot of a directory, of which a blob has one or two, or shares one with blobs next to it. Its numbers mean nothing to callers,
- * nor to other versions of the library. */
+/* A slot of a directory. A blob has one, or as many as TWKB_MOST_SLOTS if it has a box with Z, M or numbers beyond 32 bits. Its
+ * numbers mean nothing to callers, nor to other versions of the library. */
 struct twkb_slot {
     uint64_t word;
-    int64_t first[2];
-    int64_t second[2];
+    uint64_t first;
+    uint64_t second;
 };
 
-/* Writes a directory of the layer to `slots`, which has room for `room` slots, and returns how many slots it has: at most two
- * for each blob. `room` must be at least two for each blob, even where fewer slots would do. If it is less, nothing is written,
- * and the result is two for each blob, which is more than `room`. What is after the slots is unchanged. */
+/* How many slots a blob has at most. */
+#define TWKB_MOST_SLOTS 4
+
+/* Writes a directory of the layer to `slots`, which has room for `room` slots, and returns how many slots it has: at most
+ * TWKB_MOST_SLOTS for each blob. `room` must be at least that many for each blob, even where fewer slots would do. If it is less,
+ * nothing is written, and the result is TWKB_MOST_SLOTS for each blob, which is more than `room`. What is after the slots is
+ * unchanged. */
 size_t twkb_directory_build(const struct twkb_layer *layer, struct twkb_slot *slots, size_t room);
 
 /* Scans as twkb_scan does, and reads as many bytes as if the blobs whose box misses the window weren't there. The slots are those

@@ -11,9 +11,9 @@ START = re.compile(r"(?:(abbrev|unfoldable) )?(pub )?(?:(record|data) )?(\S+)( :
 # A field of a record, or a constructor.
 FIELD = re.compile(r"^ +(?:pub )?(\S+) :(?: |$)", re.MULTILINE)
 # The first line of a group of definitions that name one another. They are indented by two spaces.
-GROUP = re.compile(r"(unfoldable )?mutual$")
+GROUP = re.compile(r"(?:(abbrev|unfoldable) )?mutual$")
 # A line that belongs to the definition below it: a comment, but not a heading; a fixity; the first line of a group.
-ABOVE = re.compile(r"\s*(--(?! ----)|infix|(unfoldable )?mutual$)")
+ABOVE = re.compile(r"\s*(--(?! ----)|infix|((abbrev|unfoldable) )?mutual$)")
 # Folders of `specs/` for definitions that only private contracts use, of this crate or also of crates that use it.
 DEVICES, SHARED = "Devices", "Shared"
 
@@ -24,7 +24,7 @@ class Definition:
     def __init__(self, path, module, lines, start, group):
         keyword, public, kind, name, _ = start.groups()
         self.path, self.module, self.name, self.key, self.lines = path, module, name, f"{module}.{name}", lines
-        is_unfolded = group.startswith("unfoldable") if group else bool(keyword)
+        is_unfolded = bool(GROUP.match(group)[1]) if group else bool(keyword)
         self.kind = kind or ("function" if is_unfolded else "law")
         self.is_public = bool(public)
         # The names that it defines: its own and its constructors.

@@ -110,10 +110,10 @@ class Layer:
         return self.directory().scan_many(windows)
 
     def directory(self) -> "Directory":
-        """A directory, which takes 80 bytes a blob. Its scans read as many bytes as if the blobs whose box misses the window
+        """A directory, which takes 96 bytes a blob. Its scans read as many bytes as if the blobs whose box misses the window
         weren't there."""
         layer = self._open
-        slots = (_library.Slot * (2 * layer.blobs))()
+        slots = (_library.Slot * (_library.MOST_SLOTS * layer.blobs))()
         count = library.twkb_directory_build(ctypes.byref(layer), slots, len(slots))
         made = Directory.__new__(Directory)
         made._layer, made._slots, made._count = self, slots, count

@@ -59,7 +59,11 @@ class Scanned(ctypes.Structure):
 
 
 class Slot(ctypes.Structure):
-    _fields_ = [("word", c_uint64), ("first", c_int64 * 2), ("second", c_int64 * 2)]
+    _fields_ = [("word", c_uint64), ("first", c_uint64), ("second", c_uint64)]
+
+
+# How many slots a blob has at most: TWKB_MOST_SLOTS of the header.
+MOST_SLOTS = 4
 
 
 # The numbers of a row and of a hit, for reading many of them at once.
@@ -75,7 +79,7 @@ _SIZES = (
     (Window, 136),
     (Hit, 24),
     (Scanned, 16),
-    (Slot, 40),
+    (Slot, 24),
 )
 
 _BYTES, _TEXT, _HITS = (c_void_p, c_size_t), (c_char_p, c_size_t), (POINTER(Hit), c_size_t)

@@ -110,12 +110,12 @@ pub(crate) struct Slots(Vec<ffi::Slot>);
 impl Slots {
     pub(crate) fn of(layer: &Layer<'_>) -> Result<Slots, TryReserveError> {
         let mut slots = Vec::new();
-        // A blob takes a byte at least, and no slice has more than 2^63 - 1: so this doesn't overflow.
-        slots.try_reserve_exact(2 * layer.blobs())?;
+        // A blob takes two bytes at least, and no slice has more than 2^63 - 1: so this doesn't overflow.
+        slots.try_reserve_exact(ffi::MOST_SLOTS * layer.blobs())?;
         let room: &mut [MaybeUninit<ffi::Slot>] = slots.spare_capacity_mut();
         // Sound: the layer is certified, and the room is the vector's own; it is written and never read.
         let count = unsafe { ffi::twkb_directory_build(&layer.lent(), room.as_mut_ptr().cast(), room.len()) };
-        assert!(count <= room.len(), "two slots for each blob are enough");
+        assert!(count <= room.len(), "the room is for the most that blobs can take");
         // Sound: the library has written as many slots as it answers, as there was room for them.
         unsafe { slots.set_len(count) };
         Ok(Slots(slots))

@@ -62,9 +62,12 @@ pub(crate) struct Window {
 #[derive(Clone, Copy)]
 pub(crate) struct Slot {
     pub(crate) word: u64,
-    pub(crate) first: [i64; 2],
-    pub(crate) second: [i64; 2],
+    pub(crate) first: u64,
+    pub(crate) second: u64,
 }
+
+/// How many slots a blob has at most: `TWKB_MOST_SLOTS` of the header.
+pub(crate) const MOST_SLOTS: usize = 4;
 
 extern "C" {
     pub(crate) fn twkb_certify(bytes: *const u8, len: usize) -> Verdict;

@@ -166,7 +166,7 @@ impl<'a> Layer<'a> {
     ///
     /// # Errors
     ///
-    /// If there is no memory for it: it takes 80 bytes for each blob.
+    /// If there is no memory for it: it takes 96 bytes for each blob.
     pub fn directory(&self) -> Result<Directory<'a>, TryReserveError> {
         Directory::of(*self)
     }

@@ -45,7 +45,7 @@
 //!
 //! Certifying takes time in proportion to the bytes, and memory only for a list of more than sixteen ids, while it
 //! reads it. A scan reads the header of each blob, and the rest of those that it can't skip. For many windows, build a
-//! [`Directory`]: it takes 80 bytes for each blob, and its scans read as many bytes as if the blobs whose box misses the
+//! [`Directory`]: it takes 96 bytes for each blob, and its scans read as many bytes as if the blobs whose box misses the
 //! window weren't there. [`Layer::scan_into`] takes no memory at all. If there is no memory, a call returns an error. Only
 //! a clone that copies bytes, slots or hits ends the program then, as the clone of a `Vec` does.
 //!

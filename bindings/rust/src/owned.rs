@@ -70,7 +70,7 @@ impl<B: FixedBytes> OwnedLayer<B> {
     ///
     /// # Errors
     ///
-    /// If there is no memory for it: it takes 80 bytes for each blob. The layer is then dropped.
+    /// If there is no memory for it: it takes 96 bytes for each blob. The layer is then dropped.
     pub fn into_directory(self) -> Result<OwnedDirectory<B>, TryReserveError> {
         let slots = Slots::of(&self.layer())?;
         Ok(OwnedDirectory { layer: self, slots })

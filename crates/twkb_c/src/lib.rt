@@ -5,7 +5,7 @@
 //! so any number of threads may call at once.
 #![tactic(auto)]
 
-ghost use Rattle.std.specs.Prelude.{◌≡◌, ◌≢◌, ◌+◌, ◌*◌, ◌<◌, ◌≤◌, if◌then◌else◌, true, false, List, length, map, take, drop, sum_by, ◌⊎◌};
+ghost use Rattle.std.specs.Prelude.{◌≡◌, ◌≢◌, ◌+◌, ◌*◌, ◌<◌, ◌≤◌, if◌then◌else◌, true, false, List, length, map, take, drop, min, sum_by, ◌⊎◌};
 ghost use Rattle.twkb_num.specs.Cursor.{added};
 ghost use Rattle.twkb_head.specs.declared.boxes.Bounds.{Bounds};
 ghost use Rattle.twkb_body.specs.Claims.{IsTrueClaim};
@@ -26,7 +26,7 @@ ghost use Rattle.twkb_call.specs.Verdict.{Says};
 ghost use Rattle.twkb_call.specs.Window.{ranges_of, span_from};
 
 use std::alloc::Global;
-use twkb_call::{Hit, Layer, Name, Range, Row, Scanned, Slot, Verdict, Window};
+use twkb_call::{Hit, Layer, MOST_SLOTS, Name, Range, Row, Scanned, Slot, Verdict, Window};
 
 /// Certifies the bytes as a layer. The verdict's answer is 0 if they are a layer, 1 if they aren't, with the first fault, or 2 if
 /// memory ran out.
@@ -103,17 +103,19 @@ pub extern "C" fn twkb_scan(layer: &Layer, window: &Window, room: &mut [Hit]) ->
     twkb_call::scan(layer, window, room)
 }
 
-/// Writes a directory of the layer to `room`, and returns how many slots it has: at most two for each blob. `room` must have two
-/// places for each blob, even where fewer would do. If it has fewer, it is left as it was, and the result is two for each blob,
-/// which is more than `room` has. The places after the slots are unchanged.
+/// Writes a directory of the layer to `room`, and returns how many slots it has: at most [`MOST_SLOTS`] for each blob. `room` must
+/// have that many places for each blob, even where fewer would do. If it has fewer, it is left as it was, and the result is the
+/// number of places that it must have, or `usize::MAX` if that is more. The places after the slots are unchanged.
 #[unsafe(no_mangle)]
 pub extern "C" fn twkb_directory_build(layer: &Layer, room: &mut [Slot]) -> usize
     requires { IsCounted layer.now.bytes.now layer.now.blobs layer.now.vertices }
     ensures directory { result ≤ length room.old
         → IsDirectoryOf (entries_kept (take result room.new)) layer.now.bytes.now }
     ensures fits { OfLayer layer.now.bytes.now (λ trees.
-        2 * length trees ≤ length room.old → result ≤ length room.old) }
-    ensures few { OfLayer layer.now.bytes.now (λ trees. result ≤ 2 * length trees) }
+        MOST_SLOTS * length trees ≤ length room.old → result ≤ length room.old) }
+    ensures few { OfLayer layer.now.bytes.now (λ trees. result ≤ MOST_SLOTS * length trees) }
+    ensures wanted { OfLayer layer.now.bytes.now (λ trees.
+        length room.old < MOST_SLOTS * length trees → result ≡ min (MOST_SLOTS * length trees) usize.MAX) }
     ensures kept { length room.old < result → room.new ≡ room.old }
     ensures rest { drop result room.new ≡ drop result room.old }
 {

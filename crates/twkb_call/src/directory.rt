@@ -1,6 +1,6 @@
 //! Directories of layers in memory that the caller lends, and scans with them for one window or for many. `twkb_c` exports them.
 //! Used by other crates.
-ghost use Rattle.std.specs.Prelude.{◌≡◌, ◌+◌, ◌*◌, ◌<◌, ◌≤◌, length, map, take, drop, sum_by, slice_set};
+ghost use Rattle.std.specs.Prelude.{◌≡◌, ◌+◌, ◌*◌, ◌<◌, ◌≤◌, length, map, min, take, drop, sum_by, slice_set};
 ghost use Rattle.twkb_num.specs.Cursor.{added};
 ghost use Rattle.twkb_layer.specs.Directory.{IsDirectoryOf, directory_cost};
 ghost use Rattle.twkb_layer.specs.Hits.{hits, found_blobs, filled};
@@ -12,22 +12,24 @@ ghost use Rattle.twkb_call.specs.Window.{ranges_of};
 use crate::layer::Layer;
 use crate::scans::{Hit, Scanned};
 use crate::window::Window;
-use twkb_layer::Slot;
+use twkb_layer::{MOST_SLOTS, Slot};
 
 const SIZE: usize = std::mem::size_of::<Slot>();
 
-const _: () = prove!(SIZE == 40);
+const _: () = prove!(SIZE == 24);
 
-/// Writes a directory of the layer to `room`, and returns how many slots it has: at most two for each blob. `room` must have two
-/// places for each blob, even where fewer would do. If it has fewer, it is left as it was, and the result is two for each blob,
-/// which is more than `room` has. The places after the slots are unchanged.
+/// Writes a directory of the layer to `room`, and returns how many slots it has: at most [`MOST_SLOTS`] for each blob. `room` must
+/// have that many places for each blob, even where fewer would do. If it has fewer, it is left as it was, and the result is the
+/// number of places that it must have, or `usize::MAX` if that is more. The places after the slots are unchanged.
 pub fn build_directory(layer: &Layer, room: &mut [Slot]) -> usize
     requires { IsCounted layer.now.bytes.now layer.now.blobs layer.now.vertices }
     ensures directory { result ≤ length room.old
         → IsDirectoryOf (entries_kept (take result room.new)) layer.now.bytes.now }
     ensures fits { OfLayer layer.now.bytes.now (λ trees.
-        2 * length trees ≤ length room.old → result ≤ length room.old) }
-    ensures few { OfLayer layer.now.bytes.now (λ trees. result ≤ 2 * length trees) }
+        MOST_SLOTS * length trees ≤ length room.old → result ≤ length room.old) }
+    ensures few { OfLayer layer.now.bytes.now (λ trees. result ≤ MOST_SLOTS * length trees) }
+    ensures wanted { OfLayer layer.now.bytes.now (λ trees.
+        length room.old < MOST_SLOTS * length trees → result ≡ min (MOST_SLOTS * length trees) usize.MAX) }
     ensures kept { length room.old < result → room.new ≡ room.old }
     ensures rest { drop result room.new ≡ drop result room.old }
 {

@@ -20,6 +20,6 @@ pub use layer::Layer;
 pub use names::{Name, answer_name, kind_name, type_name};
 pub use rows::{Row, list};
 pub use scans::{Hit, Scanned, scan};
-pub use twkb_layer::{AuditRoom, Slot};
+pub use twkb_layer::{AuditRoom, MOST_SLOTS, Slot};
 pub use verdict::{Verdict, certify, certify_tight};
 pub use window::{Range, Units, Window, parse_window, span_of_decimals};

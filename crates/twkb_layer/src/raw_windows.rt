@@ -178,18 +178,6 @@ impl<'w> RawWindows<'w> {
         let raw = self.at((axes.xy + 8) as usize);
         raw.misses(b.x.ends(), b.y.ends()) || self.misses_in_z_or_m(axes, *b)
     }
-
-    /// Whether the box misses the window. It is compared in units if its numbers are far from zero.
-    #[inline(always)]
-    pub fn misses_anywhere(&self, axes: Axes, b: &RawBox) -> bool
-        requires { HavePrecisions axes }
-        ensures { result ≡ box_misses self.now (raw_bounds axes.xy axes.z axes.m b.now) }
-    {
-        if b.is_near() {
-            self.misses(axes, b)
-        } else {
-            self.window.misses(&b.in_units(axes))
-        }
     }
 
     /// Whether the box misses the window in Z or in M. It doesn't if the box has neither, or the window bounds neither.

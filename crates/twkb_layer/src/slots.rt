@@ -1,7 +1,6 @@
 //! [`Slot`], 24 bytes of a directory: of a blob one slot says all, or four do.
 //! Used by other crates, and here by `certified`, `directory`, `entry`, `placing` and `scans`.
-ghost use Rattle.std.specs.Prelude.{◌≡◌, ◌%◌, ◌<◌, ◌≤◌, ◌-ℤ◌, nat_lt, pos, if◌then◌else◌, [], ◌∷◌, IfSome, Some, None};
-ghost use Rattle.std.specs.Int.{w32, cast_signed};
+ghost use Rattle.std.specs.Prelude.{◌≡◌, ◌%◌, ◌<◌, ◌≤◌, ◌-ℤ◌, nat_lt, pos, if◌then◌else◌, [], ◌∷◌, ◌^◌, IfSome, Some, None};
 ghost use Rattle.twkb_num.specs.Units.{IsPrecision};
 ghost use Rattle.twkb_head.specs.Raw.{HavePrecisions, ends_of, raw_bounds};
 ghost use Rattle.twkb_layer.specs.Devices.RawWindows.{AreInner};
@@ -38,7 +37,7 @@ pub struct Slot {
     /// In the first slot of a blob, from the lowest bit on: four bits of the precision of X and Y, plus 8; whether there is a box;
     /// whether the blob takes four slots; and if it takes one, its offset. Of four slots, the second has the offset, and the third
     /// and the fourth have the precisions of Z and M, or [`NO_AXIS`].
-    word: u64,
+    pub(crate) word: u64,
     /// The least end in X, and above it the greatest one; of four slots, the minimum of a range.
     first: u64,
     /// The least end in Y, and above it the greatest one; of four slots, the extent of a range.
@@ -146,14 +145,6 @@ impl Slot {
                 .misses(ends(self.first), ends(self.second))
     }
 
-    /// The number in the word, which is the offset in the second of four slots.
-    #[inline(always)]
-    pub(crate) fn word(&self) -> usize
-        ensures { result ≡ self.now.word }
-    {
-        self.word as usize
-    }
-
     /// The range of an axis, in one of four slots.
     #[inline(always)]
     pub(crate) fn range(&self) -> RawRange
@@ -233,21 +224,22 @@ fn axis_word(precision: Option<u8>) -> u64
 fn short_ends(range: &RawRange) -> Option<u64>
     ensures { IfSome result (λ number. ends_in number ≡ ends_of range.now) }
 {
-    let least = short(range.minimum)?;
-    let greatest = short(range.minimum.checked_add(range.extent)?)?;
-    Some(u64::from(least) + HALF * u64::from(greatest))
-}
-
-/// The 32 bits of a number, if it fits them.
-#[inline(always)]
-fn short(number: i64) -> Option<u32>
-    ensures { IfSome result (λ bits. cast_signed w32 bits ≡ number) }
-{
-    if i64::from(i32::MIN) <= number && number <= i64::from(i32::MAX) {
-        Some((number as i32).cast_unsigned())
+    let number = low(range.minimum) + HALF * low(range.minimum.wrapping_add(range.extent));
+    // What was kept is compared, so that neither a sum nor its bits have to be judged before.
+    let (least, greatest) = ends(number);
+    if least == range.minimum && greatest - least == range.extent {
+        Some(number)
     } else {
         None
     }
+}
+
+/// The lowest 32 bits of a number.
+#[inline(always)]
+fn low(number: i64) -> u64
+    ensures { result < 2 ^ 32 }
+{
+    number.cast_unsigned() % HALF
 }
 
 /// Two ends of 32 bits, from one number.

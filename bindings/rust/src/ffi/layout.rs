@@ -51,6 +51,5 @@ laid_out!(32, Span { lo: units(1), hi: units(3) }, u64: 0 is 1, i64: 8 is 2, u64
 laid_out!(136, Window { x: span(1), y: span(5), z: span(9), m: span(13), has_z: true, has_m: false },
     u64: 0 is 1, u64: 32 is 5, u64: 64 is 9, u64: 96 is 13, u8: 128 is 1, u8: 129 is 0);
 laid_out!(24, Hit { blob: 1, offset: 2, bytes: 3 }, usize: 0 is 1, usize: 8 is 2, usize: 16 is 3);
-laid_out!(40, Slot { word: 1, first: [2, 3], second: [4, 5] },
-    u64: 0 is 1, i64: 8 is 2, i64: 16 is 3, i64: 24 is 4, i64: 32 is 5);
+laid_out!(24, Slot { word: 1, first: 2, second: 3 }, u64: 0 is 1, u64: 8 is 2, u64: 16 is 3);
 laid_out!(16, Scanned { hits: 1, bytes_read: 2 }, usize: 0 is 1, u64: 8 is 2);

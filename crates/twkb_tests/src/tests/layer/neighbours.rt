@@ -1,4 +1,4 @@
-//! Directories of blobs that share slots, and of neighbours that can't, against the plain reader.
+//! Directories of blobs that take one slot or four, next to one another, against the plain reader.
 ghost use Rattle.std.specs.Prelude.{◌≡◌};
 ghost use Rattle.twkb_layer.specs.Directory.{IsDirectoryOf};
 
@@ -14,7 +14,7 @@ use twkb_num::zigzag;
 
 /// A point at some X, and at 0 in Y.
 #[derive(Clone, Copy)]
-pub enum Point {
+enum Point {
     /// At precision 7, with a size and a box.
     Boxed(i64),
     /// At precision 6, with a size and a box.
@@ -47,7 +47,7 @@ impl Point {
     }
 
     /// Pushes the bytes of the point.
-    pub fn push(self, alloc: Global, bytes: &mut Vec<u8>) -> Result<(), Fail> {
+    fn push(self, alloc: Global, bytes: &mut Vec<u8>) -> Result<(), Fail> {
         let (first, x) = self.parts();
         let mut rest = Vec::new(alloc);
         if !matches!(self, Point::Bare(_)) {
@@ -86,7 +86,7 @@ fn push_number(bytes: &mut Vec<u8>, number: i64) -> Result<(), Fail> {
 }
 
 /// Scans with a directory agree with the plain reader, for windows around each point.
-pub fn agrees(rt: &impl Abort, alloc: Global, points: &[Point]) -> Result<(), Fail> {
+fn agrees(rt: &impl Abort, alloc: Global, points: &[Point]) -> Result<(), Fail> {
     let mut bytes = Vec::new(alloc);
     for point in points {
         point.push(alloc, &mut bytes)?;
@@ -98,7 +98,7 @@ pub fn agrees(rt: &impl Abort, alloc: Global, points: &[Point]) -> Result<(), Fa
 }
 
 /// Scans with a directory agree with the plain reader, for windows at this X, before it and after it.
-pub fn scans_agree(rt: &impl Abort, alloc: Global, bytes: &[u8], x: i128) {
+fn scans_agree(rt: &impl Abort, alloc: Global, bytes: &[u8], x: i128) {
     let mut layer = certified(rt, alloc, bytes);
     let plain = plain_layer(rt, alloc, bytes);
     let directory = Directory::build(alloc, &mut layer).expect(rt, "there is memory");
@@ -121,7 +121,7 @@ fn scan_agrees(
 }
 
 /// The first number that 32 bits with a sign don't hold.
-pub const TOP: i64 = 1 << 31;
+const TOP: i64 = 1 << 31;
 
 const NEAR_THE_ENDS: [i64; 6] = [-TOP - 1, -TOP, -TOP + 1, TOP - 2, TOP - 1, TOP];
 
@@ -181,29 +181,6 @@ fn neighbours(rt: HostRuntime) -> Result<(), Fail> {
                 agrees(&rt, rt.alloc(), &[first, second, third, first])?;
             }
         }
-    }
-    Ok(())
-}
-
-/// Pushes a line without a box that begins at X, and takes 2^18 bytes, or one less if X takes one byte.
-pub fn push_far_line(bytes: &mut Vec<u8>, x: i64) -> Result<(), Fail> {
-    bytes.extend_from_slice(&[0xE2, 0x00, 0xFD, 0xFF, 0x07])?;
-    push_number(bytes, x)?;
-    for _ in 0..262_137 {
-        bytes.push(0)?;
-    }
-    Ok(())
-}
-
-// A line that takes one byte less than 2^18, or as many, before a point. Its first X takes one byte or two.
-#[test]
-fn far_neighbours(rt: HostRuntime) -> Result<(), Fail> {
-    for x in [63, 64] {
-        let mut bytes = Vec::new(rt.alloc());
-        push_far_line(&mut bytes, x)?;
-        Point::Boxed(7).push(rt.alloc(), &mut bytes)?;
-        scans_agree(&rt, rt.alloc(), &bytes, i128::from(x));
-        scans_agree(&rt, rt.alloc(), &bytes, 7);
     }
     Ok(())
 }
