@@ -178,7 +178,6 @@ impl<'w> RawWindows<'w> {
         let raw = self.at((axes.xy + 8) as usize);
         raw.misses(b.x.ends(), b.y.ends()) || self.misses_in_z_or_m(axes, *b)
     }
-    }
 
     /// Whether the box misses the window in Z or in M. It doesn't if the box has neither, or the window bounds neither.
     #[inline(always)]
