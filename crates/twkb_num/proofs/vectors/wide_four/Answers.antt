@@ -4,7 +4,6 @@ use Rattle.std.specs.Int.{cast_signed}
 use Rattle.twkb_num.specs.Varint.{zigzag_value}
 use Rattle.twkb_num.specs.Devices.Lanes.{values}
 use Rattle.twkb_num.proofs.LaneLemmas.{first_tops, tops_of_front, second_tops, first_piece, second_piece, flag_place, lanes_spell, wide_values}
-use Rattle.twkb_num.proofs.LongLemmas.{long_of}
 use Rattle.twkb_num.proofs.vectors.wide_four.Goals as goal
 
 pub wide_two-first-requires-clause-tops : goal.wide_two-first-requires-clause-tops
@@ -27,6 +26,3 @@ returns-clause-spelled c short =
     let means : map (cast_signed w32) c.meant_wide.result ≡ map zigzag_value (ns ++ ms) = c.meant_wide.ensures.meaning ∙ ap (map zigzag_value) (wide_values _ _ _ both.low both.high) in
     lanes_spell bytes _ _ ns ms first.result.len second.result.len _ (first_piece bytes) (second_piece (first.result.len % 16) bytes)
     first.ensures.flag second.ensures.flag first.ensures.spelled second.ensures.spelled means short
-
-pub returns-clause-long : goal.returns-clause-long
-returns-clause-long c = long_of 4 c.args.bytes.now _ _ _ _ (first_piece c.args.bytes.now) (second_piece _ c.args.bytes.now) c.wide_two-first.ensures.flag c.wide_two-second.ensures.flag c.wide_two-first.ensures.long c.wide_two-second.ensures.long
