@@ -41,6 +41,6 @@ mod varint;
 mod vectors;
 
 pub use cursor::{Cursor, Prefetch, TYPE_AND_FIELDS, TakePoints};
-pub use scale::{coordinate_of, units};
+pub use scale::units;
 pub use signed::{unzigzag, zigzag};
 pub use varint::NumFault;

@@ -58,8 +58,8 @@ pub fn wide_four(bytes: &[u8; 32]) -> Wide
 #[inline(always)]
 pub fn wide_pair(bytes: &[u8; 16]) -> Wide
     ensures few { result.len < 128 → result.len ≤ 8 }
-    ensures spelled { (x y : ℤ) (others : List ℤ) → map (cast_signed w32) result.lanes ≡ x ∷ y ∷ others
-        → result.len < 128 → SpellsAllSigned (take result.len bytes.now) (x ∷ y ∷ []) }
+    ensures spelled { result.len < 128
+        → SpellsAllSigned (take result.len bytes.now) (take 2 (map (cast_signed w32) result.lanes)) }
     ensures short { All IsShort (map (cast_signed w32) result.lanes) }
 {
     let v = u8x16::from_slice(bytes);
@@ -204,8 +204,7 @@ pub fn tops_of_16(bytes: &[u8; 32]) -> u64
 /// Bit i is the top bit of byte i, which is set where a varint goes on.
 #[inline(always)]
 fn continuation_bits(v: u8x16) -> u64
-    ensures few { result < 65536 }
-    ensures tops { IsTops 16 result v }
+    ensures { IsTops 16 result v }
 {
     v.simd_ge(u8x16::splat(128)).to_bitmask() % 65536
 }
