@@ -10,7 +10,7 @@ use Rattle.twkb_num.specs.Cursor.{Reading, passed, IsMoved, IsSound}
 use Rattle.twkb_num.specs.Runs.{PassesRuns, PassesCountedRuns}
 use Rattle.twkb_num.specs.Varint.{Spells, SpellsAll, zigzag_value, SpellsMany}
 use Rattle.twkb_num.proofs.CursorLemmas.{IsMoved-here, IsMoved-after, IsSound-moved}
-use Rattle.twkb_num.proofs.PairLaws.{IsMoved-two}
+use Rattle.twkb_num.proofs.CursorLemmas.{IsMoved-two}
 use Rattle.twkb_head.specs.declared.kinds.Kind.{Kind}
 use Rattle.twkb_head.specs.Shared.Reader.{Answer, Reader, ◌>>=◌, viewed, number_at, many_at, coordinate_at}
 use Rattle.twkb_head.proofs.Steps.{read_number, read_signed, coordinate_ok, fits_true}

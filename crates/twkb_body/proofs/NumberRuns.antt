@@ -25,7 +25,7 @@ use Rattle.twkb_num.specs.Numbers.{ReadsNumbers, StopsAt, StopsReading}
 use Rattle.twkb_num.specs.Varint.{IsSigned, SpellsAllSigned}
 use Rattle.twkb_num.specs.declared.varint.NumFault.{NumFault}
 use Rattle.twkb_num.proofs.CursorLemmas.{IsSound-moved}
-use Rattle.twkb_num.proofs.PairLaws.{IsMoved-two}
+use Rattle.twkb_num.proofs.CursorLemmas.{IsMoved-two}
 use Rattle.twkb_head.specs.Shared.Plan.{fits}
 use Rattle.twkb_head.specs.Shared.Reader.{Answer, many_at, signed_at, coordinate_at}
 use Rattle.twkb_head.specs.declared.refusal.Why.TheVariants.{Range}

@@ -5,7 +5,7 @@ use Rattle.std.proofs.lemmas.Grind.{common_steps}
 use Rattle.twkb_num.specs.Cursor.{Reading, passed, IsMoved, IsSound}
 use Rattle.twkb_num.specs.Varint.{SpellsMany, zigzag_value}
 use Rattle.twkb_num.proofs.CursorLemmas.{IsMoved-here, IsSound-moved}
-use Rattle.twkb_num.proofs.PairLaws.{IsMoved-two}
+use Rattle.twkb_num.proofs.CursorLemmas.{IsMoved-two}
 use Rattle.twkb_num.proofs.WordLemmas.{one_byte_spells}
 use Rattle.twkb_head.specs.declared.header.SizeField.{SizeField}
 use Rattle.twkb_head.specs.declared.kinds.Kind.TheVariants.{Point}

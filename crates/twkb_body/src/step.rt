@@ -15,8 +15,8 @@ use crate::known::two_ranges;
 use crate::varints::take_number;
 use crate::visit::Visit;
 use twkb_head::{
-    Axes, Begun, BoxCalled, BoxInlined, Fields, Kind, RangeReader, RawBox, RawRange, begun_as, begun_by,
-    take_rest,
+    Axes, Begun, BoxCalled, BoxInlined, Fields, Kind, RangeReader, RawBox, RawRange, begun_as,
+    begun_by, take_rest,
 };
 use twkb_num::Cursor;
 
@@ -86,11 +86,7 @@ fn enter_apart<V: Visit>(
 
 /// Enters a geometry whose first two bytes were read, and reads its box by `B`.
 #[inline(always)]
-fn enter_begun<B: RangeReader, V: Visit>(
-    cursor: &mut Cursor,
-    begun: Begun,
-    visitor: &mut V,
-) -> u64
+fn enter_begun<B: RangeReader, V: Visit>(cursor: &mut Cursor, begun: Begun, visitor: &mut V) -> u64
     requires xy { IsPrecision begun.xy }
     requires come { IsThere (HasCome begun cursor.old) }
     ensures { Enters V.step V.passes (HasCome begun cursor.old)

@@ -3,7 +3,7 @@ use Rattle.std.proofs.Common.{◌≡◌, ℕ, ◌+◌, ◌-◌, ◌/◌, ◌%◌
 use Rattle.std.proofs.lemmas.Grind.{common_steps}
 use Rattle.twkb_num.specs.Cursor.{Reading, passed, IsMoved, IsSound}
 use Rattle.twkb_num.specs.Varint.{zigzag_value}
-use Rattle.twkb_num.proofs.PairLaws.{IsMoved-two}
+use Rattle.twkb_num.proofs.CursorLemmas.{IsMoved-two}
 use Rattle.twkb_head.specs.Header.{code_of, has_bit, has_ids, z_in, m_in}
 use Rattle.twkb_head.specs.Shared.Reader.{Answer, ◌>>=◌, viewed, number_at, optional_at, range_from}
 use Rattle.twkb_head.specs.Devices.HeadReader.{byte_at, head_with, bounds_from, head_at, size_and_box_at, rest_at}

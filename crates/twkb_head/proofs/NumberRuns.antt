@@ -7,7 +7,7 @@ use Rattle.twkb_num.specs.Cursor.{Reading, passed, rest, counted}
 use Rattle.twkb_num.specs.Numbers.{ReadsNumbers, StopsReading, StopsAt}
 use Rattle.twkb_num.specs.Varint.{IsSigned, SpellsAllSigned, Faults, looked_at}
 use Rattle.twkb_num.specs.declared.varint.NumFault.{NumFault}
-use Rattle.twkb_num.proofs.PairLaws.{IsMoved-two}
+use Rattle.twkb_num.proofs.CursorLemmas.{IsMoved-two}
 use Rattle.twkb_head.specs.Shared.Reader.{signed_at, range_from}
 use Rattle.twkb_head.specs.Devices.HeadReader.{two_ranges_from}
 use Rattle.twkb_head.specs.Raw.{ends_of}

@@ -1,12 +1,11 @@
 -- The first end among eight bytes, by the lowest bit of a word.
-use Rattle.std.proofs.Common.{◌≡◌, ℕ, zero, suc, ◌+◌, ◌-◌, ◌*◌, ◌/◌, ◌^◌, ◌<◌, ◌≤◌, List, length, take, drop, slice_index, slice_range, ap, ap₂, ◌∙◌, refl, ◌⊎◌, inl, inr, arith}
+use Rattle.std.proofs.Common.{◌≡◌, ℕ, zero, suc, ◌+◌, ◌-◌, ◌*◌, ◌/◌, ◌^◌, ◌<◌, ◌≤◌, List, slice_index, ap, ap₂, ◌∙◌, refl, ◌⊎◌, inl, inr, arith}
 use Rattle.std.specs.Int.{Width, w64, from_le_bytes, bit_at, trailing_zeros}
 use mir.Val.{bits}
 use Rattle.std.specs.Int.Bits.{bit_and}
 use Rattle.std.proofs.lemmas.Nat.{and_block, pow_pos}
 use Rattle.std.proofs.lemmas.Nat.Bits.{bit_at_cat_low, bit_at-pow_same, bit_at-pow_other, bit_at-trailing_zeros}
 use Rattle.std.proofs.lemmas.Bool.{cases_lt}
-use Rattle.std.proofs.lemmas.Grind.{common_steps}
 use Rattle.twkb_num.proofs.WordLemmas.{tops_4}
 use Rattle.twkb_num.specs.Devices.Ends.{ended, four_bytes, eight_bytes}
 
@@ -143,14 +142,3 @@ module _ (f : ℕ → ℕ) (n : ℕ) (bound : (k : ℕ) → k < 8 → f k ≤ 1)
   all_zero none (suc (suc (suc (suc (suc (suc zero)))))) h = omega (arith, is, none)
   all_zero none (suc (suc (suc (suc (suc (suc (suc zero))))))) h = omega (arith, is, none)
   all_zero none (suc (suc (suc (suc (suc (suc (suc (suc k)))))))) h = absurd (omega (arith, h))
-
--- the bytes from a place on, as a slice
-from_place : (bytes : List ℕ) (place : ℕ) → slice_range bytes place (length bytes) ≡ drop place bytes
-from_place bytes place = grind (arith, common_steps)
-
--- the first n bytes from a place on, and whether there are as many
-pub chunk_at : (n : ℕ) (bytes chunk : List ℕ) (place : ℕ) → chunk ≡ take n (slice_range bytes place (length bytes)) → chunk ≡ take n (drop place bytes)
-chunk_at n bytes chunk place same = same ∙ ap (take n) (from_place bytes place)
-
-pub few_at : (n : ℕ) (bytes : List ℕ) (place : ℕ) → length (slice_range bytes place (length bytes)) < n → length (drop place bytes) < n
-few_at n bytes place few = rw (from_place bytes place) at few

@@ -12,7 +12,7 @@ use mir.Syntax.{Width}
 use mir.Val.{bits, hbits}
 use lib.Lanes.{zip2, sel_l, top, number_l, digits_l}
 use Rattle.std.proofs.lemmas.Simd.{zip2_of_maps, splat_is_map, map-map, tops_compared}
-use Rattle.twkb_num.specs.Varint.{zigzag_value, IsBrief}
+use Rattle.twkb_num.specs.Varint.{zigzag_value, IsBrief, IsShort}
 use Rattle.twkb_num.specs.Devices.Lanes.{value_at, values}
 
 -- the groups of seven bits of two bytes, joined
@@ -106,6 +106,14 @@ brief_number n h =
     elim (cases_lt (n % 2) 1) [
       | inl even ↦ subst IsBrief (sym (cond-true (eqb (n % 2) 0) (pos (n / 2)) _ (eq-eqb (n % 2) 0 (omega (arith, even))))) (search (arith, ints), search (arith, ints, h))
       | inr odd ↦ subst IsBrief (sym (cond-false (eqb (n % 2) 0) _ (neg_ℤ (pos ((n + 1) / 2))) (ne_eqb (n % 2) 0 (λ e. omega (arith, e, odd))))) (search (arith, ints, h), search (arith, ints, h))
+    ]
+
+-- a number below 2^28 means a short one by zigzag
+pub short_number : (n : ℕ) → n < 2 ^ 28 → IsShort (zigzag_value n)
+short_number n h =
+    elim (cases_lt (n % 2) 1) [
+      | inl even ↦ subst IsShort (sym (cond-true (eqb (n % 2) 0) (pos (n / 2)) _ (eq-eqb (n % 2) 0 (omega (arith, even))))) (search (arith, ints), search (arith, ints, h))
+      | inr odd ↦ subst IsShort (sym (cond-false (eqb (n % 2) 0) _ (neg_ℤ (pos ((n + 1) / 2))) (ne_eqb (n % 2) 0 (λ e. omega (arith, e, odd))))) (search (arith, ints, h), search (arith, ints, h))
     ]
 
 -- a property holds of what all these numbers mean by zigzag, if it holds for the number at each place

@@ -155,15 +155,12 @@ value_same xs ys s same (suc n) i h =
     omega (arith, same i (omega (arith, h)), ap (value_at n xs) next, value_same xs ys s same n (suc i) (omega (arith, h)))
 
 -- one row of numbers that fit their lanes spells what the first two lanes mean
-pub pair_spelled : (bytes v lanes : List ℕ) (len : ℕ) (zs others : List ℤ) (x y : ℤ) → v ≡ take 16 bytes → IsFlag len → len < 128 → SpellsAll (take len v) (values 4 2 lanes 0)
-    → zs ≡ map zigzag_value (values 4 4 lanes 0) → zs ≡ x ∷ y ∷ others → SpellsAllSigned (take len bytes) (x ∷ y ∷ [])
-pair_spelled bytes v lanes len zs others x y v_is flag short spelled means is =
+pub pair_spelled : (bytes v lanes : List ℕ) (len : ℕ) (zs : List ℤ) → v ≡ take 16 bytes → IsFlag len → len < 128 → SpellsAll (take len v) (values 4 2 lanes 0)
+    → zs ≡ map zigzag_value (values 4 4 lanes 0) → SpellsAllSigned (take len bytes) (take 2 zs)
+pair_spelled bytes v lanes len zs v_is flag short spelled means =
     let few = flag_short len flag short in
-    let both : x ∷ y ∷ others ≡ map zigzag_value (values 4 4 lanes 0) = sym is ∙ means in
-    let first : x ≡ zigzag_value (value_at 4 lanes 0) = cc (both) in
-    let second : y ≡ zigzag_value (value_at 4 lanes 4) = cc (both) in
     let all = signed_all (take len bytes) (values 4 2 lanes 0) (at_front bytes v (values 4 2 lanes 0) len v_is (omega (arith, few)) spelled) in
-    subst (λ (p : ℤ × ℤ). SpellsAllSigned (take len bytes) (p.0 ∷ p.1 ∷ [])) (λ j. (sym first j, sym second j)) all
+    subst (λ (ns : List ℤ). SpellsAllSigned (take len bytes) (take 2 ns)) (sym means) all
 
 -- a lane of two bytes
 narrow_lane : (a b : ℕ) → a < 256 → b < 256 → two_groups (a + 256 * (b + 256 * 0)) ≡ a % 128 + 128 * (b % 128 + 128 * 0)

@@ -9,7 +9,6 @@ use Rattle.std.proofs.lemmas.Nat.{and_block, and_mask}
 use Rattle.twkb_num.specs.Varint.{SpellsMany}
 use Rattle.twkb_num.specs.Point.{IsShortPoint}
 use Rattle.twkb_num.specs.Devices.Ends.{EndsOnce}
-use Rattle.twkb_num.proofs.ToldLemmas.{once_in_front}
 
 -- the bits of two bytes that tell the kind and the announced fields
 kind_and_fields : (first metadata : ℕ) → first < 256 → bit_and (first + 256 * metadata) 0x1f0f ≡ first % 16 + 256 * (metadata % 32)
@@ -51,6 +50,12 @@ three_are [] some = absurd (omega (arith, some))
 three_are (a ∷ []) some = absurd (omega (arith, some))
 three_are (a ∷ b ∷ []) some = absurd (omega (arith, some))
 three_are (a ∷ b ∷ c ∷ bs) some = refl
+
+-- if at most one of the first eight bytes ends a varint, this holds of all bytes
+once_in_front : (bytes chunk : List ℕ) → chunk ≡ take 8 bytes → EndsOnce chunk → EndsOnce bytes
+once_in_front bytes chunk is h =
+    let at : (k : ℕ) → k < 8 → slice_index chunk k ≡ slice_index bytes k = λ k l. ap (λ x. slice_index x k) is ∙ get_or-take 8 bytes k 0 l in
+    λ i k before few ends. omega (arith, at k few, h i k before few (omega (arith, ends, at i (omega (arith, before, few)))))
 
 -- eleven bytes at a place
 module _ (bytes eleven : List ℕ) (place : ℕ) (eleven_is : eleven ≡ take 11 (slice_range bytes place (length bytes))) (enough : 11 ≤ length (slice_range bytes place (length bytes))) where

@@ -3,11 +3,19 @@ use Rattle.std.proofs.Common.{◌≡◌, ◌⊎◌, inl, inr, ℕ, ◌+◌, ◌-
 use Rattle.std.proofs.lemmas.List.{append-nil, append_assoc, take-append-drop, get_or_append_left, get_or-append-add}
 use Rattle.std.proofs.lemmas.Grind.{common_steps}
 use Rattle.twkb_num.specs.Cursor.{Reading, rest}
-use Rattle.twkb_num.specs.Varint.{SpellsTwo, SpellsAll, SpellsMany}
+use Rattle.twkb_num.specs.Varint.{Spells, SpellsAll, SpellsMany}
 use Rattle.twkb_num.specs.Point.{IsShortPoint, StartsWithShortPoint}
 use Rattle.twkb_num.specs.Devices.Ends.{EndsOnce}
 use Rattle.twkb_num.proofs.SpellingLaws.{Spells-unique}
 use Rattle.twkb_num.proofs.PointBytes.{TellsNoPoint}
+
+-- the bytes are a spelling of n followed by one of m
+record SpellsTwo (bytes : List ℕ) (n m : ℕ) : Type 0 where
+  front : List ℕ
+  behind : List ℕ
+  whole : bytes ≡ front ++ behind
+  first : Spells front n
+  second : Spells behind m
 
 -- a spelling of two numbers, in two parts
 abbrev InTwo : List ℕ → Type 0

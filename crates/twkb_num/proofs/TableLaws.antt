@@ -52,19 +52,3 @@ first_wide_flags = true_below (λ mask. is_flag (get_or FIRST_WIDE_LEN mask 0)) 
 
 pub three_narrow_flags : (mask : ℕ) → mask < 256 → is_flag (get_or THREE_NARROW_LEN mask 0) ≡ true
 three_narrow_flags = true_below (λ mask. is_flag (get_or THREE_NARROW_LEN mask 0)) 256 refl
-
--- n bits from a place on are set
-abbrev pub all_on : ℕ → ℕ → ℕ → Bool
-all_on zero mask at = true
-all_on (suc n) mask at = eqb (mask / 2 ^ at % 2) 1 && all_on n mask (suc at)
-
--- n bits are set from one of the first so many places on
-abbrev pub some_on : ℕ → ℕ → ℕ → Bool
-some_on n mask zero = false
-some_on n mask (suc at) = all_on n mask at || some_on n mask at
-
-pub wide_long : (mask : ℕ) → mask < 256 → cond (eqb (get_or WIDE_LEN mask 0) 128) (some_on 4 mask 5) true ≡ true
-wide_long = true_below (λ mask. cond (eqb (get_or WIDE_LEN mask 0) 128) (some_on 4 mask 5) true) 256 refl
-
-pub narrow_long : (mask : ℕ) → mask < 256 → cond (eqb (get_or NARROW_LEN mask 0) 128) (some_on 2 mask 7) true ≡ true
-narrow_long = true_below (λ mask. cond (eqb (get_or NARROW_LEN mask 0) 128) (some_on 2 mask 7) true) 256 refl

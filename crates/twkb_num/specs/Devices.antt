@@ -1,6 +1,4 @@
 -- Devices of proofs: contracts of private functions name them, and nothing public does.
 pub mod Varint
 pub mod Ends
-pub mod Word
 pub mod Lanes
-pub mod Pairs

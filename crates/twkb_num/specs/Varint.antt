@@ -46,18 +46,6 @@ zigzag_value n = if n % 2 == 0 then pos (n / 2) else neg_ℤ (pos ((n + 1) / 2))
 abbrev pub IsSigned : ℤ → List ℕ → Type 0
 IsSigned z bytes = (n : ℕ) × Spells bytes n × (zigzag_value n ≡ z)
 
--- the bytes are a spelling of n followed by one of m
-pub record SpellsTwo (bytes : List ℕ) (n m : ℕ) : Type 0 where
-  pub front : List ℕ
-  pub behind : List ℕ
-  pub whole : bytes ≡ front ++ behind
-  pub first : Spells front n
-  pub second : Spells behind m
-
--- the bytes spell a number that means x by zigzag, and then one that means y
-abbrev pub SpellsTwoSigned : List ℕ → ℤ → ℤ → Type 0
-SpellsTwoSigned bytes x y = (n m : ℕ) × SpellsTwo bytes n m × (zigzag_value n ≡ x) × (zigzag_value m ≡ y)
-
 -- the bytes spell these numbers, one after another
 abbrev pub SpellsAll : List ℕ → List ℕ → Type 0
 SpellsAll bytes [] = bytes ≡ []

@@ -1,7 +1,7 @@
 //! A cursor over bytes, which counts what it reads. Used by other crates.
 ghost use Rattle.std.specs.Prelude.{◌≡◌, ◌+◌, ◌-◌, ◌<◌, ◌≤◌, ◌^◌, ◌↔◌, ◌⊎◌, ℕ, ℤ, List, [], ◌∷◌, ◌++◌, length, take, false, IsNone, IfOk, IfErr, IfSome, IfNone, OnOk, OnSome};
 ghost use Rattle.twkb_num.specs.Cursor.{rest, passed, counted, IsMoved, IsSound};
-ghost use Rattle.twkb_num.specs.Varint.{SpellsMany, Spells, IsSigned, Faults, IsCut, looked_at, IsStuck, StopsBefore};
+ghost use Rattle.twkb_num.specs.Varint.{SpellsMany, Spells, IsSigned, Faults, IsCut, looked_at, StopsBefore};
 ghost use Rattle.twkb_num.specs.declared.varint.NumFault.TheVariants.{Cut};
 ghost use Rattle.twkb_num.specs.Devices.Varint.{IsBegunBy};
 
@@ -20,29 +20,19 @@ use std::marker::Model;
 /// read short numbers together and touch bytes after them, but neither a result, nor a place, nor a count depends on such a byte.
 /// So they tell nothing of bytes that aren't counted.
 ///
-/// Other calls read or pass numbers by words of eight bytes, such as [`Cursor::svarint_pair`], [`Cursor::pass_pair`] and
-/// [`Cursor::pass_varints`], or by vectors from the next 16 or 32 bytes, as [`Cursor::svarint_mixed_pair`] and
-/// [`Cursor::svarint_four`] do. They touch bytes after the numbers too, as reading a cache line does, but count only the bytes of
-/// the numbers. If such a call fails (returns `None`, or a result whose `is_read` is false) or passes fewer numbers than requested,
-/// its caller learns something about bytes that aren't counted: a number is too long for the call, the end is near, no point of
-/// the right form is there ([`Cursor::pass_short_point`]), or (the last two calls below) a count can't be read or is too large.
-/// This list says when a call may fail or stop early, and which clause says so. Where a call may fail, no clause says whether it
-/// does, except where the clause is `exact`; only the code shows that this choice tells nothing else. A byte *goes on* if it is at
-/// least 128.
+/// Four other calls pass numbers by words of eight bytes. They touch bytes after the numbers too, as reading a cache line does, but
+/// count only the bytes of the numbers. If such a call fails (returns `None`), its caller learns something about bytes that aren't
+/// counted: a number is too long for the call, the end is near, no point of the right form is there
+/// ([`Cursor::pass_short_point`]), or (the last two calls below) a count can't be read or is too large. This list says when a call
+/// may fail, and which clause says so. Where a call may fail, no clause says whether it does, except where the clause is `exact`;
+/// only the code shows that this choice tells nothing else. A byte *goes on* if it is at least 128.
 ///
-/// - [`Cursor::pass_pair`]: fewer than eight bytes are left, or the next eight don't begin with two varints (`told`).
 /// - [`Cursor::pass_short_point`]: fewer than eleven bytes are left, or the first two don't begin a point with no field or with a
 ///   size alone. Without a size, it may also be that at most one of the eight bytes after the first two ends a varint. With a size,
 ///   it may be that at most one of the eight after the third does, or that the first two varints there don't take as many bytes as
 ///   the third byte says (`exact`).
-/// - [`Cursor::svarint_pair`] and [`Cursor::svarint_mixed_pair`]: fewer than eight bytes are left, or four in a row of the next
-///   eight go on (`told`).
-/// - [`Cursor::svarint_two_pairs`]: fewer than sixteen bytes are left, or four in a row of the next sixteen go on (`told`).
-/// - [`Cursor::svarint_four`]: fewer than 32 bytes are left, or four in a row of the next sixteen go on (`told`).
-/// - [`Cursor::pass_varints`]: after the numbers that it passed fewer than eleven bytes are left, or four in a row of the next
-///   eleven go on (`stops`).
-/// - [`Cursor::pass_short_varints`]: fewer bytes are left than numbers were requested, or [`Cursor::pass_varints`] may stop after
-///   fewer numbers (`told`). At most 65,536 numbers may be requested.
+/// - [`Cursor::pass_short_varints`]: fewer bytes are left than numbers were requested, or after fewer numbers fewer than eleven
+///   bytes are left or four in a row of the next eleven go on (`told`). At most 65,536 numbers may be requested.
 /// - [`Cursor::pass_short_runs`]: after fewer runs than were requested, a count can't be read, or is greater than what is left of
 ///   `most`, or [`Cursor::pass_short_varints`] may fail at the run (`told`). It passes at most 65,536 numbers after their counts.
 /// - [`Cursor::pass_counted_runs`]: the number of runs can't be read or is greater than 65,536, or [`Cursor::pass_short_runs`]
@@ -157,6 +147,21 @@ impl<'a> Cursor<'a> {
         ensures { self.new ≡ self.old }
     {
         self.place = same;
+    }
+
+    // A copy for calls that keep it in registers, or that read all or nothing: it replaces the cursor, or is dropped with what it
+    // read.
+    #[inline(always)]
+    fn copied(&self) -> Cursor<'a>
+        ensures { result ≡ self.now }
+    {
+        Cursor {
+            bytes: self.bytes,
+            place: self.place,
+            start: self.start,
+            counted_before: self.counted_before,
+            touched: self.touched,
+        }
     }
 
     /// Reads the byte at the place. Returns `None` at the end.
@@ -279,18 +284,13 @@ impl<'a> Cursor<'a> {
         Ok(unzigzag(self.uvarint()?))
     }
 
-    /// Moves past at most `many` varints without decoding them, and returns how many it passed. It finds their ends in words of
-    /// eight bytes, and stops before a word that the bytes don't fill, or in one half of which no varint ends (in the first word:
-    /// in its first seven bytes, or in its second half). So each varint that it passes takes at most seven bytes.
-    ///
-    /// All bytes that it passes are counted. A result less than `many` tells something about the bytes after them, which aren't
-    /// counted: fewer than eleven are left, or four in a row of the next eleven are at least 128 (`stops`). The code stops at
-    /// most three bytes before a multiple of eight from the old place, and so tells that these are at least 128 too.
+    // Moves past at most `many` varints without decoding them, and returns how many it passed. It finds their ends in words of
+    // eight bytes, as `first_varints` says, so each varint that it passes takes at most seven bytes. A result less than `many` tells
+    // something of bytes that aren't counted, so this isn't for callers outside.
     #[inline(always)]
-    pub fn pass_varints(&mut self, many: u64) -> u64
+    fn pass_varints(&mut self, many: u64) -> u64
         ensures few { result ≤ many }
         ensures passed { SpellsMany (passed self.old self.new) result }
-        ensures stops { result < many → IsStuck 4 11 (rest self.new) }
         ensures moved { IsMoved self.old self.new }
     {
         let first = first_varints(&self.bytes[self.place..], many);
@@ -298,8 +298,10 @@ impl<'a> Cursor<'a> {
         first.many
     }
 
-    /// Moves past `many` varints, or past none: if [`Cursor::pass_varints`] would pass fewer, it returns `None`, and the cursor is
-    /// as it was. `None` tells this one bit of bytes that aren't counted. If fewer than `many` bytes are left, it looks at none.
+    /// Moves past `many` varints, or past none. It finds their ends in words of eight bytes, and returns `None`, with the cursor as
+    /// it was, if before the last one a word is not filled by the bytes, or no varint ends in one half of it (of the first word: in
+    /// its first seven bytes, or in its second half). So each varint that it passes takes at most seven bytes. `None` tells this one
+    /// bit of bytes that aren't counted. If fewer than `many` bytes are left, it looks at none.
     #[inline(always)]
     pub fn pass_short_varints(&mut self, many: u64) -> Option<()>
         requires { many ≤ 2 ^ 16 }
@@ -324,14 +326,12 @@ impl<'a> Cursor<'a> {
 mod lanes;
 mod numbers;
 mod pages;
-mod pairs;
 mod point;
 mod points;
 mod runs;
 #[cfg(test)]
 mod tests;
 
-pub use lanes::Four;
 pub use pages::Prefetch;
 pub use point::TYPE_AND_FIELDS;
 pub use points::TakePoints;

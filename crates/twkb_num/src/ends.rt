@@ -1,4 +1,4 @@
-//! Where varints end, found in words of eight bytes. Used by `cursor`, `cursor/pairs` and `cursor/point`.
+//! Where varints end, found in words of eight bytes. Used by `cursor` and `cursor/point`.
 ghost use Rattle.std.specs.Prelude.{◌≡◌, ◌↔◌, ◌+◌, ◌*◌, ◌-◌, ◌≤◌, ◌<◌, ◌^◌, drop, IsTrue, IfSome, IfNone};
 ghost use Rattle.twkb_num.specs.Varint.{IsStuck};
 ghost use Rattle.twkb_num.specs.Devices.Ends.{EndsOnce, ended, ends_to, eight_bytes, IsEnd, IsLastEnd, IsFrontOf};

@@ -9,12 +9,10 @@
 //!   and [`Cursor::pass_numbers`] moves past numbers and says whether all are below 2^49. A caller says how many, and each call does
 //!   what as many single reads do, whether the numbers are short or long and the end of the bytes is near or not. So these calls
 //!   tell nothing of bytes that aren't counted.
-//! - [`Cursor::svarint_pair`] reads two signed numbers from one word of eight bytes, if both are short. [`Cursor::pass_pair`] moves
-//!   past two numbers without decoding them, and [`Cursor::pass_short_point`] past a point with its header, and with its size if it
-//!   has one. The numbers have to end in such a word; otherwise these calls return `None`. [`Cursor::svarint_four`] reads four short
-//!   signed numbers into the lanes of a vector, or none. [`Cursor::pass_varints`] moves past many, and returns how many.
-//! - [`Cursor::pass_short_varints`] moves past a given number of varints or past none. [`Cursor::pass_short_runs`] and
-//!   [`Cursor::pass_counted_runs`] do this with counts among the numbers, as a line and a polygon have them.
+//! - [`Cursor::pass_short_point`] moves past a point with its header, and with its size if it has one, if its two numbers end in one
+//!   word of eight bytes. [`Cursor::pass_short_varints`] moves past a given number of short varints or past none, and
+//!   [`Cursor::pass_short_runs`] and [`Cursor::pass_counted_runs`] do this with counts among the numbers, as a line and a polygon
+//!   have them. They return `None` if they can't.
 //! - [`Prefetch`] has the processor look up pages of memory before a cursor reads them.
 //! - [`TYPE_AND_FIELDS`] is the mask by which [`Cursor::pass_short_point`] and `twkb_head` compare the first two bytes of a
 //!   geometry with a type and the fields that follow.
@@ -41,9 +39,8 @@ mod tables;
 mod tests;
 mod varint;
 mod vectors;
-mod word;
 
-pub use cursor::{Cursor, Four, Prefetch, TYPE_AND_FIELDS, TakePoints};
-pub use scale::{coordinate_of, units};
+pub use cursor::{Cursor, Prefetch, TYPE_AND_FIELDS, TakePoints};
+pub use scale::units;
 pub use signed::{unzigzag, zigzag};
 pub use varint::NumFault;

@@ -1,6 +1,6 @@
-//! Coordinates in units, and back. Used by other crates.
+//! Coordinates in units. Used by other crates.
 ghost use Rattle.std.specs.Prelude.{◌≡◌, ◌^◌, ◌<◌, ◌≤◌, ◌≤ℤ◌, ◌-ℤ◌, ℤ, pos, neg_ℤ, unsigned_abs};
-ghost use Rattle.twkb_num.specs.Units.{units_of, IsPrecision, IsCoordinate};
+ghost use Rattle.twkb_num.specs.Units.{units_of, IsPrecision};
 
 /// 10 to the powers 0 to 15. They have 64 bits, so that a coordinate of 64 bits takes one multiplication.
 const POWERS: [i64; 16] = [
@@ -34,17 +34,6 @@ pub fn units(coordinate: i128, precision: i8) -> i128
     ensures { result ≡ units_of coordinate precision }
 {
     coordinate * i128::from(units_in_one(precision))
-}
-
-/// Converts units back to the coordinate at a precision. There has to be one, of a size that [`units`] takes.
-pub fn coordinate_of(units: i128, precision: i8) -> i128
-    requires precision { IsPrecision precision }
-    requires exact { IsCoordinate precision units }
-    ensures { (coordinate : ℤ) → units ≡ units_of coordinate precision → result ≡ coordinate }
-{
-    let power = u128::from(units_in_one(precision).unsigned_abs());
-    let distance = (units.unsigned_abs() / power) as i128;
-    if units < 0 { -distance } else { distance }
 }
 
 /// How many units a coordinate of 1 is.

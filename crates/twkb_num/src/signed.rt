@@ -1,4 +1,4 @@
-//! Signed numbers as unsigned ones, by zigzag. Used by other crates, and here by `cursor` and `word`.
+//! Signed numbers as unsigned ones, by zigzag. Used by other crates, and here by `cursor`.
 ghost use Rattle.std.specs.Prelude.{◌≡◌, ℕ};
 ghost use Rattle.twkb_num.specs.Varint.{zigzag_value};
 

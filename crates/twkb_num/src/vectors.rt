@@ -1,7 +1,7 @@
 //! Varints at the front of 16 or 32 bytes, read into the lanes of vectors. Used by `cursor/lanes`.
 ghost use Rattle.std.specs.Prelude.{◌≡◌, ◌+◌, ◌*◌, ◌<◌, ◌≤◌, ◌/◌, ◌%◌, ◌^◌, ℕ, ℤ, List, [], ◌∷◌, map, slice_index, take, All};
 ghost use Rattle.std.specs.Int.{w16, w32, cast_signed};
-ghost use Rattle.twkb_num.specs.Varint.{zigzag_value, SpellsAll, SpellsAllSigned, IsShort, IsBrief, HasLong};
+ghost use Rattle.twkb_num.specs.Varint.{zigzag_value, SpellsAll, SpellsAllSigned, IsShort, IsBrief};
 ghost use Rattle.twkb_num.specs.Numbers.{points_in};
 ghost use Rattle.twkb_num.specs.Devices.Lanes.{byte_or_zero, IsTops, IsFlag, values};
 
@@ -39,7 +39,6 @@ pub fn wide_four(bytes: &[u8; 32]) -> Wide
     ensures spelled { result.len < 128
         → SpellsAllSigned (take result.len bytes.now) (map (cast_signed w32) result.lanes) }
     ensures short { All IsShort (map (cast_signed w32) result.lanes) }
-    ensures long { 128 ≤ result.len → HasLong 4 16 bytes.now }
 {
     let v = u8x16::from_slice(&bytes[0..16]);
     let tops = continuation_bits(v);
@@ -59,10 +58,9 @@ pub fn wide_four(bytes: &[u8; 32]) -> Wide
 #[inline(always)]
 pub fn wide_pair(bytes: &[u8; 16]) -> Wide
     ensures few { result.len < 128 → result.len ≤ 8 }
-    ensures spelled { (x y : ℤ) (others : List ℤ) → map (cast_signed w32) result.lanes ≡ x ∷ y ∷ others
-        → result.len < 128 → SpellsAllSigned (take result.len bytes.now) (x ∷ y ∷ []) }
+    ensures spelled { result.len < 128
+        → SpellsAllSigned (take result.len bytes.now) (take 2 (map (cast_signed w32) result.lanes)) }
     ensures short { All IsShort (map (cast_signed w32) result.lanes) }
-    ensures long { 128 ≤ result.len → HasLong 4 8 bytes.now }
 {
     let v = u8x16::from_slice(bytes);
     let both = wide_two(v, (continuation_bits(v) % 256) as usize);
@@ -103,7 +101,6 @@ pub fn narrow_eight(bytes: &[u8; 32], tops: u64) -> Narrow
     ensures spelled { result.len < 128
         → SpellsAllSigned (take result.len bytes.now) (map (cast_signed w16) result.lanes) }
     ensures brief { All IsBrief (map (cast_signed w16) result.lanes) }
-    ensures long { 128 ≤ result.len → HasLong 2 16 bytes.now }
 {
     let v = u8x16::from_slice(&bytes[0..16]);
     let first = narrow_four(v, (tops % 256) as usize);
@@ -147,7 +144,6 @@ fn wide_two(v: u8x16, tops: usize) -> Unpacked
     requires tops { IsTops 8 tops v }
     ensures flag { IsFlag result.len }
     ensures spelled { result.len < 128 → SpellsAll (take result.len v) (values 4 2 result.lanes 0) }
-    ensures long { result.len ≡ 128 → HasLong 4 8 v }
 {
     Unpacked {
         lanes: picked(v, wide_places(tops)),
@@ -162,7 +158,6 @@ fn narrow_four(v: u8x16, tops: usize) -> Unpacked
     requires tops { IsTops 8 tops v }
     ensures flag { IsFlag result.len }
     ensures spelled { result.len < 128 → SpellsAll (take result.len v) (values 2 4 result.lanes 0) }
-    ensures long { result.len ≡ 128 → HasLong 2 8 v }
 {
     Unpacked {
         lanes: picked(v, narrow_places(tops)),
@@ -209,8 +204,7 @@ pub fn tops_of_16(bytes: &[u8; 32]) -> u64
 /// Bit i is the top bit of byte i, which is set where a varint goes on.
 #[inline(always)]
 fn continuation_bits(v: u8x16) -> u64
-    ensures few { result < 65536 }
-    ensures tops { IsTops 16 result v }
+    ensures { IsTops 16 result v }
 {
     v.simd_ge(u8x16::splat(128)).to_bitmask() % 65536
 }

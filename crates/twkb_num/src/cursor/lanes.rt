@@ -1,23 +1,22 @@
 //! Signed numbers at a cursor's place, read together into the lanes of a vector. Used by `cursor/numbers`.
-ghost use Rattle.std.specs.Prelude.{◌≡◌, ◌-◌, ◌<◌, ◌⊎◌, length, [], ◌∷◌, false, map, replicate, take, drop, ℕ, All, IsTrue};
+ghost use Rattle.std.specs.Prelude.{◌≡◌, ◌-◌, [], ◌∷◌, false, map, replicate, take, drop, ℕ, All, IsTrue};
 ghost use Rattle.std.specs.Int.{w16, w32, cast_signed};
-ghost use Rattle.twkb_num.specs.Cursor.{passed, rest, IsMoved};
-ghost use Rattle.twkb_num.specs.Devices.Pairs.{ReadsPair};
+ghost use Rattle.twkb_num.specs.Cursor.{passed, IsMoved};
 ghost use Rattle.twkb_num.specs.Numbers.{IsAxes, points_in, HaveZeros};
-ghost use Rattle.twkb_num.specs.Varint.{SpellsAllSigned, IsShort, IsBrief, HasLong};
+ghost use Rattle.twkb_num.specs.Varint.{SpellsAllSigned, IsShort, IsBrief};
 
 use super::Cursor;
 use crate::vectors::{narrow_eight, narrow_six, tops_of_16, wide_four, wide_pair, wide_three};
 use std::simd::prelude::*;
 
-/// Four signed numbers in lanes of 32 bits, in two's complement. If `is_read` is false, none were read and the lanes are zero.
+/// Four signed numbers in lanes of 32 bits, in two's complement. If `is_read` is false, none were read.
 #[derive(Clone, Copy)]
 pub struct Four {
     pub lanes: u32x4,
     pub is_read: bool,
 }
 
-/// Eight signed numbers in lanes of 16 bits, in two's complement. If `is_read` is false, none were read and the lanes are zero.
+/// Eight signed numbers in lanes of 16 bits, in two's complement. If `is_read` is false, none were read.
 #[derive(Clone, Copy)]
 pub struct Eight {
     pub lanes: u16x8,
@@ -35,18 +34,6 @@ impl Four {
             lanes: u32x4::splat(0),
             is_read: false,
         }
-    }
-
-    /// The four numbers, widened to 64 bits, as two pairs. A pair that is read by lanes is the first of these.
-    #[inline(always)]
-    pub fn two_pairs(self) -> ((i64, i64), (i64, i64))
-        ensures { map (cast_signed w32) self.lanes ≡ (result.0).0 ∷ (result.0).1 ∷ (result.1).0 ∷ (result.1).1 ∷ [] }
-    {
-        let lanes = self.lanes.to_array();
-        (
-            (signed_lane(lanes[0]), signed_lane(lanes[1])),
-            (signed_lane(lanes[2]), signed_lane(lanes[3])),
-        )
     }
 }
 
@@ -97,7 +84,7 @@ impl Together<3> for Wide {
 impl Together<4> for Wide {
     #[inline(always)]
     fn lanes(cursor: &mut Cursor) -> Four {
-        cursor.svarint_four()
+        cursor.lane_four()
     }
 }
 
@@ -136,16 +123,14 @@ fn twice_three(lanes: u16x8) -> u16x8
 
 impl<'a> Cursor<'a> {
     /// Reads the four signed varints at the place, if each takes at most four bytes and 32 bytes are left. Otherwise it reads
-    /// nothing: `is_read` is false, and the lanes are zero.
+    /// nothing: `is_read` is false.
     #[inline(always)]
-    pub fn svarint_four(&mut self) -> Four
+    fn lane_four(&mut self) -> Four
         ensures some { IsTrue result.is_read
             → SpellsAllSigned (passed self.old self.new) (map (cast_signed w32) result.lanes) }
         ensures short { All IsShort (map (cast_signed w32) result.lanes) }
-        ensures told { result.is_read ≡ false → (length (rest self.old) < 32) ⊎ HasLong 4 16 (rest self.old) }
         ensures moved { IsTrue result.is_read → IsMoved self.old self.new }
         ensures none { result.is_read ≡ false → self.new ≡ self.old }
-        ensures zero { result.is_read ≡ false → result.lanes ≡ replicate 4 0 }
     {
         if let Some(bytes) = self.bytes[self.place..].first_chunk::<32>() {
             let four = wide_four(bytes);
@@ -160,28 +145,10 @@ impl<'a> Cursor<'a> {
         Four::nothing()
     }
 
-    /// Reads the two signed varints at the place, if each takes at most four bytes and sixteen bytes are left. Otherwise it reads
-    /// nothing.
-    #[inline(always)]
-    pub(super) fn lane_pair(&mut self) -> Option<(i64, i64)>
-        ensures { ReadsPair 16 self.old self.new result }
-    {
-        let both = wide_pair(self.bytes[self.place..].first_chunk::<16>()?);
-        if both.len >= 128 {
-            return None;
-        }
-        self.place += both.len;
-        let four = Four {
-            lanes: both.lanes,
-            is_read: true,
-        };
-        Some(four.two_pairs().0)
-    }
-
     /// Reads the two signed varints at the place into the first two lanes, if each takes at most four bytes and sixteen bytes are
     /// left. Otherwise it reads nothing: `is_read` is false. The other lanes are zero.
     #[inline(always)]
-    pub(super) fn lane_two(&mut self) -> Four
+    fn lane_two(&mut self) -> Four
         ensures some { IsTrue result.is_read
             → SpellsAllSigned (passed self.old self.new) (take 2 (map (cast_signed w32) result.lanes)) }
         ensures short { All IsShort (map (cast_signed w32) result.lanes) }
@@ -244,7 +211,7 @@ impl<'a> Cursor<'a> {
         if many == 3 {
             return self.lane_three();
         }
-        self.svarint_four()
+        self.lane_four()
     }
 
     /// Reads the numbers of two points of three axes, if each takes at most two bytes and 32 bytes are left; a lane of zero is after each
@@ -290,16 +257,14 @@ impl<'a> Cursor<'a> {
     }
 
     /// Reads the eight signed varints at the place, if each takes at most two bytes and 32 bytes are left. Otherwise it reads
-    /// nothing: `is_read` is false, and the lanes are zero.
+    /// nothing: `is_read` is false.
     #[inline(always)]
     fn lane_eight(&mut self) -> Eight
         ensures some { IsTrue result.is_read
             → SpellsAllSigned (passed self.old self.new) (map (cast_signed w16) result.lanes) }
         ensures brief { All IsBrief (map (cast_signed w16) result.lanes) }
-        ensures told { result.is_read ≡ false → (length (rest self.old) < 32) ⊎ HasLong 2 16 (rest self.old) }
         ensures moved { IsTrue result.is_read → IsMoved self.old self.new }
         ensures none { result.is_read ≡ false → self.new ≡ self.old }
-        ensures zero { result.is_read ≡ false → result.lanes ≡ replicate 8 0 }
     {
         if let Some(bytes) = self.bytes[self.place..].first_chunk::<32>() {
             let eight = narrow_eight(bytes, tops_of_16(bytes));

@@ -6,8 +6,8 @@ use Rattle.std.proofs.lemmas.Simd.{tops_compared, zip2_splat_left, mask_l-mod, b
 use lib.Lanes.{mask_l}
 use Rattle.twkb_num.proofs.vectors.continuation_bits.Goals as goal
 
-pub returns-clause-tops : goal.returns-clause-tops
-returns-clause-tops c i h =
+pub returns : goal.returns
+returns c i h =
     let v = c.args.v in
     let ms : List Bool = map (λ x. leb 128 x) v in
     let is = tops_compared w8 leb (replicate 16 128) v ∙ zip2_splat_left leb 128 16 v c.fits-v.0 in

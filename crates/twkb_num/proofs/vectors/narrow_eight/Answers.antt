@@ -4,7 +4,6 @@ use Rattle.std.specs.Int.{cast_signed}
 use Rattle.twkb_num.specs.Varint.{zigzag_value}
 use Rattle.twkb_num.specs.Devices.Lanes.{values}
 use Rattle.twkb_num.proofs.LaneLemmas.{front_tops, first_tops, second_tops, first_piece, second_piece, flag_place, lanes_spell, narrow_values}
-use Rattle.twkb_num.proofs.LongLemmas.{long_of}
 use Rattle.twkb_num.proofs.vectors.narrow_eight.Goals as goal
 
 pub narrow_four-first-requires-clause-tops : goal.narrow_four-first-requires-clause-tops
@@ -29,6 +28,3 @@ returns-clause-spelled c short =
     let means : map (cast_signed w16) c.meant_narrow.result ≡ map zigzag_value (ns ++ ms) = c.meant_narrow.ensures.meaning ∙ ap (map zigzag_value) (narrow_values _ _ _ both.low both.high) in
     lanes_spell bytes _ _ ns ms first.result.len second.result.len _ (first_piece bytes) (second_piece (first.result.len % 16) bytes)
     first.ensures.flag second.ensures.flag first.ensures.spelled second.ensures.spelled means short
-
-pub returns-clause-long : goal.returns-clause-long
-returns-clause-long c = long_of 2 c.args.bytes.now _ _ _ _ (first_piece c.args.bytes.now) (second_piece _ c.args.bytes.now) c.narrow_four-first.ensures.flag c.narrow_four-second.ensures.flag c.narrow_four-first.ensures.long c.narrow_four-second.ensures.long

@@ -8,13 +8,13 @@ use Rattle.twkb_num.proofs.LaneLemmas.{first_tops, tops_of_front, second_tops, f
 use Rattle.twkb_num.proofs.vectors.narrow_six.Goals as goal
 
 pub narrow_three-first-requires-clause-tops : goal.narrow_three-first-requires-clause-tops
-narrow_three-first-requires-clause-tops c = first_tops c.continuation_bits-tops.result _ c.continuation_bits-tops.ensures.tops
+narrow_three-first-requires-clause-tops c = first_tops c.continuation_bits-tops.result _ c.continuation_bits-tops.ensures
 
 pub narrow_three-other-requires-clause-tops : goal.narrow_three-other-requires-clause-tops
 narrow_three-other-requires-clause-tops c =
     let bytes = c.args.bytes.now in
     let len = c.narrow_three-first.result.len in
-    second_tops c.continuation_bits-tops.result c.bits_from.result (len % 16) bytes _ (tops_of_front 16 _ bytes _ (first_piece bytes) c.continuation_bits-tops.ensures.tops) (second_piece (len % 16) bytes) (flag_place len c.narrow_three-first.ensures.flag) c.bits_from.ensures.moved
+    second_tops c.continuation_bits-tops.result c.bits_from.result (len % 16) bytes _ (tops_of_front 16 _ bytes _ (first_piece bytes) c.continuation_bits-tops.ensures) (second_piece (len % 16) bytes) (flag_place len c.narrow_three-first.ensures.flag) c.bits_from.ensures.moved
 
 pub returns-clause-spelled : goal.returns-clause-spelled
 returns-clause-spelled c short =

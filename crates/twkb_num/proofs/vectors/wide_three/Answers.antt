@@ -7,13 +7,13 @@ use Rattle.twkb_num.proofs.LaneLemmas.{first_tops, tops_of_front, second_tops, f
 use Rattle.twkb_num.proofs.vectors.wide_three.Goals as goal
 
 pub wide_two-first-requires-clause-tops : goal.wide_two-first-requires-clause-tops
-wide_two-first-requires-clause-tops c = first_tops c.continuation_bits-tops.result _ c.continuation_bits-tops.ensures.tops
+wide_two-first-requires-clause-tops c = first_tops c.continuation_bits-tops.result _ c.continuation_bits-tops.ensures
 
 pub wide_one-third-requires-clause-tops : goal.wide_one-third-requires-clause-tops
 wide_one-third-requires-clause-tops c =
     let bytes = c.args.bytes.now in
     let len = c.wide_two-first.result.len in
-    second_tops c.continuation_bits-tops.result c.bits_from.result (len % 16) bytes _ (tops_of_front 16 _ bytes _ (first_piece bytes) c.continuation_bits-tops.ensures.tops) (second_piece (len % 16) bytes) (flag_place len c.wide_two-first.ensures.flag) c.bits_from.ensures.moved
+    second_tops c.continuation_bits-tops.result c.bits_from.result (len % 16) bytes _ (tops_of_front 16 _ bytes _ (first_piece bytes) c.continuation_bits-tops.ensures) (second_piece (len % 16) bytes) (flag_place len c.wide_two-first.ensures.flag) c.bits_from.ensures.moved
 
 pub returns-clause-spelled : goal.returns-clause-spelled
 returns-clause-spelled c short =

@@ -38,14 +38,14 @@ fn reads_four(rt: &impl Abort, bytes: &[u8]) {
     let reads = read_each(bytes, 4);
     let is_read = reads.longest <= 4 && 32 <= bytes.len();
     let mut cursor = Cursor::new(bytes);
-    let four = cursor.svarint_four();
+    let four = cursor.lane_four();
     equal(rt, four.is_read, is_read);
     for (lane, number) in i32x4::from_le_bytes(four.lanes.to_le_bytes())
         .to_array()
         .into_iter()
         .zip(reads.numbers)
     {
-        equal(rt, i64::from(lane), if is_read { number } else { 0 });
+        equal(rt, !is_read || i64::from(lane) == number, true);
     }
     ends(rt, &cursor, if is_read { reads.end } else { 0 });
 }
@@ -62,7 +62,7 @@ fn reads_eight(rt: &impl Abort, bytes: &[u8]) {
         .into_iter()
         .zip(reads.numbers)
     {
-        equal(rt, i64::from(lane), if is_read { number } else { 0 });
+        equal(rt, !is_read || i64::from(lane) == number, true);
     }
     ends(rt, &cursor, if is_read { reads.end } else { 0 });
 }

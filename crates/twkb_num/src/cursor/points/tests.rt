@@ -1,8 +1,8 @@
 //! Runs of points, numbers read together and numbers passed: each is compared with single reads.
-ghost use Rattle.std.specs.Prelude.{◌≤◌};
 ghost use Rattle.twkb_num.specs.Numbers.{IsAxes};
 
 use super::*;
+use crate::cursor::lanes::{Together, Wide};
 use crate::tests::equal;
 use std::process::Abort;
 
@@ -70,11 +70,9 @@ fn are_single_reads(rt: &impl Abort, bytes: &[u8], numbers: u64, lanes_until: u6
     run_is_single_reads::<3>(rt, bytes, numbers / 3, lanes_until);
     run_is_single_reads::<4>(rt, bytes, numbers / 4, lanes_until);
     passing_is_single_reads(rt, bytes, numbers);
-    some_are_single_reads::<1>(rt, bytes);
     some_are_single_reads::<2>(rt, bytes);
     some_are_single_reads::<3>(rt, bytes);
     some_are_single_reads::<4>(rt, bytes);
-    some_are_single_reads::<6>(rt, bytes);
 }
 
 fn run_is_single_reads<const AXES: usize>(
@@ -106,7 +104,8 @@ fn run_is_single_reads<const AXES: usize>(
 }
 
 fn some_are_single_reads<const K: usize>(rt: &impl Abort, bytes: &[u8])
-    requires { K ≤ 8 }
+where
+    Wide: Together<K>,
 {
     let mut together = Cursor::new(bytes);
     let mut single = Cursor::new(bytes);

@@ -227,31 +227,6 @@ fn two_varints(first_more: usize, second_more: usize) -> [u8; 18] {
     bytes
 }
 
-// Varints of one to seven bytes, with seven bytes left, eight and nine.
-#[test]
-fn pairs_are_passed_by_their_ends(rt: HostRuntime) {
-    for first_more in 0..7usize {
-        for second_more in 0..7usize {
-            let bytes = two_varints(first_more, second_more);
-            let many = first_more.saturating_add(second_more).saturating_add(2);
-            let passed = if many <= 8 { Some(many) } else { None };
-            passes_a_pair(&rt, &bytes[..8], None);
-            passes_a_pair(&rt, &bytes[..9], passed);
-            passes_a_pair(&rt, &bytes[..10], passed);
-        }
-    }
-}
-
-// The pair at place 1 takes `passed` bytes and is passed, or for `None` the cursor stays at place 1.
-fn passes_a_pair(rt: &impl Abort, bytes: &[u8], passed: Option<usize>) {
-    let mut cursor = Cursor::new(bytes);
-    assert!(rt; cursor.byte().is_some());
-    equal(rt, cursor.pass_pair().is_some(), passed.is_some());
-    let place = passed.unwrap_or(0).saturating_add(1);
-    equal(rt, cursor.place(), place);
-    equal(rt, cursor.read_count(), place as u64);
-}
-
 // Two headers of a point with a size, and others that differ from them in the bits that are compared; and sizes that are one too small,
 // one too great, and go on. After them, varints of one to seven bytes, with ten bytes left, eleven and twelve.
 #[test]

@@ -1,5 +1,5 @@
 -- The numbers in the first two lanes are what the move passes.
-use Rattle.std.proofs.Common.{◌<◌, ◌≤◌, ℕ, ℤ, List, [], ◌∷◌, map, take, w32, rules, subst, ap, refl, arith}
+use Rattle.std.proofs.Common.{◌<◌, ◌≤◌, ℕ, ℤ, List, [], ◌∷◌, map, take, w32, rules, subst, refl, arith}
 use Rattle.std.specs.Int.{cast_signed}
 use Rattle.twkb_num.specs.Varint.{SpellsAllSigned}
 use Rattle.twkb_num.proofs.CursorLemmas.{take-chunk}
@@ -16,7 +16,7 @@ returns-then-both-lt128-clause-some c is_read =
     let few : len ≤ 16 = omega (arith, both.ensures.few short) in
     let zs : List ℤ = cast_signed w32 four.0 ∷ cast_signed w32 four.1 ∷ [] in
     let is = take-chunk c.self.inside.bytes.now c.in-Some.bytes.now c.self.inside.place 16 len chunk.same chunk.enough few in
-    let all : SpellsAllSigned (take len c.in-Some.bytes.now) zs = both.ensures.spelled (cast_signed w32 four.0) (cast_signed w32 four.1) (map (cast_signed w32) (four.2 ∷ four.3 ∷ [])) (ap (map (cast_signed w32)) four.4) short in
+    let all : SpellsAllSigned (take len c.in-Some.bytes.now) zs = subst (λ (l : List ℕ). SpellsAllSigned (take len c.in-Some.bytes.now) (take 2 (map (cast_signed w32) l))) four.4 (both.ensures.spelled short) in
     let two = c.first_two.ensures four.0 four.1 four.2 four.3 four.4 in
     rw (← c.self.view_is) rw two (subst (λ bs. SpellsAllSigned bs zs) is all)
 

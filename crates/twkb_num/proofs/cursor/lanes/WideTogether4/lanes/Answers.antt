@@ -8,7 +8,7 @@ use Rattle.twkb_num.proofs.cursor.lanes.WideTogether4.lanes.Goals as goal
 
 pub returns-clause-some : goal.returns-clause-some
 returns-clause-some c =
-    let zs : List ℤ = map (cast_signed w32) c.svarint_four.result.lanes in
+    let zs : List ℤ = map (cast_signed w32) c.lane_four.result.lanes in
     let four : length zs ≡ 4 = search (rules, length-map) in
     let all : take 4 zs ≡ zs = take_all 4 zs (omega (arith, four)) in
-    λ read. subst (SpellsAllSigned (passed c.args.cursor.now c.svarint_four.new.self)) (sym all) (c.svarint_four.ensures.some read)
+    λ read. subst (SpellsAllSigned (passed c.args.cursor.now c.lane_four.new.self)) (sym all) (c.lane_four.ensures.some read)
