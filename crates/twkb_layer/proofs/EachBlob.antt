@@ -9,7 +9,7 @@ use Rattle.twkb_num.specs.Cursor.{added}
 use Rattle.twkb_body.specs.Geometry.{Geometry}
 use Rattle.twkb_body.specs.Claims.{IsCertified}
 use Rattle.twkb_body.specs.Standing.{StandsAt}
-use Rattle.twkb_layer.specs.Layer.{IsLayer, IsCertifiedLayer, AddsAtMost, size_of, told_from}
+use Rattle.twkb_layer.specs.Layer.{IsLayer, IsCertifiedLayer, size_of, told_from}
 use Rattle.twkb_layer.specs.Devices.EachBlob.{is_among, first_blobs, after_from, after_blobs, read_from, bytes_read, adds, Lent, lent}
 use Rattle.twkb_layer.proofs.Layers.{blob_some, size_of-blob, layer_once, layer_short}
 
@@ -165,10 +165,6 @@ module _ {S : Type 0} (step : S → ℕ → ℕ → Geometry → S) (reads : S �
     -- the number of a blob is less than the number of bytes
     pub blob_few : Next rest bytes place → blob < length bytes
     blob_few n = omega (arith, w.blob_is, ap length n.is, layer_short w.trees bytes w.whole.layer)
-
-    -- no more bytes were read than there are
-    pub walk_adds : AddsAtMost (length bytes) count0 count
-    walk_adds = record { read = w.read; few = omega (arith, w.read_few, w.within); is = w.count_is }
 
     -- at the end of the bytes, or at the limit, no blob is to come
     pub walk_done : (length bytes ≤ place) ⊎ (is_among limit blob ≡ false) → to_come limit blob rest ≡ []

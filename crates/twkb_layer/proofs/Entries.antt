@@ -1,5 +1,5 @@
 -- The slots of a directory, as blobs are added one at a time.
-use Rattle.std.proofs.Common.{◌≡◌, ℕ, ◌+◌, ◌-◌, ◌*◌, ◌/◌, ◌%◌, ◌==◌, ◌<◌, ◌≤◌, pos, ◌-ℤ◌, arith, true, false, if◌then◌else◌, List, [], ◌∷◌, ◌++◌, drop, Bool, Some, None, option_map, refl, ap, sym, ◌∙◌, append_assoc}
+use Rattle.std.proofs.Common.{◌≡◌, ℕ, ◌+◌, ◌-◌, ◌*◌, ◌/◌, ◌%◌, ◌==◌, ◌<◌, ◌≤◌, pos, ◌-ℤ◌, arith, true, false, if◌then◌else◌, List, [], ◌∷◌, ◌++◌, drop, Bool, Some, None, option_map, ap, sym, ◌∙◌, append_assoc}
 use Rattle.std.proofs.lemmas.List.{drop-drop, append-nil}
 use Rattle.twkb_num.specs.Cursor.{Reading}
 use Rattle.twkb_head.specs.declared.raw.Fields.{Fields}
@@ -19,7 +19,7 @@ use Rattle.twkb_layer.proofs.Keeping.{says_of}
 
 -- ---- the slots of a blob
 
-pub one_of : (slot : Slot) (entry : Entry) → is_long slot ≡ false → short_entry slot ≡ entry → AreSlotsOf entry (slot ∷ [])
+one_of : (slot : Slot) (entry : Entry) → is_long slot ≡ false → short_entry slot ≡ entry → AreSlotsOf entry (slot ∷ [])
 one_of slot entry short is = λ more j. if short j then entries_long slot more else is j ∷ entries_kept more
 
 pub four_of : (x y third fourth : Slot) (entry : Entry) → is_long x ≡ true → long_entry x y third fourth ≡ entry → AreSlotsOf entry (x ∷ y ∷ third ∷ fourth ∷ [])
@@ -29,15 +29,18 @@ four_of x y third fourth entry long is = λ more j. if long j then is j ∷ entr
 abbrev short_box : Slot → Bounds
 short_box slot = record { x = span_at (precision_in slot) (ends_in slot.first); y = span_at (precision_in slot) (ends_in slot.second); z = None; m = None }
 
+from_bool_few : (b : Bool) → from_bool b < 2
+from_bool_few true = omega arith
+from_bool_few false = omega arith
+
 -- the parts of the word of a blob's first slot
-module _ (word code offset : ℕ) (few : code < 16) where
-  pub boxed_by : (b : Bool) → word ≡ code + 16 * from_bool b + 32 → ((word / 16) % 2 == 1) ≡ b
+module _ (word code : ℕ) (few : code < 16) where
+  boxed_by : (b : Bool) → word ≡ code + 16 * from_bool b + 32 → ((word / 16) % 2 == 1) ≡ b
   boxed_by true is = let one : (word / 16) % 2 ≡ 1 = omega (arith, few, is) in ap (λ n. n == 1) one
   boxed_by false is = let none : (word / 16) % 2 ≡ 0 = omega (arith, few, is) in ap (λ n. n == 1) none
 
-  pub long_by : (b : Bool) → word ≡ code + 16 * from_bool b + 32 → ((word / 32) % 2 == 1) ≡ true
-  long_by true is = let one : (word / 32) % 2 ≡ 1 = omega (arith, few, is) in ap (λ n. n == 1) one
-  long_by false is = let one : (word / 32) % 2 ≡ 1 = omega (arith, few, is) in ap (λ n. n == 1) one
+  long_by : (b : Bool) → word ≡ code + 16 * from_bool b + 32 → ((word / 32) % 2 == 1) ≡ true
+  long_by b is = let one : (word / 32) % 2 ≡ 1 = omega (arith, few, is, from_bool_few b) in ap (λ n. n == 1) one
 
 -- the slot of a blob without a box
 pub bare_says : (slot : Slot) (code offset : ℕ) (raw : Fields) → code < 16 → slot.word ≡ code + 64 * offset → raw.bounds ≡ None → AreSlotsOf (entry_said offset raw) (slot ∷ [])
@@ -57,19 +60,12 @@ pub four_say : (x y third fourth : Slot) (code offset : ℕ) (axes : Axes) (boxe
 four_say x y third fourth code offset axes boxed box few xy is at z m x_is y_is third_is fourth_is =
     let rest : x.word % 16 ≡ code = omega (arith, few, is, from_bool_few boxed) in
     let p : precision_in x ≡ axes.xy = ap (λ (n : ℕ). pos n -ℤ pos 8) rest ∙ xy in
-    four_of x y third fourth _ (long_by x.word code offset few boxed is) (λ j. record {
+    four_of x y third fourth _ (long_by x.word code few boxed is) (λ j. record {
       offset = at j;
-      bounds = if boxed_by x.word code offset few boxed is j then Some (raw_bounds (p j) (z j) (m j) (record { x = x_is j; y = y_is j; third = third_is j; fourth = fourth_is j })) else None;
+      bounds = if boxed_by x.word code few boxed is j then Some (raw_bounds (p j) (z j) (m j) (record { x = x_is j; y = y_is j; third = third_is j; fourth = fourth_is j })) else None;
     })
-  where
-    from_bool_few : (b : Bool) → from_bool b < 2
-    from_bool_few true = omega arith
-    from_bool_few false = omega arith
 
 -- ---- one more blob
-
-pub whole-nil : AreWhole []
-whole-nil = λ more. refl
 
 -- the slots of a blob, behind whole slots
 module _ (slots own : List Slot) (entry : Entry) (whole : AreWhole slots) (is : AreSlotsOf entry own) where
