@@ -1,5 +1,5 @@
 //! The numbers of a body, each read by itself.
-//! Used by `headed`, `known`, `lists`, `parts`, `rooms`, `settled`, `step` and `trail`.
+//! Used by `lists`, `parts`, `rooms`, `step` and `trail`.
 ghost use Rattle.std.specs.Prelude.{◌≡◌};
 ghost use Rattle.twkb_head.specs.Shared.Reader.{number_at, signed_at};
 
