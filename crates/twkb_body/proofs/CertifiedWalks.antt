@@ -10,8 +10,8 @@ use Rattle.twkb_body.specs.Geometry.{PointValue}
 use Rattle.twkb_body.specs.Devices.BodyReader.{point_at}
 use Rattle.twkb_body.specs.Devices.Inside.{of_head}
 use Rattle.twkb_body.specs.Devices.PointReader.{Stage, IsBefore, HasRead, IsWalkingOn, points_at}
-use Rattle.twkb_body.specs.Devices.Walk.{IsPoint, IsWalked, IsRun, IsStill, lasts_from}
-use Rattle.twkb_body.proofs.Runs.{run_none, run_goes_on}
+use Rattle.twkb_body.specs.Devices.Walk.{IsPoint, IsWalked, IsStill, lasts_from}
+use Rattle.twkb_body.proofs.Runs.{IsRun, run_none, run_goes_on}
 use Rattle.twkb_body.proofs.Settling.{ArePassed, axes_some, run_next, run_passed, run_rest, run_then}
 use Rattle.twkb_body.proofs.WalkReads.{beside, fold_beside, walked_beside, walked_apart}
 use Rattle.twkb_body.proofs.Walks.{point_walked}

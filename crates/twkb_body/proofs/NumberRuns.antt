@@ -34,13 +34,13 @@ use Rattle.twkb_head.proofs.Steps.{read_signed, coordinate_ok, coordinate_refuse
 use Rattle.twkb_body.specs.declared.trail.Trail.{Trail}
 use Rattle.twkb_body.specs.Geometry.{PointValue, coordinate}
 use Rattle.twkb_body.specs.Devices.Body.{first_of, behind, add, sums}
-use Rattle.twkb_body.specs.Devices.BodyReader.{point_at, NumbersLead}
+use Rattle.twkb_body.specs.Devices.BodyReader.{point_at}
 use Rattle.twkb_body.specs.Devices.Columns.{column, sum_fits, Stays, running}
-use Rattle.twkb_body.specs.Devices.Walk.{HaveAxes, lasts_from, IsRun}
+use Rattle.twkb_body.specs.Devices.Walk.{HaveAxes, lasts_from}
 use Rattle.twkb_body.proofs.BareRuns.{has_64_bits, moved_none}
 use Rattle.twkb_body.proofs.Coordinates.{signed_back}
-use Rattle.twkb_body.proofs.Runs.{values_of}
-use Rattle.twkb_body.proofs.Settling.{no_number, point_numbers}
+use Rattle.twkb_body.proofs.Runs.{IsRun, values_of}
+use Rattle.twkb_body.proofs.Settling.{NumbersLead, no_number, point_numbers}
 use Rattle.twkb_body.proofs.Sums.{fits_signed}
 use Rattle.twkb_body.proofs.Tracing.{many_back, many_then, point_back}
 

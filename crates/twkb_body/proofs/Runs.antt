@@ -1,5 +1,5 @@
 -- Runs of points: many points read at once, within a loop over more, and one more point after a run.
-use Rattle.std.proofs.Common.{◌≡◌, ℕ, zero, suc, ◌+◌, ◌≤◌, List, [], ◌∷◌, ◌++◌, Ok, Err, refl, sym, ap, subst, ◌∙◌, append_assoc, arith, length-append}
+use Rattle.std.proofs.Common.{◌≡◌, ℕ, zero, suc, ◌+◌, ◌≤◌, List, [], ◌∷◌, ◌++◌, length, Ok, Err, refl, sym, ap, subst, ◌∙◌, append_assoc, arith, length-append}
 use Rattle.std.proofs.lemmas.List.{append-nil}
 use Rattle.twkb_num.specs.Cursor.{Reading}
 use Rattle.twkb_head.specs.Shared.Reader.{Answer, Reader, many_at}
@@ -9,10 +9,18 @@ use Rattle.twkb_body.specs.declared.trail.Trail.{Trail}
 use Rattle.twkb_body.specs.Geometry.{PointValue}
 use Rattle.twkb_body.specs.Devices.Body.{add}
 use Rattle.twkb_body.specs.Devices.BodyReader.{point_at}
-use Rattle.twkb_body.specs.Devices.Walk.{IsWalked, IsRun}
+use Rattle.twkb_body.specs.Devices.Walk.{IsWalked}
 use Rattle.twkb_body.proofs.Sums.{after_points}
 use Rattle.twkb_body.proofs.Tracing.{many_back}
 use Rattle.twkb_body.proofs.Walks.{walked_none, walked_then}
+
+-- This many points were read, one after another, and added.
+pub record IsRun {S : Type 0} (step : S → PointValue → S) (axes : ℕ) (old new : Trail) (state state' : S)
+    (from to : Reading) (count : ℕ) : Type 0 where
+  pub numbers : List PointValue
+  pub many : length numbers ≡ count
+  pub read : many_at count add (point_at axes) old.last from ≡ (Ok numbers, to)
+  pub walked : IsWalked step axes old new state state' from.place to.place numbers
 
 -- the values of an answer, if any
 abbrev pub values_of : {A : Type 0} → Answer (List A) → List A

@@ -15,16 +15,21 @@ use Rattle.twkb_head.proofs.Steps.{read_signed, read_no_signed, signed_moved}
 use Rattle.twkb_body.specs.declared.trail.Trail.{Trail}
 use Rattle.twkb_body.specs.Geometry.{PointValue}
 use Rattle.twkb_body.specs.Devices.Body.{first_of, behind, add, sums}
-use Rattle.twkb_body.specs.Devices.BodyReader.{point_at, NumbersLead}
-use Rattle.twkb_body.specs.Devices.Walk.{HaveAxes, lasts_from, IsRun, IsStill}
+use Rattle.twkb_body.specs.Devices.BodyReader.{point_at}
+use Rattle.twkb_body.specs.Devices.Walk.{HaveAxes, lasts_from, IsStill}
 use Rattle.twkb_body.proofs.BareRuns.{peel, moved_none}
 use Rattle.twkb_body.proofs.Coordinates.{coordinate_ahead, signed_back}
-use Rattle.twkb_body.proofs.Runs.{values_of, goes_far}
+use Rattle.twkb_body.proofs.Runs.{IsRun, values_of, goes_far}
 use Rattle.twkb_body.proofs.Sums.{after_points}
 use Rattle.twkb_body.proofs.Tracing.{many_back, point_back}
 use Rattle.twkb_body.proofs.Walks.{walked_then}
 
 -- ---- numbers, one after another
+-- n signed numbers, read one after another, lead from one reading to another
+abbrev pub NumbersLead : ℕ → Reading → Reading → Type 0
+NumbersLead zero r stop = r ≡ stop
+NumbersLead (suc n) r stop = (z : ℤ) × (mid : Reading) × (signed_at r ≡ (Ok z, mid)) × NumbersLead n mid stop
+
 -- some numbers and then more are all of them
 NumbersLead-append : (n m : ℕ) (r mid stop : Reading) → NumbersLead n r mid → NumbersLead m mid stop → NumbersLead (n + m) r stop
 NumbersLead-append zero m r mid stop here more =

@@ -1,18 +1,17 @@
 //! Certified blobs whose headers are handed back, each read once. Used by other crates.
 ghost use Rattle.std.specs.Prelude.{◌≡◌, ◌+◌, ◌≤◌, IfSome, fold, is_some};
 ghost use Rattle.twkb_num.specs.Cursor.{Reading, added};
-ghost use Rattle.twkb_num.specs.Units.{IsPrecision};
 ghost use Rattle.twkb_head.specs.Raw.{HasZeros, HavePrecisions, head_said};
 ghost use Rattle.twkb_body.specs.Geometry.{Geometry, lengths_of, vertices};
 ghost use Rattle.twkb_body.specs.Standing.{StandsAt, head_standing};
-ghost use Rattle.twkb_body.specs.Devices.Skimmed.{HasCome, HasPassed, HasRead, skimmed};
+ghost use Rattle.twkb_body.specs.Devices.Skimmed.{HasPassed, HasRead, skimmed};
 ghost use Rattle.twkb_body.specs.Visit.{walk, bytes_to_pass};
 
 use crate::passer::Passer;
 use crate::skimming::skim_members;
 use crate::step::enter_headed;
 use crate::visit::Visit;
-use twkb_head::{Begun, BoxCalled, BoxInlined, Fields, RangeReader, begin_head, take_rest};
+use twkb_head::{BoxCalled, BoxInlined, Fields, begin_head, take_rest};
 use twkb_num::Cursor;
 
 /// Shows the vertices of the certified blob at the place to a visitor, as [`skim`](crate::skim) does, and returns its header.
@@ -89,25 +88,18 @@ fn take_header(cursor: &mut Cursor) -> Fields
     };
     // Most headers are of the first two kinds: there the compiler knows which fields there are.
     if begun.is_flat_boxed() {
-        return take_begun::<BoxInlined>(cursor, begun.announcing(3));
+        let Ok(header) = take_rest::<BoxInlined>(cursor, begun.announcing(3)) else {
+            unreachable!()
+        };
+        return header;
     }
     if begun.is_sized_point() {
-        return take_begun::<BoxCalled>(cursor, begun.announcing(2));
+        let Ok(header) = take_rest::<BoxCalled>(cursor, begun.announcing(2)) else {
+            unreachable!()
+        };
+        return header;
     }
-    take_begun::<BoxCalled>(cursor, begun)
-}
-
-/// Reads the header of a certified geometry, after its first two bytes, and its box by `B`.
-#[inline(always)]
-fn take_begun<B: RangeReader>(cursor: &mut Cursor, begun: Begun) -> Fields
-    requires xy { IsPrecision begun.xy }
-    requires come { (g : Geometry) × (before : Reading) × HasCome begun cursor.old g 1 before }
-    ensures read { (g : Geometry) (before : Reading) → HasCome begun cursor.old g 1 before
-        → HasRead result cursor.new g 1 before }
-    ensures axes { HavePrecisions result.axes }
-    ensures zeros { IfSome result.bounds (HasZeros (is_some result.axes.z) (is_some result.axes.m)) }
-{
-    let Ok(header) = take_rest::<B>(cursor, begun) else {
+    let Ok(header) = take_rest::<BoxCalled>(cursor, begun) else {
         unreachable!()
     };
     header

@@ -15,7 +15,7 @@ use crate::known::two_ranges;
 use crate::varints::take_number;
 use crate::visit::Visit;
 use twkb_head::{
-    Axes, Begun, BoxCalled, BoxInlined, Fields, Kind, RangeReader, RawBox, RawRange, begun_as,
+    Axes, Begun, BoxCalled, BoxInlined, Fields, Kind, RawBox, RawRange, begun_as,
     begun_by, take_rest,
 };
 use twkb_num::Cursor;
@@ -77,22 +77,25 @@ fn enter_apart<V: Visit>(
         metadata,
         start,
     };
-    // Of these, most have Z or M, a size and a box: there the compiler knows which fields there are.
-    if begun.is_further_boxed() {
-        return enter_begun::<BoxInlined, V>(cursor, begun.announcing(11), visitor);
-    }
-    enter_begun::<BoxCalled, V>(cursor, begun, visitor)
+    enter_begun(cursor, begun, visitor)
 }
 
-/// Enters a geometry whose first two bytes were read, and reads its box by `B`.
+/// Enters a geometry whose first two bytes were read.
 #[inline(always)]
-fn enter_begun<B: RangeReader, V: Visit>(cursor: &mut Cursor, begun: Begun, visitor: &mut V) -> u64
+fn enter_begun<V: Visit>(cursor: &mut Cursor, begun: Begun, visitor: &mut V) -> u64
     requires xy { IsPrecision begun.xy }
     requires come { IsThere (HasCome begun cursor.old) }
     ensures { Enters V.step V.passes (HasCome begun cursor.old)
         (V.state visitor.old) (V.state visitor.new) cursor.new result }
 {
-    let Ok(raw) = take_rest::<B>(cursor, begun) else {
+    // Of these, most have Z or M, a size and a box: there the compiler knows which fields there are.
+    if begun.is_further_boxed() {
+        let Ok(raw) = take_rest::<BoxInlined>(cursor, begun.announcing(11)) else {
+            unreachable!()
+        };
+        return enter_headed(cursor, &raw, visitor);
+    }
+    let Ok(raw) = take_rest::<BoxCalled>(cursor, begun) else {
         unreachable!()
     };
     enter_headed(cursor, &raw, visitor)

@@ -6,7 +6,7 @@ use Rattle.twkb_head.specs.Raw.{ends_of, zero_range, raw_bounds}
 use Rattle.twkb_head.specs.Shared.Reader.{Answer, Reader, ◌>>=◌, viewed, range_from}
 use Rattle.twkb_head.specs.Devices.HeadReader.{axis_from, bounds_from, two_ranges_from}
 use Rattle.twkb_head.specs.Devices.Raw.{two_ranges_result}
-use Rattle.twkb_head.specs.Shared.Ranges.{IsRangeIf}
+use Rattle.twkb_head.specs.Devices.Raw.{IsRangeIf}
 use Rattle.twkb_head.specs.declared.boxes.Bounds.{Bounds}
 use Rattle.twkb_head.specs.declared.boxes.Span.{Span}
 use Rattle.twkb_head.specs.declared.raw.RawBox.{RawBox}

@@ -43,7 +43,7 @@ pub use boxes::{Bounds, Span, Vertex};
 pub use field_readers::malformed;
 pub use header::{BoxField, Head, SizeField};
 pub use kinds::{DEEPEST, Kind};
-pub use ranges::{BoxCalled, BoxInlined, RangeReader};
+pub use ranges::{BoxCalled, BoxInlined};
 pub use raw::{Axes, Fields, RawBox, RawRange};
 pub use read::{Begun, begin_head, begun_as, begun_by, read_head, read_raw, take_rest};
 pub use refusal::{Malformed, Why};

@@ -15,11 +15,6 @@ use Rattle.twkb_body.specs.Devices.Body.{first_of, behind, add, sums, ring_sums,
 abbrev pub point_at : ℕ → PointValue → Reader PointValue
 point_at axes s = many_at axes (λ s z. behind s) (λ s. coordinate_at (first_of s)) s
 
--- n signed numbers, read one after another, lead from one reading to another
-abbrev pub NumbersLead : ℕ → Reading → Reading → Type 0
-NumbersLead zero r stop = r ≡ stop
-NumbersLead (suc n) r stop = (z : ℤ) × (mid : Reading) × (signed_at r ≡ (Ok z, mid)) × NumbersLead n mid stop
-
 -- a number, and then as many values
 abbrev pub prefixed_at : {A : Type 0} → (PointValue → A → PointValue) → (PointValue → Reader A) → PointValue → Reader (List A)
 prefixed_at after each s r = number_at r >>= λ n. many_at n after each s

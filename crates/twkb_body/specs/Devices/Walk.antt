@@ -47,14 +47,6 @@ pub record IsWalked {S : Type 0} (step : S → PointValue → S) (axes : ℕ) (o
 abbrev pub IsPoint : ℕ → Trail → Trail → ℕ → ℕ → PointValue → Type 0
 IsPoint axes old new start stop numbers = IsWalked {S = Unit {0}} (λ s point. s) axes old new tt tt start stop (numbers ∷ [])
 
--- This many points were read, one after another, and added.
-pub record IsRun {S : Type 0} (step : S → PointValue → S) (axes : ℕ) (old new : Trail) (state state' : S)
-    (from to : Reading) (count : ℕ) : Type 0 where
-  pub numbers : List PointValue
-  pub many : length numbers ≡ count
-  pub read : many_at count add (point_at axes) old.last from ≡ (Ok numbers, to)
-  pub walked : IsWalked step axes old new state state' from.place to.place numbers
-
 -- no point changes the state
 abbrev pub IsStill : {S : Type 0} → (S → PointValue → S) → S → Type 0
 IsStill step s = (point : PointValue) → step s point ≡ s

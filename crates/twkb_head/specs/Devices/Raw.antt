@@ -1,6 +1,6 @@
 -- Devices of proofs: nothing public names them.
 -- The fields of a header whose box is raw integers, as they are read.
-use Rattle.std.specs.Prelude.{◌≡◌, ℕ, ℤ, Bool, true, Option, is_some, option_map, Result, Ok, Err}
+use Rattle.std.specs.Prelude.{◌≡◌, ℕ, ℤ, Bool, true, false, Option, is_some, option_map, Result, Ok, Err}
 use Rattle.twkb_head.specs.declared.refusal.Malformed.{Malformed}
 use Rattle.twkb_head.specs.declared.raw.RawBox.{RawBox}
 use Rattle.twkb_num.specs.Cursor.{Reading}
@@ -8,10 +8,9 @@ use Rattle.twkb_head.specs.declared.boxes.Bounds.{Bounds}
 use Rattle.twkb_head.specs.declared.raw.RawRange.{RawRange}
 use Rattle.twkb_head.specs.declared.raw.Fields.{Fields}
 use Rattle.twkb_head.specs.declared.read.Begun.{Begun}
-use Rattle.twkb_head.specs.Shared.Ranges.{IsRangeIf}
 use Rattle.twkb_head.specs.Shared.Reader.{optional_at, range_from}
 use Rattle.twkb_head.specs.Devices.HeadReader.{kind_from_type, byte_at, bounds_from}
-use Rattle.twkb_head.specs.Raw.{ends_of, raw_bounds, head_said}
+use Rattle.twkb_head.specs.Raw.{ends_of, raw_bounds, head_said, zero_range}
 use Rattle.twkb_head.specs.declared.header.Head.{Head}
 
 -- what the code read, in the terms of the definitions, or the fault: a range as its least and its greatest number
@@ -34,6 +33,11 @@ bounds_result_if xy z m (Err w) = Err w
 abbrev pub head_result : Result Fields Malformed → Result Head Malformed
 head_result (Ok raw) = Ok (head_said raw)
 head_result (Err m) = Err m
+
+-- if the axis is there, its range was read; if not, the range is zeros, and nothing was read
+abbrev pub IsRangeIf : Bool → RawRange → Reading → Reading → Type 0
+IsRangeIf true range old new = range_from old ≡ (Ok (ends_of range), new)
+IsRangeIf false range old new = (range ≡ zero_range) × (new ≡ old)
 
 -- the range of an axis that is there was read, or its fault; or it isn't there, and the range is all zeros
 abbrev pub ReadsIf : Bool → Result RawRange Malformed → Reading → Reading → Type 0
