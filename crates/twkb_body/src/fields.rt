@@ -1,6 +1,6 @@
-//! The headers of an audit, and [`FieldSet`], which fields a header has, where that is known before they are read.
+//! The headers of an audit. Which fields a header has may be known before they are read.
 //! Used by `geometry` and `shape`.
-ghost use Rattle.std.specs.Prelude.{◌≡◌, ◌-◌, ◌%◌, ◌==◌, ◌≤◌, bit_and, ℕ, length, IfOk, OnOk, OnErr};
+ghost use Rattle.std.specs.Prelude.{◌≡◌, ◌≢◌, ◌-◌, ◌%◌, ◌==◌, ◌≤◌, bit_and, length, IfOk, OnOk, OnErr};
 ghost use Rattle.twkb_num.specs.Cursor.{Reading, rest, passed, IsMoved, IsSound};
 ghost use Rattle.twkb_head.specs.BegunHeader.{deepest, is_collection};
 ghost use Rattle.twkb_head.specs.Head.{StartsWithHeader, IsHeadAt};
@@ -27,88 +27,31 @@ pub const SIZED_BOX: u8 = 3;
 /// Of these bits, the three for a box, a size and an extended dimensions byte.
 pub const SIZED_FURTHER_BOX: u8 = 0xb;
 
+/// Stands for any of these bits.
+pub const ANY_FIELDS: u8 = 0xff;
+
 /// The bit of a metadata byte for ids.
 const IDS: u8 = 4;
 
-/// The fields that a header announces.
-pub trait FieldSet {
-    /// The metadata bytes that announce them.
-    ghost fits: { ℕ → Type 0 };
-
-    /// The bits of a metadata byte that announces these fields. If they are a constant, the compiler knows which fields there are.
-    fn known(metadata: u8) -> u8
-        requires { fits metadata }
-        ensures { result ≡ metadata % 32 };
-}
-
-/// A body alone.
-pub struct NoField;
-
-/// A size and a box in X and Y, and a body.
-pub struct SizedBox;
-
-/// An extended dimensions byte, a size and a box, and a body.
-pub struct SizedFurtherBox;
-
-/// Any fields.
-pub struct AnyFields;
-
-impl FieldSet for NoField {
-    ghost use Rattle.std.specs.Prelude.{◌≡◌, bit_and};
-
-    ghost fits = { λ metadata. bit_and metadata 27 ≡ 0 };
-
-    #[inline(always)]
-    fn known(metadata: u8) -> u8 {
-        with_fields(metadata, NO_FIELD)
-    }
-}
-
-impl FieldSet for SizedBox {
-    ghost use Rattle.std.specs.Prelude.{◌≡◌, bit_and};
-
-    ghost fits = { λ metadata. bit_and metadata 27 ≡ 3 };
-
-    #[inline(always)]
-    fn known(metadata: u8) -> u8 {
-        with_fields(metadata, SIZED_BOX)
-    }
-}
-
-impl FieldSet for SizedFurtherBox {
-    ghost use Rattle.std.specs.Prelude.{◌≡◌, bit_and};
-
-    ghost fits = { λ metadata. bit_and metadata 27 ≡ 11 };
-
-    #[inline(always)]
-    fn known(metadata: u8) -> u8 {
-        with_fields(metadata, SIZED_FURTHER_BOX)
-    }
-}
-
-impl FieldSet for AnyFields {
-    ghost fits = { λ metadata. Unit {0} };
-
-    #[inline(always)]
-    fn known(metadata: u8) -> u8 {
-        metadata % 32
-    }
-}
-
-/// The bits of a metadata byte that has these of the bits in [`FIELDS`].
+/// The bits of a metadata byte that announce fields. Of the bits in [`FIELDS`] it has `KNOWN`, or any.
+// If they are known, the compiler knows which fields there are.
 #[inline(always)]
-fn with_fields(metadata: u8, fields: u8) -> u8
-    requires { bit_and metadata 27 ≡ fields }
+fn announced<const KNOWN: u8>(metadata: u8) -> u8
+    requires { KNOWN ≢ 255 → bit_and metadata 27 ≡ KNOWN }
     ensures { result ≡ metadata % 32 }
 {
-    fields + (metadata & IDS)
+    if KNOWN == ANY_FIELDS {
+        metadata % 32
+    } else {
+        KNOWN + (metadata & IDS)
+    }
 }
 
-/// Reads the header of a geometry at `depth` that begins with these two bytes, which were just read; `F` knows which fields they
-/// announce. It stops at a malformed field.
+/// Reads the header of a geometry at `depth` that begins with these two bytes, which were just read. Of the bits in [`FIELDS`] the
+/// second one has `KNOWN`, or any. It stops at a malformed field.
 // Two bytes go from function to function in registers.
 #[inline(always)]
-pub fn take_header<F: FieldSet>(
+pub fn take_header<const KNOWN: u8>(
     pass: &mut Pass,
     cursor: &mut Cursor,
     depth: u8,
@@ -117,7 +60,7 @@ pub fn take_header<F: FieldSet>(
 ) -> Result<Fields, Halted>
     requires shallowest { 1 ≤ depth }
     requires deepest { depth ≤ deepest }
-    requires fields { F.fits metadata }
+    requires known { KNOWN ≢ 255 → bit_and metadata 27 ≡ KNOWN }
     requires read { (before : Reading) × AreRead first metadata before cursor.old }
     ensures ok { IfOk result (λ raw. (before : Reading) → AreRead first metadata before cursor.old
         → IsHeadAt (head_said raw) depth before.place (passed before cursor.new) × IsMoved before cursor.new) }
@@ -132,7 +75,7 @@ pub fn take_header<F: FieldSet>(
     let Some(begun) = begun_by(cursor, depth, first, metadata) else {
         return Err(stop_at_header(pass, cursor, start, depth));
     };
-    let known = begun.announcing(F::known(metadata));
+    let known = begun.announcing(announced::<KNOWN>(metadata));
     let Ok(raw) = take_rest::<BoxInlined>(cursor, known) else {
         return Err(stop_at_header(pass, cursor, start, depth));
     };

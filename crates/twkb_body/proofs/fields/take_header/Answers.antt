@@ -23,7 +23,7 @@ pub stop_at_header-requires-in_default-take_rest-clause-malformed : goal.stop_at
 stop_at_header-requires-in_default-take_rest-clause-malformed g c = λ starts.
     let (before, read) = c.requires.read in
     let begins = c.in-Some.ensures.some before read.sound read.moved read.two in
-    let known = announced_same c.in-Some.begun c.announcing-known.result c.args.depth c.known.result before c.args.cursor.now (omega (arith, c.in-Some.ensures.metadata, c.known.ensures)) c.announcing-known.ensures begins in
+    let known = announced_same c.in-Some.begun c.announcing-known.result c.args.depth c.announced.result before c.args.cursor.now (omega (arith, c.in-Some.ensures.metadata, c.announced.ensures)) c.announcing-known.ensures begins in
     let refused = c.in_default-take_rest.ensures.read c.args.depth before read.sound known in
     let place : c.place-start.result - 2 ≡ before.place = omega (arith, c.place-start.ensures.value, two_back before c.args.cursor.now _ _ read.moved read.two) in
     let rest_is = same_rest before (record c.take_rest.new.cursor { place = c.place-start.result - 2 }) (ap (λ (r : Reading). r.bytes) refused.1) place in
@@ -32,12 +32,12 @@ stop_at_header-requires-in_default-take_rest-clause-malformed g c = λ starts.
 pub returns-in_default-take_rest-clause-stopped : goal.returns-in_default-take_rest-clause-stopped
 returns-in_default-take_rest-clause-stopped g c = λ before read.
     let begins = c.in-Some.ensures.some before read.sound read.moved read.two in
-    let known = announced_same c.in-Some.begun c.announcing-known.result c.args.depth c.known.result before c.args.cursor.now (omega (arith, c.in-Some.ensures.metadata, c.known.ensures)) c.announcing-known.ensures begins in
+    let known = announced_same c.in-Some.begun c.announcing-known.result c.args.depth c.announced.result before c.args.cursor.now (omega (arith, c.in-Some.ensures.metadata, c.announced.ensures)) c.announcing-known.ensures begins in
     let refused = c.in_default-take_rest.ensures.read c.args.depth before read.sound known in
     c.stop_at_header-in_default-take_rest.ensures.stopped before (sym (ap (λ (r : Reading). r.bytes) refused.1)) (omega (arith, c.place-start.ensures.value, two_back before c.args.cursor.now _ _ read.moved read.two)) read.sound
 
 pub returns-clause-ok : goal.returns-clause-ok
 returns-clause-ok g c = λ before read.
     let begins = c.in-Some.ensures.some before read.sound read.moved read.two in
-    let known = announced_same c.in-Some.begun c.announcing-known.result c.args.depth c.known.result before c.args.cursor.now (omega (arith, c.in-Some.ensures.metadata, c.known.ensures)) c.announcing-known.ensures begins in
+    let known = announced_same c.in-Some.begun c.announcing-known.result c.args.depth c.announced.result before c.args.cursor.now (omega (arith, c.in-Some.ensures.metadata, c.announced.ensures)) c.announcing-known.ensures begins in
     c.in-Ok.ensures.read c.args.depth before read.sound known
