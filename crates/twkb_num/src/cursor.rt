@@ -298,9 +298,9 @@ impl<'a> Cursor<'a> {
         first.many
     }
 
-    /// Moves past `many` varints, or past none. It finds their ends in words of eight bytes, and returns `None`, with the cursor as
-    /// it was, if before the last one a word is not filled by the bytes, or no varint ends in one half of it (of the first word: in
-    /// its first seven bytes, or in its second half). So each varint that it passes takes at most seven bytes. `None` tells this one
+    /// Moves past `many` varints, or past none. It finds their ends in words of eight bytes, and gives up at a word that the bytes
+    /// don't fill, or in one half of which no varint ends (in the first word: in its first seven bytes, or in its second half). Then
+    /// it returns `None`, and the cursor is as it was. So each varint that it passes takes at most seven bytes. `None` tells this one
     /// bit of bytes that aren't counted. If fewer than `many` bytes are left, it looks at none.
     #[inline(always)]
     pub fn pass_short_varints(&mut self, many: u64) -> Option<()>

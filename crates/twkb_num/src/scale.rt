@@ -41,7 +41,6 @@ pub fn units(coordinate: i128, precision: i8) -> i128
 fn units_in_one(precision: i8) -> i64
     requires { IsPrecision precision }
     ensures value { result ≡ pos (10 ^ unsigned_abs (pos 7 -ℤ precision)) }
-    ensures some { 0 < 10 ^ unsigned_abs (pos 7 -ℤ precision) }
     ensures few { 10 ^ unsigned_abs (pos 7 -ℤ precision) ≤ 10 ^ 15 }
 {
     POWERS[usize::from(7i8.abs_diff(precision))]

@@ -1,4 +1,5 @@
 //! Runs of points, numbers read together and numbers passed: each is compared with single reads.
+ghost use Rattle.std.specs.Prelude.{◌≤◌};
 ghost use Rattle.twkb_num.specs.Numbers.{IsAxes};
 
 use super::*;
@@ -106,6 +107,7 @@ fn run_is_single_reads<const AXES: usize>(
 fn some_are_single_reads<const K: usize>(rt: &impl Abort, bytes: &[u8])
 where
     Wide: Together<K>,
+    requires { K ≤ 8 }
 {
     let mut together = Cursor::new(bytes);
     let mut single = Cursor::new(bytes);
