@@ -15,8 +15,8 @@ use crate::known::two_ranges;
 use crate::varints::take_number;
 use crate::visit::Visit;
 use twkb_head::{
-    Axes, Begun, BoxCalled, BoxInlined, Fields, Kind, RawBox, RawRange, begun_as,
-    begun_by, take_rest,
+    Axes, Begun, BoxCalled, BoxInlined, Fields, Kind, RawBox, RawRange, begun_as, begun_by,
+    take_rest,
 };
 use twkb_num::Cursor;
 

@@ -1,16 +1,13 @@
 -- Devices of proofs: nothing public names them.
 -- How reading points changes the sums under one header, and the state that the points are added to.
-use Rattle.std.specs.Prelude.{◌≡◌, ℕ, ◌+◌, ◌≤◌, List, [], ◌∷◌, length, fold, Ok}
-use Rattle.twkb_num.specs.Cursor.{Reading}
+use Rattle.std.specs.Prelude.{◌≡◌, ℕ, ◌+◌, ◌≤◌, List, [], ◌∷◌, length, fold}
 use Rattle.twkb_head.specs.declared.boxes.Vertex.{Vertex}
 use Rattle.twkb_head.specs.declared.header.Head.{Head}
 use Rattle.twkb_head.specs.declared.raw.Axes.{Axes}
 use Rattle.twkb_head.specs.Header.{Header}
-use Rattle.twkb_head.specs.Shared.Reader.{many_at}
 use Rattle.twkb_body.specs.declared.trail.Trail.{Trail}
 use Rattle.twkb_body.specs.Geometry.{PointValue, vertex_of}
 use Rattle.twkb_body.specs.Devices.Body.{add, sums, zeros, map_from}
-use Rattle.twkb_body.specs.Devices.BodyReader.{point_at}
 
 -- the precisions of a header's axes
 abbrev pub precisions_of : Head → Axes

@@ -1,7 +1,4 @@
 -- The first two bytes were read, and then the rest.
-use Rattle.twkb_num.specs.Cursor.{Reading}
-use Rattle.twkb_head.specs.declared.read.Begun.{Begun}
-use Rattle.twkb_body.specs.Geometry.{Geometry}
 use Rattle.twkb_body.specs.Devices.Skimmed.{HasCome}
 use Rattle.twkb_body.proofs.Beginning.{come_same, rest_read}
 use Rattle.twkb_body.proofs.HeadStands.{header_starts}

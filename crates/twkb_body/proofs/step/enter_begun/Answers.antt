@@ -1,8 +1,4 @@
 -- After the first two bytes the rest of the header is read.
-use Rattle.twkb_num.specs.Cursor.{Reading}
-use Rattle.twkb_head.specs.declared.read.Begun.{Begun}
-use Rattle.twkb_body.specs.Geometry.{Geometry}
-use Rattle.twkb_body.specs.Devices.Skimmed.{HasCome}
 use Rattle.twkb_body.proofs.Beginning.{come_same, rest_read}
 use Rattle.twkb_body.proofs.HeadStands.{header_starts}
 use Rattle.twkb_body.proofs.step.enter_begun.Goals as goal
