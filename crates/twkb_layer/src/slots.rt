@@ -20,9 +20,9 @@ const OFFSET_LIMIT: usize = 1 << 58;
 /// 2^32, which divides a number of 64 bits into its halves.
 const HALF: u64 = 1 << 32;
 
-/// What is added to a word if its blob has a box.
+/// The bit of a slot's word that says that the blob has a box.
 const BOXED: u64 = 16;
-/// What is added to a word if its blob takes four slots.
+/// The bit of a slot's word that says that the blob takes four slots.
 const LONG: u64 = 32;
 /// The word of a slot of Z or M if there is no such axis.
 const NO_AXIS: u64 = 8;
