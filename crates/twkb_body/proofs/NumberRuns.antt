@@ -12,7 +12,7 @@
 -- run_stays, run_leaves: if points can be read, the sums of each axis stay within 64 bits.
 -- run_ends_early: if fewer numbers were read, and then there is a fault, the points can't be read.
 -- two_added, two_are, two_fit, two_stand: a point of two numbers, and the coordinates after it.
-use Rattle.std.proofs.Common.{◌≡◌, ℕ, zero, suc, ◌+◌, ◌-◌, ◌*◌, ◌^◌, ◌<◌, ◌≤◌, inl, inr, Bool, true, false, List, [], ◌∷◌, ◌++◌, length, fold, map, take, drop, ℤ, pos, neg_ℤ, ◌+ℤ◌, ◌≤ℤ◌, ◌<ℤ◌, Ok, refl, sym, ap, ap₂, subst, ◌∙◌, arith, append_assoc, length-append, length-drop, FitsSigned, w64, slice_index_or}
+use Rattle.std.proofs.Common.{negsuc, ◌≡◌, ℕ, zero, suc, ◌+◌, ◌-◌, ◌*◌, ◌^◌, ◌<◌, ◌≤◌, inl, inr, Bool, true, false, List, [], ◌∷◌, ◌++◌, length, fold, map, take, drop, ℤ, pos, neg_ℤ, ◌+ℤ◌, ◌≤ℤ◌, ◌<ℤ◌, Ok, refl, sym, ap, ap₂, subst, ◌∙◌, arith, append_assoc, length-append, length-drop, FitsSigned, w64, slice_index_or}
 use Rattle.std.specs.Prelude.{◌≢◌}
 use Rattle.std.proofs.Math.Nat.{mul-add, mul-suc, mul-le-mul_left, mul-le-mul_right}
 use Rattle.std.proofs.lemmas.Bool.{cases_lt}
@@ -37,12 +37,16 @@ use Rattle.twkb_body.specs.Devices.Body.{first_of, behind, add, sums}
 use Rattle.twkb_body.specs.Devices.BodyReader.{point_at}
 use Rattle.twkb_body.specs.Devices.Columns.{column, sum_fits, Stays, running}
 use Rattle.twkb_body.specs.Devices.Walk.{HaveAxes, lasts_from}
-use Rattle.twkb_body.proofs.BareRuns.{has_64_bits, moved_none}
 use Rattle.twkb_body.proofs.Coordinates.{signed_back}
 use Rattle.twkb_body.proofs.Runs.{IsRun, values_of}
-use Rattle.twkb_body.proofs.Settling.{NumbersLead, no_number, point_numbers}
+use Rattle.twkb_body.proofs.Settling.{moved_none, NumbersLead, no_number, point_numbers}
 use Rattle.twkb_body.proofs.Sums.{fits_signed}
 use Rattle.twkb_body.proofs.Tracing.{many_back, many_then, point_back}
+
+-- a number of 64 bits
+pub has_64_bits : (z : ℤ) → neg_ℤ (pos (2 ^ 63)) ≤ℤ z → z <ℤ pos (2 ^ 63) → FitsSigned w64 z
+has_64_bits (pos n) low high = record { sfits = omega (arith, ints, high) }
+has_64_bits (negsuc n) low high = record { sfits = omega (arith, ints, low) }
 
 -- this many points, each of as many numbers as there are axes
 abbrev pub rows : ℕ → ℕ → List ℤ → List PointValue

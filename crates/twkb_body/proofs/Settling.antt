@@ -1,10 +1,10 @@
 -- Points that can be read are passed as numbers. Points that change no state may be passed.
-use Rattle.std.proofs.Common.{◌≡◌, ℕ, Bool, Option, Some, None, zero, suc, ◌+◌, ◌-◌, ◌*◌, ◌^◌, ◌<◌, ◌≤◌, List, [], ◌∷◌, ◌++◌, length, length-append, fold, ℤ, Ok, Err, refl, ap, sym, subst, ◌∙◌, arith}
+use Rattle.std.proofs.Common.{◌≡◌, ℕ, Option, Some, None, zero, suc, ◌+◌, ◌-◌, ◌*◌, ◌^◌, ◌<◌, ◌≤◌, List, [], ◌∷◌, ◌++◌, length, length-append, fold, ℤ, Ok, Err, refl, ap, sym, subst, ◌∙◌, arith}
 use Rattle.twkb_num.specs.Cursor.{Reading, passed, IsMoved, IsSound}
 use Rattle.twkb_num.specs.Numbers.{PassesNumbers, StopsAmong, StopsAt}
-use Rattle.twkb_num.specs.Varint.{SpellsAll, zigzag_value}
+use Rattle.twkb_num.specs.Varint.{Spells, SpellsAll, zigzag_value}
 use Rattle.twkb_num.specs.declared.varint.NumFault.{NumFault}
-use Rattle.twkb_num.proofs.CursorLemmas.{IsMoved-here, IsMoved-after, IsSound-moved}
+use Rattle.twkb_num.proofs.CursorLemmas.{IsMoved-two, IsMoved-here, IsMoved-after, IsSound-moved}
 use Rattle.twkb_head.specs.Header.{axes_with}
 use Rattle.twkb_head.specs.Shared.Reader.{Answer, Reader, many_at, signed_at}
 use Rattle.twkb_head.proofs.Combinators.{after_all}
@@ -17,12 +17,13 @@ use Rattle.twkb_body.specs.Geometry.{PointValue}
 use Rattle.twkb_body.specs.Devices.Body.{first_of, behind, add, sums}
 use Rattle.twkb_body.specs.Devices.BodyReader.{point_at}
 use Rattle.twkb_body.specs.Devices.Walk.{HaveAxes, lasts_from, IsStill}
-use Rattle.twkb_body.proofs.BareRuns.{peel, moved_none}
 use Rattle.twkb_body.proofs.Coordinates.{coordinate_ahead, signed_back}
 use Rattle.twkb_body.proofs.Runs.{IsRun, values_of, goes_far}
 use Rattle.twkb_body.proofs.Sums.{after_points}
 use Rattle.twkb_body.proofs.Tracing.{many_back, point_back}
 use Rattle.twkb_body.proofs.Walks.{walked_then}
+use Rattle.std.proofs.lemmas.Grind.{common_steps}
+
 
 -- ---- numbers, one after another
 -- n signed numbers, read one after another, lead from one reading to another
@@ -49,6 +50,26 @@ numbers_rest (suc n) (suc m) r mid stop le (z, q, one, others) (y, t, first, res
     let less : suc m - suc n ≡ m - n = omega arith in
     let same : q ≡ t = (one_answer (signed_at r) z y q t one first).1 in
     rw less (numbers_rest n m q mid stop (omega (arith, le)) others (subst (λ (p : Reading). NumbersLead m p stop) (sym same) rest))
+
+-- a move past no bytes leaves the reading as it is
+pub moved_none : (r new : Reading) → IsSound r → IsMoved r new → passed r new ≡ [] → r ≡ new
+moved_none r new sound moved none =
+    let long : length (passed r new) ≡ new.place - r.place = grind (arith, common_steps, moved.within) in
+    let here : r.place ≡ new.place = omega (arith, long, ap length none, moved.ahead) in
+    let count : r.count ≡ new.count = omega (arith, moved.count, here, sound.count_fits) in
+    λ j. record { bytes = sym moved.bytes j; place = here j; count = count j }
+
+-- the first of many numbers that one move passes
+peel : (r new : Reading) (n : ℕ) (ns : List ℕ) → SpellsAll (passed r new) (n ∷ ns) → IsMoved r new
+    → (mid : Reading) × IsMoved r mid × IsMoved mid new × Spells (passed r mid) n × SpellsAll (passed mid new) ns
+peel r new n ns (front, rest, whole, first, all) moved =
+    let way = IsMoved-two r new front rest moved whole in (
+      way.0,
+      way.1,
+      way.2,
+      subst (λ (bs : List ℕ). Spells bs n) (sym way.3) first,
+      subst (λ (bs : List ℕ). SpellsAll bs ns) (sym way.4) all,
+    )
 
 -- numbers that are spelled are read
 spelled_lead : (ns : List ℕ) (r new : Reading) → IsSound r → SpellsAll (passed r new) ns → IsMoved r new → NumbersLead (length ns) r new
@@ -80,8 +101,8 @@ points_numbers axes (suc count) s r stop ps e =
     rw all (NumbersLead-append axes (count * axes) r b.middle stop (point_numbers axes s r b.middle b.first b.one) (points_numbers axes count (add s b.first) b.middle stop b.others b.rest))
 
 -- ---- numbers that are passed by one call
-passes_lead : (many : ℕ) (are_small : Bool) (r mid : Reading) → IsSound r → PassesNumbers many r mid are_small → NumbersLead many r mid
-passes_lead many are_small r mid sound passes = subst (λ (n : ℕ). NumbersLead n r mid) passes.count (spelled_lead passes.numbers r mid sound passes.spelled passes.moved)
+passes_lead : (many : ℕ) (r mid : Reading) → IsSound r → PassesNumbers many r mid → NumbersLead many r mid
+passes_lead many r mid sound passes = subst (λ (n : ℕ). NumbersLead n r mid) passes.count (spelled_lead passes.numbers r mid sound passes.spelled passes.moved)
 
 -- where there is a fault, no number can be read
 pub no_number : (b c mid : Reading) (fault : NumFault) (z : ℤ) → StopsAt b c fault → signed_at b ≡ (Ok z, mid) → ⊥
@@ -95,14 +116,14 @@ no_number_leads (suc n) b c stop fault some stops (z, mid, one, others) = no_num
 pub points_stand : (axes count : ℕ) (s : PointValue) (r new stop : Reading) (ps : List PointValue) (fault : NumFault) → IsSound r → StopsAmong (count * axes) r new fault → many_at count add (point_at axes) s r ≡ (Ok ps, stop) → ⊥
 points_stand axes count s r new stop ps fault sound f e =
     no_number_leads (count * axes - f.before) f.middle new stop fault (omega (arith, f.fewer)) f.stops
-    (numbers_rest f.before (count * axes) r f.middle stop (omega (arith, f.fewer)) (passes_lead f.before f.are_small r f.middle sound f.numbers) (points_numbers axes count s r stop ps e))
+    (numbers_rest f.before (count * axes) r f.middle stop (omega (arith, f.fewer)) (passes_lead f.before r f.middle sound f.numbers) (points_numbers axes count s r stop ps e))
 
 -- and this leads to their end
-pub points_passed : (axes count : ℕ) (are_small : Bool) (s : PointValue) (r new stop : Reading) (ps : List PointValue) → IsSound r → PassesNumbers (count * axes) r new are_small → many_at count add (point_at axes) s r ≡ (Ok ps, stop) → new ≡ stop
-points_passed axes count are_small s r new stop ps sound passes e =
+pub points_passed : (axes count : ℕ) (s : PointValue) (r new stop : Reading) (ps : List PointValue) → IsSound r → PassesNumbers (count * axes) r new → many_at count add (point_at axes) s r ≡ (Ok ps, stop) → new ≡ stop
+points_passed axes count s r new stop ps sound passes e =
     let none : count * axes - count * axes ≡ 0 = omega arith in
     subst (λ (n : ℕ). NumbersLead n new stop) none
-    (numbers_rest (count * axes) (count * axes) r new stop (omega arith) (passes_lead (count * axes) are_small r new sound passes) (points_numbers axes count s r stop ps e))
+    (numbers_rest (count * axes) (count * axes) r new stop (omega arith) (passes_lead (count * axes) r new sound passes) (points_numbers axes count s r stop ps e))
 
 -- ---- values that are read one after another
 module _ {A S : Type 0} (after : S → A → S) (each : S → Reader A) (count : ℕ) where

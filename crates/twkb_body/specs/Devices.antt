@@ -4,7 +4,7 @@ pub mod BodyReader
 pub mod Pass
 pub mod Ranges
 pub mod Walk
-pub mod Bare
+pub mod FlatPoint
 pub mod PointReader
 pub mod Found
 pub mod Seen
@@ -12,6 +12,7 @@ pub mod Inside
 pub mod IdLists
 pub mod Stops
 pub mod Tight
+pub mod Audits
 pub mod Standing
 pub mod Known
 pub mod Skimmed

@@ -27,7 +27,7 @@ pub const SIZED_BOX: u8 = 3;
 /// Of these bits, the three for a box, a size and an extended dimensions byte.
 pub const SIZED_FURTHER_BOX: u8 = 0xb;
 
-/// Stands for any of these bits.
+/// The value of `KNOWN` for a header that may announce any of the bits in [`FIELDS`].
 pub const ANY_FIELDS: u8 = 0xff;
 
 /// The bit of a metadata byte for ids.

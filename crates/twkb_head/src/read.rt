@@ -20,7 +20,11 @@ use crate::kinds::{Kind, kind_at};
 use crate::ranges::{BoxCalled, RangeReader, take_box};
 use crate::raw::{Axes, Fields};
 use crate::refusal::Malformed;
-use twkb_num::{Cursor, TYPE_AND_FIELDS};
+use twkb_num::Cursor;
+
+/// A mask for the first two bytes of a geometry, as one number whose low byte is the first. It keeps the bits that tell the type, which
+/// fields follow, and whether the geometry is empty (TWKB specification, "Type & Precision" and "Metadata Header").
+const TYPE_AND_FIELDS: u16 = 0x1f0f;
 
 /// Reads the header at the place, of a geometry at `depth`, where a blob has depth 1.
 ///

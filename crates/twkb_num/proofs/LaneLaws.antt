@@ -1,7 +1,7 @@
 -- The numbers that the code computes in lanes are the numbers of the definitions, lane by lane.
 use Rattle.std.proofs.Common.{◌≡◌, map, eqb, zero, suc, subst, get_or, ℕ, ℤ, ◌+◌, ◌-◌, ◌*◌, ◌<◌, length, replicate, ◌/◌, ◌%◌, ◌^◌, List, [], ◌∷◌, Bool, cond, bit_and, refl, sym, ap, ◌∙◌, arith, inl, inr}
 use Rattle.std.specs.Int.{cast_signed, bit_not}
-use Rattle.std.specs.Prelude.{pos, neg_ℤ, All}
+use Rattle.std.specs.Prelude.{pos, neg_ℤ, ◌≤ℤ◌, ◌<ℤ◌, All}
 use Rattle.std.proofs.lemmas.List.{length-map, get_or-map}
 use Rattle.std.proofs.lemmas.Nat.{and_mask, and_block}
 use Rattle.std.proofs.lemmas.Bool.{cases_lt, cond-true, cond-false, eq-eqb, ne_eqb}
@@ -12,7 +12,7 @@ use mir.Syntax.{Width}
 use mir.Val.{bits, hbits}
 use lib.Lanes.{zip2, sel_l, top, number_l, digits_l}
 use Rattle.std.proofs.lemmas.Simd.{zip2_of_maps, splat_is_map, map-map, tops_compared}
-use Rattle.twkb_num.specs.Varint.{zigzag_value, IsBrief, IsShort}
+use Rattle.twkb_num.specs.Varint.{zigzag_value}
 use Rattle.twkb_num.specs.Devices.Lanes.{value_at, values}
 
 -- the groups of seven bits of two bytes, joined
@@ -100,21 +100,16 @@ lanes_mean w bit far number some tells halved fits v lanes halves are are_halves
     ∙ ap (map (cast_signed w)) (sel_map (λ i. eqb (bit_and (marked i) bit) bit) (λ i. bit_not w (half i)) half v)
     ∙ map-map (cast_signed w) chosen v ∙ (λ j. map (λ i. turned_means w (number i) (marked i) bit (fits i) some (tells (number i)) j) v) ∙ sym (map-map zigzag_value number v)
 
--- a number below 2^14 means a brief one by zigzag
-pub brief_number : (n : ℕ) → n < 2 ^ 14 → IsBrief (zigzag_value n)
-brief_number n h =
+-- a number below twice the limit means by zigzag one within the limit
+pub means_within : (limit n : ℕ) → n < 2 * limit → (neg_ℤ (pos limit) ≤ℤ zigzag_value n) × (zigzag_value n <ℤ pos limit)
+means_within limit n h =
     elim (cases_lt (n % 2) 1) [
-      | inl even ↦ subst IsBrief (sym (cond-true (eqb (n % 2) 0) (pos (n / 2)) _ (eq-eqb (n % 2) 0 (omega (arith, even))))) (search (arith, ints), search (arith, ints, h))
-      | inr odd ↦ subst IsBrief (sym (cond-false (eqb (n % 2) 0) _ (neg_ℤ (pos ((n + 1) / 2))) (ne_eqb (n % 2) 0 (λ e. omega (arith, e, odd))))) (search (arith, ints, h), search (arith, ints, h))
+      | inl even ↦ subst Within (sym (cond-true (eqb (n % 2) 0) (pos (n / 2)) _ (eq-eqb (n % 2) 0 (omega (arith, even))))) (omega (arith, ints), omega (arith, ints, h))
+      | inr odd ↦ subst Within (sym (cond-false (eqb (n % 2) 0) _ (neg_ℤ (pos ((n + 1) / 2))) (ne_eqb (n % 2) 0 (λ e. omega (arith, e, odd))))) (omega (arith, ints, h), omega (arith, ints, h))
     ]
-
--- a number below 2^28 means a short one by zigzag
-pub short_number : (n : ℕ) → n < 2 ^ 28 → IsShort (zigzag_value n)
-short_number n h =
-    elim (cases_lt (n % 2) 1) [
-      | inl even ↦ subst IsShort (sym (cond-true (eqb (n % 2) 0) (pos (n / 2)) _ (eq-eqb (n % 2) 0 (omega (arith, even))))) (search (arith, ints), search (arith, ints, h))
-      | inr odd ↦ subst IsShort (sym (cond-false (eqb (n % 2) 0) _ (neg_ℤ (pos ((n + 1) / 2))) (ne_eqb (n % 2) 0 (λ e. omega (arith, e, odd))))) (search (arith, ints, h), search (arith, ints, h))
-    ]
+  where
+    Within : ℤ → Type 0
+    Within z = (neg_ℤ (pos limit) ≤ℤ z) × (z <ℤ pos limit)
 
 -- a property holds of what all these numbers mean by zigzag, if it holds for the number at each place
 pub all_mean : (P : ℤ → Type 0) (number : ℕ → ℕ) → ((i : ℕ) → P (zigzag_value (number i))) → (v : List ℕ) → All P (map zigzag_value (map number v))

@@ -1,13 +1,13 @@
 -- Bytes whose ends are counted, and the numbers that they spell. A varint may go on from one word into the next.
-use Rattle.std.proofs.Common.{◌≡◌, ℕ, zero, suc, ◌+◌, ◌-◌, ◌^◌, ◌<◌, ◌≤◌, List, [], ◌∷◌, ◌++◌, length, take, drop, slice_index, refl, sym, ap, subst, ◌∙◌, ◌⊎◌, inl, inr, arith, length-append, length-take, length-drop, true, false}
+use Rattle.std.proofs.Common.{◌≡◌, ℕ, zero, suc, ◌+◌, ◌-◌, ◌^◌, ◌<◌, ◌≤◌, List, [], ◌∷◌, ◌++◌, length, take, drop, slice_index, refl, sym, ap, subst, ◌∙◌, ◌⊎◌, inl, inr, arith, length-append, length-take, length-drop}
 use Rattle.std.proofs.Math.ListN.{get_or-append}
 use Rattle.std.proofs.Math.Nat.{pow-le-pow_right}
-use Rattle.std.proofs.Math.Seq.{get_or-append_seam, get_or-append_right, take-add, take-append_seam, take-length}
+use Rattle.std.proofs.Math.Seq.{get_or-append_seam, get_or-append_right, take-add, take-append_seam}
 use Rattle.std.proofs.lemmas.Bool.{cases_lt}
 use Rattle.std.proofs.lemmas.Grind.{common_steps}
 use Rattle.std.proofs.lemmas.List.Elements.{All-nil, All-cons, All-append}
-use Rattle.std.proofs.lemmas.List.{get_or-take, get_or-drop, take_more, append-nil, append_assoc, take-take}
-use Rattle.twkb_num.specs.Varint.{Spells, SpellsAll, sum_of_groups, SpellsMany, IsStuck}
+use Rattle.std.proofs.lemmas.List.{take_more, append-nil, append_assoc, take-take}
+use Rattle.twkb_num.specs.Varint.{Spells, SpellsAll, sum_of_groups, SpellsMany}
 use Rattle.twkb_num.specs.Devices.Ends.{ended, ends_to, IsEnd, IsLastEnd, IsFrontOf}
 use Rattle.twkb_num.proofs.VarintLemmas.{sum_of_groups-lt}
 use Rattle.twkb_num.proofs.NthEnds.{ended_once}
@@ -281,62 +281,3 @@ module _ (bytes : List ℕ) (many left done low : ℕ) (l : IsEndsLoop bytes man
     within = reaches;
     few = omega (arith, fewer, l.few);
   }
-
--- bytes up to the second end in a word spell two numbers
-pub second_end_spells : (word : List ℕ) (size : ℕ) → length word ≡ 8 → IsEnd word 2 size → IsFrontOf word 2 size
-second_end_spells word size eight end =
-    let all : word ≡ take 8 word = sym (ap (λ (n : ℕ). take n word) (sym eight) ∙ take-length word) in
-    let early : 1 ≤ ends_to word 7 = omega (arith, end.count, ends_to_grow word size 8 end.few, ended_once word 7) in
-    let here : 0 + size ≡ size = omega arith in
-    subst (IsFrontOf word 2) here (ends_here word 2 2 0 (2 ^ 56 - 1) (ends_begin word 2) word all (omega (arith, eight)) (λ e. early) (λ e. absurd (omega (arith, e))) size end)
-
--- ---- where it stops
--- bytes that no end is among go on
-no_ends : (bytes : List ℕ) (i n k : ℕ) → i ≤ k → k < n → ends_to bytes n ≤ ends_to bytes i → 128 ≤ slice_index bytes k
-no_ends bytes i n k from to none =
-    let below : ends_to bytes i ≤ ends_to bytes k = ends_to_grow bytes i k from in
-    let above : ends_to bytes (suc k) ≤ ends_to bytes n = ends_to_grow bytes (suc k) n (omega (arith, to)) in
-    let is : ended bytes k ≡ 0 = omega (arith, below, above, none) in
-    omega (arith, is)
-
--- the bytes after the last end are the number that was begun
-last_size : (bytes : List ℕ) (many begun size : ℕ) → IsPassed bytes many begun → IsLastEnd bytes size → size + begun ≡ length bytes
-last_size bytes many begun size p l = omega (arith, last_front bytes many begun size p l, ap length p.whole ∙ length-append p.front p.last, p.long)
-
-module _ (bytes : List ℕ) (many left done low size : ℕ) (l : IsEndsLoop bytes many left done low) (last : IsLastEnd (take done bytes) size) where
-  sum : size + l.begun ≡ done
-  sum = omega (arith, last_size (take done bytes) (many - left) l.begun size l.passed last, length-take done bytes, l.within)
-
-  three : l.begun ≤ 3
-  three = elim l.below [
-    | inl first ↦ omega (arith, first.1)
-    | inr other ↦ other.1
-  ]
-
-  pub stuck_at_end : length (drop done bytes) < 8 → IsStuck 4 11 (drop size bytes)
-  stuck_at_end few = inl (omega (arith, few, sum, three, l.within, length-drop done bytes, length-drop size bytes))
-
-  -- four bytes of the next word have no end
-  stuck_in : (word : List ℕ) → word ≡ take 8 (drop done bytes) → (i : ℕ) → i ≤ 4 → ends_to word (i + 4) ≤ ends_to word i → IsStuck 4 11 (drop size bytes)
-  stuck_in word is i few none = inr (l.begun + i, omega (arith, three, few), go)
-    where
-      go : (k : ℕ) → k < 4 → 128 ≤ slice_index (drop size bytes) (l.begun + i + k)
-      go k h =
-          let at : size + (l.begun + i + k) ≡ done + (i + k) = omega (arith, sum) in
-          let there : slice_index word (i + k) ≡ slice_index bytes (done + (i + k)) = ap (λ (bs : List ℕ). slice_index bs (i + k)) is ∙ get_or-take 8 (drop done bytes) (i + k) 0 (omega (arith, few, h)) ∙ get_or-drop done bytes (i + k) 0 in
-          omega (arith, no_ends word i (i + 4) (i + k) (omega arith) (omega (arith, h)) none, there, ap (slice_index bytes) at, get_or-drop size bytes (l.begun + i + k) 0)
-
-  pub stuck_low : (word : List ℕ) → word ≡ take 8 (drop done bytes) → (low ≡ 2 ^ 56 - 1 → 1 ≤ ends_to word 7 → false ≡ true) → (low ≡ 2 ^ 32 - 1 → 1 ≤ ends_to word 4 → false ≡ true) → IsStuck 4 11 (drop size bytes)
-  stuck_low word is seven four = stuck_in word is 0 (omega arith) (elim (cases_lt (ends_to word 4) 1) [
-    | inl none ↦ omega (arith, none)
-    | inr some ↦ elim l.below [
-      | inl first ↦ absurd (cc (seven first.0 (omega (arith, some, ends_to_grow word 4 7 (omega arith)))))
-      | inr other ↦ absurd (cc (four other.0 some))
-    ]
-  ])
-
-  pub stuck_high : (word : List ℕ) → word ≡ take 8 (drop done bytes) → (ends_to word 4 < ends_to word 8 → false ≡ true) → IsStuck 4 11 (drop size bytes)
-  stuck_high word is high = stuck_in word is 4 (omega arith) (elim (cases_lt (ends_to word 4) (ends_to word 8)) [
-    | inl more ↦ absurd (cc (high more))
-    | inr none ↦ none
-  ])

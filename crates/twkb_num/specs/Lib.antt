@@ -1,8 +1,6 @@
 -- What the contracts of this crate name, in reading order.
 pub mod Varint
-pub mod Point
 pub mod Cursor
 pub mod Numbers
-pub mod Runs
 pub mod Units
 pub mod Devices

@@ -1,19 +1,13 @@
 -- Numbers that a cursor passes or reads, one after another.
-use Rattle.std.specs.Prelude.{◌≡◌, ◌+◌, ◌*◌, ◌<◌, ◌^◌, ◌⊎◌, nat_lt, nat_eq, if◌then◌else◌, Bool, ℕ, ℤ, pos, List, ◌++◌, length, take, drop, slice_index_or}
-use Rattle.std.specs.List.{list_all}
+use Rattle.std.specs.Prelude.{◌≡◌, ◌+◌, ◌*◌, ◌<◌, ◌⊎◌, nat_eq, if◌then◌else◌, ℕ, ℤ, pos, List, ◌++◌, length, take, drop, slice_index_or}
 use Rattle.twkb_num.specs.Cursor.{Reading, passed, rest, counted, IsMoved}
 use Rattle.twkb_num.specs.Varint.{SpellsAll, SpellsAllSigned, Faults, looked_at}
 use Rattle.twkb_num.specs.declared.varint.NumFault.{NumFault}
 
--- whether a number is below 2^49
-abbrev pub is_small : ℕ → Bool
-is_small n = nat_lt n (2 ^ 49)
-
--- this many numbers were passed, and each byte of them was counted; they are all below 2^49, or not
-pub record PassesNumbers (many : ℕ) (old new : Reading) (are_small : Bool) : Type 0 where
+-- this many numbers were passed, and each byte of them was counted
+pub record PassesNumbers (many : ℕ) (old new : Reading) : Type 0 where
   pub numbers : List ℕ
   pub count : length numbers ≡ many
-  pub small : are_small ≡ list_all is_small numbers
   pub spelled : SpellsAll (passed old new) numbers
   pub moved : IsMoved old new
 
@@ -26,8 +20,7 @@ pub record StopsAmong (many : ℕ) (old new : Reading) (fault : NumFault) : Type
   pub before : ℕ
   pub fewer : before < many
   pub middle : Reading
-  pub are_small : Bool
-  pub numbers : PassesNumbers before old middle are_small
+  pub numbers : PassesNumbers before old middle
   pub stops : StopsAt middle new fault
 
 -- these numbers were read, in this order, and each byte of them was counted

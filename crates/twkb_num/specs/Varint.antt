@@ -1,5 +1,5 @@
 -- Varints: which bytes spell which number, what a number means by zigzag, and the two faults.
-use Rattle.std.specs.Prelude.{◌≡◌, ℕ, ◌+◌, ◌-◌, ◌*◌, ◌/◌, ◌%◌, ◌^◌, ◌<◌, ◌≤◌, ◌==◌, if◌then◌else◌, ℤ, pos, neg_ℤ, ◌≤ℤ◌, ◌<ℤ◌, List, [], ◌∷◌, ◌++◌, length, take, drop, slice_index, All, ◌⊎◌}
+use Rattle.std.specs.Prelude.{◌≡◌, ℕ, ◌+◌, ◌-◌, ◌*◌, ◌/◌, ◌%◌, ◌^◌, ◌<◌, ◌≤◌, ◌==◌, if◌then◌else◌, ℤ, pos, neg_ℤ, ◌≤ℤ◌, ◌<ℤ◌, List, [], ◌∷◌, ◌++◌, length, slice_index, All}
 use Rattle.twkb_num.specs.declared.varint.NumFault.{NumFault}
 use Rattle.twkb_num.specs.declared.varint.NumFault.TheVariants.{Cut, Long}
 
@@ -71,20 +71,3 @@ pub record SpellsMany (bytes : List ℕ) (many : ℕ) : Type 0 where
   pub count : length numbers ≡ many
   pub small : All (λ n. n < 2 ^ 49) numbers
   pub spelled : SpellsAll bytes numbers
-
--- among the first `within` bytes, n go on, one after another
-abbrev pub HasLong : ℕ → ℕ → List ℕ → Type 0
-HasLong n within bytes = (at : ℕ) × (at + n ≤ within) × ((k : ℕ) → k < n → 128 ≤ slice_index bytes (at + k))
-
--- fewer than `within` bytes, or n in a row of the first `within` go on
-abbrev pub IsStuck : ℕ → ℕ → List ℕ → Type 0
-IsStuck n within bytes = (length bytes < within) ⊎ HasLong n within bytes
-
--- the bytes spell fewer than `many` numbers, and then fewer than eleven are left, or four in a row of the next eleven go on
-pub record StopsBefore (many : ℕ) (bytes : List ℕ) : Type 0 where
-  pub count : ℕ
-  pub size : ℕ
-  pub fewer : count < many
-  pub within : size ≤ length bytes
-  pub spells : SpellsMany (take size bytes) count
-  pub stuck : IsStuck 4 11 (drop size bytes)

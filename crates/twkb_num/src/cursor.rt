@@ -1,7 +1,7 @@
 //! A cursor over bytes, which counts what it reads. Used by other crates.
-ghost use Rattle.std.specs.Prelude.{◌≡◌, ◌+◌, ◌-◌, ◌<◌, ◌≤◌, ◌^◌, ◌↔◌, ◌⊎◌, ℕ, ℤ, List, [], ◌∷◌, ◌++◌, length, take, false, IsNone, IfOk, IfErr, IfSome, IfNone, OnOk, OnSome};
+ghost use Rattle.std.specs.Prelude.{◌≡◌, ◌+◌, ◌-◌, ◌<◌, ◌≤◌, ◌^◌, ◌↔◌, ℕ, ℤ, List, [], ◌∷◌, ◌++◌, length, take, false, IsNone, IfOk, IfErr, IfSome, IfNone, OnOk, OnSome};
 ghost use Rattle.twkb_num.specs.Cursor.{rest, passed, counted, IsMoved, IsSound};
-ghost use Rattle.twkb_num.specs.Varint.{SpellsMany, Spells, IsSigned, Faults, IsCut, looked_at, StopsBefore};
+ghost use Rattle.twkb_num.specs.Varint.{SpellsMany, Spells, IsSigned, Faults, IsCut, looked_at};
 ghost use Rattle.twkb_num.specs.declared.varint.NumFault.TheVariants.{Cut};
 ghost use Rattle.twkb_num.specs.Devices.Varint.{IsBegunBy};
 
@@ -19,29 +19,6 @@ use std::marker::Model;
 /// what single reads of these numbers return, one after another, and leave the cursor where the last of these leaves it. They may
 /// read short numbers together and touch bytes after them, but neither a result, nor a place, nor a count depends on such a byte.
 /// So they tell nothing of bytes that aren't counted.
-///
-/// Four other calls pass numbers by words of eight bytes. They touch bytes after the numbers too, as reading a cache line does, but
-/// count only the bytes of the numbers. If such a call fails (returns `None`), its caller learns something about bytes that aren't
-/// counted: a number is too long for the call, the end is near, no point of the right form is there
-/// ([`Cursor::pass_short_point`]), or (the last two calls below) a count can't be read or is too large. This list says when a call
-/// may fail, and which clause says so. Where a call may fail, no clause says whether it does, except where the clause is `exact`;
-/// only the code shows that this choice tells nothing else. A byte *goes on* if it is at least 128.
-///
-/// - [`Cursor::pass_short_point`]: fewer than eleven bytes are left, or the first two don't begin a point with no field or with a
-///   size alone. Without a size, it may also be that at most one of the eight bytes after the first two ends a varint. With a size,
-///   it may be that at most one of the eight after the third does, or that the first two varints there don't take as many bytes as
-///   the third byte says (`exact`).
-/// - [`Cursor::pass_short_varints`]: fewer bytes are left than numbers were requested, or after fewer numbers fewer than eleven
-///   bytes are left or four in a row of the next eleven go on (`told`). At most 65,536 numbers may be requested.
-/// - [`Cursor::pass_short_runs`]: after fewer runs than were requested, a count can't be read, or is greater than what is left of
-///   `most`, or [`Cursor::pass_short_varints`] may fail at the run (`told`). It passes at most 65,536 numbers after their counts.
-/// - [`Cursor::pass_counted_runs`]: the number of runs can't be read or is greater than 65,536, or [`Cursor::pass_short_runs`]
-///   may fail at the runs (`told`).
-///
-/// The last two compare counts in the bytes with their arguments. So code that calls them several times at one place, with
-/// different arguments, can learn more than one bit about a count whose bytes aren't counted. For the bytes `[b, 0]`,
-/// `pass_short_runs(1, 0, 126)` returns `None` exactly if b is 127 or 255, and `pass_short_runs(2, 0, 127)` exactly if b is at
-/// least 128: both do exactly if b is 255. No contract here excludes such code.
 ///
 /// [`Prefetch`] reads one byte of each of the next pages of memory, and tells nothing about it.
 ///
@@ -297,41 +274,14 @@ impl<'a> Cursor<'a> {
         self.place += first.size;
         first.many
     }
-
-    /// Moves past `many` varints, or past none. It finds their ends in words of eight bytes, and gives up at a word that the bytes
-    /// don't fill, or in one half of which no varint ends (in the first word: in its first seven bytes, or in its second half). Then
-    /// it returns `None`, and the cursor is as it was. So each varint that it passes takes at most seven bytes. `None` tells this one
-    /// bit of bytes that aren't counted. If fewer than `many` bytes are left, it looks at none.
-    #[inline(always)]
-    pub fn pass_short_varints(&mut self, many: u64) -> Option<()>
-        requires { many ≤ 2 ^ 16 }
-        ensures some { OnSome result (SpellsMany (passed self.old self.new) many) }
-        ensures told { IfNone result ((length (rest self.old) < many) ⊎ StopsBefore many (rest self.old)) }
-        ensures moved { OnSome result (IsMoved self.old self.new) }
-        ensures none { IfNone result (self.new ≡ self.old) }
-    {
-        let bytes = &self.bytes[self.place..];
-        if (bytes.len() as u64) < many {
-            return None;
-        }
-        let front = first_varints(bytes, many);
-        if front.many < many {
-            return None;
-        }
-        self.place += front.size;
-        Some(())
-    }
 }
 
 mod lanes;
 mod numbers;
 mod pages;
-mod point;
 mod points;
-mod runs;
 #[cfg(test)]
 mod tests;
 
 pub use pages::Prefetch;
-pub use point::TYPE_AND_FIELDS;
 pub use points::TakePoints;

@@ -1,7 +1,6 @@
-//! Where varints end, found in words of eight bytes. Used by `cursor` and `cursor/point`.
-ghost use Rattle.std.specs.Prelude.{◌≡◌, ◌↔◌, ◌+◌, ◌*◌, ◌-◌, ◌≤◌, ◌<◌, ◌^◌, drop, IsTrue, IfSome, IfNone};
-ghost use Rattle.twkb_num.specs.Varint.{IsStuck};
-ghost use Rattle.twkb_num.specs.Devices.Ends.{EndsOnce, ended, ends_to, eight_bytes, IsEnd, IsLastEnd, IsFrontOf};
+//! Where varints end, found in words of eight bytes. Used by `cursor`.
+ghost use Rattle.std.specs.Prelude.{◌≡◌, ◌↔◌, ◌+◌, ◌*◌, ◌-◌, ◌≤◌, ◌<◌, ◌^◌, IsTrue};
+ghost use Rattle.twkb_num.specs.Devices.Ends.{ended, ends_to, eight_bytes, IsEnd, IsLastEnd, IsFrontOf};
 
 /// The top bit of each byte of a word, which is set where a varint goes on.
 const TOPS: u64 = 0x8080_8080_8080_8080;
@@ -13,21 +12,6 @@ const ONES: u64 = 0x0101_0101_0101_0101;
 const SEVEN: u64 = 0x00ff_ffff_ffff_ffff;
 
 const FOUR: u64 = 0xffff_ffff;
-
-/// The length of the first two varints together, if both end in the eight bytes.
-#[inline(always)]
-pub fn second_end(bytes: &[u8; 8]) -> Option<usize>
-    ensures few { IfSome result (λ size. size ≤ 8) }
-    ensures front { IfSome result (IsFrontOf bytes.now 2) }
-    ensures told { IfNone result (EndsOnce bytes.now) }
-{
-    let ends = tops_of_ends(bytes);
-    let others = ends & ends.wrapping_sub(1);
-    if others == 0 {
-        return None;
-    }
-    Some((others.trailing_zeros() / 8) as usize + 1)
-}
 
 /// Varints at the front of bytes: how many, and how many bytes they take.
 #[derive(Clone, Copy)]
@@ -44,7 +28,6 @@ pub struct FirstVarints {
 pub fn first_varints(bytes: &[u8], many: u64) -> FirstVarints
     ensures few { result.many ≤ many }
     ensures front { IsFrontOf bytes.now result.many result.size }
-    ensures stuck { result.many < many → IsStuck 4 11 (drop result.size bytes.now) }
 {
     let mut left = many;
     let mut done = 0;

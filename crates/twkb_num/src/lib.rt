@@ -6,16 +6,10 @@
 //! - [`Cursor::uvarint`] and [`Cursor::svarint`] read the number at the cursor's place, or return one of two faults
 //!   ([`NumFault`]). They are the hot path: numbers of one and of two bytes take no loop.
 //! - [`Cursor::svarints`] reads some signed numbers, [`Cursor::take_run`] reads points and gives their numbers to a [`TakePoints`],
-//!   and [`Cursor::pass_numbers`] moves past numbers and says whether all are below 2^49. A caller says how many, and each call does
+//!   and [`Cursor::pass_numbers`] moves past numbers. A caller says how many, and each call does
 //!   what as many single reads do, whether the numbers are short or long and the end of the bytes is near or not. So these calls
 //!   tell nothing of bytes that aren't counted.
-//! - [`Cursor::pass_short_point`] moves past a point with its header, and with its size if it has one, if its two numbers end in one
-//!   word of eight bytes. [`Cursor::pass_short_varints`] moves past a given number of short varints or past none, and
-//!   [`Cursor::pass_short_runs`] and [`Cursor::pass_counted_runs`] do this with counts among the numbers, as a line and a polygon
-//!   have them. They return `None` if they can't.
 //! - [`Prefetch`] has the processor look up pages of memory before a cursor reads them.
-//! - [`TYPE_AND_FIELDS`] is the mask by which [`Cursor::pass_short_point`] and `twkb_head` compare the first two bytes of a
-//!   geometry with a type and the fields that follow.
 //! - [`zigzag`] and [`unzigzag`] map signed numbers to unsigned ones and back.
 //! - [`units`] scales a coordinate of any precision to units of 10^-7, in which boxes and windows are compared.
 //!
@@ -40,7 +34,7 @@ mod tests;
 mod varint;
 mod vectors;
 
-pub use cursor::{Cursor, Prefetch, TYPE_AND_FIELDS, TakePoints};
+pub use cursor::{Cursor, Prefetch, TakePoints};
 pub use scale::units;
 pub use signed::{unzigzag, zigzag};
 pub use varint::NumFault;

@@ -3,10 +3,6 @@
 use Rattle.std.specs.Prelude.{◌≡◌, ◌+◌, ◌-◌, ◌*◌, ◌/◌, ◌<◌, ◌≤◌, ℕ, zero, suc, List, length, take, slice_index}
 use Rattle.twkb_num.specs.Varint.{SpellsMany}
 
--- at most one of the first eight bytes ends a varint: the bytes after it go on
-abbrev pub EndsOnce : List ℕ → Type 0
-EndsOnce bytes = (i k : ℕ) → i < k → k < 8 → slice_index bytes i < 128 → 128 ≤ slice_index bytes k
-
 -- 1 for a byte below 128, which ends a varint, else 0
 abbrev pub ended : List ℕ → ℕ → ℕ
 ended bytes k = (255 - slice_index bytes k) / 128

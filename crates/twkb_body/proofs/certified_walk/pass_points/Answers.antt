@@ -15,4 +15,4 @@ unreachable-requires c =
 
 pub returns : goal.returns
 returns c = λ s points stop e.
-    points_passed c.args.axes c.args.count c.in-Ok.field-0 s c.args.cursor.now c.pass_numbers.new.self stop points c.place_is_within.ensures c.in-Ok.ensures.ok e
+    points_passed c.args.axes c.args.count s c.args.cursor.now c.pass_numbers.new.self stop points c.place_is_within.ensures c.in-Ok.ensures.ok e

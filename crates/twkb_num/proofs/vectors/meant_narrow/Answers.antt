@@ -1,10 +1,10 @@
 -- The lanes are numbers of two groups each, halved and turned.
-use Rattle.std.proofs.Common.{ℕ, ◌*◌, List, [], ◌∷◌, sym, subst, refl, arith, w16}
+use Rattle.std.proofs.Common.{ℕ, ◌*◌, ◌^◌, List, [], ◌∷◌, sym, subst, refl, arith, w16}
 use Rattle.std.specs.Prelude.{All}
 use Rattle.std.proofs.lemmas.Nat.Bits.{and_pow}
 use Rattle.twkb_num.specs.Varint.{IsBrief}
 use Rattle.twkb_num.specs.Devices.Lanes.{value_at}
-use Rattle.twkb_num.proofs.LaneLaws.{lanes_mean, brief_number, all_mean}
+use Rattle.twkb_num.proofs.LaneLaws.{lanes_mean, means_within, all_mean}
 use Rattle.twkb_num.proofs.vectors.meant_narrow.Goals as goal
 
 -- the place of each number's first byte
@@ -18,4 +18,4 @@ returns-clause-meaning c =
 pub returns-clause-brief : goal.returns-clause-brief
 returns-clause-brief c =
     let number = value_at 2 c.args.groups in
-    subst (All IsBrief) (sym (returns-clause-meaning c)) (all_mean IsBrief number (λ i. brief_number (number i) (omega arith)) places)
+    subst (All IsBrief) (sym (returns-clause-meaning c)) (all_mean IsBrief number (λ i. means_within (2 ^ 13) (number i) (omega arith)) places)

@@ -1,10 +1,10 @@
 -- The lanes are numbers of four groups each, halved and turned.
-use Rattle.std.proofs.Common.{ℕ, ◌*◌, List, [], ◌∷◌, sym, subst, refl, arith, w32}
+use Rattle.std.proofs.Common.{ℕ, ◌*◌, ◌^◌, List, [], ◌∷◌, sym, subst, refl, arith, w32}
 use Rattle.std.specs.Prelude.{All}
 use Rattle.std.proofs.lemmas.Nat.Bits.{and_pow}
 use Rattle.twkb_num.specs.Varint.{IsShort}
 use Rattle.twkb_num.specs.Devices.Lanes.{value_at}
-use Rattle.twkb_num.proofs.LaneLaws.{joined_lanes, lanes_mean, all_mean, short_number}
+use Rattle.twkb_num.proofs.LaneLaws.{joined_lanes, lanes_mean, all_mean, means_within}
 use Rattle.twkb_num.proofs.vectors.meant_wide.Goals as goal
 
 -- the place of each number's first byte
@@ -20,4 +20,4 @@ returns-clause-meaning c =
 pub returns-clause-short : goal.returns-clause-short
 returns-clause-short c =
     let number = value_at 4 c.args.groups in
-    subst (All IsShort) (sym (returns-clause-meaning c)) (all_mean IsShort number (λ i. short_number (number i) (omega arith)) places)
+    subst (All IsShort) (sym (returns-clause-meaning c)) (all_mean IsShort number (λ i. means_within (2 ^ 27) (number i) (omega arith)) places)

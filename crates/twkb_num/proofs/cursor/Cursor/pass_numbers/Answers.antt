@@ -1,5 +1,5 @@
 -- All numbers were short, or further ones follow those that were.
-use Rattle.std.proofs.Common.{◌-◌, true, subst, arith}
+use Rattle.std.proofs.Common.{◌-◌, subst, arith}
 use Rattle.twkb_num.specs.Numbers.{PassesNumbers}
 use Rattle.twkb_num.proofs.NumberLemmas.{short_passed, ok_further, err_further}
 use Rattle.twkb_num.proofs.cursor.Cursor.pass_numbers.Goals as goal
@@ -7,7 +7,7 @@ use Rattle.twkb_num.proofs.cursor.Cursor.pass_numbers.Goals as goal
 pub returns-then-passed-many-clause-ok : goal.returns-then-passed-many-clause-ok
 returns-then-passed-many-clause-ok c =
     let first = c.pass_varints-passed in
-    subst (λ n. PassesNumbers n c.args.self.now first.new.self true) c.if-passed-many.true (short_passed _ _ _ first.ensures.passed first.ensures.moved)
+    subst (λ n. PassesNumbers n c.args.self.now first.new.self) c.if-passed-many.true (short_passed _ _ _ first.ensures.passed first.ensures.moved)
 
 pub returns-clause-ok : goal.returns-clause-ok
 returns-clause-ok c =

@@ -1,22 +1,28 @@
 -- The bytes decide which numbers were read, in lanes or one after another.
-use Rattle.std.proofs.Common.{◌≡◌, ℤ, List, Ok, subst, rules, ◌∙◌}
-use Rattle.std.specs.Prelude.{IfOk, IfErr}
+use Rattle.std.proofs.Common.{◌≡◌, length, Ok, Err, subst, rules, ◌∙◌}
 use Rattle.twkb_num.specs.Cursor.{Reading}
-use Rattle.twkb_num.specs.declared.varint.NumFault.{NumFault}
 use Rattle.twkb_num.specs.Numbers.{ReadsNumbers, StopsReading}
 use Rattle.twkb_num.proofs.ManyLaws.{read_complete}
 use Rattle.twkb_num.proofs.cursor.Cursor.svarints.Goals as goal
 
-pub returns-in-Some-clause-complete : goal.returns-in-Some-clause-complete
-returns-in-Some-clause-complete g c =
-    read_complete g.row.K c.args.self.now c.wide_svarints.new.self (Ok c.in-Some.numbers) c.in-Some.ensures.all c.in-Some.ensures.some tt
+pub returns-then-wide-clause-complete : goal.returns-then-wide-clause-complete
+returns-then-wide-clause-complete g c =
+    let wide = c.lanes-wide in
+    let read : ReadsNumbers c.args.self.now wide.new.cursor c.first_lanes.result = record {
+      spelled = rw c.first_lanes.ensures (wide.ensures.some c.if-wide.true);
+      moved = wide.ensures.moved c.if-wide.true;
+    } in
+    let all : length c.first_lanes.result ≡ g.row.K = search rules in
+    read_complete g.row.K c.args.self.now wide.new.cursor (Ok c.first_lanes.result) all read tt
 
-pub returns-clause-complete : goal.returns-clause-complete
-returns-clause-complete g c =
-    let k = g.row.K in
-    let old = c.args.self.now in
-    let read = c.each_svarint-numbers in
-    let here : c.copied-ahead.result ≡ old = c.copied-ahead.ensures ∙ search rules in
-    let ok = subst (λ (r : Reading). IfOk read.result (λ (ns : List ℤ). ReadsNumbers r read.new.self ns)) here read.ensures.ok in
-    let err = subst (λ (r : Reading). IfErr read.result (λ (fault : NumFault). StopsReading k r read.new.self fault)) here read.ensures.err in
-    read_complete k old read.new.self read.result read.ensures.all ok err
+pub returns-in-Ok-clause-complete : goal.returns-in-Ok-clause-complete
+returns-in-Ok-clause-complete g c =
+    let read = c.each_svarint-read in
+    let here : c.copied-ahead.result ≡ c.args.self.now = c.copied-ahead.ensures ∙ search rules in
+    read_complete g.row.K c.args.self.now read.new.self (Ok read.new.numbers) read.ensures.all (subst (λ (r : Reading). ReadsNumbers r read.new.self read.new.numbers) here c.in-Ok.ensures.ok) tt
+
+pub returns-in-Err-clause-complete : goal.returns-in-Err-clause-complete
+returns-in-Err-clause-complete g c =
+    let read = c.each_svarint-read in
+    let here : c.copied-ahead.result ≡ c.args.self.now = c.copied-ahead.ensures ∙ search rules in
+    read_complete g.row.K c.args.self.now read.new.self (Err c.in-Err.fault) tt tt (subst (λ (r : Reading). StopsReading g.row.K r read.new.self c.in-Err.fault) here c.in-Err.ensures.err)
