@@ -16,12 +16,13 @@ MANUALS = share/man/man1
 BASH = share/bash-completion/completions
 ZSH = share/zsh/site-functions
 
-.PHONY: help kit libraries library build install uninstall install-library uninstall-library dist
+.PHONY: help setup kit libraries library build install uninstall install-library uninstall-library dist
 .PHONY: try demo test test-program test-languages test-packages bindings web page
 .PHONY: bench callers picture trusted refusals fuzz apart twins stack clean
 
 help:
-	@echo 'make try        check an example, or FILE=.., with a program that is not proved (less than a minute)'
+	@echo 'make setup      install what builds and tests need beside the Rattle kit (by apt-get)'
+	@echo 'make try        check an example, or FILE=.., with a program that is not proved (a minute or two the first time)'
 	@echo 'make build      prove and build the program: $(PROGRAM) (13 minutes on four processors the first time)'
 	@echo 'make install    install the program, its manual page and completions below $(PREFIX), or PREFIX=..'
 	@echo 'make uninstall  remove them'
@@ -45,6 +46,9 @@ help:
 	@echo 'make stack      build, and measure how much stack the deepest collections take (with gdb, of each step too)'
 	@echo 'make clean      remove what was built'
 
+setup:
+	@tools/setup.sh
+
 kit:
 	@$(if $(shell command -v rt),:,$(error The Rattle kit is missing: its command rt is not in PATH))
 
@@ -60,10 +64,14 @@ build: libraries
 	cp crates/twkb_tool/out/twkb_tool $(PROGRAM)
 	@mv build/proved $(PROGRAM).sources
 
-# Runs the program before any proof.
-try: kit
-	@echo 'Nothing is proved here: rt try compiles the program, and checks it while it runs. `make build` proves it.'
-	@file=$$(realpath -e -- "$(FILE)") && cd crates/twkb_tool && rt try -- check "$$file"
+# Runs the program before any proof. Make's status is 2 if any command fails, and it says that one has. With -q a line that begins
+# with + and ends with status 1, as for a refused layer, gives make this status, and nothing is said.
+ifeq ($(MAKECMDGOALS) $(findstring n,$(firstword -$(MAKEFLAGS))),try )
+MAKEFLAGS += -q
+ALWAYS = +
+endif
+try:
+	$(ALWAYS)@tools/try.py "$(FILE)"
 
 # Installing needs no kit where the program and the library are built already.
 $(PROGRAM):
@@ -73,6 +81,7 @@ $(LIBRARY):
 	@$(MAKE) --no-print-directory library
 
 install: | $(PROGRAM)
+	@tools/installable.sh build $(PROGRAM)
 	install -d "$(INTO)/bin" "$(INTO)/$(MANUALS)" "$(INTO)/$(BASH)" "$(INTO)/$(ZSH)"
 	install -m 755 $(PROGRAM) "$(INTO)/bin/twkb_tool"
 	install -m 644 docs/twkb_tool.1 "$(INTO)/$(MANUALS)/twkb_tool.1"
@@ -84,6 +93,7 @@ uninstall:
 	rm -f "$(INTO)/$(BASH)/twkb_tool" "$(INTO)/$(ZSH)/_twkb_tool"
 
 install-library: | $(LIBRARY)
+	@tools/installable.sh library $(LIBRARY) $$(bindings/build.sh --sources)
 	install -d "$(INTO)/include" "$(INTO)/lib/pkgconfig"
 	install -m 644 bindings/c/twkb.h "$(INTO)/include/twkb.h"
 	install -m 644 build/bindings/libtwkb.a "$(INTO)/lib/libtwkb.a"
@@ -129,6 +139,7 @@ test-program:
 	$(ALONE) tests/install.py
 	$(ALONE) tests/scripts.py $(PROGRAM)
 	$(ALONE) tests/publish.py $(PROGRAM)
+	$(ALONE) tests/setup.py
 	$(ALONE) tests/first_answer.py
 	$(ALONE) tests/page.py $(PROGRAM)
 

@@ -16,7 +16,7 @@ import subprocess
 import sys
 import tempfile
 
-from harness import TOP, count, counts, run, table, written
+from harness import TOP, count, counts, left_out, run, table, written
 
 BINDINGS = os.path.join(TOP, "bindings")
 LIBRARY = os.path.join(TOP, "build", "bindings")
@@ -37,12 +37,14 @@ NEEDS = {
     "pkg-config": "apt-get install pkg-config",
     "mypy": "apt-get install mypy",
 }
+# An interpreter that may have NumPy and pandas where the one that runs this hasn't.
+DEBIANS = "/usr/bin/python3"
 
 
 def has(tool):
     if shutil.which(tool):
         return True
-    print(f"{tool} is missing: {NEEDS[tool]}; its tests are left out")
+    left_out(f"{tool} is missing: {NEEDS[tool]}; its tests are left out")
     return False
 
 
@@ -158,13 +160,22 @@ def rust_by_pkg_config(source, folder):
     refused("a folder without it", "there is no libtwkb.a in")
 
 
+def interpreter():
+    """What runs the tests of the package: an interpreter with NumPy and pandas, if there is one."""
+    for python in (sys.executable, DEBIANS):
+        if os.path.exists(python) and subprocess.run([python, "-c", "import numpy, pandas"], stderr=subprocess.DEVNULL).returncode == 0:
+            return python
+    left_out("NumPy or pandas is missing: apt-get install python3-numpy python3-pandas; the tests of arrays and tables are left out")
+    return sys.executable
+
+
 def test_python(program, folder):
     source = os.path.join(BINDINGS, "python")
     environment = {**os.environ, "TWKB_LIBRARY": SHARED, "PYTHONDONTWRITEBYTECODE": "1"}
     if has("mypy"):
         words = ["mypy", "--strict", f"--cache-dir={folder}/mypy", "dozhemik", "tests", "examples"]
         succeeds("Python, types", words, cwd=source)
-    succeeds("Python, tests", [sys.executable, "-m", "unittest", "discover", "-s", "tests"], cwd=source, env=environment)
+    succeeds("Python, tests", [interpreter(), "-m", "unittest", "discover", "-s", "tests"], cwd=source, env=environment)
     os.environ.update(TWKB_LIBRARY=SHARED, PYTHONDONTWRITEBYTECODE="1")
     drive("Python", [sys.executable, os.path.join(source, "tests", "cases.py")], program, folder)
 

@@ -13,7 +13,7 @@ import sys
 import zipfile
 
 import machines
-from harness import TOP, count, run
+from harness import TOP, count, left_out, run
 
 CASES = os.path.join(TOP, "bindings", "c", "cases.c")
 LAYER = os.path.join(TOP, "examples", "coast_lines_sized.twkb")
@@ -45,7 +45,7 @@ def linked(prefix, out, *flags):
 def has_linker():
     for tool in NEEDS:
         if not shutil.which(tool):
-            print(f"{tool} is missing: {NEEDS[tool]}; no C program is linked with what is installed")
+            left_out(f"{tool} is missing: {NEEDS[tool]}; no C program is linked with what is installed")
             return False
     return True
 
@@ -70,7 +70,7 @@ def links(name, place, program, folder):
 def crate(release, folder):
     """An example of the crate for Rust, over the library beside it."""
     if not shutil.which("cargo"):
-        print("cargo is missing: apt-get install cargo; the crate for Rust isn't built out of the release")
+        left_out("cargo is missing: apt-get install cargo; the crate for Rust isn't built out of the release")
         return
     environment = os.environ | {"TWKB_LIB": os.path.join(release, "lib"), "CARGO_TARGET_DIR": os.path.join(folder, "cargo")}
     words = ["cargo", "run", "--offline", "--quiet", "--example", "scan", LAYER, *"10 30 35 45".split()]
@@ -116,7 +116,7 @@ def packages(release, version, folder):
         done = subprocess.run(words, capture_output=True, text=True, env=os.environ | {"PIP_DISABLE_PIP_VERSION_CHECK": "1"})
         count("pip install", done.returncode, 0)
     else:
-        print("pip is missing: apt-get install python3-pip; the wheel is unpacked by zipfile")
+        left_out("pip is missing: apt-get install python3-pip; the wheel is unpacked by zipfile")
         zipfile.ZipFile(wheel).extractall(place)
     count("the package has its library", "dozhemik/libtwkb.so" in names, True)
     count("the package of the wheel", asked(place), (0, f"{version} {HITS}", ""))
@@ -154,7 +154,7 @@ def machine(archive, version, by_debootstrap, folder):
     root = os.path.join(folder, "root")
     machines.by_debootstrap(root) if by_debootstrap else machines.assembled(root)
     if not machines.is_possible(root):
-        print("no program may have another root here: the release isn't tried on a machine of its own")
+        left_out("no program may have another root here: the release isn't tried on a machine of its own")
         return
     shutil.copy(archive, root + HOME)
     shutil.copy(LAYER, f"{root}{HOME}/layer.twkb")

@@ -21,7 +21,7 @@ import tempfile
 import time
 
 import machines
-from harness import TOP, count, counts, run, written
+from harness import TOP, count, counts, left_out, run, written
 from packages import crate, links, machine, packages
 from pages import broken
 
@@ -85,7 +85,7 @@ def build_into(clone, program):
     if os.path.exists(MODULE):
         shutil.copy(MODULE, module)
     else:
-        print("build/web has no module, as `make web` leaves one: the page in the release is one without")
+        left_out("build/web has no module, as `make web` leaves one: the page in the release is one without")
         written(os.path.dirname(module), os.path.basename(module), b"")
     sources = subprocess.run([os.path.join(clone, "tools", "sources.sh")], check=True, capture_output=True).stdout
     for name in PROVED:
@@ -296,8 +296,8 @@ def main():
     asked = words.parse_args()
     missing = [tool for tool in NEEDS if not shutil.which(tool)]
     if missing:
-        print(f"{missing[0]} is missing: {NEEDS[missing[0]]}; no release is packed")
-        return 0
+        left_out(f"{missing[0]} is missing: {NEEDS[missing[0]]}; no release is packed")
+        return int(counts["failed"] > 0)
     version = text_of(TOP, "VERSION").strip()
     with tempfile.TemporaryDirectory() as folder:
         clone = cloned(os.path.join(folder, "clone"))

@@ -14,7 +14,7 @@ import subprocess
 import sys
 import tempfile
 
-from harness import TOP, count, counts, written
+from harness import TOP, count, counts, left_out, written
 
 LIBRARY = os.path.join(TOP, "build", "bindings")
 # The files that state a version, each with a pattern of the text around it.
@@ -56,7 +56,7 @@ def stated(version):
 
 def of_the_library(version, folder):
     if not shutil.which("gcc"):
-        print("gcc is missing: apt-get install gcc libc6-dev; the library isn't asked for its version")
+        left_out("gcc is missing: apt-get install gcc libc6-dev; the library isn't asked for its version")
         return
     source, program = written(folder, "version.c", PROGRAM.encode()), os.path.join(folder, "version")
     words = ["gcc", "-std=c11", "-Wall", "-Wextra", "-Werror", f"-I{TOP}/bindings/c", source]
