@@ -22,7 +22,7 @@ STATED = {
     "bindings/c/twkb.h": r'^#define TWKB_VERSION "(.*)"$',
     "bindings/c/twkb.pc": r"^Version: (.*)$",
     "bindings/python/pyproject.toml": r'^version = "(.*)"$',
-    "bindings/python/dozhemik/__init__.py": r'^__version__ = "(.*)"$',
+    "bindings/python/dozhemik/_library.py": r'^VERSION = "(.*)"$',
     "bindings/rust/Cargo.toml": r'^version = "(.*)"$',
     "README.md": r"(?:dozhemik-|Version )(\d+\.\d+\.\d+)",
     "docs/twkb_tool.1": r'^\.TH .* "Dozhemik (.*)" .*$',
