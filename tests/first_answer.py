@@ -155,6 +155,8 @@ def installed(folder):
     os.utime(os.path.join(library, "libtwkb.so"), (0, 0))
     done, _ = make(folder, "install-library", f"PREFIX={folder}/prefix")
     count("an older library", (done.returncode, "make library" in done.stderr), (2, True))
+    words = [os.path.join(folder, "tools", "is_current.sh"), "missing", "Makefile"]
+    count("what isn't built is not current", subprocess.run(words, cwd=folder, env=fresh(folder)[0]).returncode, 1)
 
 
 def dry(folder):

@@ -5,6 +5,7 @@
 set -eu
 file=$1
 shift
-[ -f "$file" ] && [ "$(cat "$file.sources" 2> /dev/null)" = "$("$(dirname "$0")/sources.sh")" ]
+[ -f "$file" ] || exit 1
+[ "$(cat "$file.sources" 2> /dev/null)" = "$("$(dirname "$0")/sources.sh")" ] || exit 1
 # Without a path find would look at all files here.
 [ $# = 0 ] || [ -z "$(find "$@" -newer "$file" -print -quit)" ]
