@@ -14,6 +14,7 @@ import zipfile
 
 import machines
 from harness import TOP, count, left_out, run
+from release_commands import there
 
 CASES = os.path.join(TOP, "bindings", "c", "cases.c")
 LAYER = os.path.join(TOP, "examples", "coast_lines_sized.twkb")
@@ -103,7 +104,10 @@ def recorded(wheel):
             wanted[name] = (f"sha256={digest}", str(len(data)))
     rows = {row[0]: tuple(row[1:]) for row in csv.reader(io.StringIO(found[record].decode()))}
     count("RECORD of the wheel", rows, wanted)
-    count("the wheel's tag", b"\nTag: py3-none-linux_x86_64\n" in found[record.replace("RECORD", "WHEEL")], True)
+    *_, (major, minor) = sorted(tuple(map(int, one)) for one in re.findall(rb"GLIBC_(\d+)\.(\d+)", found["dozhemik/libtwkb.so"]))
+    tags = [f"manylinux_{major}_{minor}_x86_64", "manylinux2014_x86_64"]
+    count("the wheel's tags", re.findall(rb"(?m)^Tag: (.*)$", found[record.replace("RECORD", "WHEEL")]), [f"py3-none-{tag}".encode() for tag in tags])
+    count("the wheel's name", os.path.basename(wheel).split("-py3-none-")[1], f"{'.'.join(tags)}.whl")
     return set(found)
 
 
@@ -172,6 +176,7 @@ def machine(archive, version, by_debootstrap, folder):
     in_c(root)
     if os.path.exists(root + machines.DEBIANS):
         in_python(root, release, version)
+        there(root, release)
 
 
 def in_c(root):

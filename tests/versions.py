@@ -24,7 +24,7 @@ STATED = {
     "bindings/python/pyproject.toml": r'^version = "(.*)"$',
     "bindings/python/dozhemik/_library.py": r'^VERSION = "(.*)"$',
     "bindings/rust/Cargo.toml": r'^version = "(.*)"$',
-    "README.md": r"(?:dozhemik-|Version )(\d+\.\d+\.\d+)",
+    "README.md": r"Version (\d+\.\d+\.\d+)",
     "docs/twkb_tool.1": r'^\.TH .* "Dozhemik (.*)" .*$',
     "docs/USAGE.md": r"dozhemik-(\d.*?)-x86_64",
     "docs/BINDINGS.md": r"dozhemik-(\d.*?)-py3",

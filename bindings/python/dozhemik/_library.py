@@ -5,7 +5,7 @@ import struct
 from ctypes import POINTER, c_bool, c_char_p, c_int8, c_int64, c_size_t, c_uint8, c_uint32, c_uint64, c_void_p
 
 # Of the package. Only a library of the same version is known to have the structs and the slots that are declared here.
-VERSION = "1.0.0"
+VERSION = "1.1.0"
 CERTIFIED, REFUSED, NO_MEMORY = 0, 1, 2
 WINDOW, BAD_FORM, BAD_ORDER = 0, 1, 2
 
