@@ -104,9 +104,9 @@ def recorded(wheel):
             wanted[name] = (f"sha256={digest}", str(len(data)))
     rows = {row[0]: tuple(row[1:]) for row in csv.reader(io.StringIO(found[record].decode()))}
     count("RECORD of the wheel", rows, wanted)
-    *_, (major, minor) = sorted(tuple(map(int, one)) for one in re.findall(rb"GLIBC_(\d+)\.(\d+)", found["dozhemik/libtwkb.so"]))
-    tags = [f"manylinux_{major}_{minor}_x86_64", "manylinux2014_x86_64"]
-    count("the wheel's tags", re.findall(rb"(?m)^Tag: (.*)$", found[record.replace("RECORD", "WHEEL")]), [f"py3-none-{tag}".encode() for tag in tags])
+    tags = "manylinux_{}_{}_x86_64 manylinux2014_x86_64".format(*glibc_of(found["dozhemik/libtwkb.so"])).split()
+    told = re.findall(rb"(?m)^Tag: (.*)$", found[record.replace("RECORD", "WHEEL")])
+    count("the wheel's tags", told, [f"py3-none-{tag}".encode() for tag in tags])
     count("the wheel's name", os.path.basename(wheel).split("-py3-none-")[1], f"{'.'.join(tags)}.whl")
     return set(found)
 
@@ -142,6 +142,11 @@ def processor(release):
     count("lib/libtwkb.so.0: the processor that it needs", (isa_needed in data, data[at] & 2), (True, 2))
 
 
+def glibc_of(data):
+    """The glibc that a program or a library needs."""
+    return max([int(number) for number in one] for one in re.findall(rb"GLIBC_(\d+)\.(\d+)", data))
+
+
 def glibc(release):
     """docs/BINDINGS.md says which glibc they want, and they want no later one."""
     with open(os.path.join(TOP, "docs", "BINDINGS.md"), encoding="utf-8") as page:
@@ -149,8 +154,7 @@ def glibc(release):
     said = [int(number) for number in said.groups()] if said else [0, 0, 0, 0]
     for path, greatest in (("lib/libtwkb.so.0", said[:2]), ("bin/twkb_tool", said[2:])):
         with open(os.path.join(release, path), "rb") as file:
-            wanted = [[int(number) for number in one] for one in re.findall(rb"GLIBC_(\d+)\.(\d+)", file.read())]
-        count(f"{path}: glibc of docs/BINDINGS.md", max(wanted) <= greatest, True)
+            count(f"{path}: glibc of docs/BINDINGS.md", glibc_of(file.read()) <= greatest, True)
 
 
 def machine(archive, version, by_debootstrap, folder):

@@ -1,6 +1,6 @@
 #!/bin/sh
-# Whether FILE may be installed: it has to be built, by make TARGET, of the sources as they are. usage: tools/installable.sh TARGET FILE SOURCE..
-# Else that is said, and the status is 1. Without the Rattle kit nobody can know, which is said too, and the status is 0.
+# Whether FILE may be installed: it has to be built, by make TARGET, of the sources as they are. Else that is said, and the status is 1.
+# Without the Rattle kit nobody can know, which is said too, and the status is 0. usage: tools/installable.sh TARGET FILE [SOURCE..]
 set -eu
 target=$1 file=$2
 shift
