@@ -179,6 +179,7 @@ def notes(release, clone, version):
         count(f"PROVENANCE.md has {what}", f"{what}" in note, True)
     for name in ("NOTICES.md", os.path.join("examples", "README.md")):
         count(f"{name} names the LGPL", "GNU Lesser General Public License" in text_of(release, name), True)
+    count("README links PROVENANCE.md", "(PROVENANCE.md)" in text_of(release, "README.md"), True)
     for folder in (release, TOP):
         said = re.sub(r"\s+", " ", text_of(folder, "README.md"))
         count(f"README of {os.path.basename(folder)} says that no licence is chosen", "icence: none chosen yet" in said, True)

@@ -108,7 +108,6 @@ for crate in clap itoa smallvec thiserror; do
     done
 done
 SOURCE_DATE_EPOCH=$seconds python3 tools/wheel.py build/bindings/libtwkb.so "$to" > "$work/wheel"
-python3 tools/release_pages.py "$to" "$version"
 cat > "$to/PROVENANCE.md" <<TEXT
 # What was proved
 
@@ -126,6 +125,7 @@ Dozhemik $version, of the commit \`$commit\`, by the kit \`$kit\`.
 all of it again. The pages link only files that are here: where a page of the checkout links another file, its name is plain text.
 \`SHA256SUMS\` has a sum of each file: \`sha256sum --check SHA256SUMS\`, as \`install.sh\` does.
 TEXT
+python3 tools/release_pages.py "$to" "$version"
 
 chmod -R u=rwX,go=rX "$to"
 (cd "$to" && find . -type f ! -name SHA256SUMS -printf '%P\0' | sort -z | xargs -0 sha256sum > "$work/sums")
