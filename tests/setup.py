@@ -24,6 +24,7 @@ TOOLS_OF = {
     "g++": ["g++"],
     "mypy": ["mypy"],
     "cargo": ["cargo"],
+    "rust-clippy": ["cargo-clippy"],
     "pkg-config": ["pkg-config"],
     "nodejs": ["node"],
     "binaryen": ["wasm-opt"],

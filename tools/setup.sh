@@ -15,8 +15,11 @@ python3             python3 --version
 python3-pip         python3 -m pip --version
 python3-numpy       python3 -c 'import numpy' || /usr/bin/python3 -c 'import numpy'
 python3-pandas      python3 -c 'import pandas' || /usr/bin/python3 -c 'import pandas'
+python3-distributed python3 -c 'import distributed' || /usr/bin/python3 -c 'import distributed'
+python3-fsspec      python3 -c 'import fsspec' || /usr/bin/python3 -c 'import fsspec'
 mypy                mypy --version
 cargo               cargo --version
+rust-clippy         command -v cargo-clippy
 pkg-config          pkg-config --version
 nodejs              node --version
 binaryen            wasm-opt --version
