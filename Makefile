@@ -22,7 +22,7 @@ ZSH = share/zsh/site-functions
 
 help:
 	@echo 'make setup      install what builds and tests need beside the Rattle kit (by apt-get)'
-	@echo 'make try        check an example, or FILE=.., with a program that is not proved (a minute the first time)'
+	@echo 'make try        check an example, or FILE=.., with a program that is not proved (a minute or two the first time)'
 	@echo 'make build      prove and build the program: $(PROGRAM) (13 minutes on four processors the first time)'
 	@echo 'make install    install the program, its manual page and completions below $(PREFIX), or PREFIX=..'
 	@echo 'make uninstall  remove them'

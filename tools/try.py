@@ -82,7 +82,7 @@ def program_for(sources):
     if is_of(KEPT, sources):
         say("Nothing is proved here: the program is only compiled. `make build` proves it.")
         return KEPT
-    say("Nothing is proved here: the program is only compiled, which takes a minute once. `make build` proves it.")
+    say("Nothing is proved here: the program is only compiled, which takes a minute or two once. `make build` proves it.")
     if compiled(sources):
         return KEPT
     with open(LOG, encoding="utf-8", errors="replace") as log:
