@@ -136,11 +136,24 @@ def left_out(folder):
                 count(f"tests/{name} says that only by left_out", [row for row in source if SAYS.search(row)], [])
 
 
+def in_ci(folder):
+    """CI installs first, and then runs the tests with CI=true."""
+    calls, make = os.path.join(folder, "calls"), "#!/bin/sh\necho \"$* ${CI-}\" >> \"$CALLS\"\n[ \"$1\" != \"${FAILS-}\" ]\n"
+    os.chmod(written(folder, "make", make.encode()), 0o755)
+    kept = {name: value for name, value in os.environ.items() if name != "CI"} | {"PATH": f"{folder}:{os.environ['PATH']}", "CALLS": calls}
+    for fails, status, wanted in (("", 0, "setup \ntest true\n"), ("setup", 1, "setup \n"), ("test", 1, "setup \ntest true\n")):
+        written(folder, "calls", b"")
+        done = subprocess.run([os.path.join(TOP, ".ci", "run")], env=kept | {"FAILS": fails})
+        with open(calls, encoding="utf-8") as told:
+            count(f".ci/run, {fails} fails", (done.returncode, told.read()), (status, wanted))
+
+
 def main():
     with tempfile.TemporaryDirectory() as folder:
         installs(folder)
         fails(folder)
         left_out(folder)
+        in_ci(folder)
     print(f"{counts['passed']} passed, {counts['failed']} failed")
     return int(counts["failed"] > 0)
 
