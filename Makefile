@@ -16,23 +16,24 @@ MANUALS = share/man/man1
 BASH = share/bash-completion/completions
 ZSH = share/zsh/site-functions
 
-.PHONY: help kit libraries library build install uninstall install-library uninstall-library dist
+.PHONY: help setup kit libraries library build install uninstall install-library uninstall-library dist
 .PHONY: try demo test test-program test-languages test-packages bindings web page
 .PHONY: bench callers picture trusted refusals fuzz apart twins stack clean
 
 help:
-	@echo 'make try        check an example, or FILE=.., with a program that is not proved (less than a minute)'
+	@echo 'make setup      install what builds and tests need beside the Rattle kit (by apt-get)'
+	@echo 'make try        check an example, or FILE=.., with a program that is not proved (a minute or two the first time)'
 	@echo 'make build      prove and build the program: $(PROGRAM) (13 minutes on four processors the first time)'
 	@echo 'make install    install the program, its manual page and completions below $(PREFIX), or PREFIX=..'
 	@echo 'make uninstall  remove them'
 	@echo 'make demo       build, and check, list and scan layers written by PostGIS'
 	@echo 'make test       run the merge gate: every proof, and every test (27 minutes on four processors)'
-	@echo 'make library    prove and build the library for C, Rust and Python: build/bindings'
+	@echo 'make library    prove and build the library for C, Rust and Python: build/bindings (3 minutes after make build)'
 	@echo 'make install-library    install the library, its header and its pkg-config file below $(PREFIX), or PREFIX=..'
 	@echo 'make uninstall-library  remove them'
 	@echo 'make bindings   build the library, and test calls from C, Rust and Python'
 	@echo 'make web        build the module for web pages, and compare it with the library (needs wasm-opt and node)'
-	@echo 'make page       build the page that checks a layer in a browser: $(PAGE) (needs wasm-opt)'
+	@echo 'make page       build the page that checks a layer in a browser: $(PAGE) (3 minutes after make build)'
 	@echo 'make dist       pack what `make build library page` built: build/dozhemik-VERSION-x86_64-linux.tar.gz'
 	@echo 'make bench      build, and compare with other programs in Rust on 40 MB (needs rustc; valgrind counts instructions)'
 	@echo 'make callers    build, and compare calls from C, Rust and Python with the program on 40 MB'
@@ -44,6 +45,9 @@ help:
 	@echo 'make twins      check that the prover accepts the twins of the wrong bodies'
 	@echo 'make stack      build, and measure how much stack the deepest collections take (with gdb, of each step too)'
 	@echo 'make clean      remove what was built'
+
+setup:
+	@tools/setup.sh
 
 kit:
 	@$(if $(shell command -v rt),:,$(error The Rattle kit is missing: its command rt is not in PATH))
@@ -60,10 +64,14 @@ build: libraries
 	cp crates/twkb_tool/out/twkb_tool $(PROGRAM)
 	@mv build/proved $(PROGRAM).sources
 
-# Runs the program before any proof.
-try: kit
-	@echo 'Nothing is proved here: rt try compiles the program, and checks it while it runs. `make build` proves it.'
-	@file=$$(realpath -e -- "$(FILE)") && cd crates/twkb_tool && rt try -- check "$$file"
+# Runs the program before any proof. Make's status is 2 if any command fails, and it says that one has. With -q a line that begins
+# with + and ends with status 1, as for a refused layer, gives make this status, and nothing is said.
+ifeq ($(MAKECMDGOALS) $(findstring n,$(firstword -$(MAKEFLAGS))),try )
+MAKEFLAGS += -q
+ALWAYS = +
+endif
+try:
+	$(ALWAYS)@tools/try.py "$(FILE)"
 
 # Installing needs no kit where the program and the library are built already.
 $(PROGRAM):
@@ -73,6 +81,7 @@ $(LIBRARY):
 	@$(MAKE) --no-print-directory library
 
 install: | $(PROGRAM)
+	@tools/installable.sh build $(PROGRAM)
 	install -d "$(INTO)/bin" "$(INTO)/$(MANUALS)" "$(INTO)/$(BASH)" "$(INTO)/$(ZSH)"
 	install -m 755 $(PROGRAM) "$(INTO)/bin/twkb_tool"
 	install -m 644 docs/twkb_tool.1 "$(INTO)/$(MANUALS)/twkb_tool.1"
@@ -84,6 +93,7 @@ uninstall:
 	rm -f "$(INTO)/$(BASH)/twkb_tool" "$(INTO)/$(ZSH)/_twkb_tool"
 
 install-library: | $(LIBRARY)
+	@tools/installable.sh library $(LIBRARY) $$(bindings/build.sh --sources)
 	install -d "$(INTO)/include" "$(INTO)/lib/pkgconfig"
 	install -m 644 bindings/c/twkb.h "$(INTO)/include/twkb.h"
 	install -m 644 build/bindings/libtwkb.a "$(INTO)/lib/libtwkb.a"
@@ -129,6 +139,7 @@ test-program:
 	$(ALONE) tests/install.py
 	$(ALONE) tests/scripts.py $(PROGRAM)
 	$(ALONE) tests/publish.py $(PROGRAM)
+	$(ALONE) tests/setup.py
 	$(ALONE) tests/first_answer.py
 	$(ALONE) tests/page.py $(PROGRAM)
 

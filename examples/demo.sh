@@ -1,9 +1,13 @@
 #!/bin/sh
 # Runs the program on the layers beside this script.
-# usage: examples/demo.sh [PROGRAM]   (build/twkb_tool by default)
+# usage: examples/demo.sh [PROGRAM]   (twkb_tool of PATH by default)
 set -eu
-program=${1:-build/twkb_tool}
+program=${1:-twkb_tool}
 here=$(dirname "$0")
+command -v "$program" > /dev/null || {
+    echo "demo.sh: there is no $program: install it, or give its path" >&2
+    exit 3
+}
 
 shown() {
     echo "\$ $*"

@@ -16,7 +16,7 @@ import subprocess
 import sys
 import tempfile
 
-from harness import TOP, count, counts, run, table, written
+from harness import TOP, count, counts, left_out, run, table, written
 
 BINDINGS = os.path.join(TOP, "bindings")
 LIBRARY = os.path.join(TOP, "build", "bindings")
@@ -37,12 +37,14 @@ NEEDS = {
     "pkg-config": "apt-get install pkg-config",
     "mypy": "apt-get install mypy",
 }
+# An interpreter that may have NumPy and pandas where the one that runs this hasn't.
+DEBIANS = "/usr/bin/python3"
 
 
 def has(tool):
     if shutil.which(tool):
         return True
-    print(f"{tool} is missing: {NEEDS[tool]}; its tests are left out")
+    left_out(f"{tool} is missing: {NEEDS[tool]}; its tests are left out")
     return False
 
 
@@ -128,7 +130,7 @@ def test_rust(program, folder):
 
 
 def rust_by_pkg_config(source, folder):
-    """Without TWKB_LIB the crate is linked with the library that pkg-config finds, if its version is the crate's."""
+    """Without TWKB_LIB the crate is linked with the library that pkg-config finds. In both ways its version has to be the crate's."""
     prefix, layer = os.path.join(folder, "prefix"), os.path.join(TOP, "examples", "coast_lines_sized.twkb")
     pages = os.path.join(prefix, "lib", "pkgconfig")
     os.makedirs(pages)
@@ -144,18 +146,39 @@ def rust_by_pkg_config(source, folder):
         count(f"Rust, {name}", (done.returncode != 0, said in done.stderr), (True, True))
 
     refused("no library anywhere", "TWKB_LIB is not set")
+    refused("no library anywhere, by pkg-config's own words", "PKG_CONFIG_PATH")
     written(pages, "twkb.pc", told)
-    refused("no archive", "there is no libtwkb.a in it")
+    refused("no archive", "lib/libtwkb.a can't be read")
     shutil.copy(ARCHIVE, os.path.join(prefix, "lib"))
     done = subprocess.run(words, cwd=source, env=environment, capture_output=True, text=True, timeout=MINUTES)
     wanted = ["44 of them have a vertex inside; 24857 of 84045 bytes were read."]
     count("Rust, by pkg-config", (done.returncode, done.stdout.splitlines()[-1:]), (0, wanted))
-    written(pages, "twkb.pc", re.sub(rb"(?m)^Version: .*$", b"Version: 0.9.0", told))
-    refused("a library of another version", "pkg-config finds twkb 0.9.0")
+    other = written(os.path.join(prefix, "lib"), "libtwkb.a", of_version(b"0.9.0"))
+    refused("a library of another version, by pkg-config", "libtwkb.a is of 0.9.0, and this is dozhemik")
     environment["PKG_CONFIG"] = os.path.join(folder, "missing")
     refused("no pkg-config", "can't be run")
+    environment["TWKB_LIB"] = os.path.dirname(other)
+    refused("a library of another version", "libtwkb.a is of 0.9.0, and this is dozhemik")
+    written(os.path.dirname(other), "libtwkb.a", of_version(None))
+    refused("a library without a version", "libtwkb.a is of no known version")
     environment["TWKB_LIB"] = folder
-    refused("a folder without it", "there is no libtwkb.a in")
+    refused("a folder without it", "libtwkb.a can't be read")
+
+
+def of_version(version):
+    """The archive as one of another version, or of none."""
+    with open(ARCHIVE, "rb") as file:
+        data = file.read()
+    return re.sub(rb"libtwkb \d[^\0]*", b"libtwkb " + version if version else b"", data)
+
+
+def interpreter():
+    """What runs the tests of the package: an interpreter with NumPy and pandas, if there is one."""
+    for python in (sys.executable, DEBIANS):
+        if os.path.exists(python) and subprocess.run([python, "-c", "import numpy, pandas"], stderr=subprocess.DEVNULL).returncode == 0:
+            return python
+    left_out("NumPy or pandas is missing: apt-get install python3-numpy python3-pandas; the tests of arrays and tables are left out")
+    return sys.executable
 
 
 def test_python(program, folder):
@@ -164,7 +187,7 @@ def test_python(program, folder):
     if has("mypy"):
         words = ["mypy", "--strict", f"--cache-dir={folder}/mypy", "dozhemik", "tests", "examples"]
         succeeds("Python, types", words, cwd=source)
-    succeeds("Python, tests", [sys.executable, "-m", "unittest", "discover", "-s", "tests"], cwd=source, env=environment)
+    succeeds("Python, tests", [interpreter(), "-m", "unittest", "discover", "-s", "tests"], cwd=source, env=environment)
     os.environ.update(TWKB_LIBRARY=SHARED, PYTHONDONTWRITEBYTECODE="1")
     drive("Python", [sys.executable, os.path.join(source, "tests", "cases.py")], program, folder)
 

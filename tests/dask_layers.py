@@ -20,7 +20,7 @@ import sys
 import tempfile
 import time
 
-from harness import TOP, count, counts, written
+from harness import TOP, count, counts, left_out, written
 
 SCRIPT = os.path.join(TOP, "examples", "dask_layers.py")
 ENVIRONMENT = os.environ | {"PYTHONPATH": os.path.join(TOP, "bindings", "python")}
@@ -189,7 +189,7 @@ def batches():
 def by_fsspec(program, folder):
     """The folder of the layers is named by an address."""
     if importlib.util.find_spec("fsspec") is None:
-        print("fsspec is missing, so no address was tried: apt-get install python3-fsspec")
+        left_out("fsspec is missing, so no address was tried: apt-get install python3-fsspec")
         return
     done = subprocess.run(script("--workers", "2", f"file://{folder}", *WINDOWS), env=ENVIRONMENT, capture_output=True, text=True)
     lines, status = wanted(program, folder, WINDOWS)
@@ -289,7 +289,7 @@ def main():
     if not has_distributed(sys.executable):
         if os.path.exists(DEBIANS) and not os.path.samefile(DEBIANS, sys.executable) and has_distributed(DEBIANS):
             os.execv(DEBIANS, [DEBIANS, os.path.abspath(__file__), program])
-        print("distributed is missing, so no cluster was tried: apt-get install python3-distributed")
+        left_out("distributed is missing, so no cluster was tried: apt-get install python3-distributed")
     without_distributed()
     if has_distributed(sys.executable):
         with tempfile.TemporaryDirectory() as folder:

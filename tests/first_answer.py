@@ -1,5 +1,5 @@
 #!/usr/bin/env python3
-"""How a checkout comes to a first answer: `make try`, and how crates are proved side by side.
+"""How a checkout comes to a first answer: `make try`, how crates are proved side by side, and what is installed after that.
 
 usage: tests/first_answer.py
 
@@ -15,12 +15,13 @@ import sys
 import tempfile
 import time
 
+import machines
 from harness import TOP, count, counts, written
 
 LIBRARIES = ["refusing", "twkb_num", "twkb_head", "twkb_body", "twkb_layer"]
 # A line for each crate that is begun, and for each that ended: the crate and its words. BESIDE has pairs ONE:OTHER, where ONE waits for
 # OTHER to be begun. HELD names crates that wait for a file, FAILS one that isn't proved, and SLOW one that goes on until it is stopped.
-# What waits in vain for half a minute fails.
+# What waits in vain for half a minute fails. TRIED is the program that `try` compiles, and that reads the file of its words.
 RT = """#!/bin/sh
 [ "$1" != version ] || { echo a stand-in; exit; }
 crate=$(basename "$PWD")
@@ -43,22 +44,34 @@ for held in ${HELD-}; do
 done
 [ "$crate" != "${SLOW-}" ] || exec sleep 1000
 echo "$crate says something"
-[ "$1" != run ] || { mkdir -p out && echo built > out/twkb_tool; }
+[ "$1" != run ] || { mkdir -p out && printf '#!/bin/sh\necho built $1\n' > out/twkb_tool && chmod +x out/twkb_tool; }
+[ "$1 ${FAILS-}" != "try " ] || { mkdir "$TMPDIR/it" && cp "$TRIED" "$TMPDIR/it/program" && cat "$4" && rm -r "$TMPDIR/it"; }
 echo "ended $crate $*" >> "$CALLS"
 [ "$crate" != "${FAILS-}" ]
+"""
+# Answers by the name of the layer: BROKEN is one at which a sanitizer stops the program.
+TRIED = """#!/bin/sh
+case $1/$2 in
+check/*/refused) echo "no blob=0 offset=0 kind=cut"; exit 1 ;;
+check/*/unread) echo "twkb_tool: read failed" >&2; exit 3 ;;
+check/*/broken) exit "${ASAN_OPTIONS#exitcode=}" ;;
+check/*/killed) kill -9 $$ ;;
+check/*) echo "ok $2" ;;
+esac
 """
 
 
 def copied(folder):
     """The parts of a checkout that count here, and a PATH with the stand-in first."""
-    for name in ("Makefile", "crates.txt", "HANDLES", "tools", "examples"):
+    for name in ("Makefile", "crates.txt", "HANDLES", "tools", "examples", "bindings", "completions", "docs"):
         source = os.path.join(TOP, name)
         (shutil.copytree if os.path.isdir(source) else shutil.copy)(source, os.path.join(folder, name))
     for crate in [*LIBRARIES, "twkb_tool"]:
         os.makedirs(os.path.join(folder, "crates", crate, "src"))
     written(os.path.join(folder, "crates", "twkb_tool", "src"), "main.rt", b"")
     os.mkdir(os.path.join(folder, "bin"))
-    os.chmod(written(os.path.join(folder, "bin"), "rt", RT.encode()), 0o755)
+    for name, text in (("rt", RT), ("tried", TRIED)):
+        os.chmod(written(os.path.join(folder, "bin"), name, text.encode()), 0o755)
     return folder
 
 
@@ -68,7 +81,8 @@ def fresh(folder, **environment):
     written(folder, "calls", b"")
     shutil.rmtree(marks, ignore_errors=True)
     os.mkdir(marks)
-    return os.environ | {"PATH": f"{folder}/bin:{os.environ['PATH']}", "CALLS": calls, "MARKS": marks, **environment}, marks
+    path, tried = f"{folder}/bin:{os.environ['PATH']}", f"{folder}/bin/tried"
+    return os.environ | {"PATH": path, "CALLS": calls, "MARKS": marks, "TRIED": tried, **environment}, marks
 
 
 def make(folder, *words, **environment):
@@ -80,21 +94,74 @@ def make(folder, *words, **environment):
 
 
 def tried(folder):
-    """An example, or a file by its name from where make was called, is checked, and it is said that nothing is proved."""
-    done, calls = make(folder, "try")
-    example = os.path.join(folder, "examples", "coast_lines_sized.twkb")
-    count("make try", (done.returncode, calls[:1], len(calls)), (0, [("begun", "twkb_tool", f"try -- check {example}")], 2))
-    count("make try says so", "othing is proved" in done.stdout, True)
-    layer = written(folder, "a layer.twkb", b"")
-    done, calls = make(folder, "try", "FILE=a layer.twkb")
-    count("make try FILE=", (done.returncode, [call[2] for call in calls[:1]]), (0, [f"try -- check {layer}"]))
+    """The first layer is checked once a program is compiled, and the others by that program. It is said that nothing is proved."""
+    done, calls = make(folder, "try", FAILS="twkb_tool")
+    count("make try, nothing compiles", (done.returncode, done.stdout, "twkb_tool says something" in done.stderr), (2, "", True))
+    for name, status, out in (
+        ("examples/coast_lines_sized.twkb", 0, f"ok {folder}/examples/coast_lines_sized.twkb\n"),
+        ("a layer.twkb", 0, f"ok {folder}/a layer.twkb\n"),
+        ("refused", 1, "no blob=0 offset=0 kind=cut\n"),
+        ("unread", 2, ""),
+        ("broken", 2, ""),
+        ("killed", 2, ""),
+    ):
+        is_first = name.startswith("examples")
+        if not is_first:
+            written(folder, name, b"")
+        done, calls = make(folder, "try", *([] if is_first else [f"FILE={name}"]))
+        count(f"make try, {name}", (done.returncode, done.stdout), (status, out))
+        count(f"what is compiled for {name}", [call[:2] for call in calls], [("begun", "twkb_tool"), ("ended", "twkb_tool")] * is_first)
+        first, *others = done.stderr.splitlines()
+        count(f"what is said of {name}", ("othing is proved" in first, others != []), (True, status == 2))
     done, calls = make(folder, "try", "FILE=missing.twkb")
     count("make try, a missing file", (done.returncode, calls, "missing.twkb" in done.stderr), (2, [], True))
+    count("it is no proved program", os.path.exists(os.path.join(folder, "build", "twkb_tool")), False)
+    written(os.path.join(folder, "crates", "twkb_tool", "src"), "main.rt", b"// Changed.\n")
+    count("make try, other sources", len(make(folder, "try")[1]), 2)
+    shutil.rmtree(os.path.join(folder, "build"))
+
+
+def tried_when_built(folder):
+    """The built program is taken, and then nothing has to be said."""
+    make(folder, "build")
+    done, calls = make(folder, "try")
+    count("make try, built", (done.returncode, done.stdout, done.stderr, calls), (0, "built check\n", "", []))
+
+
+def installed(folder):
+    """What is built of other sources isn't installed. Without a kit nobody knows, which is said."""
+    make(folder, "build")
+    library = os.path.join(folder, "build", "bindings")
+    os.makedirs(library)
+    for name in ("libtwkb.so", "libtwkb.a"):
+        written(library, name, b"")
+    shutil.copy(os.path.join(folder, "build", "twkb_tool.sources"), os.path.join(library, "libtwkb.so.sources"))
+    without_kit = machines.only_coreutils(os.path.join(folder, "coreutils"))
+    for tool in ("make", "sh"):
+        os.symlink(shutil.which(tool), os.path.join(without_kit, tool))
+
+    def install(name, status, said, **environment):
+        for target, what in (("install", "build"), ("install-library", "library")):
+            prefix = os.path.join(folder, f"{name} {target}")
+            done, _ = make(folder, target, f"PREFIX={prefix}", **environment)
+            told = done.returncode, os.path.exists(prefix), said.replace("WHAT", what) in done.stderr
+            count(f"make {target}, {name}", told, (status, status == 0, True))
+
+    install("current", 0, "")
+    install("without a kit", 0, "The Rattle kit is missing", PATH=without_kit)
+    written(os.path.join(folder, "crates", "twkb_layer", "src"), "lib.rt", b"// Changed.\n")
+    install("of other crates", 2, "isn't of these sources, so it isn't installed: make WHAT")
+    os.remove(os.path.join(folder, "crates", "twkb_layer", "src", "lib.rt"))
+    os.utime(os.path.join(library, "libtwkb.so"), (0, 0))
+    done, _ = make(folder, "install-library", f"PREFIX={folder}/prefix")
+    count("an older library", (done.returncode, "make library" in done.stderr), (2, True))
+    words = [os.path.join(folder, "tools", "is_current.sh"), "missing", "Makefile"]
+    count("what isn't built is not current", subprocess.run(words, cwd=folder, env=fresh(folder)[0]).returncode, 1)
 
 
 def dry(folder):
     """make -n proves, tests and installs nothing."""
-    for target in ("build", "install", "install-library", "test"):
+    for target in ("build", "install", "install-library", "test", "try", "setup"):
         done, calls = make(folder, "-n", target, f"PREFIX={folder}/prefix")
         count(f"make -n {target}", (done.returncode, done.stderr, calls), (0, "", []))
     count("what make -n leaves", [name for name in ("build", "prefix") if os.path.exists(os.path.join(folder, name))], [])
@@ -200,7 +267,7 @@ def words_refused(folder):
 def main():
     with tempfile.TemporaryDirectory() as folder:
         copied(folder)
-        for part in (tried, dry, proved, told, fails, stopped, words_refused):
+        for part in (tried, dry, proved, told, fails, stopped, words_refused, tried_when_built, installed):
             part(folder)
     print(f"{counts['passed']} passed, {counts['failed']} failed")
     return int(counts["failed"] > 0)

@@ -11,7 +11,7 @@ import subprocess
 import sys
 import tempfile
 
-from harness import TOP, count, counts
+from harness import TOP, count, counts, left_out
 
 PAGE = os.path.join(TOP, "docs", "twkb_tool.1")
 INSTALLED = {
@@ -20,6 +20,7 @@ INSTALLED = {
     "share/bash-completion/completions/twkb_tool": ("completions/twkb_tool.bash", 0o644),
     "share/zsh/site-functions/_twkb_tool": ("completions/_twkb_tool", 0o644),
 }
+READERS = {"man": "apt-get install man-db", "mandoc": "apt-get install mandoc"}
 COMMANDS = ["check", "help", "list", "scan"]
 
 
@@ -64,7 +65,7 @@ def manual():
     """A reader that has something to say of the page says it on standard error, and mandoc on standard output."""
     for words in (["man", "--warnings", "-l", PAGE], ["mandoc", "-T", "lint", PAGE]):
         if shutil.which(words[0]) is None:
-            print(f"{words[0]}: not tried, since it isn't here")
+            left_out(f"{words[0]} is missing: {READERS[words[0]]}; the manual page isn't read by it")
             continue
         done = subprocess.run(words, capture_output=True, text=True, env=os.environ | {"MANPAGER": "cat", "LC_ALL": "C.UTF-8"})
         said = done.stderr if words[0] == "man" else done.stdout + done.stderr
@@ -150,7 +151,7 @@ def completions():
                 pass
         for shell, trial in (("bash", in_bash), ("zsh", in_zsh)):
             if shutil.which(shell) is None:
-                print(f"{shell}: not tried, since it isn't here")
+                left_out(f"{shell} is missing: apt-get install {shell}; its completions aren't tried")
             else:
                 trial(folder)
 

@@ -4,6 +4,8 @@ import re
 import shutil
 import subprocess
 
+from harness import left_out
+
 # What coreutils brings, but for some that nobody needs here.
 COREUTILS = (
     "arch basename cat chgrp chmod chown cksum comm cp csplit cut date dd df dirname du echo env expand expr factor false fmt fold "
@@ -63,7 +65,7 @@ def assembled(root):
         dynamic = os.path.join(library, "lib-dynload")
         libraries = [os.path.join(dynamic, name) for name in os.listdir(dynamic) if name.endswith(".so")]
     else:
-        print(f"{DEBIANS} is missing: apt-get install python3; the package for Python isn't tried without a kit")
+        left_out(f"{DEBIANS} is missing: apt-get install python3; the package for Python isn't tried without a kit")
     for path, name in programs.items():
         into(root, os.path.realpath(path), name)
     for path in set().union(*(needed(path) for path in (*programs, *libraries))):

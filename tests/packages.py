@@ -13,7 +13,8 @@ import sys
 import zipfile
 
 import machines
-from harness import TOP, count, run
+from harness import TOP, count, left_out, run
+from release_commands import there
 
 CASES = os.path.join(TOP, "bindings", "c", "cases.c")
 LAYER = os.path.join(TOP, "examples", "coast_lines_sized.twkb")
@@ -45,7 +46,7 @@ def linked(prefix, out, *flags):
 def has_linker():
     for tool in NEEDS:
         if not shutil.which(tool):
-            print(f"{tool} is missing: {NEEDS[tool]}; no C program is linked with what is installed")
+            left_out(f"{tool} is missing: {NEEDS[tool]}; no C program is linked with what is installed")
             return False
     return True
 
@@ -70,7 +71,7 @@ def links(name, place, program, folder):
 def crate(release, folder):
     """An example of the crate for Rust, over the library beside it."""
     if not shutil.which("cargo"):
-        print("cargo is missing: apt-get install cargo; the crate for Rust isn't built out of the release")
+        left_out("cargo is missing: apt-get install cargo; the crate for Rust isn't built out of the release")
         return
     environment = os.environ | {"TWKB_LIB": os.path.join(release, "lib"), "CARGO_TARGET_DIR": os.path.join(folder, "cargo")}
     words = ["cargo", "run", "--offline", "--quiet", "--example", "scan", LAYER, *"10 30 35 45".split()]
@@ -103,7 +104,10 @@ def recorded(wheel):
             wanted[name] = (f"sha256={digest}", str(len(data)))
     rows = {row[0]: tuple(row[1:]) for row in csv.reader(io.StringIO(found[record].decode()))}
     count("RECORD of the wheel", rows, wanted)
-    count("the wheel's tag", b"\nTag: py3-none-linux_x86_64\n" in found[record.replace("RECORD", "WHEEL")], True)
+    tags = "manylinux_{}_{}_x86_64 manylinux2014_x86_64".format(*glibc_of(found["dozhemik/libtwkb.so"])).split()
+    told = re.findall(rb"(?m)^Tag: (.*)$", found[record.replace("RECORD", "WHEEL")])
+    count("the wheel's tags", told, [f"py3-none-{tag}".encode() for tag in tags])
+    count("the wheel's name", os.path.basename(wheel).split("-py3-none-")[1], f"{'.'.join(tags)}.whl")
     return set(found)
 
 
@@ -116,7 +120,7 @@ def packages(release, version, folder):
         done = subprocess.run(words, capture_output=True, text=True, env=os.environ | {"PIP_DISABLE_PIP_VERSION_CHECK": "1"})
         count("pip install", done.returncode, 0)
     else:
-        print("pip is missing: apt-get install python3-pip; the wheel is unpacked by zipfile")
+        left_out("pip is missing: apt-get install python3-pip; the wheel is unpacked by zipfile")
         zipfile.ZipFile(wheel).extractall(place)
     count("the package has its library", "dozhemik/libtwkb.so" in names, True)
     count("the package of the wheel", asked(place), (0, f"{version} {HITS}", ""))
@@ -138,6 +142,11 @@ def processor(release):
     count("lib/libtwkb.so.0: the processor that it needs", (isa_needed in data, data[at] & 2), (True, 2))
 
 
+def glibc_of(data):
+    """The glibc that a program or a library needs."""
+    return max([int(number) for number in one] for one in re.findall(rb"GLIBC_(\d+)\.(\d+)", data))
+
+
 def glibc(release):
     """docs/BINDINGS.md says which glibc they want, and they want no later one."""
     with open(os.path.join(TOP, "docs", "BINDINGS.md"), encoding="utf-8") as page:
@@ -145,8 +154,7 @@ def glibc(release):
     said = [int(number) for number in said.groups()] if said else [0, 0, 0, 0]
     for path, greatest in (("lib/libtwkb.so.0", said[:2]), ("bin/twkb_tool", said[2:])):
         with open(os.path.join(release, path), "rb") as file:
-            wanted = [[int(number) for number in one] for one in re.findall(rb"GLIBC_(\d+)\.(\d+)", file.read())]
-        count(f"{path}: glibc of docs/BINDINGS.md", max(wanted) <= greatest, True)
+            count(f"{path}: glibc of docs/BINDINGS.md", glibc_of(file.read()) <= greatest, True)
 
 
 def machine(archive, version, by_debootstrap, folder):
@@ -154,7 +162,7 @@ def machine(archive, version, by_debootstrap, folder):
     root = os.path.join(folder, "root")
     machines.by_debootstrap(root) if by_debootstrap else machines.assembled(root)
     if not machines.is_possible(root):
-        print("no program may have another root here: the release isn't tried on a machine of its own")
+        left_out("no program may have another root here: the release isn't tried on a machine of its own")
         return
     shutil.copy(archive, root + HOME)
     shutil.copy(LAYER, f"{root}{HOME}/layer.twkb")
@@ -172,6 +180,7 @@ def machine(archive, version, by_debootstrap, folder):
     in_c(root)
     if os.path.exists(root + machines.DEBIANS):
         in_python(root, release, version)
+        there(root, release)
 
 
 def in_c(root):

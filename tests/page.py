@@ -24,7 +24,7 @@ from concurrent.futures import ProcessPoolExecutor
 
 from browsers import BROWSERS, Failed
 from driven import PICTURES, Driven
-from harness import TOP, count, counts, table, written
+from harness import TOP, count, counts, left_out, table, written
 from page_answers import ANSWERS, printed
 from page_focus import FOCUS
 from page_moves import LINES, dragged, zoomed
@@ -343,7 +343,7 @@ def kept(page):
 def built():
     """The page, or nothing where this machine lacks what builds it."""
     if not shutil.which("wasm-opt"):
-        print("wasm-opt is missing: apt-get install binaryen; the tests of the page are left out")
+        left_out("wasm-opt is missing: apt-get install binaryen; the tests of the page are left out")
         return None
     module = os.path.join(TOP, "build", "web", "twkb_web.wasm")
     subprocess.run([os.path.join(WEB, "build.sh")], check=True)
@@ -372,7 +372,7 @@ def main():
     asked = words.parse_args()
     there = [one for one in BROWSERS if shutil.which(one.name)]
     for lacking in set(BROWSERS) - set(there):
-        print(f"{lacking.name} is missing: {lacking.needs}; its tests are left out")
+        left_out(f"{lacking.name} is missing: {lacking.needs}; its tests are left out")
     shorter()
     page = (asked.page or built()) if there else None
     if page:

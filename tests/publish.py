@@ -17,7 +17,7 @@ import sys
 import tempfile
 
 import plain
-from harness import TOP, count, counts, written
+from harness import TOP, count, counts, left_out, written
 
 SCRIPT = os.path.join(TOP, "examples", "scripts", "publish_layer.sh")
 BEFORE = b"what was served before"
@@ -185,7 +185,7 @@ def by_postgis(folder, program, place):
 def main():
     program = os.path.abspath(sys.argv[1] if len(sys.argv) > 1 else os.path.join(TOP, "build", "twkb_tool"))
     if not shutil.which("xxd"):
-        print("xxd is missing: apt-get install xxd; nothing is published")
+        left_out("xxd is missing: apt-get install xxd; nothing is published")
     else:
         with tempfile.TemporaryDirectory() as folder:
             os.chmod(folder, 0o755)
@@ -195,7 +195,7 @@ def main():
             if place and shutil.which("psql"):
                 by_postgis(folder, program, place)
             else:
-                print("PostGIS is missing: apt-get install postgresql-15-postgis-3; the script is tried with stand-ins alone")
+                left_out("PostGIS is missing: apt-get install postgresql-postgis; the script is tried with stand-ins alone")
     print(f"{counts['passed']} passed, {counts['failed']} failed")
     return int(counts["failed"] > 0)
 

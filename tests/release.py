@@ -21,9 +21,10 @@ import tempfile
 import time
 
 import machines
-from harness import TOP, count, counts, run, written
+from harness import TOP, count, counts, left_out, run, written
 from packages import crate, links, machine, packages
 from pages import broken
+from release_commands import here
 
 MODULE = os.path.join(TOP, "build", "web", "twkb_web.wasm")
 BUILT = ("libtwkb.a", "libtwkb.so", "libtwkb.so.0")
@@ -33,13 +34,14 @@ AUTHOR = ["-c", "user.name=tests", "-c", "user.email=tests@localhost", "-c", "co
 NEEDS = {"git": "apt-get install git", "rt": "the Rattle kit"}
 # What a release has to hold, beside the crate for Rust and the texts of licences.
 WANTED = [
-    "README.md CHANGELOG.md CONTRIBUTING.md NOTICES.md PROVENANCE.md SHA256SUMS VERSION install.sh dozhemik.html".split(),
+    "README.md CHANGELOG.md CONTRIBUTING.md NOTICES.md PROVENANCE.md SHA256SUMS VERSION install.sh uninstall.sh dozhemik.html".split(),
     "bin/twkb_tool share/man/man1/twkb_tool.1 share/zsh/site-functions/_twkb_tool".split(),
     "share/bash-completion/completions/twkb_tool include/twkb.h".split(),
     "lib/libtwkb.a lib/libtwkb.so lib/libtwkb.so.0 lib/pkgconfig/twkb.pc".split(),
     "rust/Cargo.toml rust/build.rs rust/src/lib.rs docs/USAGE.md docs/BINDINGS.md docs/FORMAT.md".split(),
     "docs/PROVED.md docs/TESTED.md docs/GATE.md docs/page.png".split(),
-    "examples/README.md examples/coast_z.twkb examples/scripts/publish_layer.sh".split(),
+    "examples/README.md examples/coast_z.twkb examples/scripts/publish_layer.sh examples/demo.sh examples/serve.py".split(),
+    "web/twkb.js web/twkb_web.wasm".split(),
     "notices/clap-LICENSE-MIT notices/itoa-LICENSE notices/smallvec-LICENSE-MIT notices/thiserror-LICENSE".split(),
 ]
 
@@ -70,8 +72,15 @@ def cloned(clone):
         if os.path.lexists(os.path.join(TOP, name)):
             os.makedirs(os.path.dirname(os.path.join(clone, name)), exist_ok=True)
             shutil.copy(os.path.join(TOP, name), os.path.join(clone, name))
+    released(clone)
     committed(clone, "What is tested")
     return clone
+
+
+def released(clone):
+    """What isn't released yet is packed only here, as if it were of this day."""
+    version, changes = text_of(clone, "VERSION").strip(), text_of(clone, "CHANGELOG.md")
+    written(clone, "CHANGELOG.md", re.sub(r"^## .*$", f"## {version} - 2026-12-01", changes, count=1, flags=re.MULTILINE).encode())
 
 
 def build_into(clone, program):
@@ -85,7 +94,7 @@ def build_into(clone, program):
     if os.path.exists(MODULE):
         shutil.copy(MODULE, module)
     else:
-        print("build/web has no module, as `make web` leaves one: the page in the release is one without")
+        left_out("build/web has no module, as `make web` leaves one: the page in the release is one without")
         written(os.path.dirname(module), os.path.basename(module), b"")
     sources = subprocess.run([os.path.join(clone, "tools", "sources.sh")], check=True, capture_output=True).stdout
     for name in PROVED:
@@ -135,8 +144,9 @@ def members(archive, clone, version):
         found = tar.getmembers()
     names = [member.name for member in found]
     count("names are sorted", names, sorted(names, key=lambda name: name.split("/")))
-    wanted = {f"{top}/{name}" for row in WANTED for name in row} | {f"{top}/dozhemik-{version}-py3-none-linux_x86_64.whl"}
-    count("what is missing", sorted(wanted - set(names)), [])
+    count("what is missing", sorted({f"{top}/{name}" for row in WANTED for name in row} - set(names)), [])
+    wheels = [name for name in names if name.startswith(f"{top}/dozhemik-{version}-py3-none-manylinux_") and name.endswith(".whl")]
+    count("wheels", len(wheels), 1)
     alike = {(member.uid, member.gid, member.uname, member.gname, member.mtime) for member in found}
     count("owner and time", alike, {(0, 0, "", "", seconds)})
     rights = {member.mode for member in found if not member.issym()}
@@ -169,8 +179,10 @@ def notes(release, clone, version):
         count(f"PROVENANCE.md has {what}", f"{what}" in note, True)
     for name in ("NOTICES.md", os.path.join("examples", "README.md")):
         count(f"{name} names the LGPL", "GNU Lesser General Public License" in text_of(release, name), True)
-    said = re.sub(r"\s+", " ", text_of(release, "README.md"))
-    count("README says that no licence is chosen", "No licence has been chosen" in said, True)
+    count("README links PROVENANCE.md", "(PROVENANCE.md)" in text_of(release, "README.md"), True)
+    for folder in (release, TOP):
+        said = re.sub(r"\s+", " ", text_of(folder, "README.md"))
+        count(f"README of {os.path.basename(folder)} says that no licence is chosen", "icence: none chosen yet" in said, True)
 
 
 def pages_linked(release):
@@ -212,11 +224,13 @@ def refusals(clone, program, folder):
 def others(clone, refused):
     """What is built of other crates, or by another kit."""
     for path, form, other, said in (
+        ("CHANGELOG.md", r"(?m)(^## .*)$", r"## Unreleased\n\n\1", 'dist.sh: CHANGELOG.md has first "Unreleased", and not version'),
+        ("CHANGELOG.md", r"(?m)(^## \S+ - )[0-9-]+$", r"\1not published", " - not published\", and not version"),
         ("README.md", r"`logic \w+`", "`logic of another kit`", "dist.sh: README.md names another logic than rt version does"),
         ("crates/twkb_c/src/lib.rt", r"\Z", "// More.\n", "dist.sh: build/twkb_tool isn't known to be of these crates: make build"),
     ):
         kept = text_of(clone, path)
-        written(clone, path, re.sub(form, other, kept).encode())
+        written(clone, path, re.sub(form, other, kept, count=1).encode())
         committed(clone, "Something else")
         refused(f"another {path}", said)
         written(clone, path, kept.encode())
@@ -258,6 +272,7 @@ def installs(release, clone, folder):
     layer = os.path.join(TOP, "examples", "points_sized.twkb")
     got = run([os.path.join(prefix, "bin", "twkb_tool"), "check", layer])
     count("the installed program", got, (0, b"ok blobs=2286 vertices=2286\n", b""))
+    uninstalls(release, prefix, lambda *words: subprocess.run(words, capture_output=True, env={"PATH": path}).returncode)
     subprocess.run([*words[:2], "uninstall", "uninstall-library", words[-1]], cwd=clone, check=True, stdout=subprocess.DEVNULL)
     count("what make leaves", tree(by_make), {})
     count("install.sh without a prefix", install(release).returncode, 2)
@@ -268,6 +283,16 @@ def installs(release, clone, folder):
     count("it installs nothing", os.path.exists(os.path.join(folder, "nothing")), False)
     processors(lambda cpuinfo: install(release, "for another", CPUINFO=cpuinfo), folder)
     return prefix
+
+
+def uninstalls(release, prefix, status):
+    """uninstall.sh removes what install.sh has installed, and nothing else."""
+    copy = shutil.copytree(prefix, f"{prefix} once more", symlinks=True)
+    other = written(os.path.join(copy, "lib"), "other", b"")
+    script = os.path.join(release, "uninstall.sh")
+    for attempt in ("first", "second"):
+        count(f"uninstall.sh, {attempt}", (status("/bin/sh", script, copy), list(tree(copy))), (0, [os.path.relpath(other, copy)]))
+    count("uninstall.sh without a prefix", status("/bin/sh", script), 2)
 
 
 def processors(install, folder):
@@ -296,8 +321,8 @@ def main():
     asked = words.parse_args()
     missing = [tool for tool in NEEDS if not shutil.which(tool)]
     if missing:
-        print(f"{missing[0]} is missing: {NEEDS[missing[0]]}; no release is packed")
-        return 0
+        left_out(f"{missing[0]} is missing: {NEEDS[missing[0]]}; no release is packed")
+        return int(counts["failed"] > 0)
     version = text_of(TOP, "VERSION").strip()
     with tempfile.TemporaryDirectory() as folder:
         clone = cloned(os.path.join(folder, "clone"))
@@ -314,6 +339,7 @@ def main():
             links("unpacked", release, asked.program, folder)
             crate(release, folder)
             packages(release, version, folder)
+            here(release, folder)
             machine(shutil.copy(archive, folder), version, asked.debootstrap, folder)
             refusals(clone, asked.program, folder)
     print(f"{counts['passed']} passed, {counts['failed']} failed")

@@ -21,7 +21,7 @@ import time
 
 import changed
 import plain
-from harness import TOP, answered, count, counts, fault, run, table, written
+from harness import TOP, answered, count, counts, fault, left_out, run, table, written
 from widened import widened
 
 POINT = bytes.fromhex("01000204")
@@ -214,7 +214,7 @@ def rights(program, layer):
             os.chmod(layer, 0)
             count(f"{words}: unreadable file", run(command(program, words, layer), **other), fault(b"cannot open file"))
         except subprocess.SubprocessError:
-            print("unreadable file: not tried, since root can't run it as another user here")
+            left_out("unreadable file: not tried, since root can't run it as another user here")
         os.chmod(layer, 0o644)
 
 

@@ -18,7 +18,7 @@ import subprocess
 import sys
 import tempfile
 
-from harness import TOP, count, counts, written
+from harness import TOP, count, counts, left_out, written
 
 SCRIPTS = os.path.join(TOP, "examples", "scripts")
 GOOD, BAD = bytes.fromhex("01000204"), bytes.fromhex("0102030204")
@@ -186,7 +186,7 @@ def main():
             if shutil.which("parallel"):
                 parallel(names, layers, path)
             else:
-                print("GNU parallel: not tried, since it isn't here")
+                left_out("GNU parallel is missing: apt-get install parallel; its script isn't tried")
         without_program(os.path.join(folder, "layers 0"))
         os.chmod(folder, 0o755)
         for name, *rest in (["certify_all.sh"], ["certify_parallel.sh", os.path.join(folder, "log")]):

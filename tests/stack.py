@@ -17,7 +17,7 @@ import subprocess
 import sys
 import tempfile
 
-from harness import TOP, written
+from harness import TOP, counts, left_out, written
 
 PAGE, TRIES = 4096, 20
 WINDOW = "x=1..1,y=2..2"
@@ -70,6 +70,9 @@ def main():
                 levels = {above - below for above, below in zip(entered, entered[1:])}
                 print(f"{name}: {len(entered)} collections; how many bytes each is below the one before it: {sorted(levels)}")
             print(f"scan: goes over members {len(scan)} times")
+        else:
+            left_out("gdb is missing: apt-get install gdb; the stack of each step isn't read")
+    sys.exit(counts["failed"] > 0)
 
 
 main()

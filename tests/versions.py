@@ -14,7 +14,7 @@ import subprocess
 import sys
 import tempfile
 
-from harness import TOP, count, counts, written
+from harness import TOP, count, counts, left_out, written
 
 LIBRARY = os.path.join(TOP, "build", "bindings")
 # The files that state a version, each with a pattern of the text around it.
@@ -22,9 +22,9 @@ STATED = {
     "bindings/c/twkb.h": r'^#define TWKB_VERSION "(.*)"$',
     "bindings/c/twkb.pc": r"^Version: (.*)$",
     "bindings/python/pyproject.toml": r'^version = "(.*)"$',
-    "bindings/python/dozhemik/__init__.py": r'^__version__ = "(.*)"$',
+    "bindings/python/dozhemik/_library.py": r'^VERSION = "(.*)"$',
     "bindings/rust/Cargo.toml": r'^version = "(.*)"$',
-    "README.md": r"(?:dozhemik-|Version )(\d+\.\d+\.\d+)",
+    "README.md": r"Version (\d+\.\d+\.\d+)",
     "docs/twkb_tool.1": r'^\.TH .* "Dozhemik (.*)" .*$',
     "docs/USAGE.md": r"dozhemik-(\d.*?)-x86_64",
     "docs/BINDINGS.md": r"dozhemik-(\d.*?)-py3",
@@ -56,7 +56,7 @@ def stated(version):
 
 def of_the_library(version, folder):
     if not shutil.which("gcc"):
-        print("gcc is missing: apt-get install gcc libc6-dev; the library isn't asked for its version")
+        left_out("gcc is missing: apt-get install gcc libc6-dev; the library isn't asked for its version")
         return
     source, program = written(folder, "version.c", PROGRAM.encode()), os.path.join(folder, "version")
     words = ["gcc", "-std=c11", "-Wall", "-Wextra", "-Werror", f"-I{TOP}/bindings/c", source]

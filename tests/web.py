@@ -17,7 +17,7 @@ import sys
 import tempfile
 
 import plain
-from harness import TOP, count, counts, run, table, written
+from harness import TOP, count, counts, left_out, run, table, written
 
 WEB = os.path.join(TOP, "bindings", "web")
 MODULE = os.path.join(TOP, "build", "web", "twkb_web.wasm")
@@ -133,8 +133,8 @@ def test_verdicts(name, length, step):
 def main(words):
     for tool, how in NEEDS.items():
         if not shutil.which(tool):
-            print(f"{tool} is missing: {how}; the tests of the web are left out")
-            return 0
+            left_out(f"{tool} is missing: {how}; the tests of the web are left out")
+            return int(counts["failed"] > 0)
     for build in (os.path.join(WEB, "build.sh"), os.path.join(TOP, "bindings", "build.sh")):
         done = subprocess.run([build], stdout=subprocess.PIPE, stderr=subprocess.STDOUT, timeout=MINUTES)
         count(build, (done.returncode, b"" if done.returncode == 0 else done.stdout[-3000:]), (0, b""))

@@ -33,6 +33,11 @@ proved() {
 }
 
 rm -f "$out"
+newest=$(sed -n 's/^## //p' CHANGELOG.md | head -n 1)
+case $newest in
+    "$version - "[0-9]*-[0-9]*-[0-9]*) ;;
+    *) fail "CHANGELOG.md has first \"$newest\", and not version $version with the day of its release" ;;
+esac
 changes=$(git status --porcelain)
 [ -z "$changes" ] || fail "the checkout isn't what is committed: $(printf '%s\n' "$changes" | head -n 1)"
 sources=$(tools/sources.sh)
@@ -78,10 +83,22 @@ put lib/libtwkb.a build/bindings/libtwkb.a
 put lib/libtwkb.so.0 build/bindings/libtwkb.so
 ln -s libtwkb.so.0 "$to/lib/libtwkb.so"
 put lib/pkgconfig/twkb.pc bindings/c/twkb.pc
-put ./ README.md CHANGELOG.md CONTRIBUTING.md NOTICES.md VERSION tools/install.sh build/dozhemik.html
+put ./ CHANGELOG.md CONTRIBUTING.md NOTICES.md VERSION tools/install.sh tools/uninstall.sh build/dozhemik.html
 put docs/ docs/*.md docs/*.svg docs/*.png
-put examples/ examples/README.md examples/*.twkb examples/*.sh examples/*.py
+put examples/ examples/README.md examples/*.twkb examples/*.sh examples/*.py bindings/python/examples/serve.py
 put examples/scripts/ examples/scripts/*.sh examples/scripts/*.py
+# The JavaScript that calls the module, with all that it imports. Node takes these files for modules by the type.
+put web/ build/web/twkb_web.wasm
+echo '{ "type": "module" }' > "$to/web/package.json"
+files=twkb.js
+while [ -n "$files" ]; do
+    more=
+    for file in $files; do
+        put web/ "bindings/web/page/$file"
+        more="$more $(sed -n 's/.* from "\.\/\(.*\)";$/\1/p' "bindings/web/page/$file")"
+    done
+    files=$(echo $more)
+done
 for file in $(git ls-files bindings/rust); do
     [ "${file##*/}" = .gitignore ] || put "rust/${file#bindings/rust/}" "$file"
 done
@@ -91,7 +108,6 @@ for crate in clap itoa smallvec thiserror; do
     done
 done
 SOURCE_DATE_EPOCH=$seconds python3 tools/wheel.py build/bindings/libtwkb.so "$to" > "$work/wheel"
-python3 tools/release_pages.py "$to"
 cat > "$to/PROVENANCE.md" <<TEXT
 # What was proved
 
@@ -101,14 +117,15 @@ Dozhemik $version, of the commit \`$commit\`, by the kit \`$kit\`.
 |---|---|
 | \`bin/twkb_tool\` | built by this kit from crates that it has proved; it builds no others |
 | \`lib/libtwkb.a\`, \`lib/libtwkb.so.0\`, and the library in the wheel | built in the same way, except \`twkb_version()\`, which is C, and three functions of the kit that call the C library |
-| the module inside \`dozhemik.html\` | built in the same way, and then lowered to 32 bits and made shorter by \`wasm-opt\` |
-| everything else | not proved: the header, the package for Python, the crate for Rust, the rest of the page, the scripts |
+| \`web/twkb_web.wasm\`, also inside \`dozhemik.html\` | built in the same way, and then lowered to 32 bits and made shorter by \`wasm-opt\` |
+| everything else | not proved: the header, the packages for Python, Rust and JavaScript, the rest of the page, the scripts |
 
 \`docs/PROVED.md\` says what is proved of these, \`docs/TESTED.md\` what is only tested, \`README.md\` what is trusted, and
 \`docs/BINDINGS.md\` all this for callers and for the page. With the kit and a checkout of the commit, \`make test\` proves and tests
 all of it again. The pages link only files that are here: where a page of the checkout links another file, its name is plain text.
 \`SHA256SUMS\` has a sum of each file: \`sha256sum --check SHA256SUMS\`, as \`install.sh\` does.
 TEXT
+python3 tools/release_pages.py "$to" "$version"
 
 chmod -R u=rwX,go=rX "$to"
 (cd "$to" && find . -type f ! -name SHA256SUMS -printf '%P\0' | sort -z | xargs -0 sha256sum > "$work/sums")

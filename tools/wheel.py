@@ -3,18 +3,19 @@
 
 usage: tools/wheel.py LIBRARY FOLDER   (Python 3.11 or later; SOURCE_DATE_EPOCH is the time of all files in it, else 1980)
 
-Says the path. The name, the version and the rest are as in bindings/python/pyproject.toml.
+Says the path. The name, the version and the rest are as in bindings/python/pyproject.toml. The tag names the glibc that the library
+needs, by the versions of its symbols.
 """
 import base64
 import hashlib
 import os
+import re
 import sys
 import time
 import tomllib
 import zipfile
 
 PACKAGE = os.path.join(os.path.dirname(os.path.dirname(os.path.abspath(__file__))), "bindings", "python")
-TAG = "py3-none-linux_x86_64"
 
 
 def content(*path):
@@ -38,16 +39,22 @@ def lines(fields):
     return "".join(f"{name}: {value}\n" for name, value in fields.items())
 
 
-def files(project, library):
+def platforms(library):
+    """The platforms that have the library's glibc. pip before 20.3 knows only names such as that of glibc 2.17."""
+    needed = max((int(major), int(minor)) for major, minor in re.findall(rb"\0GLIBC_(\d+)\.(\d+)", library))
+    return [f"manylinux_{needed[0]}_{needed[1]}_x86_64"] + ["manylinux2014_x86_64"] * (needed <= (2, 17))
+
+
+def files(project, library, tags):
     """What a wheel holds by its paths, but for the record of it."""
     name = project["name"]
     modules = sorted(file for file in os.listdir(os.path.join(PACKAGE, name)) if file.endswith((".py", ".typed")))
     found = {f"{name}/{file}": content(PACKAGE, name, file) for file in modules}
-    found[f"{name}/libtwkb.so"] = content(library)
-    about = {"Wheel-Version": "1.0", "Generator": "tools/wheel.py", "Root-Is-Purelib": "false", "Tag": TAG}
+    found[f"{name}/libtwkb.so"] = library
+    about = {"Wheel-Version": "1.0", "Generator": "tools/wheel.py", "Root-Is-Purelib": "false"}
     info = f"{name}-{project['version']}.dist-info"
     found[f"{info}/METADATA"] = metadata(project)
-    found[f"{info}/WHEEL"] = lines(about).encode()
+    found[f"{info}/WHEEL"] = (lines(about) + "".join(f"Tag: py3-none-{tag}\n" for tag in tags)).encode()
     return found, f"{info}/RECORD"
 
 
@@ -71,11 +78,13 @@ def written(path, found, when):
 
 def main(library, folder):
     project = tomllib.loads(content(PACKAGE, "pyproject.toml").decode())["project"]
-    found, record = files(project, library)
+    data = content(library)
+    tags = platforms(data)
+    found, record = files(project, data, tags)
     found[record] = recorded(found, record)
     # A zip has no times before 1980.
     when = max(time.gmtime(int(os.environ.get("SOURCE_DATE_EPOCH", "0")))[:6], (1980, 1, 1, 0, 0, 0))
-    path = os.path.join(folder, f"{project['name']}-{project['version']}-{TAG}.whl")
+    path = os.path.join(folder, f"{project['name']}-{project['version']}-py3-none-{'.'.join(tags)}.whl")
     written(path, found, when)
     print(path)
 

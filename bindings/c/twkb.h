@@ -31,9 +31,9 @@ extern "C" {
 #endif
 
 /* The version of this header. */
-#define TWKB_VERSION "1.0.0"
+#define TWKB_VERSION "1.1.0"
 #define TWKB_VERSION_MAJOR 1
-#define TWKB_VERSION_MINOR 0
+#define TWKB_VERSION_MINOR 1
 #define TWKB_VERSION_PATCH 0
 
 /* The version of the library that is linked or loaded, which may differ from the header's: a constant text. This one function

@@ -19,14 +19,13 @@ layer can be listed and scanned:
 
 The library is proved. This package isn't: it passes the bytes, and converts the results to Python values. It loads the
 file that the environment variable TWKB_LIBRARY names, or libtwkb.so beside its modules, or else the system's
-libtwkb.so.0.
+libtwkb.so.0. If that has another version than the package, importing raises WrongVersion, which is an ImportError.
 """
 from ._answers import HIT_DTYPE, ROW_DTYPE, TYPES, Hit, Refused, Row, Scan
 from ._bytes import Data
 from ._layer import Directory, Layer, certify
+from ._library import VERSION as __version__
 from ._window import BadWindow, Box, Coordinate, Range, Window
-
-__version__ = "1.0.0"
 
 __all__ = [
     "BadWindow",

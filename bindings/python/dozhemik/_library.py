@@ -4,8 +4,14 @@ import os
 import struct
 from ctypes import POINTER, c_bool, c_char_p, c_int8, c_int64, c_size_t, c_uint8, c_uint32, c_uint64, c_void_p
 
+# Of the package. Only a library of the same version is known to have the structs and the slots that are declared here.
+VERSION = "1.1.0"
 CERTIFIED, REFUSED, NO_MEMORY = 0, 1, 2
 WINDOW, BAD_FORM, BAD_ORDER = 0, 1, 2
+
+
+class WrongVersion(ImportError):
+    """The library that is found has another version than the package."""
 
 
 class Verdict(ctypes.Structure):
@@ -114,8 +120,13 @@ def _loaded() -> ctypes.CDLL:
             raise ImportError(f"a {kind.__name__} has {ctypes.sizeof(kind)} bytes here, and {size} in libtwkb.so")
     if (ROW.size, HIT.size) != (40, 24):
         raise ImportError(f"a row and a hit have {ROW.size} and {HIT.size} bytes here, and 40 and 24 in libtwkb.so")
+    place = _place()
     try:
-        found = ctypes.CDLL(_place())
+        found = ctypes.CDLL(place)
+        found.twkb_version.restype = c_char_p
+        version = found.twkb_version().decode()
+        if version != VERSION:
+            raise WrongVersion(f"{place} has version {version}, and this package {VERSION}: install the two of one release")
         for name, takes, answers in _CALLS:
             call = getattr(found, name)
             call.argtypes, call.restype = takes, answers

@@ -5,13 +5,15 @@ import os
 import pickle
 import subprocess
 import sys
+import tempfile
 import threading
 import unittest
 from collections.abc import Sequence
 from typing import Callable, List, Tuple
 
 import example
-from dozhemik import Hit, Layer, Refused, Row, Window, certify
+from dozhemik import Hit, Layer, Refused, Row, Window, __version__, certify
+from dozhemik._library import library
 
 LINES = example.example("coast_lines_sized")
 EUROPE = "x=10..30,y=35..45"
@@ -211,7 +213,19 @@ class Loading(unittest.TestCase):
     def test_another_library(self) -> None:
         status, told = self.told("import dozhemik", TWKB_LIBRARY="libc.so.6")
         self.assertEqual(status, 1)
-        self.assertRegex(told, "ImportError: .*twkb_certify.*make library")
+        self.assertRegex(told, "ImportError: .*twkb_version.*make library")
+
+    def test_another_version(self) -> None:
+        with open(library._name, "rb") as file:
+            data = file.read()
+        own = f"libtwkb {__version__}\0".encode()
+        self.assertEqual(data.count(own), 1)
+        with tempfile.NamedTemporaryFile(suffix=".so") as other:
+            other.write(data.replace(own, b"libtwkb 0.9.0\0"))
+            other.flush()
+            status, told = self.told("import dozhemik", TWKB_LIBRARY=other.name)
+        self.assertEqual(status, 1)
+        self.assertRegex(told, rf"WrongVersion: {other.name} has version 0\.9\.0, and this package {__version__}")
 
     def test_sizes_are_compared(self) -> None:
         words = "import ctypes; ctypes.sizeof = lambda struct: 41; import dozhemik"

@@ -1,5 +1,8 @@
 //! Memory that is refused: what takes it says so, and what takes none goes on.
 
+// Clippy of Rust 1.63, Debian's, says that of the constant in what `thread_local` makes.
+#![allow(clippy::declare_interior_mutable_const)]
+
 use dozhemik::{Hit, Layer, OwnedLayer, Span, Window};
 use std::alloc::{GlobalAlloc, Layout, System};
 use std::cell::Cell;

@@ -31,8 +31,8 @@ fn texts_are_read_exactly() {
     assert_eq!(window.z(), Some(units(0, 70_000_000)));
     assert_eq!(window.m(), Some(units(11_000_000, 10_i128.pow(34) - 1)));
     let window = parsed("x=-1000000000000000..1000000000000000,y=-1000000000000000..-999999999999999.9999999").unwrap();
-    assert_eq!(window.x(), units(-10_i128.pow(22), 10_i128.pow(22)));
-    assert_eq!(window.y(), units(-10_i128.pow(22), 1 - 10_i128.pow(22)));
+    assert_eq!(window.x(), units(-(10_i128.pow(22)), 10_i128.pow(22)));
+    assert_eq!(window.y(), units(-(10_i128.pow(22)), 1 - 10_i128.pow(22)));
     let window = parsed("x=0..1,y=0..1").unwrap();
     assert_eq!((window.z(), window.m()), (None, None));
     assert_eq!(window, Window::new(units(0, 10_000_000), units(0, 10_000_000)));
