@@ -25,12 +25,12 @@ unjudged() {
 }
 
 # The list comes first, so that a folder that can't be read is known of. A link to nothing is a layer that can't be read.
-list=$(mktemp) judging=
-trap 'rm -f "$list"' EXIT
+lists=$(mktemp -d) judging=
+trap 'rm -rf "$lists"' EXIT
 trap 'kill $judging 2> /dev/null || true; exit 143' HUP INT TERM
-find -H "$folder" -name '*.twkb' \( -xtype f -o -xtype l \) -print0 > "$list" ||
+find -H "$folder" -name '*.twkb' \( -xtype f -o -xtype l \) -print0 > "$lists/layers" ||
     unjudged "not all of $folder can be read, so nothing is judged"
-[ -s "$list" ] || unjudged "no layer (*.twkb) is below $folder"
+[ -s "$lists/layers" ] || unjudged "no layer (*.twkb) is below $folder"
 
 # Another machine is sent a layer at a time, and keeps nothing of it. `:` is this one, whose layers stay where they are.
 if [ $# -gt 0 ]; then
@@ -44,12 +44,12 @@ path='{= my $copy = $_; my $high = utf8::decode($copy) ? "" : "\x80-\xff";
 
 # An older log would speak of an older run.
 rm -f "$log"
-parallel --null --will-cite "$@" --joblog "$log" --tagstring "$path" twkb_tool check {} < "$list" &
+parallel --null --will-cite --tmpdir "$lists" "$@" --joblog "$log" --tagstring "$path" twkb_tool check {} < "$lists/layers" &
 judging=$!
 wait $judging || true
 judging=
 [ -f "$log" ] || unjudged "parallel has judged nothing"
-layers=$(tr -dc '\000' < "$list" | wc -c)
+layers=$(tr -dc '\000' < "$lists/layers" | wc -c)
 told=$(tail -n +2 "$log" | wc -l)
 [ "$told" -eq "$layers" ] || unjudged "$told of $layers layers are in $log"
 # The status of each layer, and the signal that ended its program, 0 for none.
