@@ -34,6 +34,7 @@ NEEDS = {
     "g++": "apt-get install g++",
     "valgrind": "apt-get install valgrind",
     "cargo": "apt-get install cargo",
+    "cargo-clippy": "apt-get install rust-clippy",
     "pkg-config": "apt-get install pkg-config",
     "mypy": "apt-get install mypy",
 }
@@ -170,6 +171,11 @@ def test_rust(program, folder):
     environment = {**os.environ, "TWKB_LIB": LIBRARY, "CARGO_TARGET_DIR": target}
     succeeds("Rust, tests", ["cargo", "test", "--offline", "--quiet"], cwd=source, env=environment)
     succeeds("Rust, examples", ["cargo", "build", "--release", "--examples", "--offline", "--quiet"], cwd=source, env=environment)
+    words = ["cargo", "doc", "--offline", "--quiet"]
+    succeeds("Rust, documentation", words, cwd=source, env={**environment, "RUSTDOCFLAGS": "-D warnings"})
+    if has("cargo-clippy"):
+        words = ["cargo", "clippy", "--offline", "--quiet", "--all-targets", "--", "-D", "warnings"]
+        succeeds("Rust, clippy", words, cwd=source, env=environment)
     drive("Rust", [os.path.join(target, "release", "examples", "cases")], program, folder)
     if has("pkg-config"):
         rust_by_pkg_config(source, folder)
