@@ -34,7 +34,10 @@ xargs -0 -n 1 -P "$(nproc)" sh -c '
     status=0
     said=$("$1" check "$2" 2>&1) || status=$?
     [ $status -lt 3 ] || printf %s "$2" | iconv -f UTF-8 -t UTF-8 > /dev/null 2>&1 || said="not judged: the path is not UTF-8"
-    path=$(LC_ALL=C.UTF-8 ls -d --quoting-style=c-maybe -- "$2") || path=\"removed\"
+    case $2 in
+        *[!\ -~]* | *\"* | *\\*) path=$(LC_ALL=C.UTF-8 ls -d --quoting-style=c-maybe -- "$2") || path=\"removed\" ;;
+        *) path=$2 ;;
+    esac
     printf "%s\t%s\t%s\n" "$status" "$path" "$said"
 ' sh "$program" < "$lists/layers" > "$lists/told" &
 judging=$!
