@@ -212,12 +212,33 @@ def rust_by_pkg_config(source, folder):
     refused("a folder without it", "there is no libtwkb.a in")
 
 
+# Arrays are boxes for mypy, and a number is none.
+ARRAYS = """
+import numpy
+from dozhemik import Window, certify
+
+certify(b"").scan(bbox=numpy.zeros(4))
+certify(b"").directory().scan(bbox=numpy.zeros(4), z=(0, 1))
+Window.from_bboxes(numpy.zeros((2, 4)))
+Window.from_bbox(5)  # type: ignore[arg-type]
+"""
+
+
+def types_of_arrays(source, folder):
+    told = subprocess.run(["mypy", f"--cache-dir={folder}/mypy", "-c", "import numpy"], stdout=subprocess.PIPE, timeout=MINUTES)
+    if told.returncode:
+        print("mypy finds no NumPy: apt-get install python3-numpy; types of arrays are left out")
+    else:
+        succeeds("Python, types of arrays", ["mypy", "--strict", f"--cache-dir={folder}/mypy", "-c", ARRAYS], cwd=source)
+
+
 def test_python(program, folder):
     source = os.path.join(BINDINGS, "python")
     environment = {**os.environ, "TWKB_LIBRARY": SHARED, "PYTHONDONTWRITEBYTECODE": "1"}
     if has("mypy"):
         words = ["mypy", "--strict", f"--cache-dir={folder}/mypy", "dozhemik", "tests", "examples"]
         succeeds("Python, types", words, cwd=source)
+        types_of_arrays(source, folder)
     succeeds("Python, tests", [sys.executable, "-m", "unittest", "discover", "-s", "tests"], cwd=source, env=environment)
     os.environ.update(TWKB_LIBRARY=SHARED, PYTHONDONTWRITEBYTECODE="1")
     drive("Python", [sys.executable, os.path.join(source, "tests", "cases.py")], program, folder)
