@@ -189,7 +189,7 @@ def _ascii(text: str) -> bytes:
 
 def _shown(value: object) -> str:
     """A value in one line, and not too long."""
-    text = repr(value)
+    text = repr(value).replace("\n", " ")
     return text if len(text) <= 80 else f"{text[:80]}.."
 
 

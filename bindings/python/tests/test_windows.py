@@ -218,8 +218,9 @@ class Windows(unittest.TestCase):
                 made(bbox)
         values: Dict[int, float] = {0: 10, 1: 35, 2: 30, 3: 45}
         for bbox in (b"1234", values, numpy and numpy.zeros((2, 2)), numpy and numpy.zeros((4, 4)), numpy and numpy.zeros(3)):
-            with self.subTest(bbox=bbox), self.assertRaises(TypeError):
+            with self.subTest(bbox=bbox), self.assertRaises(TypeError) as caught:
                 made(bbox)
+            self.assertNotIn("\n", str(caught.exception))
         # The order of GDAL's extents, which is another.
         with self.assertRaises(BadWindow):
             Window.from_bbox((10, 30, 35, 5))
