@@ -7,7 +7,8 @@ A task is a batch of layers of some megabytes, and tasks share no state. So if a
 again, and each layer has one result. If a batch ends several workers in turn, its layers are run again one by one, so that
 only the layer that does so isn't judged. Prints what `twkb_tool check` prints for a layer, or `twkb_tool scan` for each
 window separately, with the file's name and a tab before each line. Layers are printed in the order in which they are done.
-Standard error gets one line of progress. The exit status is 0 if all layers are certified, 1 if some are refused, 2 for a
+A path with control characters, or bytes that aren't text, is printed as a string of JSON. If standard error is a terminal, it
+gets a line of progress. The exit status is 0 if all layers are certified, 1 if some are refused, 2 for a
 bad command line, and 3 if some weren't judged, or if there is no layer at all: standard error says why.
 
 FOLDER is a folder of this machine, or with fsspec (python3-fsspec) an address that it reads, such as s3://BUCKET/LAYERS: the
@@ -19,6 +20,7 @@ FOLDER under this name, and to have dozhemik and its library:
     PYTHONPATH=bindings/python TWKB_LIBRARY=build/bindings/libtwkb.so dask-worker ADDRESS    (on each machine)
 """
 import argparse
+import json
 import os
 import sys
 import time
@@ -164,7 +166,8 @@ class Run:
         for path, (status, text) in zip(paths, told):
             self.statuses[status] += 1
             stream = sys.stderr if status == 3 else sys.stdout
-            stream.write("".join(f"{path}\t{line}\n" for line in text))
+            shown = path if path.isprintable() else json.dumps(path)
+            stream.write("".join(f"{shown}\t{line}\n" for line in text))
             stream.flush()
         return []
 
@@ -173,12 +176,18 @@ def run(client, layers, words):
     """Prints the lines of each layer as its batch is done. Returns how many layers have each status."""
     work, start = Run(client, words.windows, words.tight), time.monotonic()
     futures = as_completed([work.start(batch) for batch in batches_of(layers, words.batch)])
+    watched = sys.stderr.isatty()
     for future in futures:
+        if watched:
+            # A result begins on an empty line.
+            print("\r\x1b[K", end="", file=sys.stderr, flush=True)
         futures.update(work.end(future))
-        done, refused, unjudged = sum(work.statuses.values()), work.statuses[1], work.statuses[3]
-        progress = f"\r{done} of {len(layers)} layers, {refused} refused, {unjudged} not judged"
-        print(f"{progress}, {time.monotonic() - start:.2f} s", end="", file=sys.stderr, flush=True)
-    print(file=sys.stderr)
+        if watched:
+            done, refused, unjudged = sum(work.statuses.values()), work.statuses[1], work.statuses[3]
+            progress = f"{done} of {len(layers)} layers, {refused} refused, {unjudged} not judged"
+            print(f"{progress}, {time.monotonic() - start:.2f} s", end="", file=sys.stderr, flush=True)
+    if watched:
+        print(file=sys.stderr)
     return work.statuses
 
 

@@ -34,6 +34,7 @@ NEEDS = {
     "g++": "apt-get install g++",
     "valgrind": "apt-get install valgrind",
     "cargo": "apt-get install cargo",
+    "cargo-clippy": "apt-get install rust-clippy",
     "pkg-config": "apt-get install pkg-config",
     "mypy": "apt-get install mypy",
 }
@@ -94,6 +95,9 @@ def test_c(program, folder):
     drive("C, by the second compiler", [build("cases", "-O2", archive=SECOND)], program, folder)
     succeeds("C, memory refused", [build("refuse", "-O2", "-Wl,--wrap=malloc,--wrap=realloc,--wrap=free")])
     test_shared(source, folder)
+    copied(program, source, folder)
+    doubles(source, folder)
+    results_looked_at(source, folder)
     programs = {name: build(name, "-O2", "-g", "-pthread") for name in ("edges", "windows", "many")}
     sanitized = {name: build(name, *SANITIZED, "-pthread") for name in programs}
     for layer in EXAMPLES:
@@ -116,6 +120,51 @@ def test_shared(source, folder):
     count("C, over the shared library", run([out, "check", os.devnull])[:2], (0, b"ok blobs=0 vertices=0\n"))
 
 
+def copied(program, source, folder):
+    """The program that people copy: over the shared library, as README.md of the folder builds it, and with the sanitizers."""
+    layer = os.path.join(TOP, "examples", "coast_lines_sized.twkb")
+    _, told, _ = run([program, "scan", layer, "x=10..30,y=35..45.5"])
+    blobs = re.findall(rb"(?m)^hit blob=(\d+) ", told)
+    last = re.sub(rb"(?s).*hits=(\d+) read=(\d+) of=(\d+)\n", rb"\1 hits, \2 of \3 bytes read", told)
+    for name, flags in (("", ["-O2"]), (" with sanitizers", SANITIZED)):
+        out = os.path.join(folder, "example")
+        succeeds(f"C, building the example{name}", [*C, *flags, f"-I{source}", "example.c", ARCHIVE, "-o", out], cwd=source)
+        status, lines, _ = run([out, layer, "10", "35", "30", "45.5"])
+        got = (status, re.findall(rb"(?m)^blob (\d+) has ", lines), lines.splitlines()[-1])
+        count(f"C, the example{name}", got, (0, blobs, last))
+        for words, status, said in (
+            ([layer, "10", "35", "30"], 2, b"usage: example LAYER"),
+            ([layer, "10", "35", "1e1", "45"], 2, b"a bound is no decimal"),
+            ([layer, "10", "35", "30", "-45"], 2, b"a lower bound is above"),
+            (["/missing", "10", "35", "30", "45"], 3, b"cannot read file"),
+            ([written(folder, "cut.twkb", b"\1\0\2"), "10", "35", "30", "45"], 1, b"blob=0 offset=3 kind=cut"),
+        ):
+            got = run([out, *words])
+            count(f"C, the example{name}, {words[1:]}", (got[0], got[1], said in got[2]), (status, b"", True))
+
+
+def doubles(source, folder):
+    """The function of README.md that makes a range of doubles."""
+    with open(os.path.join(source, "README.md"), encoding="utf-8") as page:
+        written(folder, "recipe.h", re.search(r"(?s)```c\n(.*?)```", page.read())[1].encode())
+    for name, flags in (("", ["-O2"]), (" with sanitizers", SANITIZED)):
+        out = os.path.join(folder, "doubles")
+        words = [*C, *flags, f"-I{folder}", "doubles.c", ARCHIVE, "-lm", "-o", out]
+        succeeds(f"C, building doubles{name}", words, cwd=source)
+        succeeds(f"C, doubles{name}", [out])
+
+
+def results_looked_at(source, folder):
+    """GCC refuses a call whose result nobody looks at, if it has to be."""
+    calls = ["certify(b, 0)", "certify_tight(b, 0)", "window_parse(t, 0, 0)", "span_of_decimals(t, 0, t, 0, 0)", "scan(0, 0, 0, 0)"]
+    calls += ["directory_build(0, 0, 0)", "directory_scan(0, 0, 0, 0, 0, 0)", "directory_scan_many(0, 0, 0, 0, 0, 0, 0, 0, 0)"]
+    for call in calls:
+        text = f"static const uint8_t b[1];\nstatic const char t[1];\nint main(void) {{ (void)b; (void)t; twkb_{call}; }}\n"
+        path = written(folder, "unused.c", f'#include "twkb.h"\n{text}'.encode())
+        status, _, told = run([*C, f"-I{source}", "-c", path, "-o", os.devnull])
+        count(f"C, the result of {call} unused", (status, b"[-Werror=unused-result]" in told), (1, True))
+
+
 def test_rust(program, folder):
     if not has("cargo"):
         return
@@ -124,6 +173,11 @@ def test_rust(program, folder):
     environment = {**os.environ, "TWKB_LIB": LIBRARY, "CARGO_TARGET_DIR": target}
     succeeds("Rust, tests", ["cargo", "test", "--offline", "--quiet"], cwd=source, env=environment)
     succeeds("Rust, examples", ["cargo", "build", "--release", "--examples", "--offline", "--quiet"], cwd=source, env=environment)
+    words = ["cargo", "doc", "--offline", "--quiet"]
+    succeeds("Rust, documentation", words, cwd=source, env={**environment, "RUSTDOCFLAGS": "-D warnings"})
+    if has("cargo-clippy"):
+        words = ["cargo", "clippy", "--offline", "--quiet", "--all-targets", "--", "-D", "warnings"]
+        succeeds("Rust, clippy", words, cwd=source, env=environment)
     drive("Rust", [os.path.join(target, "release", "examples", "cases")], program, folder)
     if has("pkg-config"):
         rust_by_pkg_config(source, folder)
@@ -181,12 +235,33 @@ def interpreter():
     return sys.executable
 
 
+# Arrays are boxes for mypy, and a number is none.
+ARRAYS = """
+import numpy
+from dozhemik import Window, certify
+
+certify(b"").scan(bbox=numpy.zeros(4))
+certify(b"").directory().scan(bbox=numpy.zeros(4), z=(0, 1))
+Window.from_bboxes(numpy.zeros((2, 4)))
+Window.from_bbox(5)  # type: ignore[arg-type]
+"""
+
+
+def types_of_arrays(source, folder):
+    told = subprocess.run(["mypy", f"--cache-dir={folder}/mypy", "-c", "import numpy"], stdout=subprocess.PIPE, timeout=MINUTES)
+    if told.returncode:
+        left_out("mypy finds no NumPy: apt-get install python3-numpy; types of arrays are left out")
+    else:
+        succeeds("Python, types of arrays", ["mypy", "--strict", f"--cache-dir={folder}/mypy", "-c", ARRAYS], cwd=source)
+
+
 def test_python(program, folder):
     source = os.path.join(BINDINGS, "python")
     environment = {**os.environ, "TWKB_LIBRARY": SHARED, "PYTHONDONTWRITEBYTECODE": "1"}
     if has("mypy"):
         words = ["mypy", "--strict", f"--cache-dir={folder}/mypy", "dozhemik", "tests", "examples"]
         succeeds("Python, types", words, cwd=source)
+        types_of_arrays(source, folder)
     succeeds("Python, tests", [interpreter(), "-m", "unittest", "discover", "-s", "tests"], cwd=source, env=environment)
     os.environ.update(TWKB_LIBRARY=SHARED, PYTHONDONTWRITEBYTECODE="1")
     drive("Python", [sys.executable, os.path.join(source, "tests", "cases.py")], program, folder)

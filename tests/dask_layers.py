@@ -95,16 +95,32 @@ def of_its_own(program, folder):
         lines, status = wanted(program, folder, windows)
         count(f"its status: {windows}", done.returncode, status)
         compare(f"its cluster: {windows}", folder, done.stdout.decode(), lines)
-        count("one line of progress", done.stderr.count(b"\n"), 1)
+        count("no progress where nobody watches", done.stderr, b"")
+
+
+def on_a_terminal(program, folder):
+    """Results and progress on one terminal share no line."""
+    leader, follower = os.openpty()
+    run = subprocess.Popen(script("--workers", "2", folder), env=ENVIRONMENT, stdout=follower, stderr=follower)
+    os.close(follower)
+    told = progress_until(leader, sys.maxsize)
+    os.close(leader)
+    lines, status = wanted(program, folder, [])
+    count("on a terminal: its status", run.wait(60), status)
+    # What a line shows is what follows the last time that it was emptied.
+    shown = [line.rsplit("\r\x1b[K", 1)[-1] for line in told.split("\r\n")]
+    compare("on a terminal", folder, "".join(f"{line}\n" for line in shown if "\t" in line), lines)
+    count("on a terminal: progress", re.sub(r"\d+\.\d\d", "T", shown[-2]), "205 of 205 layers, 82 refused, 0 not judged, T s")
 
 
 def certified_alone(folder):
     os.mkdir(folder)
     written(folder, "point.twkb", bytes.fromhex("01000204"))
+    written(folder, "a\nfalse.twkb", b"")
     os.rename(written(folder, "name", b""), os.path.join(os.fsencode(folder), b"a\xff.twkb"))
     done = subprocess.run(script("--workers", "1", folder), env=ENVIRONMENT, capture_output=True)
-    lines = [b"a\xff.twkb\tok blobs=0 vertices=0", b"point.twkb\tok blobs=1 vertices=1"]
-    lines = [os.fsencode(folder) + b"/" + line for line in lines]
+    lines = [f'"{folder}/a\\nfalse.twkb"\tok blobs=0 vertices=0', f'"{folder}/a\\udcff.twkb"\tok blobs=0 vertices=0']
+    lines = [line.encode() for line in (*lines, f"{folder}/point.twkb\tok blobs=1 vertices=1")]
     count("names that are no text", sorted(done.stdout.splitlines()), lines)
     count("the status of certified layers", done.returncode, 0)
 
@@ -227,13 +243,14 @@ def until(there):
         time.sleep(0.01)
 
 
-def progress_until(stream, done, text=""):
+def progress_until(terminal, done, text=""):
     """Reads the progress until `done` layers are done. Answers what was read."""
-    while not any(int(number) >= done for number in re.findall(r"\r(\d+) of", text)):
-        piece = os.read(stream.fileno(), 4096).decode()
-        if not piece:
+    while not any(int(number) >= done for number in re.findall(r"\r\x1b\[K(\d+) of", text)):
+        try:
+            text += os.read(terminal, 4096).decode()
+        except OSError:
+            # The terminal of a process that has ended.
             break
-        text += piece
     return text
 
 
@@ -247,23 +264,23 @@ def one_lost(program, folder, scratch):
         with Client(address) as client:
             client.wait_for_workers(WORKERS)
             addresses = {str(info["name"]): place for place, info in client.scheduler_info()["workers"].items()}
-            out = open(os.path.join(scratch, "out"), "w+")
-            run = subprocess.Popen(
-                script("--scheduler", address, folder, *WINDOWS), env=ENVIRONMENT, stdout=out, stderr=subprocess.PIPE
-            )
+            out, (terminal, follower) = open(os.path.join(scratch, "out"), "w+"), os.openpty()
+            run = subprocess.Popen(script("--scheduler", address, folder, *WINDOWS), env=ENVIRONMENT, stdout=out, stderr=follower)
+            os.close(follower)
             processes.append(run)
-            told = progress_until(run.stderr, COPIES)
+            told = progress_until(terminal, COPIES)
             workers["1"].send_signal(signal.SIGSTOP)
             held = client.processing()[addresses["1"]]
             workers["1"].kill()
             workers["1"].wait()
-            told = progress_until(run.stderr, sys.maxsize, told)
+            told = progress_until(terminal, sys.maxsize, told)
+            os.close(terminal)
             status = run.wait(60)
             count("the workers that are left", len(client.scheduler_info()["workers"]), WORKERS - 1)
         out.seek(0)
         lines, wanted_status = wanted(program, folder, WINDOWS)
         count("the lost worker had tasks", len(held) > 0, True)
-        print(f"lost in mid-run: a worker with {len(held)} tasks; {told.splitlines()[-1].split(chr(13))[-1]}")
+        print(f"lost in mid-run: a worker with {len(held)} tasks; {told.rstrip().rsplit(chr(13), 1)[-1][3:]}")
         count("its status", status, wanted_status)
         compare("a worker lost", folder, out.read(), lines)
         out.close()
@@ -296,6 +313,7 @@ def main():
             layers = os.path.join(folder, "layers")
             folder_of(layers, COPIES)
             of_its_own(program, layers)
+            on_a_terminal(program, layers)
             certified_alone(os.path.join(folder, "certified"))
             words_refused(layers)
             link_to_nothing(os.path.join(folder, "links"))

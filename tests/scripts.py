@@ -14,6 +14,7 @@ import os
 import pwd
 import re
 import shutil
+import signal
 import subprocess
 import sys
 import tempfile
@@ -46,7 +47,7 @@ def folder_of(names, folder):
 
 def script(name, *words, path, folder=SCRIPTS, **options):
     environment = os.environ | {"PATH": f"{path}:{os.environ['PATH']}", "LC_ALL": "C"}
-    done = subprocess.run([os.path.join(folder, name), *words], capture_output=True, text=True, env=environment, **options)
+    done = subprocess.run([os.path.join(folder, name), *words], capture_output=True, text=True, env=environment, timeout=60, **options)
     return done.returncode, sorted(done.stdout.splitlines()), done.stderr
 
 
@@ -100,6 +101,42 @@ def unreadable(name, folder, path, *rest):
         count(f"{name}, a folder that can't be read", (status, told, "not all of" in error), (3, [], True))
     finally:
         os.chmod(place, 0o700)
+
+
+def odd_names(folder, path):
+    """Names that no row can be made with are written as strings of C, and what is no file is no layer."""
+    place = os.path.join(folder, "odd")
+    os.makedirs(os.path.join(place, "folder.twkb"))
+    os.mkfifo(os.path.join(place, "pipe.twkb"))
+    os.symlink("folder.twkb", os.path.join(place, "link to a folder.twkb"))
+    for name in ("line\n0\tforged.twkb", 'quote"back\\slash.twkb', "küste.twkb"):
+        written(place, name, GOOD)
+    os.rename(written(place, "name", GOOD), os.path.join(os.fsencode(place), b"k\xfcste.twkb"))
+    ok = LAYERS["a point.twkb"][2]
+    rows = [f'0\t"{place}/line\\n0\\tforged.twkb"\t{ok}', f'0\t"{place}/quote\\"back\\\\slash.twkb"\t{ok}']
+    rows += [f"0\t{place}/küste.twkb\t{ok}", f'3\t"{place}/k\\374ste.twkb"\tnot judged: the path is not UTF-8']
+    count("certify_all.sh, odd names", script("certify_all.sh", place, path=path), (3, sorted(rows), ""))
+    if shutil.which("parallel"):
+        rows = [f'"{place}/line\\0120\\011forged.twkb"\t{ok}', f'"{place}/quote\\042back\\134slash.twkb"\t{ok}']
+        rows.append(f"{place}/küste.twkb\t{ok}")
+        said = f'"{place}/k\\374ste.twkb" (not UTF-8)\ttwkb_tool: cannot read words\n'
+        count("certify_parallel.sh, odd names", script("certify_parallel.sh", place, place + ".log", path=path), (3, sorted(rows), said))
+
+
+def told_to_end(name, folder, *rest):
+    """A run that is told to end while it judges ends, and leaves no temporary file."""
+    place, fifo = os.path.join(folder, f"temporary {name}"), os.path.join(folder, f"fifo {name}")
+    os.mkdir(place)
+    os.mkfifo(fifo)
+    os.chmod(written(place, "twkb_tool", f"#!/bin/sh\necho $$ > '{fifo}'\nexec sleep 600\n".encode()), 0o755)
+    environment = os.environ | {"PATH": f"{place}:{os.environ['PATH']}", "TMPDIR": place}
+    words = [os.path.join(SCRIPTS, name), os.path.join(folder, "one layer"), *rest]
+    run = subprocess.Popen(words, env=environment, stderr=subprocess.DEVNULL)
+    with open(fifo) as said:
+        judging = int(said.read())
+    run.send_signal(signal.SIGTERM)
+    count(f"{name}, told to end", (run.wait(60), [left for left in os.listdir(place) if left != "twkb_tool"]), (143, []))
+    os.kill(judging, signal.SIGKILL)
 
 
 def killed(folder, path):
@@ -173,6 +210,15 @@ def maximum_for_width(program, folder):
     count("the kinds that it gives, in docs/USAGE.md", sorted(rows), ["box", "loose"])
 
 
+def standard_input(program):
+    """What docs/USAGE.md has for a layer of a pipe."""
+    with open(os.path.join(TOP, "docs", "USAGE.md"), encoding="utf-8") as page:
+        words = re.search(r"`twkb_tool (check /dev/stdin)`", page.read())[1].split()
+    for data, status, line in LAYERS.values():
+        done = subprocess.run([program, *words], input=data, capture_output=True)
+        count(f"a pipe: {line}", (done.returncode, done.stdout.decode()), (status, f"{line}\n"))
+
+
 def main():
     built = os.path.abspath(sys.argv[1]) if len(sys.argv) > 1 else os.path.join(TOP, "build", "twkb_tool")
     with tempfile.TemporaryDirectory() as folder:
@@ -187,17 +233,22 @@ def main():
                 parallel(names, layers, path)
             else:
                 left_out("GNU parallel is missing: apt-get install parallel; its script isn't tried")
+        os.mkdir(os.path.join(folder, "one layer"))
+        written(os.path.join(folder, "one layer"), "point.twkb", GOOD)
         without_program(os.path.join(folder, "layers 0"))
         os.chmod(folder, 0o755)
         for name, *rest in (["certify_all.sh"], ["certify_parallel.sh", os.path.join(folder, "log")]):
             shutil.copy(os.path.join(SCRIPTS, name), path)
             if not rest or shutil.which("parallel"):
                 nothing_judged(name, folder, path, *rest)
+                told_to_end(name, folder, *rest)
+        odd_names(folder, path)
         killed(folder, path)
         dask(folder)
         spark(program)
         rule_for_make(folder, path)
         maximum_for_width(program, folder)
+        standard_input(program)
     print(f"{counts['passed']} passed, {counts['failed']} failed")
     sys.exit(counts["failed"] > 0)
 

@@ -30,6 +30,13 @@
 extern "C" {
 #endif
 
+/* A compiler that can warns of a call whose result nobody looks at. */
+#ifdef __GNUC__
+#define TWKB_CHECKED __attribute__((warn_unused_result))
+#else
+#define TWKB_CHECKED
+#endif
+
 /* The version of this header. */
 #define TWKB_VERSION "1.1.0"
 #define TWKB_VERSION_MAJOR 1
@@ -69,10 +76,10 @@ struct twkb_verdict {
 /* Certifies the bytes as a layer: every size is the number of bytes of its geometry after it, every box holds all vertices
  * of its geometry, and the ids of each list differ. Returns TWKB_NO_MEMORY only if there is no memory for a list of more than
  * sixteen ids. */
-struct twkb_verdict twkb_certify(const uint8_t *bytes, size_t len);
+TWKB_CHECKED struct twkb_verdict twkb_certify(const uint8_t *bytes, size_t len);
 
 /* Certifies as twkb_certify does, and also refuses boxes that are larger than they have to be, which scans rarely skip. */
-struct twkb_verdict twkb_certify_tight(const uint8_t *bytes, size_t len);
+TWKB_CHECKED struct twkb_verdict twkb_certify_tight(const uint8_t *bytes, size_t len);
 
 /* A word that ends with a 0. */
 struct twkb_name {
@@ -136,7 +143,7 @@ enum { TWKB_WINDOW = 0, TWKB_BAD_FORM = 1, TWKB_BAD_ORDER = 2 };
 
 /* Parses a window of the form x=A..B,y=C..D[,z=E..F][,m=G..H], with up to seven decimals, exactly. Unless it returns
  * TWKB_WINDOW, the window is unchanged. TWKB_BAD_ORDER: a lower bound is above its upper bound. */
-uint32_t twkb_window_parse(const char *text, size_t len, struct twkb_window *window);
+TWKB_CHECKED uint32_t twkb_window_parse(const char *text, size_t len, struct twkb_window *window);
 
 /* The result of twkb_span_of_decimals for a range, besides TWKB_BAD_FORM and TWKB_BAD_ORDER. */
 enum { TWKB_SPAN = 0 };
@@ -149,9 +156,10 @@ enum { TWKB_SPAN = 0 };
  * greater than the upper one. A window is made by one call for each axis:
  *
  *     struct twkb_window window = {0};
- *     twkb_span_of_decimals("0.1", 3, "0.30000000000000004", 19, &window.x);
- */
-uint32_t twkb_span_of_decimals(const char *lo, size_t lo_len, const char *hi, size_t hi_len, struct twkb_span *span);
+ *     if (twkb_span_of_decimals("0.1", 3, "0.30000000000000004", 19, &window.x) != TWKB_SPAN) return -1;
+ *
+ * bindings/c/README.md of the repository says how a double becomes a decimal. */
+TWKB_CHECKED uint32_t twkb_span_of_decimals(const char *lo, size_t lo_len, const char *hi, size_t hi_len, struct twkb_span *span);
 
 /* A blob with a vertex inside a window. */
 struct twkb_hit {
@@ -168,8 +176,8 @@ struct twkb_scanned {
 
 /* Writes a hit for each blob with a vertex inside the window to `hits`, in file order, as many as fit; `room` is how many
  * fit. The layer has to be certified first. */
-struct twkb_scanned twkb_scan(const struct twkb_layer *layer, const struct twkb_window *window,
-                              struct twkb_hit *hits, size_t room);
+TWKB_CHECKED struct twkb_scanned twkb_scan(const struct twkb_layer *layer, const struct twkb_window *window,
+                                           struct twkb_hit *hits, size_t room);
 
 /* A slot of a directory. A blob has one, or as many as TWKB_MOST_SLOTS if it has a box with Z, M or numbers beyond 32 bits. Its
  * numbers mean nothing to callers, nor to other versions of the library. */
@@ -186,12 +194,12 @@ struct twkb_slot {
  * TWKB_MOST_SLOTS for each blob. `room` must be at least that many for each blob, even where fewer slots would do. If it is less,
  * nothing is written, and the result is TWKB_MOST_SLOTS for each blob, which is more than `room`. What is after the slots is
  * unchanged. */
-size_t twkb_directory_build(const struct twkb_layer *layer, struct twkb_slot *slots, size_t room);
+TWKB_CHECKED size_t twkb_directory_build(const struct twkb_layer *layer, struct twkb_slot *slots, size_t room);
 
 /* Scans as twkb_scan does, and reads as many bytes as if the blobs whose box misses the window weren't there. The slots are those
  * that twkb_directory_build wrote for this layer, and `count` is what it returned. */
-struct twkb_scanned twkb_directory_scan(const struct twkb_layer *layer, const struct twkb_slot *slots, size_t count,
-                                        const struct twkb_window *window, struct twkb_hit *hits, size_t room);
+TWKB_CHECKED struct twkb_scanned twkb_directory_scan(const struct twkb_layer *layer, const struct twkb_slot *slots, size_t count,
+                                                     const struct twkb_window *window, struct twkb_hit *hits, size_t room);
 
 /* Scans for `many` windows in one call, each as twkb_directory_scan does. The hits are written to `hits` one window after
  * another, as many as fit; `room` is how many fit. scanned[i] is set to what a scan for windows[i] returns; `results` is how
@@ -208,9 +216,9 @@ struct twkb_scanned twkb_directory_scan(const struct twkb_layer *layer, const st
  *         const struct twkb_hit *next = hits;
  *         for (size_t i = 0; i < answered; next += scanned[i++].hits) use(&windows[done + i], next, scanned[i].hits);
  *     } */
-size_t twkb_directory_scan_many(const struct twkb_layer *layer, const struct twkb_slot *slots, size_t count,
-                                const struct twkb_window *windows, size_t many, struct twkb_scanned *scanned, size_t results,
-                                struct twkb_hit *hits, size_t room);
+TWKB_CHECKED size_t twkb_directory_scan_many(const struct twkb_layer *layer, const struct twkb_slot *slots, size_t count,
+                                             const struct twkb_window *windows, size_t many, struct twkb_scanned *scanned,
+                                             size_t results, struct twkb_hit *hits, size_t room);
 
 #ifdef __cplusplus
 }

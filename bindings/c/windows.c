@@ -94,6 +94,7 @@ static void decimals(void) {
         {"1", "0.99999999999999999999", TWKB_BAD_ORDER, 0, 0},
         {"", "1", TWKB_BAD_FORM, 0, 0},
         {"0", "1e3", TWKB_BAD_FORM, 0, 0},
+        {"0,1", "1", TWKB_BAD_FORM, 0, 0},
         {"2", "1x", TWKB_BAD_FORM, 0, 0},
     };
     for (size_t i = 0; i < sizeof ranges / sizeof *ranges; i++) {

@@ -3,6 +3,7 @@
 # and the program's output.
 # usage: certify_parallel.sh FOLDER JOBLOG [MACHINE ..]   (twkb_tool is in PATH on each MACHINE too, which ssh reaches)
 # Layers are the files named *.twkb. Links to files are followed, and FOLDER may be a link; links to folders below it aren't followed.
+# A path with a control character, a double quote, a backslash or bytes that aren't UTF-8 is printed as a string of C: "k\374ste.twkb".
 # JOBLOG gets a line for each layer, with its status (Exitval) and its time. The exit status is 0 if all layers are certified, 1 if
 # some are refused, 2 for a bad command line, and 3 if some couldn't be judged, if there is no layer at all, or if FOLDER or a folder
 # below it can't be read.
@@ -23,11 +24,13 @@ unjudged() {
     exit 3
 }
 
-# The list comes first, so that a folder that can't be read is known of.
-list=$(mktemp)
-trap 'rm -f "$list"' EXIT
-find -H "$folder" -name '*.twkb' -print0 > "$list" || unjudged "not all of $folder can be read, so nothing is judged"
-[ -s "$list" ] || unjudged "no layer (*.twkb) is below $folder"
+# The list comes first, so that a folder that can't be read is known of. A link to nothing is a layer that can't be read.
+lists=$(mktemp -d) judging=
+trap 'rm -rf "$lists"' EXIT
+trap 'kill $judging 2> /dev/null || true; exit 143' HUP INT TERM
+find -H "$folder" -name '*.twkb' \( -xtype f -o -xtype l \) -print0 > "$lists/layers" ||
+    unjudged "not all of $folder can be read, so nothing is judged"
+[ -s "$lists/layers" ] || unjudged "no layer (*.twkb) is below $folder"
 
 # Another machine is sent a layer at a time, and keeps nothing of it. `:` is this one, whose layers stay where they are.
 if [ $# -gt 0 ]; then
@@ -35,11 +38,18 @@ if [ $# -gt 0 ]; then
     set -- --sshlogin ":,$machines" --transferfile '{}' --cleanup
 fi
 
+# Before each line of a layer comes its path, in Perl.
+path='{= my $copy = $_; my $high = utf8::decode($copy) ? "" : "\x80-\xff";
+    $_ = "\"$_\"" if s/[\x00-\x1f\x7f"\\$high]/sprintf "\\%03o", ord $&/ge; $_ .= " (not UTF-8)" if $high =}'
+
 # An older log would speak of an older run.
 rm -f "$log"
-parallel --null --will-cite "$@" --joblog "$log" --tag twkb_tool check {} < "$list" || true
+parallel --null --will-cite --tmpdir "$lists" "$@" --joblog "$log" --tagstring "$path" twkb_tool check {} < "$lists/layers" &
+judging=$!
+wait $judging || true
+judging=
 [ -f "$log" ] || unjudged "parallel has judged nothing"
-layers=$(tr -dc '\000' < "$list" | wc -c)
+layers=$(tr -dc '\000' < "$lists/layers" | wc -c)
 told=$(tail -n +2 "$log" | wc -l)
 [ "$told" -eq "$layers" ] || unjudged "$told of $layers layers are in $log"
 # The status of each layer, and the signal that ended its program, 0 for none.

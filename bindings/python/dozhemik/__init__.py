@@ -4,11 +4,10 @@ A layer is the bytes of TWKB geometries (blobs), one after another. It is certif
 of its geometry after it, each box holds all vertices of its geometry, and the ids of each list differ. Only a certified
 layer can be listed and scanned:
 
-    from pathlib import Path
     from dozhemik import Refused, certify
 
     try:
-        layer = certify(Path("coast.twkb"))
+        layer = certify("coast.twkb")
     except Refused as why:
         print(why.blob, why.offset, why.kind)
     else:

@@ -1,5 +1,5 @@
 """What calls on a layer return: refusals, rows, hits and scans, and the layouts of their tables."""
-from typing import Any, Iterator, NamedTuple, Sequence, Tuple, Union, overload
+from typing import Any, Callable, Iterator, NamedTuple, Sequence, Tuple, Union, overload
 
 from . import _library
 
@@ -82,7 +82,10 @@ class Hit(NamedTuple):
 
 
 class Scan(Sequence[Hit]):
-    """The hits of a window in the order of the layer, and how many of the layer's bytes were read to find them."""
+    """The hits of a window in the order of the layer, and how many of the layer's bytes were read to find them.
+
+    Scans are equal if both are. A scan can be pickled, and used as a key.
+    """
 
     __slots__ = ("_table", "bytes_read")
 
@@ -106,8 +109,13 @@ class Scan(Sequence[Hit]):
     def __getitem__(self, place: slice) -> Tuple[Hit, ...]: ...
 
     def __getitem__(self, place: Union[int, slice]) -> Union[Hit, Tuple[Hit, ...]]:
-        # A range converts an index or a slice to places.
-        places = range(len(self))[place]
+        try:
+            # A range converts an index or a slice to places.
+            places = range(len(self))[place]
+        except IndexError:
+            raise IndexError(f"there is no hit {place} in a scan of {len(self)} hits") from None
+        except TypeError:
+            raise TypeError(f"a hit of a scan has an int or a slice as its index, not {place!r:.80}") from None
         return self._at(places) if isinstance(places, int) else tuple(map(self._at, places))
 
     def __iter__(self) -> Iterator[Hit]:
@@ -116,5 +124,21 @@ class Scan(Sequence[Hit]):
     def _at(self, place: int) -> Hit:
         return Hit._make(_library.HIT.unpack_from(self._table, place * _library.HIT.size))
 
+    def __eq__(self, other: object) -> bool:
+        if not isinstance(other, Scan):
+            return NotImplemented
+        return self.bytes_read == other.bytes_read and self._table == other._table
+
+    def __hash__(self) -> int:
+        return hash((bytes(self._table), self.bytes_read))
+
+    def __reduce__(self) -> Tuple[Callable[..., "Scan"], Tuple[bytes, int]]:
+        return _of_bytes, (bytes(self._table), self.bytes_read)
+
     def __repr__(self) -> str:
         return f"<Scan of {len(self)} hits, {self.bytes_read} bytes read>"
+
+
+def _of_bytes(table: bytes, bytes_read: int) -> Scan:
+    """A scan of what `__reduce__` answers, for pickle and copy."""
+    return Scan(memoryview(table), bytes_read)

@@ -13,7 +13,7 @@ class Array(Protocol):
     def nbytes(self) -> int: ...
 
 
-Data = Union[bytes, mmap.mmap, Array, "os.PathLike[str]", "os.PathLike[bytes]"]
+Data = Union[bytes, mmap.mmap, Array, str, "os.PathLike[str]", "os.PathLike[bytes]"]
 
 _HOW = (
     "pass bytes(..) of it, a file mapped with access=mmap.ACCESS_READ, or an array of one byte an item whose memory is"
@@ -49,11 +49,9 @@ def held(data: Data) -> memoryview:
     """A view of the bytes of a layer, which keeps them. Raises TypeError if they are writable, or aren't bytes."""
     if type(data) is bytes:
         return memoryview(data)
-    if isinstance(data, os.PathLike):
+    if isinstance(data, (str, os.PathLike)):
         with open(data, "rb") as file:
             data = file.read()
-    if isinstance(data, str):
-        raise TypeError("a layer is made of bytes: pass the name of a file as pathlib.Path(name)")
     lent: Any = data
     try:
         view = memoryview(lent)

@@ -56,6 +56,11 @@ class Layer:
     def __len__(self) -> int:
         return self.blobs
 
+    def __bool__(self) -> bool:
+        """True, also if it has no blob: it is certified."""
+        self._open
+        return True
+
     def list(self) -> List[Row]:
         """A row for each blob, in order."""
         return [
@@ -216,7 +221,7 @@ class Directory:
 def certify(data: Data, *, tight: bool = False) -> Layer:
     """Certifies bytes as a layer. Raises Refused if they aren't one, and with `tight` also if a box is loose.
 
-    `data` is bytes, or the path of a file (os.PathLike), which is read whole, or a read-only buffer of bytes: a file
+    `data` is bytes, or the path of a file (str or os.PathLike), which is read whole, or a read-only buffer of bytes: a file
     mapped with access=mmap.ACCESS_READ, a memoryview of bytes, or a NumPy array of uint8 that isn't writeable. The
     layer holds it. If a mapped file changes while the layer is used, a later call may crash.
     """

@@ -1,20 +1,34 @@
 """Windows, and the exact texts of coordinates."""
 import ctypes
-from decimal import Decimal
+import re
+from decimal import Context, Decimal, InvalidOperation
 from numbers import Integral, Real
-from typing import Callable, Optional, Tuple, Union
+from typing import Any, Callable, Iterable, Iterator, List, Optional, Protocol, Tuple, Union
 
 from . import _library
 from ._library import library
 
 Coordinate = Union[int, float, Decimal, str]
 Range = Tuple[Coordinate, Coordinate]
-Box = Tuple[Coordinate, Coordinate, Coordinate, Coordinate]
 # The two ends of a range in units, or None.
 Ends = Optional[Tuple[int, int]]
 
-# The digits of a number whose text is made here. Only a Decimal or an int of an extreme exponent has more.
+# The digits of a number whose text is made here. Only one of an extreme exponent has more.
 _MOST_DIGITS = 2_000_000
+# A text with an exponent, as repr(5e-05) and JavaScript write it. The library takes none.
+_WITH_EXPONENT = re.compile(r"-?[0-9]+(\.[0-9]+)?[eE][-+]?[0-9]+")
+# Says so where an exponent is beyond what a Decimal has, whatever the thread's context says.
+_STRICT = Context(traps=[InvalidOperation])
+
+
+class Box(Protocol):
+    """Four coordinates, (xmin, ymin, xmax, ymax): a tuple, a list, or an array such as GeoPandas' total_bounds."""
+
+    def __len__(self) -> int: ...
+
+    def __iter__(self) -> Iterator[Any]: ...
+
+    def __getitem__(self, place: int, /) -> Any: ...
 
 
 class BadWindow(ValueError):
@@ -25,7 +39,7 @@ class Window:
     """A range of X and of Y, and of Z and M if they are bounded, both ends included.
 
     A bound is an int, a float, a Decimal or a decimal in a string, of any number of digits, and is taken exactly: the
-    float 0.1 is a little more than a tenth, and Decimal("0.1") or "0.1" is a tenth. Coordinates are whole numbers of
+    float 0.1 is a little more than a tenth, and Decimal("0.1") or "0.1" is a tenth, and "1e-1" too. Coordinates are whole numbers of
     10^-7, called units. So the library rounds a range inward to units, the lower bound up and the upper bound down,
     which changes no hit. A range that contains no unit has no vertices.
     """
@@ -45,10 +59,23 @@ class Window:
     @classmethod
     def from_bbox(cls, bbox: Box, *, z: Optional[Range] = None, m: Optional[Range] = None) -> "Window":
         """The window of a box (xmin, ymin, xmax, ymax), in the order of GeoJSON and most libraries."""
-        if not isinstance(bbox, (tuple, list)) or len(bbox) != 4:
-            raise TypeError(f"a bbox is (xmin, ymin, xmax, ymax), not {bbox!r}")
+        if not _is_sequence(bbox) or len(bbox) != 4:
+            raise TypeError(f"a bbox is (xmin, ymin, xmax, ymax), not {_shown(bbox)}")
         xmin, ymin, xmax, ymax = bbox
         return cls((xmin, xmax), (ymin, ymax), z, m)
+
+    @classmethod
+    def from_bboxes(cls, bboxes: Iterable[Box], *, z: Optional[Range] = None, m: Optional[Range] = None) -> "List[Window]":
+        """A window for each box, as `from_bbox` makes it: of an array with four columns, or of any boxes."""
+        # The numbers of an array as Python's own, which are read faster.
+        rows: Iterable[Box] = getattr(bboxes, "tolist", lambda: bboxes)()
+        windows: List[Window] = []
+        for bbox in rows:
+            try:
+                windows.append(cls.from_bbox(bbox, z=z, m=m))
+            except (BadWindow, TypeError) as why:
+                raise type(why)(f"box {len(windows)}: {why}") from None
+        return windows
 
     @classmethod
     def parse(cls, text: str) -> "Window":
@@ -149,7 +176,7 @@ def _span_of(axis: str, ends: object) -> _library.Span:
     span = _library.Span()
     answer = library.twkb_span_of_decimals(lo, len(lo), hi, len(hi), ctypes.byref(span))
     if answer == _library.BAD_FORM:
-        raise BadWindow(f"{axis}={_shown(ends[0])}..{_shown(ends[1])}: an end is no decimal such as -12.5")
+        raise BadWindow(f"{axis}={_shown(ends[0])}..{_shown(ends[1])}: an end is no decimal such as -12.5 or 1e-7")
     if answer == _library.BAD_ORDER:
         raise BadWindow(f"{axis}={_shown(ends[0])}..{_shown(ends[1])}: the lower bound is above the upper bound")
     return span
@@ -162,20 +189,36 @@ def _ascii(text: str) -> bytes:
 
 def _shown(value: object) -> str:
     """A value in one line, and not too long."""
-    text = repr(value)
+    text = repr(value).replace("\n", " ")
     return text if len(text) <= 80 else f"{text[:80]}.."
+
+
+def _is_sequence(value: object) -> bool:
+    """Whether its items have places. A text, which has too, is no sequence of numbers."""
+    return hasattr(value, "__getitem__") and hasattr(value, "__len__") and not isinstance(value, (str, bytes, dict))
 
 
 def _number_text(axis: str, value: object) -> str:
     """The exact text of a number, without an exponent."""
-    if isinstance(value, str):
+    if isinstance(value, str) and not _WITH_EXPONENT.fullmatch(value):
         return value
-    exact = _exact(value)
+    try:
+        exact = Decimal(value, _STRICT) if isinstance(value, str) else _exact(value)
+    except InvalidOperation:
+        raise _too_long(axis) from None
     if not exact.is_finite():
         raise BadWindow(f"an end of the range of {axis} is {exact}, which is no number")
+    text = str(exact)
+    # Of most floats this is the text. A context may want the exponent in small letters.
+    if "E" not in text and "e" not in text:
+        return text
     if exact and max(exact.adjusted(), -int(exact.as_tuple().exponent)) >= _MOST_DIGITS:
-        raise BadWindow(f"an end of the range of {axis} has more than {_MOST_DIGITS:,} digits on a side of the point")
+        raise _too_long(axis)
     return format(exact, "f") if exact else "0"
+
+
+def _too_long(axis: str) -> BadWindow:
+    return BadWindow(f"an end of the range of {axis} has more than {_MOST_DIGITS:,} digits on a side of the point")
 
 
 def _exact(value: object) -> Decimal:

@@ -7,23 +7,49 @@ usage: serve.py FILE [PORT]   (8000 by default; 0 means any free port)
     GET /blobs?x=10..30&y=35..45[&z=E..F][&m=G..H]  the bytes of the hits, which are a certified layer again
     GET /list                                       a row for each blob
 
-In place of x and y a query may have bbox=XMIN,YMIN,XMAX,YMAX. Numbers are decimals of any length. /scan and /list
-answer in JSON, /blobs in bytes. A query that can't be read gets 400, and any other path 404, each with a line that says
+In place of x and y a query may have bbox=XMIN,YMIN,XMAX,YMAX. Numbers are decimals of any length, or have an exponent, as
+1e-7. /scan and /list answer in JSON, /blobs in bytes. If examples/scripts/publish_layer.sh wrote FILE, each hit and row has
+its id. A query that can't be read gets 400, and any other path 404, each with a line that says
 what is wrong. HEAD is answered as GET is, without the body. The layer is certified once, before the first query. All
 threads share it and its directory, so a query reads as many bytes as if the blobs whose box misses the window weren't there.
 """
 import json
+import os
 import sys
 from functools import partial
+from hashlib import sha256
 from http.server import BaseHTTPRequestHandler, ThreadingHTTPServer
 from pathlib import Path
-from typing import Dict, Iterable, List
+from typing import Dict, Iterable, List, Optional, Tuple, Union
 from urllib.parse import parse_qsl, urlsplit
 
-from dozhemik import BadWindow, Directory, Layer, Range, Refused, Window, certify
+from dozhemik import BadWindow, Directory, Hit, Layer, Range, Refused, Row, Window, certify
 
 TEXT, JSON, BYTES = "text/plain; charset=utf-8", "application/json", "application/octet-stream"
 FORMS = "?x=A..B&y=C..D[&z=E..F][&m=G..H], or bbox=XMIN,YMIN,XMAX,YMAX for x and y"
+
+
+def opened(path: str) -> Tuple[Layer, Optional[List[str]]]:
+    """The layer of a file, and the ids of its blobs, or None if it has no folder of ids."""
+    real = os.path.realpath(path)
+    folder, earlier = Path(f"{real}.ids"), ""
+    while True:
+        data = Path(real).read_bytes()
+        if not folder.is_dir():
+            return certify(data), None
+        ids = folder / sha256(data).hexdigest()
+        try:
+            lines = ids.read_bytes().decode(errors="surrogateescape").split("\n")[:-1]
+        except FileNotFoundError:
+            # The layer was replaced meanwhile, unless it is still the one that was read.
+            if ids.name == earlier:
+                raise
+            earlier = ids.name
+            continue
+        layer = certify(data)
+        if len(lines) != layer.blobs:
+            raise OSError(f"{ids} has {len(lines)} ids, and the layer has {layer.blobs} blobs")
+        return layer, lines
 
 
 def window_of(query: str) -> Window:
@@ -64,8 +90,8 @@ class Handler(BaseHTTPRequestHandler):
     # In seconds: a client that says nothing for longer is left.
     timeout = 30
 
-    def __init__(self, layer: Layer, directory: Directory, *rest: object) -> None:
-        self.layer, self.directory = layer, directory
+    def __init__(self, layer: Layer, ids: Optional[List[str]], directory: Directory, *rest: object) -> None:
+        self.layer, self.ids, self.directory = layer, ids, directory
         super().__init__(*rest)  # type: ignore[arg-type]
 
     def do_GET(self) -> None:
@@ -76,7 +102,7 @@ class Handler(BaseHTTPRequestHandler):
             elif address.path == "/blobs":
                 self.answer(200, BYTES, self.blobs(address.query))
             elif address.path == "/list":
-                self.tell(200, JSON, json.dumps({"rows": [row._asdict() for row in self.layer.list()]}))
+                self.tell(200, JSON, json.dumps({"rows": list(map(self.described, self.layer.list()))}))
             else:
                 self.tell(404, TEXT, "there are /scan, /blobs and /list")
         except ValueError as why:
@@ -86,7 +112,10 @@ class Handler(BaseHTTPRequestHandler):
 
     def scanned(self, query: str) -> Dict[str, object]:
         scan = self.directory.scan(window_of(query))
-        return {"hits": [hit._asdict() for hit in scan], "read": scan.bytes_read, "of": self.layer.size}
+        return {"hits": list(map(self.described, scan)), "read": scan.bytes_read, "of": self.layer.size}
+
+    def described(self, blob: Union[Hit, Row]) -> Dict[str, object]:
+        return blob._asdict() if self.ids is None else {"id": self.ids[blob.blob], **blob._asdict()}
 
     def blobs(self, query: str) -> List[bytes]:
         return [self.layer.blob(hit) for hit in self.directory.scan(window_of(query))]
@@ -109,8 +138,8 @@ def main() -> int:
         return 2
     path, port = sys.argv[1], int(sys.argv[2]) if len(sys.argv) == 3 else 8000
     try:
-        layer = certify(Path(path))
-        server = ThreadingHTTPServer(("127.0.0.1", port), partial(Handler, layer, layer.directory()))
+        layer, ids = opened(path)
+        server = ThreadingHTTPServer(("127.0.0.1", port), partial(Handler, layer, ids, layer.directory()))
     except Refused as why:
         print(f"serve.py: {path} is refused: {why}", file=sys.stderr)
         return 1

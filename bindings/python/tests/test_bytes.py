@@ -6,10 +6,10 @@ import os
 import tempfile
 import unittest
 from pathlib import Path
-from typing import Any
+from typing import Any, Tuple
 
 import example
-from dozhemik import Layer, Refused, certify
+from dozhemik import Data, Layer, Refused, certify
 
 LINES = example.example("coast_lines_sized")
 EUROPE = "x=10..30,y=35..45"
@@ -43,8 +43,12 @@ class Taken(unittest.TestCase):
             self.same(certify(data))
 
     def test_paths(self) -> None:
-        for path in (Path(example.path_of("coast_lines_sized")), OtherPath()):
+        name = example.path_of("coast_lines_sized")
+        paths: Tuple[Data, ...] = (name, Path(name), OtherPath())
+        for path in paths:
             self.same(certify(path))
+        with self.assertRaisesRegex(FileNotFoundError, "'layer.twkb'"):
+            certify("layer.twkb")
         with self.assertRaises(FileNotFoundError):
             certify(Path("/missing/layer.twkb"))
         with self.assertRaises(IsADirectoryError):
@@ -124,7 +128,6 @@ class NotTaken(unittest.TestCase):
     def test_no_buffers(self) -> None:
         for data in (None, 4, [1, 0], object()):
             self.refused(data, f"not of {type(data).__name__}")
-        self.refused("layer.twkb", "pathlib.Path")
 
 
 @unittest.skipUnless(numpy, "NumPy is missing: apt-get install python3-numpy")

@@ -85,9 +85,25 @@ class Answers(unittest.TestCase):
         self.assertEqual((scan[::-1][0], scan[5:2], scan[-3:]), (scan[43], (), tuple(scan)[41:]))
         self.assertIn(scan[2], scan)
         for place in (44, -45):
-            with self.assertRaises(IndexError):
+            with self.assertRaisesRegex(IndexError, f"there is no hit {place} in a scan of 44 hits"):
                 scan[place]
+        other: Callable[..., object] = scan.__getitem__
+        for index in ("blob", 1.0, None):
+            with self.assertRaisesRegex(TypeError, f"a hit of a scan has an int or a slice as its index, not {index!r}"):
+                other(index)
         self.assertEqual(str(scan[2]), "blob=664 offset=30695")
+
+    def test_scans_are_values(self) -> None:
+        layer = certify(LINES)
+        scan, many = layer.scan(EUROPE), layer.scan_many([EUROPE, EUROPE, "x=10..30,y=85..89"])
+        self.assertEqual((scan, many[0]), (layer.scan(bbox=(10, 35, 30, 45)), many[1]))
+        # The directory reads less for the hits.
+        self.assertEqual(len({scan, layer.scan(EUROPE), *many}), 3)
+        self.assertNotEqual(scan, many[0])
+        self.assertNotEqual(scan, tuple(scan))
+        for one in (scan, many[0], many[2]):
+            for again in (pickle.loads(pickle.dumps(one)), copy.copy(one), copy.deepcopy(one)):
+                self.assertEqual((again, list(again), again.bytes_read, hash(again)), (one, list(one), one.bytes_read, hash(one)))
 
     def test_hits_have_the_lengths_of_rows(self) -> None:
         for name in example.EXAMPLES:
@@ -130,6 +146,7 @@ class Answers(unittest.TestCase):
     def test_nothing(self) -> None:
         layer = certify(b"")
         self.assertEqual((len(layer), layer.list(), list(layer.scan(EUROPE))), (0, [], []))
+        self.assertTrue(layer)
 
     def test_zeros_in_bytes(self) -> None:
         data = bytes.fromhex("01000000") + example.POINT
@@ -157,6 +174,7 @@ class Closing(unittest.TestCase):
         hit = Hit(0, 0, 39)
         uses: Tuple[Callable[[], object], ...] = (
             lambda: layer.blobs, lambda: layer.vertices, lambda: layer.size, lambda: len(layer), layer.list, layer.table,
+            lambda: bool(layer),
             lambda: layer.scan(EUROPE), lambda: layer.scan(Window.parse(EUROPE)), layer.__enter__, layer.directory,
             lambda: layer.scan_many([EUROPE]), lambda: layer.blob(hit),
         )

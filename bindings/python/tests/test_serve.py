@@ -1,4 +1,5 @@
 """The example server, asked over real sockets."""
+import hashlib
 import json
 import os
 import subprocess
@@ -6,7 +7,9 @@ import sys
 import tempfile
 import unittest
 from concurrent.futures import ThreadPoolExecutor
-from typing import IO, Dict, Tuple
+from pathlib import Path
+from typing import IO, Dict, List, Tuple
+from unittest import mock
 from urllib.error import HTTPError
 from urllib.parse import quote
 from urllib.request import Request, urlopen
@@ -87,6 +90,11 @@ class Asked(unittest.TestCase):
         status, _, text = self.ask("/scan?x=9.99999999999999..30.000000001&y=35..45")
         self.assertEqual((status, json.loads(text)), (200, self.wanted("x=10..30,y=35..45")))
 
+    def test_exponents(self) -> None:
+        for query in ("x=1e1..3E1&y=3.5e1..450e-1", "x=1e1..3e%2B1&y=35..45", "bbox=1e1,35,30,4.5e1"):
+            status, _, text = self.ask(f"/scan?{query}")
+            self.assertEqual((status, json.loads(text)), (200, self.wanted("x=10..30,y=35..45")))
+
     def test_blobs(self) -> None:
         status, kind, _, body = self.ask_bytes("/blobs?bbox=10,35,30,45")
         hits = self.layer.scan("x=10..30,y=35..45")
@@ -111,7 +119,8 @@ class Asked(unittest.TestCase):
     def test_bad_windows(self) -> None:
         bad = ["", "&&&", "x&y", "x=0..1", "x=0..1&y=0", "x=1..0&y=0..1"]
         bad += ["x=0..1&y=0..1&y=0..1", "x=0..1&y=0..1&w=0..1"]
-        bad += ["x=nan..1&y=0..1", "x=0..1&y=0..1e5", "x=0...1&y=0..1", "x=" * 9000, "bbox=", "bbox=0,1,2", "bbox=0,1,2,3,4"]
+        bad += ["x=0..1&y=0..1e+5", "x=0..1&y=0..1e2000000"]
+        bad += ["x=nan..1&y=0..1", "x=0...1&y=0..1", "x=" * 9000, "bbox=", "bbox=0,1,2", "bbox=0,1,2,3,4"]
         bad += ["bbox=0,0,1,1&x=0..1", "bbox=0,0,1,1&y=0..1", "bbox=1,0,0,1", "bbox=0,0,1,a", "bbox=0..1,0,1,1"]
         bad += ["x=0..1&y=" + quote(text) for text in ("0..1,z=0..1", "0..1\n", "0..é", "\0..1")] + ["x=0..1&y=0..%ff"]
         for query in bad:
@@ -164,6 +173,52 @@ class Starting(unittest.TestCase):
             file.flush()
             said = f"serve.py: {file.name} is refused: blob=1638 offset=79998 kind=cut\n"
             self.assertEqual(self.told(file.name, "0"), (1, "", said))
+
+    def test_ids(self) -> None:
+        """The ids that publish_layer.sh writes are found by the layer's SHA-256, behind a link too."""
+        with tempfile.TemporaryDirectory() as folder:
+            path, link = Path(folder, "points.twkb"), Path(folder, "link")
+            path.write_bytes(example.POINT + bytes.fromhex("01000608"))
+            link.symlink_to("points.twkb")
+            ids = Path(f"{path}.ids", hashlib.sha256(path.read_bytes()).hexdigest())
+            ids.parent.mkdir()
+            ids.write_text("7\nk\u00fcste 8\n", encoding="utf-8")
+            with started(str(link), "0") as server:
+                try:
+                    assert server.stdout
+                    address = server.stdout.readline().rstrip("\n").rpartition(" ")[2]
+                    found = [self.ids_at(f"{address}/{query}") for query in ("scan?bbox=3,4,3,4", "scan?bbox=0,0,9,9", "list")]
+                finally:
+                    server.terminate()
+            self.assertEqual(found, [["k\u00fcste 8"], ["7", "k\u00fcste 8"], ["7", "k\u00fcste 8"]])
+            ids.write_text("7\n", encoding="utf-8")
+            self.assertEqual(self.told(str(path), "0")[:2], (3, ""))
+            ids.unlink()
+            status, out, told = self.told(str(path), "0")
+            self.assertEqual((status, out, ids.name in told), (3, "", True))
+
+    def ids_at(self, address: str) -> List[str]:
+        with urlopen(address, timeout=30) as answer:
+            told = json.loads(answer.read())
+        return [blob["id"] for blob in told.get("hits", told.get("rows"))]
+
+    def test_replaced_while_it_is_opened(self) -> None:
+        """A layer whose ids are gone once it is read is read again."""
+        sys.path.insert(0, os.path.dirname(SERVER))
+        import serve
+
+        with tempfile.TemporaryDirectory() as folder:
+            path = Path(folder, "points.twkb")
+            path.write_bytes(example.POINT)
+            Path(f"{path}.ids").mkdir()
+            after = example.POINT + bytes.fromhex("01000608")
+            # A layer, the ids that are gone, the layer after it, and its ids.
+            found = [example.POINT, FileNotFoundError, after, b"7\n8\n"]
+            with mock.patch.object(Path, "read_bytes", side_effect=found):
+                layer, ids = serve.opened(str(path))
+            self.assertEqual((layer.blobs, ids), (2, ["7", "8"]))
+            with self.assertRaises(FileNotFoundError):
+                serve.opened(str(path))
 
     def test_bad_words(self) -> None:
         tried: Tuple[Tuple[str, ...], ...] = ((), ("a", "b"), ("a", "1", "2"), ("a", "-1"))

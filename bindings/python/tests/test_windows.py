@@ -1,4 +1,5 @@
 """Windows: numbers are taken exactly, and rounded inward to units by the library."""
+import array
 import copy
 import decimal
 import math
@@ -8,7 +9,7 @@ import unittest
 from decimal import Decimal
 from enum import IntEnum
 from fractions import Fraction
-from typing import Callable, List, Tuple, Union
+from typing import Callable, Dict, List, Tuple, Union
 
 import example
 from dozhemik import BadWindow, Window, certify
@@ -72,7 +73,7 @@ class Numbers(unittest.TestCase):
         floats = [chance.uniform(-180, 180) for _ in range(2000)]
         floats += [round(value, places) for value in floats for places in range(0, 9)]
         floats += [chance.uniform(-1, 1) * 10.0 ** chance.randint(-300, 300) for _ in range(2000)]
-        floats += [math.nextafter(value, 999) for value in floats[:500]] + [1.7976931348623157e308, 5e-324]
+        floats += [value * (1 + 2**-52) for value in floats[:500]] + [1.7976931348623157e308, 5e-324]
         for value in floats:
             self.taken(value)
 
@@ -90,6 +91,24 @@ class Numbers(unittest.TestCase):
             whole = "".join(chance.choices("0123456789", k=chance.randint(1, 40)))
             decimals = "".join(chance.choices("059", k=chance.randint(0, 40)))
             self.taken(chance.choice(("", "-")) + whole + ("." + decimals if decimals else ""))
+
+    def test_texts_with_an_exponent(self) -> None:
+        known = [("5e-05", 500, 500), ("1e-7", 1, 1), ("1E+21", 10**28, 10**28), ("-1.5e-8", 0, -1), ("25e-8", 3, 2)]
+        known += [("0e999999999", 0, 0), ("1e-100000", 1, 0), ("-007.50e1", -75 * UNIT, -75 * UNIT)]
+        known += [("1.00000000000000000000000000001e0", UNIT + 1, UNIT)]
+        for text, lo, hi in known:
+            window = Window((text, 10**30), (-(10**30), text))
+            with self.subTest(text=text):
+                self.assertEqual((units(window.x[0]), units(window.y[1])), (lo, hi))
+        chance = random.Random(8)
+        for _ in range(2000):
+            number = chance.uniform(-1, 1) * 10.0 ** chance.randint(-300, 20)
+            self.taken(f"{number!r}" if "e" in repr(number) else f"{number:.17e}")
+        with decimal.localcontext() as context:
+            context.prec, context.capitals, context.traps[decimal.InvalidOperation] = 3, 0, False
+            self.assertEqual(Window(("1.23456e2", 124), (1e-300, 1)), Window(("123.456", 124), ("0.0000001", 1)))
+            self.refused("1e-99999999999999999999", "1e99999999999999999999")
+        self.refused("1e3000000", "1e-3000000", "-7e999999999999", "1e-999999999999")
 
     def test_long_ones(self) -> None:
         small: List[Number] = ["0." + "0" * 100000 + "1", Decimal("1E-100000")]
@@ -121,7 +140,8 @@ class Numbers(unittest.TestCase):
         self.refused(math.nan, math.inf, -math.inf, Decimal("nan"), Decimal("-Infinity"), Decimal("sNaN"))
 
     def test_texts_of_no_number(self) -> None:
-        self.refused("", "-", "+1", "1.", ".5", "1e5", " 1", "1 ", "1\n", "1_000", "0x1", "nan", "٣", "1\0", "1\udc80")
+        self.refused("", "-", "+1", "1.", ".5", " 1", "1 ", "1\n", "1_000", "0x1", "nan", "٣", "1\0", "1\udc80")
+        self.refused("e5", "1e", "1e+", ".5e1", "1.e1", "+1e5", "1e5 ", "1e5\n", "1e 5", "1e5.5", "1_0e5", "1e1_0", "1e٣", "1ee5")
         # Texts that are more of a window than a number.
         self.refused("1..2", "0,y=0..1,z=0", "1,2", "x=1")
 
@@ -196,9 +216,54 @@ class Windows(unittest.TestCase):
         for bbox in (None, 5, (1, 2, 3), (1, 2, 3, 4, 5), "1234", ((0, 1), (2, 3)), {1, 2, 3, 4}):
             with self.subTest(bbox=bbox), self.assertRaises(TypeError):
                 made(bbox)
+        values: Dict[int, float] = {0: 10, 1: 35, 2: 30, 3: 45}
+        for bbox in (b"1234", values, numpy and numpy.zeros((2, 2)), numpy and numpy.zeros((4, 4)), numpy and numpy.zeros(3)):
+            with self.subTest(bbox=bbox), self.assertRaises(TypeError) as caught:
+                made(bbox)
+            self.assertNotIn("\n", str(caught.exception))
         # The order of GDAL's extents, which is another.
         with self.assertRaises(BadWindow):
             Window.from_bbox((10, 30, 35, 5))
+
+    def test_bbox_of_any_sequence(self) -> None:
+        wanted, layer = Window((10, 30), (35, 45)), certify(example.example("coast_lines_sized"))
+        doubles = array.array("d", [10, 35, 30, 45])
+        self.assertEqual(Window.from_bbox(doubles), wanted)
+        self.assertEqual(Window.from_bbox(range(1, 5)), Window((1, 3), (2, 4)))
+        self.assertEqual(Window.from_bbox(memoryview(doubles)), wanted)
+        self.assertEqual((len(layer.scan(bbox=doubles)), len(layer.directory().scan(bbox=doubles))), (44, 44))
+
+    @unittest.skipUnless(numpy, "NumPy is missing: apt-get install python3-numpy")
+    def test_bbox_of_numpy(self) -> None:
+        layer, wanted = certify(example.example("coast_lines_sized")), Window((10, 30), (35, 45))
+        for kind in ("float64", "float32", "int64", "longdouble", object):
+            bbox = numpy.array([10, 35, 30, 45], dtype=kind)
+            self.assertEqual((Window.from_bbox(bbox), len(layer.scan(bbox=bbox))), (wanted, 44))
+            many = numpy.array([[10, 35, 30, 45], [100, -10, 140, 10]], dtype=kind)
+            self.assertEqual([len(scan) for scan in layer.scan_many(Window.from_bboxes(many))], [44, 158])
+        self.assertEqual(Window.from_bboxes(numpy.zeros((0, 4))), [])
+        bad = [[0, 0, 1, 1], [0, 0, 1, math.nan]]
+        with self.assertRaisesRegex(BadWindow, "box 1: .* range of y is NaN"):
+            Window.from_bboxes(numpy.array(bad))
+        for shape in ((4,), (3, 3), (2, 4, 1)):
+            with self.subTest(shape=shape), self.assertRaisesRegex(TypeError, "box 0: "):
+                Window.from_bboxes(numpy.zeros(shape))
+
+    def test_bboxes(self) -> None:
+        chance = random.Random(9)
+        corners = [(chance.uniform(-180, 180), chance.uniform(-90, 90)) for _ in range(500)]
+        boxes = [(x, y, x + 1.1, y + 0.3) for x, y in corners]
+        self.assertEqual(Window.from_bboxes(boxes), [Window.from_bbox(box) for box in boxes])
+        windows = Window.from_bboxes(iter(boxes[:9]), z=(0, 1), m=("1e-7", 2))
+        self.assertEqual(windows, [Window.from_bbox(box, z=(0, 1), m=("1e-7", 2)) for box in boxes[:9]])
+        with self.assertRaisesRegex(BadWindow, "box 2: y=4..3: the lower bound"):
+            Window.from_bboxes([(1, 2, 3, 4), [1, "2", 3, 4], (1, 4, 3, 3)])
+        made: Callable[..., List[Window]] = Window.from_bboxes
+        with self.assertRaisesRegex(TypeError, r"box 1: a bbox is \(xmin, ymin, xmax, ymax\), not 5"):
+            made([(1, 2, 3, 4), 5])
+        for boxes_ in (None, 5, "1234", (1, 2, 3, 4)):
+            with self.subTest(boxes=boxes_), self.assertRaises(TypeError):
+                made(boxes_)
 
     def test_equal(self) -> None:
         windows = [Window((0, 1), (0, 1)), Window((0, 1.0), ("0.00", Decimal(1))), Window.parse("x=0..1,y=0..1.0000000")]

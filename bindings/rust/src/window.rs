@@ -2,6 +2,7 @@
 
 use crate::decimals::Text;
 use crate::{ffi, BadWindow, BadWindowKind};
+use std::fmt;
 use std::ops::RangeInclusive;
 use std::str::FromStr;
 
@@ -56,11 +57,7 @@ impl Span {
     /// above the upper one.
     pub fn from_coordinates(coordinates: RangeInclusive<f64>) -> Result<Span, BadWindow> {
         let (lo, hi) = (*coordinates.start(), *coordinates.end());
-        let span = match (Text::of(lo), Text::of(hi)) {
-            (Some(lo), Some(hi)) => span_of(lo.as_bytes(), hi.as_bytes()),
-            _ => Err(BadWindowKind::NotFinite),
-        };
-        span.map_err(|kind| BadWindow::of(kind, format_args!("{lo}..{hi}")))
+        span_of_floats(lo, hi).map_err(|kind| BadWindow::of(kind, format_args!("{lo}..{hi}")))
     }
 
     /// The span of two decimals, rounded inward. Each is an optional minus, digits, and optionally a point and digits.
@@ -108,6 +105,7 @@ impl Span {
 /// let window = Window::new(Span::from_coordinates(10.0..=30.0)?, Span::from_decimals("35", "45.5")?);
 /// assert_eq!(text, window.with_z(Span::from_units(0..=1_000_000_000)?));
 /// assert_eq!(window, Window::from_bbox([10.0, 35.0, 30.0, 45.5])?);
+/// assert_eq!(window.to_string(), "x=10..30,y=35..45.5");
 ///
 /// assert_eq!("x=30..10,y=35..45.5".parse::<Window>().unwrap_err().kind(), BadWindowKind::Order);
 /// # Ok::<(), BadWindow>(())
@@ -131,9 +129,12 @@ impl Window {
     ///
     /// # Errors
     ///
-    /// As for [`Span::from_coordinates`].
+    /// As for [`Span::from_coordinates`]. The error is displayed with the name of the axis.
     pub fn from_bbox([x_min, y_min, x_max, y_max]: [f64; 4]) -> Result<Window, BadWindow> {
-        Ok(Window::new(Span::from_coordinates(x_min..=x_max)?, Span::from_coordinates(y_min..=y_max)?))
+        let span = |axis, lo, hi| {
+            span_of_floats(lo, hi).map_err(|kind| BadWindow::of(kind, format_args!("{axis}={lo}..{hi}")))
+        };
+        Ok(Window::new(span("x", x_min, x_max)?, span("y", y_min, y_max)?))
     }
 
     /// This window with a range for Z.
@@ -190,6 +191,28 @@ impl Window {
     }
 }
 
+impl fmt::Display for Span {
+    /// Its ends in coordinates, as a window's text has them: `10..30.5`.
+    fn fmt(&self, f: &mut fmt::Formatter<'_>) -> fmt::Result {
+        write_coordinate(f, self.lo)?;
+        f.write_str("..")?;
+        write_coordinate(f, self.hi)
+    }
+}
+
+impl fmt::Display for Window {
+    /// Its text, which parses to this window again, unless a range is empty or has more than 27 digits before the point.
+    fn fmt(&self, f: &mut fmt::Formatter<'_>) -> fmt::Result {
+        write!(f, "x={},y={}", self.x, self.y)?;
+        for (axis, span) in [("z", self.z), ("m", self.m)] {
+            if let Some(span) = span {
+                write!(f, ",{axis}={span}")?;
+            }
+        }
+        Ok(())
+    }
+}
+
 impl FromStr for Window {
     type Err = BadWindow;
 
@@ -210,6 +233,9 @@ impl FromStr for Window {
 
 // ---- across the border
 
+/// How many units a coordinate of 1 has.
+const UNITS: u128 = 10_000_000;
+
 const NOTHING: Span = Span { lo: 0, hi: 0 };
 
 const fn split(units: i128) -> ffi::Units {
@@ -218,6 +244,29 @@ const fn split(units: i128) -> ffi::Units {
 
 const fn joined(units: &ffi::Units) -> i128 {
     (units.high as i128) << 64 | units.low as i128
+}
+
+/// A number of units as a coordinate, without zeros at its end.
+fn write_coordinate(f: &mut fmt::Formatter<'_>, units: i128) -> fmt::Result {
+    let (sign, size) = (if units < 0 { "-" } else { "" }, units.unsigned_abs());
+    let (mut fraction, mut digits) = (size % UNITS, 7);
+    write!(f, "{sign}{}", size / UNITS)?;
+    if fraction == 0 {
+        return Ok(());
+    }
+    while fraction % 10 == 0 {
+        fraction /= 10;
+        digits -= 1;
+    }
+    write!(f, ".{fraction:0digits$}")
+}
+
+/// The span of two floats, rounded inward.
+fn span_of_floats(lo: f64, hi: f64) -> Result<Span, BadWindowKind> {
+    match (Text::of(lo), Text::of(hi)) {
+        (Some(lo), Some(hi)) => span_of(lo.as_bytes(), hi.as_bytes()),
+        _ => Err(BadWindowKind::NotFinite),
+    }
 }
 
 /// The span of two decimals of any length, rounded inward.

@@ -190,6 +190,32 @@ fn boxes_are_least_and_greatest_corners() {
 }
 
 #[test]
+fn an_error_of_a_box_names_the_axis() {
+    let told = |bbox| Window::from_bbox(bbox).unwrap_err().to_string();
+    assert_eq!(told([30.0, 35.0, 10.5, 45.0]), r#""x=30..10.5": lower bound above upper bound"#);
+    assert_eq!(told([10.0, 45.0, 30.0, 35.0]), r#""y=45..35": lower bound above upper bound"#);
+    assert_eq!(told([10.0, 35.0, f64::INFINITY, 45.0]), r#""x=10..inf": not finite"#);
+    assert_eq!(told([10.0, f64::NAN, 30.0, 45.0]), r#""y=NaN..45": not finite"#);
+}
+
+#[test]
+fn windows_are_displayed_as_their_texts() {
+    for text in [
+        "x=10..30,y=35..45.5",
+        "x=-180..180,y=-90..90,z=0..100,m=-5.25..5",
+        "x=-0.0000001..0.0000001,y=-1.00203..0,m=0.5..7",
+        "x=-999999999999999999999999999.9999999..999999999999999999999999999.9999999,y=0.1000001..10000000",
+    ] {
+        assert_eq!(parsed(text).unwrap().to_string(), text);
+    }
+    assert_eq!(parsed("x=-0..007.50,y=1.10..2.0000000").unwrap().to_string(), "x=0..7.5,y=1.1..2");
+    let most = Window::new(units(i128::MIN, i128::MAX), Span::from_decimals("0.11", "0.11000001").unwrap());
+    let ends = ("-17014118346046923173168730371588.4105728", "17014118346046923173168730371588.4105727");
+    assert_eq!(most.to_string(), format!("x={}..{},y=0.11..0.11", ends.0, ends.1));
+    assert_eq!(Span::from_coordinates(0.1..=0.1).unwrap().to_string(), "0.1000001..0.1");
+}
+
+#[test]
 fn axes_are_given_one_by_one() {
     let (x, y, z, m) = (units(0, 1), units(2, 3), units(4, 5), units(6, 7));
     let window = Window::new(x, y);
