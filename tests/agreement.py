@@ -1,5 +1,7 @@
 """Checks that pages agree: a number that several files state is one number, a time is one of docs/SPEED.md, the ratios there are those
-of its columns, and what a page shows of a run or of a definition is what there is. Used by pages.py."""
+of its columns, what a page shows of a run or of a definition is what there is, and tests/plants.tsv names files that are there.
+Used by pages.py.
+"""
 import os
 import re
 
@@ -102,9 +104,18 @@ def misquoted(top):
                 yield f"{page.name} quotes {line.strip()!r}, which no definition has"
 
 
+def gone(top):
+    """Yields an error for each file of tests/plants.tsv that isn't there any more."""
+    for crate, named in (row.split("\t")[:2] for row in text_of(top, "tests", "plants.tsv").splitlines()[1:]):
+        for file in named.split(", ") if not named.startswith("all but ") else ():
+            if not os.path.exists(os.path.join(top, "crates", crate, "src", f"{file}.rt")):
+                yield f"tests/plants.tsv has {file} of {crate}, which isn't there"
+
+
 def disagreeing(top):
     yield from differing(top)
     yield from uncited(top)
     yield from unequal(top)
     yield from unshown(top)
     yield from misquoted(top)
+    yield from gone(top)

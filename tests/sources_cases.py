@@ -207,6 +207,8 @@ AGREEING = {
     "docs/SPEED.md": TIMES + "| audit | 2.5 | 5.0 | 2.0 | 0.50 | 1.25 |\n",
     "docs/GATE.md": "It takes 27\nminutes. <!-- a by tests/pages.py -->9 ms<!-- end of a -->\n",
     "crates/made/specs/Plain.antt": PLAIN,
+    "crates/made/src/a.rt": "",
+    "tests/plants.tsv": "crate\tfiles\tbodies\nmade\tall but b\t1\nmade\ta, a\t2\n",
 }
 GATED = {"the minutes": {"README.md": r"(\d+) minutes", "docs/GATE.md": r"(\d+)\s+minutes"}}
 DISAGREEING = (
@@ -220,6 +222,7 @@ DISAGREEING = (
     ("README.md", "is seen", "is unseen", "README.md quotes '-- a number is unseen', which no definition has"),
     ("docs/SPEED.md", "0.50", "0.55", "docs/SPEED.md has the ratio 0.55, and not that of 2.5 to 5.0"),
     ("docs/SPEED.md", "0.50", "0.51", None),
+    ("tests/plants.tsv", "a, a", "a, b", "tests/plants.tsv has b of made, which isn't there"),
 )
 # The sizes of pages, and the errors that these give.
 LIMITS = (
@@ -419,7 +422,7 @@ def agreement_cases():
             with open(os.path.join(top, "examples", "a.twkb"), "wb") as layer:
                 layer.write(bytes.fromhex("01000204"))
             errors = [*agreement.differing(top, GATED), *agreement.uncited(top), *agreement.unequal(top)]
-            errors += [*agreement.unshown(top), *agreement.misquoted(top)]
+            errors += [*agreement.unshown(top), *agreement.misquoted(top), *agreement.gone(top)]
         found = [error for error in errors if not wanted or wanted not in error]
         count(f"{path}: {new} for {old}", (found, len(errors)), ([], int(wanted is not None)))
     for sizes_of, wanted in LIMITS:
