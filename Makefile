@@ -107,6 +107,7 @@ test: SHELL = bash
 test: kit
 	python3 tests/trusted.py --strict
 	python3 tests/sources_cases.py
+	python3 tests/agreement_cases.py
 	python3 tests/borders.py
 	python3 tests/bodies.py apply
 	@mkdir -p build

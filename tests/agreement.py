@@ -1,5 +1,5 @@
 """Checks that pages agree: a number that several files state is one number, a time is one of docs/SPEED.md, the ratios there are those
-of its columns, what a page shows of a run or of a definition is what there is, and tests/plants.tsv names files that are there.
+of its columns, what a page shows of a run or of a definition is what there is, and modules and files that tables name are there.
 Used by pages.py.
 """
 import os
@@ -9,7 +9,7 @@ import plain
 from sources.files import all_crates, files, text_of
 from sources.markdown import Page, pages_in
 
-SPEED = os.path.join("docs", "SPEED.md")
+SPEED, ARCHITECTURE = os.path.join("docs", "SPEED.md"), os.path.join("docs", "ARCHITECTURE.md")
 # What several files state, each with a pattern that has it as its group.
 STATED = {
     "the minutes of `make test`": {
@@ -105,7 +105,13 @@ def misquoted(top):
 
 
 def gone(top):
-    """Yields an error for each file of tests/plants.tsv that isn't there any more."""
+    """Yields an error for each module in the tables of docs/ARCHITECTURE.md, and each file of tests/plants.tsv, that isn't there."""
+    for section in re.split(r"^## ", text_of(top, ARCHITECTURE), flags=re.MULTILINE)[1:]:
+        crate = section.partition("\n")[0]
+        for cells in re.findall(r"^\| Module \|.*\n\|.*\n((?:\|.*\n)+)", section, re.MULTILINE):
+            for name in re.findall(r"`([\w/]+)`", "".join(row.split("|")[1] for row in cells.splitlines())):
+                if not os.path.exists(os.path.join(top, "crates", crate, "src", f"{name}.rt")):
+                    yield f"{ARCHITECTURE} has {name} of {crate}, which isn't there"
     for crate, named in (row.split("\t")[:2] for row in text_of(top, "tests", "plants.tsv").splitlines()[1:]):
         for file in named.split(", ") if not named.startswith("all but ") else ():
             if not os.path.exists(os.path.join(top, "crates", crate, "src", f"{file}.rt")):

@@ -18,7 +18,7 @@ import re
 import sys
 
 import plain
-from agreement import SPEED, disagreeing
+from agreement import ARCHITECTURE, SPEED, disagreeing
 from harness import table as rows_of
 from sources import code, definitions
 from sources.files import CRATES, TOP, text_of, write
@@ -27,7 +27,6 @@ from sources.reach import QUESTIONS, Reach
 from sources.sizes import KINDS, all_sizes
 from sources.users import unsaid
 
-ARCHITECTURE = os.path.join("docs", "ARCHITECTURE.md")
 # The pages with the headline, word for word.
 HEADLINED = ("README.md", os.path.join("docs", "PROVED.md"))
 HEADLINE = (
