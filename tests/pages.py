@@ -47,9 +47,9 @@ MOST_IN_DOCS = {
     "PROVED": 22_000,
     "SCALE": 3_000,
     "SPEED": 9_000,
-    "USAGE": 21_000,
+    "USAGE": 15_000,
 }
-DOCS, LINES = 176_000, 150
+DOCS, LINES = 175_000, 150
 # The rows of the table in README.md: a name, the first cells of the row in docs/SPEED.md, and whether to show the times of the
 # programs in Rust. These have no directory.
 STEPS = (
