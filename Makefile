@@ -139,6 +139,7 @@ test-languages:
 	$(ALONE) tests/versions.py
 
 test-packages:
+	$(ALONE) tests/shown.py $(PROGRAM)
 	$(ALONE) tests/web.py
 	$(ALONE) tests/release.py $(PROGRAM)
 
