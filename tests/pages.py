@@ -38,7 +38,7 @@ HEADLINE = (
 MOST = {"README.md": 9_000, "CHANGELOG.md": 5_300, "CONTRIBUTING.md": 6_000, "bindings/c/README.md": 2_000, "bindings/web/README.md": 5_000}
 MOST_IN_DOCS = {
     "ARCHITECTURE": 20_000,
-    "BINDINGS": 21_500,
+    "BINDINGS": 9_000,
     "DECISIONS": 16_000,
     "DEFINITIONS": 45_000,
     "EVIDENCE": 14_000,
@@ -115,10 +115,7 @@ def totals(reach):
 def lines(reach):
     """Returns the sentence on how many lines the crates up to the program have."""
     source, _, specs, devices, proofs = map(sum, zip(*(numbers[:5] for _, numbers in all_sizes(reach.top)[:5])))
-    return (
-        f"The crates in the first row of the picture have {source:,} lines of source, and {specs + devices + proofs:,} of definitions and\n"
-        "proofs ([EVIDENCE](EVIDENCE.md#size))."
-    )
+    return f"The first row has {source:,} lines of source, and {specs + devices + proofs:,} of definitions and proofs ([EVIDENCE](EVIDENCE.md#size))."
 
 
 def sizes(reach):
