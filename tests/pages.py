@@ -35,7 +35,13 @@ HEADLINE = (
     " scan of that file reports exactly those blobs that have a vertex inside the window, in file order.**"
 )
 # The most bytes of each page, and of all pages in docs/ together; and the most lines of README.md.
-MOST = {"README.md": 9_000, "CHANGELOG.md": 5_300, "CONTRIBUTING.md": 6_000, "bindings/c/README.md": 2_000, "bindings/web/README.md": 5_000}
+MOST = {
+    "README.md": 9_000,
+    "CHANGELOG.md": 3_500,
+    "CONTRIBUTING.md": 6_000,
+    "bindings/c/README.md": 2_000,
+    "bindings/web/README.md": 5_000,
+}
 MOST_IN_DOCS = {
     "ARCHITECTURE": 20_000,
     "BINDINGS": 9_000,
@@ -115,7 +121,8 @@ def totals(reach):
 def lines(reach):
     """Returns the sentence on how many lines the crates up to the program have."""
     source, _, specs, devices, proofs = map(sum, zip(*(numbers[:5] for _, numbers in all_sizes(reach.top)[:5])))
-    return f"The first row has {source:,} lines of source, and {specs + devices + proofs:,} of definitions and proofs ([EVIDENCE](EVIDENCE.md#size))."
+    rest = f"{specs + devices + proofs:,} of definitions and proofs ([EVIDENCE](EVIDENCE.md#size))."
+    return f"The crates in its first row have {source:,} lines of source, and {rest}"
 
 
 def sizes(reach):
