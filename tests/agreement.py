@@ -23,6 +23,10 @@ STATED = {
         "CONTRIBUTING.md": r"`make build` \|.*?(\d+) minutes",
         "Makefile": r"'make build .*?(\d+) minutes",
     },
+    "the minutes of `make library`": {
+        "README.md": r"`make library`.*?(\d+) minutes",
+        "CONTRIBUTING.md": r"`make library`.*?(\d+) minutes",
+    },
     "the window of README's picture": {
         "README.md": r"^!\[.*? (x=[\d.-]+,y=[\d.-]+)",
         "tests/page.py": r'def for_readme\(page\):[^#]*?page\.scan\("(.*?)"\)',
