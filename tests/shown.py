@@ -68,8 +68,8 @@ def samples(page, folder, environment):
 def main():
     program = os.path.abspath(sys.argv[1] if len(sys.argv) > 1 else os.path.join(TOP, "build", "twkb_tool"))
     if not shutil.which("gcc"):
-        print("gcc is missing: apt-get install gcc libc6-dev; the samples of pages aren't compiled")
-        return 0
+        print("gcc is missing: apt-get install gcc libc6-dev; nothing that pages show is run")
+        return int(os.environ.get("CI") == "true")
     with tempfile.TemporaryDirectory() as folder:
         os.mkdir(os.path.join(folder, "build"))
         shutil.copy(program, os.path.join(folder, "build", "twkb_tool"))
