@@ -12,8 +12,8 @@ KINDS = (
     ("Definitions", "specs", r"(?!Devices[./]|Shared[./]).*\.antt"),
     ("Auxiliary", "specs", r"(Devices|Shared)[./](.*\.)?antt"),
     ("Proofs", "proofs", r".*\.antt"),
-    ("Mutants", GATE, r".*\.edit"),
-    ("Others", APART, r".*\.edit"),
+    ("Mutants at the gate", GATE, r".*\.edit"),
+    ("Other mutants", APART, r".*\.edit"),
     ("Controls", TWINS, r".*\.edit"),
 )
 
