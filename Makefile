@@ -117,6 +117,7 @@ test: SHELL = bash
 test: kit
 	python3 tests/trusted.py --strict
 	python3 tests/sources_cases.py
+	python3 tests/agreement_cases.py
 	python3 tests/borders.py
 	python3 tests/bodies.py apply
 	@mkdir -p build
@@ -149,6 +150,7 @@ test-languages:
 	$(ALONE) tests/versions.py
 
 test-packages:
+	$(ALONE) tests/shown.py $(PROGRAM)
 	$(ALONE) tests/web.py
 	$(ALONE) tests/release.py $(PROGRAM)
 

@@ -33,6 +33,3 @@ class Rounds:
 
     def over_vectors(self):
         return min(self.ours) / min(self.vectors)
-
-    def over_plain(self):
-        return min(self.ours) / min(self.plain)

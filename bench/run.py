@@ -7,10 +7,10 @@ SCANNER is twkb_bench, which times audits and scans within its process. TOOL is 
 timed, and runs on the same bytes with a first one that no blob begins with: these read the file and refuse it. They are
 compared with programs in Rust, std only: fast/ is the fastest that we know how to write, without SIMD, and vectors/ with
 the SIMD of x86-64-v2; of the two called plain, plain.rs checks as one would write it at first, and hops.rs scans with all
-inlined. In each of RUNS rounds ours is run between two runs of fast/. Of each the best time is shown. Ratios of times over
-fast/ are medians of the rounds in which both of its runs took as long, or of the best times, where fewer than half of the
-rounds were such; other ratios are of the best times. Times are of 40 MB, and instructions, which valgrind counts, of 4 MB,
-of one audit or scan alone. Where two answers differ, the run fails. A plot of the ratios goes to docs/bench.svg.
+inlined. In each of RUNS rounds ours is run between two runs of fast/. The tables are those of docs/SPEED.md: of each program the
+best time, the instructions, which valgrind counts, and the ratios of these numbers. Times are of 40 MB, and instructions of 4 MB, of
+one audit or scan alone. Where two answers differ, the run fails. A plot of ratios goes to docs/bench.svg; there those over fast/ are
+medians of the rounds in which both of its runs took as long, or of the best times, where fewer than half of the rounds were such.
 """
 import os
 import sys
@@ -172,32 +172,31 @@ def ratio(value, over):
     return "" if not value or not over else f"{value / over:.2f}"
 
 
-def cells_of_times(rounds):
-    """The best times of the four programs, and the ratios of ours over the other three."""
-    ratios = rounds.over_fast(), rounds.over_vectors(), rounds.over_plain()
-    return [*map(shown, rounds.bests()), *(shown(over, 2) for over in ratios)]
-
-
-def cells_of_numbers(numbers):
-    """The numbers of the four programs, which come out alike each time, and the ratios of ours over the other three."""
-    ours, *others = (numbers.get(name) for name in NAMES)
-    return [shown(ours), *map(shown, others), *(ratio(ours, other) for other in others)]
-
-
-def row(title, kind, rounds, counts):
-    """A row of a table, of times and of instructions."""
-    print("| " + " | ".join([title, kind, *cells_of_times(rounds), *cells_of_numbers(counts)]) + " |", flush=True)
-
-
-# The programs in the order of the columns, and these.
+# The programs in the order of the columns.
 NAMES = ("ours", "fast", "vectors", "plain")
-COLUMNS = [*NAMES, *(f"ours to {name}" for name in NAMES[1:])]
+# The rows of instructions, which are printed as a table of their own, after the one of times.
+COUNTED_ROWS = []
 
 
-def heading():
-    columns = " | ".join(COLUMNS)
-    print(f"| Step | Layer | ms: {columns} | million instructions: {columns} |")
-    print("|---" * (2 + 2 * len(COLUMNS)) + "|")
+def cells(numbers):
+    """The numbers of the four programs, and the ratios of ours over those of fast/ and of vectors/."""
+    ours, fast, vectors, plain = numbers
+    return [*map(shown, (ours, fast, vectors, plain)), ratio(ours, fast), ratio(ours, vectors)]
+
+
+def row(*words):
+    return "| " + " | ".join(words) + " |"
+
+
+def note_row(title, kind, rounds, counts):
+    """Prints the row of a step in the table of times, and keeps the one of instructions."""
+    print(row(title, kind, *cells(rounds.bests())), flush=True)
+    COUNTED_ROWS.append(row(title, kind, *cells(map(counts.get, NAMES))))
+
+
+def heading(unit, *first):
+    columns = [*first, *(f"{name}, {unit}" for name in NAMES), "ours to fast", "ours to vectors"]
+    print("\n" + row(*columns) + "\n" + "|---" * len(columns) + "|")
 
 
 def table_of_audits(found, folder, runs):
@@ -211,7 +210,7 @@ def table_of_audits(found, folder, runs):
         the_same(kept[kind])
         os.remove(layer)
         small, _ = layers.write_layer(folder, kind, COUNTED)
-        row("audit", kind, kept[kind], count_audits(found, small))
+        note_row("audit", kind, kept[kind], count_audits(found, small))
     return kept
 
 
@@ -229,11 +228,10 @@ def table_of_whole_runs(found, folder, runs, audits):
         note_runs(found.checks(refused), reads, {})
     the_same(wholes)
     the_same(reads)
-    print("\n| Whole run of check, the mix | " + " | ".join(COLUMNS) + " |")
-    print("|---" * (1 + len(COLUMNS)) + "|")
-    for title, rounds in {"all, ms": wholes, "reading alone, ms": reads}.items():
-        print(f"| {title} | " + " | ".join(cells_of_times(rounds)) + " |")
-    print("| greatest memory, MiB | " + " | ".join(cells_of_numbers(memories)) + " |")
+    heading("ms", "Whole run of check, the mix")
+    for title, rounds in {"all": wholes, "reading alone": reads}.items():
+        print(row(title, *cells(rounds.bests())))
+    print(row("greatest memory, MiB", *cells(map(memories.get, NAMES))))
     together = min(audits.ours) + min(reads.fast)
     over = ratio(min(wholes.ours), together)
     print(f"our audit and the reading of fast take {together:.1f} ms together: our whole run is {over} of it")
@@ -265,7 +263,7 @@ def table_of_scans(found, folder, runs):
         counts = count_scans(found, small)
         for step, times in rounds.items():
             other = step if step in STEPS else MISSED
-            row(step, kind, times, {name: counts[step if name == "ours" else other, name] for name in NAMES})
+            note_row(step, kind, times, {name: counts[step if name == "ours" else other, name] for name in NAMES})
         over |= {f"{step}, {kind}": (rounds[step].over_fast(), rounds[step].over_vectors()) for step in STEPS}
         rate = min(rounds[MISSED].ours) / min(rounds[LOOKUP].ours)
         notes.append(f"{kind}: {bytes_a_blob(found, folder, kind):.0f} bytes a blob in a directory, "
@@ -288,9 +286,11 @@ def main():
     runs = int(sys.argv[3]) if len(sys.argv) > 3 else 10
     with tempfile.TemporaryDirectory() as folder:
         found = Programs(folder, *sys.argv[1:3])
-        heading()
+        heading("ms", "Step", "Layer")
         audits = table_of_audits(found, folder, runs)
         notes, scans = table_of_scans(found, folder, runs)
+        heading("M", "Step", "Layer")
+        print("\n".join(COUNTED_ROWS))
         table_of_whole_runs(found, folder, runs, audits["the mix"])
         tell_of_memory(found, folder, audits["the mix"])
         print("\n" + "\n".join(notes))

@@ -1,5 +1,5 @@
 #!/usr/bin/env python3
-"""Tries wrong bodies, which the prover has to reject, and their twins, which it has to accept (docs/GATE.md).
+"""Tries wrong bodies, which the prover has to reject, and their twins, which it has to accept (docs/EVIDENCE.md).
 
 usage: tests/bodies.py apply|apart|twins [--only WORD] [--untwinned] [CRATE ..]   (all crates if none is named)
 

@@ -3,10 +3,12 @@
 
 usage: tests/pages.py [--write]   (--write first writes the parts)
 
-It writes the numbers and the table in docs/DEFINITIONS.md, the numbers of wrong bodies and the table of sizes in docs/GATE.md, and
-the table of times in README.md, which it takes from docs/SPEED.md. The exit status is 1 if there is an error:
+It writes the numbers and the table in docs/DEFINITIONS.md, the totals and the table of sizes in docs/EVIDENCE.md, the lines of source
+in docs/ARCHITECTURE.md, and by the times of docs/SPEED.md the table in README.md and the estimate in docs/SCALE.md. The exit status is 1
+if there is an error:
 - a part isn't up to date, or a page lacks its marks
-- a page that should have the headline lacks it, or README.md is too large
+- a page that should have the headline lacks it, or a page is too large
+- two pages disagree (agreement.py)
 - a link leads to a file or heading that doesn't exist, or its text is a name that the file doesn't have
 - a table cites a clause that the function doesn't have
 - the first lines of a module don't name the modules that use it
@@ -15,6 +17,9 @@ import os
 import re
 import sys
 
+import plain
+from agreement import ARCHITECTURE, SPEED, disagreeing
+from harness import table as rows_of
 from sources import code, definitions
 from sources.files import CRATES, TOP, text_of, write
 from sources.markdown import Page, pages_in
@@ -22,8 +27,6 @@ from sources.reach import QUESTIONS, Reach
 from sources.sizes import KINDS, all_sizes
 from sources.users import unsaid
 
-SPEED = os.path.join("docs", "SPEED.md")
-ARCHITECTURE = os.path.join("docs", "ARCHITECTURE.md")
 # The pages with the headline, word for word.
 HEADLINED = ("README.md", os.path.join("docs", "PROVED.md"))
 HEADLINE = (
@@ -31,12 +34,32 @@ HEADLINE = (
     " follows it, every box holds every vertex of its geometry and the ids within each list are distinct; and for every window the skip"
     " scan of that file reports exactly those blobs that have a vertex inside the window, in file order.**"
 )
-# The most lines and bytes of a page.
-MOST = {"README.md": (150, 9_000)}
-# The rows of the table in README.md: a name, the first cells of the row in docs/SPEED.md, and whether to show the times of the two
-# Rust programs. These have no directory.
+# The most bytes of each page, and of all pages in docs/ together; and the most lines of README.md.
+MOST = {
+    "README.md": 9_000,
+    "CHANGELOG.md": 3_500,
+    "CONTRIBUTING.md": 6_000,
+    "bindings/c/README.md": 2_000,
+    "bindings/web/README.md": 5_000,
+}
+MOST_IN_DOCS = {
+    "ARCHITECTURE": 20_000,
+    "BINDINGS": 9_000,
+    "DECISIONS": 16_000,
+    "DEFINITIONS": 45_000,
+    "EVIDENCE": 14_000,
+    "FORMAT": 14_000,
+    "GLOSSARY": 3_000,
+    "PROVED": 22_000,
+    "SCALE": 3_000,
+    "SPEED": 9_000,
+    "USAGE": 15_000,
+}
+DOCS, LINES = 175_000, 150
+# The rows of the table in README.md: a name, the first cells of the row in docs/SPEED.md, and whether to show the times of the
+# programs in Rust. These have no directory.
 STEPS = (
-    ("certify", ["the mix"], True),
+    ("certify", ["audit", "the mix"], True),
     ("scan for `x=10..30,y=35..45`", ["hop scan, 20 by 10 degrees", "the mix"], True),
     ("make a directory, once", ["building a directory", "the mix"], False),
     ("scan with it for `x=10..30,y=85..89`, no hit", ["directory scan without a hit", "the mix"], False),
@@ -57,7 +80,7 @@ def table(reach):
         for path in definitions.reading_order(reach.top, crate):
             own = [one for one in reach.definitions.values() if one.path == path]
             if own:
-                rows.append(f"| **{crate}** `specs/{os.path.basename(path)}` | | | **{says(text_of(path).splitlines())}** |")
+                rows.append(f"| **{crate}** `{os.path.basename(path)}` | | | {says(text_of(path).splitlines())} |")
             for one in own:
                 letters = "".join(letter for letter, keys in answers.items() if one.key in keys)
                 rows.append(f"| `{one.name}` | {len(one.lines)} | {letters} | {says(one.lines)} |")
@@ -70,14 +93,36 @@ def numbers(reach):
     rows = [f"- **{letter}**: {name} takes {reach.lines(answers[letter])} lines." for letter, name, *_ in QUESTIONS]
     devices = reach.lines(key for key, one in reach.definitions.items() if one.is_private)
     rows.append(f"- All public contracts together take {reach.lines(reach.public())} lines.")
-    rows.append(f"- The devices are {devices} lines more, which nobody has to read.")
+    rows.append(f"- The auxiliary definitions are {devices} lines more, which nobody has to read.")
     return "\n".join(rows)
 
 
-def bodies(reach):
-    """Returns the sentence on how many wrong bodies and twins there are."""
-    *_, gate, apart, twins = map(sum, zip(*(numbers for _, numbers in all_sizes(reach.top))))
-    return f"There are {gate + apart} wrong bodies, {gate} of them at the gate, and {twins} twins."
+def totals(reach):
+    """Returns the table of how much is tested."""
+    gate, apart, twins = (sum(column) for column in list(zip(*(numbers for _, numbers in all_sizes(reach.top))))[-3:])
+    worked = {row[2] for row in rows_of("cases.tsv")}
+    changed = 256 * sum(len(data) // 2 for data in worked)
+    cut = sum(len(data) // 2 - 1 for data in worked if plain.is_blob(bytes.fromhex(data)))
+    plants = [[int(cell) for cell in row[2:9]] for row in rows_of("plants.tsv")]
+    planted, rejected, accepted, equivalent, breaking, undecided, left_out = map(sum, zip(*plants))
+    rows = (
+        ("runs with known answers, by the program, C, Rust, Python and the page", len(rows_of("cases.tsv"))),
+        ("windows of which PostGIS counted the hits", len(rows_of("postgis.tsv"))),
+        ("worked layers, cut after a byte or with a byte changed, judged plainly and tightly", 2 * (cut + changed)),
+        ("[mutants](#mutants) that the prover has to reject, and equivalent controls that it has to accept", f"{gate + apart}; {twins}"),
+        ("of these mutants, tried by the gate", gate),
+        ("mutants generated by `rt plant`; rejected", f"{planted:,}; {rejected + breaking:,}"),
+        ("not rejected: accepted; equivalent; undecided; left out", f"{accepted}; {equivalent}; {undecided}; {left_out}"),
+    )
+    shown = (f"| {what} | {count if isinstance(count, str) else f'{count:,}'} |" for what, count in rows)
+    return "\n".join(["| What | How many |", "|---|---|", *shown])
+
+
+def lines(reach):
+    """Returns the sentence on how many lines the crates up to the program have."""
+    source, _, specs, devices, proofs = map(sum, zip(*(numbers[:5] for _, numbers in all_sizes(reach.top)[:5])))
+    rest = f"{specs + devices + proofs:,} of definitions and proofs ([EVIDENCE](EVIDENCE.md#size))."
+    return f"The crates in its first row have {source:,} lines of source, and {rest}"
 
 
 def sizes(reach):
@@ -89,23 +134,52 @@ def sizes(reach):
     return "\n".join(rows)
 
 
+def times(top, cells):
+    """Returns the times in docs/SPEED.md of the row with these first cells, by the names of the programs."""
+    found = Page(top, SPEED).rows()
+    at = next(at for at, row in enumerate(found) if row[: len(cells)] == cells)
+    heading = next(row for row in reversed(found[:at]) if "ours, ms" in row)
+    return {name: found[at][heading.index(f"{name}, ms")] for name in ("ours", "fast", "vectors", "plain")}
+
+
 def speed(reach):
     """Returns the table of times."""
-    found = Page(reach.top, SPEED).rows()
-    rows = ["| Step, one thread, 40 MB | Dozhemik, ms | Fastest Rust without SIMD, ms | Plain Rust, ms |", "|---|---|---|---|"]
+    rows = ["| Step, one thread, 40 MB | Dozhemik, ms | Rust with SIMD, ms | Rust without, ms | Plain Rust, ms |", "|---|---|---|---|---|"]
     for name, cells, has_rivals in STEPS:
-        at = next(at for at, row in enumerate(found) if row[: len(cells)] == cells)
-        heading = next(row for row in reversed(found[:at]) if "ours, ms" in row)
-        ours, fast, plain = (found[at][heading.index(f"{column}, ms")] for column in ("ours", "fast", "plain"))
-        rows.append(f"| {name} | {ours} | {fast if has_rivals else ''} | {plain if has_rivals else ''} |")
+        found = times(reach.top, cells)
+        rivals = [found[other] if has_rivals else "" for other in ("vectors", "fast", "plain")]
+        rows.append(f"| {name} | " + " | ".join([found["ours"], *rivals]) + " |")
     return "\n".join(rows)
+
+
+def planet(reach):
+    """Returns the table of what 10^10 vertices in 10^6 layers take, by a layer of the examples and its times."""
+    with open(os.path.join(reach.top, "examples", "coast_lines_sized.twkb"), "rb") as file:
+        data = file.read()
+    blobs = plain.blobs_of(data)
+    bytes_a_vertex = len(data) / sum(len(blob.vertices) for blob in blobs)
+    all_bytes, all_blobs = 1e10 * bytes_a_vertex, 1e10 * bytes_a_vertex * len(blobs) / len(data)
+    audit, lookup = (float(times(reach.top, [step, "lines"])["ours"]) for step in ("audit", "directory scan without a hit"))
+    nanoseconds = 1e6 * lookup / (40e6 * len(blobs) / len(data))
+    rows = (
+        ("bytes", f"{all_bytes / 1e9:.0f} GB", f"{bytes_a_vertex:.2f} bytes a vertex, as in `coast_lines_sized.twkb`, with sizes and boxes"),
+        ("blobs", f"{all_blobs / 1e9:.1f} · 10^9", f"{1e10 / all_blobs:.1f} vertices a blob, as there"),
+        ("certifying", f"{audit * all_bytes / 40e6 / 1e3:.0f} s", f"40 MB of lines in {audit} ms"),
+        ("directories", f"{24 * all_blobs / 1e9:.0f} GB", "24 bytes a blob; 96 if its box has Z or M"),
+        ("a window that no box of a layer meets", f"{nanoseconds * all_blobs / 1e9:.1f} µs a layer", f"{nanoseconds:.1f} ns a blob of lines, with a directory"),
+        ("requests", "10^6, 33 minutes", "one for each layer, 16 at once, 32 ms each: assumed, measure your own"),
+        ("moving the bytes", f"{all_bytes * 8 / 1e10:.0f} s", "at 10 Gbit/s"),
+    )
+    return "\n".join(["| What | How much | By |", "|---|---|---|", *(f"| {' | '.join(row)} |" for row in rows)])
 
 
 # The parts of each page, and the functions that return their texts.
 PARTS = {
     "README.md": {"speed": speed},
+    ARCHITECTURE: {"lines": lines},
     os.path.join("docs", "DEFINITIONS.md"): {"numbers": numbers, "table": table},
-    os.path.join("docs", "GATE.md"): {"bodies": bodies, "sizes": sizes},
+    os.path.join("docs", "EVIDENCE.md"): {"totals": totals, "sizes": sizes},
+    os.path.join("docs", "SCALE.md"): {"planet": planet},
 }
 
 
@@ -114,22 +188,33 @@ def written(reach, page, parts):
     return page.with_parts({part: make(reach) for part, make in parts.items()})
 
 
+def too_large(top):
+    """Yields an error for each page that is larger than it may be, or has no limit."""
+    most = MOST | {os.path.join("docs", f"{name}.md"): size for name, size in MOST_IN_DOCS.items()}
+    sizes = {name: os.path.getsize(os.path.join(top, name)) for name in pages_in(top)}
+    in_docs = {name: size for name, size in sizes.items() if os.path.dirname(name) == "docs"}
+    for name, size in sizes.items():
+        if size > most.get(name, DOCS if name not in in_docs else 0):
+            yield f"{name} has {size} bytes, more than {most.get(name, 0)}"
+    if sum(in_docs.values()) > DOCS:
+        yield f"docs/ has {sum(in_docs.values())} bytes, more than {DOCS}"
+    if text_of(top, "README.md").count("\n") > LINES:
+        yield f"README.md has more than {LINES} lines"
+
+
 def stale(reach):
-    """Yields an error for each page that lacks the headline, is too large, or isn't up to date."""
+    """Yields an error for each page that lacks the headline, is too large, isn't up to date, or disagrees with another."""
     for name in HEADLINED:
         if HEADLINE not in re.sub(r"\s+", " ", text_of(reach.top, name)):
             yield f"{name} lacks the headline, word for word"
-    for name, most in MOST.items():
-        text = text_of(reach.top, name)
-        size = text.count("\n"), len(text.encode())
-        if size[0] > most[0] or size[1] > most[1]:
-            yield f"{name} has {size[0]} lines and {size[1]} bytes, more than {most[0]} or {most[1]}"
+    yield from too_large(reach.top)
     for name, parts in PARTS.items():
         page = Page(reach.top, name)
         if missing := page.lacks(parts):
             yield f"{name} lacks {', '.join(missing)}"
         elif written(reach, page, parts) != page.text:
             yield f"{name} isn't as the crates are: python3 tests/pages.py --write"
+    yield from disagreeing(reach.top)
 
 
 def has(top, path, name):

@@ -39,7 +39,7 @@ WANTED = [
     "share/bash-completion/completions/twkb_tool include/twkb.h".split(),
     "lib/libtwkb.a lib/libtwkb.so lib/libtwkb.so.0 lib/pkgconfig/twkb.pc".split(),
     "rust/Cargo.toml rust/build.rs rust/src/lib.rs docs/USAGE.md docs/BINDINGS.md docs/FORMAT.md".split(),
-    "docs/PROVED.md docs/TESTED.md docs/GATE.md docs/page.png".split(),
+    "docs/PROVED.md docs/EVIDENCE.md docs/page.png".split(),
     "examples/README.md examples/coast_z.twkb examples/scripts/publish_layer.sh examples/demo.sh examples/serve.py".split(),
     "web/twkb.js web/twkb_web.wasm".split(),
     "notices/clap-LICENSE-MIT notices/itoa-LICENSE notices/smallvec-LICENSE-MIT notices/thiserror-LICENSE".split(),

@@ -180,8 +180,8 @@ def spark(program):
 
 
 def rule_for_make(folder, path):
-    """The rule that docs/USAGE.md has for make: a refused layer is shown, and nothing is left of it."""
-    with open(os.path.join(TOP, "docs", "USAGE.md"), encoding="utf-8") as page:
+    """The rule that examples/README.md has for make: a refused layer is shown, and nothing is left of it."""
+    with open(os.path.join(TOP, "examples", "README.md"), encoding="utf-8") as page:
         rule = re.search(r"^    %\.certified: .*\n(?:    \t.*\n)+", page.read(), re.MULTILINE)[0]
     place = os.path.join(folder, "made")
     os.mkdir(place)

@@ -120,7 +120,7 @@ Dozhemik $version, of the commit \`$commit\`, by the kit \`$kit\`.
 | \`web/twkb_web.wasm\`, also inside \`dozhemik.html\` | built in the same way, and then lowered to 32 bits and made shorter by \`wasm-opt\` |
 | everything else | not proved: the header, the packages for Python, Rust and JavaScript, the rest of the page, the scripts |
 
-\`docs/PROVED.md\` says what is proved of these, \`docs/TESTED.md\` what is only tested, \`README.md\` what is trusted, and
+\`docs/PROVED.md\` says what is proved of these, \`docs/EVIDENCE.md\` what is only tested, \`README.md\` what is trusted, and
 \`docs/BINDINGS.md\` all this for callers and for the page. With the kit and a checkout of the commit, \`make test\` proves and tests
 all of it again. The pages link only files that are here: where a page of the checkout links another file, its name is plain text.
 \`SHA256SUMS\` has a sum of each file: \`sha256sum --check SHA256SUMS\`, as \`install.sh\` does.

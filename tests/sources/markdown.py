@@ -5,7 +5,7 @@ import re
 from .files import text_of
 
 # The folders with pages.
-FOLDERS = ("", "docs", "examples", os.path.join("bindings", "python"), os.path.join("bindings", "rust"))
+FOLDERS = ("", "docs", "examples", *(os.path.join("bindings", name) for name in ("c", "python", "rust", "web")))
 # A link or a picture.
 LINK = re.compile(r"\[([^\]]*)\]\(([^)\s]+)\)")
 # Names of functions, linked or not, a colon, and names of clauses that each of these functions has.
@@ -30,6 +30,10 @@ class Page:
         self.name, self.text = name, text_of(top, name)
         # The text without blocks of code.
         self.prose = re.sub(r"^```.*?^```$", "", self.text, flags=re.MULTILINE | re.DOTALL)
+
+    def own_text(self):
+        """Returns the text without the parts that a script writes."""
+        return re.sub(r"<!-- (\w+) by tests/pages\.py -->.*?<!-- end of \1 -->", "", self.text, flags=re.DOTALL)
 
     def path_of(self, target):
         """Returns the path in the repository of a linked file."""

@@ -10,11 +10,11 @@ KINDS = (
     ("Source", "src", r"(?!(.*/)?tests[./]).*\.rt"),
     ("Tests", "src", r"(.*/)?tests[./](.*\.)?rt"),
     ("Definitions", "specs", r"(?!Devices[./]|Shared[./]).*\.antt"),
-    ("Devices", "specs", r"(Devices|Shared)[./](.*\.)?antt"),
+    ("Auxiliary", "specs", r"(Devices|Shared)[./](.*\.)?antt"),
     ("Proofs", "proofs", r".*\.antt"),
-    ("Wrong bodies", GATE, r".*\.edit"),
-    ("Apart", APART, r".*\.edit"),
-    ("Twins", TWINS, r".*\.edit"),
+    ("Mutants at the gate", GATE, r".*\.edit"),
+    ("Other mutants", APART, r".*\.edit"),
+    ("Controls", TWINS, r".*\.edit"),
 )
 
 

@@ -122,7 +122,7 @@ pub extern "C" fn twkb_directory_build(layer: &Layer, room: &mut [Slot]) -> usiz
     twkb_call::build_directory(layer, room)
 }
 
-/// Scans as `twkb_scan` does, and reads nothing of a blob whose box misses the window.
+/// Scans as `twkb_scan` does, and reads as many bytes as if the blobs whose box misses the window weren't there.
 #[unsafe(no_mangle)]
 pub extern "C" fn twkb_directory_scan(
     layer: &Layer,

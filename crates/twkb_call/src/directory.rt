@@ -36,7 +36,7 @@ pub fn build_directory(layer: &Layer, room: &mut [Slot]) -> usize
     layer.as_certified().directory_into(room)
 }
 
-/// Scans as [`scan`](crate::scan) does, and reads nothing of a blob whose box misses the window.
+/// Scans as [`scan`](crate::scan) does, and reads as many bytes as if the blobs whose box misses the window weren't there.
 pub fn scan_directory(layer: &Layer, slots: &[Slot], window: &Window, room: &mut [Hit]) -> Scanned
     requires layer { IsCounted layer.now.bytes.now layer.now.blobs layer.now.vertices }
     requires directory { IsDirectoryOf (entries_kept slots.now) layer.now.bytes.now }
