@@ -41,6 +41,17 @@ class Driven:
         self.run(f'dropped({json.dumps(name)}, "{base64.b64encode(data).decode()}")')
         return self.run("verdict()")
 
+    def dropping(self, name, data):
+        """Drops a file, and doesn't wait for the answer."""
+        self.run(f'dropping({json.dumps(name)}, "{base64.b64encode(data).decode()}")')
+
+    def dropping_file(self, name, data):
+        """Chooses a file that has these bytes, and doesn't wait for the answer."""
+        path = os.path.join(self.folder, name)
+        with open(path, "wb") as file:
+            file.write(data)
+        self.choose(path)
+
     def choose(self, path):
         """Gives the file input a file, and doesn't wait for an answer."""
         before = int(self.run("document.documentElement.dataset.run ?? 0"))

@@ -7,6 +7,30 @@ window.isSettled = () => {
   return state === "done" && ["none", "done", "wrong"].includes(scan) && $("map").dataset.painted !== "no";
 };
 
+// Workers that are slow: messages with these names are kept back until they are let go. A worker is known once it is asked something.
+const known = new WeakSet(), kept = [], post = Worker.prototype.postMessage;
+let slow = [];
+window.told = [];
+Worker.prototype.postMessage = function (...words) {
+  if (!known.has(this)) {
+    const take = this.onmessage;
+    known.add(this);
+    this.onmessage = (event) => {
+      const { tell, stage } = event.data;
+      told.push({ tell, stage });
+      if (slow.includes(tell)) kept.push(() => take.call(this, event));
+      else take.call(this, event);
+    };
+  }
+  return post.apply(this, words);
+};
+window.holdBack = (...names) => void (slow = names);
+window.letGo = () => {
+  slow = [];
+  for (const take of kept.splice(0)) take();
+};
+window.isHeld = () => kept.length > 0;
+
 // Drops a file, given in base64, and waits for the answer.
 window.dropped = async (name, text) => {
   const bytes = Uint8Array.from(atob(text), (letter) => letter.charCodeAt(0)), moved = new DataTransfer();
@@ -14,20 +38,25 @@ window.dropped = async (name, text) => {
   document.dispatchEvent(new DragEvent("drop", { dataTransfer: moved, cancelable: true }));
   while (!isSettled()) await pause();
 };
+// Drops a file, and doesn't wait.
+window.dropping = (name, text) => void dropped(name, text);
 
 // What is said of the layer: the program's line, and of a refused one the byte, its field and the words.
 window.verdict = () => {
-  const line = $("verdict").querySelector("code")?.textContent ?? $("verdict").textContent;
-  const tight = $("certified").hidden ? null : $("tight").textContent;
+  const line = $("line")?.querySelector("code").textContent ?? $("verdict").textContent;
+  const tight = $("certified").hidden || $("certified").matches(".refused") ? null : $("tight").textContent;
   if ($("refused").hidden) return { line, tight };
   const words = ["meaning", "detail", "harm", "repair"].map((id) => $(id).textContent);
   return { line, tight, byte: $("byte").textContent, title: $("byte").title, field: $("fields").querySelector("tr.at td")?.textContent, words };
 };
 
 // Types a window and scans for it.
-window.scanned = async (text) => {
+window.typed = (text) => {
   $("text").value = text;
   $("window").requestSubmit();
+};
+window.scanned = async (text) => {
+  typed(text);
   while (!isSettled()) await pause();
   return { printed: $("printed").textContent, wrong: $("wrong").textContent, sums: rowsOf("sums") };
 };
@@ -159,6 +188,20 @@ window.faintPixels = (id) => {
   const colours = often.map(([word]) => [word & 255, (word >> 8) & 255, (word >> 16) & 255]);
   const marks = colours.filter((colour) => String(colour) !== String(under));
   return { faint: marks.filter((colour) => contrast(colour, under) < 3), marks: marks.length };
+};
+
+// How many pixels of a canvas have a colour of the style.
+window.pixelsOf = (id, name) => {
+  const canvas = $(id), wanted = seen([0, 0, 0], colourOf(name));
+  const { data } = canvas.getContext("2d").getImageData(0, 0, canvas.width, canvas.height);
+  let count = 0;
+  for (let i = 0; i < data.length; i += 4) count += data[i + 3] === 255 && wanted.every((one, k) => data[i + k] === one);
+  return count;
+};
+const colourOf = (name) => {
+  const probe = $("probe");
+  probe.style.color = `var(--${name})`;
+  return getComputedStyle(probe).color;
 };
 
 // How the marks of a legend look where colours aren't seen: their sizes, patterns and borders.

@@ -12,7 +12,6 @@ are left out. Prints each difference, and last a line `N passed, M failed`; the 
 """
 import argparse
 import filecmp
-import json
 import os
 import re
 import shutil
@@ -33,8 +32,6 @@ from png import shrunk
 from widened import widened
 
 WEB = os.path.join(TOP, "bindings", "web")
-sys.path.insert(0, WEB)
-from make_page import without_gaps  # noqa: E402
 
 PAGE = os.path.join(TOP, "build", "dozhemik.html")
 LARGEST_PAGE = 150_000
@@ -44,12 +41,6 @@ EXAMPLES = ["points_sized.twkb", "coast_lines_sized.twkb", "coast_collections.tw
 COPIES = 1190
 # PostGIS was asked for no windows of the world: the windows of the lines are taken.
 LINES_TOO = {WORLD: "coast_lines_sized.twkb"}
-# Styles, and what is left of each in the page.
-STYLES = {
-    "/* a */ b { c: d } e { f: g; /* h */ } i, j { k: l }": "b{c:d}e{f:g;}i,j{k:l}",
-    """a { b: 'c ; d' ; e: "f\\"  g" }""": """a{b:'c ; d';e:"f\\"  g"}""",
-    "a:is(b) > c :hover { d: calc(1px + 2px) }": "a:is(b) > c :hover{d:calc(1px + 2px)}",
-}
 # Of the windows that PostGIS was asked for every fifth one is asked for, of each example.
 EVERY = 5
 
@@ -179,18 +170,6 @@ def closed(page):
     count(page.name("no connection"), page.run(event), "connect-src")
 
 
-def styled(page):
-    """The style inside the page, which has no comments and fewer gaps, has the rules of its source."""
-    with open(os.path.join(WEB, "page", "style.css"), encoding="utf-8") as file:
-        source = json.dumps(file.read())
-    # Browsers keep the gaps of custom properties, so those after commas are left out of both.
-    rules = '[...one.cssRules].map((rule) => rule.cssText.replaceAll(", ", ","))'
-    inside = page.run(f"((one) => {rules})(document.styleSheets[0])")
-    wanted = page.run(f"((one) => (one.replaceSync({source}), {rules}))(new CSSStyleSheet())")
-    differ = [pair for pair in zip(inside, wanted) if pair[0] != pair[1]]
-    count(page.name("the style"), (len(inside), differ[:3]), (len(wanted), []))
-
-
 def large(page):
     """A file of 100 MB: the page answers while it works, and says what the program says."""
     with open(LINES, "rb") as file:
@@ -286,7 +265,7 @@ def drive(Browser, page, program, folder, picture):
     browser = Browser()
     try:
         driven = Driven(browser, page, program, folder)
-        for part in (cases, examples, inside, dragged, zoomed, no_layers, loose, sorting, closed, styled, large):
+        for part in (cases, examples, inside, dragged, zoomed, no_layers, loose, sorting, closed, large):
             start = time.monotonic()
             part(driven)
             print(f"{browser.name}: {part.__name__}, {time.monotonic() - start:.0f} s", flush=True)
@@ -324,12 +303,6 @@ def same_bytes(module, folder):
         count("no repository: the commit is unknown", "commit unknown" in file.read(), True)
 
 
-def shorter():
-    """A style loses comments and gaps, and nothing else."""
-    for style, wanted in STYLES.items():
-        count(f"the style {style}", without_gaps(style), wanted)
-
-
 def kept(page):
     """No packed part has a byte that HTML changes, or what ends a script or begins a comment."""
     with open(page, "rb") as file:
@@ -342,9 +315,10 @@ def kept(page):
 
 def built():
     """The page, or nothing where this machine lacks what builds it."""
-    if not shutil.which("wasm-opt"):
-        print("wasm-opt is missing: apt-get install binaryen; the tests of the page are left out")
-        return None
+    for tool, package in (("wasm-opt", "binaryen"), ("esbuild", "esbuild")):
+        if not shutil.which(tool):
+            print(f"{tool} is missing: apt-get install {package}; the tests of the page are left out")
+            return None
     module = os.path.join(TOP, "build", "web", "twkb_web.wasm")
     subprocess.run([os.path.join(WEB, "build.sh")], check=True)
     subprocess.run([sys.executable, os.path.join(WEB, "make_page.py"), module, PAGE], check=True)
@@ -373,7 +347,6 @@ def main():
     there = [one for one in BROWSERS if shutil.which(one.name)]
     for lacking in set(BROWSERS) - set(there):
         print(f"{lacking.name} is missing: {lacking.needs}; its tests are left out")
-    shorter()
     page = (asked.page or built()) if there else None
     if page:
         os.makedirs(PICTURES, exist_ok=True)

@@ -7,3 +7,11 @@ export function element(name, text, className) {
   if (className) made.className = className;
   return made;
 }
+
+// A paragraph in which words between backquotes are code. What is short, such as a command, stays in one line.
+const SHORT = 24;
+export function withCode(text) {
+  const made = element("p");
+  text.split("`").forEach((part, i) => made.append(i % 2 ? element("code", part, part.length < SHORT ? "short" : "") : part));
+  return made;
+}
