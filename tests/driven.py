@@ -18,8 +18,10 @@ class Driven:
         self.where = f", {where}" if where else ""
         self.reload()
 
-    def reload(self):
-        self.browser.go("file://" + self.page)
+    def reload(self, hash=""):
+        """Opens the page anew, at an address of another page first, since one with another hash alone isn't loaded again."""
+        self.browser.go("about:blank")
+        self.browser.go("file://" + self.page + hash)
         with open(os.path.join(HERE, "page.js"), encoding="utf-8") as script:
             self.browser.run(f"(async () => {{\n{script.read()}\n}})()")
         self.wait('document.documentElement.dataset.ready === "yes"')

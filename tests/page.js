@@ -84,6 +84,15 @@ window.countWrites = (at) => {
   new MutationObserver(() => at.dataset.writes++).observe(at, { childList: true, characterData: true, subtree: true });
 };
 
+// Counts turns of the wheel over an element, and says of the last one whether the page kept it from scrolling.
+window.countWheels = (at) => {
+  at.dataset.wheels = 0;
+  addEventListener("wheel", (event) => {
+    at.dataset.wheels++;
+    window.lastWheel = event.defaultPrevented;
+  });
+};
+
 // Where the map is, and the window on it.
 window.frame = () => {
   const { x, y, width, height } = $("map").getBoundingClientRect();

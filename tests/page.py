@@ -5,8 +5,8 @@ usage: tests/page.py [PROGRAM] [--page PAGE] [--picture] [--screens] [BROWSER..]
 
 The small layers of cases.tsv are dropped on the page, and the examples chosen as files. What the page says has to be what the
 program prints. Then come windows that are dragged, large files, files that are no layers, both colours, and what people with
-keyboards and screen readers need. Last, page_screens.py, page_answers.py and page_focus.py try the page on screens of three widths,
-in both colours; with --screens they alone do. Pictures of it go to build/page. With --picture the one that README shows is written too;
+keyboards and screen readers need. Last, the other files page_*.py try the page on screens of three widths, in both colours; with --screens they
+alone do. Pictures of it go to build/page. With --picture the one that README shows is written too;
 with --page that page is taken as it is. A browser that this machine lacks is named in one line, with what brings it, and its tests
 are left out. Prints each difference, and last a line `N passed, M failed`; the status is 1 where any failed.
 """
@@ -25,9 +25,12 @@ from browsers import BROWSERS, Failed
 from driven import PICTURES, Driven
 from harness import TOP, count, counts, table, written
 from page_answers import ANSWERS, printed
+from page_between import BETWEEN, in_slices
 from page_focus import FOCUS
 from page_moves import LINES, dragged, zoomed
 from page_screens import SCREENS, WIDTHS, WORLD, pictures
+from page_truths import TRUTHS, many_blobs
+from page_uses import USES
 from png import shrunk
 from widened import widened
 
@@ -103,14 +106,14 @@ def examples(page):
 
 def inside(page):
     """The examples in the page itself, and those that are spoiled."""
-    wanted = {"cut.twkb": "cut", "size.twkb": "size", "box.twkb": "box"}
+    wanted = {"with a false box": "box", "with a false size": "size", "the first ": "cut"}
     for number in range(page.run('document.querySelectorAll("main [role=group] button").length')):
         before = page.run("document.documentElement.dataset.run ?? 0")
         page.run(f'document.querySelectorAll("main [role=group] button")[{number}].click()')
         page.wait(f"document.documentElement.dataset.run != {before} && isSettled()")
         line, text = page.run('[verdict().line, $("verdict").textContent]')
-        file = next((file for file in wanted if file in text), None)
-        count(page.name(f"example {number}"), line.split("kind=")[-1] if file else line[:3], wanted.get(file, "ok "))
+        name = next((name for name in wanted if name in text and not line.startswith("ok")), None)
+        count(page.name(f"example {number}"), line.split("kind=")[-1] if name else line[:3], wanted.get(name, "ok "))
         page.picture(f"example-{number}", '$("verdict")')
 
 
@@ -253,7 +256,7 @@ def screens(Browser, page, program, folder):
                 start = time.monotonic()
                 browser.size(width, height)
                 driven = Driven(browser, page, program, folder, f"{width} px, {'dark' if dark else 'light'}")
-                for part in (*SCREENS, *ANSWERS, *FOCUS):
+                for part in (*SCREENS, *ANSWERS, *FOCUS, *TRUTHS, *USES, *BETWEEN):
                     tried(part, driven)
                 pictures(driven, f"{width}-{'dark' if dark else 'light'}")
                 print(f"{driven.name('screens')}, {time.monotonic() - start:.0f} s", flush=True)
@@ -265,7 +268,7 @@ def drive(Browser, page, program, folder, picture):
     browser = Browser()
     try:
         driven = Driven(browser, page, program, folder)
-        for part in (cases, examples, inside, dragged, zoomed, no_layers, loose, sorting, closed, large):
+        for part in (cases, examples, inside, dragged, zoomed, no_layers, loose, sorting, closed, large, in_slices, many_blobs):
             start = time.monotonic()
             part(driven)
             print(f"{browser.name}: {part.__name__}, {time.monotonic() - start:.0f} s", flush=True)

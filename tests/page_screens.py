@@ -29,6 +29,7 @@ def tap(page, number):
 
 def first_screen(page):
     """The name, what it is for, and a lead of two lines on a phone."""
+    page.reload()
     lines = page.run("leadLines()")
     count(page.name(f"the lead has {lines} lines"), 1 <= lines <= 2, True)
     count(page.name("the subtitle"), page.run('$("subtitle")?.textContent'), "Checks map layers in the TWKB format")

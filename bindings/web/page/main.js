@@ -14,7 +14,7 @@ import { BlobTable } from "./table.js";
 import { FAULTS, STAGES, WINDOW_ERRORS } from "./texts.js";
 import { showFault, showOthers, showReasons, showVerdict } from "./verdict.js";
 import { View } from "./view.js";
-import { askedFile, fromAddress, inAddress, textOf, understood, windowIn } from "./window.js";
+import { inAddress, ofAddress, textOf, understood, windowIn } from "./window.js";
 
 const STRIP_LINES = 4, STEP = 1.5;
 // On a narrow screen a line has fewer bytes, and explanations are folded.
@@ -22,7 +22,8 @@ const NARROW = 640, WIDE_LINE = 16, NARROW_LINE = 8;
 // How long the map keeps the colours of the last window before it dims them, in milliseconds.
 const KEPT = 150;
 const NO_PLACE = "Point at the map, or tap it, for coordinates.";
-const state = { run: 0, name: "", strip: null, refused: null, told: null, claims: null };
+// `wish` is the window that the address asked for, until its file is opened.
+const state = { run: 0, name: "", strip: null, refused: null, told: null, claims: null, wish: ofAddress() };
 // The last window that was asked for, and of which windows the parts of the page are, by their numbers.
 const windows = { asked: 0, text: "", scanning: false, next: false, scanned: 0, spread: 0 };
 // What tests wait for: that the page has answered all that it was asked.
@@ -105,7 +106,7 @@ function freshen() {
   const last = $("printed").dataset.window;
   $("waiting").textContent = isStale && windows.text ? `Scanning ${windows.text}.${last ? " What is dimmed is of the window before." : ""}` : "";
   clearTimeout(windows.dims);
-  if (!isStale) map.stale(false);
+  if (!isStale || !windows.text) map.stale(false);
   else windows.dims = setTimeout(() => map.stale(true), KEPT);
 }
 
@@ -209,6 +210,7 @@ const TOLD = {
     // Of a refused layer the map alone is shown, and an empty file has nothing to show.
     $("certified").hidden = !rows && !wrong?.length;
     $("certified").classList.toggle("refused", !!wrong);
+    $("asked").textContent = wrong ? "Where it is on the map" : "Ask for a part of the map";
     if (!wrong) $("tight").textContent = "Looking.";
     results.showSample(picture, rows, vertices);
     map.show(picture, wholeOf(extent, picture, wrong), wrong);
@@ -277,6 +279,15 @@ worker.onmessage = ({ data }) => {
 };
 worker.onerror = (event) => failed(`Not checked: ${event.message}`);
 
+// Types the window that the address asks for, where it is of this file.
+function takeWish() {
+  const { text, file } = state.wish;
+  if (!text || (file !== undefined && file !== state.name)) return false;
+  $("text").value = text;
+  state.wish = {};
+  return true;
+}
+
 // What the map shows at first: as far as the vertices reach, or the boxes where there are none, and the wrong blob.
 function wholeOf(extent, { boxes }, wrong) {
   const whole = [Infinity, Infinity, -Infinity, -Infinity];
@@ -289,12 +300,9 @@ function wholeOf(extent, { boxes }, wrong) {
 // The window of the address, where it is of this file, or one round the vertex that is nearest to the middle, so that it has a hit. A
 // layer that is a line or a point has no size: then the window is as large as the view asks for.
 async function firstWindow(rows) {
-  const { run } = state, wish = fromAddress(state.name);
+  const { run } = state;
   settle("scan", WORKING);
-  if (wish && rows) {
-    $("text").value = wish;
-    return scan();
-  }
+  if (rows && takeWish()) return scan();
   const part = map.whole, isFlat = part[0] === part[2] || part[1] === part[3], [x0, y0, x1, y1] = isFlat ? map.view.seen : part;
   const vertex = await map.vertexNear([(x0 + x1) / 2, (y0 + y1) / 2]);
   if (run === state.run) map.drag(windowIn([x0, y0, x1, y1], vertex ?? undefined));
@@ -356,8 +364,12 @@ function wire() {
   wireMap();
   $("at").textContent = NO_PLACE;
   $("about").open = innerWidth >= NARROW;
-  const wish = askedFile();
-  if (wish) $("asks").textContent = `The address asks for ${wish}.`;
+  const { text, file } = state.wish;
+  if (text && file) $("asks").textContent = `The address asks for ${text} of ${file}.`;
+  addEventListener("hashchange", () => {
+    state.wish = ofAddress();
+    if (state.claims && takeWish()) scan();
+  });
   document.addEventListener("keydown", (event) => {
     if (event.key === "Escape" && map.chosen) pick(null, false);
   });

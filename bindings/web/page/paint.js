@@ -46,7 +46,7 @@ export class Painter {
   shapes({ bitmap, view: { x, y, scale, wide, high } }) {
     const { view, pen } = this, by = view.scale / scale, ratio = devicePixelRatio || 1;
     // Pixel by pixel, where nothing moved.
-    if (by === 1 && x === view.x && y === view.y) pen.drawImage(bitmap, 0, 0, bitmap.width / ratio, bitmap.height / ratio);
+    if (by === 1 && x === view.x && y === view.y && wide === view.wide && high === view.high) pen.drawImage(bitmap, 0, 0, bitmap.width / ratio, bitmap.height / ratio);
     else pen.drawImage(bitmap, view.px(x - wide / 2 / scale), view.py(y + high / 2 / scale), wide * by, high * by);
   }
 

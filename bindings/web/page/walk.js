@@ -173,7 +173,8 @@ export function* looseIn(bytes, at) {
   const found = [];
   const geometry = (of) => {
     if (!of.box || !of.vertices) return;
-    for (const axis of of.axes) {
+    // A member may lack an axis of the box.
+    for (const axis of of.axes.filter((one) => of.low[one] !== undefined)) {
       const step = inUnits(1, of.precisions[axis]), [low, high] = of.box[axis];
       const sides = [minus(of.low[axis], low), minus(high, of.high[axis])];
       sides.forEach((beyond, side) => beyond >= step && found.push({ of, axis, side, beyond }));

@@ -101,23 +101,11 @@ export function inAddress(text, name) {
 }
 
 // The window of the address and its file, where they can be read.
-function ofAddress() {
+export function ofAddress() {
   try {
     const [text, file] = location.hash.slice(1).split("&file=").map(decodeURIComponent);
     return { text: understood(text).text, file };
   } catch {
     return {};
   }
-}
-
-// The window of the address, or null where it is of another file.
-export function fromAddress(name) {
-  const { text, file } = ofAddress();
-  return text && (file === undefined || file === name) ? text : null;
-}
-
-// What the address asks for, or null.
-export function askedFile() {
-  const { text, file } = ofAddress();
-  return text && file ? `${text} of ${file}` : null;
 }
