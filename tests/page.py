@@ -28,7 +28,7 @@ from page_answers import ANSWERS, printed
 from page_between import BETWEEN, in_slices
 from page_focus import FOCUS
 from page_moves import LINES, dragged, zoomed
-from page_screens import SCREENS, WIDTHS, WORLD, pictures
+from page_screens import SCREENS, WIDTHS, WORLD, forced, pictures
 from page_truths import TRUTHS, many_blobs
 from page_uses import USES
 from png import shrunk
@@ -264,6 +264,14 @@ def screens(Browser, page, program, folder):
             browser.close()
 
 
+def with_forced_colours(Browser, page, program, folder):
+    browser = Browser(forced=True)
+    try:
+        tried(forced, Driven(browser, page, program, folder, "forced colours"))
+    finally:
+        browser.close()
+
+
 def drive(Browser, page, program, folder, picture):
     browser = Browser()
     try:
@@ -336,6 +344,7 @@ def all_of(Browser, page, program, asked):
         if not asked.screens:
             drive(Browser, *paths, asked.picture)
         screens(Browser, *paths)
+        with_forced_colours(Browser, *paths)
     return counts
 
 

@@ -270,6 +270,21 @@ def contrasts(page):
             count(page.name(f"{name}: shapes of {legend}"), (len(shapes) > 2, len(set(shapes))), (True, len(shapes)))
 
 
+def forced(page):
+    """With colours that the system forces, marks still differ and are seen."""
+    count(page.name("colours are forced"), page.run('matchMedia("(forced-colors: active)").matches'), True)
+    page.drop(WORLD, example(WORLD))
+    page.scan("x=10..30,y=35..45")
+    page.run('$("pen").click()')
+    count(page.name("texts and marks"), page.run("[...faint(), ...faintMarks()]"), [])
+    for canvas in ("map", "strip"):
+        got = page.run(f'faintPixels("{canvas}")')
+        count(page.name(f"marks on {canvas}: {got}"), (got["faint"], got["marks"] >= 2), ([], True))
+    grounds = page.run('["pen", "in"].map((id) => getComputedStyle($(id)).backgroundColor)')
+    count(page.name("a pressed button is seen"), grounds[0] != grounds[1], True)
+    page.picture(f"forced-{page.browser.name}", '$("verdict")')
+
+
 def at_once(page):
     """Two files that are dropped at once are refused, and the layer that is shown stays."""
     page.drop("first.twkb", bytes.fromhex("01000204"))
