@@ -215,7 +215,7 @@ const colourOf = (name) => {
 
 // How the marks of a legend look where colours aren't seen: their sizes, patterns and borders.
 window.shapesOf = (legend) =>
-  [...document.querySelectorAll(`${legend} i`)].map((at) => {
+  [...document.querySelectorAll(`${legend} i`)].filter((at) => at.checkVisibility()).map((at) => {
     const { width, height, borderRadius, borderTopStyle, borderTopWidth, backgroundImage } = getComputedStyle(at);
     const pattern = backgroundImage.replace(/(?:rgba?|color)\([^)]*\)/g, "");
     return [width, height, borderRadius, borderTopStyle, borderTopWidth, pattern].join(" ");

@@ -60,7 +60,7 @@ def loose_boxes(page):
 
 def samples(page):
     """The map of a layer that is too large for it shows how far all of it reaches, and every hit."""
-    near, far = (bytes([2, 0]) + long_line(200_000, start, start + 9) for start in (0, 1000))
+    near, far = (bytes([2, 0]) + long_line(200_000, start, end) for start, end in ((0, 9), (500, 1000)))
     page.drop("sample.twkb", near + far)
     page.scan("x=990..1020,y=990..1020")
     page.run('($("fit").click(), null)')

@@ -6,7 +6,7 @@ import { COLLECTION, EMPTY, REFUSED, UNITS } from "./format.js";
 import { Fields, shown } from "./fields.js";
 import { many, ofUnits } from "./numbers.js";
 import { HEADER, HIT, HOPPED, READ } from "./states.js";
-import { looseIn, partsOf, survey, Walk } from "./walk.js";
+import { boxOf, looseIn, partsOf, precisionOf, survey, Walk } from "./walk.js";
 
 // The most rows that are kept, and the most vertices that are drawn.
 const MOST_ROWS = 1 << 22, MOST_DRAWN = 300000;
@@ -15,6 +15,9 @@ const RUN = 4096, LOOSEST = 8, MOST_LOOSE = 2000;
 const MOST_FIELDS = 60;
 
 class Enough extends Error {}
+
+// Lowest X and Y, then highest, of ends in units.
+const asDoubles = (low, high) => [low[0], low[1], high[0], high[1]].map((end) => Number(end) / UNITS);
 
 export class Layer {
   // The blobs of the library's bytes up to a length.
@@ -112,7 +115,7 @@ export class Layer {
       picture.of.push(i);
       used = Math.min(used + count, end);
     });
-    if (box) picture.boxes.set(box.map((end) => Number(end) / UNITS), 4 * i);
+    if (box) picture.boxes.set(asDoubles(...[0, 1].map((end) => box.map((range) => range[end]))), 4 * i);
     return used;
   }
 
@@ -186,7 +189,7 @@ export class Layer {
     for (let k = 0; k < this.rows && found < MOST_LOOSE; k++) {
       if (this.library.certify(true, this.offset[k], this.bytes[k]).answer === REFUSED) {
         found++;
-        const boxes = yield* looseIn(this.library.bytes, this.offset[k]);
+        const boxes = looseIn(this.library.bytes, this.offset[k]);
         sized += boxes.some(({ of }) => of.size !== null);
         if (boxes.length) loosest.push({ blob: k, ...boxes.reduce((one, other) => (other.beyond > one.beyond ? other : one)) });
         loosest.sort((one, other) => (other.beyond > one.beyond ? 1 : other.beyond < one.beyond ? -1 : one.blob - other.blob));
@@ -198,19 +201,19 @@ export class Layer {
   }
 
   // How loose a box is, as exact texts: on the axis where it reaches furthest beyond its vertices. Proved scans confirm where those end.
-  looseness({ blob, of, axis, beyond }) {
-    const told = this.library.certify(false, of.from, of.end - of.from), precision = of.precisions[axis];
+  looseness({ blob, of, axis, box, beyond }) {
+    const told = this.library.certify(false, of.from, of.end - of.from), precision = precisionOf(of, axis);
     this.library.choose(of.from, of.end - of.from, 1, told.vertices);
     const ends = this.confirmed(axis, of.low[axis], of.high[axis]), text = (end) => ofUnits(end, precision);
-    return { blob, kind: of.kind, depth: of.depth, offset: of.from, axis, box: of.box[axis].map(text), extent: ends.map(text), beyond: text(beyond) };
+    return { blob, kind: of.kind, depth: of.depth, offset: of.from, axis, box: box[axis].map(text), extent: ends.map(text), beyond: text(beyond) };
   }
 
   // What is shown of one blob: its box and how far its vertices reach, as doubles for the map, and its first fields.
-  *picked(k) {
-    const { bytes } = this.library, of = yield* new Walk(bytes, this.offset[k], { geometry() {} }).geometry();
-    const ends = (low, high) => (low[0] === undefined ? null : [low[0], low[1], high[0], high[1]].map((end) => Number(end) / UNITS));
-    const box = of.box && ends(...[0, 1].map((end) => of.box.map((range) => range[end])));
-    return { ...this.row(k), box, extent: ends(of.low, of.high), ...this.fields(k) };
+  picked(k) {
+    const { bytes } = this.library, of = new Walk(bytes, this.offset[k], { geometry() {} }).geometry();
+    const ranges = of.boxAt === null ? null : boxOf(bytes, of);
+    const box = ranges && asDoubles(...[0, 1].map((end) => ranges.map((range) => range[end]))), extent = of.vertices ? asDoubles(of.low, of.high) : null;
+    return { ...this.row(k), box, extent, ...this.fields(k) };
   }
 
   fields(k) {

@@ -69,9 +69,11 @@ export function ofUnits(units, precision) {
   return kept ? `${whole}.${kept}` : whole.replace(/^-0$/, "0");
 }
 
+const POWERS = Array.from({ length: 16 }, (_, power) => 10 ** power);
+
 export function inUnits(number, precision) {
-  const product = typeof number === "number" ? number * 10 ** (UNIT_DIGITS - precision) : NaN;
-  return Number.isSafeInteger(product) ? product : exact(BigInt(number) * 10n ** BigInt(UNIT_DIGITS - precision));
+  const power = POWERS[UNIT_DIGITS - precision], product = typeof number === "number" ? number * power : NaN;
+  return Number.isSafeInteger(product) ? product : exact(BigInt(number) * BigInt(power));
 }
 
 export const number = (n) => n.toLocaleString("en");

@@ -69,7 +69,6 @@ export const STAGES = {
   certifying: "Checking every claim",
   decoding: "Decoding the file",
   surveying: "Counting the claims",
-  picking: "Looking at a blob",
   explaining: "Looking at the place",
   listing: "Listing the blobs",
   drawing: "Drawing the map",

@@ -241,8 +241,7 @@ const ANSWERS = {
   },
   // What the map and the table show of one blob.
   async pick({ blob, order }) {
-    const mine = run, of = layer, position = of.position(blob, order);
-    tell({ tell: "picked", ...(await inSlices(of.picked(blob), "picking", () => run === mine)), position });
+    tell({ tell: "picked", ...layer.picked(blob), position: layer.position(blob, order) });
   },
 };
 
