@@ -32,7 +32,7 @@ help:
 	@echo 'make uninstall-library  remove them'
 	@echo 'make bindings   build the library, and test calls from C, Rust and Python'
 	@echo 'make web        build the module for web pages, and compare it with the library (needs wasm-opt and node)'
-	@echo 'make page       build the page that checks a layer in a browser: $(PAGE) (needs wasm-opt)'
+	@echo 'make page       build the page that checks a layer in a browser: $(PAGE) (needs wasm-opt and esbuild)'
 	@echo 'make dist       pack what `make build library page` built: build/dozhemik-VERSION-x86_64-linux.tar.gz'
 	@echo 'make bench      build, and compare with other programs in Rust on 40 MB (needs rustc; valgrind counts instructions)'
 	@echo 'make callers    build, and compare calls from C, Rust and Python with the program on 40 MB'

@@ -14,6 +14,7 @@ import functools
 import gzip
 import os
 import re
+import shutil
 import subprocess
 import sys
 
@@ -65,9 +66,11 @@ def commit():
     return head[:COMMIT_LETTERS] if os.path.realpath(top) == os.path.realpath(TOP) else "unknown"
 
 
-def short(*words, source=None):
+def short(*words):
     """What esbuild makes of a script or a style."""
-    done = subprocess.run(["esbuild", *words, "--minify", f"--target={TARGET}"], input=source, stdout=subprocess.PIPE, cwd=PAGE, check=True)
+    if not shutil.which("esbuild"):
+        raise SystemExit("esbuild is missing: apt-get install esbuild")
+    done = subprocess.run(["esbuild", *words, "--minify", f"--target={TARGET}"], stdout=subprocess.PIPE, cwd=PAGE, check=True)
     return done.stdout.strip()
 
 
