@@ -33,6 +33,9 @@ def another_window(page):
     page.wait("isHeld() && frame().isStale")
     count(page.name("the sentence alone is new"), stale(page), EACH_BLOB)
     has(page, "the sentence alone is new", page.run('$("scanned").textContent'), "x=0..10,y=0..10")
+    page.run('(letGo(), holdBack("rows"))')
+    page.wait("isSettled() && isHeld()")
+    count(page.name("all but the rows is new"), stale(page), ["list"])
     page.run("letGo()")
     page.wait("isSettled()")
     count(page.name("all is new"), stale(page), [])
@@ -52,6 +55,8 @@ def another_layer(page):
     rows = page.run('["sums", "list", "loosest"].map((id) => $(id).tBodies[0].rows.length)')
     shares = page.run('[...document.querySelectorAll("#shared span")].map((at) => at.textContent).join("")')
     count(page.name("another layer: no rows and no shares of the last one"), (rows, shares), ([0, 0, 0], ""))
+    marks = page.run('["hit", "read", "header", "hopped"].map((name) => pixelsOf("strip", name))')
+    count(page.name("another layer: nothing on the strip"), marks, [0, 0, 0, 0])
     page.run("letGo()")
     page.wait("isSettled()")
 

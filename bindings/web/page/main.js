@@ -25,7 +25,7 @@ const NO_PLACE = "Point at the map, or tap it, for coordinates.";
 // `wish` is the window that the address asked for, until its file is opened.
 const state = { run: 0, name: "", strip: null, refused: null, told: null, claims: null, wish: ofAddress() };
 // The last window that was asked for, and of which windows the parts of the page are, by their numbers.
-const windows = { asked: 0, text: "", scanning: false, next: false, scanned: 0, spread: 0 };
+const windows = { asked: 0, text: "", scanning: false, next: false, scanned: 0, spread: 0, rows: 0 };
 // What tests wait for: that the page has answered all that it was asked.
 const settle = (what, where) => (document.documentElement.dataset[what] = where);
 
@@ -96,17 +96,15 @@ function refuse(why) {
 
 // Dims and marks all that is of another window than the one that was asked for last, and nothing else.
 function freshen() {
-  let isStale = false;
   for (const at of document.querySelectorAll("[data-of]")) {
     const isOld = windows[at.dataset.of] !== windows.asked;
     at.classList.toggle("stale", isOld);
     at.setAttribute("aria-busy", String(isOld));
-    isStale ||= isOld;
   }
-  const last = $("printed").dataset.window;
-  $("waiting").textContent = isStale && windows.text ? `Scanning ${windows.text}.${last ? " What is dimmed is of the window before." : ""}` : "";
+  const last = $("printed").dataset.window, isStale = windows.text && windows.spread !== windows.asked;
+  $("waiting").textContent = isStale ? `Scanning ${windows.text}.${last ? " What is dimmed is of the window before." : ""}` : "";
   clearTimeout(windows.dims);
-  if (!isStale || !windows.text) map.stale(false);
+  if (!isStale) map.stale(false);
   else windows.dims = setTimeout(() => map.stale(true), KEPT);
 }
 
@@ -244,7 +242,9 @@ const TOLD = {
     scanned();
   },
   coloured({ number, state: colours }) {
-    if (number === windows.asked) map.recolour(colours, null);
+    if (number !== windows.asked) return;
+    clearTimeout(windows.dims);
+    map.recolour(colours, null);
   },
   spread({ number, ...told }) {
     if (number !== windows.scanned) return;
@@ -261,6 +261,8 @@ const TOLD = {
   },
   rows: (told) => {
     table.show(told);
+    windows.rows = told.number;
+    freshen();
     settle("pick", DONE);
   },
   picked(told) {

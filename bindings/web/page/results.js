@@ -15,6 +15,7 @@ export function clearResults() {
   for (const part of document.querySelectorAll("#shares [data-share]")) part.style.flexGrow = 0;
   for (const text of document.querySelectorAll("#shared span")) text.textContent = "";
   delete $("printed").dataset.window;
+  $("strip").width = 1;
   $("loose").hidden = true;
 }
 

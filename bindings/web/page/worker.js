@@ -212,6 +212,8 @@ async function scan({ text, number }) {
   asked = number;
   const of = layer, mine = run;
   const { hits, read, first } = of.scan(SHOWN_HITS);
+  // While blobs are scanned their states are of two windows.
+  of.window = 0;
   const answer = { number, text, ends: window.ends, hits, read, first, length: of.length };
   tell({ tell: "scanned", ...answer });
   const stays = () => asked === number && run === mine;
@@ -223,6 +225,7 @@ async function scan({ text, number }) {
     tell({ tell: "coloured", number, state: drawn() });
   }
   await inSlices(of.spread(1), "spreading", stays);
+  of.window = number;
   const { blobs, left } = of.drawHits(), more = blobs.length ? await inSlices(of.pictured(blobs, 1), "drawing", stays) : null;
   const told = { ...of.sums(), strip: of.strip(CELLS), rows: of.rows, blobs: of.blobs };
   tell({ tell: "spread", number, state: drawn(), more, left, ...told }, more ? buffersOf(more) : []);
@@ -237,7 +240,7 @@ const ANSWERS = {
   open,
   scan,
   async rows(wish) {
-    tell({ tell: "rows", wish, rows: layer.page(wish), total: layer.rows, blobs: layer.blobs });
+    tell({ tell: "rows", wish, number: layer.window, rows: layer.page(wish), total: layer.rows, blobs: layer.blobs });
   },
   // What the map and the table show of one blob.
   async pick({ blob, order }) {
