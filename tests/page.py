@@ -230,10 +230,10 @@ def dark(page, light):
 
 def for_readme(page):
     """The picture that README shows."""
-    page.browser.size(900, 1072)
+    page.browser.size(1280, 900)
     page.open(os.path.join(TOP, "examples", WORLD))
     page.scan("x=100..140,y=-10..10")
-    path = page.picture("readme", '$("verdict")')
+    path = page.picture("readme")
     page.browser.size(1000, 900)
     return path
 

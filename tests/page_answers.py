@@ -216,7 +216,7 @@ def places(page):
     """Where a file is wrong, and how long it is."""
     wrong = "blob number 0 (counted from 0) is wrong at offset"
     has(page, "a cut", said(page, bytes.fromhex("010002")), f"{wrong} 3 (0x3), where the file ends.")
-    has(page, "a box", said(page, bytes.fromhex("020309020602080202020808")), f"{wrong} 3 (0x3) (the file has 12 bytes).")
+    has(page, "a box", said(page, bytes.fromhex("020309020602080202020808")), f"{wrong} 3 (0x3) of 12 bytes.")
 
 
 def lacking_axes(page):

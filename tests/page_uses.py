@@ -120,8 +120,8 @@ def addresses(page):
     """The window is in the address, with the file's name, and is the first one when that file is opened."""
     page.drop("lines.twkb", example(LINES))
     page.scan("x=10..30,y=35..45")
-    kept = page.run("location.hash")
-    count(page.name("the address"), kept, "#x=10..30,y=35..45&file=lines.twkb")
+    kept = "#x=10..30,y=35..45&file=lines.twkb"
+    page.wait(f"location.hash === {kept!r}")
     page.drop("other.twkb", example(LINES))
     count(page.name("another file has a window of its own"), page.run('$("text").value') != "x=10..30,y=35..45", True)
     page.reload(kept)

@@ -19,7 +19,8 @@ import { inAddress, ofAddress, textOf, understood, windowIn } from "./window.js"
 const STRIP_LINES = 4, STEP = 1.5;
 // On a narrow screen a line has fewer bytes, and explanations are folded.
 const NARROW = 640, WIDE_LINE = 16, NARROW_LINE = 8;
-// How long the map keeps the colours of the last window before it dims them, in milliseconds.
+// How long the map keeps the colours of the last window before it dims them, and how long the address keeps that window, in milliseconds:
+// browsers let an address change so often only.
 const KEPT = 150;
 const NO_PLACE = "Point at the map, or tap it, for coordinates.";
 // `wish` is the window that the address asked for, until its file is opened.
@@ -48,6 +49,7 @@ function open(file) {
   state.run++;
   Object.assign(state, { name: file.name, strip: null, refused: null, told: null, claims: null });
   Object.assign(windows, { asked: windows.asked + 1, text: "", scanning: false, next: false });
+  clearTimeout(windows.writes);
   settle("run", state.run);
   settle("state", WORKING);
   settle("scan", NONE);
@@ -238,7 +240,8 @@ const TOLD = {
     windows.scanned = told.number;
     freshen();
     if (!windows.next && told.text === $("text").value.trim()) map.setWindow(told.ends, told.text);
-    inAddress(told.text, state.name);
+    clearTimeout(windows.writes);
+    windows.writes = setTimeout(() => inAddress(told.text, state.name), KEPT);
     scanned();
   },
   coloured({ number, state: colours }) {

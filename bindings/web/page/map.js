@@ -9,6 +9,8 @@ const NEAR = 7, TOUCH_NEAR = 16, STEP = 0.1, ZOOM = 1.5;
 const STILL = 4;
 const ARROWS = { ArrowLeft: [-1, 0], ArrowRight: [1, 0], ArrowUp: [0, 1], ArrowDown: [0, -1] };
 const FINGER = "touch";
+// What of a picture is moved to the painter, and not copied.
+const buffersOf = ({ blobs, boxes, from, shape, of, xy }) => [blobs, boxes, from, shape, of, xy].map((one) => one.buffer);
 
 export class LayerMap {
   // `told` has three functions: `window(ends, pixel)` gets each window that is dragged, `pick(blob)` each shape that is clicked, and
@@ -35,7 +37,7 @@ export class LayerMap {
 
   // Shows a picture, whose buffers go to the painter. `whole` is how far all vertices of the layer reach.
   show(picture, whole, wrong) {
-    this.ask({ ask: "picture", picture, wrong }, [picture.xy.buffer]);
+    this.ask({ ask: "picture", picture, wrong }, buffersOf(picture));
     Object.assign(this, { whole, window: null, chosen: null, before: null, isStale: false });
     this.painted = null;
     this.view.begin(whole);
@@ -44,7 +46,7 @@ export class LayerMap {
 
   // The states of the blobs that are drawn, and the hits that a sample lacks.
   recolour(state, more) {
-    this.ask({ ask: "more", state, more });
+    this.ask({ ask: "more", state, more }, more ? buffersOf(more) : []);
     this.stale(false);
   }
 

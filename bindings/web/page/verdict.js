@@ -45,10 +45,10 @@ function lacks(blobs, what) {
 }
 
 // A file of another format is named first: it has no sizes and no types to talk about.
-function refused({ verdict, length, looksLike }, name) {
+function refused({ verdict, length, looksLike, decoded }, name) {
   const { kind, blob, offset } = verdict;
   if (looksLike) return [`Not TWKB: this looks like ${looksLike.what}.`, ...(looksLike.how ? [looksLike.how] : [])];
-  const ends = offset < length ? ` (the file has ${many(length, "byte")})` : ", where the file ends";
+  const ends = offset < length ? ` of ${many(length, decoded.length ? "decoded byte" : "byte")}` : ", where the file ends";
   return [`Refused: ${KINDS[kind].short}.`, `The first fault in ${name}: blob number ${number(blob)} (counted from 0) is wrong at offset ${number(offset)} (${hex(offset)})${ends}.`];
 }
 
