@@ -30,7 +30,7 @@ from page_focus import FOCUS
 from page_moves import LINES, dragged, zoomed
 from page_screens import SCREENS, WIDTHS, WORLD, forced, pictures
 from page_truths import TRUTHS, many_blobs
-from page_uses import USES
+from page_uses import ONCE, USES
 from png import shrunk
 from widened import widened
 
@@ -256,7 +256,7 @@ def screens(Browser, page, program, folder):
                 start = time.monotonic()
                 browser.size(width, height)
                 driven = Driven(browser, page, program, folder, f"{width} px, {'dark' if dark else 'light'}")
-                for part in (*SCREENS, *ANSWERS, *FOCUS, *TRUTHS, *USES, *BETWEEN):
+                for part in (*SCREENS, *ANSWERS, *FOCUS, *USES, *BETWEEN):
                     tried(part, driven)
                 pictures(driven, f"{width}-{'dark' if dark else 'light'}")
                 print(f"{driven.name('screens')}, {time.monotonic() - start:.0f} s", flush=True)
@@ -276,9 +276,10 @@ def drive(Browser, page, program, folder, picture):
     browser = Browser()
     try:
         driven = Driven(browser, page, program, folder)
-        for part in (cases, examples, inside, dragged, zoomed, no_layers, loose, sorting, closed, large, in_slices, many_blobs):
+        parts = [cases, examples, inside, dragged, zoomed, no_layers, loose, sorting, closed, *TRUTHS, *ONCE, large, in_slices, many_blobs]
+        for part in parts:
             start = time.monotonic()
-            part(driven)
+            tried(part, driven)
             print(f"{browser.name}: {part.__name__}, {time.monotonic() - start:.0f} s", flush=True)
         driven.reload()
         looks(driven, "light")

@@ -76,8 +76,7 @@ def scrolled(page):
         page.drop("lines.twkb", lines)
         page.run("scrollTo(0, 1500)")
         page.drop("layer.twkb", layer)
-        page.run("new Promise((resume) => setTimeout(() => resume(null), 100))")
-        count(page.name(f"{name}, from below: the verdict is in view"), page.run('isInView($("verdict"))'), True)
+        page.wait('isInView($("verdict"))')
 
 
 def known(page):
@@ -137,7 +136,8 @@ def fingers(page):
     count(page.name("two fingers zoom"), page.run("frame().text"), frame["text"])
     if page.run("innerWidth") < NARROW:
         page.run('$("finger").click()')
-        page.run('($("fit").click(), new Promise((resume) => setTimeout(() => resume(null), 100)))')
+        page.run('$("fit").click()')
+        page.wait('$("map").dataset.painted === "yes"')
         before = page.run("frame().corners")
         left = page.run("frame().x") + 20
         page.browser.swipe([(left, y + 5 * i) for i in range(9)])

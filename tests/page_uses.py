@@ -179,4 +179,6 @@ def zoomed_page(page):
     count(page.name("headings of less than 24 px"), low, 0)
 
 
-USES = [wheels, decoded, faults, one_screen, clicks, addresses, typed, not_checked, zoomed_page]
+# What is tried on each screen, and what looks no different on another one.
+USES = [wheels, faults, one_screen, clicks, zoomed_page]
+ONCE = [decoded, addresses, typed, not_checked]

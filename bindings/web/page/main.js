@@ -20,13 +20,13 @@ const STRIP_LINES = 4, STEP = 1.5;
 // On a narrow screen a line has fewer bytes, and explanations are folded.
 const NARROW = 640, WIDE_LINE = 16, NARROW_LINE = 8;
 // How long the map keeps the colours of the last window before it dims them, and how long the address keeps that window, in milliseconds:
-// browsers let an address change so often only.
+// a browser doesn't let an address change for each step of a drag.
 const KEPT = 150;
 const NO_PLACE = "Point at the map, or tap it, for coordinates.";
 // `wish` is the window that the address asked for, until its file is opened.
 const state = { run: 0, name: "", strip: null, refused: null, told: null, claims: null, wish: ofAddress() };
 // The last window that was asked for, and of which windows the parts of the page are, by their numbers.
-const windows = { asked: 0, text: "", scanning: false, next: false, scanned: 0, spread: 0, rows: 0 };
+const windows = { asked: 0, text: "", scanning: false, next: false, scanned: 0, coloured: 0, spread: 0, rows: 0 };
 // What tests wait for: that the page has answered all that it was asked.
 const settle = (what, where) => (document.documentElement.dataset[what] = where);
 
@@ -103,11 +103,17 @@ function freshen() {
     at.classList.toggle("stale", isOld);
     at.setAttribute("aria-busy", String(isOld));
   }
-  const last = $("printed").dataset.window, isStale = windows.text && windows.spread !== windows.asked;
-  $("waiting").textContent = isStale ? `Scanning ${windows.text}.${last ? " What is dimmed is of the window before." : ""}` : "";
   clearTimeout(windows.dims);
-  if (!isStale) map.stale(false);
-  else windows.dims = setTimeout(() => map.stale(true), KEPT);
+  if (windows.text && windows.spread !== windows.asked) return void (windows.dims = setTimeout(dim, KEPT));
+  $("waiting").textContent = "";
+  map.stale(false);
+}
+
+// A scan that takes a while is told of.
+function dim() {
+  const last = $("printed").dataset.window;
+  $("waiting").textContent = `Scanning ${windows.text}.${last ? " What is dimmed is of the window before." : ""}`;
+  if (windows.coloured !== windows.asked) map.stale(true);
 }
 
 // Picks a blob, by a click on its shape or in a table. From a table the map comes into view.
@@ -246,14 +252,14 @@ const TOLD = {
   },
   coloured({ number, state: colours }) {
     if (number !== windows.asked) return;
-    clearTimeout(windows.dims);
+    windows.coloured = number;
     map.recolour(colours, null);
   },
   spread({ number, ...told }) {
     if (number !== windows.scanned) return;
     results.showSums(told);
     results.showLeft(told.left);
-    windows.spread = number;
+    windows.spread = windows.coloured = number;
     freshen();
     map.recolour(told.state, told.more);
     state.strip = told.strip;
