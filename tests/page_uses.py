@@ -52,7 +52,7 @@ def decoded(page):
         ("base64", base64.encodebytes(layer), "base64 text", "base64 -d"),
         ("rows of base64", base64_rows(layer), "base64 text", "base64 -d"),
         ("gzip", gzip.compress(layer), "gzip data", "gunzip"),
-        ("gzip of rows", gzip.compress(psql_rows(layer)), "gzip data", "hexadecimal text of rows"),
+        ("gzip of rows", gzip.compress(psql_rows(layer)), "gzip data", "What is inside is hexadecimal text of rows"),
     ]
     for name, data, what, how in tried:
         text = said(page, data, "other.bin")

@@ -112,7 +112,7 @@ function freshen() {
 // A scan that takes a while is told of.
 function dim() {
   const last = $("printed").dataset.window;
-  $("waiting").textContent = `Scanning ${windows.text}.${last ? " What is dimmed is of the window before." : ""}`;
+  $("waiting").textContent = `Scanning.${last ? " Dimmed: the last window." : ""}`;
   if (windows.coloured !== windows.asked) map.stale(true);
 }
 
@@ -151,6 +151,7 @@ function finished() {
 function failed(text) {
   finished();
   showFault(text);
+  $("chooser").open = true;
   toVerdict();
   settle("state", DONE);
 }

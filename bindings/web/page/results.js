@@ -119,7 +119,8 @@ export function showSample({ every, blobs, vertices }, rows, all) {
   $("sample").textContent = isWhole ? `${many(blobs.length, "blob")}, ${many(vertices, "vertex")} drawn.` : `This layer has more than the map can show. The map draws ${some}, and every hit. Hits and bytes are counted over all.`;
 }
 
-// Hits beyond what the map has room for.
+// How many hits the map of a sample has no room for.
 export function showLeft(left) {
-  if (left) $("sample").textContent = $("sample").textContent.replace(/and (?:every hit|all but [\d,]+ of the hits)\./, `and all but ${number(left)} of the hits.`);
+  const drawn = left ? `all but ${number(left)} of the hits` : "every hit";
+  $("sample").textContent = $("sample").textContent.replace(/(?<=, and )(?:every hit|all but [\d,]+ of the hits)/, drawn);
 }

@@ -16,7 +16,7 @@ export function showVerdict(told, name, claims) {
   const first = element("p"), printed = element("p");
   first.append(element("strong", title));
   printed.append(decoded.length ? "As the program prints it of the decoded bytes: " : "As the program prints it: ", element("code", line(verdict)));
-  box.replaceChildren(first, ...[...decoded.map((one) => decodedFrom(one, name)), ...sentences].map(withCode), printed);
+  box.replaceChildren(first, ...[...decoded.map((one, i) => decodedFrom(one, i ? "What is inside" : name)), ...sentences].map(withCode), printed);
   box.lastChild.id = "line";
 }
 
