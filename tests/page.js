@@ -16,8 +16,8 @@ Worker.prototype.postMessage = function (...words) {
     const take = this.onmessage;
     known.add(this);
     this.onmessage = (event) => {
-      const { tell, stage } = event.data;
-      told.push({ tell, stage });
+      const { tell, stage, run } = event.data;
+      told.push({ tell, stage, run });
       if (slow.includes(tell)) kept.push(() => take.call(this, event));
       else take.call(this, event);
     };

@@ -1,4 +1,6 @@
 """What the page shows between a question and its answer, while a worker's answers are kept back."""
+import base64
+
 from harness import count
 from page_answers import POINT, example, has, signed, varint
 
@@ -62,6 +64,17 @@ def another_layer(page):
     page.wait("isSettled()")
 
 
+def two_at_once(page):
+    """Of two files that are dropped one right after the other, only the last one's verdict is told."""
+    page.run("void (told.length = 0)")
+    drop = 'dropping("{}", "{}")'.format
+    page.run(f'({drop("empty.twkb", "")}, {drop("point.twkb", base64.b64encode(POINT).decode())}, null)')
+    page.wait("isSettled()")
+    last = '(one) => one.tell === "verdict" && one.run === Number(document.documentElement.dataset.run)'
+    count(page.name("verdicts of the last file"), page.run(f"told.filter({last}).length"), 1)
+    has(page, "the last file", page.run('$("verdict").textContent'), "point.twkb has 1 blob")
+
+
 def first_verdict(page):
     """The verdict is there before its claims are counted."""
     page.drop("point.twkb", POINT)
@@ -103,4 +116,4 @@ def in_slices(page):
     count(page.name(f"a long line is looked at in {told} slices"), told > 3, True)
 
 
-BETWEEN = [another_window, another_layer, first_verdict, while_painting]
+BETWEEN = [another_window, another_layer, two_at_once, first_verdict, while_painting]

@@ -44,7 +44,7 @@ def base64_rows(layer):
 def decoded(page):
     """Texts and gzip data that mean a layer are read as that layer, and said to be texts."""
     layer = example(LINES)
-    ok = "ok blobs=1715 vertices=14590"
+    ok, second = "ok blobs=1715 vertices=14590", plain.blobs_of(layer)[1]
     tried = [
         ("hexadecimal", layer.hex().encode(), "hexadecimal text", "xxd -r -p"),
         ("hexadecimal in capitals", layer.hex().upper().encode() + b"\n", "hexadecimal text", "xxd -r -p"),
@@ -57,7 +57,8 @@ def decoded(page):
     for name, data, what, how in tried:
         text = said(page, data, "other.bin")
         has(page, name, text, "Certified: every claim is true.", f"other.bin is {what}, {len(data):,} bytes long.", "This page decoded it.", how, ok)
-        count(page.name(f"{name}: the first blob"), page.run("listed()")[0], plain.rows(layer).splitlines()[0])
+        page.rows()
+        count(page.name(f"{name}: the second blob"), page.run('rowsOf("list")[1].slice(0, 3)'), ["1", f"{second.start:,}", f"{second.stop - second.start:,}"])
     cut = said(page, layer[:-1].hex().encode(), "cut.hex")
     has(page, "hexadecimal of a cut layer", cut, "Refused: the file ends too early", "hexadecimal text", f"offset={len(layer) - 1} kind=cut")
     has(page, "gzip of JSON", said(page, gzip.compress(b'{"type":"Feature"}'), "json.gz"), "Not TWKB: this looks like JSON.", "gzip data")

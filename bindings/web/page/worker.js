@@ -68,9 +68,10 @@ async function stream(file, stays) {
 }
 
 // A stage that is one call: nothing tells how far it is.
-async function stage(name) {
+async function stage(name, stays) {
   tell({ tell: "progress", stage: name });
   await pause();
+  if (!stays()) throw new Dropped();
 }
 
 async function open({ file }) {
@@ -80,9 +81,9 @@ async function open({ file }) {
   await ready;
   if (!stays()) return;
   if (file.size > MOST_BYTES) return tell({ tell: "large", length: file.size });
-  await stage("reading");
+  await stage("reading", stays);
   await read(file, stays);
-  await stage("certifying");
+  await stage("certifying", stays);
   const told = await judge(file.size, stays);
   if (told.verdict.answer === REFUSED) return refuse(told, stays);
   tell({ tell: "verdict", ...told });
@@ -96,6 +97,7 @@ async function judge(length, stays) {
   let looksLike = recognised(library.bytes);
   while (looksLike?.decode && decoded.length < MOST_DECODED) {
     const bytes = await decode(looksLike.decode, stays);
+    if (!stays()) throw new Dropped();
     if (!bytes) break;
     decoded.push({ ...looksLike, length: library.length });
     library.begin(bytes.length);
@@ -110,7 +112,7 @@ async function judge(length, stays) {
 
 // The decoded bytes, or null.
 async function decode(name, stays) {
-  await stage("decoding");
+  await stage("decoding", stays);
   const bytes = library.bytes.slice();
   if (name !== "gzip") return inSlices(DECODERS[name](bytes), "decoding", stays);
   const chunks = [], reader = new Blob([bytes]).stream().pipeThrough(new DecompressionStream("gzip")).getReader();
@@ -131,26 +133,25 @@ async function decode(name, stays) {
 
 // Lists and draws a certified layer, and answers scans from then on.
 async function show(of, stays, wrong = null) {
-  await stage("listing");
+  await stage("listing", stays);
   of.list();
-  if (!stays()) return;
   const told = await inSlices(of.survey(), "surveying", stays);
   tell({ tell: "survey", ...told });
   if (wrong === null) layer = of;
   const picture = await inSlices(of.draw(), "drawing", stays);
   tell({ tell: "picture", picture, rows: of.rows, vertices: of.vertices, extent: told.extent, wrong }, buffersOf(picture));
   if (wrong !== null) return;
-  await tightness(stays, told.claims);
+  await tightness(of, stays, told.claims);
   tell({ tell: "done" });
 }
 
 const buffersOf = ({ blobs, boxes, from, shape, of, xy }) => [blobs, boxes, from, shape, of, xy].map((one) => one.buffer);
 
-async function tightness(stays, claims) {
-  await stage("tight");
+async function tightness(of, stays, claims) {
+  await stage("tight", stays);
   const tight = library.certify(true);
-  const loose = tight.answer === REFUSED ? await inSlices(layer.loose(), "tight", stays) : null;
-  if (stays()) tell({ tell: "tight", tight, loose, claims });
+  const loose = tight.answer === REFUSED ? await inSlices(of.loose(), "tight", stays) : null;
+  tell({ tell: "tight", tight, loose, claims });
 }
 
 // Says what is wrong, shows it on the map after the certified blobs before it, and counts the other wrong blobs as far as blobs have ends.
@@ -158,7 +159,7 @@ async function refuse(told, stays) {
   const { verdict, looksLike } = told, { bytes } = library;
   tell({ tell: "verdict", ...told });
   if (looksLike) return tell({ tell: "done" });
-  await stage("explaining");
+  await stage("explaining", stays);
   const start = await inSlices(startOf(verdict.blob), "explaining", stays);
   const found = await inSlices(reasons(bytes, start, verdict), "explaining", stays);
   const first = Math.max(0, (verdict.offset & ~15) - ROUND);
