@@ -38,6 +38,14 @@ window.dropped = async (name, text) => {
   document.dispatchEvent(new DragEvent("drop", { dataTransfer: moved, cancelable: true }));
   while (!isSettled()) await pause();
 };
+// Drops pairs of files, the second one a little later after the first one each time.
+window.droppedSoon = async (first, second, pairs) => {
+  for (let i = 0; i < pairs; i++) {
+    dropping("first.twkb", first);
+    for (const until = performance.now() + i / 8; performance.now() < until; );
+    await dropped("second.twkb", second);
+  }
+};
 // Drops a file, and doesn't wait.
 window.dropping = (name, text) => void dropped(name, text);
 

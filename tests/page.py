@@ -25,7 +25,7 @@ from browsers import BROWSERS, Failed
 from driven import PICTURES, Driven
 from harness import TOP, count, counts, table, written
 from page_answers import ANSWERS, printed
-from page_between import BETWEEN, in_slices
+from page_between import BETWEEN, in_slices, one_after_another
 from page_focus import FOCUS
 from page_moves import LINES, dragged, zoomed
 from page_screens import SCREENS, WIDTHS, WORLD, forced, pictures
@@ -276,7 +276,8 @@ def drive(Browser, page, program, folder, picture):
     browser = Browser()
     try:
         driven = Driven(browser, page, program, folder)
-        parts = [cases, examples, inside, dragged, zoomed, no_layers, loose, sorting, closed, *TRUTHS, *ONCE, large, in_slices, many_blobs]
+        parts = [cases, examples, inside, dragged, zoomed, no_layers, loose, sorting, closed, *TRUTHS, *ONCE, one_after_another]
+        parts += [large, in_slices, many_blobs]
         for part in parts:
             start = time.monotonic()
             tried(part, driven)

@@ -64,15 +64,22 @@ def another_layer(page):
     page.wait("isSettled()")
 
 
-def two_at_once(page):
-    """Of two files that are dropped one right after the other, only the last one's verdict is told."""
+def one_after_another(page):
+    """Of files that are dropped one soon after the other, whatever the first one's check is at, the last one's verdict alone is told."""
     page.run("void (told.length = 0)")
-    drop = 'dropping("{}", "{}")'.format
-    page.run(f'({drop("empty.twkb", "")}, {drop("point.twkb", base64.b64encode(POINT).decode())}, null)')
-    page.wait("isSettled()")
-    last = '(one) => one.tell === "verdict" && one.run === Number(document.documentElement.dataset.run)'
-    count(page.name("verdicts of the last file"), page.run(f"told.filter({last}).length"), 1)
-    has(page, "the last file", page.run('$("verdict").textContent'), "point.twkb has 1 blob")
+    page.run(f'droppedSoon("{base64.b64encode(example(LINES)).decode()}", "{base64.b64encode(POINT).decode()}", 60)')
+    runs = page.run('told.filter((one) => one.tell === "verdict").map((one) => one.run)')
+    count(page.name(f"runs with two verdicts, of {len(runs)}"), [run for run in set(runs) if runs.count(run) > 1], [])
+
+
+def still(page):
+    """What is done on the way moves nothing on the page."""
+    page.drop("lines.twkb", example(LINES))
+    place = 'JSON.stringify(["verdict", "map"].map((id) => $(id).getBoundingClientRect().top))'
+    before = page.run(place)
+    moved = page.run(f'($("progress").hidden = false, {place})')
+    page.run('void ($("progress").hidden = true)')
+    count(page.name("progress moves nothing"), moved, before)
 
 
 def first_verdict(page):
@@ -116,4 +123,4 @@ def in_slices(page):
     count(page.name(f"a long line is looked at in {told} slices"), told > 3, True)
 
 
-BETWEEN = [another_window, another_layer, two_at_once, first_verdict, while_painting]
+BETWEEN = [another_window, another_layer, still, first_verdict, while_painting]
