@@ -8,8 +8,10 @@ export function element(name, text, className) {
   return made;
 }
 
-// A paragraph in which words between backquotes are code. What is short, such as a command, stays in one line.
+// Code of fewer letters stays in one line.
 const SHORT = 24;
+
+// A paragraph in which words between backquotes are code.
 export function withCode(text) {
   const made = element("p");
   text.split("`").forEach((part, i) => made.append(i % 2 ? element("code", part, part.length < SHORT ? "short" : "") : part));

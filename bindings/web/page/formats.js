@@ -4,6 +4,7 @@ const LOOKED_AT = 512, LEAST_DIGITS = 8;
 const FROM_POSTGIS = "PostGIS can write TWKB with ST_AsTWKB.";
 const LOADED = (tool) => `\`${tool}\` loads it into PostGIS, and ST_AsTWKB writes TWKB there.`;
 const UNPACK = (command) => `\`${command}\` unpacks it.`;
+// After how many bytes of text its decoding yields.
 const BYTES_OF_TEXT = 65536;
 
 // What the file begins with, in hexadecimal, what that is, and what helps.
@@ -94,36 +95,40 @@ function isTile(bytes) {
   return bytes[at] === 0x0a && name.length > 0 && name.every((byte) => byte >= 32 && byte < 127);
 }
 
-// The bytes that digits or base64 mean, or null where they mean none. Yields on the way.
-export const DECODERS = { *hexadecimal(bytes) {
+const placesOf = (letters) => Int8Array.from({ length: 256 }, (_, byte) => letters.indexOf(String.fromCharCode(byte)));
+const SIXES = placesOf("ABCDEFGHIJKLMNOPQRSTUVWXYZabcdefghijklmnopqrstuvwxyz0123456789+/");
+const DIGITS = placesOf("0123456789abcdef").map((digit, byte) => (byte >= 65 && byte <= 70 ? byte - 55 : digit));
+const [SPACE, BACKSLASH, X, PADDING] = [32, 92, 120, 61];
+
+// The bytes that digits mean, or null where they mean none. Yields on the way.
+function* hexadecimal(bytes) {
   const out = new Uint8Array(bytes.length >> 1);
   let used = 0, high = -1;
   for (let at = 0; at < bytes.length; at++) {
     if (at % BYTES_OF_TEXT === BYTES_OF_TEXT - 1) yield [at, bytes.length];
-    const byte = bytes[at], digit = HEX[byte];
+    const byte = bytes[at], digit = DIGITS[byte];
     if (digit >= 0 && high >= 0) [out[used++], high] = [16 * high + digit, -1];
     else if (digit >= 0) high = digit;
     else if (high >= 0) return null;
-    else if (byte === 92 && bytes[at + 1] === 120) at++;
-    else if (byte > 32) return null;
+    else if (byte === BACKSLASH && bytes[at + 1] === X) at++;
+    else if (byte > SPACE) return null;
   }
   return high < 0 ? out.subarray(0, used) : null;
-}, *base64(bytes) {
+}
+
+// The bytes that base64 means, or null where it means none. Yields on the way.
+function* base64(bytes) {
   const out = new Uint8Array(Math.ceil(bytes.length * 0.75));
   let used = 0, bits = 0, held = 0;
   for (let at = 0; at < bytes.length; at++) {
     if (at % BYTES_OF_TEXT === BYTES_OF_TEXT - 1) yield [at, bytes.length];
-    const six = SIXES[bytes[at]];
-    // What ends a row ends its bits.
-    if (six < 0 && bytes[at] > 32 && bytes[at] !== 61) return null;
-    if (bytes[at] === 61) held = bits = 0;
-    if (six < 0) continue;
-    [bits, held] = [((bits << 6) | six) & 0xffff, held + 6];
+    const byte = bytes[at], six = SIXES[byte];
+    if (six >= 0) [bits, held] = [((bits << 6) | six) & 0xffff, held + 6];
+    else if (byte === PADDING) held = 0;
+    else if (byte > SPACE) return null;
     if (held >= 8) [out[used++], held] = [(bits >> (held - 8)) & 255, held - 8];
   }
   return out.subarray(0, used);
-} };
+}
 
-const placesOf = (letters) => Int8Array.from({ length: 256 }, (_, byte) => letters.indexOf(String.fromCharCode(byte)));
-const SIXES = placesOf("ABCDEFGHIJKLMNOPQRSTUVWXYZabcdefghijklmnopqrstuvwxyz0123456789+/");
-const HEX = placesOf("0123456789abcdef").map((digit, byte) => (byte >= 65 && byte <= 70 ? byte - 55 : digit));
+export const DECODERS = { hexadecimal, base64 };

@@ -2,8 +2,8 @@
 //
 // Each works on runs of blobs, since a run of a certified layer is one by itself, and yields between: a yield says how much is
 // done of how much, and the worker may drop the rest.
-import { COLLECTION, EMPTY, REFUSED, UNITS } from "./format.js";
 import { Fields, shown } from "./fields.js";
+import { COLLECTION, EMPTY, REFUSED, UNITS } from "./format.js";
 import { many, ofUnits } from "./numbers.js";
 import { HEADER, HIT, HOPPED, READ } from "./states.js";
 import { boxOf, looseIn, partsOf, precisionOf, survey, Walk } from "./walk.js";
@@ -57,13 +57,12 @@ export class Layer {
     return [low, high];
   }
 
+  // The commonest type and precision comes first. A precision is from -8 to 7.
   types() {
-    const counts = new Map();
-    for (let k = 0; k < this.rows; k++) {
-      const key = 64 * this.kind[k] + this.precision[k];
-      counts.set(key, (counts.get(key) ?? 0) + 1);
-    }
-    return [...counts].map(([key, count]) => ({ kind: (key + 32) >> 6, precision: key - 64 * ((key + 32) >> 6), count })).sort((one, other) => other.count - one.count);
+    const counts = new Uint32Array(128);
+    for (let k = 0; k < this.rows; k++) counts[16 * this.kind[k] + this.precision[k] + 8]++;
+    const types = Array.from(counts, (count, at) => ({ kind: at >> 4, precision: (at & 15) - 8, count }));
+    return types.filter(({ count }) => count).sort((one, other) => other.count - one.count);
   }
 
   // Which blobs the map draws: all, or every second, third and so on where there are too many vertices.

@@ -1,7 +1,7 @@
 // Exact numbers and their texts. A number is a JavaScript number where that is exact, else a BigInt; < and > compare both kinds.
 import { UNIT_DIGITS } from "./format.js";
 
-export const exact = (big) => (BigInt.asIntN(53, big) === big ? Number(big) : big);
+const exact = (big) => (BigInt.asIntN(53, big) === big ? Number(big) : big);
 
 export function plus(a, b) {
   const sum = typeof a === "number" && typeof b === "number" ? a + b : NaN;

@@ -1,6 +1,6 @@
 // The painter: a worker of its own that paints the shapes of the map, so that a pointer never waits for them, and finds the shape at a place.
-import { paintShapes, Shapes } from "./shapes.js";
 import { nearest, vertexNear } from "./pick.js";
+import { paintShapes, Shapes } from "./shapes.js";
 import { HIT } from "./states.js";
 import { View } from "./view.js";
 

@@ -1,6 +1,6 @@
 // What is wrong with a refused blob, in its own numbers, and its fields round the place.
-import { AXES, EQUAL_IDS, FALSE_BOX, FALSE_SIZE } from "./format.js";
 import { Fields, shown } from "./fields.js";
+import { AXES, EQUAL_IDS, FALSE_BOX, FALSE_SIZE } from "./format.js";
 import { decimal, inUnits, many, minus, number, plus } from "./numbers.js";
 
 // How many fields are shown: the first ones of the blob, and before and after the place.

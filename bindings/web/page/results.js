@@ -1,9 +1,9 @@
 // What the page says of a certified layer: what a scan found and saved, how tight its boxes are, and what there is in it.
-import { AXES, TYPES } from "./format.js";
 import { $, element, withCode } from "./dom.js";
+import { AXES, TYPES } from "./format.js";
 import { many, number, ofUnits } from "./numbers.js";
 import { HEADER, HIT, HOPPED, NAMES, READ } from "./states.js";
-import { DONE, line, share } from "./texts.js";
+import { line, share, STATE_WORDS } from "./texts.js";
 
 // What was read is summed up before what was not.
 const READS = [HIT, READ, HEADER];
@@ -21,8 +21,7 @@ export function clearResults() {
 
 // How far the layer's vertices reach, and how many blobs have each type and precision.
 export function showSummary({ extent, types, rows, blobs }) {
-  const most = Math.max(...types.map(({ precision }) => precision), 0);
-  const ends = extent.flatMap((range, axis) => (range ? [`${AXES[axis]} ${range.map((end) => ofUnits(end, axis < 2 ? Math.min(most, 0) : 0)).join(" to ")}`] : []));
+  const ends = extent.flatMap((range, axis) => (range ? [`${AXES[axis]} ${range.map((end) => ofUnits(end, 0)).join(" to ")}`] : []));
   const kinds = types.map(({ kind, precision, count }) => `${many(count, TYPES[kind])} of precision ${precision}`);
   const few = rows < blobs ? ` (of the first ${number(rows)} blobs)` : "";
   $("summary").textContent = [...ends, kinds.join(", ") + few].join("; ") + ".";
@@ -42,11 +41,11 @@ export function showScan({ hits, read, first, length, text }, claims) {
 }
 
 export function showSums({ sums, gap, rows, blobs }) {
-  const made = READS.map((state) => sumRow(element("th", DONE[NAMES[state]]), sums[state], NAMES[state]));
+  const made = READS.map((state) => sumRow(element("th", STATE_WORDS[NAMES[state]]), sums[state], NAMES[state]));
   const read = (what) => sums[HIT][what] + sums[READ][what] + sums[HEADER][what];
   const names = ["blobs", "bytes", "directoryBlobs", "directoryBytes"];
   const whole = Object.fromEntries(names.map((what) => [what, read(what)]));
-  const rest = sumRow(element("th", DONE.hopped), sums[HOPPED], NAMES[HOPPED]);
+  const rest = sumRow(element("th", STATE_WORDS.hopped), sums[HOPPED], NAMES[HOPPED]);
   $("sums").tBodies[0].replaceChildren(...made, sumRow(element("th", "read in all"), whole), rest);
   showShares(sums);
   const few = `The bar, the file in lines and this table have only the first ${number(rows)} of ${number(blobs)} blobs. The sentence above counts all of them.`;
@@ -71,7 +70,7 @@ function sumRow(head, { blobs, bytes, directoryBlobs, directoryBytes }, name) {
 // The bar: what was read of blobs, what was read of headers on the way, and what was hopped over.
 function showShares(sums) {
   const bytes = { read: sums[HIT].bytes + sums[READ].bytes, header: sums[HEADER].bytes, hopped: sums[HOPPED].bytes };
-  const all = bytes.read + bytes.header + bytes.hopped, words = { ...DONE, read: "blobs read, hit or not" };
+  const all = bytes.read + bytes.header + bytes.hopped, words = { ...STATE_WORDS, read: "blobs read, hit or not" };
   for (const [name, count] of Object.entries(bytes)) {
     const part = document.querySelector(`#shares [data-share=${name}]`), says = `${words[name]}: ${share(count, all)}`;
     part.style.flexGrow = all ? count / all : 0;

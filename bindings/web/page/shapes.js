@@ -1,6 +1,6 @@
 // Paints the shapes of a layer, in the painter. Widths and dashes tell their states apart too.
 import { POINTS, RING } from "./format.js";
-import { crisp, rectangle, stroke } from "./pen.js";
+import { rectangle, stroke } from "./pen.js";
 import { HIT, HOPPED, NAMES, READ } from "./states.js";
 
 // How each state is drawn.

@@ -3,7 +3,7 @@ import { element } from "./dom.js";
 import { TYPES } from "./format.js";
 import { number } from "./numbers.js";
 import { NAMES } from "./states.js";
-import { DONE } from "./texts.js";
+import { STATE_WORDS } from "./texts.js";
 
 const PAGE = 25;
 const yes = (there) => (there ? "yes" : "no");
@@ -17,7 +17,7 @@ const COLUMNS = [
   ["count", "Vertices", ({ count }) => [count]],
   ["size", "Size", ({ size }) => yes(size)],
   ["box", "Box", ({ box }) => yes(box)],
-  ["state", "In this scan", ({ state }) => DONE[NAMES[state]]],
+  ["state", "In this scan", ({ state }) => STATE_WORDS[NAMES[state]]],
   ["read", "Bytes read", ({ read }) => [read]],
 ];
 

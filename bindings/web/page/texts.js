@@ -62,7 +62,7 @@ export const KINDS = {
 };
 
 // What a scan does with a blob, in the words of legends and tables.
-export const DONE = { hit: "hit", read: "read, no hit", header: "header read on the way", hopped: "hopped over" };
+export const STATE_WORDS = { hit: "hit", read: "read, no hit", header: "header read on the way", hopped: "hopped over" };
 
 export const STAGES = {
   reading: "Reading the file",

@@ -1,6 +1,6 @@
 // What the page says of a layer as a whole: its verdict, and why it is refused.
-import { CERTIFIED } from "./format.js";
 import { $, element, withCode } from "./dom.js";
+import { CERTIFIED } from "./format.js";
 import { many, number } from "./numbers.js";
 import { KINDS, line } from "./texts.js";
 

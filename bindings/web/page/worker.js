@@ -3,12 +3,12 @@
 // Long work is done in slices, and messages are taken between them. What was asked of an earlier layer, or for an earlier
 // window, is then dropped.
 import { CERTIFIED, EQUAL_IDS, FALSE_BOX, FALSE_SIZE, REFUSED } from "./format.js";
+import { Fields } from "./fields.js";
 import { DECODERS, recognised } from "./formats.js";
 import { Layer } from "./layer.js";
 import { reasons } from "./refusal.js";
 import { Library, NoMemory } from "./twkb.js";
 import { after } from "./walk.js";
-import { Fields } from "./fields.js";
 
 const MOST_BYTES = 268435456;
 const SLICE = 40, ROUND = 64, SHOWN_HITS = 5000, CELLS = 3600;
