@@ -12,7 +12,7 @@ import subprocess
 import tempfile
 import time
 
-SECONDS = 120
+SECONDS = 300
 WIDTH, HEIGHT = 1000, 900
 
 

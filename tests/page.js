@@ -29,7 +29,9 @@ window.letGo = () => {
   slow = [];
   for (const take of kept.splice(0)) take();
 };
+window.letOneGo = () => kept.shift()();
 window.isHeld = () => kept.length > 0;
+window.framesLater = () => new Promise((resume) => requestAnimationFrame(() => requestAnimationFrame(() => resume(null))));
 
 // Drops a file, given in base64, and waits for the answer.
 window.dropped = async (name, text) => {

@@ -64,6 +64,20 @@ def another_layer(page):
     page.wait("isSettled()")
 
 
+def another_picture(page):
+    """What was painted of the last layer isn't shown as the new one's."""
+    page.drop("lines.twkb", example(LINES))
+    page.run('(holdBack("painted"), $("boxes").click())')
+    page.wait("isHeld()")
+    page.dropping("more.twkb", example(LINES) + POINT)
+    page.wait('$("verdict").textContent.includes("more.twkb has 1,716 blobs") && document.documentElement.dataset.scan === "done"')
+    page.run("(letOneGo(), framesLater())")
+    marks = page.run('["hit", "hopped", "box"].map((name) => pixelsOf("map", name))')
+    count(page.name("another layer: no shapes of the last one"), marks, [0, 0, 0])
+    page.run('(letGo(), $("boxes").click())')
+    page.wait('isSettled() && pixelsOf("map", "hit") > 0')
+
+
 def one_after_another(page):
     """Of files that are dropped one soon after the other, whatever the first one's check is at, the last one's verdict alone is told."""
     page.run("void (told.length = 0)")
@@ -123,4 +137,4 @@ def in_slices(page):
     count(page.name(f"a long line is looked at in {told} slices"), told > 3, True)
 
 
-BETWEEN = [another_window, another_layer, still, first_verdict, while_painting]
+BETWEEN = [another_window, another_layer, another_picture, still, first_verdict, while_painting]

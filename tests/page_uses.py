@@ -129,6 +129,7 @@ def addresses(page):
     has(page, "the address asks for a file", page.run('$("chooser").textContent'), "The address asks for x=10..30,y=35..45 of lines.twkb.")
     page.drop("lines.twkb", example(LINES))
     count(page.name("the window of the address"), page.run('[$("text").value, $("printed").dataset.window]'), ["x=10..30,y=35..45"] * 2)
+    has(page, "the address asks for nothing more", page.run('$("chooser").textContent'), lacks=["The address asks"])
     page.reload()
 
 

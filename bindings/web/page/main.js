@@ -296,6 +296,7 @@ function takeWish() {
   const { text, file } = state.wish;
   if (!text || (file !== undefined && file !== state.name)) return false;
   $("text").value = text;
+  $("asks").textContent = "";
   state.wish = {};
   return true;
 }

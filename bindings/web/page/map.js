@@ -17,7 +17,7 @@ export class LayerMap {
   // `at(text)` the coordinates under the pointer. `worker` paints the shapes.
   constructor(canvas, told, worker) {
     Object.assign(this, { canvas, told, worker, view: new View(canvas), boxes: true, drawing: false, moving: false, window: null, chosen: null });
-    Object.assign(this, { painter: new Painter(this.view), whole: null, painted: null, asked: 0, isPainting: false, isOld: false, isStale: false });
+    Object.assign(this, { painter: new Painter(this.view), whole: null, painted: null, asked: 0, pictures: 0, isPainting: false, isOld: false, isStale: false });
     this.pointers = new Map();
     this.wishes = new Map();
     worker.onmessage = ({ data }) => this.answered(data);
@@ -40,6 +40,7 @@ export class LayerMap {
     this.ask({ ask: "picture", picture, wrong }, buffersOf(picture));
     Object.assign(this, { whole, window: null, chosen: null, before: null, isStale: false });
     this.painted = null;
+    this.pictures++;
     this.view.begin(whole);
     this.repaint();
   }
@@ -69,11 +70,12 @@ export class LayerMap {
   }
 
   answered({ tell, number, ...told }) {
-    if (tell === "painted") return this.took(told);
+    if (tell === "painted") return this.took(number === this.pictures ? told : null);
     this.wishes.get(number)(told);
     this.wishes.delete(number);
   }
 
+  // What was painted of an earlier picture is dropped.
   took(painted) {
     this.painted?.bitmap?.close();
     Object.assign(this, { painted, isPainting: false });
@@ -87,7 +89,7 @@ export class LayerMap {
     this.isOld = this.isPainting;
     if (this.isPainting) return;
     this.isPainting = true;
-    this.ask({ ask: "paint", view: { x, y, scale, wide, high, ratio: devicePixelRatio || 1 }, boxes, isStale, colours: coloursOf(document) });
+    this.ask({ ask: "paint", number: this.pictures, view: { x, y, scale, wide, high, ratio: devicePixelRatio || 1 }, boxes, isStale, colours: coloursOf(document) });
   }
 
   fit() {
