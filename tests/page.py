@@ -192,6 +192,7 @@ def large(page):
     hits = page.scan(window)["printed"].splitlines()
     wanted = printed(page.program, "scan", path, window).splitlines()
     count(page.name("100 MB, the scan"), (hits[-1], hits[:2000]), (wanted[-1], wanted[:2000]))
+    count(page.name("100 MB: every hit is drawn"), "and every hit." in page.run('$("sample").textContent'), True)
     page.picture("large", '$("asked")')
     with open(path, "r+b") as file:
         file.truncate(len(data) * COPIES - 1)

@@ -92,7 +92,7 @@ def one_screen(page):
     """On a desktop the verdict, the map, hits and bytes are in view at once, with no scrolling."""
     page.drop(WORLD, example(WORLD))
     count(page.name("the chooser is folded"), page.run('$("chooser").open'), False)
-    if page.run("innerWidth") < 1000:
+    if page.run("innerWidth") < 1200:
         return
     page.run("scrollTo(0, 0)")
     seen = page.run('["verdict", "summary", "map", "text", "scanned", "shares", "strip", "sums"].filter((id) => !isInView($(id)))')

@@ -8,8 +8,9 @@ import { many, ofUnits } from "./numbers.js";
 import { HEADER, HIT, HOPPED, READ } from "./states.js";
 import { boxOf, looseIn, partsOf, precisionOf, survey, Walk } from "./walk.js";
 
-// The most rows that are kept, and the most vertices that are drawn.
-const MOST_ROWS = 1 << 22, MOST_DRAWN = 300000;
+// The most rows that are kept, and the most vertices that are drawn: of a sample, and of the hits that it lacks. A blob may be drawn that
+// goes beyond.
+const MOST_ROWS = 1 << 22, MOST_DRAWN = 300000, MOST_HITS = 1 << 20;
 const RUN = 4096, LOOSEST = 8, MOST_LOOSE = 2000;
 // How many fields are shown of a blob that is picked.
 const MOST_FIELDS = 60;
@@ -73,7 +74,7 @@ export class Layer {
   // The picture of every so many blobs.
   draw() {
     const every = this.sampled(), blobs = Uint32Array.from({ length: Math.ceil(this.rows / every) }, (_, i) => i * every);
-    return this.pictured(blobs, every);
+    return this.pictured(blobs, every, 2 * MOST_DRAWN);
   }
 
   // The picture of the hits that the sample lacks, as many as have room.
@@ -82,23 +83,28 @@ export class Layer {
     let vertices = 0, left = 0;
     for (let k = 0; k < this.rows; k++) {
       if (this.state[k] !== HIT || k % every === 0) continue;
-      if (vertices >= MOST_DRAWN) left++;
+      if (vertices >= MOST_HITS) left++;
       else blobs.push(k);
       vertices += this.count[k];
     }
     return { blobs: Uint32Array.from(blobs), left };
   }
 
+  // The picture of those hits.
+  picturedHits(blobs) {
+    return this.pictured(blobs, 1, 2 * MOST_HITS);
+  }
+
   // A picture: vertices, where each part of them begins and of which blob it is, and boxes.
-  *pictured(blobs, every) {
+  *pictured(blobs, every, most) {
     const drawn = blobs.length, picture = { every, blobs, boxes: new Float64Array(4 * drawn).fill(NaN), from: [], shape: [], of: [] };
-    const room = new Float64Array(2 * Math.min(this.vertices, 2 * MOST_DRAWN));
+    const room = new Float64Array(2 * Math.min(this.vertices, most));
     let used = 0;
     for (let i = 0; i < drawn; i++) {
-      const k = blobs[i], most = Math.min(this.count[k], room.length / 2 - used);
+      const k = blobs[i], count = Math.min(this.count[k], room.length / 2 - used);
       this.one(k);
-      this.library.draw(room, used, most);
-      used = this.parts(picture, i, k, used, used + most);
+      this.library.draw(room, used, count);
+      used = this.parts(picture, i, k, used, used + count);
       if (i % RUN === RUN - 1) yield [i, drawn];
     }
     const [from, shape, of] = [Uint32Array.from([...picture.from, used]), Uint8Array.from(picture.shape), Uint32Array.from(picture.of)];

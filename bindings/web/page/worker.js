@@ -227,7 +227,7 @@ async function scan({ text, number }) {
   }
   await inSlices(of.spread(1), "spreading", stays);
   of.window = number;
-  const { blobs, left } = of.drawHits(), more = blobs.length ? await inSlices(of.pictured(blobs, 1), "drawing", stays) : null;
+  const { blobs, left } = of.drawHits(), more = blobs.length ? await inSlices(of.picturedHits(blobs), "drawing", stays) : null;
   const told = { ...of.sums(), strip: of.strip(CELLS), rows: of.rows, blobs: of.blobs };
   tell({ tell: "spread", number, state: drawn(), more, left, ...told }, more ? buffersOf(more) : []);
 }
