@@ -30,7 +30,10 @@ export function* reasons(bytes, start, { offset, kind, blob }) {
 function* fieldsAt(bytes, start, places) {
   if (!places.length) return [];
   const found = [], take = (field) => places.includes(field.from) && found.push(shown(field, bytes));
-  yield* new Fields(bytes, start, take, [Math.min(...places) - MOST_POINT, Math.max(...places)]).walk();
+  for (const step of new Fields(bytes, start, take, [Math.min(...places) - MOST_POINT, Math.max(...places)]).walk()) {
+    if (found.length === places.length) break;
+    yield step;
+  }
   return found;
 }
 

@@ -203,7 +203,11 @@ function* othersAfter({ kind, blob }, { end, isWhole }) {
 function* shapeOf(start) {
   const xy = [];
   const coordinate = (of, axis, sum) => axis < 2 && xy.length < 2 * MOST_SHAPE && xy.push(Number(sum) / 10 ** of.precisions[axis]);
-  yield* new Fields(library.bytes, start, ({ of, axis, sum }) => axis !== undefined && coordinate(of, axis, sum), [0, 0], coordinate).walk();
+  const take = ({ of, axis, sum }) => axis !== undefined && coordinate(of, axis, sum);
+  for (const step of new Fields(library.bytes, start, take, [0, 0], coordinate).walk()) {
+    if (xy.length === 2 * MOST_SHAPE) break;
+    yield step;
+  }
   return Float64Array.from(xy.slice(0, xy.length & ~1));
 }
 
