@@ -12,7 +12,7 @@ import subprocess
 import tempfile
 import time
 
-SECONDS = 120
+SECONDS = 300
 WIDTH, HEIGHT = 1000, 900
 
 
@@ -23,7 +23,7 @@ class Failed(Exception):
 class Chromium:
     name, needs = "chromium", "apt-get install chromium"
 
-    def __init__(self, dark=False):
+    def __init__(self, dark=False, forced=False):
         self.folder = tempfile.mkdtemp()
         self.number, self.loaded = 0, False
         down, self.to = os.pipe()
@@ -41,8 +41,8 @@ class Chromium:
         self.session = self.call("Target.attachToTarget", targetId=page["targetId"], flatten=True)["sessionId"]
         self.call("Page.enable")
         self.size(WIDTH, HEIGHT)
-        scheme = {"name": "prefers-color-scheme", "value": "dark" if dark else "light"}
-        self.call("Emulation.setEmulatedMedia", features=[scheme])
+        media = {"prefers-color-scheme": "dark" if dark else "light", "forced-colors": "active" if forced else "none"}
+        self.call("Emulation.setEmulatedMedia", features=[{"name": name, "value": value} for name, value in media.items()])
 
     def size(self, width, height):
         self.call("Emulation.setDeviceMetricsOverride", width=width, height=height, deviceScaleFactor=1, mobile=False)
@@ -137,13 +137,13 @@ class Chromium:
         shutil.rmtree(self.folder, ignore_errors=True)
 
 
-KEYS = {"ArrowLeft": "\ue012", "ArrowUp": "\ue013", "ArrowRight": "\ue014", "ArrowDown": "\ue015", "Shift": "\ue008"}
+KEYS = {"Escape": "\ue00c", "ArrowLeft": "\ue012", "ArrowUp": "\ue013", "ArrowRight": "\ue014", "ArrowDown": "\ue015", "Shift": "\ue008"}
 
 
 class Firefox:
     name, needs = "firefox-esr", "apt-get install firefox-esr"
 
-    def __init__(self, dark=False):
+    def __init__(self, dark=False, forced=False):
         self.folder = tempfile.mkdtemp()
         self.number = 0
         port = free_port()
@@ -151,6 +151,7 @@ class Firefox:
             "marionette.port": port,
             "layout.css.prefers-color-scheme.content-override": 0 if dark else 1,
             "ui.systemUsesDarkTheme": int(dark),
+            "browser.display.document_color_use": 2 if forced else 0,
             "datareporting.policy.dataSubmissionEnabled": False,
             "browser.shell.checkDefaultBrowser": False,
             "app.update.enabled": False,

@@ -18,8 +18,10 @@ class Driven:
         self.where = f", {where}" if where else ""
         self.reload()
 
-    def reload(self):
-        self.browser.go("file://" + self.page)
+    def reload(self, hash=""):
+        """Opens the page anew, at an address of another page first, since one with another hash alone isn't loaded again."""
+        self.browser.go("about:blank")
+        self.browser.go("file://" + self.page + hash)
         with open(os.path.join(HERE, "page.js"), encoding="utf-8") as script:
             self.browser.run(f"(async () => {{\n{script.read()}\n}})()")
         self.wait('document.documentElement.dataset.ready === "yes"')
@@ -40,6 +42,17 @@ class Driven:
     def drop(self, name, data):
         self.run(f'dropped({json.dumps(name)}, "{base64.b64encode(data).decode()}")')
         return self.run("verdict()")
+
+    def dropping(self, name, data):
+        """Drops a file, and doesn't wait for the answer."""
+        self.run(f'dropping({json.dumps(name)}, "{base64.b64encode(data).decode()}")')
+
+    def dropping_file(self, name, data):
+        """Chooses a file that has these bytes, and doesn't wait for the answer."""
+        path = os.path.join(self.folder, name)
+        with open(path, "wb") as file:
+            file.write(data)
+        self.choose(path)
 
     def choose(self, path):
         """Gives the file input a file, and doesn't wait for an answer."""

@@ -7,6 +7,32 @@ window.isSettled = () => {
   return state === "done" && ["none", "done", "wrong"].includes(scan) && $("map").dataset.painted !== "no";
 };
 
+// Workers that are slow: messages with these names are kept back until they are let go. A worker is known once it is asked something.
+const known = new WeakSet(), kept = [], post = Worker.prototype.postMessage;
+let slow = [];
+window.told = [];
+Worker.prototype.postMessage = function (...words) {
+  if (!known.has(this)) {
+    const take = this.onmessage;
+    known.add(this);
+    this.onmessage = (event) => {
+      const { tell, stage, run } = event.data;
+      told.push({ tell, stage, run });
+      if (slow.includes(tell)) kept.push(() => take.call(this, event));
+      else take.call(this, event);
+    };
+  }
+  return post.apply(this, words);
+};
+window.holdBack = (...names) => void (slow = names);
+window.letGo = () => {
+  slow = [];
+  for (const take of kept.splice(0)) take();
+};
+window.letOneGo = () => kept.shift()();
+window.isHeld = () => kept.length > 0;
+window.framesLater = () => new Promise((resume) => requestAnimationFrame(() => requestAnimationFrame(() => resume(null))));
+
 // Drops a file, given in base64, and waits for the answer.
 window.dropped = async (name, text) => {
   const bytes = Uint8Array.from(atob(text), (letter) => letter.charCodeAt(0)), moved = new DataTransfer();
@@ -14,20 +40,33 @@ window.dropped = async (name, text) => {
   document.dispatchEvent(new DragEvent("drop", { dataTransfer: moved, cancelable: true }));
   while (!isSettled()) await pause();
 };
+// Drops pairs of files, the second one a little later after the first one each time.
+window.droppedSoon = async (first, second, pairs) => {
+  for (let i = 0; i < pairs; i++) {
+    dropping("first.twkb", first);
+    for (const until = performance.now() + i / 8; performance.now() < until; );
+    await dropped("second.twkb", second);
+  }
+};
+// Drops a file, and doesn't wait.
+window.dropping = (name, text) => void dropped(name, text);
 
 // What is said of the layer: the program's line, and of a refused one the byte, its field and the words.
 window.verdict = () => {
-  const line = $("verdict").querySelector("code")?.textContent ?? $("verdict").textContent;
-  const tight = $("certified").hidden ? null : $("tight").textContent;
+  const line = $("line")?.querySelector("code").textContent ?? $("verdict").textContent;
+  const tight = $("certified").hidden || $("certified").matches(".refused") ? null : $("tight").textContent;
   if ($("refused").hidden) return { line, tight };
   const words = ["meaning", "detail", "harm", "repair"].map((id) => $(id).textContent);
   return { line, tight, byte: $("byte").textContent, title: $("byte").title, field: $("fields").querySelector("tr.at td")?.textContent, words };
 };
 
 // Types a window and scans for it.
-window.scanned = async (text) => {
+window.typed = (text) => {
   $("text").value = text;
   $("window").requestSubmit();
+};
+window.scanned = async (text) => {
+  typed(text);
   while (!isSettled()) await pause();
   return { printed: $("printed").textContent, wrong: $("wrong").textContent, sums: rowsOf("sums") };
 };
@@ -53,6 +92,15 @@ window.listed = async () => {
 window.countWrites = (at) => {
   at.dataset.writes = 0;
   new MutationObserver(() => at.dataset.writes++).observe(at, { childList: true, characterData: true, subtree: true });
+};
+
+// Counts turns of the wheel over an element, and says of the last one whether the page kept it from scrolling.
+window.countWheels = (at) => {
+  at.dataset.wheels = 0;
+  addEventListener("wheel", (event) => {
+    at.dataset.wheels++;
+    window.lastWheel = event.defaultPrevented;
+  });
 };
 
 // Where the map is, and the window on it.
@@ -161,9 +209,23 @@ window.faintPixels = (id) => {
   return { faint: marks.filter((colour) => contrast(colour, under) < 3), marks: marks.length };
 };
 
+// How many pixels of a canvas have a colour of the style.
+window.pixelsOf = (id, name) => {
+  const canvas = $(id), wanted = seen([0, 0, 0], colourOf(name));
+  const { data } = canvas.getContext("2d").getImageData(0, 0, canvas.width, canvas.height);
+  let count = 0;
+  for (let i = 0; i < data.length; i += 4) count += data[i + 3] === 255 && wanted.every((one, k) => data[i + k] === one);
+  return count;
+};
+const colourOf = (name) => {
+  const probe = $("probe");
+  probe.style.color = `var(--${name})`;
+  return getComputedStyle(probe).color;
+};
+
 // How the marks of a legend look where colours aren't seen: their sizes, patterns and borders.
 window.shapesOf = (legend) =>
-  [...document.querySelectorAll(`${legend} i`)].map((at) => {
+  [...document.querySelectorAll(`${legend} i`)].filter((at) => at.checkVisibility()).map((at) => {
     const { width, height, borderRadius, borderTopStyle, borderTopWidth, backgroundImage } = getComputedStyle(at);
     const pattern = backgroundImage.replace(/(?:rgba?|color)\([^)]*\)/g, "");
     return [width, height, borderRadius, borderTopStyle, borderTopWidth, pattern].join(" ");

@@ -5,14 +5,13 @@ usage: tests/page.py [PROGRAM] [--page PAGE] [--picture] [--screens] [BROWSER..]
 
 The small layers of cases.tsv are dropped on the page, and the examples chosen as files. What the page says has to be what the
 program prints. Then come windows that are dragged, large files, files that are no layers, both colours, and what people with
-keyboards and screen readers need. Last, page_screens.py, page_answers.py and page_focus.py try the page on screens of three widths,
-in both colours; with --screens they alone do. Pictures of it go to build/page. With --picture the one that README shows is written too;
+keyboards and screen readers need. Last, the other files page_*.py try the page on screens of three widths, in both colours; with --screens they
+alone do. Pictures of it go to build/page. With --picture the one that README shows is written too;
 with --page that page is taken as it is. A browser that this machine lacks is named in one line, with what brings it, and its tests
 are left out. Prints each difference, and last a line `N passed, M failed`; the status is 1 where any failed.
 """
 import argparse
 import filecmp
-import json
 import os
 import re
 import shutil
@@ -26,15 +25,16 @@ from browsers import BROWSERS, Failed
 from driven import PICTURES, Driven
 from harness import TOP, count, counts, left_out, table, written
 from page_answers import ANSWERS, printed
+from page_between import BETWEEN, in_slices, one_after_another
 from page_focus import FOCUS
 from page_moves import LINES, dragged, zoomed
-from page_screens import SCREENS, WIDTHS, WORLD, pictures
+from page_screens import SCREENS, WIDTHS, WORLD, forced, pictures
+from page_truths import TRUTHS, many_blobs
+from page_uses import ONCE, USES
 from png import shrunk
 from widened import widened
 
 WEB = os.path.join(TOP, "bindings", "web")
-sys.path.insert(0, WEB)
-from make_page import without_gaps  # noqa: E402
 
 PAGE = os.path.join(TOP, "build", "dozhemik.html")
 LARGEST_PAGE = 150_000
@@ -44,12 +44,6 @@ EXAMPLES = ["points_sized.twkb", "coast_lines_sized.twkb", "coast_collections.tw
 COPIES = 1190
 # PostGIS was asked for no windows of the world: the windows of the lines are taken.
 LINES_TOO = {WORLD: "coast_lines_sized.twkb"}
-# Styles, and what is left of each in the page.
-STYLES = {
-    "/* a */ b { c: d } e { f: g; /* h */ } i, j { k: l }": "b{c:d}e{f:g;}i,j{k:l}",
-    """a { b: 'c ; d' ; e: "f\\"  g" }""": """a{b:'c ; d';e:"f\\"  g"}""",
-    "a:is(b) > c :hover { d: calc(1px + 2px) }": "a:is(b) > c :hover{d:calc(1px + 2px)}",
-}
 # Of the windows that PostGIS was asked for every fifth one is asked for, of each example.
 EVERY = 5
 
@@ -112,14 +106,14 @@ def examples(page):
 
 def inside(page):
     """The examples in the page itself, and those that are spoiled."""
-    wanted = {"cut.twkb": "cut", "size.twkb": "size", "box.twkb": "box"}
+    wanted = {"with a false box": "box", "with a false size": "size", "the first ": "cut"}
     for number in range(page.run('document.querySelectorAll("main [role=group] button").length')):
         before = page.run("document.documentElement.dataset.run ?? 0")
         page.run(f'document.querySelectorAll("main [role=group] button")[{number}].click()')
         page.wait(f"document.documentElement.dataset.run != {before} && isSettled()")
         line, text = page.run('[verdict().line, $("verdict").textContent]')
-        file = next((file for file in wanted if file in text), None)
-        count(page.name(f"example {number}"), line.split("kind=")[-1] if file else line[:3], wanted.get(file, "ok "))
+        name = next((name for name in wanted if name in text and not line.startswith("ok")), None)
+        count(page.name(f"example {number}"), line.split("kind=")[-1] if name else line[:3], wanted.get(name, "ok "))
         page.picture(f"example-{number}", '$("verdict")')
 
 
@@ -179,18 +173,6 @@ def closed(page):
     count(page.name("no connection"), page.run(event), "connect-src")
 
 
-def styled(page):
-    """The style inside the page, which has no comments and fewer gaps, has the rules of its source."""
-    with open(os.path.join(WEB, "page", "style.css"), encoding="utf-8") as file:
-        source = json.dumps(file.read())
-    # Browsers keep the gaps of custom properties, so those after commas are left out of both.
-    rules = '[...one.cssRules].map((rule) => rule.cssText.replaceAll(", ", ","))'
-    inside = page.run(f"((one) => {rules})(document.styleSheets[0])")
-    wanted = page.run(f"((one) => (one.replaceSync({source}), {rules}))(new CSSStyleSheet())")
-    differ = [pair for pair in zip(inside, wanted) if pair[0] != pair[1]]
-    count(page.name("the style"), (len(inside), differ[:3]), (len(wanted), []))
-
-
 def large(page):
     """A file of 100 MB: the page answers while it works, and says what the program says."""
     with open(LINES, "rb") as file:
@@ -210,6 +192,7 @@ def large(page):
     hits = page.scan(window)["printed"].splitlines()
     wanted = printed(page.program, "scan", path, window).splitlines()
     count(page.name("100 MB, the scan"), (hits[-1], hits[:2000]), (wanted[-1], wanted[:2000]))
+    count(page.name("100 MB: every hit is drawn"), "and every hit." in page.run('$("sample").textContent'), True)
     page.picture("large", '$("asked")')
     with open(path, "r+b") as file:
         file.truncate(len(data) * COPIES - 1)
@@ -248,10 +231,10 @@ def dark(page, light):
 
 def for_readme(page):
     """The picture that README shows."""
-    page.browser.size(900, 1072)
+    page.browser.size(1280, 900)
     page.open(os.path.join(TOP, "examples", WORLD))
     page.scan("x=100..140,y=-10..10")
-    path = page.picture("readme", '$("verdict")')
+    path = page.picture("readme")
     page.browser.size(1000, 900)
     return path
 
@@ -274,7 +257,7 @@ def screens(Browser, page, program, folder):
                 start = time.monotonic()
                 browser.size(width, height)
                 driven = Driven(browser, page, program, folder, f"{width} px, {'dark' if dark else 'light'}")
-                for part in (*SCREENS, *ANSWERS, *FOCUS):
+                for part in (*SCREENS, *ANSWERS, *FOCUS, *USES, *BETWEEN):
                     tried(part, driven)
                 pictures(driven, f"{width}-{'dark' if dark else 'light'}")
                 print(f"{driven.name('screens')}, {time.monotonic() - start:.0f} s", flush=True)
@@ -282,13 +265,23 @@ def screens(Browser, page, program, folder):
             browser.close()
 
 
+def with_forced_colours(Browser, page, program, folder):
+    browser = Browser(forced=True)
+    try:
+        tried(forced, Driven(browser, page, program, folder, "forced colours"))
+    finally:
+        browser.close()
+
+
 def drive(Browser, page, program, folder, picture):
     browser = Browser()
     try:
         driven = Driven(browser, page, program, folder)
-        for part in (cases, examples, inside, dragged, zoomed, no_layers, loose, sorting, closed, styled, large):
+        parts = [cases, examples, inside, dragged, zoomed, no_layers, loose, sorting, closed, *TRUTHS, *ONCE, one_after_another]
+        parts += [large, in_slices, many_blobs]
+        for part in parts:
             start = time.monotonic()
-            part(driven)
+            tried(part, driven)
             print(f"{browser.name}: {part.__name__}, {time.monotonic() - start:.0f} s", flush=True)
         driven.reload()
         looks(driven, "light")
@@ -324,12 +317,6 @@ def same_bytes(module, folder):
         count("no repository: the commit is unknown", "commit unknown" in file.read(), True)
 
 
-def shorter():
-    """A style loses comments and gaps, and nothing else."""
-    for style, wanted in STYLES.items():
-        count(f"the style {style}", without_gaps(style), wanted)
-
-
 def kept(page):
     """No packed part has a byte that HTML changes, or what ends a script or begins a comment."""
     with open(page, "rb") as file:
@@ -342,9 +329,10 @@ def kept(page):
 
 def built():
     """The page, or nothing where this machine lacks what builds it."""
-    if not shutil.which("wasm-opt"):
-        left_out("wasm-opt is missing: apt-get install binaryen; the tests of the page are left out")
-        return None
+    for tool, package in (("wasm-opt", "binaryen"), ("esbuild", "esbuild")):
+        if not shutil.which(tool):
+            left_out(f"{tool} is missing: apt-get install {package}; the tests of the page are left out")
+            return None
     module = os.path.join(TOP, "build", "web", "twkb_web.wasm")
     subprocess.run([os.path.join(WEB, "build.sh")], check=True)
     subprocess.run([sys.executable, os.path.join(WEB, "make_page.py"), module, PAGE], check=True)
@@ -359,6 +347,7 @@ def all_of(Browser, page, program, asked):
         if not asked.screens:
             drive(Browser, *paths, asked.picture)
         screens(Browser, *paths)
+        with_forced_colours(Browser, *paths)
     return counts
 
 
@@ -373,7 +362,6 @@ def main():
     there = [one for one in BROWSERS if shutil.which(one.name)]
     for lacking in set(BROWSERS) - set(there):
         left_out(f"{lacking.name} is missing: {lacking.needs}; its tests are left out")
-    shorter()
     page = (asked.page or built()) if there else None
     if page:
         os.makedirs(PICTURES, exist_ok=True)

@@ -2,8 +2,6 @@
 
 Expected numbers come from the built program, from plain.py and from the format.
 """
-import base64
-import gzip
 import os
 import struct
 
@@ -140,15 +138,11 @@ def wkb(kind=1):
 
 
 def formats(page):
-    """Files of other formats are recognised, and what helps is said."""
-    lines = example("coast_lines_sized.twkb")
+    """Files of other formats are named, nothing is said of their sizes and types, and what helps is said."""
     polygon = struct.pack("<BIII", 1, 3, 1, 4) + struct.pack("<8d", 0, 0, 1, 0, 1, 1, 0, 0)
+    tile = b"\x78\x02\x0a\x05roads\x12\x00"
     tried = [
-        ("hexadecimal text", lines.hex().encode(), "hexadecimal text", "xxd -r -p"),
-        ("hexadecimal text in capitals", lines.hex().upper().encode() + b"\n", "hexadecimal text", "xxd -r -p"),
-        ("psql's text of bytes", b"\\x" + lines.hex().encode() + b"\n", "hexadecimal text", "sed"),
         ("hexadecimal text of WKB", wkb().hex().encode(), "hexadecimal text of WKB", "ST_AsTWKB"),
-        ("gzip", gzip.compress(lines), "gzip", "gunzip"),
         ("JSON", b'{"type":"FeatureCollection","features":[]}', "JSON", "ST_GeomFromGeoJSON"),
         ("FlatGeobuf", b"fgb\x03fgb\x01" + bytes(40), "FlatGeobuf", "ST_AsTWKB"),
         ("WKB", wkb(), "WKB", "ST_AsTWKB"),
@@ -156,21 +150,24 @@ def formats(page):
         ("WKB, big-endian", struct.pack(">BIdd", 0, 1, 12.5, -45.25), "WKB", "ST_AsTWKB"),
         ("EWKB", struct.pack("<BIIdd", 1, 0x20000001, 4326, 12.5, -45.25), "WKB", "ST_AsTWKB"),
         ("WKT", b"POINT(12.5 -45.25)\n", "WKT", "ST_GeomFromText"),
-        ("XML", b'<?xml version="1.0"?><kml/>', "XML", "ST_AsTWKB"),
+        ("XML", b'<?xml version="1.0"?><kml/>', "XML or HTML", "ST_AsTWKB"),
         ("zip", b"PK\x03\x04" + bytes(40), "a zip archive", "unzip"),
-        ("base64", base64.b64encode(lines), "base64", "base64 -d"),
+        ("PGCOPY", b"PGCOPY\n\xff\r\n\0" + bytes(40), "binary output of PostgreSQL's COPY", "bytes alone"),
+        ("PMTiles", b"PMTiles\x03" + bytes(120), "PMTiles", "tiles for display"),
+        ("MVT", b"\x1a" + bytes([len(tile)]) + tile, "a vector tile (MVT)", "Make TWKB"),
+        ("MVT with its name first", b"\x1a" + bytes([len(tile) - 2]) + tile[2:], "a vector tile (MVT)", "Make TWKB"),
+        ("TIFF", b"II*\0" + bytes(40), "a TIFF image", ""),
+        ("Arrow", b"ARROW1\0\0" + bytes(40), "Arrow", "ST_AsTWKB"),
+        ("UTF-16", "POINT(1 2)".encode("utf-16"), "UTF-16 text", "ST_AsTWKB"),
     ]
     for name, data, what, how in tried:
         text = said(page, data, "other.bin")
-        if "Refused" in text:
-            has(page, name, text, f"This looks like {what}", ", not TWKB.", how)
-            repair = page.run('[$("repair").textContent, $("bytes").checkVisibility()]')
-            count(page.name(f"{name}: its repair"), (how in repair[0], repair[1]), (True, False))
-            count(page.name(f"{name}: no command is broken at a line's end"), page.run("brokenCodes()"), [])
-        else:
-            count(page.name(f"{name} is refused"), text, "Refused")
+        has(page, name, text, f"Not TWKB: this looks like {what}.", how, lacks=["Refused", " size", "type of shape"])
+        count(page.name(f"{name}: no reasons"), page.run('$("refused").checkVisibility()'), False)
+        count(page.name(f"{name}: no command is broken at a line's end"), page.run("brokenCodes()"), [])
     with open(os.path.join(TOP, "docs", "hops.svg"), "rb") as file:
-        has(page, "a picture", said(page, file.read(), "hops.svg"), "This looks like XML")
+        has(page, "a picture", said(page, file.read(), "hops.svg"), "this looks like XML")
+    lines = example("coast_lines_sized.twkb")
     has(page, "a broken layer is none of these", said(page, lines[:-1]), "Refused", lacks=["looks like"])
     count(page.name("a broken layer: its bytes"), page.run('$("bytes").checkVisibility() && $("fields").checkVisibility()'), True)
     for row in table("cases.tsv"):
@@ -181,11 +178,12 @@ def formats(page):
 
 def letters(page):
     """Beside the bytes are their letters."""
-    text = b"0203 letters of a text that is no layer"
-    page.drop("text.txt", text)
+    text = POINT + b"letters of a text that is no layer"
+    page.drop("text.twkb", text)
     wide = 8 if page.run("innerWidth") < 640 else 16
     shown = page.run('$("bytes").textContent').splitlines()
-    wanted = [(text[at : at + wide].hex(" "), text[at : at + wide].decode()) for at in range(0, len(text), wide)]
+    printed = "".join(chr(byte) if 32 <= byte < 127 else "." for byte in text)
+    wanted = [(text[at : at + wide].hex(" "), printed[at : at + wide]) for at in range(0, len(text), wide)]
     got = [(line.strip().split("  ", 1)[1][: 3 * wide - 1].strip(), line[-len(two[1]) :]) for line, two in zip(shown, wanted)]
     count(page.name("letters beside the bytes"), (len(shown), got), (len(wanted), wanted))
 
@@ -207,7 +205,7 @@ def windows(page):
     kept = page.run('$("scanned").textContent')
     has(page, "a window", kept, "In x=10..30,y=35..45 the scan found")
     wrong = page.scan("x=1")["wrong"]
-    has(page, "a wrong window", wrong, "This isn't a window.", "The results below are of the last window.")
+    has(page, "a wrong window", wrong, "“x=1” isn't a range.", "The results below are of the last window.")
     count(page.name("a wrong window: the results"), page.run('$("scanned").textContent'), kept)
     has(page, "a window upside down", page.scan("x=1..0,y=0..1")["wrong"], "A lowest value is greater than its highest. Swap them.")
     page.scan("x=0..1,y=89..90")
@@ -217,8 +215,8 @@ def windows(page):
 def places(page):
     """Where a file is wrong, and how long it is."""
     wrong = "blob number 0 (counted from 0) is wrong at offset"
-    has(page, "a cut", said(page, bytes.fromhex("010002")), f"{wrong} 3, where the file ends.")
-    has(page, "a box", said(page, bytes.fromhex("020309020602080202020808")), f"{wrong} 3 (the file has 12 bytes).")
+    has(page, "a cut", said(page, bytes.fromhex("010002")), f"{wrong} 3 (0x3), where the file ends.")
+    has(page, "a box", said(page, bytes.fromhex("020309020602080202020808")), f"{wrong} 3 (0x3) of 12 bytes.")
 
 
 def lacking_axes(page):

@@ -18,7 +18,7 @@ def focus(page):
     page.rows()
     for id, shown in (("last", "of"), ("first", "1 to"), ("next", "26 to"), ("back", "1 to")):
         count(page.name(f"the focus after {id}"), focused(page, id), id)
-        count(page.name(f"the rows after {id}"), shown in page.run('$("pages").textContent'), True)
+        page.wait(f'$("pages").textContent.includes("{shown}")')
     page.run('$("list").tBodies[0].rows[0].cells[3].click()')
     page.wait("frame().picked !== null && !$('picked').hidden")
     count(page.name("the focus after going back to the map"), focused(page, "tomap"), "map")

@@ -77,6 +77,7 @@ def zoomed(page):
         return corners(page)
 
     wide = [at_first[2] - at_first[0]]
+    page.run('$("map").focus()')
     for what, act, words in (
         ("wheel", page.browser.wheel, (x, y, -240)),
         ("fingers", page.browser.fingers, ([[(x - 20, y), (x + 20, y)], [(x - 30, y), (x + 30, y)], [(x - 45, y), (x + 45, y)]],)),

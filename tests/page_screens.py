@@ -29,6 +29,7 @@ def tap(page, number):
 
 def first_screen(page):
     """The name, what it is for, and a lead of two lines on a phone."""
+    page.reload()
     lines = page.run("leadLines()")
     count(page.name(f"the lead has {lines} lines"), 1 <= lines <= 2, True)
     count(page.name("the subtitle"), page.run('$("subtitle")?.textContent'), "Checks map layers in the TWKB format")
@@ -75,8 +76,7 @@ def scrolled(page):
         page.drop("lines.twkb", lines)
         page.run("scrollTo(0, 1500)")
         page.drop("layer.twkb", layer)
-        page.run("new Promise((resume) => setTimeout(() => resume(null), 100))")
-        count(page.name(f"{name}, from below: the verdict is in view"), page.run('isInView($("verdict"))'), True)
+        page.wait('isInView($("verdict"))')
 
 
 def known(page):
@@ -136,7 +136,8 @@ def fingers(page):
     count(page.name("two fingers zoom"), page.run("frame().text"), frame["text"])
     if page.run("innerWidth") < NARROW:
         page.run('$("finger").click()')
-        page.run('($("fit").click(), new Promise((resume) => setTimeout(() => resume(null), 100)))')
+        page.run('$("fit").click()')
+        page.wait('$("map").dataset.painted === "yes"')
         before = page.run("frame().corners")
         left = page.run("frame().x") + 20
         page.browser.swipe([(left, y + 5 * i) for i in range(9)])
@@ -267,6 +268,21 @@ def contrasts(page):
         for legend in legends:
             shapes = page.run(f"shapesOf({json.dumps(legend)})")
             count(page.name(f"{name}: shapes of {legend}"), (len(shapes) > 2, len(set(shapes))), (True, len(shapes)))
+
+
+def forced(page):
+    """With colours that the system forces, marks still differ and are seen."""
+    count(page.name("colours are forced"), page.run('matchMedia("(forced-colors: active)").matches'), True)
+    page.drop(WORLD, example(WORLD))
+    page.scan("x=10..30,y=35..45")
+    page.run('$("pen").click()')
+    count(page.name("texts and marks"), page.run("[...faint(), ...faintMarks()]"), [])
+    for canvas in ("map", "strip"):
+        got = page.run(f'faintPixels("{canvas}")')
+        count(page.name(f"marks on {canvas}: {got}"), (got["faint"], got["marks"] >= 2), ([], True))
+    grounds = page.run('["pen", "in"].map((id) => getComputedStyle($(id)).backgroundColor)')
+    count(page.name("a pressed button is seen"), grounds[0] != grounds[1], True)
+    page.picture(f"forced-{page.browser.name}", '$("verdict")')
 
 
 def at_once(page):

@@ -1,7 +1,7 @@
 #!/bin/sh
 # Packs a release: build/dozhemik-VERSION-x86_64-linux.tar.gz, the same bytes each time for one commit and what is built of it.
 # usage: tools/dist.sh
-# Takes what `make build library page` or `make test` built, and builds nothing. Wants git, GNU tar, gzip, python3, and the Rattle
+# Takes what `make build library page` or `make test` built, and builds nothing. Wants git, GNU tar, gzip, python3, esbuild, and the Rattle
 # kit, whose name and whose licences of crates go in. Where what is built is missing, or isn't of these sources, or the checkout
 # isn't what is committed, that is said, nothing is packed and the status is 1.
 set -eu

@@ -23,11 +23,12 @@ sources=$("$top/tools/sources.sh")
 "$kit/bin/rattle-link" --target $target --toolchain "$kit/toolchain" -o "$out/twkb_web64.wasm" "$out/twkb_web.a"
 
 # The kit compiles for 64 bits. Browsers want a flag for that, and run 32 bits faster.
-# The passes after that keep the speed, and make the module shorter: they merge equal functions, remove assignments and branches
-# without effect, and put a function's locals that are used most first. Those of -O2 and -Oz inline, which makes the module longer
-# when compressed.
+# The passes after that keep the speed, and make the module shorter: they merge equal functions and blocks, remove assignments and
+# branches without effect, share locals between values, and put functions and locals that are used most first. Those of -O2 and -Oz
+# inline, which makes the module longer when compressed.
 wasm-opt --enable-memory64 --enable-bulk-memory --enable-sign-ext --enable-mutable-globals --enable-nontrapping-float-to-int \
-    --memory64-lowering --duplicate-function-elimination --rse --remove-unused-brs --vacuum --reorder-locals \
+    --memory64-lowering --duplicate-function-elimination --rse --remove-unused-brs --vacuum --reorder-functions --merge-blocks \
+    --coalesce-locals --reorder-locals --vacuum \
     "$out/twkb_web64.wasm" -o "$out/twkb_web.wasm"
 echo "$sources" > "$out/twkb_web.wasm.sources"
 echo "built $out/twkb_web.wasm"

@@ -3,10 +3,9 @@
 
 usage: bindings/web/make_page.py MODULE OUT
 
-The scripts of `page/` are joined, without comments and indentation, in an order in which each imports only from those before it. The
-style has no comments either, and fewer gaps. The module, the scripts and the examples are compressed, and all examples but the first
-are shortened by whole blobs, so that the page stays below LARGEST bytes. It names the version, from the file VERSION, and the
-commit, if git knows one. A commit has one page, byte for byte.
+esbuild bundles the scripts of `page/` and makes them and the style short. The style, what the page shows, the module, the scripts and the
+examples are compressed, and all examples but the first are shortened by whole blobs, so that the page stays below LARGEST bytes. It
+names the version, from the file VERSION, and the commit, if git knows one. A commit has one page, byte for byte.
 
 The page is in CHARSET, which has a letter for each of the 256 bytes. So a compressed byte takes one byte of the page.
 """
@@ -15,17 +14,15 @@ import functools
 import gzip
 import os
 import re
+import shutil
 import subprocess
 import sys
 
 HERE = os.path.dirname(os.path.abspath(__file__))
 TOP = os.path.dirname(os.path.dirname(HERE))
 PAGE = os.path.join(HERE, "page")
-WORKER = ["numbers.js", "parts.js", "fields.js", "fronts.js", "twkb.js", "reasons.js", "layer.js", "worker.js"]
-MAIN = [
-    *("dom.js", "numbers.js", "words.js", "window.js", "view.js", "graticule.js", "pick.js", "bytes.js", "answers.js", "files.js"),
-    *("paint.js", "strip.js", "map.js", "table.js", "main.js"),
-]
+# The oldest browsers that run the page.
+TARGET = "chrome123,firefox120"
 LARGEST = 150_000
 # As browsers read it. Python calls it CODEC, and knows no letter for five of its bytes, which the page's texts don't use.
 CHARSET = "windows-1252"
@@ -34,11 +31,6 @@ CODEC = "cp1252"
 # a byte SHIFT higher.
 SIGN, SHIFT = b"=", 64
 ESCAPED = re.compile(b"[\0\r" + SIGN + b"]|<(?=[!/])")
-# Gaps of a style are spaces, ends of lines and comments. Next to these marks they may go, and after a colon too. Before a colon they
-# may be part of a selector.
-GAP = r"(?:\s|/\*(?:(?!\*/).)*\*/)"
-STRING = r'"(?:\\.|[^"\\])*"' + r"|'(?:\\.|[^'\\])*'"
-STYLE_TOKEN = re.compile(rf"({STRING})|{GAP}*([{{}};,]){GAP}*|(:){GAP}+|{GAP}+", re.DOTALL)
 sys.path.insert(0, os.path.join(TOP, "tests"))
 import plain  # noqa: E402
 
@@ -74,38 +66,26 @@ def commit():
     return head[:COMMIT_LETTERS] if os.path.realpath(top) == os.path.realpath(TOP) else "unknown"
 
 
-def joined(modules):
-    """One script of these modules: each is a function that gives what it exports, but the last, which runs."""
-    return "\n".join(function(module, modules) for module in modules[:-1]) + "\n" + body(modules[-1], modules)
+def short(*words):
+    """What esbuild makes of a script or a style."""
+    if not shutil.which("esbuild"):
+        raise SystemExit("esbuild is missing: apt-get install esbuild")
+    done = subprocess.run(["esbuild", *words, "--minify", f"--target={TARGET}"], stdout=subprocess.PIPE, cwd=PAGE, check=True)
+    return done.stdout.strip()
 
 
-def function(module, modules):
-    exports = re.findall(r"^export (?:const|class|(?:async )?function\*?) ([\w$]+)", text_of(PAGE, module), re.MULTILINE)
-    return f"const {variable(module)} = (() => {{\n{body(module, modules)}return {{ {', '.join(exports)} }};\n}})();"
+def bundled(entry):
+    """One script of a module and those that it imports."""
+    return short(entry, "--bundle", "--format=esm", "--charset=utf8")
 
 
-def variable(module):
-    return f"{module[:-3]}_js"
+def content():
+    """What the page shows, with its style. Without indentation, which shows nowhere: scripts fill each `pre`."""
+    return b"<style>" + short("style.css") + b"</style>" + unindented("content.html").encode()
 
 
-def body(module, modules):
-    """The module with imports from those before it, and without comments of whole lines and indentation."""
-    text = text_of(PAGE, module)
-    for found in re.findall(r'^import .* from "\./(\w+\.js)";', text, re.MULTILINE):
-        if found not in modules[: modules.index(module)]:
-            raise SystemExit(f"{module} imports {found}, which isn't before it")
-    text = re.sub(r"^\s*//.*\n", "", text, flags=re.MULTILINE)
-    text = re.sub(r'^import (?:\* as )?(.*) from "\./(\w+)\.js";', r"const \1 = \2_js;", text, flags=re.MULTILINE)
-    return re.sub(r"^(?:export |\s+)", "", text, flags=re.MULTILINE)
-
-
-def without_gaps(style):
-    """A style without comments, and with fewer gaps. Its strings stay as they are."""
-    return STYLE_TOKEN.sub(lambda match: match[1] or match[2] or match[3] or " ", style).strip()
-
-
-def style():
-    return without_gaps(text_of(PAGE, "style.css"))
+def unindented(name):
+    return re.sub(r"^\s+", "", text_of(PAGE, name), flags=re.MULTILINE)
 
 
 def packed(data):
@@ -138,12 +118,17 @@ def width(blob):
 def layers(parts):
     """A script for each example, and three that are broken: what to change in the first of them, or how much is left of it."""
     whole = [(*WORLD, example(WORLD[0]))]
-    short = [(name, title, shortened(name, blobs * parts)) for name, title, blobs in EXAMPLES]
+    part = [(name, title, shortened(name, blobs * parts)) for name, title, blobs in EXAMPLES]
     scripts = [
-        f'<script type="text/plain" id="{name[:-5]}" data-example="{name}" data-title="{title}">'.encode() + packed(data) + b"</script>"
-        for name, title, data in whole + short
+        f'<script type="text/plain" id="{name[:-5]}" data-example="{told(name, data)}" data-title="{title}">'.encode() + packed(data) + b"</script>"
+        for name, title, data in whole + part
     ]
     return b"\n".join(scripts + [script.encode() for script in broken(WORLD[0])])
+
+
+def told(name, data):
+    """What a layer is called that has some blobs of an example: by its file's name where it is the file."""
+    return name if data == example(name) else f"{len(plain.blobs_of(data))} blobs of {name}"
 
 
 def broken(name):
@@ -155,10 +140,11 @@ def broken(name):
     def script(file, title, content="", more=""):
         return f'<script type="text/plain" data-layer="{name[:-5]}" data-example="{file}" data-title="{title}"{more}>{content}</script>'
 
+    length = (cut.start + cut.stop) // 2
     return [
-        script("box.twkb", "a false box", f"{extent}={data[extent] // 2}"),
-        script("size.twkb", "a false size", f"{size.head.size_at}={data[size.head.size_at] ^ 1}"),
-        script("cut.twkb", "cut short", more=f' data-length="{(cut.start + cut.stop) // 2}"'),
+        script(f"{name} with a false box", "a false box", f"{extent}={data[extent] // 2}"),
+        script(f"{name} with a false size", "a false size", f"{size.head.size_at}={data[size.head.size_at] ^ 1}"),
+        script(f"the first {length:,} bytes of {name}", "cut short", more=f' data-length="{length}"'),
     ]
 
 
@@ -176,14 +162,13 @@ def halved(data, number):
 def main(module, out):
     with open(module, "rb") as file:
         code = packed(file.read())
-    texts = {"CHARSET": CHARSET, "STYLE": style(), "VERSION": version(), "COMMIT": commit(), "LOADER": body("loader.js", [])}
-    parts_of = {name: text.encode(CODEC) for name, text in texts.items()}
-    parts_of.update(MODULE=code, WORKER=packed(joined(WORKER).encode()), MAIN=packed(joined(MAIN).encode()))
+    parts_of = {name: text.encode() for name, text in (("CHARSET", CHARSET), ("VERSION", version()), ("COMMIT", commit()))}
+    parts_of.update(MODULE=code, CONTENT=packed(content()), LOADER=short("loader.js"))
+    parts_of.update({name: packed(bundled(f"{name.lower()}.js")) for name in ("MAIN", "WORKER", "PAINTER")})
 
     def page(parts):
         parts_of["EXAMPLES"] = layers(parts)
-        # Without indentation, which shows nowhere: scripts fill each `pre`.
-        html = re.sub(r"^\s+", "", text_of(PAGE, "index.html"), flags=re.MULTILINE).encode(CODEC)
+        html = unindented("index.html").encode(CODEC)
         return re.sub(b"@([A-Z]+)@", lambda match: parts_of[match[1].decode()], html)
 
     fits = bisect.bisect_left(range(1, MOST_PARTS + 1), LARGEST + 1, key=lambda parts: len(page(parts)))

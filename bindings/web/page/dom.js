@@ -7,3 +7,13 @@ export function element(name, text, className) {
   if (className) made.className = className;
   return made;
 }
+
+// Code of fewer letters stays in one line.
+const SHORT = 24;
+
+// A paragraph in which words between backquotes are code.
+export function withCode(text) {
+  const made = element("p");
+  text.split("`").forEach((part, i) => made.append(i % 2 ? element("code", part, part.length < SHORT ? "short" : "") : part));
+  return made;
+}

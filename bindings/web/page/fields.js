@@ -1,29 +1,30 @@
 // The fields of a blob by their names, as far as they can be read: for people who look at bytes.
 //
 // Any bytes may be walked here. A field that the bytes cut short, or that can't follow where it is, ends the walk.
-import { decimal, many, plus, spelled, unzigzag } from "./numbers.js";
+import { AXES, BOX, COLLECTION, EMPTY, EXTENDED, IDS, LINESTRING, MULTILINESTRING, MULTIPOINT, POINT, POLYGON, SIZE, TYPES } from "./format.js";
+import { decimal, many, plus, Reader, unzigzag } from "./numbers.js";
 
-const TYPES = ["", "point", "linestring", "polygon", "multipoint", "multilinestring", "multipolygon", "collection"];
 const PARTS = ["", "", "point", "ring", "point", "line", "polygon", "member"];
-export const AXES = "XYZM";
 const DEEPEST = 64, LONGEST = 10;
-// A number of up to 7 bytes is exact without a BigInt.
-const SHORT = 7;
 const LEAST = -(2n ** 63n), GREATEST = 2n ** 63n - 1n;
+// How many points or ids are walked at once.
+const RUN = 16384;
 
 class Ended extends Error {}
 
-export class Fields {
+export class Fields extends Reader {
   // `take(field)` gets each field; `of` is the geometry that it is of. Points whose bytes lie outside the range from `shown[0]` to
-  // `shown[1]` are passed without: the bytes before a refused place are well formed, and so is all of a blob with a false claim.
-  constructor(bytes, at, take, shown = [0, Infinity]) {
-    Object.assign(this, { bytes, at, take, shown, passed: 0 });
+  // `shown[1]` are passed, and `pass(of, axis, sum, from)` gets their coordinates: the bytes before a refused place are well formed, and
+  // so is all of a blob with a false claim.
+  constructor(bytes, at, take, shown = [0, Infinity], pass = null) {
+    super(bytes, at);
+    Object.assign(this, { take, shown, passing: pass, passed: 0 });
   }
 
-  // Walks a blob, and says whether it ends.
-  walk() {
+  // Walks a blob, and says whether it ends. Yields on the way.
+  *walk() {
     try {
-      this.geometry(1, null);
+      yield* this.geometry(1, null);
       return true;
     } catch (error) {
       if (error instanceof Ended) return false;
@@ -48,36 +49,39 @@ export class Fields {
     return this.bytes[this.at++];
   }
 
+  // A number, where all of it is there.
   varint(name, of) {
     const from = this.at;
-    let short = 0, scale = 1;
-    for (let i = 0; i < LONGEST; i++) {
-      if (this.at >= this.bytes.length) this.stop(from, name, i ? "the file ends inside this number" : "the file ends here", of);
-      const byte = this.bytes[this.at++];
-      if (i === LONGEST - 1 && byte > 1) this.stop(from, name, "a number of more than 64 bits", of);
-      short += (byte & 127) * scale;
-      scale *= 128;
-      if (byte < 128) return i < SHORT ? short : spelled(this.bytes, from, this.at);
+    for (let i = 0; ; i++) {
+      if (from + i >= this.bytes.length) {
+        this.at = this.bytes.length;
+        this.stop(from, name, i ? "the file ends inside this number" : "the file ends here", of);
+      }
+      const byte = this.bytes[from + i];
+      if (i === LONGEST - 1 && byte > 1) {
+        this.at = from + LONGEST;
+        this.stop(from, name, "a number of more than 64 bits", of);
+      }
+      if (byte < 128) return super.unsigned();
     }
   }
 
-  unsigned(name, of, says) {
+  field(name, of, says) {
     const from = this.at, number = this.varint(name, of);
     this.tell(from, name, () => says(number), of, { number });
     return number;
   }
 
-  signed(name, of, says, more) {
+  signedField(name, of, says, more) {
     const from = this.at, number = unzigzag(this.varint(name, of));
     this.tell(from, name, () => says(number), of, { number, ...more });
     return number;
   }
 
-  geometry(depth, parent) {
+  *geometry(depth, parent) {
     const of = { depth, parent, start: this.at, sums: [0, 0, 0, 0], vertices: 0 };
     this.header(of);
-    of.body = this.at;
-    if (!of.empty) this.body(of);
+    if (!of.empty) yield* this.body(of);
     of.end = this.at;
   }
 
@@ -86,7 +90,7 @@ export class Fields {
     this.metadata(of);
     if (of.extended) this.dimensions(of);
     of.sizeAt = this.at;
-    if (of.hasSize) of.size = this.unsigned("size", of, (n) => `${many(n, "byte")} to the end of this ${of.type}`);
+    if (of.hasSize) of.size = this.field("size", of, (n) => `${many(n, "byte")} to the end of this ${of.type}`);
     of.boxAt = this.at;
     if (of.hasBox) this.box(of);
   }
@@ -97,14 +101,14 @@ export class Fields {
     of.type = TYPES[of.kind];
     of.precisions = [unzigzag(byte >> 4), unzigzag(byte >> 4)];
     if (!of.type) this.stop(from, "type and precision", `type ${of.kind}, but the types are 1 to 7`, of);
-    if (of.kind === 7 && of.depth === DEEPEST) this.stop(from, "type and precision", `a collection inside ${DEEPEST - 1} others`, of);
+    if (of.kind === COLLECTION && of.depth === DEEPEST) this.stop(from, "type and precision", `a collection inside ${DEEPEST - 1} others`, of);
     this.tell(from, "type and precision", `${of.type}, precision ${of.precisions[0]}`, of);
   }
 
   metadata(of) {
     const from = this.at, byte = this.byte("metadata", of);
-    [of.hasBox, of.hasSize, of.hasIds, of.extended, of.empty] = [1, 2, 4, 8, 16].map((bit) => !!(byte & bit));
-    of.hasIds &&= of.kind >= 4;
+    [of.hasBox, of.hasSize, of.hasIds, of.extended, of.empty] = [BOX, SIZE, IDS, EXTENDED, EMPTY].map((bit) => !!(byte & bit));
+    of.hasIds &&= of.kind >= MULTIPOINT;
     const there = [of.hasSize && "a size", of.hasBox && "a box", of.hasIds && "ids", of.extended && "more axes", of.empty && "empty"];
     this.tell(from, "metadata", there.filter(Boolean).join(", ") || "no size, no box", of);
   }
@@ -125,56 +129,65 @@ export class Fields {
     of.box = [];
     for (const axis of this.axes(of)) {
       const precision = of.precisions[axis];
-      const low = this.signed(`box, lowest ${AXES[axis]}`, of, (n) => decimal(n, precision));
+      const low = this.signedField(`box, lowest ${AXES[axis]}`, of, (n) => decimal(n, precision));
       const says = (n) => (n < 0 ? `${decimal(n, precision)}: negative, so no vertex is in this box` : `${decimal(n, precision)}, so up to ${decimal(plus(low, n), precision)}`);
-      const extent = this.signed(`box, extent of ${AXES[axis]}`, of, says);
+      const extent = this.signedField(`box, extent of ${AXES[axis]}`, of, says);
       of.box[axis] = [low, plus(low, extent)];
     }
   }
 
-  body(of) {
+  *body(of) {
     const { kind } = of;
-    if (kind === 1) return this.point(of, this.axes(of), [""]);
+    if (kind === POINT) return this.point(of, this.axes(of), [""]);
     const count = this.count(`count of ${PARTS[kind]}s`, of, PARTS[kind]);
-    if (kind === 2) return this.points(of, count, "");
-    if (kind === 3) return this.lines(of, count, "ring ");
-    if (of.hasIds) this.ids(of, count);
-    if (kind === 4) return this.points(of, count, "");
-    if (kind === 5) return this.lines(of, count, "line ");
+    if (kind === LINESTRING) return yield* this.points(of, count, "");
+    if (kind === POLYGON) return yield* this.lines(of, count, "ring ");
+    if (of.hasIds) yield* this.ids(of, count);
+    if (kind === MULTIPOINT) return yield* this.points(of, count, "");
+    if (kind === MULTILINESTRING) return yield* this.lines(of, count, "line ");
     for (let i = 0; i < count; i++) {
-      if (kind === 7) this.geometry(of.depth + 1, of);
-      else this.lines(of, this.count(`polygon ${i}, count of rings`, of, "ring"), `polygon ${i}, ring `);
+      if (kind === COLLECTION) yield* this.geometry(of.depth + 1, of);
+      else yield* this.lines(of, this.count(`polygon ${i}, count of rings`, of, "ring"), `polygon ${i}, ring `);
     }
   }
 
   count(name, of, part) {
-    return this.unsigned(name, of, (n) => many(n, part));
+    return this.field(name, of, (n) => many(n, part));
   }
 
-  ids(of, count) {
+  *ids(of, count) {
     of.idsAt = this.at;
-    for (let i = 0; i < count; i++) this.signed(() => `id ${i}`, of, String, { id: i });
-  }
-
-  lines(of, count, name) {
     for (let i = 0; i < count; i++) {
-      const points = this.count(`${name}${i}, count of points`, of, "point");
-      this.points(of, points, `${name}${i}, `);
+      this.signedField(() => `id ${i}`, of, String, { id: i });
+      if (i % RUN === RUN - 1) yield this.at;
     }
   }
 
-  points(of, count, name) {
+  *lines(of, count, name) {
+    for (let i = 0; i < count; i++) {
+      const points = this.count(`${name}${i}, count of points`, of, "point");
+      yield* this.points(of, points, `${name}${i}, `);
+    }
+  }
+
+  *points(of, count, name) {
     const axes = this.axes(of);
     for (let i = 0; i < count; i++) {
       if (this.at < this.shown[0] || this.at > this.shown[1]) this.pass(of, axes);
       else this.point(of, axes, [name, i]);
+      if (i % RUN === RUN - 1) yield this.at;
     }
   }
 
   pass(of, axes) {
-    for (const axis of axes) of.sums[axis] = plus(of.sums[axis], unzigzag(this.varint()));
+    const isBefore = this.at < this.shown[0];
+    for (const axis of axes) {
+      const from = this.at;
+      of.sums[axis] = plus(of.sums[axis], unzigzag(this.varint("", of)));
+      this.passing?.(of, axis, of.sums[axis], from);
+    }
     of.vertices++;
-    if (this.at <= this.shown[0]) this.passed += axes.length;
+    if (isBefore) this.passed += axes.length;
   }
 
   point(of, axes, place) {

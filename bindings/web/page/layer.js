@@ -2,20 +2,28 @@
 //
 // Each works on runs of blobs, since a run of a certified layer is one by itself, and yields between: a yield says how much is
 // done of how much, and the worker may drop the rest.
-import { inUnits, minus, ofUnits } from "./numbers.js";
-import { Fields } from "./fields.js";
-import { COLLECTION, EMPTY, partsOf } from "./parts.js";
+import { Fields, shown } from "./fields.js";
+import { COLLECTION, EMPTY, REFUSED, UNITS } from "./format.js";
+import { many, ofUnits } from "./numbers.js";
+import { HEADER, HIT, HOPPED, READ } from "./states.js";
+import { boxOf, looseIn, partsOf, precisionOf, survey, Walk } from "./walk.js";
 
-// The most rows that are kept, and the most vertices that are drawn.
-const MOST_ROWS = 1 << 22, MOST_DRAWN = 300000;
+// The most rows that are kept, and the most vertices that are drawn: of a sample, and of the hits that it lacks. A blob may be drawn that
+// goes beyond.
+const MOST_ROWS = 1 << 22, MOST_DRAWN = 300000, MOST_HITS = 1 << 20;
 const RUN = 4096, LOOSEST = 8, MOST_LOOSE = 2000;
-// What a scan does with a blob. Of one that it hops over it reads the header, which has a place of its own in sums.
-const READ = 0, HOPPED = 1, HIT = 2, HEADER = 3;
-const UNITS = 1e7;
+// How many fields are shown of a blob that is picked.
+const MOST_FIELDS = 60;
+
+class Enough extends Error {}
+
+// Lowest X and Y, then highest, of ends in units.
+const asDoubles = (low, high) => [low[0], low[1], high[0], high[1]].map((end) => Number(end) / UNITS);
 
 export class Layer {
-  constructor(library, { blobs, vertices }) {
-    Object.assign(this, { library, blobs, vertices, length: library.length });
+  // The blobs of the library's bytes up to a length.
+  constructor(library, { blobs, vertices }, length = library.length) {
+    Object.assign(this, { library, blobs, vertices, length });
   }
 
   // Chooses the whole layer.
@@ -36,24 +44,67 @@ export class Layer {
     this.missed = new Uint8Array(this.rows);
   }
 
+  // What the layer claims, how far its vertices reach, which proved scans confirm, and how many blobs have each type and precision.
+  *survey() {
+    const { claims, low, high } = yield* survey(this.library.bytes, this.length);
+    this.whole();
+    const extent = [0, 1, 2, 3].map((axis) => (low[axis] === undefined ? null : this.confirmed(axis, low[axis], high[axis])));
+    return { claims, extent, types: this.types(), rows: this.rows, blobs: this.blobs };
+  }
+
+  // The ends of the chosen blobs' vertices on an axis, which the walk found.
+  confirmed(axis, low, high) {
+    if (!this.library.reaches(axis, low, high)) throw new Error(`the vertices don't reach from ${low} to ${high}`);
+    return [low, high];
+  }
+
+  // The commonest type and precision comes first. A precision is from -8 to 7.
+  types() {
+    const counts = new Uint32Array(128);
+    for (let k = 0; k < this.rows; k++) counts[16 * this.kind[k] + this.precision[k] + 8]++;
+    const types = Array.from(counts, (count, at) => ({ kind: at >> 4, precision: (at & 15) - 8, count }));
+    return types.filter(({ count }) => count).sort((one, other) => other.count - one.count);
+  }
+
   // Which blobs the map draws: all, or every second, third and so on where there are too many vertices.
   sampled() {
     return Math.max(1, Math.ceil(this.vertices / MOST_DRAWN), Math.ceil(this.rows / MOST_DRAWN));
   }
 
-  // The picture: vertices, where each part of them begins and of which blob it is, and boxes.
-  *draw() {
-    const every = this.sampled(), drawn = Math.ceil(this.rows / every);
-    const picture = { every, blobs: new Uint32Array(drawn), boxes: new Float64Array(4 * drawn).fill(NaN), from: [], shape: [], of: [] };
-    const room = new Float64Array(2 * Math.min(this.vertices, 2 * MOST_DRAWN));
+  // The picture of every so many blobs.
+  draw() {
+    const every = this.sampled(), blobs = Uint32Array.from({ length: Math.ceil(this.rows / every) }, (_, i) => i * every);
+    return this.pictured(blobs, every, 2 * MOST_DRAWN);
+  }
+
+  // The picture of the hits that the sample lacks, as many as have room.
+  drawHits() {
+    const every = this.sampled(), blobs = [];
+    let vertices = 0, left = 0;
+    for (let k = 0; k < this.rows; k++) {
+      if (this.state[k] !== HIT || k % every === 0) continue;
+      if (vertices >= MOST_HITS) left++;
+      else blobs.push(k);
+      vertices += this.count[k];
+    }
+    return { blobs: Uint32Array.from(blobs), left };
+  }
+
+  // The picture of those hits.
+  picturedHits(blobs) {
+    return this.pictured(blobs, 1, 2 * MOST_HITS);
+  }
+
+  // A picture: vertices, where each part of them begins and of which blob it is, and boxes.
+  *pictured(blobs, every, most) {
+    const drawn = blobs.length, picture = { every, blobs, boxes: new Float64Array(4 * drawn).fill(NaN), from: [], shape: [], of: [] };
+    const room = new Float64Array(2 * Math.min(this.vertices, most));
     let used = 0;
     for (let i = 0; i < drawn; i++) {
-      const k = i * every;
-      picture.blobs[i] = k;
+      const k = blobs[i], count = Math.min(this.count[k], room.length / 2 - used);
       this.one(k);
-      const most = Math.min(this.count[k], room.length / 2 - used);
-      this.library.draw(room, used, most);
-      used = this.parts(picture, i, k, used, used + most);
+      this.library.draw(room, used, count);
+      used = this.parts(picture, i, k, used, used + count);
       if (i % RUN === RUN - 1) yield [i, drawn];
     }
     const [from, shape, of] = [Uint32Array.from([...picture.from, used]), Uint8Array.from(picture.shape), Uint32Array.from(picture.of)];
@@ -69,7 +120,7 @@ export class Layer {
       picture.of.push(i);
       used = Math.min(used + count, end);
     });
-    if (box) picture.boxes.set(box, 4 * i);
+    if (box) picture.boxes.set(asDoubles(...[0, 1].map((end) => box.map((range) => range[end]))), 4 * i);
     return used;
   }
 
@@ -99,8 +150,10 @@ export class Layer {
     return this.library.misses(this.offset[k]);
   }
 
-  // By what was done: how many blobs and bytes, here and in a scan with a directory, which reads nothing of a blob whose box misses.
+  // By what was done: how many blobs and bytes, here and in a scan with a directory, which reads nothing of a blob whose box misses; and
+  // the longest gap that is hopped over.
   sums() {
+    let gap = 0;
     const sums = [READ, HOPPED, HIT, HEADER].map(() => ({ blobs: 0, bytes: 0, directoryBlobs: 0, directoryBytes: 0 }));
     const hopped = sums[HOPPED];
     for (let k = 0; k < this.rows; k++) {
@@ -111,10 +164,11 @@ export class Layer {
       sum.directoryBytes += read;
       hopped.blobs += state === HOPPED;
       hopped.bytes += this.bytes[k] - this.read[k];
+      gap = Math.max(gap, this.bytes[k] - this.read[k]);
       hopped.directoryBlobs += this.missed[k];
       hopped.directoryBytes += this.bytes[k] - read;
     }
-    return sums;
+    return { sums, gap };
   }
 
   // The file in cells: for each how many of its bytes were read for hits, read for none, read as a header, and hopped over.
@@ -133,54 +187,54 @@ export class Layer {
     return strip;
   }
 
-  // The blobs with loose boxes by the proved check, a few of them with how much larger the box is than the vertices.
+  // The blobs with loose boxes by the proved check, and the boxes of them that reach furthest beyond their vertices.
   *loose() {
     const loosest = [];
-    let found = 0;
+    let found = 0, sized = 0;
     for (let k = 0; k < this.rows && found < MOST_LOOSE; k++) {
-      if (this.library.certify(true, this.offset[k], this.bytes[k]).answer === 1) {
+      if (this.library.certify(true, this.offset[k], this.bytes[k]).answer === REFUSED) {
         found++;
-        this.rank(loosest, k);
+        const boxes = looseIn(this.library.bytes, this.offset[k]);
+        sized += boxes.some(({ of }) => of.size !== null);
+        if (boxes.length) loosest.push({ blob: k, ...boxes.reduce((one, other) => (other.beyond > one.beyond ? other : one)) });
+        loosest.sort((one, other) => (other.beyond > one.beyond ? 1 : other.beyond < one.beyond ? -1 : one.blob - other.blob));
+        loosest.splice(LOOSEST);
       }
-      if (k % RUN === RUN - 1) yield [k, this.rows];
+      if (k % RUN === RUN - 1 || found % 64 === 63) yield [k, this.rows];
     }
-    return { found, atLeast: found === MOST_LOOSE, loosest: loosest.map(({ blob }) => this.looseness(blob)) };
+    return { found, sized, atLeast: found === MOST_LOOSE, loosest: loosest.map((one) => this.looseness(one)) };
   }
 
-  rank(loosest, k) {
-    const { box, extent } = this.ends(k);
-    if (!box || !extent) return;
-    loosest.push({ blob: k, beyond: Math.max(...[0, 1].flatMap((i) => [extent[i] - box[i], box[i + 2] - extent[i + 2]])) });
-    loosest.sort((one, other) => other.beyond - one.beyond);
-    loosest.splice(LOOSEST);
+  // How loose a box is, as exact texts: on the axis where it reaches furthest beyond its vertices. Proved scans confirm where those end.
+  looseness({ blob, of, axis, box, beyond }) {
+    const told = this.library.certify(false, of.from, of.end - of.from), precision = precisionOf(of, axis);
+    this.library.choose(of.from, of.end - of.from, 1, told.vertices);
+    const ends = this.confirmed(axis, of.low[axis], of.high[axis]), text = (end) => ofUnits(end, precision);
+    return { blob, kind: of.kind, depth: of.depth, offset: of.from, axis, box: box[axis].map(text), extent: ends.map(text), beyond: text(beyond) };
   }
 
-  // How loose a blob's box is, as exact texts: the ends of box and vertices, and by how much the box is larger.
-  looseness(k) {
-    const precision = this.precision[k], of = this.header(k), extent = this.extent(k);
-    const box = [0, 1].flatMap((end) => [0, 1].map((axis) => inUnits(of.box[axis][end], precision)));
-    const beyond = [0, 1].flatMap((i) => [minus(extent[i], box[i]), minus(box[i + 2], extent[i + 2])]);
-    const most = beyond.reduce((one, other) => (one > other ? one : other));
-    const [boxEnds, vertexEnds] = [box, extent].map((ends) => ends.map((end) => ofUnits(end, precision)));
-    return { blob: k, box: boxEnds, extent: vertexEnds, beyond: ofUnits(most, precision) };
+  // What is shown of one blob: its box and how far its vertices reach, as doubles for the map, and its first fields.
+  picked(k) {
+    const { bytes } = this.library, of = new Walk(bytes, this.offset[k], { geometry() {} }).geometry();
+    const ranges = of.boxAt === null ? null : boxOf(bytes, of);
+    const box = ranges && asDoubles(...[0, 1].map((end) => ranges.map((range) => range[end]))), extent = of.vertices ? asDoubles(of.low, of.high) : null;
+    return { ...this.row(k), box, extent, ...this.fields(k) };
   }
 
-  // The header with exact numbers.
-  header(k) {
-    const fields = new Fields(this.library.bytes, this.offset[k], () => {}), of = { depth: 1 };
-    fields.header(of);
-    return of;
-  }
-
-  extent(k) {
-    this.one(k);
-    return this.library.extent(Math.min(this.count[k], MOST_DRAWN));
-  }
-
-  // The box of a blob, and the extent of its vertices, for drawing.
-  ends(k) {
-    const extent = this.extent(k)?.map((end) => Number(end) / UNITS) ?? null;
-    return { box: partsOf(this.library.bytes, this.offset[k], () => {}), extent };
+  fields(k) {
+    const { bytes } = this.library, begins = [];
+    const take = (field) => {
+      if (begins.length === MOST_FIELDS) throw new Enough();
+      begins.push(shown(field, bytes));
+    };
+    try {
+      const walk = new Fields(bytes, this.offset[k], take).walk();
+      while (!walk.next().done);
+    } catch (error) {
+      if (!(error instanceof Enough)) throw error;
+    }
+    const last = begins.at(-1).to, end = this.offset[k] + this.bytes[k];
+    return { begins, near: [], gap: last < end ? `${many(end - last, "more byte")}, not shown` : "" };
   }
 
   // The numbers of the rows in the order of a column.

@@ -10,10 +10,11 @@ async function unpacked(id) {
   return new Response(new Blob([packed.subarray(0, at)]).stream().pipeThrough(new DecompressionStream("gzip"))).arrayBuffer();
 }
 
-// The page's script becomes a script inside the page, which the policy allows.
-unpacked("main").then((text) => {
-  const script = document.createElement("script");
+// The page's content is shown, and then its script becomes a script inside the page, which the policy allows.
+Promise.all(["content", "main"].map(unpacked)).then((parts) => {
+  const [content, main] = parts.map((part) => new TextDecoder().decode(part)), script = document.createElement("script");
+  document.querySelector("main").innerHTML = content;
   script.type = "module";
-  script.textContent = new TextDecoder().decode(text);
+  script.textContent = main;
   document.head.append(script);
 });

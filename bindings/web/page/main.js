@@ -1,47 +1,58 @@
 // Puts the page together: layers in, the worker's answers out.
-import { showBytes, showFields } from "./bytes.js";
-import * as answers from "./answers.js";
+import { takeExamples, takeFiles } from "./chooser.js";
 import { $ } from "./dom.js";
-import { takeExamples, takeFiles } from "./files.js";
+import { CERTIFIED, TYPES, UNITS } from "./format.js";
+import { showBytes, showFields } from "./hexdump.js";
 import { LayerMap } from "./map.js";
 import { many, number } from "./numbers.js";
 import { coloursOf, paintOutside } from "./paint.js";
-import { vertexNear } from "./pick.js";
+import { widen } from "./pen.js";
+import * as results from "./results.js";
+import { DONE, NONE, WORKING, WRONG } from "./states.js";
 import { paintStrip } from "./strip.js";
 import { BlobTable } from "./table.js";
+import { FAULTS, STAGES, WINDOW_ERRORS } from "./texts.js";
+import { showFault, showOthers, showReasons, showVerdict } from "./verdict.js";
 import { View } from "./view.js";
-import { textOf, windowIn } from "./window.js";
-import { FAULTS, STAGES, TYPES, WINDOW_ERRORS } from "./words.js";
+import { inAddress, ofAddress, textOf, understood, windowIn } from "./window.js";
 
 const STRIP_LINES = 4, STEP = 1.5;
 // On a narrow screen a line has fewer bytes, and explanations are folded.
 const NARROW = 640, WIDE_LINE = 16, NARROW_LINE = 8;
+// How long the map keeps the colours of the last window before it dims them, and how long the address keeps that window, in milliseconds:
+// a browser doesn't let an address change for each step of a drag.
+const KEPT = 150;
 const NO_PLACE = "Point at the map, or tap it, for coordinates.";
-const state = { run: 0, scan: 0, shown: 0, name: "", rows: 0, strip: null, refused: null, scanning: false, next: null, claims: null };
+// `wish` is the window that the address asked for, until its file is opened.
+const state = { run: 0, name: "", strip: null, refused: null, told: null, claims: null, wish: ofAddress() };
+// The last window that was asked for, and of which windows the parts of the page are, by their numbers.
+const windows = { asked: 0, text: "", scanning: false, next: false, scanned: 0, coloured: 0, spread: 0, rows: 0 };
 // What tests wait for: that the page has answered all that it was asked.
 const settle = (what, where) => (document.documentElement.dataset[what] = where);
 
-// A worker of the page's own text: from a disk a page may load no other file.
-const source = new Blob([await unpacked("worker")], { type: "text/javascript" });
-const worker = new Worker(URL.createObjectURL(source));
+// Workers of the page's own text: from a disk a page may load no other file.
+const started = async (id) => new Worker(URL.createObjectURL(new Blob([await unpacked(id)], { type: "text/javascript" })));
+const worker = await started("worker"), painter = await started("painter");
 const ask = (message, moved = []) => worker.postMessage({ run: state.run, ...message }, moved);
 const map = new LayerMap($("map"), {
   window(ends, pixel) {
     $("text").value = textOf(ends, pixel, $("text").value);
     scan();
   },
-  pick: (blob) => pick(blob, false),
+  pick: (blob) => state.refused || pick(blob, false),
   at: (text) => ($("at").textContent = text || NO_PLACE),
-});
+}, painter);
 const buttons = Object.fromEntries(["first", "back", "next", "last", "pages"].map((id) => [id, $(id)]));
 const table = new BlobTable($("list"), $("listof"), buttons, (wish) => ask({ ask: "rows", ...wish }), (blob) => pick(blob, true));
 
 function open(file) {
   state.run++;
-  Object.assign(state, { name: file.name, scanning: false, next: null, strip: null, refused: null });
+  Object.assign(state, { name: file.name, strip: null, refused: null, told: null, claims: null });
+  Object.assign(windows, { asked: windows.asked + 1, text: "", scanning: false, next: false });
+  clearTimeout(windows.writes);
   settle("run", state.run);
-  settle("state", "working");
-  settle("scan", "none");
+  settle("state", WORKING);
+  settle("scan", NONE);
   $("refused").hidden = $("certified").hidden = true;
   $("verdict").className = "";
   $("verdict").textContent = `Checking ${file.name}.`;
@@ -51,28 +62,63 @@ function open(file) {
   $("pen").setAttribute("aria-pressed", "false");
   map.mode({ drawing: false });
   table.clear();
+  results.clearResults();
+  freshen();
   ask({ ask: "open", file });
 }
 
 // One scan at a time: while one runs the last wish alone is kept.
 function scan() {
-  const text = $("text").value.trim();
-  settle("scan", "working");
-  if (state.scanning) return void (state.next = text);
-  state.scanning = true;
-  ask({ ask: "scan", text, number: ++state.scan });
+  const { text, wrong } = understood($("text").value);
+  if (wrong) return refuse(wrong);
+  if ($("text").value !== text) $("text").value = text;
+  settle("scan", WORKING);
+  Object.assign(windows, { asked: windows.asked + 1, text });
+  freshen();
+  if (windows.scanning) windows.next = true;
+  else askScan();
+}
+
+function askScan() {
+  Object.assign(windows, { scanning: true, next: false });
+  ask({ ask: "scan", text: windows.text, number: windows.asked });
 }
 
 function scanned() {
-  state.scanning = false;
-  if (state.next === null) return;
-  state.next = null;
-  scan();
+  windows.scanning = false;
+  if (windows.next) askScan();
+}
+
+// What is typed is no window: what is shown stays, and is of the last one.
+function refuse(why) {
+  $("wrong").textContent = `${why} The results below are of the last window.`;
+  $("text").setAttribute("aria-invalid", "true");
+  if (windows.spread === windows.asked) settle("scan", WRONG);
+}
+
+// Dims and marks all that is of another window than the one that was asked for last, and nothing else.
+function freshen() {
+  for (const at of document.querySelectorAll("[data-of]")) {
+    const isOld = windows[at.dataset.of] !== windows.asked;
+    at.classList.toggle("stale", isOld);
+    at.setAttribute("aria-busy", String(isOld));
+  }
+  clearTimeout(windows.dims);
+  if (windows.text && windows.spread !== windows.asked) return void (windows.dims = setTimeout(dim, KEPT));
+  $("waiting").textContent = "";
+  map.stale(false);
+}
+
+// A scan that takes a while is told of.
+function dim() {
+  const last = $("printed").dataset.window;
+  $("waiting").textContent = `Scanning.${last ? " Dimmed: the last window." : ""}`;
+  if (windows.coloured !== windows.asked) map.stale(true);
 }
 
 // Picks a blob, by a click on its shape or in a table. From a table the map comes into view.
 function pick(blob, toMap) {
-  settle("pick", "working");
+  settle("pick", WORKING);
   if (blob === null) unpick();
   else ask({ ask: "pick", blob, order: table.order });
   if (toMap) lookAtMap();
@@ -88,7 +134,7 @@ function unpick() {
   map.repaint();
   table.choose(null);
   $("picked").hidden = $("tomap").hidden = true;
-  settle("pick", "none");
+  settle("pick", NONE);
 }
 
 function progress({ stage, done, of }) {
@@ -104,9 +150,10 @@ function finished() {
 
 function failed(text) {
   finished();
-  answers.showFault(text);
+  showFault(text);
+  $("chooser").open = true;
   toVerdict();
-  settle("state", "done");
+  settle("state", DONE);
 }
 
 // The verdict comes into view: to the top of a narrow screen, and elsewhere if a part of it is outside.
@@ -143,76 +190,97 @@ const TOLD = {
     failed(FAULTS[what] ?? `Not checked: something went wrong (${why}).`);
   },
   verdict(told) {
-    answers.showVerdict(told, state.name);
-    state.claims = told.claims;
+    state.told = told;
+    showVerdict(told, state.name, null);
+    // The chooser makes room for the layer.
+    $("chooser").open = false;
+    document.body.classList.add("opened");
     toVerdict();
+  },
+  survey(told) {
+    results.showSummary(told);
+    if (state.told.verdict.answer !== CERTIFIED) return;
+    state.claims = told.claims;
+    showVerdict(state.told, state.name, told.claims);
   },
   refused(told) {
     $("refused").hidden = false;
-    answers.showReasons(told);
+    showReasons(told);
     state.refused = told;
     $("outside").hidden = !told.outside;
     repaint();
     showFields($("fields").tBodies[0], told);
     toVerdictAgain();
   },
-  picture({ picture, rows, vertices }) {
-    // An empty file has nothing to show.
-    $("certified").hidden = !rows;
-    $("tight").textContent = "Looking.";
-    $("loose").hidden = true;
-    state.rows = rows;
-    answers.showSample(picture, rows, vertices);
-    map.show(picture);
+  others: showOthers,
+  picture({ picture, rows, vertices, extent, wrong }) {
+    // Of a refused layer the map alone is shown, and an empty file has nothing to show.
+    $("certified").hidden = !rows && !wrong?.length;
+    $("certified").classList.toggle("refused", !!wrong);
+    $("asked").textContent = wrong ? "Where it is on the map" : "Ask for a part of the map";
+    if (!wrong) $("tight").textContent = "Looking.";
+    results.showSample(picture, rows, vertices);
+    map.show(picture, wholeOf(extent, picture, wrong), wrong);
     unpick();
     $("text").value = "";
-    centre(map.painter.whole);
+    if (!wrong) firstWindow(rows);
     toVerdictAgain();
   },
   tight(told) {
-    answers.showTight(told, (blob) => pick(blob, true));
+    results.showTight(told, (blob) => pick(blob, true));
   },
   done() {
     finished();
     toVerdictAgain();
-    settle("state", "done");
+    settle("state", DONE);
   },
   window({ answer }) {
-    $("wrong").textContent = `${WINDOW_ERRORS[answer]} The results below are of the last window.`;
-    $("text").setAttribute("aria-invalid", "true");
-    settle("scan", "wrong");
+    if (!windows.next) windows.asked = windows.scanned;
+    refuse(WINDOW_ERRORS[answer]);
+    freshen();
     scanned();
   },
   scanned(told) {
     $("wrong").textContent = "";
     $("text").removeAttribute("aria-invalid");
-    answers.showScan(told, state.claims);
-    state.shown = told.number;
-    if (state.next === null && told.text === $("text").value.trim()) map.setWindow(told.ends, told.text);
+    results.showScan(told, state.claims);
+    windows.scanned = told.number;
+    freshen();
+    if (!windows.next && told.text === $("text").value.trim()) map.setWindow(told.ends, told.text);
+    clearTimeout(windows.writes);
+    windows.writes = setTimeout(() => inAddress(told.text, state.name), KEPT);
     scanned();
   },
   coloured({ number, state: colours }) {
-    if (number === state.shown) map.state = colours;
+    if (number !== windows.asked) return;
+    windows.coloured = number;
+    map.recolour(colours, null);
   },
   spread({ number, ...told }) {
-    if (number !== state.shown) return;
-    answers.showSums(told, state.rows);
-    map.state = told.state;
+    if (number !== windows.scanned) return;
+    results.showSums(told);
+    results.showLeft(told.left);
+    windows.spread = windows.coloured = number;
+    freshen();
+    map.recolour(told.state, told.more);
     state.strip = told.strip;
     repaint();
     table.refresh();
-    if (document.documentElement.dataset.state === "done") finished();
-    settle("scan", "done");
+    if (document.documentElement.dataset.state === DONE) finished();
+    if (number === windows.asked) settle("scan", DONE);
   },
   rows: (told) => {
     table.show(told);
-    settle("pick", "done");
+    windows.rows = told.number;
+    freshen();
+    settle("pick", DONE);
   },
   picked(told) {
     const { blob, kind, count, bytes, offset, position } = told;
     $("pickedtext").textContent = `Blob ${number(blob)}: ${TYPES[kind]}, ${many(count, "vertex")}, ${many(bytes, "byte")} from byte ${number(offset)} on.`;
     $("picked").hidden = $("tomap").hidden = false;
     $("before").hidden = !map.before;
+    showFields($("pickedbytes").tBodies[0], told);
     map.choose(told);
     table.choose(blob, position);
   },
@@ -223,12 +291,34 @@ worker.onmessage = ({ data }) => {
 };
 worker.onerror = (event) => failed(`Not checked: ${event.message}`);
 
-// A window round the vertex that is nearest to the middle of a part of the map, so that it has a hit. A part that is a line or a point
-// has no size: then the window is as large as the view asks for.
-function centre(part) {
-  const isFlat = part[0] === part[2] || part[1] === part[3], [x0, y0, x1, y1] = isFlat ? map.view.seen : part;
-  const vertex = vertexNear(map.painter.picture, [(x0 + x1) / 2, (y0 + y1) / 2]);
-  map.drag(windowIn([x0, y0, x1, y1], vertex ?? undefined));
+// Types the window that the address asks for, where it is of this file.
+function takeWish() {
+  const { text, file } = state.wish;
+  if (!text || (file !== undefined && file !== state.name)) return false;
+  $("text").value = text;
+  $("asks").textContent = "";
+  state.wish = {};
+  return true;
+}
+
+// What the map shows at first: as far as the vertices reach, or the boxes where there are none, and the wrong blob.
+function wholeOf(extent, { boxes }, wrong) {
+  const whole = [Infinity, Infinity, -Infinity, -Infinity];
+  if (extent[0]) widen(whole, [extent[0][0], extent[1][0], extent[0][1], extent[1][1]].map((end) => Number(end) / UNITS));
+  else for (let i = 0; i < boxes.length; i += 4) if (boxes[i] <= boxes[i + 2]) widen(whole, boxes.subarray(i, i + 4));
+  for (let i = 0; i < (wrong?.length ?? 0); i += 2) widen(whole, [wrong[i], wrong[i + 1], wrong[i], wrong[i + 1]]);
+  return whole[0] <= whole[2] ? whole : [0, 0, 1, 1];
+}
+
+// The window of the address, where it is of this file, or one round the vertex that is nearest to the middle, so that it has a hit. A
+// layer that is a line or a point has no size: then the window is as large as the view asks for.
+async function firstWindow(rows) {
+  const { run } = state;
+  settle("scan", WORKING);
+  if (rows && takeWish()) return scan();
+  const part = map.whole, isFlat = part[0] === part[2] || part[1] === part[3], [x0, y0, x1, y1] = isFlat ? map.view.seen : part;
+  const vertex = await map.vertexNear([(x0 + x1) / 2, (y0 + y1) / 2]);
+  if (run === state.run) map.drag(windowIn([x0, y0, x1, y1], vertex ?? undefined));
 }
 
 function colours(dark) {
@@ -287,6 +377,15 @@ function wire() {
   wireMap();
   $("at").textContent = NO_PLACE;
   $("about").open = innerWidth >= NARROW;
+  const { text, file } = state.wish;
+  if (text && file) $("asks").textContent = `The address asks for ${text} of ${file}.`;
+  addEventListener("hashchange", () => {
+    state.wish = ofAddress();
+    if (state.claims && takeWish()) scan();
+  });
+  document.addEventListener("keydown", (event) => {
+    if (event.key === "Escape" && map.chosen) pick(null, false);
+  });
   $("colours").setAttribute("aria-pressed", String(dark.matches));
   $("colours").onclick = () => colours($("colours").getAttribute("aria-pressed") !== "true");
   dark.addEventListener("change", () => colours(dark.matches));

@@ -1,7 +1,6 @@
 // The map: what mouse, fingers and keys do to the view, to the window and to the shape that is picked.
 import { textAt } from "./graticule.js";
 import { coloursOf, Painter, penOf } from "./paint.js";
-import { nearest } from "./pick.js";
 import { View } from "./view.js";
 import { dragged, grip, moved, ordered, scaled } from "./window.js";
 
@@ -10,14 +9,19 @@ const NEAR = 7, TOUCH_NEAR = 16, STEP = 0.1, ZOOM = 1.5;
 const STILL = 4;
 const ARROWS = { ArrowLeft: [-1, 0], ArrowRight: [1, 0], ArrowUp: [0, 1], ArrowDown: [0, -1] };
 const FINGER = "touch";
+// What of a picture is moved to the painter, and not copied.
+const buffersOf = ({ blobs, boxes, from, shape, of, xy }) => [blobs, boxes, from, shape, of, xy].map((one) => one.buffer);
 
 export class LayerMap {
   // `told` has three functions: `window(ends, pixel)` gets each window that is dragged, `pick(blob)` each shape that is clicked, and
-  // `at(text)` the coordinates under the pointer.
-  constructor(canvas, told) {
-    Object.assign(this, { canvas, told, view: new View(canvas), boxes: true, drawing: false, moving: false, window: null, chosen: null });
+  // `at(text)` the coordinates under the pointer. `worker` paints the shapes.
+  constructor(canvas, told, worker) {
+    Object.assign(this, { canvas, told, worker, view: new View(canvas), boxes: true, drawing: false, moving: false, window: null, chosen: null });
+    Object.assign(this, { painter: new Painter(this.view), whole: null, painted: null, asked: 0, pictures: 0, isPainting: false, isOld: false, isStale: false });
     this.pointers = new Map();
-    const on = (type, act) => canvas.addEventListener(type, (event) => this.painter && act.call(this, event), { passive: false });
+    this.wishes = new Map();
+    worker.onmessage = ({ data }) => this.answered(data);
+    const on = (type, act) => canvas.addEventListener(type, (event) => this.whole && act.call(this, event), { passive: false });
     on("pointerdown", this.press);
     on("pointermove", this.move);
     on("pointerup", this.release);
@@ -31,19 +35,65 @@ export class LayerMap {
     new ResizeObserver(() => this.repaint()).observe(canvas);
   }
 
-  show(picture) {
-    this.painter = new Painter(picture, this.view);
-    Object.assign(this, { window: null, chosen: null, before: null });
-    this.fit();
-  }
-
-  fit() {
-    this.view.fit(this.painter.whole);
+  // Shows a picture, whose buffers go to the painter. `whole` is how far all vertices of the layer reach.
+  show(picture, whole, wrong) {
+    this.ask({ ask: "picture", picture, wrong }, buffersOf(picture));
+    Object.assign(this, { whole, window: null, chosen: null, before: null, isStale: false });
+    this.painted = null;
+    this.pictures++;
+    this.view.begin(whole);
     this.repaint();
   }
 
-  set state(state) {
-    this.painter.state = state;
+  // The states of the blobs that are drawn, and the hits that a sample lacks.
+  recolour(state, more) {
+    this.ask({ ask: "more", state, more }, more ? buffersOf(more) : []);
+    this.stale(false);
+  }
+
+  // Whether the colours are of another window.
+  stale(isStale) {
+    this.isStale = isStale;
+    this.repaint();
+  }
+
+  ask(message, moved = []) {
+    this.worker.postMessage(message, moved);
+  }
+
+  // Asks the painter for a blob or a vertex, and promises its answer.
+  wish(message) {
+    return new Promise((resolve) => {
+      this.wishes.set(++this.asked, resolve);
+      this.ask({ ...message, number: this.asked });
+    });
+  }
+
+  answered({ tell, number, ...told }) {
+    if (tell === "painted") return this.took(number === this.pictures ? told : null);
+    this.wishes.get(number)(told);
+    this.wishes.delete(number);
+  }
+
+  // What was painted of an earlier picture is dropped.
+  took(painted) {
+    this.painted?.bitmap?.close();
+    Object.assign(this, { painted, isPainting: false });
+    if (this.isOld) this.askShapes();
+    this.compose();
+  }
+
+  // One painting at a time: while one is made, only the last view is kept.
+  askShapes() {
+    const { view: { x, y, scale, wide, high }, boxes, isStale } = this;
+    this.isOld = this.isPainting;
+    if (this.isPainting) return;
+    this.isPainting = true;
+    this.ask({ ask: "paint", number: this.pictures, view: { x, y, scale, wide, high, ratio: devicePixelRatio || 1 }, boxes, isStale, colours: coloursOf(document) });
+  }
+
+  fit() {
+    this.view.fit(this.whole);
     this.repaint();
   }
 
@@ -80,28 +130,35 @@ export class LayerMap {
     return [this.canvas.clientWidth / 2, this.canvas.clientHeight / 2];
   }
 
+  // Paints all anew: the shapes when the painter has them, and what is over them in the next frame, so that it follows the pointer.
   repaint() {
-    if (this.waiting || !this.painter) return;
+    if (!this.whole) return;
+    this.isOld = true;
+    this.compose();
+  }
+
+  compose() {
     // What tests wait for, too.
     this.canvas.dataset.painted = "no";
-    this.waiting = requestAnimationFrame(() => {
-      this.waiting = 0;
+    this.waiting ??= requestAnimationFrame(() => {
+      this.waiting = null;
       this.view.measure();
+      if (this.isOld) this.askShapes();
       const lines = this.painter.paint(penOf(this.canvas), { ...this, picked: this.chosen, colours: coloursOf(document) });
       this.tell(lines);
-      this.canvas.dataset.painted = "yes";
+      this.canvas.dataset.painted = this.isPainting ? "no" : "yes";
     });
   }
 
   // What is seen, for people who don't see the map. For tests also where the window is on the canvas (left, top, right, bottom), and
   // where numbers are.
   tell(lines) {
-    const { view, window, text, chosen } = this, [x0, y0, x1, y1] = view.seen, pixel = 1 / view.scale;
+    const { view, window, text, chosen, isStale } = this, [x0, y0, x1, y1] = view.seen, pixel = 1 / view.scale;
     const [west, south, east, north] = [x0, y0, x1, y1].map((end) => textAt(end, 10 * pixel));
     this.canvas.ariaLabel = `Map of the layer, X from ${west} to ${east}, Y from ${south} to ${north}`;
     const corners = window && [view.px(window[0]), view.py(window[3]), view.px(window[1]), view.py(window[2])];
     const graticule = [lines.x.map(({ at, text }) => [view.px(at), text]), lines.y.map(({ at, text }) => [view.py(at), text])];
-    this.canvas.dataset.frame = JSON.stringify({ corners, text, graticule, scale: view.scale, picked: chosen?.blob ?? null });
+    this.canvas.dataset.frame = JSON.stringify({ corners, text, graticule, scale: view.scale, picked: chosen?.blob ?? null, isStale });
   }
 
   drag(ends) {
@@ -111,8 +168,9 @@ export class LayerMap {
   }
 
   zoom(by, at = this.middle) {
-    this.view.zoom(by, at);
+    const isZoomed = this.view.zoom(by, at);
     this.repaint();
+    return isZoomed;
   }
 
   pan(dx, dy) {
@@ -195,17 +253,22 @@ export class LayerMap {
   }
 
   // A click picks the shape there, a click beside all shapes picks none.
-  click(event) {
-    const at = [event.offsetX, event.offsetY], { picture, extents } = this.painter;
-    const reach = (event.pointerType === FINGER ? TOUCH_NEAR : NEAR) / this.view.scale;
-    const found = nearest(picture, extents, this.view.place(at), reach);
+  async click(event) {
+    const at = [event.offsetX, event.offsetY], reach = (event.pointerType === FINGER ? TOUCH_NEAR : NEAR) / this.view.scale;
     this.told.at(this.textOf(at));
-    this.told.pick(found < 0 ? null : picture.blobs[found]);
+    this.told.pick((await this.wish({ ask: "near", place: this.view.place(at), reach })).blob);
   }
 
+  // The vertex that is drawn nearest to a place, or null.
+  async vertexNear(place) {
+    return (await this.wish({ ask: "vertex", place })).vertex;
+  }
+
+  // The wheel scrolls the page, unless the map was clicked into or a key is held. Where zooming out ends, it scrolls again.
   wheel(event) {
-    event.preventDefault();
-    this.zoom(ZOOM ** (-event.deltaY / (event.deltaMode ? 3 : 120)), [event.offsetX, event.offsetY]);
+    if (!event.ctrlKey && !event.metaKey && document.activeElement !== this.canvas) return;
+    const isZoomed = this.zoom(ZOOM ** (-event.deltaY / (event.deltaMode ? 3 : 120)), [event.offsetX, event.offsetY]);
+    if (isZoomed || event.ctrlKey || event.metaKey) event.preventDefault();
   }
 
   key(event) {

@@ -1,5 +1,7 @@
 // Exact numbers and their texts. A number is a JavaScript number where that is exact, else a BigInt; < and > compare both kinds.
-export const exact = (big) => (BigInt.asIntN(53, big) === big ? Number(big) : big);
+import { UNIT_DIGITS } from "./format.js";
+
+const exact = (big) => (BigInt.asIntN(53, big) === big ? Number(big) : big);
 
 export function plus(a, b) {
   const sum = typeof a === "number" && typeof b === "number" ? a + b : NaN;
@@ -15,10 +17,41 @@ export function unzigzag(n) {
 }
 
 // A varint that is whole, from one place to another.
-export function spelled(bytes, from, to) {
+function spelled(bytes, from, to) {
   let number = 0n;
   for (let at = to - 1; at >= from; at--) number = (number << 7n) | BigInt(bytes[at] & 127);
   return exact(number);
+}
+
+// A number of up to 7 bytes is exact without a BigInt.
+const SHORT = 7;
+
+// Reads numbers one after another, exactly. All bytes of a number have to be there.
+export class Reader {
+  constructor(bytes, at) {
+    Object.assign(this, { bytes, at });
+  }
+
+  unsigned() {
+    const from = this.at;
+    let number = 0, scale = 1, byte;
+    do {
+      byte = this.bytes[this.at++];
+      number += (byte & 127) * scale;
+      scale *= 128;
+    } while (byte >= 128);
+    return this.at - from <= SHORT ? number : spelled(this.bytes, from, this.at);
+  }
+
+  signed() {
+    return unzigzag(this.unsigned());
+  }
+
+  skip(numbers) {
+    let at = this.at;
+    for (let left = numbers; left > 0; ) if (this.bytes[at++] < 128) left--;
+    this.at = at;
+  }
 }
 
 // A coordinate of a precision, as a decimal.
@@ -29,8 +62,6 @@ export function decimal(number, precision) {
   return `${sign}${padded.slice(0, -precision)}.${padded.slice(-precision)}`;
 }
 
-const UNIT_DIGITS = 7;
-
 // A number of units as a decimal, with as many digits as the precision has, or more where they aren't 0.
 export function ofUnits(units, precision) {
   const [whole, digits] = decimal(units, UNIT_DIGITS).split(".");
@@ -38,7 +69,12 @@ export function ofUnits(units, precision) {
   return kept ? `${whole}.${kept}` : whole.replace(/^-0$/, "0");
 }
 
-export const inUnits = (number, precision) => exact(BigInt(number) * 10n ** BigInt(UNIT_DIGITS - precision));
+const POWERS = Array.from({ length: 16 }, (_, power) => 10 ** power);
+
+export function inUnits(number, precision) {
+  const power = POWERS[UNIT_DIGITS - precision], product = typeof number === "number" ? number * power : NaN;
+  return Number.isSafeInteger(product) ? product : exact(BigInt(number) * BigInt(power));
+}
 
 export const number = (n) => n.toLocaleString("en");
 

@@ -1,5 +1,5 @@
 // Which blob of the picture lies at a place on the map.
-const POINTS = 0, RING = 2;
+import { POINTS, RING } from "./format.js";
 
 // The blob with a line or a point nearest to the place, no further than the reach; -1 where there is none.
 export function nearest({ xy, from, shape, of }, extents, [x, y], reach) {

@@ -1,8 +1,9 @@
 // Paints the strip: the file in lines, with bars where the scan read, on a thin line for what it hopped over.
 import { penOf } from "./paint.js";
+import { HEADER, HIT, HOPPED, NAMES, READ } from "./states.js";
 
-// The places of the worker's shares, from the bottom of a bar to its top.
-const READ = [["header", 3], ["read", 0], ["hit", 2]], HOPPED = 1, SHARES = 4;
+// What was read, from the bottom of a bar to its top.
+const READS = [HEADER, READ, HIT], SHARES = NAMES.length;
 const THIN = 3, GAP = 4;
 // What was read for no hit looks like a comb: every fourth column is half as high.
 const COMB = 4;
@@ -34,11 +35,11 @@ function column(pen, shares, colours, x, top, high) {
     pen.fillStyle = colours[name];
     pen.fillRect(x, y, 1, tall);
   };
-  if (thin) bar("hopped", thin);
-  for (const [name, place] of READ) {
-    const share = shares[place] && Math.max(1, Math.round(((high - thin - GAP) * shares[place]) / all));
-    const tall = name === "read" && x % COMB === 0 ? Math.ceil(share / 2) : share;
+  if (thin) bar(NAMES[HOPPED], thin);
+  for (const state of READS) {
+    const share = shares[state] && Math.max(1, Math.round(((high - thin - GAP) * shares[state]) / all));
+    const tall = state === READ && x % COMB === 0 ? Math.ceil(share / 2) : share;
     y -= tall;
-    if (tall) bar(name, tall);
+    if (tall) bar(NAMES[state], tall);
   }
 }

@@ -1,11 +1,12 @@
 // The table of all blobs, a page at a time. The worker sorts; a heading is a button.
 import { element } from "./dom.js";
+import { TYPES } from "./format.js";
 import { number } from "./numbers.js";
-import { DONE, TYPES } from "./words.js";
+import { NAMES } from "./states.js";
+import { STATE_WORDS } from "./texts.js";
 
 const PAGE = 25;
 const yes = (there) => (there ? "yes" : "no");
-const STATES = ["read", "hopped", "hit"];
 // Each column: the worker's name of it, its heading, and how its cells are.
 const COLUMNS = [
   ["blob", "Blob", ({ blob }) => [blob]],
@@ -16,7 +17,7 @@ const COLUMNS = [
   ["count", "Vertices", ({ count }) => [count]],
   ["size", "Size", ({ size }) => yes(size)],
   ["box", "Box", ({ box }) => yes(box)],
-  ["state", "In this scan", ({ state }) => DONE[STATES[state]]],
+  ["state", "In this scan", ({ state }) => STATE_WORDS[NAMES[state]]],
   ["read", "Bytes read", ({ read }) => [read]],
 ];
 
@@ -126,7 +127,7 @@ export class BlobTable {
 
   done(text, state) {
     const cell = element("td", text);
-    cell.prepend(element("i", undefined, `mark ${STATES[state]}`));
+    cell.prepend(element("i", undefined, `mark ${NAMES[state]}`));
     return cell;
   }
 

@@ -3,17 +3,20 @@
 // From __heap_base on all memory is the page's. First come small forms, then the layer, and after it the room that a call
 // is lent: for ids, rows, hits or points, one at a time. Numbers in the module's forms have 64 bits; those that are at most
 // the length of a layer have their upper half 0.
-import { BOX, COLLECTION, EXTENDED, SIZE, Walk } from "./parts.js";
+import { BOX, COLLECTION, EXTENDED, SIZE, UNITS } from "./format.js";
 
 const PAGE = 65536;
 // Bytes of each form, as in the module.
-const ROW = 40, HIT = 24, POINT = 32, WINDOW = 136;
+const ROW = 40, HIT = 24, POINT = 32;
+// In a window's form the marks of Z and M come after the ends of four axes.
+const WINDOW_FLAGS = 128;
 // Places of the small forms after the base.
-const ANSWER = 0, LAYER = 64, WINDOW_AT = 128, TEXT = 384, SMALL = 4096;
+const ANSWER = 0, LAYER = 64, WINDOW_AT = 128, PROBE = 272, TEXT = 416, SMALL = 4096;
 const LONGEST_TEXT = SMALL - TEXT;
 // The least room for ids, in places, and how many bytes a place takes.
 const LEAST_IDS = 1 << 17, ID = 8;
-const UNITS = 1e7;
+// No coordinate is as far from 0 as this, in units.
+const FAR = 10n ** 34n;
 // A body of one member, which is an empty point, and the most bytes that a header with it has.
 const EMPTY_MEMBER = [1, 1, 16], MOST_PROBE = 96;
 
@@ -149,20 +152,31 @@ export class Library {
     return -(((d * 2 ** 32 + c) * 2 ** 64) + (b * 2 ** 32 + a) + 1);
   }
 
-  // The number of 128 bits at a place: a number where that is exact, else a BigInt.
-  exactly(at) {
-    const near = this.units(at);
-    if (Number.isSafeInteger(near)) return near;
-    const view = new DataView(this.memory.buffer);
-    return (view.getBigInt64(at + 8, true) << 64n) | view.getBigUint64(at, true);
+  // Whether a vertex of the chosen blobs has a coordinate between two, which are in units, on one axis.
+  has(axis, from, to) {
+    const at = this.base + PROBE, view = new DataView(this.memory.buffer);
+    const put = (place, units) => {
+      view.setBigUint64(place, BigInt.asUintN(64, units), true);
+      view.setBigInt64(place + 8, units >> 64n, true);
+    };
+    for (const one of [0, 1, 2, 3]) [one === axis ? from : -FAR, one === axis ? to : FAR].forEach((end, side) => put(at + 32 * one + 16 * side, end));
+    [2, 3].forEach((one) => (this.memory[at + WINDOW_FLAGS + one - 2] = Number(one === axis)));
+    return this.scan(0, BigInt(at)).hits > 0;
   }
 
-  // Scans the chosen blobs for the window that was read last: how many hits, how many bytes read, and the first hits.
-  scan(most) {
+  // Whether the vertices of the chosen blobs reach exactly from `low` to `high` on an axis, by proved scans: some are at the ends, none
+  // beyond.
+  reaches(axis, low, high) {
+    const [from, to] = [BigInt(low), BigInt(high)], isAtEnds = this.has(axis, from, from) && this.has(axis, to, to);
+    return isAtEnds && !this.has(axis, -FAR, from - 1n) && !this.has(axis, to + 1n, FAR);
+  }
+
+  // Scans the chosen blobs for the window that was read last, or for another one: how many hits, how many bytes read, and the first hits.
+  scan(most, frame = this.frame) {
     const room = most ? this.lend(most * HIT) : this.start;
     const at = this.base + ANSWER;
     this.answer ??= BigInt(at);
-    this.exports.twkb_scan(this.answer, this.layer, this.frame, BigInt(room), BigInt(most));
+    this.exports.twkb_scan(this.answer, this.layer, frame, BigInt(room), BigInt(most));
     const hits = this.u64(at);
     const first = [];
     for (let i = 0, hit = room; i < Math.min(hits, most); i++, hit += HIT) first.push([this.u64(hit), this.u64(hit + 8)]);
@@ -172,7 +186,7 @@ export class Library {
   // Whether the box of the blob that begins here misses the window that was read last. A collection with this box, a size and an
   // empty member is scanned: the scan reads no more than its header exactly where the box misses.
   misses(from) {
-    const at = this.lend(MOST_PROBE) - this.start, walk = new Walk(this.bytes, from), { dimensions, box } = walk.places();
+    const at = this.lend(MOST_PROBE) - this.start, { dimensions, box } = this.places(from);
     const first = (this.bytes[from] & 0xf0) | COLLECTION, metadata = SIZE | BOX | (dimensions.length ? EXTENDED : 0);
     const size = box.length + EMPTY_MEMBER.length;
     const probe = [first, metadata, ...dimensions, size, ...box, ...EMPTY_MEMBER];
@@ -181,35 +195,26 @@ export class Library {
     return this.scan(0).read < probe.length;
   }
 
-  // Lends room for the points of the chosen blobs, and answers where they are and how many.
-  points(most) {
-    const room = this.lend(most * POINT);
-    const count = Number(this.exports.twkb_draw(this.layer, BigInt(room), BigInt(most)));
-    return [room, Math.min(count, most)];
+  // The bytes of the extended dimensions and of the box of the header that begins here and has a box.
+  places(from) {
+    const { bytes } = this, metadata = bytes[from + 1], dimensions = metadata & EXTENDED ? [bytes[from + 2]] : [];
+    let at = from + 2 + dimensions.length;
+    const skip = (numbers) => {
+      for (let left = numbers; left > 0; ) left -= bytes[at++] < 128;
+      return at;
+    };
+    const start = skip(metadata & SIZE ? 1 : 0), axes = 2 + [1, 2].filter((bit) => dimensions[0] & bit).length;
+    return { dimensions, box: bytes.subarray(start, skip(2 * axes)) };
   }
 
   // Puts X and Y of the chosen blobs' vertices into the list, from a place on, and says how many there are.
   draw(list, from, most) {
-    const [room, count] = this.points(most);
+    const room = this.lend(most * POINT);
+    const count = Math.min(most, Number(this.exports.twkb_draw(this.layer, BigInt(room), BigInt(most))));
     for (let i = 0, at = room; i < count; i++, at += POINT) {
       list[2 * (from + i)] = this.units(at) / UNITS;
       list[2 * (from + i) + 1] = this.units(at + 16) / UNITS;
     }
     return count;
-  }
-
-  // The lowest X and Y of the chosen blobs' vertices, then the highest, in units; null where there is no vertex.
-  extent(most) {
-    const [room, count] = this.points(most);
-    if (!count) return null;
-    const ends = [room, room + 16, room, room + 16].map((at) => this.exactly(at));
-    for (let i = 1, at = room + POINT; i < count; i++, at += POINT) {
-      for (const axis of [0, 1]) {
-        const one = this.exactly(at + 16 * axis);
-        if (one < ends[axis]) ends[axis] = one;
-        if (one > ends[2 + axis]) ends[2 + axis] = one;
-      }
-    }
-    return ends;
   }
 }

@@ -3,9 +3,12 @@ const MARGIN = 24;
 // A view is never narrower than this share of its middle's distance from 0: doubles end there.
 const FINEST = 1e-12;
 
+// How much of the canvas the layer takes at least.
+const SMALLEST = 0.8;
+
 export class View {
-  constructor(canvas) {
-    Object.assign(this, { canvas, x: 0, y: 0, scale: 1 });
+  constructor(canvas, { x, y, scale } = { x: 0, y: 0, scale: 1 }) {
+    Object.assign(this, { canvas, x, y, scale, least: 0 });
     this.measure();
   }
 
@@ -45,17 +48,27 @@ export class View {
     this.limit();
   }
 
+  // Fits the layer, at which zooming out ends.
+  begin(extent) {
+    this.least = 0;
+    this.fit(extent);
+    this.least = SMALLEST * this.scale;
+  }
+
   limit() {
+    this.scale = Math.max(this.scale, this.least);
     this.scale = Math.min(this.scale, 1 / (FINEST * Math.max(1e-3, Math.abs(this.x), Math.abs(this.y))));
   }
 
+  // Whether it was zoomed: at the layer zooming out ends.
   zoom(by, at) {
-    const [x, y] = this.place(at);
+    const [x, y] = this.place(at), before = this.scale;
     this.scale *= by;
     this.limit();
     const [nowX, nowY] = this.place(at);
     this.x += x - nowX;
     this.y += y - nowY;
+    return this.scale !== before;
   }
 
   pan(dx, dy) {

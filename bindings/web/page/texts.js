@@ -1,4 +1,6 @@
 // What the page says of each refusal: what is wrong, why it matters, and what to repair. The kinds have the program's names.
+import { CERTIFIED } from "./format.js";
+
 const UNREADABLE = "A reader can't tell where the next shape begins. It stops here, or draws shapes that aren't there.";
 
 export const KINDS = {
@@ -32,7 +34,7 @@ export const KINDS = {
   },
   5: {
     name: "range",
-    short: "a coordinate is too large",
+    short: "a coordinate needs more than 64 bits",
     meaning: "Each coordinate is stored as its difference from the one before. Added up, this one needs more than 64 bits.",
     harm: "Readers let the number wrap around, and draw the vertex in the wrong place.",
     repair: "Correct the difference at this byte, or write the blob again with a lower precision.",
@@ -41,7 +43,6 @@ export const KINDS = {
     name: "size",
     short: "a size is wrong",
     meaning: "This blob, or a member of it, says how many bytes follow its size. The number is wrong.",
-    harm: "A reader that hops over this shape by its size lands in the middle of another one. It loses or misreads everything after it.",
     repair: "Write the size again: the number of bytes from the end of the size field to the end of the shape. A usual mistake is to change a shape after its size was taken.",
   },
   7: {
@@ -54,22 +55,20 @@ export const KINDS = {
   8: {
     name: "ids",
     short: "two ids are equal",
-    meaning: "Members of a collection may have ids, to look them up by. Two ids in this list are equal.",
-    harm: "A lookup by this id may find the wrong member.",
-    repair: "Give each member of this list an id of its own.",
+    harm: "A lookup by this id may find the wrong one.",
+    repair: "Give each of them an id of its own.",
   },
   9: { name: "loose" },
 };
 
-export const TYPES = ["", "point", "linestring", "polygon", "multipoint", "multilinestring", "multipolygon", "collection"];
-
 // What a scan does with a blob, in the words of legends and tables.
-export const DONE = { hit: "hit", read: "read, no hit", header: "header read on the way", hopped: "hopped over" };
+export const STATE_WORDS = { hit: "hit", read: "read, no hit", header: "header read on the way", hopped: "hopped over" };
 
 export const STAGES = {
   reading: "Reading the file",
   certifying: "Checking every claim",
-  claims: "Counting the claims",
+  decoding: "Decoding the file",
+  surveying: "Counting the claims",
   explaining: "Looking at the place",
   listing: "Listing the blobs",
   drawing: "Drawing the map",
@@ -84,8 +83,9 @@ export const FAULTS = {
   load: "Not checked: this browser can't run the checker.",
 };
 
+// What the proved parser refuses, though its form is right.
 export const WINDOW_ERRORS = {
-  1: "This isn't a window. Write x=lowest..highest,y=lowest..highest with no spaces, such as x=10..30,y=35..45.",
+  1: "This isn't a window. Write x=lowest..highest,y=lowest..highest, such as x=10..30,y=35..45.",
   2: "A lowest value is greater than its highest. Swap them.",
 };
 
@@ -99,5 +99,5 @@ export function share(part, whole) {
 
 // The line that the program prints of a verdict.
 export function line({ answer, kind, blobs, vertices, blob, offset }) {
-  return answer === 0 ? `ok blobs=${blobs} vertices=${vertices}` : `no blob=${blob} offset=${offset} kind=${KINDS[kind].name}`;
+  return answer === CERTIFIED ? `ok blobs=${blobs} vertices=${vertices}` : `no blob=${blob} offset=${offset} kind=${KINDS[kind].name}`;
 }

@@ -1,6 +1,6 @@
-// A refused layer: the bytes round the place, and the fields by their names.
+// The bytes round the place where a layer is refused, and the fields of a blob by their names.
 import { element } from "./dom.js";
-import { many, number } from "./numbers.js";
+import { number } from "./numbers.js";
 
 const hexOf = (byte) => byte.toString(16).padStart(2, "0");
 const letterOf = (byte) => (byte >= 32 && byte < 127 ? String.fromCharCode(byte) : ".");
@@ -32,23 +32,22 @@ function byteAt(at, { around, first, start, end, length, verdict, near }, form) 
 }
 
 export function showFields(body, told) {
-  const { begins, left, near, last } = told;
-  const rows = begins.map((field) => fieldRow(field, told));
-  if (left) rows.push(gap(`${many(left, "more field")}, not shown`));
+  const { begins, gap, near, far = [] } = told, rows = begins.map((field) => fieldRow(field, told));
+  if (gap) rows.push(gapRow(gap));
   rows.push(...near.map((field) => fieldRow(field, told)));
-  if (last) rows.push(gap("further on"), fieldRow(last, told));
+  if (far.length) rows.push(gapRow("further on"), ...far.map((field) => fieldRow(field, told)));
   body.replaceChildren(...rows);
 }
 
-function gap(text) {
+function gapRow(text) {
   const row = element("tr"), cell = element("td", text);
   cell.colSpan = 4;
   row.append(cell);
   return row;
 }
 
-function fieldRow({ from, bytes, name, says, depth, stopped }, { verdict, guilty }) {
-  const isHere = from === verdict.offset, isGuilty = from === guilty;
+function fieldRow({ from, bytes, name, says, depth, stopped }, { verdict, guilty = [] }) {
+  const isHere = from === verdict?.offset, isGuilty = guilty.includes(from);
   const row = element("tr", undefined, isHere ? "at" : isGuilty ? "guilty" : "");
   const code = element("td");
   code.append(element("code", [...bytes].map(hexOf).join(" ") || (stopped ? "··" : "")));
