@@ -1,8 +1,5 @@
 -- The ranges of a box, one after another, and their numbers, one after another.
-use Rattle.std.proofs.Common.{ℕ, List, [], ◌∷◌, ◌++◌, ℤ, ◌-ℤ◌, refl, sym, ap, ◌∙◌, append_assoc}
-use Rattle.twkb_num.specs.Varint.{IsSigned}
-use Rattle.twkb_head.specs.Parts.{Sequence}
-use Rattle.twkb_head.specs.Header.{IsRange}
+use Rattle.twkb_head.proofs.Prelude.{ℕ, List, [], ◌∷◌, ◌++◌, ℤ, ◌-ℤ◌, refl, sym, ap, ◌∙◌, append_assoc, IsSigned, Sequence, IsRange}
 
 -- for each axis the minimum, and the maximum less the minimum
 abbrev pub box_numbers : List (ℤ × ℤ) → List ℤ

@@ -1,17 +1,6 @@
 -- Boxes are read two ranges at a time.
-use Rattle.std.proofs.Common.{◌≡◌, ℕ, ℤ, pos, Bool, true, false, ◌&&◌, ◌||◌, Option, Some, None, is_some, Result, Ok, Err, refl, ap, ◌∙◌}
-use Rattle.twkb_num.specs.Cursor.{Reading}
-use Rattle.twkb_head.specs.Head.{span_at}
-use Rattle.twkb_head.specs.Raw.{ends_of, zero_range, raw_bounds}
-use Rattle.twkb_head.specs.Shared.Reader.{Answer, Reader, ◌>>=◌, viewed, range_from}
-use Rattle.twkb_head.specs.Devices.HeadReader.{axis_from, bounds_from, two_ranges_from}
-use Rattle.twkb_head.specs.Devices.Raw.{two_ranges_result}
-use Rattle.twkb_head.specs.Devices.Raw.{IsRangeIf}
-use Rattle.twkb_head.specs.declared.boxes.Bounds.{Bounds}
+use Rattle.twkb_head.proofs.Prelude.{◌≡◌, ℕ, ℤ, pos, Bool, true, false, ◌&&◌, ◌||◌, Option, Some, None, is_some, Result, Ok, Err, refl, ap, ◌∙◌, Reading, span_at, ends_of, zero_range, raw_bounds, Answer, Reader, ◌>>=◌, viewed, range_from, axis_from, bounds_from, two_ranges_from, two_ranges_result, IsRangeIf, Bounds, RawBox, RawRange, Malformed}
 use Rattle.twkb_head.specs.declared.boxes.Span.{Span}
-use Rattle.twkb_head.specs.declared.raw.RawBox.{RawBox}
-use Rattle.twkb_head.specs.declared.raw.RawRange.{RawRange}
-use Rattle.twkb_head.specs.declared.refusal.Malformed.{Malformed}
 
 -- the rest of a box after its ranges of X and Y, or the fault of one of these
 abbrev pub box_after : ℤ → Option ℕ → Option ℕ → Result (RawRange × RawRange) Malformed → Reader Bounds

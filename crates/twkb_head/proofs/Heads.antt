@@ -1,15 +1,5 @@
 -- The laws of the plan of a header, in words of the definition of headers.
-use Rattle.std.proofs.Common.{◌≡◌, ℕ, zero, suc, ◌+◌, ◌*◌, ◌%◌, ◌≤◌, true, List, [], ◌∷◌, ◌++◌, length, slice_index, ℤ, ◌+ℤ◌, ◌-ℤ◌, Option, Some, None, IfSome, IfNone, unwrap_or, ◌⊎◌, inl, inr, refl, sym, ap, ap₂, subst, ◌∙◌, arith}
-use Rattle.std.proofs.lemmas.List.{append-nil}
-use Rattle.std.proofs.lemmas.Int.{ints}
-use Rattle.twkb_head.specs.declared.kinds.Kind.{Kind}
-use Rattle.twkb_head.specs.declared.kinds.Kind.TheVariants.{Point, LineString, Polygon, MultiPoint, MultiLineString, MultiPolygon, GeometryCollection}
-use Rattle.twkb_num.specs.Varint.{IsSigned}
-use Rattle.twkb_head.specs.Parts.{Sequence, Times, Announced}
-use Rattle.twkb_head.specs.Header.{Header, IsHeader, IsByte, IsRange, axes_of, axes_with, z_in, m_in, code_of, has_bit, has_ids}
-use Rattle.twkb_head.specs.BegunHeader.{Field, type_field, byte_field, number_field, IsAllowedUnder, IsFewer, IsStart, IsBegunHeader, type_due, metadata_due, extended_due, size_due, box_due}
-use Rattle.twkb_head.specs.Shared.Plan.{type_byte, judge, judge_kind, kind_of_code, type_plan}
-use Rattle.twkb_head.specs.Shared.HeadPlan.{ranges_of, box_plan, HeadValue, kind_from, head_from, head_plan}
+use Rattle.twkb_head.proofs.Prelude.{◌≡◌, ℕ, zero, suc, ◌+◌, ◌*◌, ◌%◌, ◌≤◌, true, List, [], ◌∷◌, ◌++◌, length, slice_index, ℤ, ◌+ℤ◌, ◌-ℤ◌, Option, Some, None, IfSome, IfNone, unwrap_or, ◌⊎◌, inl, inr, refl, sym, ap, ap₂, subst, ◌∙◌, arith, append-nil, ints, Kind, Point, LineString, Polygon, MultiPoint, MultiLineString, MultiPolygon, GeometryCollection, IsSigned, Sequence, Times, Announced, Header, IsHeader, IsByte, IsRange, axes_of, axes_with, z_in, m_in, code_of, has_bit, has_ids, Field, type_field, byte_field, number_field, IsAllowedUnder, IsFewer, IsStart, IsBegunHeader, type_due, metadata_due, extended_due, size_due, box_due, type_byte, judge, judge_kind, kind_of_code, type_plan, ranges_of, box_plan, HeadValue, kind_from, head_from, head_plan}
 use Rattle.twkb_head.proofs.Spelling.{IsGood}
 use Rattle.twkb_head.proofs.BoxFields.{box_numbers, ranges_numbers, numbers_ranges}
 use Rattle.twkb_head.proofs.Combinators.{PlanLaws, restated, Chain, chained, BegunChain, Made, Measured, bind_laws, done_laws, measure_laws, optional_laws}

@@ -1,4 +1,5 @@
 -- The proofs about headers: fields and their cuts, plans, readers, and the laws of the definitions.
+mod Prelude
 pub mod Spelling
 pub mod FieldCuts
 pub mod Plans

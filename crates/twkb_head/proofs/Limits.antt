@@ -1,7 +1,5 @@
 -- A kind that is allowed under a limit of depth is allowed under a greater one.
-use Rattle.std.proofs.Common.{ℕ, ◌≤◌, List, arith}
-use Rattle.twkb_head.specs.declared.kinds.Kind.{Kind}
-use Rattle.twkb_head.specs.BegunHeader.{Field, IsAllowedUnder, IsStart, IsBegunHeader, type_due, metadata_due, extended_due, size_due, box_due}
+use Rattle.twkb_head.proofs.Prelude.{ℕ, ◌≤◌, List, arith, Kind, Field, IsAllowedUnder, IsStart, IsBegunHeader, type_due, metadata_due, extended_due, size_due, box_due}
 
 module _ (limit greater depth : ℕ) (more : limit ≤ greater) where
   pub allowed_under_greater : (kind : Kind) → IsAllowedUnder limit kind depth → IsAllowedUnder greater kind depth

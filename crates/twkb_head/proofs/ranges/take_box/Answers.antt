@@ -1,9 +1,5 @@
 -- Two ranges, and perhaps one or two more, are a box. The fault of the first range that can't be read is the fault of the box.
-use Rattle.std.proofs.Common.{◌≡◌, Bool, ◌&&◌, ◌||◌, true, false, is_some, Ok, Err, Some, refl, sym, ap, ◌∙◌}
-use Rattle.std.proofs.lemmas.Result.{err_from_is_err_and}
-use Rattle.twkb_head.specs.Raw.{raw_bounds}
-use Rattle.twkb_head.specs.Devices.HeadReader.{bounds_from}
-use Rattle.twkb_head.specs.Shared.Reader.{viewed, optional_at}
+use Rattle.twkb_head.proofs.Prelude.{◌≡◌, Bool, ◌&&◌, ◌||◌, true, false, is_some, Ok, Err, Some, refl, sym, ap, ◌∙◌, err_from_is_err_and, raw_bounds, bounds_from, viewed, optional_at}
 use Rattle.twkb_head.proofs.BoxReads.{flat_first, both_there, four_read, four_stop, box_read, third_stop, absent_range}
 use Rattle.twkb_head.proofs.ranges.take_box.Goals as goal
 use Rattle.twkb_head.proofs.ranges.take_box.Goals.{then-has_z-has_m+in_ok-further, else-has_z-has_m+in_ok-take_range_if}

@@ -1,9 +1,5 @@
 -- Kind and fields are told by the bits of two bytes that name them.
-use Rattle.std.proofs.Common.{◌≡◌, ◌/◌, refl, arith}
-use Rattle.std.proofs.lemmas.Int.{ints}
-use mir.Val.{to_z, of_z}
-use Rattle.std.specs.Int.{w8}
-use Rattle.twkb_num.specs.Varint.{zigzag_value}
+use Rattle.twkb_head.proofs.Prelude.{◌≡◌, ◌/◌, refl, arith, ints, to_z, of_z, w8, zigzag_value}
 use Rattle.twkb_num.proofs.PointBytes.{bits_are}
 use Rattle.twkb_head.proofs.HeadSteps.{first_allowed, two_back}
 use Rattle.twkb_head.proofs.read.begun_as.Goals as goal
