@@ -2,7 +2,7 @@
 use Rattle.std.proofs.Common.{◌≡◌, ◌∙◌, List, [], ◌∷◌, ◌++◌, Bool, true, false, refl, codes, Option, Some, None, ap, sym, append_assoc, append-nil, arith, length, ◌≤◌}
 use Rattle.std.proofs.Math.Dec.{eqb-suc-zero}
 use Rattle.std.proofs.lemmas.Bool.{le-ltb, not-true}
-use Rattle.std.specs.Prelude.{◌==◌, ◌&&◌, not, option_map, fold, is_some, nat_lt}
+use Rattle.std.specs.Prelude.{◌==◌, ◌&&◌, option_map, fold, is_some, nat_lt}
 use Rattle.std.specs.List.{list_all}
 use Rattle.clap.specs.Faults.{check_fault, defaults_fault, entered_fault, fault_of, level_fault, settle_fault, turn_fault, walk_fault}
 use Rattle.clap.specs.Kinds.{values_kinds, Kinds, or_else}

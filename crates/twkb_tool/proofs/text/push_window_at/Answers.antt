@@ -15,3 +15,6 @@ returns-clause-text g c = λ trees layer.
     subst (λ (text : List ℕ). OnOk c.push_found.result (c.push_found.new.out.items ≡ c.args.out.now.items ++ text))
     (window_lines directory_cost c.args.window.now trees c.args.layer.now.bytes c.args.room.now _ _ _ _ c.requires.room layer (c.scan-found.ensures.answer trees layer) (c.scan-found.ensures.room trees layer) read len)
     c.push_found.ensures
+
+pub returns-clause-count : goal.returns-clause-count
+returns-clause-count g c = λ trees layer. grew _ _ _ _ c.scan-found.ensures.few c.requires.read (c.scan-found.ensures.count trees layer)
