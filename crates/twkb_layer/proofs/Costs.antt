@@ -1,13 +1,5 @@
 -- A scan reads no byte of a blob twice.
-use Rattle.std.proofs.Common.{ℕ, ◌≤◌, Bool, true, false, cond, List, arith}
-use Rattle.twkb_head.specs.declared.boxes.Bounds.{Bounds}
-use Rattle.twkb_body.specs.Geometry.{Geometry}
-use Rattle.twkb_body.specs.Standing.{StandsAt}
-use Rattle.twkb_layer.specs.Directory.{box_of, directory_cost}
-use Rattle.twkb_layer.specs.Window.{is_missed}
-use Rattle.twkb_layer.specs.Devices.Seeking.{Seeking, seeks, seeks_past}
-use Rattle.twkb_layer.specs.Hits.{cost}
-use Rattle.twkb_layer.specs.Layer.{size_of}
+use Rattle.twkb_layer.proofs.Prelude.{ℕ, ◌≤◌, Bool, true, false, cond, List, arith, Bounds, Geometry, StandsAt, box_of, directory_cost, is_missed, Seeking, seeks, seeks_past, cost, size_of}
 use Rattle.twkb_layer.proofs.Seeks.{cost_walk}
 use Rattle.twkb_layer.proofs.Visits.{walk_few}
 

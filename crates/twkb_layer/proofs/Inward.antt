@@ -1,14 +1,6 @@
 -- Windows with rational bounds, and the windows in units that contain the same vertices.
-use Rattle.std.proofs.Common.{◌≡◌, ℕ, suc, negsuc, ◌+◌, ◌*◌, ◌/◌, ◌^◌, ◌<◌, ◌≤◌, true, not, ◌&&◌, ℤ, pos, neg_ℤ, ◌+ℤ◌, ◌-ℤ◌, ◌*ℤ◌, ◌<ℤ◌, ◌≤ℤ◌, int_lt, int_le, unsigned_abs, Option, Some, None, refl, ap, sym, ◌∙◌, arith}
-use Rattle.std.specs.Prelude.{IfSome, option_map}
-use Rattle.std.specs.Int.{int_div_euclid, int_max, int_min}
-use Rattle.std.proofs.Math.IntN.{neg_ℤ-neg_ℤ, pos-*ℤ-pos, negsuc-*ℤ-pos}
-use Rattle.std.proofs.lemmas.Int.{ints}
-use Rattle.std.proofs.Math.Nat.{pow-le-pow_right, mul-le-mul}
-use Rattle.std.proofs.lemmas.Nat.{div-add-mod'}
-use Rattle.twkb_layer.specs.Decimals.{Rational, RationalRange, is_less, units_as_rational, rounded_up, rounded_down, rounded_inward, in_rationals, in_rationals_if_any, HasDenominators, IsWithinFarthest}
-use Rattle.twkb_layer.specs.Laws.{RoundsInward, NoneIsFarther}
-use Rattle.twkb_layer.specs.Window.{in_span, in_bound}
+use Rattle.twkb_layer.proofs.Prelude.{◌≡◌, ℕ, suc, negsuc, ◌+◌, ◌*◌, ◌/◌, ◌^◌, ◌<◌, ◌≤◌, true, not, ◌&&◌, ℤ, pos, neg_ℤ, ◌+ℤ◌, ◌-ℤ◌, ◌*ℤ◌, ◌<ℤ◌, ◌≤ℤ◌, int_lt, int_le, unsigned_abs, Option, Some, None, refl, ap, sym, ◌∙◌, arith, IfSome, int_div_euclid, int_max, int_min, neg_ℤ-neg_ℤ, pos-*ℤ-pos, negsuc-*ℤ-pos, ints, pow-le-pow_right, mul-le-mul, div-add-mod', Rational, RationalRange, is_less, units_as_rational, rounded_up, rounded_down, rounded_inward, in_rationals, in_rationals_if_any, HasDenominators, IsWithinFarthest, RoundsInward, NoneIsFarther, in_span, in_bound}
+use Rattle.std.specs.Prelude.{option_map}
 use Rattle.twkb_layer.proofs.RawWindows.{down_as_it_is}
 use Rattle.twkb_layer.proofs.Rounding.{signed_product}
 

@@ -1,14 +1,5 @@
 -- A scan reads as many bytes of a geometry as the visitor that seeks, whatever it has met so far.
-use Rattle.std.proofs.Common.{◌≡◌, ℕ, ◌+◌, Bool, true, false, cond, not, ◌&&◌, ℤ, List, [], ◌∷◌, fold, Option, Some, None, is_some, option_map, refl, sym, ap, ap₂, ◌∙◌}
-use Rattle.twkb_head.specs.declared.boxes.Vertex.{Vertex}
-use Rattle.twkb_head.specs.declared.boxes.Bounds.{Bounds}
-use Rattle.twkb_head.specs.Head.{bounds_of}
-use Rattle.twkb_head.specs.BegunHeader.{is_collection}
-use Rattle.twkb_body.specs.Geometry.{Geometry, Members, geometry, none, more, vertices}
-use Rattle.twkb_body.specs.Visit.{walk, member_walk, skips_both}
-use Rattle.twkb_layer.specs.Hits.{cost, member_cost}
-use Rattle.twkb_layer.specs.Window.{box_misses, is_missed}
-use Rattle.twkb_layer.specs.Devices.Seeking.{Seeking, seeks, seeks_past}
+use Rattle.twkb_layer.proofs.Prelude.{◌≡◌, ℕ, ◌+◌, Bool, true, false, cond, not, ◌&&◌, ℤ, List, [], ◌∷◌, fold, Option, Some, None, is_some, option_map, refl, sym, ap, ap₂, ◌∙◌, Vertex, Bounds, bounds_of, is_collection, Geometry, Members, geometry, none, more, vertices, walk, member_walk, skips_both, cost, member_cost, box_misses, is_missed, Seeking, seeks, seeks_past}
 
 window_kept : (s : Seeking) (vs : List Vertex) → (fold seeks s vs).window ≡ s.window
 window_kept s [] = refl

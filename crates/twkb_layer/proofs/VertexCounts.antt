@@ -1,10 +1,5 @@
 -- A layer has no more vertices than bytes.
-use Rattle.std.proofs.Common.{ℕ, ◌≤◌, List, [], ◌∷◌, length, take, drop, ap, arith, length-append}
-use Rattle.std.proofs.lemmas.List.{take-append-drop}
-use Rattle.std.proofs.lemmas.List.Sums.{sum_by-cons}
-use Rattle.twkb_body.specs.Geometry.{Geometry, vertices}
-use Rattle.twkb_body.proofs.VertexCounts.{blob_few}
-use Rattle.twkb_layer.specs.Layer.{IsLayer, size_of, vertex_count}
+use Rattle.twkb_layer.proofs.Prelude.{ℕ, ◌≤◌, List, [], ◌∷◌, length, take, drop, ap, arith, length-append, take-append-drop, sum_by-cons, Geometry, vertices, blob_few, IsLayer, size_of, vertex_count}
 
 pub layer_few : (trees : List Geometry) (bytes : List ℕ) → IsLayer trees bytes → vertex_count trees ≤ length bytes
 layer_few [] bytes l = omega arith

@@ -1,17 +1,6 @@
 -- What a visitor sees and reads of a layer, from blob to blob.
-use Rattle.std.proofs.Common.{◌≡◌, ℕ, ◌+◌, ◌≤◌, Bool, List, [], ◌∷◌, fold, refl, ap, sym, ◌∙◌}
-use Rattle.std.proofs.lemmas.List.Sums.{fold-append}
-use Rattle.twkb_head.specs.BegunHeader.{deepest}
-use Rattle.twkb_head.specs.declared.boxes.Bounds.{Bounds}
-use Rattle.twkb_head.specs.declared.boxes.Vertex.{Vertex}
-use Rattle.twkb_body.specs.Geometry.{Geometry, vertices}
-use Rattle.twkb_body.specs.Standing.{StandsAt}
-use Rattle.twkb_body.specs.Visit.{walk}
-use Rattle.twkb_body.proofs.Orders.{blob_order}
-use Rattle.twkb_body.proofs.WalkLengths.{walk_most}
-use Rattle.twkb_layer.specs.Layer.{size_of}
+use Rattle.twkb_layer.proofs.Prelude.{◌≡◌, ℕ, ◌+◌, ◌≤◌, Bool, List, [], ◌∷◌, fold, refl, ap, sym, ◌∙◌, fold-append, deepest, Bounds, Vertex, Geometry, vertices, StandsAt, walk, blob_order, walk_most, size_of, after_from, read_from}
 use Rattle.twkb_layer.specs.Vertices.{all_vertices, layer_walk}
-use Rattle.twkb_layer.specs.Devices.EachBlob.{after_from, read_from}
 
 module _ (S : Type 0) (step : S → Vertex → S) (skips : S → Bounds → Bool) where
   -- a visitor reads no more bytes of a blob than it has

@@ -1,8 +1,5 @@
 -- The visitor has seen all blobs.
-use Rattle.std.proofs.Common.{rules, ap, ◌∙◌}
-use Rattle.twkb_num.specs.Cursor.{added}
-use Rattle.twkb_body.specs.Visit.{walk}
-use Rattle.twkb_body.proofs.CertifiedWalks.{lent_back}
+use Rattle.twkb_layer.proofs.Prelude.{rules, ap, ◌∙◌, added, walk, lent_back}
 use Rattle.twkb_layer.proofs.EachBlob.{lent_ends, lent_read}
 use Rattle.twkb_layer.proofs.Visits.{sees, all_seen, all_walked}
 use Rattle.twkb_layer.proofs.showing.show.Goals as goal
