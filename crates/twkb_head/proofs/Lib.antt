@@ -5,8 +5,6 @@ pub mod FieldCuts
 pub mod Plans
 pub mod Combinators
 pub mod Leaves
-pub mod BoxFields
-mod BoxReads
 pub mod Heads
 pub mod Readings
 pub mod Steps
@@ -17,4 +15,3 @@ pub mod Loops
 pub mod HeadLaws
 pub mod Rests
 pub mod HeadBack
-pub mod Limits
