@@ -6,7 +6,7 @@ use Rattle.twkb_body.proofs.Entering.{reaches, boxed_holds}
 use Rattle.twkb_layer.proofs.Layers.{blob_some, layer_short}
 use Rattle.twkb_layer.proofs.EachBlob.{Next, next_of, Walking, walk_begins, walk_goes_on, walk_fits, blob_few, walk_ends}
 use Rattle.twkb_layer.proofs.Scanning.{scan_ends, scan_reads}
-use Rattle.twkb_layer.proofs.Costs.{directory_cost_few}
+use Rattle.twkb_layer.proofs.Visits.{directory_cost_few}
 
 -- ---- a box that misses
 
