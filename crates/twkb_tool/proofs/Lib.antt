@@ -1,4 +1,5 @@
 -- The proofs about words, streams and texts.
+mod Prelude
 pub mod LineLemmas
 pub mod OutputLemmas
 pub mod PlainWords

@@ -1,17 +1,8 @@
 -- The lines that words without a minus at their start request.
-use Rattle.std.proofs.Common.{◌≡◌, ◌∙◌, ℕ, ◌+◌, ◌<◌, ◌≤◌, List, [], ◌∷◌, true, ap, sym, refl, subst, arith, get_or, inl, inr, codes, length, Ok, Err, Option, Some, None, Result}
-use Rattle.std.specs.Prelude.{◌⊎◌, unwrap_or}
-use Rattle.std.specs.List.{list_all}
-use Rattle.clap.specs.Faults.{fault_of}
-use Rattle.clap.specs.Lexer.{usize_max}
-use Rattle.clap.specs.Words.{Row, Text, first_of, subcommand_of}
+use Rattle.twkb_tool.proofs.Prelude.{◌≡◌, ◌∙◌, ℕ, ◌+◌, ◌<◌, ◌≤◌, List, [], ◌∷◌, true, ap, sym, refl, subst, arith, get_or, inl, inr, codes, length, Ok, Err, Option, Some, None, Result, ◌⊎◌, unwrap_or, list_all, fault_of, usize_max, Row, Text, first_of, subcommand_of, Answers, AsksFor, IsFirstBad, IsLineOf, IsNoScan, IsRefused, IsScanFor, IsScanOf, ReadsWith, is_value, most_windows, tool_app, windows_in, Request, Check, CheckTight, Scan, Usage, Words, TooMany, Window as NoWindow, Memory}
 use Rattle.twkb_tool.proofs.PlainWords.{check_finds, check_parses, found, list_finds, list_parses, scan_finds, scan_parses, tight_behind_finds, tight_behind_parses, tight_finds, tight_parses}
-use Rattle.twkb_tool.specs.Words.{Answers, AsksFor, IsFirstBad, IsLineOf, IsNoScan, IsRefused, IsScanFor, IsScanOf, ReadsWith, is_value, most_windows, tool_app, windows_in}
-use Rattle.twkb_tool.specs.declared.request.Request.{Request}
-use Rattle.twkb_tool.specs.declared.request.Request.TheVariants.{Check, CheckTight, List as ListBlobs, Scan}
+use Rattle.twkb_tool.specs.declared.request.Request.TheVariants.{List as ListBlobs}
 use Rattle.twkb_tool.specs.declared.request.Line.{Line}
-use Rattle.twkb_tool.specs.declared.words.Usage.{Usage}
-use Rattle.twkb_tool.specs.declared.words.Usage.TheVariants.{Words, TooMany, Window as NoWindow, Memory}
 
 -- ---- the parts of what was found
 

@@ -1,15 +1,10 @@
 -- Given bytes and a request have one text and one verdict.
-use Rattle.std.proofs.Common.{◌≡◌, ◌∙◌, ℕ, true, false, List, Some, refl, sym, ap}
-use Rattle.twkb_layer.proofs.Layers.{layer_once}
-use Rattle.twkb_body.specs.Geometry.{Geometry}
-use Rattle.twkb_layer.specs.Layer.{IsCertifiedLayer}
+use Rattle.twkb_tool.proofs.Prelude.{◌≡◌, ◌∙◌, ℕ, true, false, List, Some, refl, sym, ap, layer_once, Geometry, IsCertifiedLayer, IsAccepted, IsOutput, IsLayerText, IsNoLine, IsTrueFor, word_of, Request, Check, CheckTight, Scan}
 use Rattle.twkb_layer.proofs.Refusals.{refusal_once}
 use Rattle.twkb_layer.specs.Refusal.{IsRefusal}
-use Rattle.twkb_tool.specs.Output.{IsAccepted, IsOutput, IsLayerText, IsNoLine, IsTrueFor, word_of}
 use Rattle.twkb_tool.specs.declared.judge.Verdict.{Verdict}
 use Rattle.twkb_tool.specs.declared.judge.Verdict.TheVariants.{Yes, No}
-use Rattle.twkb_tool.specs.declared.request.Request.{Request}
-use Rattle.twkb_tool.specs.declared.request.Request.TheVariants.{Check, CheckTight, List as ListBlobs, Scan}
+use Rattle.twkb_tool.specs.declared.request.Request.TheVariants.{List as ListBlobs}
 
 -- a layer that is accepted for a request is certified
 accepted_layer : (request : Request) (trees : List Geometry) (bytes : List ℕ) → IsAccepted request trees bytes → IsCertifiedLayer trees bytes

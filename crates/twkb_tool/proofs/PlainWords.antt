@@ -1,20 +1,11 @@
 -- Words of which only the subcommand's name means something to clap: they parse, and are found as they are written.
-use Rattle.std.proofs.Common.{◌≡◌, ◌∙◌, List, [], ◌∷◌, ◌++◌, Bool, true, false, refl, codes, Option, Some, None, ap, sym, append_assoc, append-nil, arith, length, ◌≤◌}
+use Rattle.twkb_tool.proofs.Prelude.{◌≡◌, ◌∙◌, List, [], ◌∷◌, ◌++◌, Bool, true, false, refl, codes, Option, Some, None, ap, sym, append_assoc, append-nil, arith, length, ◌≤◌, ◌==◌, ◌&&◌, option_map, fold, is_some, nat_lt, list_all, check_fault, defaults_fault, entered_fault, fault_of, level_fault, settle_fault, turn_fault, walk_fault, values_kinds, Kinds, or_else, Text, Row, all_of, first_of, subcommand_of, usize_max, clap_on_literals, walk_stopped, scan_app, tool_app, is_value}
 use Rattle.std.proofs.Math.Dec.{eqb-suc-zero}
 use Rattle.std.proofs.lemmas.Bool.{le-ltb, not-true}
-use Rattle.std.specs.Prelude.{◌==◌, ◌&&◌, option_map, fold, is_some, nat_lt}
-use Rattle.std.specs.List.{list_all}
-use Rattle.clap.specs.Faults.{check_fault, defaults_fault, entered_fault, fault_of, level_fault, settle_fault, turn_fault, walk_fault}
-use Rattle.clap.specs.Kinds.{values_kinds, Kinds, or_else}
 use Rattle.clap.specs.Simple.{App, Shape, built, built_leaf, entered, names_of}
 use Rattle.clap.specs.Walk.{Walk, arg_by_index, finished, idle, nothing_held, positional, settled, used_by_id, walk, walk_from, walked}
-use Rattle.clap.specs.Words.{Text, Row, all_of, first_of, subcommand_of}
 use Rattle.clap.specs.declared.builder.value_parser.ValueParser.TheVariants as vp
-use Rattle.clap.specs.Lexer.{usize_max}
 use Rattle.clap.proofs.FaultLemmas.{stopped_fault}
-use Rattle.clap.proofs.OnLiterals.{clap_on_literals}
-use Rattle.clap.proofs.WalkLemmas.{walk_stopped}
-use Rattle.twkb_tool.specs.Words.{scan_app, tool_app, is_value}
 
 -- ---- one file
 

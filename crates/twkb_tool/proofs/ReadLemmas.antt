@@ -1,7 +1,5 @@
 -- What a buffer holds after more bytes came.
-use Rattle.std.proofs.Common.{◌≡◌, ◌∙◌, ℕ, ◌+◌, ◌≤◌, List, ◌++◌, length, take, refl, ap, arith, length-append}
-use Rattle.std.proofs.lemmas.List.{take-take, take-append-le, take_at, drop_at, length-take}
-use Rattle.std.proofs.Math.Seq.{take-add}
+use Rattle.twkb_tool.proofs.Prelude.{◌≡◌, ◌∙◌, ℕ, ◌+◌, ◌≤◌, List, ◌++◌, length, take, refl, ap, arith, length-append, take-take, take-append-le, take_at, drop_at, length-take, take-add}
 
 front_of_two : (front behind : List ℕ) (held n : ℕ) → length front ≡ held → take (held + n) (front ++ behind) ≡ front ++ take n behind
 front_of_two front behind held n long = take-add held n (front ++ behind) ∙ rw (take_at front behind held long, drop_at front behind held long) refl

@@ -1,19 +1,10 @@
 -- The lines of a window, from the answer of a scan, and the lines of a list.
-use Rattle.std.proofs.Common.{◌≡◌, ◌∙◌, ℕ, ℤ, ◌+◌, ◌-◌, ◌*◌, ◌^◌, ◌<◌, ◌≤◌, Bool, true, false, cond, List, [], ◌∷◌, ◌++◌, length, take, drop, flat_map, min, sum_by, codes, decimal, refl, sym, ap, arith, append_assoc, get_or, length-append}
-use Rattle.std.proofs.lemmas.List.{flat_map_more, take_all, take_at, take_more}
+use Rattle.twkb_tool.proofs.Prelude.{◌≡◌, ◌∙◌, ℕ, ℤ, ◌+◌, ◌-◌, ◌*◌, ◌^◌, ◌<◌, ◌≤◌, Bool, true, false, cond, List, [], ◌∷◌, ◌++◌, length, take, drop, flat_map, min, sum_by, codes, decimal, refl, sym, ap, arith, append_assoc, get_or, length-append, flat_map_more, take_all, take_at, take_more, list_any, Bounds, Geometry, vertices, hit_of, hits, filled, IsCertifiedLayer, AddsAtMost, size_of, told_from, layer_once, MAX_FILE, name_of, yes_no, no_line, row_line, hit_line, end_line, window_text}
 use Rattle.std.proofs.lemmas.List.Sums.{sum_by_more}
-use Rattle.std.specs.List.{list_any}
-use Rattle.twkb_head.specs.declared.boxes.Bounds.{Bounds}
-use Rattle.twkb_body.specs.Geometry.{Geometry, vertices}
-use Rattle.twkb_layer.specs.Hits.{hit_of, hits, filled}
-use Rattle.twkb_layer.specs.Layer.{IsCertifiedLayer, AddsAtMost, size_of, told_from}
 use Rattle.twkb_layer.specs.Window.{is_inside}
 use Rattle.twkb_layer.specs.declared.hits.Hit.{Hit}
-use Rattle.twkb_layer.proofs.Layers.{layer_once}
 use Rattle.twkb_layer.specs.declared.row.Row.{Row}
 use Rattle.std.specs.Fmt.{signed_decimal}
-use Rattle.twkb_tool.specs.declared.run.TheConstants.{MAX_FILE}
-use Rattle.twkb_tool.specs.Output.{name_of, yes_no, no_line, row_line, hit_line, end_line, window_text}
 
 one_or_none : (b : Bool) (hit : Hit) → length (cond b (hit ∷ []) []) ≤ 1
 one_or_none true hit = omega arith

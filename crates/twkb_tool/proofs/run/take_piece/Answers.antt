@@ -1,5 +1,6 @@
 -- The buffer grew by the bytes that the source gave.
-use Rattle.std.proofs.Common.{◌∙◌, ap, arith, take, ◌++◌, List, ℕ, length-take}
+use Rattle.twkb_tool.proofs.Prelude.{◌∙◌, ap, arith, take, ◌++◌, List, ℕ}
+use Rattle.std.proofs.Common.{length-take}
 use Rattle.twkb_tool.proofs.ReadLemmas.{behind_held}
 use Rattle.twkb_tool.proofs.run.take_piece.Goals as goal
 

@@ -1,14 +1,6 @@
 -- The text of several windows, or of none, is that of a scan with a directory, which was built before.
-use Rattle.std.proofs.Common.{rules, ◌≡◌, ℕ, ◌+◌, ◌≤◌, ◌++◌, List, [], ◌∷◌, length, flat_map, sum_by, get_or, OnOk, refl, subst, sym, arith}
-use Rattle.std.proofs.lemmas.Result.{on_ok_weaker}
-use Rattle.twkb_head.specs.declared.boxes.Bounds.{Bounds}
-use Rattle.twkb_body.specs.Geometry.{Geometry}
-use Rattle.twkb_layer.specs.Directory.{directory_cost}
-use Rattle.twkb_layer.specs.Hits.{cost}
-use Rattle.twkb_layer.specs.Layer.{IsCertifiedLayer, AddsAtMost}
+use Rattle.twkb_tool.proofs.Prelude.{rules, ◌≡◌, ℕ, ◌+◌, ◌≤◌, ◌++◌, List, [], ◌∷◌, length, flat_map, sum_by, get_or, OnOk, refl, subst, sym, arith, on_ok_weaker, Bounds, Geometry, directory_cost, cost, IsCertifiedLayer, AddsAtMost, reading, window_text, MAX_FILE}
 use Rattle.twkb_tool.specs.Devices.Scanned.{all_read, most_built}
-use Rattle.twkb_tool.specs.Output.{reading, window_text}
-use Rattle.twkb_tool.specs.declared.run.TheConstants.{MAX_FILE}
 use Rattle.twkb_tool.proofs.text.push_scan.Goals as goal
 use Rattle.twkb_tool.proofs.text.push_scan.Goals.{then-windows-lt1, else-windows-lt1+else-windows-lt2}
 

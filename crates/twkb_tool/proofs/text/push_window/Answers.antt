@@ -1,6 +1,5 @@
 -- A scan's hits and its count are the window's lines.
-use Rattle.std.proofs.Common.{◌≡◌, ◌++◌, ◌∙◌, List, ℕ, OnOk, subst, sum_by, ◌-◌, ap, arith, length}
-use Rattle.twkb_layer.specs.Hits.{cost}
+use Rattle.twkb_tool.proofs.Prelude.{◌≡◌, ◌++◌, ◌∙◌, List, ℕ, OnOk, subst, sum_by, ◌-◌, ap, arith, length, cost}
 use Rattle.twkb_tool.proofs.TextLemmas.{found_fits_room, grew, window_lines}
 use Rattle.twkb_tool.proofs.text.push_window.Goals as goal
 

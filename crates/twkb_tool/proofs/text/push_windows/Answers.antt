@@ -1,10 +1,6 @@
 -- Each turn pushes the lines of one more window, and its scan reads no more bytes than the layer has.
-use Rattle.std.proofs.Common.{◌≡◌, ◌∙◌, ◌++◌, ◌+◌, ℕ, sum_by, ap, sym, subst, arith, length}
-use Rattle.twkb_head.specs.declared.boxes.Bounds.{Bounds}
-use Rattle.twkb_layer.specs.Directory.{directory_cost}
-use Rattle.twkb_layer.specs.Layer.{IsCertifiedLayer}
+use Rattle.twkb_tool.proofs.Prelude.{◌≡◌, ◌∙◌, ◌++◌, ◌+◌, ℕ, sum_by, ap, sym, subst, arith, length, Bounds, directory_cost, IsCertifiedLayer, window_text}
 use Rattle.twkb_tool.proofs.TextLemmas.{lines_more, read_more, reads_more}
-use Rattle.twkb_tool.specs.Output.{window_text}
 use Rattle.twkb_tool.proofs.text.push_windows.Goals as goal
 
 pub push_window_at-requires : goal.push_window_at-requires

@@ -1,10 +1,5 @@
 -- The text has the lines of the windows so far, and no scan has read more than all bytes.
-use Rattle.std.proofs.Common.{◌≡◌, ◌+◌, ◌*◌, ◌≤◌, ◌++◌, List, length, take, flat_map, sum_by}
-use Rattle.twkb_body.specs.Geometry.{Geometry}
-use Rattle.twkb_layer.specs.Directory.{directory_cost}
-use Rattle.twkb_layer.specs.Layer.{IsCertifiedLayer}
-use Rattle.twkb_tool.specs.Output.{window_text}
-use Rattle.twkb_tool.specs.declared.run.TheConstants.{MAX_FILE}
+use Rattle.twkb_tool.proofs.Prelude.{◌≡◌, ◌+◌, ◌*◌, ◌≤◌, ◌++◌, List, length, take, flat_map, sum_by, Geometry, directory_cost, IsCertifiedLayer, window_text, MAX_FILE}
 use Rattle.twkb_tool.proofs.text.push_windows.Given as goal
 
 abbrev pub invariant-loop-window : goal.invariant-loop-window

@@ -1,7 +1,6 @@
 -- The texts so far are the windows that were pushed.
-use Rattle.std.proofs.Common.{◌≡◌, map, take, vec_len}
-use Rattle.twkb_tool.specs.Words.{AreWindows}
-use Rattle.twkb_tool.proofs.words.windows.windows_of.Given as goal
+use Rattle.twkb_tool.proofs.Prelude.{◌≡◌, map, take, vec_len, AreWindows}
+use Rattle.twkb_tool.proofs.words.windows_of.Given as goal
 
 abbrev pub invariant-loop-i : goal.invariant-loop-i
 invariant-loop-i l = record {

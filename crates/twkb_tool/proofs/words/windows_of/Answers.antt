@@ -1,8 +1,7 @@
 -- Each turn reads one more text as a window; the first that is none is named.
-use Rattle.std.proofs.Common.{ap, arith, length, length-append, [], ◌∷◌}
-use Rattle.std.proofs.lemmas.Result.{err_from_is_err_and}
+use Rattle.twkb_tool.proofs.Prelude.{ap, arith, length, length-append, [], ◌∷◌, err_from_is_err_and}
 use Rattle.twkb_tool.proofs.WindowLemmas.{no_windows, windows_more}
-use Rattle.twkb_tool.proofs.words.windows.windows_of.Goals as goal
+use Rattle.twkb_tool.proofs.words.windows_of.Goals as goal
 
 pub returns-in_err-push_window_of-clause-err : goal.returns-in_err-push_window_of-clause-err
 returns-in_err-push_window_of-clause-err c =
