@@ -5,7 +5,7 @@ ghost use Rattle.twkb_tool.specs.Memory.{is_failing, number_after, puts_fail};
 ghost use Rattle.twkb_tool.specs.Streams.{Takes, Gives};
 
 use crate::streams::{Sink, SinkFailed, Source, SourceFailed};
-use std::alloc::{AllocError, Allocator, Global};
+use std::alloc::{AllocError, Allocator};
 use std::marker::Model;
 
 /// A source over bytes.
@@ -119,7 +119,7 @@ impl<A: Allocator> Model for MemSink<A> {
 impl<A: Allocator> MemSink<A> {
     /// A sink with room for `room` bytes, which takes at most `step` bytes a call. Calls of `put` and `flush` are numbered
     /// together from 1. Only call `fail_at` fails, and any `put` for which no room is left.
-    pub fn new_in(
+    pub fn new(
         alloc: A,
         room: usize,
         step: usize,
@@ -151,27 +151,6 @@ impl<A: Allocator> MemSink<A> {
         ensures { result.now ≡ self.now.state.bytes }
     {
         self.bytes.as_slice()
-    }
-}
-
-impl MemSink<Global> {
-    /// [`new_in`](MemSink::new_in) with memory from the heap.
-    pub fn new(
-        alloc: Global,
-        room: usize,
-        step: usize,
-        fail_at: Option<usize>,
-    ) -> Result<MemSink<Global>, AllocError>
-        requires { 0 < step }
-        ensures { IfOk result (λ sink. sink ≡ record {
-          state = record { tells = true; bytes = []; moved = 0; failed = false; flushing = false };
-          room = room;
-          step = step;
-          next = Some 1;
-          fail_at = fail_at;
-        }) }
-    {
-        MemSink::new_in(alloc, room, step, fail_at)
     }
 }
 
