@@ -14,7 +14,7 @@ import subprocess
 import sys
 import tempfile
 
-from harness import TOP, count, counts
+from harness import TOP, count, counts, left_out
 
 PAGES = ["README.md", os.path.join("docs", "USAGE.md"), os.path.join("docs", "BINDINGS.md"), os.path.join("bindings", "c", "README.md")]
 COMMAND = re.compile(r"^    \$ (.*)\n((?:    (?!\$ ).*\n)*)", re.MULTILINE)
@@ -68,8 +68,8 @@ def samples(page, folder, environment):
 def main():
     program = os.path.abspath(sys.argv[1] if len(sys.argv) > 1 else os.path.join(TOP, "build", "twkb_tool"))
     if not shutil.which("gcc"):
-        print("gcc is missing: apt-get install gcc libc6-dev; nothing that pages show is run")
-        return int(os.environ.get("CI") == "true")
+        left_out("gcc is missing: apt-get install gcc libc6-dev; nothing that pages show is run")
+        return 0
     with tempfile.TemporaryDirectory() as folder:
         os.mkdir(os.path.join(folder, "build"))
         shutil.copy(program, os.path.join(folder, "build", "twkb_tool"))

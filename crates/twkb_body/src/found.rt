@@ -1,5 +1,5 @@
 //! [`Pass`], what an audit finds on its way, and the judging of claims.
-//! Used by `auditing`, `fields`, `geometry`, `lists` and `shape`.
+//! Used by `auditing`, `fields`, `flat_point`, `geometry`, `lists` and `shape`.
 ghost use Rattle.std.specs.Prelude.{◌≡◌, ◌≤◌, IfSome, is_some, None, Some};
 ghost use Rattle.twkb_head.specs.Raw.{HavePrecisions, head_said};
 ghost use Rattle.twkb_body.specs.Devices.Inside.{of_head};

@@ -1,5 +1,4 @@
 -- The proofs about what calls for other languages return.
 pub mod Windows
-pub mod Points
 pub mod Verdicts
 pub mod Answered

@@ -1,10 +1,6 @@
 -- The laws of a plan: which bytes spell a value by it, and where bytes stop in it. Combinators make the laws of a plan from
 -- the laws of its parts, so a format has only to restate the result in its own words.
-use Rattle.std.proofs.Common.{◌≡◌, ℕ, zero, suc, ◌+◌, ◌<◌, Bool, true, false, List, [], ◌∷◌, ◌++◌, length, ℤ, pos, Some, ◌⊎◌, inl, inr, refl, sym, ap, ap₂, subst, subst₂, ◌∙◌, append_assoc, arith, length-append, add_assoc, add-zero}
-use Rattle.std.proofs.lemmas.List.{append-nil}
-use Rattle.twkb_head.specs.Parts.{Then, Sequence, Times, Announced}
-use Rattle.twkb_head.specs.BegunHeader.{Field}
-use Rattle.twkb_head.specs.Shared.Plan.{Plan, done, ask, bind, many, measure, optional}
+use Rattle.twkb_head.proofs.Prelude.{◌≡◌, ℕ, zero, suc, ◌+◌, ◌<◌, Bool, true, false, List, [], ◌∷◌, ◌++◌, length, ℤ, pos, Some, ◌⊎◌, inl, inr, refl, sym, ap, ap₂, subst, subst₂, ◌∙◌, append_assoc, arith, length-append, add_assoc, add-zero, append-nil, Then, Sequence, Times, Announced, Field, Plan, done, ask, bind, many, measure, optional}
 use Rattle.twkb_head.proofs.Spelling.{Spelled, Stops}
 
 -- Which bytes spell a value by a plan, and where bytes stop in it, each in words of the format and back.

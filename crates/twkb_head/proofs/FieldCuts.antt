@@ -1,14 +1,6 @@
 -- A field at the front of bytes: cutting it off, and what it means that it cannot be cut off.
-use Rattle.std.proofs.Common.{◌≡◌, ℕ, zero, suc, ◌*◌, ◌<◌, ◌≤◌, Bool, true, false, cond, nat_lt, List, [], ◌∷◌, ◌++◌, length, take, slice_index, All, Result, Ok, Err, ◌⊎◌, inl, inr, ⊎_elim, refl, sym, ap, subst, ◌∙◌, arith}
-use Rattle.std.proofs.lemmas.Bool.{ltb-true, ltb-false, lt-ltb, le-ltb}
-use Rattle.std.proofs.lemmas.List.{get_or-take}
-use Rattle.std.proofs.lemmas.Grind.{common_steps}
+use Rattle.twkb_head.proofs.Prelude.{◌≡◌, ℕ, zero, suc, ◌*◌, ◌<◌, ◌≤◌, Bool, true, false, cond, nat_lt, List, [], ◌∷◌, ◌++◌, length, take, slice_index, All, Result, Ok, Err, ◌⊎◌, inl, inr, ⊎_elim, refl, sym, ap, subst, ◌∙◌, arith, ltb-true, ltb-false, lt-ltb, le-ltb, get_or-take, common_steps, Why, Cut, Varint, Spells, IsCut, IsLong, Field, type_field, byte_field, number_field, coordinate_field, IsField, cut_varint, cut_byte, cut_field, push_byte}
 use Rattle.std.proofs.lemmas.List.Elements.{All-cons, All-nil, All-head, All-tail}
-use Rattle.twkb_head.specs.declared.refusal.Why.{Why}
-use Rattle.twkb_head.specs.declared.refusal.Why.TheVariants.{Cut, Varint}
-use Rattle.twkb_num.specs.Varint.{Spells, IsCut, IsLong}
-use Rattle.twkb_head.specs.BegunHeader.{Field, type_field, byte_field, number_field, coordinate_field, IsField}
-use Rattle.twkb_head.specs.Shared.Plan.{cut_varint, cut_byte, cut_field, push_byte}
 use Rattle.twkb_num.proofs.SpellingForms.{varint_value, IsVarintForm, Spells-form, Spells-value, form_spells}
 
 pub ok_is : {A E : Type 0} (x y : A) → let z : Result A E = Ok x in z ≡ Ok y → x ≡ y

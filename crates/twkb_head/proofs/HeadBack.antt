@@ -1,23 +1,7 @@
 -- From the definitions back to reading: what crates above use of a header that was read.
-use Rattle.std.proofs.Common.{◌≡◌, ℕ, zero, suc, ◌+◌, ◌-◌, ◌%◌, ◌≤◌, List, [], ◌∷◌, ◌++◌, length, drop, Some, None, Result, Ok, Err, ◌⊎◌, refl, sym, ap, ap₂, ◌∙◌, arith, length-append}
-use Rattle.std.proofs.lemmas.Grind.{common_steps}
-use Rattle.twkb_num.specs.Cursor.{Reading, rest, passed, added, IsMoved, IsSound}
-use Rattle.twkb_head.specs.Header.{Header, IsHeader}
-use Rattle.twkb_head.specs.BegunHeader.{Field, type_field, byte_field, number_field, coordinate_field, IsBegunHeader, IsAllowedUnder, deepest}
-use Rattle.twkb_head.specs.Head.{IsHeadAt}
-use Rattle.twkb_head.specs.Refusal.{IsWrongField, IsRefusedHead}
+use Rattle.twkb_head.proofs.Prelude.{◌≡◌, ℕ, zero, suc, ◌+◌, ◌-◌, ◌%◌, ◌≤◌, List, [], ◌∷◌, ◌++◌, length, drop, Some, None, Result, Ok, Err, ◌⊎◌, refl, sym, ap, ap₂, ◌∙◌, arith, length-append, common_steps, Reading, rest, passed, added, IsMoved, IsSound, Header, IsHeader, Field, type_field, byte_field, number_field, coordinate_field, IsBegunHeader, IsAllowedUnder, deepest, IsHeadAt, IsWrongField, IsRefusedHead, cut_byte, judge_kind, kind_of_code, HeadValue, head_plan, Answer, read, Fails, rest-passed, Kind as KindOf, GeometryCollection, append_cancel_right, Why, Cut, Varint, Depth, Range, Malformed, Head}
 use Rattle.twkb_head.proofs.Spelling.{Fault, fault, run}
-use Rattle.twkb_head.specs.Shared.Plan.{cut_byte, judge_kind, kind_of_code}
-use Rattle.twkb_head.specs.Shared.HeadPlan.{HeadValue, head_plan}
-use Rattle.twkb_head.specs.Shared.Reader.{Answer, read, Fails}
-use Rattle.twkb_num.proofs.CursorLemmas.{rest-passed}
-use Rattle.twkb_head.specs.declared.kinds.Kind.{Kind as KindOf}
-use Rattle.twkb_head.specs.declared.kinds.Kind.TheVariants.{GeometryCollection}
-use Rattle.std.proofs.lemmas.List.{append_cancel_right}
-use Rattle.twkb_head.specs.declared.refusal.Why.{Why}
-use Rattle.twkb_head.specs.declared.refusal.Why.TheVariants.{Cut, Varint, Kind, Depth, Range}
-use Rattle.twkb_head.specs.declared.refusal.Malformed.{Malformed}
-use Rattle.twkb_head.specs.declared.header.Head.{Head}
+use Rattle.twkb_head.specs.declared.refusal.Why.TheVariants.{Kind}
 use Rattle.twkb_head.proofs.FieldCuts.{ok_is, err_is, cut_off, too_long}
 use Rattle.twkb_head.proofs.Plans.{run_again, run_uncut}
 use Rattle.twkb_head.proofs.Heads.{IsAllowedWith, kind_code, allowed_with, head_laws}

@@ -1,25 +1,7 @@
 -- What a reader of headers answers, in the words of the definitions.
-use Rattle.std.proofs.Common.{◌≡◌, ◌≢◌, ◌↔◌, ℕ, zero, suc, ◌+◌, ◌-◌, ◌%◌, ◌≤◌, List, [], ◌∷◌, ◌++◌, length, drop, Option, Some, None, Result, Ok, Err, ◌⊎◌, inl, inr, ⊎_elim, IfOk, OnOk, IfErr, IsOk, refl, sym, ap, ap₂, subst, ◌∙◌, arith, length-append}
-use Rattle.std.proofs.lemmas.List.{append_cancel_right}
-use Rattle.std.proofs.lemmas.Grind.{common_steps}
-use Rattle.twkb_num.specs.Cursor.{Reading, rest, passed, added, counted, IsMoved, IsSound}
-use Rattle.twkb_num.specs.Varint.{IsCut, IsLong}
-use Rattle.twkb_head.specs.Header.{Header, IsHeader}
-use Rattle.twkb_head.specs.BegunHeader.{Field, type_field, byte_field, number_field, coordinate_field, IsField, IsBegunHeader, type_due, metadata_due, extended_due, size_due, box_due, IsAllowedAt, deepest}
-use Rattle.twkb_head.specs.Head.{head_of, StartsWithHeader, IsHeadAt}
-use Rattle.twkb_head.specs.Refusal.{IsWrongField, IsRefusedHead, looked_at_field, looked_at_until}
-use Rattle.twkb_head.specs.Shared.Plan.{Request, type_byte, byte, number, coordinate, field_of, cut_field, judge, judge_kind, kind_of_code}
+use Rattle.twkb_head.proofs.Prelude.{◌≡◌, ◌≢◌, ◌↔◌, ℕ, zero, suc, ◌+◌, ◌-◌, ◌%◌, ◌≤◌, List, [], ◌∷◌, ◌++◌, length, drop, Option, Some, None, Result, Ok, Err, ◌⊎◌, inl, inr, ⊎_elim, IfOk, OnOk, IfErr, IsOk, refl, sym, ap, ap₂, subst, ◌∙◌, arith, length-append, append_cancel_right, common_steps, Reading, rest, passed, added, counted, IsMoved, IsSound, IsCut, IsLong, Header, IsHeader, Field, type_field, byte_field, number_field, coordinate_field, IsField, IsBegunHeader, type_due, metadata_due, extended_due, size_due, box_due, IsAllowedAt, deepest, head_of, StartsWithHeader, IsHeadAt, IsWrongField, IsRefusedHead, looked_at_field, looked_at_until, Request, type_byte, byte, number, coordinate, field_of, cut_field, judge, judge_kind, kind_of_code, HeadValue, head_plan, Answer, read, head_at, rest-passed, Kind as KindOf, GeometryCollection, Why, Cut, Varint, Depth, Range, Malformed, Head}
 use Rattle.twkb_head.proofs.Spelling.{Fault, fault, run}
-use Rattle.twkb_head.specs.Shared.HeadPlan.{HeadValue, head_plan}
-use Rattle.twkb_head.specs.Shared.Reader.{Answer, read}
-use Rattle.twkb_head.specs.Devices.HeadReader.{head_at}
-use Rattle.twkb_num.proofs.CursorLemmas.{rest-passed}
-use Rattle.twkb_head.specs.declared.kinds.Kind.{Kind as KindOf}
-use Rattle.twkb_head.specs.declared.kinds.Kind.TheVariants.{GeometryCollection}
-use Rattle.twkb_head.specs.declared.refusal.Why.{Why}
-use Rattle.twkb_head.specs.declared.refusal.Why.TheVariants.{Cut, Varint, Kind, Depth, Range}
-use Rattle.twkb_head.specs.declared.refusal.Malformed.{Malformed}
-use Rattle.twkb_head.specs.declared.header.Head.{Head}
+use Rattle.twkb_head.specs.declared.refusal.Why.TheVariants.{Kind}
 use Rattle.twkb_head.proofs.FieldCuts.{ok_is, err_is, byte_fails, number_fails}
 use Rattle.twkb_head.proofs.Plans.{IsViableIn, IsRefused, no_field, no_value, run_takes, run_again, run_fails}
 use Rattle.twkb_head.proofs.Combinators.{PlanLaws}

@@ -1,17 +1,5 @@
 -- The header as code reads it is the one that the plan reads.
-use Rattle.std.proofs.Common.{◌≡◌, ℕ, zero, suc, ◌+◌, ◌-◌, ◌*◌, ◌/◌, ◌≤◌, slice_index, Bool, true, false, List, [], ◌∷◌, length, ℤ, pos, ◌+ℤ◌, Option, Some, None, Result, Ok, Err, refl, sym, ap, ap₂, ◌∙◌, arith}
-use Rattle.twkb_num.specs.Cursor.{Reading, rest}
-use Rattle.twkb_num.specs.Varint.{zigzag_value}
-use Rattle.twkb_head.specs.Header.{has_bit, z_in, m_in, axes_with}
-use Rattle.twkb_head.specs.Head.{span_at, bounds_of, head_of}
-use Rattle.twkb_head.specs.Shared.Plan.{Plan, done, ask, bind, byte, type_byte, field_of, cut_field, cut_byte, judge, many, measure, optional, type_plan, byte_plan, number_plan, signed_plan, signeds_plan}
-use Rattle.twkb_head.specs.Shared.HeadPlan.{ranges_of, box_plan, HeadValue, head_from, after_size, after_extended, after_metadata, after_type, head_plan, kind_from}
-use Rattle.twkb_head.specs.Shared.Reader.{Answer, Reader, ◌>>=◌, viewed, past, read_judged, read_field, read, number_at, signed_at, optional_at, many_at, signeds_at, range_from}
-use Rattle.twkb_head.specs.Devices.HeadReader.{type_at, byte_at, head_with, bounds_from, head_at}
-use Rattle.twkb_head.specs.declared.kinds.Kind.{Kind}
-use Rattle.twkb_head.specs.declared.boxes.Bounds.{Bounds}
-use Rattle.twkb_head.specs.declared.header.Head.{Head}
-use Rattle.twkb_head.specs.declared.refusal.Why.{Why}
+use Rattle.twkb_head.proofs.Prelude.{◌≡◌, ℕ, zero, suc, ◌+◌, ◌-◌, ◌*◌, ◌/◌, ◌≤◌, slice_index, Bool, true, false, List, [], ◌∷◌, length, ℤ, pos, ◌+ℤ◌, Option, Some, None, Result, Ok, Err, refl, sym, ap, ap₂, ◌∙◌, arith, Reading, rest, zigzag_value, has_bit, z_in, m_in, axes_with, span_at, bounds_of, head_of, Plan, done, ask, bind, byte, type_byte, field_of, cut_field, cut_byte, judge, many, measure, optional, type_plan, byte_plan, number_plan, signed_plan, signeds_plan, ranges_of, box_plan, HeadValue, head_from, after_size, after_extended, after_metadata, after_type, head_plan, kind_from, Answer, Reader, ◌>>=◌, viewed, past, read_judged, read_field, read, number_at, signed_at, optional_at, many_at, signeds_at, range_from, type_at, byte_at, head_with, bounds_from, head_at, Kind, Bounds, Head, Why}
 use Rattle.twkb_head.proofs.Readings.{read-bind}
 
 -- a box, by the number of axes

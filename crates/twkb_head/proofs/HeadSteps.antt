@@ -1,28 +1,7 @@
 -- The steps by which code reads a header, as the reader of headers takes them.
-use Rattle.std.proofs.Common.{◌≡◌, ℕ, ◌+◌, ◌-◌, ◌/◌, ◌%◌, ◌==◌, [], ◌∷◌, length, Option, Some, None, option_map, false, ℤ, Result, Ok, Err, refl, sym, ap, ◌∙◌, arith}
-use Rattle.std.proofs.lemmas.Grind.{common_steps}
-use Rattle.twkb_num.specs.Cursor.{Reading, passed, IsMoved, IsSound}
-use Rattle.twkb_num.specs.Varint.{zigzag_value}
-use Rattle.twkb_num.proofs.CursorLemmas.{IsMoved-two}
-use Rattle.twkb_head.specs.Header.{code_of, has_bit, has_ids, z_in, m_in}
-use Rattle.twkb_head.specs.Shared.Reader.{Answer, ◌>>=◌, viewed, number_at, optional_at, range_from}
-use Rattle.twkb_head.specs.Devices.HeadReader.{byte_at, head_with, bounds_from, head_at, size_and_box_at, rest_at}
-use Rattle.twkb_head.specs.BegunHeader.{deepest, IsAllowedAt}
-use Rattle.twkb_head.specs.declared.kinds.Kind.{Kind}
-use Rattle.twkb_head.specs.declared.kinds.Kind.TheVariants.{Point, LineString, Polygon, MultiPoint, MultiLineString, MultiPolygon, GeometryCollection}
-use Rattle.twkb_head.specs.declared.refusal.Why.{Why}
-use Rattle.twkb_head.specs.Shared.Plan.{kind_of_code, judge_kind}
-use Rattle.twkb_head.specs.declared.boxes.Bounds.{Bounds}
+use Rattle.twkb_head.proofs.Prelude.{◌≡◌, ℕ, ◌+◌, ◌-◌, ◌/◌, ◌%◌, ◌==◌, [], ◌∷◌, length, Option, Some, None, option_map, false, ℤ, Result, Ok, Err, refl, sym, ap, ◌∙◌, arith, common_steps, Reading, passed, IsMoved, IsSound, zigzag_value, IsMoved-two, code_of, has_bit, has_ids, z_in, m_in, Answer, ◌>>=◌, viewed, number_at, optional_at, range_from, byte_at, head_with, bounds_from, head_at, size_and_box_at, rest_at, deepest, IsAllowedAt, Kind, Point, LineString, Polygon, MultiPoint, MultiLineString, MultiPolygon, GeometryCollection, Why, kind_of_code, judge_kind, Bounds, Head, RawBox, RawRange, Fields, BeginsHead, ends_of, raw_bounds, flat_box, head_said, ReadsFirstTwo, Begun, Malformed}
 use Rattle.twkb_head.specs.declared.header.BoxField.{BoxField}
-use Rattle.twkb_head.specs.declared.header.Head.{Head}
-use Rattle.twkb_head.specs.declared.raw.RawBox.{RawBox}
-use Rattle.twkb_head.specs.declared.raw.RawRange.{RawRange}
-use Rattle.twkb_head.specs.declared.raw.Fields.{Fields}
-use Rattle.twkb_head.specs.Raw.{BeginsHead, ends_of, raw_bounds, flat_box, head_said}
-use Rattle.twkb_head.specs.Devices.Raw.{ReadsFirstTwo}
-use Rattle.twkb_head.specs.declared.read.Begun.{Begun}
 use Rattle.twkb_head.specs.declared.header.SizeField.{SizeField}
-use Rattle.twkb_head.specs.declared.refusal.Malformed.{Malformed}
 use Rattle.twkb_head.proofs.Heads.{allowed_with}
 use Rattle.twkb_head.proofs.FieldCuts.{ok_is}
 use Rattle.twkb_head.proofs.Readings.{ok_not_err}

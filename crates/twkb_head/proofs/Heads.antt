@@ -1,19 +1,37 @@
 -- The laws of the plan of a header, in words of the definition of headers.
-use Rattle.std.proofs.Common.{◌≡◌, ℕ, zero, suc, ◌+◌, ◌*◌, ◌%◌, ◌≤◌, true, List, [], ◌∷◌, ◌++◌, length, slice_index, ℤ, ◌+ℤ◌, ◌-ℤ◌, Option, Some, None, IfSome, IfNone, unwrap_or, ◌⊎◌, inl, inr, refl, sym, ap, ap₂, subst, ◌∙◌, arith}
-use Rattle.std.proofs.lemmas.List.{append-nil}
-use Rattle.std.proofs.lemmas.Int.{ints}
-use Rattle.twkb_head.specs.declared.kinds.Kind.{Kind}
-use Rattle.twkb_head.specs.declared.kinds.Kind.TheVariants.{Point, LineString, Polygon, MultiPoint, MultiLineString, MultiPolygon, GeometryCollection}
-use Rattle.twkb_num.specs.Varint.{IsSigned}
-use Rattle.twkb_head.specs.Parts.{Sequence, Times, Announced}
-use Rattle.twkb_head.specs.Header.{Header, IsHeader, IsByte, IsRange, axes_of, axes_with, z_in, m_in, code_of, has_bit, has_ids}
-use Rattle.twkb_head.specs.BegunHeader.{Field, type_field, byte_field, number_field, IsAllowedUnder, IsFewer, IsStart, IsBegunHeader, type_due, metadata_due, extended_due, size_due, box_due}
-use Rattle.twkb_head.specs.Shared.Plan.{type_byte, judge, judge_kind, kind_of_code, type_plan}
-use Rattle.twkb_head.specs.Shared.HeadPlan.{ranges_of, box_plan, HeadValue, kind_from, head_from, head_plan}
+use Rattle.twkb_head.proofs.Prelude.{◌≡◌, ℕ, zero, suc, ◌+◌, ◌*◌, ◌%◌, ◌≤◌, true, List, [], ◌∷◌, ◌++◌, length, slice_index, ℤ, ◌+ℤ◌, ◌-ℤ◌, Option, Some, None, IfSome, IfNone, unwrap_or, ◌⊎◌, inl, inr, refl, sym, ap, ap₂, subst, ◌∙◌, arith, append-nil, ints, Kind, Point, LineString, Polygon, MultiPoint, MultiLineString, MultiPolygon, GeometryCollection, IsSigned, Sequence, Times, Announced, Header, IsHeader, IsByte, IsRange, axes_of, axes_with, z_in, m_in, code_of, has_bit, has_ids, Field, type_field, byte_field, number_field, IsAllowedUnder, IsFewer, IsStart, IsBegunHeader, type_due, metadata_due, extended_due, size_due, box_due, type_byte, judge, judge_kind, kind_of_code, type_plan, ranges_of, box_plan, HeadValue, kind_from, head_from, head_plan, append_assoc}
 use Rattle.twkb_head.proofs.Spelling.{IsGood}
-use Rattle.twkb_head.proofs.BoxFields.{box_numbers, ranges_numbers, numbers_ranges}
 use Rattle.twkb_head.proofs.Combinators.{PlanLaws, restated, Chain, chained, BegunChain, Made, Measured, bind_laws, done_laws, measure_laws, optional_laws}
 use Rattle.twkb_head.proofs.Leaves.{IsDue, IsNumber, byte_alone, leaf_laws, byte_laws, number_laws, signeds_laws}
+
+-- ---- the numbers of a box
+
+-- for each axis the minimum, and the maximum less the minimum
+abbrev pub box_numbers : List (ℤ × ℤ) → List ℤ
+box_numbers [] = []
+box_numbers (range ∷ ranges) = range.0 ∷ (range.1 -ℤ range.0) ∷ box_numbers ranges
+
+pub ranges_numbers : (ranges : List (ℤ × ℤ)) (bytes : List ℕ) → Sequence IsRange ranges bytes
+    → Sequence IsSigned (box_numbers ranges) bytes
+ranges_numbers [] bytes nothing = nothing
+ranges_numbers (range ∷ ranges) bytes (front, rest, parts, (low, high, both, minimum, width), more) = (
+  low,
+  high ++ rest,
+  parts ∙ ap (λ (z : List ℕ). z ++ rest) both ∙ append_assoc low high rest,
+  minimum,
+  (high, rest, refl, width, ranges_numbers ranges rest more),
+)
+
+pub numbers_ranges : (ranges : List (ℤ × ℤ)) (bytes : List ℕ) → Sequence IsSigned (box_numbers ranges) bytes
+    → Sequence IsRange ranges bytes
+numbers_ranges [] bytes nothing = nothing
+numbers_ranges (range ∷ ranges) bytes (low, behind, parts, minimum, (high, rest, both, width, more)) = (
+  low ++ high,
+  rest,
+  parts ∙ ap (λ (z : List ℕ). low ++ z) both ∙ sym (append_assoc low high rest),
+  (low, high, refl, minimum, width),
+  numbers_ranges ranges rest more,
+)
 
 -- kinds
 pub kind_code : (k : Kind) → kind_of_code (code_of k) ≡ Some k

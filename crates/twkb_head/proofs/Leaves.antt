@@ -1,12 +1,5 @@
 -- The laws of plans of one field, and of such fields one after another.
-use Rattle.std.proofs.Common.{◌≡◌, ℕ, ◌<◌, Bool, true, false, cond, List, [], ◌∷◌, ◌++◌, length, slice_index, ℤ, pos, ◌+ℤ◌, Some, None, inl, inr, refl, sym, ap, subst, ◌∙◌}
-use Rattle.std.proofs.lemmas.List.{append-nil}
-use Rattle.twkb_head.specs.declared.refusal.Why.TheVariants.{Range}
-use Rattle.twkb_num.specs.Varint.{Spells, sum_of_groups, zigzag_value, IsSigned}
-use Rattle.twkb_head.specs.Parts.{Sequence, Times}
-use Rattle.twkb_head.specs.Header.{IsByte}
-use Rattle.twkb_head.specs.BegunHeader.{Field, byte_field, number_field, coordinate_field, IsFewer}
-use Rattle.twkb_head.specs.Shared.Plan.{Request, byte, number, coordinate, field_of, fits, done, ask, byte_plan, number_plan, signed_plan, signeds_plan, coordinate_plan}
+use Rattle.twkb_head.proofs.Prelude.{◌≡◌, ℕ, ◌<◌, Bool, true, false, cond, List, [], ◌∷◌, ◌++◌, length, slice_index, ℤ, pos, ◌+ℤ◌, Some, None, inl, inr, refl, sym, ap, subst, ◌∙◌, append-nil, Range, Spells, sum_of_groups, zigzag_value, IsSigned, Sequence, Times, IsByte, Field, byte_field, number_field, coordinate_field, IsFewer, Request, byte, number, coordinate, field_of, fits, done, ask, byte_plan, number_plan, signed_plan, signeds_plan, coordinate_plan}
 use Rattle.twkb_head.proofs.Spelling.{IsGood, Spelled, Stops}
 use Rattle.twkb_head.proofs.Combinators.{PlanLaws, restated, BegunMany, times_laws, free, FitAll}
 

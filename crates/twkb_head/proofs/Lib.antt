@@ -1,11 +1,10 @@
 -- The proofs about headers: fields and their cuts, plans, readers, and the laws of the definitions.
+mod Prelude
 pub mod Spelling
 pub mod FieldCuts
 pub mod Plans
 pub mod Combinators
 pub mod Leaves
-pub mod BoxFields
-mod BoxReads
 pub mod Heads
 pub mod Readings
 pub mod Steps
@@ -16,4 +15,3 @@ pub mod Loops
 pub mod HeadLaws
 pub mod Rests
 pub mod HeadBack
-pub mod Limits

@@ -1,19 +1,7 @@
 -- Signed numbers that a cursor reads, one after another, or the fault of one of them, are what the readers of ranges answer.
-use Rattle.std.proofs.Common.{◌≡◌, ℕ, ◌-◌, ◌<◌, List, [], ◌∷◌, ◌++◌, length, drop, slice_index_or, ℤ, pos, ◌+ℤ◌, Ok, Err, refl, sym, ap, ap₂, subst, ◌∙◌, arith}
+use Rattle.twkb_head.proofs.Prelude.{◌≡◌, ℕ, ◌-◌, ◌<◌, List, [], ◌∷◌, ◌++◌, length, drop, slice_index_or, ℤ, pos, ◌+ℤ◌, Ok, Err, refl, sym, ap, ap₂, subst, ◌∙◌, arith, common_steps, append-nil, Reading, passed, rest, counted, IsSigned, SpellsAllSigned, Faults, looked_at, NumFault, IsMoved-two, signed_at, range_from, two_ranges_from, ends_of, why_of, RawRange, Malformed}
 use Rattle.std.specs.Prelude.{◌≢◌}
-use Rattle.std.proofs.lemmas.Grind.{common_steps}
-use Rattle.std.proofs.lemmas.List.{append-nil}
-use Rattle.twkb_num.specs.Cursor.{Reading, passed, rest, counted}
 use Rattle.twkb_num.specs.Numbers.{ReadsNumbers, StopsReading, StopsAt}
-use Rattle.twkb_num.specs.Varint.{IsSigned, SpellsAllSigned, Faults, looked_at}
-use Rattle.twkb_num.specs.declared.varint.NumFault.{NumFault}
-use Rattle.twkb_num.proofs.CursorLemmas.{IsMoved-two}
-use Rattle.twkb_head.specs.Shared.Reader.{signed_at, range_from}
-use Rattle.twkb_head.specs.Devices.HeadReader.{two_ranges_from}
-use Rattle.twkb_head.specs.Raw.{ends_of}
-use Rattle.twkb_head.specs.Refusal.{why_of}
-use Rattle.twkb_head.specs.declared.raw.RawRange.{RawRange}
-use Rattle.twkb_head.specs.declared.refusal.Malformed.{Malformed}
 use Rattle.twkb_head.proofs.Readings.{reading_path}
 use Rattle.twkb_head.proofs.Steps.{read_signed, read_no_signed}
 

@@ -1,10 +1,5 @@
 -- The laws of plans: reading by a plan, and the bytes that are spelled by it or stop in it.
-use Rattle.std.proofs.Common.{◌≡◌, ℕ, List, [], ◌∷◌, ◌++◌, Option, Some, None, Result, Ok, Err, ◌⊎◌, inl, inr, refl, sym, ap, subst, subst₂, ◌∙◌, append_assoc}
-use Rattle.std.proofs.lemmas.List.{append-nil}
-use Rattle.twkb_head.specs.declared.refusal.Why.{Why}
-use Rattle.twkb_head.specs.declared.refusal.Why.TheVariants.{Cut}
-use Rattle.twkb_head.specs.BegunHeader.{Field, IsField}
-use Rattle.twkb_head.specs.Shared.Plan.{Request, field_of, cut_field, judge, Plan, done, ask}
+use Rattle.twkb_head.proofs.Prelude.{◌≡◌, ℕ, List, [], ◌∷◌, ◌++◌, Option, Some, None, Result, Ok, Err, ◌⊎◌, inl, inr, refl, sym, ap, subst, subst₂, ◌∙◌, append_assoc, append-nil, Why, Cut, Field, IsField, Request, field_of, cut_field, judge, Plan, done, ask}
 use Rattle.twkb_head.proofs.Spelling.{Fault, fault, run, IsGood, Spelled, Stops}
 use Rattle.twkb_head.proofs.FieldCuts.{field_again, field_takes, field_once, field_cuts, field_some, ok_is}
 

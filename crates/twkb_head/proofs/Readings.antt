@@ -1,19 +1,7 @@
 -- Reading from a cursor: the plan's reading of the bytes from the place on.
-use Rattle.std.proofs.Common.{◌≡◌, ℕ, zero, suc, ◌+◌, ◌-◌, ◌≤◌, Bool, true, false, List, ◌++◌, length, drop, Option, Some, None, cond, ◌%◌, ⊎_elim, subst, Result, Ok, Err, refl, sym, ap, ◌∙◌, arith, length-append}
-use Rattle.std.proofs.lemmas.List.{drop-drop}
-use Rattle.std.proofs.lemmas.Grind.{common_steps}
-use Rattle.twkb_num.specs.Cursor.{Reading, rest, added, counted, IsMoved, IsSound}
-use Rattle.twkb_num.specs.Varint.{IsCut, IsLong}
-use Rattle.twkb_head.specs.BegunHeader.{Field, type_field, byte_field, number_field, coordinate_field, IsField}
-use Rattle.twkb_head.specs.Shared.Plan.{Request, type_byte, byte, number, coordinate, field_of, cut_varint, cut_byte, cut_field, kind_of_code, judge_kind, judge, Plan, done, ask, bind}
+use Rattle.twkb_head.proofs.Prelude.{◌≡◌, ℕ, zero, suc, ◌+◌, ◌-◌, ◌≤◌, Bool, true, false, List, ◌++◌, length, drop, Option, Some, None, cond, ◌%◌, ⊎_elim, subst, Result, Ok, Err, refl, sym, ap, ◌∙◌, arith, length-append, drop-drop, common_steps, Reading, rest, added, counted, IsMoved, IsSound, IsCut, IsLong, Field, type_field, byte_field, number_field, coordinate_field, IsField, Request, type_byte, byte, number, coordinate, field_of, cut_varint, cut_byte, cut_field, kind_of_code, judge_kind, judge, Plan, done, ask, bind, Answer, ◌>>=◌, past, looked_in, read_judged, read_field, read, Fails, IsMoved-here, IsMoved-after, IsSound-moved, Kind as KindOf, GeometryCollection, Why, Cut, Varint, Depth, Range, Malformed}
 use Rattle.twkb_head.proofs.Spelling.{Fault, fault, after_judged, run_field, run}
-use Rattle.twkb_head.specs.Shared.Reader.{Answer, ◌>>=◌, past, looked_in, read_judged, read_field, read, Fails}
-use Rattle.twkb_num.proofs.CursorLemmas.{IsMoved-here, IsMoved-after, IsSound-moved}
-use Rattle.twkb_head.specs.declared.kinds.Kind.{Kind as KindOf}
-use Rattle.twkb_head.specs.declared.kinds.Kind.TheVariants.{GeometryCollection}
-use Rattle.twkb_head.specs.declared.refusal.Why.{Why}
-use Rattle.twkb_head.specs.declared.refusal.Why.TheVariants.{Cut, Varint, Kind, Depth, Range}
-use Rattle.twkb_head.specs.declared.refusal.Malformed.{Malformed}
+use Rattle.twkb_head.specs.declared.refusal.Why.TheVariants.{Kind}
 use Rattle.twkb_head.proofs.FieldCuts.{ok_is, field_takes, number_fails, byte_fails}
 
 -- no answer is both a value and a fault

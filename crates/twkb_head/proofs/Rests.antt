@@ -1,14 +1,5 @@
 -- The rest of a begun header makes the whole header, or a refusal.
-use Rattle.std.proofs.Common.{◌≡◌, ◌↔◌, ℕ, ◌-◌, ◌≤◌, Result, Ok, Err, IsOk, arith}
-use Rattle.twkb_num.specs.Cursor.{Reading, rest, IsSound}
-use Rattle.twkb_head.specs.declared.raw.Fields.{Fields}
-use Rattle.twkb_head.specs.declared.read.Begun.{Begun}
-use Rattle.twkb_head.specs.declared.refusal.Malformed.{Malformed}
-use Rattle.twkb_head.specs.BegunHeader.{deepest}
-use Rattle.twkb_head.specs.Head.{StartsWithHeader}
-use Rattle.twkb_head.specs.Raw.{BeginsHead, head_said, ReadsHead}
-use Rattle.twkb_head.specs.Devices.HeadReader.{head_at, rest_at}
-use Rattle.twkb_head.specs.Devices.Raw.{head_result}
+use Rattle.twkb_head.proofs.Prelude.{◌≡◌, ◌↔◌, ℕ, ◌-◌, ◌≤◌, Result, Ok, Err, IsOk, arith, Reading, rest, IsSound, Fields, Begun, Malformed, deepest, StartsWithHeader, BeginsHead, head_said, ReadsHead, head_at, rest_at, head_result}
 use Rattle.twkb_head.proofs.HeadLaws.{head_ok, head_moved, head_exact, head_err, head_left}
 use Rattle.twkb_head.proofs.HeadSteps.{begins_goes_on}
 

@@ -1,8 +1,6 @@
 -- What a plan means: what it reads, which bytes spell a value by it, and where bytes stop in it.
 use Rattle.std.specs.Prelude.{◌≡◌, ℕ, List, [], ◌++◌, Option, Some, None, Result, Ok, Err, ◌⊎◌}
-use Rattle.twkb_head.specs.declared.refusal.Why.{Why}
-use Rattle.twkb_head.specs.BegunHeader.{Field, IsField}
-use Rattle.twkb_head.specs.Shared.Plan.{Plan, Request, ask, cut_field, done, field_of, judge}
+use Rattle.twkb_head.proofs.Prelude.{Why, Field, IsField, Plan, Request, ask, cut_field, done, field_of, judge}
 
 -- why reading stopped, at which kind of field, and the bytes from there on
 pub data Fault : Type 0 where

@@ -1,24 +1,7 @@
 -- Reads of one field, as a cursor makes them.
-use Rattle.std.proofs.Common.{Bool, nat_lt, ◌<◌, ◌^◌, true, false, pos, negsuc, ◌+ℤ◌, ◌≡◌, ℕ, ◌-◌, ◌%◌, List, [], ◌∷◌, ◌++◌, length, slice_index, ℤ, Some, None, Result, Ok, Err, refl, sym, ap, ap₂, ◌∙◌, arith}
-use Rattle.std.proofs.lemmas.Bool.{lt-ltb, ltb-true}
-use mir.Val.{SFits}
-use Rattle.std.specs.Int.{w64}
-use Rattle.std.proofs.lemmas.Grind.{common_steps}
-use Rattle.std.proofs.lemmas.List.{append_cancel_right}
-use Rattle.twkb_num.specs.Cursor.{Reading, rest, passed, added, counted, IsMoved, IsSound}
-use Rattle.twkb_num.specs.Varint.{Spells, Faults, sum_of_groups, looked_at, zigzag_value, IsSigned}
-use Rattle.twkb_head.specs.Shared.Plan.{Request, field_of, Plan, done, ask, byte, number, cut_field, cut_byte, cut_varint, kind_of_code, judge_kind, type_byte, coordinate, fits, byte_plan, signed_plan}
+use Rattle.twkb_head.proofs.Prelude.{Bool, nat_lt, ◌<◌, ◌^◌, true, false, pos, negsuc, ◌+ℤ◌, ◌≡◌, ℕ, ◌-◌, ◌%◌, List, [], ◌∷◌, ◌++◌, length, slice_index, ℤ, Some, None, Result, Ok, Err, refl, sym, ap, ap₂, ◌∙◌, arith, lt-ltb, ltb-true, SFits, w64, common_steps, append_cancel_right, Reading, rest, passed, added, counted, IsMoved, IsSound, Spells, Faults, sum_of_groups, looked_at, zigzag_value, IsSigned, Request, field_of, Plan, done, ask, byte, number, cut_field, cut_byte, cut_varint, kind_of_code, judge_kind, type_byte, coordinate, fits, byte_plan, signed_plan, Answer, past, looked_in, read_field, read, number_at, signed_at, coordinate_at, type_at, byte_at, why_of, rest-passed, NumFault, Why, Kind, Cut, Range, Malformed}
 use Rattle.twkb_head.proofs.Spelling.{IsGood}
-use Rattle.twkb_head.specs.Shared.Reader.{Answer, past, looked_in, read_field, read, number_at, signed_at, coordinate_at}
-use Rattle.twkb_head.specs.Devices.HeadReader.{type_at, byte_at}
-use Rattle.twkb_head.specs.Refusal.{why_of}
-use Rattle.twkb_num.proofs.CursorLemmas.{rest-passed}
-use Rattle.twkb_num.specs.declared.varint.NumFault.{NumFault}
 use Rattle.twkb_num.specs.declared.varint.NumFault.TheVariants.{Cut as TooShort, Long}
-use Rattle.twkb_head.specs.declared.refusal.Why.{Why}
-use Rattle.twkb_head.specs.declared.kinds.Kind.{Kind}
-use Rattle.twkb_head.specs.declared.refusal.Why.TheVariants.{Cut, Range}
-use Rattle.twkb_head.specs.declared.refusal.Malformed.{Malformed}
 use Rattle.twkb_head.proofs.FieldCuts.{ok_is, field_again, cut_off, too_long}
 use Rattle.twkb_head.proofs.Plans.{run_takes}
 use Rattle.twkb_head.proofs.Leaves.{byte_laws}

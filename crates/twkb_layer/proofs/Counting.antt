@@ -1,26 +1,26 @@
 -- The loop of audits over a layer: what it has counted, and its refusal or its end.
-use Rattle.std.proofs.Common.{◌≡◌, ℕ, ◌+◌, ◌-◌, ◌^◌, ◌<◌, Bool, true, false, List, [], ◌∷◌, ◌++◌, length, take, drop, All, refl, sym, ap, ◌∙◌, arith, length-append, inl, inr}
-use Rattle.std.proofs.lemmas.List.{length-take}
-use Rattle.std.proofs.lemmas.List.Elements.{All-nil, All-cons, All-head, All-tail, All-push}
-use Rattle.std.proofs.lemmas.List.Sums.{sum_by-append, sum_by-cons}
-use Rattle.std.proofs.Math.Seq.{take-add}
-use Rattle.twkb_num.specs.Cursor.{Reading, rest, passed, IsMoved}
+use Rattle.twkb_layer.proofs.Prelude.{◌≡◌, ℕ, ◌+◌, ◌-◌, ◌^◌, ◌<◌, Bool, true, false, List, [], ◌∷◌, ◌++◌, length, take, drop, All, refl, sym, ap, ◌∙◌, arith, length-append, inl, inr, length-take, All-nil, All-cons, All-head, All-tail, All-push, sum_by-append, sum_by-cons, take-add, Reading, rest, passed, IsMoved, Geometry, vertices, IsCertified, IsTrueClaim, IsAudited, IsRefusedBlob, IsCertifiedBy, IsLayer, IsCertifiedLayer, IsCounted, vertex_count, Begins, IsRefusedFor, IsTrueBy, IsTightlyCounted, IsLayerBy, IsCountedBy, AddsBlobs, ◌≤◌, take-append-drop, blob_few, size_of}
 use Rattle.twkb_body.specs.declared.answers.Audit.{Audit}
 use Rattle.twkb_body.specs.declared.answers.AuditFault.{AuditFault}
 use Rattle.twkb_body.specs.declared.answers.AuditFault.TheVariants.{Malformed as BadField, FalseClaim, Memory as NoMemory}
-use Rattle.twkb_body.specs.Geometry.{Geometry, vertices}
-use Rattle.twkb_body.specs.Claims.{IsCertified, IsTrueClaim}
 use Rattle.twkb_body.specs.Tight.{HasTightBoxes, IsTightlyTrue}
-use Rattle.twkb_body.specs.Audited.{IsAudited, IsRefusedBlob}
-use Rattle.twkb_body.specs.Devices.Tight.{IsCertifiedBy}
 use Rattle.twkb_body.proofs.Tightness.{tight_both, both_tight}
-use Rattle.twkb_layer.specs.Layer.{IsLayer, IsCertifiedLayer, IsCounted, vertex_count}
-use Rattle.twkb_layer.specs.Refusal.{Begins, IsRefusedFor}
 use Rattle.twkb_layer.specs.Devices.Refusal.{refusal_of}
-use Rattle.twkb_body.specs.Shared.Tight.{IsTrueBy}
-use Rattle.twkb_layer.specs.Devices.Tight.{IsTightlyCounted, IsLayerBy, IsCountedBy, AddsBlobs}
 use Rattle.twkb_layer.proofs.Layers.{blob_some, layer_grows, layer_once, layer_short}
-use Rattle.twkb_layer.proofs.VertexCounts.{layer_few}
+
+layer_few : (trees : List Geometry) (bytes : List ℕ) → IsLayer trees bytes → vertex_count trees ≤ length bytes
+layer_few [] bytes l = omega arith
+layer_few (g ∷ gs) bytes l =
+    let front = take (size_of g) bytes in
+    let behind = drop (size_of g) bytes in
+    omega (
+      arith,
+      sum_by-cons (λ (tree : Geometry). length (vertices tree)) g gs,
+      blob_few g front 1 l.0,
+      layer_few gs behind l.1,
+      ap length (take-append-drop (size_of g) bytes),
+      length-append front behind,
+    )
 
 -- the bytes before a later place are the bytes before this one and the bytes between them
 front_passed : (bytes : List ℕ) (a b : Reading) → a.bytes ≡ bytes → IsMoved a b → take b.place bytes ≡ take a.place bytes ++ passed a b

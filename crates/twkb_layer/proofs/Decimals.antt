@@ -1,21 +1,5 @@
 -- The digits of a decimal, one by one.
-use Rattle.std.proofs.Common.{◌≡◌, ◌≢◌, ℕ, zero, suc, ◌+◌, ◌-◌, ◌*◌, ◌/◌, ◌%◌, ◌^◌, ◌<◌, ◌≤◌, min, Bool, true, false, cond, List, [], ◌∷◌, ◌++◌, length, take, drop, get_or, ◌==◌, not, refl, ap, sym, ◌∙◌, arith, length-append, length-drop, mul_assoc, mul_comm}
-use Rattle.std.proofs.Math.Nat.{div-eq_of_lt, div-div-eq-div-mul, mul-div-mul_right, mul-mod_left, add-mul-div_right, one-le-pow, pow-le-pow_right}
-use Rattle.std.specs.Char.{digit_value}
-use Rattle.std.specs.Str.Parse.{digits_value, AllDigits}
-use Rattle.std.proofs.lemmas.Int.Digits.{digits_value-lt, digits_value_more}
-use Rattle.std.proofs.lemmas.List.{take-append-drop}
-use Rattle.std.proofs.lemmas.Grind.{pow_more}
-use Rattle.std.proofs.lemmas.Nat.{pow-add, div-mul-add, div-add-mod'}
-use Rattle.std.proofs.lemmas.Str.{digit_value_digit}
-use Rattle.std.proofs.lemmas.Str.Parse.{digit_at}
-use Rattle.std.specs.Bool.{OnTrue, OnFalse}
-use Rattle.std.proofs.lemmas.Bool.Decides.{nat_tests}
-use Rattle.std.proofs.lemmas.List.{append-nil}
-use Rattle.twkb_layer.specs.Decimals.{Decimal, IsDecimalText}
-use Rattle.twkb_layer.specs.Devices.Decimals.{AreDigits}
-use Rattle.twkb_layer.specs.Devices.TextReader.{starts_digit, ReadsFraction}
-use Rattle.twkb_layer.specs.WindowText.{point_and}
+use Rattle.twkb_layer.proofs.Prelude.{◌≡◌, ◌≢◌, ℕ, zero, suc, ◌+◌, ◌-◌, ◌*◌, ◌/◌, ◌%◌, ◌^◌, ◌<◌, ◌≤◌, min, Bool, true, false, cond, List, [], ◌∷◌, ◌++◌, length, take, drop, get_or, ◌==◌, not, refl, ap, sym, ◌∙◌, arith, length-append, length-drop, mul_assoc, mul_comm, div-eq_of_lt, div-div-eq-div-mul, mul-div-mul_right, mul-mod_left, add-mul-div_right, one-le-pow, pow-le-pow_right, digit_value, digits_value, AllDigits, digits_value-lt, digits_value_more, take-append-drop, pow_more, pow-add, div-mul-add, div-add-mod', digit_value_digit, digit_at, OnTrue, OnFalse, nat_tests, append-nil, Decimal, IsDecimalText, AreDigits, starts_digit, ReadsFraction, point_and}
 use Rattle.twkb_layer.proofs.Texts.{digits_value_after-append, after_from, digit_here as is_digit, digits_once, point_ends, on_true, on_false}
 
 pub ten_some : (k : ℕ) → 0 < 10 ^ k

@@ -1,16 +1,6 @@
 -- The loop over the blobs of a layer, whatever is done at each.
-use Rattle.std.proofs.Common.{◌≡◌, ℕ, suc, ◌+◌, ◌-◌, ◌^◌, ◌<◌, ◌≤◌, ◌⊎◌, inl, inr, nat_lt, ◌&&◌, Bool, true, false, List, [], ◌∷◌, ◌++◌, length, take, drop, Option, Some, None, refl, ap, subst, sym, ◌∙◌, arith, length-drop, length-append, append_assoc}
-use Rattle.std.proofs.lemmas.Bool.Decides.{nat_tests}
-use Rattle.std.proofs.lemmas.List.{drop-drop, append-nil, drop_all, take-append-drop}
-use Rattle.std.proofs.lemmas.List.Elements.{All-head, All-tail}
-use Rattle.std.proofs.Math.Seq.{take-nil}
+use Rattle.twkb_layer.proofs.Prelude.{◌≡◌, ℕ, suc, ◌+◌, ◌-◌, ◌^◌, ◌<◌, ◌≤◌, ◌⊎◌, inl, inr, nat_lt, ◌&&◌, Bool, true, false, List, [], ◌∷◌, ◌++◌, length, take, drop, Option, Some, None, refl, ap, subst, sym, ◌∙◌, arith, length-drop, length-append, append_assoc, nat_tests, drop-drop, append-nil, drop_all, take-append-drop, All-head, All-tail, take-nil, added, Geometry, IsCertified, StandsAt, IsLayer, IsCertifiedLayer, size_of, told_from, is_among, first_blobs, after_from, after_blobs, read_from, bytes_read, adds, Lent, lent}
 use Rattle.std.specs.Borrow.{GName}
-use Rattle.twkb_num.specs.Cursor.{added}
-use Rattle.twkb_body.specs.Geometry.{Geometry}
-use Rattle.twkb_body.specs.Claims.{IsCertified}
-use Rattle.twkb_body.specs.Standing.{StandsAt}
-use Rattle.twkb_layer.specs.Layer.{IsLayer, IsCertifiedLayer, size_of, told_from}
-use Rattle.twkb_layer.specs.Devices.EachBlob.{is_among, first_blobs, after_from, after_blobs, read_from, bytes_read, adds, Lent, lent}
 use Rattle.twkb_layer.proofs.Layers.{blob_some, size_of-blob, layer_once, layer_short}
 
 -- ---- the next blob

@@ -1,19 +1,5 @@
 -- The slots of a directory, as blobs are added one at a time.
-use Rattle.std.proofs.Common.{◌≡◌, ℕ, ◌+◌, ◌-◌, ◌*◌, ◌/◌, ◌%◌, ◌==◌, ◌<◌, ◌≤◌, pos, ◌-ℤ◌, arith, true, false, if◌then◌else◌, List, [], ◌∷◌, ◌++◌, drop, Bool, Some, None, option_map, ap, sym, ◌∙◌, append_assoc}
-use Rattle.std.proofs.lemmas.List.{drop-drop, append-nil}
-use Rattle.twkb_num.specs.Cursor.{Reading}
-use Rattle.twkb_head.specs.declared.raw.Fields.{Fields}
-use Rattle.twkb_body.specs.Geometry.{Geometry}
-use Rattle.twkb_body.specs.Standing.{head_standing}
-use Rattle.twkb_layer.specs.Devices.Slots.{AreSlotsOf, AreWhole, entry_said}
-use Rattle.twkb_layer.specs.Directory.{Entry, entry_of}
-use Rattle.std.specs.Int.{from_bool}
-use Rattle.twkb_head.specs.Head.{span_at}
-use Rattle.twkb_head.specs.Raw.{head_said, raw_bounds}
-use Rattle.twkb_head.specs.declared.raw.Axes.{Axes}
-use Rattle.twkb_head.specs.declared.raw.RawBox.{RawBox}
-use Rattle.twkb_head.specs.declared.boxes.Bounds.{Bounds}
-use Rattle.twkb_layer.specs.Slots.{axis_in, ends_in, entries_kept, entries_long, is_long, long_entry, precision_in, range_in, short_entry}
+use Rattle.twkb_layer.proofs.Prelude.{◌≡◌, ℕ, ◌+◌, ◌-◌, ◌*◌, ◌/◌, ◌%◌, ◌==◌, ◌<◌, ◌≤◌, pos, ◌-ℤ◌, arith, true, false, if◌then◌else◌, List, [], ◌∷◌, ◌++◌, drop, Bool, Some, None, option_map, ap, sym, ◌∙◌, append_assoc, drop-drop, append-nil, Reading, Fields, Geometry, head_standing, AreSlotsOf, AreWhole, entry_said, Entry, entry_of, from_bool, span_at, head_said, raw_bounds, Axes, RawBox, Bounds, axis_in, ends_in, entries_kept, entries_long, is_long, long_entry, precision_in, range_in, short_entry}
 use Rattle.twkb_layer.specs.declared.slots.Slot.{Slot}
 use Rattle.twkb_layer.proofs.Keeping.{says_of}
 

@@ -1,7 +1,5 @@
 -- How a room that a caller lends is filled.
-use Rattle.std.proofs.Common.{◌≡◌, ◌≤◌, List, [], ◌∷◌, ◌++◌, length, arith, refl, ap, sym, slice_set}
-use Rattle.std.proofs.Math.Seq.{take-nil, drop-nil}
-use Rattle.twkb_layer.specs.Hits.{filled}
+use Rattle.twkb_layer.proofs.Prelude.{◌≡◌, ◌≤◌, List, [], ◌∷◌, ◌++◌, length, arith, refl, ap, sym, slice_set, take-nil, drop-nil, filled}
 
 module _ {A : Type 0} where
   -- a room filled with nothing is unchanged

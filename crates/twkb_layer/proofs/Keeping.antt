@@ -1,26 +1,7 @@
 -- What a list keeps of each blob of a layer, and what is read of a blob.
-use Rattle.std.proofs.Common.{◌≡◌, ℕ, zero, suc, take, ℤ, ◌+◌, ◌-◌, ◌^◌, ◌<◌, ◌≤◌, List, [], ◌∷◌, ◌++◌, length, drop, fold, map, slice_set, Option, Some, None, option_map, is_some, refl, ap, sym, ◌∙◌, arith, length-append, length-drop, append_assoc}
-use Rattle.std.proofs.lemmas.List.{append-nil}
-use Rattle.std.proofs.Math.Seq.{take-nil}
-use Rattle.twkb_num.specs.Cursor.{Reading}
+use Rattle.twkb_layer.proofs.Prelude.{◌≡◌, ℕ, zero, suc, take, ℤ, ◌+◌, ◌-◌, ◌^◌, ◌<◌, ◌≤◌, List, [], ◌∷◌, ◌++◌, length, drop, fold, map, slice_set, Option, Some, None, option_map, is_some, refl, ap, sym, ◌∙◌, arith, length-append, length-drop, append_assoc, append-nil, take-nil, Reading, deepest, Fields, bounds_of, fields_box, head_said, counts_on, never, Geometry, geometry, header_of, vertices, StandsAt, head_standing, walk, blob_few, walk_all, counts_all, box_said, box_of, after_from, IsCounted, AddsAtMost, size_of, told_from, filled, row_of, rows}
 use Rattle.twkb_head.specs.declared.header.BoxField.{BoxField}
 use Rattle.twkb_head.specs.declared.header.Head.{Head}
-use Rattle.twkb_head.specs.BegunHeader.{deepest}
-use Rattle.twkb_head.specs.declared.raw.Fields.{Fields}
-use Rattle.twkb_head.specs.Head.{bounds_of}
-use Rattle.twkb_head.specs.Raw.{fields_box, head_said}
-use Rattle.twkb_body.specs.Counting.{counts_on, never}
-use Rattle.twkb_body.specs.Geometry.{Geometry, geometry, header_of, vertices}
-use Rattle.twkb_body.specs.Standing.{StandsAt, head_standing}
-use Rattle.twkb_body.specs.Visit.{walk}
-use Rattle.twkb_body.proofs.VertexCounts.{blob_few}
-use Rattle.twkb_body.proofs.WalkLengths.{walk_all, counts_all}
-use Rattle.twkb_layer.specs.Devices.Slots.{box_said}
-use Rattle.twkb_layer.specs.Directory.{box_of}
-use Rattle.twkb_layer.specs.Devices.EachBlob.{after_from}
-use Rattle.twkb_layer.specs.Layer.{IsCounted, AddsAtMost, size_of, told_from}
-use Rattle.twkb_layer.specs.Hits.{filled}
-use Rattle.twkb_layer.specs.Rows.{row_of, rows}
 use Rattle.twkb_layer.specs.declared.row.Row.{Row}
 use Rattle.twkb_layer.proofs.Filling.{filled-nil, filled-push, filled-full}
 use Rattle.twkb_layer.proofs.Layers.{layer_short}

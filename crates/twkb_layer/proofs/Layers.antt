@@ -1,15 +1,6 @@
 -- The laws of layers.
-use Rattle.std.proofs.Common.{◌≡◌, ℕ, ◌-◌, ◌*◌, ◌≤◌, List, [], ◌∷◌, ◌++◌, length, take, drop, refl, sym, ap, ap₂, subst, ◌∙◌, append_assoc, arith, length-append}
-use Rattle.std.specs.List.{concat}
-use Rattle.std.proofs.lemmas.List.{take-append-drop, take_at, drop_at, append-nil}
-use Rattle.twkb_head.specs.BegunHeader.{deepest}
-use Rattle.twkb_body.specs.Geometry.{Geometry, geometry}
-use Rattle.twkb_body.specs.Encoding.{Blob, BlobUnder}
-use Rattle.twkb_body.proofs.BlobLaws.{blob_once}
+use Rattle.twkb_layer.proofs.Prelude.{◌≡◌, ℕ, ◌-◌, ◌*◌, ◌≤◌, List, [], ◌∷◌, ◌++◌, length, take, drop, refl, sym, ap, ap₂, subst, ◌∙◌, append_assoc, arith, length-append, concat, take-append-drop, take_at, drop_at, append-nil, deepest, Geometry, geometry, Blob, BlobUnder, blob_once, blob_order, IsLayer, IsLayerUnder, IsCertifiedLayerUnder, size_of, AreBlobs}
 use Rattle.twkb_body.proofs.Growing.{blob_stays}
-use Rattle.twkb_body.proofs.Orders.{blob_order}
-use Rattle.twkb_layer.specs.Layer.{IsLayer, IsLayerUnder, IsCertifiedLayerUnder, size_of}
-use Rattle.twkb_layer.specs.Laws.{AreBlobs}
 
 -- ---- blobs
 

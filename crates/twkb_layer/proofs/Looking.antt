@@ -1,29 +1,12 @@
 -- The loop of a scan with the slots of a directory, from slot to slot.
-use Rattle.std.proofs.Common.{◌≡◌, ℕ, ℤ, ◌+◌, ◌^◌, ◌<◌, ◌≤◌, Bool, true, false, cond, List, [], ◌∷◌, length, map, take, drop, Option, Some, None, option_map, refl, ap, subst, sym, ◌∙◌, arith, sum_by, slice_set, length-drop}
-use Rattle.std.specs.List.{list_any, AllByRecursion}
-use Rattle.std.proofs.lemmas.List.{length-take}
-use Rattle.std.proofs.lemmas.List.Elements.{recursion_from_All}
-use Rattle.twkb_num.specs.Cursor.{added}
-use Rattle.twkb_head.specs.declared.boxes.Vertex.{Vertex}
-use Rattle.twkb_head.specs.declared.boxes.Bounds.{Bounds}
+use Rattle.twkb_layer.proofs.Prelude.{◌≡◌, ℕ, ℤ, ◌+◌, ◌^◌, ◌<◌, ◌≤◌, Bool, true, false, cond, List, [], ◌∷◌, length, map, take, drop, Option, Some, None, option_map, refl, ap, subst, sym, ◌∙◌, arith, sum_by, slice_set, length-drop, list_any, AllByRecursion, length-take, recursion_from_All, added, Vertex, Bounds, bounds_of, Geometry, geometry, vertices, StandsAt, Entry, box_of, entry_of, entries, directory_cost, hits, found_blobs, cost, filled, IsCertifiedLayer, size_of, told_from, outside, is_inside, box_misses, is_missed, Found, OfEntry, Scan, finds}
 use Rattle.twkb_head.specs.Header.{Header}
-use Rattle.twkb_head.specs.Head.{bounds_of}
 use Rattle.twkb_head.specs.Holds.{Holds}
-use Rattle.twkb_body.specs.Geometry.{Geometry, geometry, vertices}
-use Rattle.twkb_body.specs.Standing.{StandsAt}
 use Rattle.twkb_body.proofs.Entering.{reaches, boxed_holds}
-use Rattle.twkb_layer.specs.Directory.{Entry, box_of, entry_of, entries, directory_cost}
-use Rattle.twkb_layer.specs.Hits.{hits, found_blobs, cost, filled}
-use Rattle.twkb_layer.specs.Layer.{IsCertifiedLayer, size_of, told_from}
-use Rattle.twkb_layer.specs.Devices.Seeking.{outside}
-use Rattle.twkb_layer.specs.Window.{is_inside, box_misses, is_missed}
-use Rattle.twkb_layer.specs.declared.hits.Found.{Found}
 use Rattle.twkb_layer.proofs.Layers.{blob_some, layer_short}
 use Rattle.twkb_layer.proofs.EachBlob.{Next, next_of, Walking, walk_begins, walk_goes_on, walk_fits, blob_few, walk_ends}
 use Rattle.twkb_layer.proofs.Scanning.{scan_ends, scan_reads}
-use Rattle.twkb_layer.proofs.Costs.{directory_cost_few}
-use Rattle.twkb_layer.specs.Devices.Layer.{OfEntry}
-use Rattle.twkb_layer.specs.Devices.Scanning.{Scan, finds}
+use Rattle.twkb_layer.proofs.Visits.{directory_cost_few}
 
 -- ---- a box that misses
 

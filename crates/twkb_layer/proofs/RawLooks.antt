@@ -1,18 +1,6 @@
 -- Boxes and points judged by raw integers.
-use Rattle.std.proofs.Common.{◌≡◌, ℕ, ℤ, pos, ◌||◌, ◌&&◌, Bool, not, true, false, [], ◌∷◌, Option, Some, None, option_map, refl, ap, sym, subst, ◌∙◌, arith}
-use Rattle.std.proofs.lemmas.Int.{ints}
-use Rattle.twkb_num.specs.Units.{units_of}
-use Rattle.twkb_head.specs.Head.{span_at, m_axis}
-use Rattle.twkb_head.specs.declared.raw.Axes.{Axes}
-use Rattle.twkb_body.specs.Geometry.{PointValue, coordinate, vertex_at}
-use Rattle.twkb_head.specs.Raw.{ends_of, IsNear, HasNearRanges}
+use Rattle.twkb_layer.proofs.Prelude.{◌≡◌, ℕ, ℤ, pos, ◌||◌, ◌&&◌, Bool, not, true, false, [], ◌∷◌, Option, Some, None, option_map, refl, ap, sym, subst, ◌∙◌, arith, ints, units_of, span_at, m_axis, Axes, PointValue, coordinate, vertex_at, ends_of, IsNear, HasNearRanges, RawBox, Bounds, Span, RawWindow, AreInner, IsInner, IsRawWindow, raw_box_misses, in_span, in_bound, is_inside, box_misses, lie_apart}
 use Rattle.twkb_head.specs.declared.raw.RawRange.{RawRange}
-use Rattle.twkb_head.specs.declared.raw.RawBox.{RawBox}
-use Rattle.twkb_head.specs.declared.boxes.Bounds.{Bounds}
-use Rattle.twkb_head.specs.declared.boxes.Span.{Span}
-use Rattle.twkb_layer.specs.declared.raw_windows.RawWindow.{RawWindow}
-use Rattle.twkb_layer.specs.Devices.RawWindows.{AreInner, IsInner, IsRawWindow, raw_box_misses}
-use Rattle.twkb_layer.specs.Window.{in_span, in_bound, is_inside, box_misses, lie_apart}
 use Rattle.twkb_layer.proofs.RawWindows.{misses_raw}
 
 -- the ends of a near range are neither the least nor the greatest number of 64 bits

@@ -1,22 +1,8 @@
 -- Raw integers against units: quotients rounded up and down, and boxes that miss a window.
-use Rattle.std.proofs.Common.{◌≡◌, ℕ, zero, suc, negsuc, ◌+◌, ◌*◌, ◌^◌, ◌<◌, ◌≤◌, ◌-◌, unsigned_abs, ◌⊎◌, inl, inr, true, false, ◌||◌, List, length, get_or, set, subst, ℤ, pos, ◌<ℤ◌, ◌≤ℤ◌, ◌+ℤ◌, ◌-ℤ◌, ◌*ℤ◌, neg_ℤ, int_lt, sym, ap, ◌∙◌, to_z, of_z, mul_assoc, arith}
-use Rattle.std.proofs.Math.IntN.{*ℤ-zero, zero-*ℤ, pos-*ℤ-pos, negsuc-*ℤ-pos}
-use Rattle.std.proofs.lemmas.Nat.{pow-add}
-use Rattle.std.proofs.lemmas.Bool.{cases_eq}
-use Rattle.std.specs.Int.{w64, w128}
-use Rattle.std.specs.Int.RustNames.{FitsSigned, int_div, int_rem}
-use Rattle.std.proofs.lemmas.Int.{ints, by_lt_z, quot-rem, rem_below, quot_fits, to_z-of_z}
-use Rattle.std.proofs.lemmas.List.{get_or-set_same, get_or-set_other}
-use Rattle.twkb_num.specs.Units.{units_of}
-use Rattle.twkb_head.specs.declared.boxes.Span.{Span}
-use Rattle.twkb_head.specs.declared.boxes.Bounds.{Bounds}
-use Rattle.twkb_head.specs.Head.{span_at}
+use Rattle.twkb_layer.proofs.Prelude.{◌≡◌, ℕ, zero, suc, negsuc, ◌+◌, ◌*◌, ◌^◌, ◌<◌, ◌≤◌, ◌-◌, unsigned_abs, ◌⊎◌, inl, inr, true, false, ◌||◌, List, length, get_or, set, subst, ℤ, pos, ◌<ℤ◌, ◌≤ℤ◌, ◌+ℤ◌, ◌-ℤ◌, ◌*ℤ◌, neg_ℤ, int_lt, sym, ap, ◌∙◌, to_z, of_z, mul_assoc, arith, *ℤ-zero, zero-*ℤ, pos-*ℤ-pos, negsuc-*ℤ-pos, pow-add, cases_eq, w64, w128, int_div, int_rem, ints, by_lt_z, quot-rem, rem_below, quot_fits, to_z-of_z, get_or-set_same, get_or-set_other, units_of, Span, Bounds, span_at, RawWindow, IsRawEnds, IsRawWindow, IsExactEnds, IsExactWindow, raw_range_misses, raw_box_misses, IsInner, AreInner, precision_of, lie_apart}
+use Rattle.std.specs.Int.RustNames.{FitsSigned}
 use Rattle.twkb_body.proofs.Scales.{times_suc, times_le}
 use Rattle.twkb_layer.specs.declared.raw_windows.RawEnds.{RawEnds}
-use Rattle.twkb_layer.specs.declared.raw_windows.RawWindow.{RawWindow}
-use Rattle.twkb_layer.specs.Devices.RawWindows.{IsRawEnds, IsRawWindow, IsExactEnds, IsExactWindow, raw_range_misses, raw_box_misses}
-use Rattle.twkb_layer.specs.Devices.RawWindows.{IsInner, AreInner, precision_of}
-use Rattle.twkb_layer.specs.Window.{lie_apart}
 
 is_less : (a b : ℤ) → a <ℤ b → int_lt a b ≡ true
 is_less a b h = grind (arith, ints, h)

@@ -1,17 +1,8 @@
 -- Decimals in units, rounded, and compared with each other and with coordinates.
-use Rattle.std.proofs.Common.{◌≡◌, ℕ, zero, suc, ◌+◌, ◌-◌, ◌*◌, ◌/◌, ◌%◌, ◌^◌, ◌<◌, ◌≤◌, ◌==◌, min, Bool, true, false, cond, not, ◌&&◌, ℤ, pos, neg_ℤ, ◌+ℤ◌, ◌-ℤ◌, ◌*ℤ◌, ◌≤ℤ◌, int_lt, refl, ap, sym, ◌∙◌, arith}
-use Rattle.std.specs.Prelude.{Result, Ok, Err, if◌then◌else◌}
-use Rattle.std.specs.Int.{int_div_euclid}
-use Rattle.std.proofs.Math.IntN.{neg_ℤ-neg_ℤ, pos-*ℤ-pos, negsuc-*ℤ-pos, zero-*ℤ}
-use Rattle.std.proofs.Math.Nat.{zero-div, zero-mod, div-one}
-use Rattle.std.proofs.lemmas.Bool.Decides.{nat_tests}
-use Rattle.std.proofs.lemmas.Int.{ints}
-use Rattle.std.proofs.lemmas.Nat.{div-mul-add, div-add-mod'}
-use Rattle.twkb_head.specs.declared.boxes.Span.{Span}
-use Rattle.twkb_layer.specs.Decimals.{Decimal, signed, rational_of, is_less, farthest, within_farthest, rounded_up, rounded_down, span_of_decimals}
+use Rattle.twkb_layer.proofs.Prelude.{◌≡◌, ℕ, zero, suc, ◌+◌, ◌-◌, ◌*◌, ◌/◌, ◌%◌, ◌^◌, ◌<◌, ◌≤◌, ◌==◌, min, Bool, true, false, cond, not, ◌&&◌, ℤ, pos, neg_ℤ, ◌+ℤ◌, ◌-ℤ◌, ◌*ℤ◌, ◌≤ℤ◌, int_lt, refl, ap, sym, ◌∙◌, arith, Result, Ok, Err, int_div_euclid, neg_ℤ-neg_ℤ, pos-*ℤ-pos, negsuc-*ℤ-pos, zero-*ℤ, zero-div, zero-mod, div-one, nat_tests, ints, div-mul-add, div-add-mod', Span, Decimal, signed, rational_of, is_less, farthest, within_farthest, rounded_up, rounded_down, span_of_decimals, leaning}
+use Rattle.std.specs.Prelude.{if◌then◌else◌}
 use Rattle.twkb_layer.specs.declared.decimal.BadRange.{BadRange}
 use Rattle.twkb_layer.specs.declared.decimal.BadRange.TheVariants.{Order}
-use Rattle.twkb_layer.specs.Devices.Decimals.{leaning}
 use Rattle.twkb_layer.proofs.Decimals.{ten_some, next_digit}
 
 -- ---- quotients

@@ -1,5 +1,5 @@
 //! The loop over the blobs of a certified layer, which scans, lists, directories and visits share.
-//! Used by `certified`, `placing`, `row`, `scans` and `showing`.
+//! Used by `certified`, `placing`, `row` and `scans`.
 ghost use Rattle.std.specs.Prelude.{◌≡◌, ℕ, ◌+◌, ◌≤◌, nat_lt, ◌&&◌, List, length};
 ghost use Rattle.twkb_num.specs.Cursor.{added};
 ghost use Rattle.twkb_body.specs.Geometry.{Geometry};

@@ -1,9 +1,6 @@
 -- Two steps of a stream, one after the other, are one.
-use Rattle.std.proofs.Common.{◌≡◌, ◌∙◌, ℕ, ◌+◌, ◌-◌, ◌≤◌, List, ◌++◌, length, take, drop, IsTrue, sym, arith, append_assoc, length-append, length-drop}
-use Rattle.std.proofs.lemmas.List.{take_all}
-use Rattle.std.proofs.Math.Seq.{take-add}
+use Rattle.twkb_tool.proofs.Prelude.{◌≡◌, ◌∙◌, ℕ, ◌+◌, ◌-◌, ◌≤◌, List, ◌++◌, length, take, drop, IsTrue, sym, arith, append_assoc, length-append, length-drop, take_all, take-add, SourceState, SinkState, Gives, Takes}
 use Rattle.twkb_num.specs.Cursor.{added}
-use Rattle.twkb_tool.specs.Streams.{SourceState, SinkState, Gives, Takes}
 
 added-append : (m : ℕ) (xs ys : List ℕ) → added (added m (length xs)) (length ys) ≡ added m (length (xs ++ ys))
 added-append m xs ys = omega (arith, length-append xs ys)

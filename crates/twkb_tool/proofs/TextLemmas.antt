@@ -1,18 +1,10 @@
 -- The lines of a window, from the answer of a scan, and the lines of a list.
-use Rattle.std.proofs.Common.{◌≡◌, ◌∙◌, ℕ, ℤ, ◌+◌, ◌-◌, ◌*◌, ◌^◌, ◌<◌, ◌≤◌, Bool, true, false, cond, List, [], ◌∷◌, ◌++◌, length, take, drop, flat_map, min, sum_by, codes, decimal, refl, sym, ap, arith, append_assoc, get_or, length-append}
-use Rattle.std.proofs.lemmas.List.{flat_map_more, take_all, take_at, take_more}
-use Rattle.std.specs.List.{list_any}
-use Rattle.twkb_head.specs.declared.boxes.Bounds.{Bounds}
-use Rattle.twkb_body.specs.Geometry.{Geometry, vertices}
-use Rattle.twkb_layer.specs.Hits.{hit_of, hits, filled}
-use Rattle.twkb_layer.specs.Layer.{IsCertifiedLayer, AddsAtMost, size_of, told_from}
+use Rattle.twkb_tool.proofs.Prelude.{◌≡◌, ◌∙◌, ℕ, ℤ, ◌+◌, ◌-◌, ◌*◌, ◌^◌, ◌<◌, ◌≤◌, Bool, true, false, cond, List, [], ◌∷◌, ◌++◌, length, take, drop, flat_map, min, sum_by, codes, decimal, refl, sym, ap, arith, append_assoc, get_or, length-append, flat_map_more, take_all, take_at, take_more, list_any, Bounds, Geometry, vertices, hit_of, hits, filled, IsCertifiedLayer, AddsAtMost, size_of, told_from, layer_once, MAX_FILE, name_of, yes_no, no_line, row_line, hit_line, end_line, window_text}
+use Rattle.std.proofs.lemmas.List.Sums.{sum_by_more}
 use Rattle.twkb_layer.specs.Window.{is_inside}
 use Rattle.twkb_layer.specs.declared.hits.Hit.{Hit}
-use Rattle.twkb_layer.proofs.Layers.{layer_once}
 use Rattle.twkb_layer.specs.declared.row.Row.{Row}
 use Rattle.std.specs.Fmt.{signed_decimal}
-use Rattle.twkb_tool.specs.declared.run.TheConstants.{MAX_FILE}
-use Rattle.twkb_tool.specs.Output.{name_of, yes_no, no_line, row_line, hit_line, end_line, window_text}
 
 one_or_none : (b : Bool) (hit : Hit) → length (cond b (hit ∷ []) []) ≤ 1
 one_or_none true hit = omega arith
@@ -42,8 +34,8 @@ pub found_fits_room : (bytes : List ℕ) (w : Bounds) (room0 room : List Hit) (f
     → ((trees : List Geometry) → IsCertifiedLayer trees bytes → found ≡ length (hits trees w)) → length room ≡ length room0 → found ≤ length room
 found_fits_room bytes w room0 room found (given, whole, enough) answer same = omega (arith, answer given whole, few_hits 0 0 given w, enough, same)
 
--- how much a count grew, if it was far from its greatest value
-pub grew : (before after len read : ℕ) → AddsAtMost len before after → before + len < 2 ^ 64 - 1 → after ≡ min (before + read) (2 ^ 64 - 1) → after - before ≡ read
+-- a count grew by what was read, if it was far from its greatest value
+pub grew : (before after len read : ℕ) → AddsAtMost len before after → before + len < 2 ^ 64 - 1 → after ≡ min (before + read) (2 ^ 64 - 1) → after ≡ before + read
 grew before after len read few small is = omega (arith, few.few, few.is, small, is)
 
 -- one more scan reads no more than all bytes once more
@@ -66,6 +58,11 @@ pub lines_more : {X : Type 0} (line : X → List ℕ) (out now next : List ℕ) 
 lines_more line out now next xs i d lt before more =
     more ∙ ap (λ (text : List ℕ). text ++ line (get_or xs i d)) before ∙ flat_map_more line out (take i xs) (get_or xs i d)
     ∙ ap (λ (front : List _). out ++ flat_map line front) (sym (take_more xs i d lt))
+
+-- what is read for one more element, after what was read for the elements before it
+pub reads_more : {X : Type 0} (read : X → ℕ) (first now next : ℕ) (xs : List X) (i : ℕ) (d : X) → i < length xs
+    → now ≡ first + sum_by read (take i xs) → next ≡ now + read (get_or xs i d) → next ≡ first + sum_by read (take (i + 1) xs)
+reads_more read first now next xs i d lt before more = omega (arith, before, more, sum_by_more read xs i d lt)
 
 -- the pieces for a refused file, one after another, make its line
 pub no_made : (blob offset : ℕ) (out a b c word : List ℕ) → a ≡ out ++ (codes "no blob=" ++ decimal blob) → b ≡ a ++ (codes " offset=" ++ decimal offset)

@@ -1,19 +1,11 @@
 -- Reading the texts of windows, one by one.
-use Rattle.std.proofs.Common.{◌≡◌, ◌∙◌, ℕ, ◌+◌, ◌<◌, List, [], ◌∷◌, ◌++◌, Bool, true, false, Ok, Err, Result, refl, arith, length, map, take, drop, get_or, suc}
-use Rattle.std.specs.Prelude.{IfErr, if◌then◌else◌}
+use Rattle.twkb_tool.proofs.Prelude.{◌≡◌, ◌∙◌, ℕ, ◌+◌, ◌<◌, List, [], ◌∷◌, ◌++◌, Bool, true, false, Ok, Err, Result, refl, arith, length, map, take, drop, get_or, suc, IfErr, if◌then◌else◌, length-map, length-take, take_more, split_at, Text, Bounds, AreWindows, IsBadText, IsFirstBad, IsWindow, Usage, Words, TooMany, Window as NoWindow, Memory}
 use Rattle.std.specs.Borrow.{Bor}
-use Rattle.std.proofs.lemmas.List.{length-map, length-take, take_more}
 use Rattle.std.proofs.Math.ListN.{get_or-map}
-use Rattle.std.proofs.Math.Seq.{split_at}
-use Rattle.clap.specs.Words.{Text}
-use Rattle.twkb_head.specs.declared.boxes.Bounds.{Bounds}
 use Rattle.twkb_layer.specs.WindowText.{IsWindowText, in_order}
 use Rattle.twkb_layer.specs.declared.window.BadWindow.{BadWindow}
 use Rattle.twkb_layer.specs.declared.window.BadWindow.TheVariants.{Form, Order}
 use Rattle.twkb_tool.specs.Devices.Words.{AreNoWindows, IsNoWindowMore}
-use Rattle.twkb_tool.specs.Words.{AreWindows, IsBadText, IsFirstBad, IsWindow}
-use Rattle.twkb_tool.specs.declared.words.Usage.{Usage}
-use Rattle.twkb_tool.specs.declared.words.Usage.TheVariants.{Words, TooMany, Window as NoWindow, Memory}
 
 -- ---- one text
 

@@ -1,18 +1,11 @@
 -- The matches and the faults that clap finds in the program's words.
-use Rattle.std.proofs.Common.{◌≡◌, ◌∙◌, List, [], true, refl, ap, subst, inl, inr, Ok, Err, Result}
-use Rattle.std.specs.Prelude.{option_map}
-use Rattle.clap.specs.Faults.{fault_of, is_simple_and_free}
-use Rattle.clap.specs.Kinds.{FailsBy, HasKind, IsAmong, Kinds}
+use Rattle.twkb_tool.proofs.Prelude.{◌≡◌, ◌∙◌, List, [], true, refl, ap, subst, inl, inr, Ok, Err, Result, option_map, fault_of, is_simple_and_free, FailsBy, HasKind, IsAmong, Kinds, App, Text, all_of, first_of, is_simple, rows_of, subcommand_of, subcommand_rows_of, HasMatchesOf, clap_on_literals, first_value-rows, raw_values-rows, tool_app}
 use Rattle.clap.specs.Matches.{first_value, matched_of, raw_values}
 use Rattle.clap.specs.Values.{kind_of}
-use Rattle.clap.specs.Words.{App, Text, all_of, first_of, is_simple, rows_of, subcommand_of, subcommand_rows_of, HasMatchesOf}
 use Rattle.clap.specs.declared.error.Error.{Error}
 use Rattle.clap.specs.declared.error.kind.ErrorKind.TheVariants.{OutOfMemory}
 use Rattle.clap.specs.declared.parser.matches.ArgMatches.{ArgMatches}
 use Rattle.clap.specs.declared.parser.matches.Found.{Found}
-use Rattle.clap.proofs.OnLiterals.{clap_on_literals}
-use Rattle.clap.proofs.WalkLemmas.{first_value-rows, raw_values-rows}
-use Rattle.twkb_tool.specs.Words.{tool_app}
 
 tool_is_simple : is_simple tool_app ≡ true
 unfolding clap_on_literals tool_app

@@ -31,10 +31,6 @@ pub trait Source {
         ensures ok { OnOk result ((state self.new).failed ≡ false) }
         ensures err { OnErr result (state self.new ≡ record (state self.old) { failed = true }) };
 
-    /// Whether the last `take` failed. Only tests call this.
-    fn failed(&self) -> bool
-        ensures { result ≡ (state self.now).failed };
-
     /// How many bytes all calls gave, up to the greatest number.
     fn moved(&self) -> u64
         ensures { result ≡ (state self.now).moved };
@@ -56,10 +52,6 @@ pub trait Sink {
     /// Passes on the bytes that it still holds.
     fn flush(&mut self) -> Result<(), SinkFailed>
         ensures { state self.new ≡ record (state self.old) { failed = is_err result; flushing = true } };
-
-    /// Whether the last `put` or `flush` failed. Only tests call this.
-    fn failed(&self) -> bool
-        ensures { result ≡ (state self.now).failed };
 
     /// How many bytes all calls took, up to the greatest number.
     fn moved(&self) -> u64

@@ -1,10 +1,11 @@
 //! The text that is printed for a certified layer. Used by `judge`.
-ghost use Rattle.std.specs.Prelude.{◌≡◌, ◌+◌, ◌-◌, ◌*◌, ◌^◌, ◌<◌, ◌≤◌, ◌++◌, List, length, flat_map, take, IfOk, OnOk, vec_len};
+ghost use Rattle.std.specs.Prelude.{◌≡◌, ℕ, ◌+◌, ◌-◌, ◌*◌, ◌^◌, ◌<◌, ◌≤◌, ◌++◌, List, length, flat_map, take, sum_by, IfOk, OnOk, vec_len};
 ghost use Rattle.twkb_body.specs.Geometry.{Geometry};
 ghost use Rattle.twkb_layer.specs.Directory.{IsDirectoryOf, directory_cost};
 ghost use Rattle.twkb_layer.specs.Hits.{cost};
 ghost use Rattle.twkb_layer.specs.Layer.{IsCertifiedLayer, AddsAtMost, OfLayer};
 ghost use Rattle.twkb_layer.specs.Rows.{rows};
+ghost use Rattle.twkb_tool.specs.Devices.Scanned.{all_read, most_built};
 ghost use Rattle.twkb_tool.specs.Output.{row_line, hit_line, end_line, window_text, scan_text, layer_text};
 ghost use Rattle.twkb_tool.specs.Words.{HoldsWindows};
 
@@ -66,7 +67,8 @@ fn push_rows<A: Allocator>(out: &mut Vec<u8, A>, rows: &[Row]) -> Result<(), All
 
 // ---- scans
 
-/// Pushes the hits of each window. One window is scanned for blob after blob, several with a directory.
+/// Pushes the hits of each window. One window is scanned for blob after blob, several with a directory. What is read is what the
+/// text says, and what building the directory reads.
 fn push_scan<'a, A: Allocator>(
     alloc: &'a A,
     out: &mut Vec<u8, &'a A>,
@@ -76,8 +78,11 @@ fn push_scan<'a, A: Allocator>(
     requires few { length windows.now ≤ 64 }
     requires small { length layer.old.bytes ≤ MAX_FILE }
     requires read { layer.old.count ≤ MAX_FILE }
-    ensures { OfLayer layer.old.bytes (λ trees.
+    ensures text { OfLayer layer.old.bytes (λ trees.
         OnOk result (out.new.items ≡ out.old.items ++ scan_text windows.now trees (length layer.old.bytes))) }
+    ensures count { OfLayer layer.old.bytes (λ trees. OnOk result ((built : ℕ)
+        × (built ≤ most_built windows.now layer.old.bytes)
+        × (layer.new.count ≡ layer.old.count + built + all_read windows.now trees))) }
 {
     let mut room = room_for(alloc, layer.blobs())?;
     if let [window] = windows {
@@ -106,8 +111,10 @@ fn push_window<A: Allocator>(
     requires room { (trees : List Geometry) × IsCertifiedLayer trees layer.old.bytes
         × (length trees ≤ length room.old) }
     requires read { layer.old.count + length layer.old.bytes < 2 ^ 64 - 1 }
-    ensures { OfLayer layer.old.bytes (λ trees.
+    ensures text { OfLayer layer.old.bytes (λ trees.
         OnOk result (out.new.items ≡ out.old.items ++ window_text cost trees (length layer.old.bytes) window.now)) }
+    ensures count { OfLayer layer.old.bytes (λ trees.
+        layer.new.count ≡ layer.old.count + sum_by (cost window.now) trees) }
 {
     let before = layer.read_count();
     let found = layer.scan(window, room);
@@ -129,9 +136,11 @@ fn push_windows<A: Allocator, D: Allocator>(
     requires few { length windows.now ≤ 64 }
     requires small { length layer.old.bytes ≤ MAX_FILE }
     requires read { layer.old.count ≤ 3 * MAX_FILE }
-    ensures { OfLayer layer.old.bytes (λ trees.
+    ensures text { OfLayer layer.old.bytes (λ trees.
         OnOk result (out.new.items ≡ out.old.items
         ++ flat_map (window_text directory_cost trees (length layer.old.bytes)) windows.now)) }
+    ensures count { OfLayer layer.old.bytes (λ trees. OnOk result (
+        layer.new.count ≡ layer.old.count + sum_by (λ w. sum_by (directory_cost w) trees) windows.now)) }
 {
     for window in windows {
         push_window_at(out, layer, directory, window, room)?;
@@ -155,6 +164,8 @@ fn push_window_at<A: Allocator, D: Allocator>(
         OnOk result (out.new.items ≡ out.old.items
         ++ window_text directory_cost trees (length layer.old.bytes) window.now)) }
     ensures bytes { layer.new.bytes ≡ layer.old.bytes }
+    ensures count { OfLayer layer.old.bytes (λ trees.
+        layer.new.count ≡ layer.old.count + sum_by (directory_cost window.now) trees) }
     ensures few { AddsAtMost (length layer.old.bytes) layer.old.count layer.new.count }
 {
     let before = layer.read_count();

@@ -1,28 +1,27 @@
 //! What a command line requests.
 //!
-//! `clap` parses the words as the module `command` says. The module `found` reads what it found, the module `windows` parses the
-//! windows, and the functions here make a [`Line`] of them. `specs/Words.antt` defines what all these functions return. Used by `main`
-//! and `status`.
+//! `clap` parses the words as the module `command` says, and the functions here make a [`Line`] of what it found.
+//! `specs/Words.antt` defines what all these functions return. Used by `main` and `status`.
 ghost use Rattle.std.specs.List.{list_all};
-ghost use Rattle.std.specs.Prelude.{◌≡◌, ◌≢◌, List, [], ◌∷◌, map, codes, true, IfOk, IfErr, OnOk, IsErrAnd};
-ghost use Rattle.clap.specs.Words.{Text, fault_of, found_of, rows_of, subcommand_of, subcommand_rows_of};
-ghost use Rattle.twkb_tool.specs.Words.{tool_app, AsksFor, HoldsWindows, IsLineOf, IsRefused, IsScanOf, Reads, IsRefusalOrMemory, Answers, is_value};
+ghost use Rattle.std.specs.Prelude.{◌≡◌, ◌≢◌, List, [], ◌∷◌, map, codes, true, IfOk, IfErr, OnOk, IsErrAnd, option_map, false, ◌++◌, length, vec_len};
+ghost use Rattle.clap.specs.Words.{Text, fault_of, found_of, rows_of, subcommand_of, subcommand_rows_of, all_of, first_of};
+ghost use Rattle.twkb_tool.specs.Words.{tool_app, AsksFor, HoldsWindows, IsLineOf, IsRefused, IsScanOf, Reads, IsRefusalOrMemory, Answers, is_value, IsGiven, AreWindows, IsBadText, IsWindow};
+ghost use Rattle.twkb_head.specs.declared.boxes.Bounds.{Bounds};
+ghost use Rattle.twkb_tool.specs.Devices.Words.{AreNoWindows, IsNoWindowMore};
 
 mod command;
-mod found;
-mod windows;
 
 use crate::request::{Line, Request};
 use clap::ArgMatches;
 use clap::error::ErrorKind;
 use command::tool_command;
-use found::{is_given, used, value_in, values_in};
 use std::alloc::{AllocError, Global};
 use std::convert::AsStr;
 use thiserror::Error;
-use twkb_layer::BadWindow;
-pub use windows::MAX_WINDOWS;
-use windows::windows_of;
+use twkb_layer::{BadWindow, Window};
+
+/// The most windows of a scan.
+pub const MAX_WINDOWS: usize = 64;
 
 /// Why a command line requests nothing. The first of these that applies is returned.
 #[derive(Debug, Drop, Error)]
@@ -162,4 +161,72 @@ fn scan_of(alloc: Global, matches: &ArgMatches<'_>) -> Result<Request, Usage>
     }
     let windows = windows_of(alloc, texts)?;
     Ok(Request::Scan(windows))
+}
+
+// ---- what `clap` found
+
+/// The subcommand that was used, and its matches.
+fn used<'m, 'a>(matches: &'m ArgMatches<'a>) -> Option<(&'a str, &'m ArgMatches<'a>)>
+    ensures { option_map (λ p. (p.0.now, rows_of (found_of p.1.now))) result ≡ subcommand_rows_of matches.entry.now }
+{
+    matches.subcommand()
+}
+
+/// The first value of an argument.
+#[tactic(auto, using(crate::proofs::WordLemmas::first_value_rows))]
+fn value_in<'a>(matches: &ArgMatches<'a>, id: &str) -> Option<&'a str>
+    ensures { option_map (λ s. s.now) result ≡ first_of id.now (rows_of (found_of matches.now)) }
+{
+    matches.get_str(id)
+}
+
+/// Whether a flag was given.
+fn is_given(matches: &ArgMatches<'_>, id: &str) -> bool
+    ensures given { result ≡ true → IsGiven id.now (rows_of (found_of matches.now)) }
+    ensures missing { result ≡ false → IsGiven id.now (rows_of (found_of matches.now)) → ⊥ }
+{
+    matches!(value_in(matches, id), Some("true"))
+}
+
+/// All values of an argument.
+#[tactic(auto, using(crate::proofs::WordLemmas::raw_values_rows))]
+fn values_in<'m, 'a>(matches: &'m ArgMatches<'a>, id: &str) -> Option<&'m [&'a str]>
+    ensures { option_map (λ s. map (λ v. v.now) s.now) result ≡ all_of id.now (rows_of (found_of matches.entry.now)) }
+{
+    matches.get_strs(id)
+}
+
+// ---- windows
+
+/// Reads each text as a window, up to the first that is none.
+fn windows_of(alloc: Global, texts: &[&str]) -> Result<Vec<Window>, Usage>
+    ensures ok { IfOk result (λ windows. AreWindows (map (λ t. t.now) texts.now) windows.items) }
+    ensures count { IfOk result (λ windows. vec_len windows ≡ length texts.now) }
+    ensures err { IfErr result (AreNoWindows (map (λ t. t.now) texts.now)) }
+{
+    let mut windows = Vec::new(alloc);
+    for (i, text) in texts.iter().enumerate() {
+        push_window_of(&mut windows, i + 1, text)?;
+    }
+    Ok(windows)
+}
+
+/// Reads the text of this number as a window, and pushes it.
+fn push_window_of(windows: &mut Vec<Window>, number: usize, text: &str) -> Result<(), Usage>
+    ensures ok { OnOk result ((window : Bounds) × IsWindow text.now window
+        × (windows.new.items ≡ windows.old.items ++ window ∷ [])) }
+    ensures err { IfErr result (IsNoWindowMore number text.now) }
+{
+    match window_of(text) {
+        Ok(window) => windows.push(window).map_err(|_| Usage::Memory),
+        Err(why) => Err(Usage::Window { number, why }),
+    }
+}
+
+/// The window of a text.
+fn window_of(text: &str) -> Result<Window, BadWindow>
+    ensures ok { IfOk result (IsWindow text.now) }
+    ensures err { IfErr result (IsBadText text.now) }
+{
+    Window::parse(text)
 }

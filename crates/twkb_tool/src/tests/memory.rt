@@ -134,8 +134,8 @@ fn each_allocation_of_a_scan_is_refused(rt: HostRuntime) -> Result<(), Fail> {
 #[test]
 fn each_allocation_of_a_sink_is_refused(rt: HostRuntime) -> Result<(), Fail> {
     let memory = Refusing::new(rt.alloc(), 0);
-    assert!(rt; MemSink::new_in(&memory, 9, 1, None).is_err());
+    assert!(rt; MemSink::new(&memory, 9, 1, None).is_err());
     assert!(rt; memory.has_refused());
-    assert!(rt; MemSink::new_in(&memory, 9, 1, None).is_ok());
+    assert!(rt; MemSink::new(&memory, 9, 1, None).is_ok());
     Ok(())
 }

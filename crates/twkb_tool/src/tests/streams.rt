@@ -38,18 +38,6 @@ fn check_stops<S: Source, K: Sink>(
     equal(rt, status_of(&outcome), 3);
 }
 
-/// Demands of a source whether its last call failed, and how many bytes it gave.
-fn source_is<S: Source>(rt: &impl Abort, source: &S, failed: bool, moved: u64) {
-    equal(rt, source.failed(), failed);
-    equal(rt, source.moved(), moved);
-}
-
-/// Demands of a sink whether its last call failed, and how many bytes it took.
-fn sink_is<K: Sink>(rt: &impl Abort, sink: &K, failed: bool, moved: u64) {
-    equal(rt, sink.failed(), failed);
-    equal(rt, sink.moved(), moved);
-}
-
 #[test]
 fn a_source_fails_at_each_call(rt: HostRuntime) -> Result<(), Fail> {
     for k in 1..22 {
@@ -57,8 +45,8 @@ fn a_source_fails_at_each_call(rt: HostRuntime) -> Result<(), Fail> {
         let mut sink = MemSink::new(rt.alloc(), 100, 1, None)?;
         let fault = RunFault::Read;
         check_stops(&rt, rt.alloc(), &mut source, &mut sink, 100, fault);
-        source_is(&rt, &source, true, k as u64 - 1);
-        sink_is(&rt, &sink, false, 0);
+        equal(&rt, source.moved(), k as u64 - 1);
+        equal(&rt, sink.moved(), 0);
         assert!(rt; sink.bytes().is_empty());
     }
     Ok(())
@@ -74,7 +62,7 @@ fn a_sink_fails_at_each_call_up_to_the_flush(rt: HostRuntime) -> Result<(), Fail
         equal(&rt, outcome, Err(RunFault::Write { done: k - 1 }));
         equal(&rt, status_of(&outcome), 3);
         equal(&rt, sink.bytes(), &TWO_WINDOWS_TEXT.as_bytes()[..k - 1]);
-        sink_is(&rt, &sink, true, k as u64 - 1);
+        equal(&rt, sink.moved(), k as u64 - 1);
     }
     Ok(())
 }
@@ -120,10 +108,6 @@ impl Source for Endless {
         Ok(room.len())
     }
 
-    fn failed(&self) -> bool {
-        false
-    }
-
     fn moved(&self) -> u64 {
         self.moved
     }
@@ -137,7 +121,7 @@ fn a_source_without_end_is_too_large(rt: HostRuntime) -> Result<(), Fail> {
         let fault = RunFault::TooLarge;
         check_stops(&rt, rt.alloc(), &mut source, &mut sink, limit, fault);
         assert!(rt; sink.bytes().is_empty());
-        source_is(&rt, &source, false, limit as u64 + 1);
+        equal(&rt, source.moved(), limit as u64 + 1);
         assert!(rt; source.calls <= limit + 1);
     }
     Ok(())
@@ -151,7 +135,7 @@ fn a_byte_past_the_limit_ends_the_reading(rt: HostRuntime) -> Result<(), Fail> {
         let mut sink = MemSink::new(rt.alloc(), 100, 1, None)?;
         let fault = RunFault::TooLarge;
         check_stops(&rt, rt.alloc(), &mut source, &mut sink, 5, fault);
-        source_is(&rt, &source, false, 6);
+        equal(&rt, source.moved(), 6);
         assert!(rt; sink.bytes().is_empty());
     }
     Ok(())
@@ -200,7 +184,7 @@ fn readers_and_writers_fail(rt: HostRuntime) -> Result<(), Fail> {
         let mut sink = MemSink::new(rt.alloc(), 100, 100, None)?;
         let fault = RunFault::Read;
         check_stops(&rt, rt.alloc(), &mut source, &mut sink, 100, fault);
-        source_is(&rt, &source, true, fail_at as u64 - 1);
+        equal(&rt, source.moved(), fail_at as u64 - 1);
     }
     let mut source = MemSource::new(&POINT, 2, None);
     let mut sink = ToWriter::new(Faulty {
@@ -210,7 +194,7 @@ fn readers_and_writers_fail(rt: HostRuntime) -> Result<(), Fail> {
     });
     let fault = RunFault::Write { done: 0 };
     check_stops(&rt, rt.alloc(), &mut source, &mut sink, 100, fault);
-    sink_is(&rt, &sink, true, 0);
+    equal(&rt, sink.moved(), 0);
     Ok(())
 }
 
@@ -234,7 +218,7 @@ fn a_flush_of_a_writer_fails(rt: HostRuntime) {
     let mut sink = ToWriter::new(Unflushed);
     let fault = RunFault::Write { done: 22 };
     check_stops(&rt, rt.alloc(), &mut source, &mut sink, 100, fault);
-    sink_is(&rt, &sink, true, 22);
+    equal(&rt, sink.moved(), 22);
 }
 
 #[test]
@@ -248,8 +232,8 @@ fn a_run_goes_from_file_to_file(rt: HostRuntime) -> Result<(), Fail> {
         let mut sink = ToWriter::new(File::create(&rt, &answer)?);
         let outcome = run(rt.alloc(), &mut source, &mut sink, &Request::Check, 100);
         equal(&rt, outcome, Ok(Verdict::Yes));
-        source_is(&rt, &source, false, 5);
-        sink_is(&rt, &sink, false, 22);
+        equal(&rt, source.moved(), 5);
+        equal(&rt, sink.moved(), 22);
     }
     let written = fs::read_to_string(&rt, &answer)?;
     fs::remove_file(&rt, &layer)?;

@@ -1,5 +1,5 @@
 -- The high half of the byte, by zigzag: from -8 to 7.
-use Rattle.std.proofs.Common.{rules}
+use Rattle.twkb_head.proofs.Prelude.{rules}
 use Rattle.twkb_head.proofs.bits.precision_of.Goals as goal
 
 pub returns-clause-value : goal.returns-clause-value

@@ -1,5 +1,5 @@
 -- The byte that was read, or the end, is what the reader answers.
-use Rattle.std.proofs.Common.{refl}
+use Rattle.twkb_head.proofs.Prelude.{refl}
 use Rattle.twkb_head.proofs.Steps.{read_byte, read_no_byte}
 use Rattle.twkb_head.proofs.field_readers.take_byte.Goals as goal
 

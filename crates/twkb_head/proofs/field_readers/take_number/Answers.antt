@@ -1,5 +1,5 @@
 -- The number that was read, or its fault, is what the reader answers.
-use Rattle.std.proofs.Common.{refl}
+use Rattle.twkb_head.proofs.Prelude.{refl}
 use Rattle.twkb_head.proofs.Steps.{read_number, read_no_number}
 use Rattle.twkb_head.proofs.field_readers.take_number.Goals as goal
 

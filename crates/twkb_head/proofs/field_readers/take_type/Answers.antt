@@ -1,10 +1,5 @@
 -- A byte that is refused for its kind or its depth is left unread.
-use Rattle.std.proofs.Common.{◌-◌, refl, ap, rules, arith, length}
-use Rattle.std.proofs.lemmas.Result.{err_from_is_err_and}
-use Rattle.std.proofs.lemmas.Int.{to_z-of_z}
-use mir.Val.{SFits}
-use Rattle.std.specs.Int.{w8}
-use Rattle.twkb_head.specs.BegunHeader.{deepest}
+use Rattle.twkb_head.proofs.Prelude.{◌-◌, refl, ap, rules, arith, length, err_from_is_err_and, to_z-of_z, SFits, w8, deepest}
 use Rattle.twkb_head.proofs.Steps.{byte_moved, type_no_byte, type_ok, type_refused}
 use Rattle.twkb_head.proofs.field_readers.take_type.Goals as goal
 

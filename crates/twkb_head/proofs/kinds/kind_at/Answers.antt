@@ -1,5 +1,5 @@
 -- A kind that is answered is allowed at its depth.
-use Rattle.std.proofs.Common.{rules}
+use Rattle.twkb_head.proofs.Prelude.{rules}
 use Rattle.twkb_head.proofs.kinds.kind_at.Goals as goal
 
 pub returns-in-Some-clause-allowed : goal.returns-in-Some-clause-allowed

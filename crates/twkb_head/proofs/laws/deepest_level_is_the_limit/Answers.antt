@@ -1,5 +1,5 @@
 -- The code's limit is the definition's.
-use Rattle.std.proofs.Common.{rules}
+use Rattle.twkb_head.proofs.Prelude.{rules}
 use Rattle.twkb_head.proofs.laws.deepest_level_is_the_limit.Goals as goal
 
 pub returns : goal.returns

@@ -1,8 +1,5 @@
 -- Two numbers, one after the other, are a range, and the fault of one of them is the fault of the range.
-use Rattle.std.proofs.Common.{◌≡◌, rules, length, slice_index_or, pos, arith}
-use Rattle.std.proofs.lemmas.Int.{ints}
-use mir.Val.{SFits}
-use Rattle.std.specs.Int.{w64}
+use Rattle.twkb_head.proofs.Prelude.{◌≡◌, rules, length, slice_index_or, pos, arith, ints, SFits, w64}
 use Rattle.twkb_head.proofs.NumberRuns.{range_held, range_stops}
 use Rattle.twkb_head.proofs.ranges.take_range.Goals as goal
 

@@ -1,8 +1,5 @@
 -- Four numbers, one after another, are two ranges, and the fault of one of them is the fault of both.
-use Rattle.std.proofs.Common.{◌≡◌, rules, length, slice_index_or, pos, arith}
-use Rattle.std.proofs.lemmas.Int.{ints}
-use mir.Val.{SFits}
-use Rattle.std.specs.Int.{w64}
+use Rattle.twkb_head.proofs.Prelude.{◌≡◌, rules, length, slice_index_or, pos, arith, ints, SFits, w64}
 use Rattle.twkb_head.proofs.NumberRuns.{two_ranges_held, two_ranges_stop}
 use Rattle.twkb_head.proofs.ranges.take_two_ranges.Goals as goal
 

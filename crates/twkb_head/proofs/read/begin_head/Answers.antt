@@ -1,6 +1,5 @@
 -- The first two bytes begin a header, or no header is there.
-use Rattle.std.proofs.Common.{inr, Option, None, Some, IfNone, refl, arith}
-use Rattle.twkb_num.specs.Cursor.{rest}
+use Rattle.twkb_head.proofs.Prelude.{inr, Option, None, Some, IfNone, refl, arith, rest}
 use Rattle.twkb_head.proofs.HeadLaws.{header_two}
 use Rattle.twkb_head.proofs.HeadSteps.{two_back}
 use Rattle.twkb_head.proofs.read.begin_head.Goals as goal

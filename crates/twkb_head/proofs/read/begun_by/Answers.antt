@@ -1,10 +1,5 @@
 -- Two bytes that were read begin a header, or no header is there.
-use Rattle.std.proofs.Common.{◌≡◌, ◌+◌, ◌-◌, ◌/◌, ◌%◌, Err, refl, arith}
-use Rattle.std.proofs.lemmas.Int.{ints}
-use mir.Val.{to_z, of_z}
-use Rattle.std.specs.Int.{w8}
-use Rattle.twkb_num.specs.Varint.{zigzag_value}
-use Rattle.twkb_head.specs.BegunHeader.{deepest}
+use Rattle.twkb_head.proofs.Prelude.{◌≡◌, ◌+◌, ◌-◌, ◌/◌, ◌%◌, Err, refl, arith, ints, to_z, of_z, w8, zigzag_value, deepest}
 use Rattle.twkb_head.proofs.Heads.{code_kind, allowed_at}
 use Rattle.twkb_head.proofs.HeadLaws.{head_exact}
 use Rattle.twkb_head.proofs.HeadSteps.{kind_stops, two_back}

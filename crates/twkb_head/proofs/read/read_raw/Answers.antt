@@ -1,5 +1,5 @@
 -- The reader's answer is restated in the words of the definitions, and a refusal goes back to the place.
-use Rattle.std.proofs.Common.{ap, length, arith}
+use Rattle.twkb_head.proofs.Prelude.{ap, length, arith}
 use Rattle.twkb_head.proofs.HeadLaws.{head_ok, head_moved, head_exact, head_no_range, head_err, head_still, head_bytes}
 use Rattle.twkb_head.proofs.read.read_raw.Goals as goal
 

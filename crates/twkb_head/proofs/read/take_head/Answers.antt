@@ -1,6 +1,5 @@
 -- The header, read in two steps, is the header that the reader reads.
-use Rattle.std.proofs.Common.{◌-◌}
-use Rattle.twkb_head.specs.BegunHeader.{deepest}
+use Rattle.twkb_head.proofs.Prelude.{◌-◌, deepest}
 use Rattle.twkb_head.proofs.HeadSteps.{head_of_rest}
 use Rattle.twkb_head.proofs.read.take_head.Goals as goal
 

@@ -1,14 +1,5 @@
 -- Field after field, the code answers what the reader answers.
-use Rattle.std.proofs.Common.{◌≡◌, Option, Some, None, option_map, is_some, IsSome, refl, sym, ap, ◌∙◌, Ok, Err, arith}
-use Rattle.std.proofs.lemmas.Int.{ints}
-use mir.Val.{to_z, of_z}
-use Rattle.std.specs.Int.{w8}
-use Rattle.twkb_num.specs.Cursor.{Reading}
-use Rattle.twkb_head.specs.declared.boxes.Bounds.{Bounds}
-use Rattle.twkb_head.specs.declared.header.Head.{Head}
-use Rattle.twkb_head.specs.declared.raw.RawBox.{RawBox}
-use Rattle.twkb_head.specs.Header.{has_bit, z_in, m_in}
-use Rattle.twkb_head.specs.Shared.Reader.{Answer, viewed}
+use Rattle.twkb_head.proofs.Prelude.{◌≡◌, Option, Some, None, option_map, is_some, IsSome, refl, sym, ap, ◌∙◌, Ok, Err, arith, ints, to_z, of_z, w8, Reading, Bounds, Head, RawBox, has_bit, z_in, m_in, Answer, viewed}
 use Rattle.twkb_head.proofs.HeadSteps.{size_and_box_is, box_seen}
 use Rattle.twkb_head.proofs.read.take_size_and_box.Goals as goal
 

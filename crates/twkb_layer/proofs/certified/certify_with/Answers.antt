@@ -1,5 +1,5 @@
 -- The result of the audit of all blobs is the result for the layer; a refusal is passed on.
-use Rattle.std.proofs.Common.{rules}
+use Rattle.twkb_layer.proofs.Prelude.{rules}
 use Rattle.twkb_layer.proofs.certified.certify_with.Goals as goal
 
 pub returns-in_err-blobs-clause-refused : goal.returns-in_err-blobs-clause-refused

@@ -1,6 +1,5 @@
 -- The digit is the last of the quotient, and after all digits there is none.
-use Rattle.std.proofs.Common.{◌-◌, length, refl, arith}
-use Rattle.std.proofs.lemmas.Str.Parse.{digit_at}
+use Rattle.twkb_layer.proofs.Prelude.{◌-◌, length, refl, arith, digit_at}
 use Rattle.twkb_layer.proofs.Decimals.{digit_is, no_digit}
 use Rattle.twkb_layer.proofs.decimal.digit_of.Goals as goal
 

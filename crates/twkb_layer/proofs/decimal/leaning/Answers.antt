@@ -1,7 +1,5 @@
 -- The sum is small, so no bits are lost.
-use Rattle.std.proofs.Common.{pos, ◌+ℤ◌, ◌-ℤ◌, ◌*ℤ◌, FitsSigned, ◌∙◌, arith, rules}
-use Rattle.std.specs.Int.{w64}
-use Rattle.std.proofs.lemmas.Int.{ints, to_z-of_z}
+use Rattle.twkb_layer.proofs.Prelude.{pos, ◌+ℤ◌, ◌-ℤ◌, ◌*ℤ◌, FitsSigned, ◌∙◌, arith, rules, w64, ints, to_z-of_z}
 use Rattle.twkb_layer.proofs.decimal.leaning.Goals as goal
 
 pub returns : goal.returns

@@ -1,7 +1,5 @@
 -- Each text is parsed in one way, so its decimals determine the result.
-use Rattle.std.proofs.Common.{◌≡◌, sym, ◌∙◌, rules}
-use Rattle.std.proofs.lemmas.Int.{to_z-of_z}
-use Rattle.std.specs.Int.{w128}
+use Rattle.twkb_layer.proofs.Prelude.{◌≡◌, sym, ◌∙◌, rules, to_z-of_z, w128}
 use Rattle.twkb_layer.proofs.Rounding.{order_told, span_told}
 use Rattle.twkb_layer.proofs.decimal.span_of_decimals.Goals as goal
 

@@ -1,6 +1,5 @@
 -- Each turn takes one more blob.
-use Rattle.std.proofs.Common.{ap, arith, length, ◌∙◌}
-use Rattle.twkb_num.specs.Cursor.{Reading}
+use Rattle.twkb_layer.proofs.Prelude.{ap, arith, length, ◌∙◌, Reading}
 use Rattle.twkb_layer.proofs.EachBlob.{turn_of, no_turn, walk_begins, walk_goes_on, walk_fits, walk_done, walk_ends, blob_few}
 use Rattle.twkb_layer.proofs.Layers.{layer_once}
 use Rattle.twkb_layer.proofs.each_blob.for_each_blob.Goals as goal

@@ -1,6 +1,5 @@
 -- The state and the count are those of the blobs before the place; the rest is a certified layer.
-use Rattle.std.proofs.Common.{◌≡◌, ◌<◌, ◌-◌, ◌^◌, List, length}
-use Rattle.twkb_body.specs.Geometry.{Geometry}
+use Rattle.twkb_layer.proofs.Prelude.{◌≡◌, ◌<◌, ◌-◌, ◌^◌, List, length, Geometry}
 use Rattle.twkb_layer.proofs.EachBlob.{Walking}
 use Rattle.twkb_layer.proofs.each_blob.for_each_blob.Given as goal
 

@@ -1,5 +1,5 @@
 -- The slots before this one were pushed.
-use Rattle.std.proofs.Common.{◌≡◌, ◌+◌, ◌++◌, take, vec_capacity, vec_len}
+use Rattle.twkb_layer.proofs.Prelude.{◌≡◌, ◌+◌, ◌++◌, take, vec_capacity, vec_len}
 use Rattle.twkb_layer.proofs.placing.push.Given as goal
 
 abbrev pub invariant-loop-slot : goal.invariant-loop-slot

@@ -1,5 +1,5 @@
 -- What is after the slots stays.
-use Rattle.std.proofs.Common.{◌+◌, ◌-◌, length, arith}
+use Rattle.twkb_layer.proofs.Prelude.{◌+◌, ◌-◌, length, arith}
 use Rattle.std.proofs.lemmas.Slice.{drop-put_mid}
 use Rattle.twkb_layer.proofs.placing.put.Goals as goal
 

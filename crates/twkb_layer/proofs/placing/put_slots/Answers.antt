@@ -1,9 +1,5 @@
 -- The room has the slots of all blobs.
-use Rattle.std.proofs.Common.{rules, refl, arith, [], take, drop, ◌∙◌}
-use Rattle.twkb_body.proofs.CertifiedWalks.{lent_back}
-use Rattle.twkb_layer.specs.Directory.{entry_of}
-use Rattle.twkb_layer.specs.Devices.EachBlob.{adds}
-use Rattle.twkb_layer.specs.Slots.{entries_kept}
+use Rattle.twkb_layer.proofs.Prelude.{rules, refl, arith, [], take, drop, ◌∙◌, lent_back, entry_of, adds, entries_kept}
 use Rattle.twkb_layer.proofs.EachBlob.{lent_ends, all_added}
 use Rattle.twkb_layer.proofs.placing.put_slots.Goals as goal
 

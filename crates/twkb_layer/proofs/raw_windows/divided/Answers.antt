@@ -1,8 +1,5 @@
 -- A division of 64 bits gives the answer of one of 128, if both numbers fit.
-use Rattle.std.proofs.Common.{◌≡◌, ℤ, pos, ◌<ℤ◌, FitsSigned, to_z, of_z, subst, ◌∙◌, arith}
-use Rattle.std.proofs.lemmas.Int.{ints, to_z-of_z, quot_fits, rem_below}
-use Rattle.std.specs.Int.{w64, w128}
-use Rattle.std.specs.Int.RustNames.{int_div, int_rem}
+use Rattle.twkb_layer.proofs.Prelude.{◌≡◌, ℤ, pos, ◌<ℤ◌, FitsSigned, to_z, of_z, subst, ◌∙◌, arith, ints, to_z-of_z, quot_fits, rem_below, w64, w128, int_div, int_rem}
 use Rattle.twkb_layer.proofs.RawWindows.{short_is}
 use Rattle.twkb_layer.proofs.raw_windows.divided.Goals as goal
 

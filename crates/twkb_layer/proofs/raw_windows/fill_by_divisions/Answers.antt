@@ -1,9 +1,5 @@
 -- Each turn makes the window of one more precision.
-use Rattle.std.proofs.Common.{◌≡◌, pos, ◌-ℤ◌, to_z, of_z, ◌∙◌, subst, arith}
-use Rattle.std.specs.Int.{w8}
-use Rattle.std.proofs.lemmas.Int.{ints}
-use Rattle.std.proofs.Math.ListN.{length-set}
-use Rattle.twkb_layer.specs.Devices.RawWindows.{IsRawWindow}
+use Rattle.twkb_layer.proofs.Prelude.{◌≡◌, pos, ◌-ℤ◌, to_z, of_z, ◌∙◌, subst, arith, w8, ints, length-set, IsRawWindow}
 use Rattle.twkb_layer.proofs.RawWindows.{raw_more}
 use Rattle.twkb_layer.proofs.raw_windows.fill_by_divisions.Goals as goal
 

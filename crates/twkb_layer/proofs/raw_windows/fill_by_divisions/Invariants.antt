@@ -1,5 +1,5 @@
 -- Below this code each precision has its window in raw integers.
-use Rattle.std.proofs.Common.{◌≡◌, length}
+use Rattle.twkb_layer.proofs.Prelude.{◌≡◌, length}
 use Rattle.twkb_layer.proofs.RawWindows.{AreRawBelow}
 use Rattle.twkb_layer.proofs.raw_windows.fill_by_divisions.Given as goal
 

@@ -1,13 +1,5 @@
 -- Each turn makes the window of one more precision.
-use Rattle.std.proofs.Common.{◌≡◌, ◌-◌, ◌&&◌, not, false, ℤ, pos, ◌-ℤ◌, int_eq, subst, sym, arith, ◌∙◌}
-use Rattle.std.proofs.lemmas.Int.{ints}
-use Rattle.std.proofs.lemmas.Bool.{not-false}
-use Rattle.std.proofs.lemmas.Bool.Decides.{Decides-and, Decides-int_eq}
-use Rattle.std.proofs.Math.ListN.{length-set}
-use Rattle.twkb_head.specs.declared.boxes.Bounds.{Bounds}
-use Rattle.twkb_layer.specs.Devices.RawWindows.{IsExactWindow}
-use Rattle.twkb_layer.specs.Devices.RawWindows.{precision_of}
-use Rattle.twkb_layer.specs.declared.raw_windows.RawWindow.{RawWindow}
+use Rattle.twkb_layer.proofs.Prelude.{◌≡◌, ◌-◌, ◌&&◌, not, false, ℤ, pos, ◌-ℤ◌, int_eq, subst, sym, arith, ◌∙◌, ints, not-false, Decides-and, Decides-int_eq, length-set, Bounds, IsExactWindow, precision_of, RawWindow}
 use Rattle.twkb_layer.proofs.RawWindows.{raw_before, exact_raw}
 use Rattle.twkb_layer.proofs.raw_windows.fill_by_tenths.Goals as goal
 

@@ -1,8 +1,5 @@
 -- From this code on each precision has its window in raw integers, whatever window the finest one is of.
-use Rattle.std.proofs.Common.{◌≡◌, ◌≤◌, ◌-ℤ◌, pos, length}
-use Rattle.twkb_head.specs.declared.boxes.Bounds.{Bounds}
-use Rattle.twkb_layer.specs.Devices.RawWindows.{IsExactWindow}
-use Rattle.twkb_layer.specs.Devices.RawWindows.{precision_of}
+use Rattle.twkb_layer.proofs.Prelude.{◌≡◌, ◌≤◌, ◌-ℤ◌, pos, length, Bounds, IsExactWindow, precision_of}
 use Rattle.twkb_layer.proofs.RawWindows.{AreRawFrom}
 use Rattle.twkb_layer.proofs.raw_windows.fill_by_tenths.Given as goal
 

@@ -1,9 +1,5 @@
 -- A quotient rounded down, or an end of 64 bits, is the greatest.
-use Rattle.std.proofs.Common.{◌≡◌, true, false, ℤ, pos, ◌-ℤ◌, to_z, of_z, ap, sym, ◌∙◌, rules}
-use Rattle.std.proofs.lemmas.Int.{to_z-of_z}
-use Rattle.std.specs.Int.{w64, w128}
-use Rattle.std.specs.Int.Signed.{lt_z}
-use Rattle.std.specs.Int.RustNames.{int_div, int_rem}
+use Rattle.twkb_layer.proofs.Prelude.{◌≡◌, true, false, ℤ, pos, ◌-ℤ◌, to_z, of_z, ap, sym, ◌∙◌, rules, to_z-of_z, w64, w128, lt_z, int_div, int_rem}
 use Rattle.twkb_layer.proofs.RawWindows.{greatest_down, greatest_as_it_is, less_fits, quotient_is, rest_is}
 use Rattle.twkb_layer.proofs.raw_windows.greatest_to.Goals as goal
 

@@ -1,6 +1,5 @@
 -- The room has the rows of the blobs that were taken, in its form.
-use Rattle.std.proofs.Common.{rules, ◌∙◌, arith, length, take}
-use Rattle.twkb_body.proofs.CertifiedWalks.{lent_back}
+use Rattle.twkb_layer.proofs.Prelude.{rules, ◌∙◌, arith, length, take, lent_back}
 use Rattle.twkb_layer.proofs.EachBlob.{lent_ends}
 use Rattle.twkb_layer.proofs.Keeping.{puts, rows_filled}
 use Rattle.twkb_layer.proofs.row.put_rows.Goals as goal

@@ -1,5 +1,5 @@
 -- The blob that was passed ends at the place.
-use Rattle.std.proofs.Common.{rules}
+use Rattle.twkb_layer.proofs.Prelude.{rules}
 use Rattle.twkb_layer.proofs.scans.found_blob.Goals as goal
 
 pub returns : goal.returns

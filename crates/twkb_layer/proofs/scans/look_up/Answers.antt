@@ -1,9 +1,5 @@
 -- A blob with a vertex inside is reported, and as many bytes are read as in a scan without a directory.
-use Rattle.std.proofs.Common.{◌+◌, ap, arith, sym, subst, ◌∙◌, true, false, refl}
-use Rattle.twkb_num.specs.Cursor.{Reading, added}
-use Rattle.twkb_body.specs.Standing.{StandsAt}
-use Rattle.twkb_layer.specs.Hits.{cost}
-use Rattle.twkb_layer.specs.Layer.{size_of}
+use Rattle.twkb_layer.proofs.Prelude.{◌+◌, ap, arith, sym, subst, ◌∙◌, true, false, refl, Reading, added, StandsAt, cost, size_of}
 use Rattle.twkb_layer.proofs.Looking.{stands_within}
 use Rattle.twkb_layer.proofs.Scanning.{finds_if, passed_is}
 use Rattle.twkb_layer.proofs.scans.look_up.Goals as goal

@@ -1,6 +1,5 @@
 -- The hit is put in its place, if there is one, and counted.
-use Rattle.std.proofs.Common.{arith, rules}
-use Rattle.std.proofs.lemmas.Grind.{common_steps}
+use Rattle.twkb_layer.proofs.Prelude.{arith, rules, common_steps}
 use Rattle.twkb_layer.proofs.scans.report.Goals as goal
 
 pub returns-clause-found : goal.returns-clause-found

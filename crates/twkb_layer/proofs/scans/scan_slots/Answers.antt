@@ -1,5 +1,5 @@
 -- Each turn looks at the blob of the next slots.
-use Rattle.std.proofs.Common.{refl, ◌∙◌, arith}
+use Rattle.twkb_layer.proofs.Prelude.{refl, ◌∙◌, arith}
 use Rattle.twkb_layer.proofs.Looking.{entry_fits, entry_stands, look_begins, look_ends, look_known, look_past}
 use Rattle.twkb_layer.proofs.scans.scan_slots.Goals as goal
 

@@ -1,6 +1,5 @@
 -- Hits and cost so far are the ones of the blobs before; the slots that are left are of the blobs still to come.
-use Rattle.std.proofs.Common.{◌≡◌, ◌<◌, ◌^◌, length}
-use Rattle.twkb_layer.specs.Slots.{entries_kept}
+use Rattle.twkb_layer.proofs.Prelude.{◌≡◌, ◌<◌, ◌^◌, length, entries_kept}
 use Rattle.twkb_layer.proofs.Looking.{Looking}
 use Rattle.twkb_layer.proofs.scans.scan_slots.Given as goal
 

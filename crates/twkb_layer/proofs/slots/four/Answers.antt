@@ -1,6 +1,5 @@
 -- Each slot keeps its part of the blob.
-use Rattle.std.proofs.Common.{◌≡◌, ◌-ℤ◌, pos, ℕ, nat_lt, if◌then◌else◌, Some, None, ap, ◌∙◌, arith}
-use Rattle.std.proofs.lemmas.Int.{ints}
+use Rattle.twkb_layer.proofs.Prelude.{◌≡◌, ◌-ℤ◌, pos, ℕ, nat_lt, if◌then◌else◌, Some, None, ap, ◌∙◌, arith, ints}
 use Rattle.twkb_layer.proofs.Entries.{four_say}
 use Rattle.twkb_layer.proofs.slots.four.Goals as goal
 

@@ -1,5 +1,5 @@
 -- Each turn counts one more digit.
-use Rattle.std.proofs.lemmas.Int.Digits.{digits_more}
+use Rattle.twkb_layer.proofs.Prelude.{digits_more}
 use Rattle.twkb_layer.proofs.text_reader.count_digits.Goals as goal
 
 pub loop-i-preserved : goal.loop-i-preserved

@@ -1,6 +1,5 @@
 -- The text before the index is digits.
-use Rattle.std.proofs.Common.{take}
-use Rattle.std.specs.Str.Parse.{AllDigits}
+use Rattle.twkb_layer.proofs.Prelude.{take, AllDigits}
 use Rattle.twkb_layer.proofs.text_reader.count_digits.Given as goal
 
 abbrev pub invariant-loop-i : goal.invariant-loop-i

@@ -1,5 +1,5 @@
 -- One more digit makes the value ten times the value plus the digit; at most 27 digits fit 128 bits.
-use Rattle.std.proofs.Common.{refl, arith}
+use Rattle.twkb_layer.proofs.Prelude.{refl, arith}
 use Rattle.twkb_layer.proofs.Texts.{next_value}
 use Rattle.twkb_layer.proofs.text_reader.digits_value.Goals as goal
 

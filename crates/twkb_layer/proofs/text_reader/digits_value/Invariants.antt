@@ -1,6 +1,5 @@
 -- The value is the number of the digits so far.
-use Rattle.std.proofs.Common.{◌≡◌, take}
-use Rattle.std.specs.Str.Parse.{digits_value}
+use Rattle.twkb_layer.proofs.Prelude.{◌≡◌, take, digits_value}
 use Rattle.twkb_layer.proofs.text_reader.digits_value.Given as goal
 
 abbrev pub invariant-loop-digit : goal.invariant-loop-digit

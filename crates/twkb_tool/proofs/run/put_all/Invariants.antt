@@ -1,6 +1,5 @@
 -- The sink has taken the text up to here.
-use Rattle.std.proofs.Common.{◌-◌, ◌≤◌, length, take}
-use Rattle.twkb_tool.specs.Streams.{Takes}
+use Rattle.twkb_tool.proofs.Prelude.{◌-◌, ◌≤◌, length, take, Takes}
 use Rattle.twkb_tool.proofs.run.put_all.Given as goal
 
 abbrev pub invariant-loop-done : goal.invariant-loop-done

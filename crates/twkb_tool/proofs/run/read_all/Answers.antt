@@ -1,5 +1,6 @@
 -- Each turn holds one more piece, and nothing else was given.
-use Rattle.std.proofs.Common.{take, arith, length-take}
+use Rattle.twkb_tool.proofs.Prelude.{take, arith}
+use Rattle.std.proofs.Common.{length-take}
 use Rattle.twkb_tool.proofs.StreamLemmas.{Gives-more}
 use Rattle.twkb_tool.proofs.run.read_all.Goals as goal
 

@@ -1,6 +1,5 @@
 -- The buffer holds the bytes that the source gave, at most one byte past the limit, and no call has failed.
-use Rattle.std.proofs.Common.{◌≡◌, false, take, ◌-◌, ◌+◌, ◌≤◌, vec_len}
-use Rattle.twkb_tool.specs.Streams.{Gives}
+use Rattle.twkb_tool.proofs.Prelude.{◌≡◌, false, take, ◌-◌, ◌+◌, ◌≤◌, vec_len, Gives}
 use Rattle.twkb_tool.proofs.run.read_all.Given as goal
 
 abbrev pub invariant-loop-held : goal.invariant-loop-held

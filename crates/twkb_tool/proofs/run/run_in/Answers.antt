@@ -1,5 +1,5 @@
 -- By its answer, a run has read and put everything, or it stopped while reading or writing.
-use Rattle.std.proofs.Common.{rules}
+use Rattle.twkb_tool.proofs.Prelude.{rules}
 use Rattle.twkb_tool.proofs.run.run_in.Goals as goal
 
 pub returns-in_err-bytes : goal.returns-in_err-bytes

@@ -1,7 +1,20 @@
 -- The buffer grew by the bytes that the source gave.
-use Rattle.std.proofs.Common.{◌∙◌, ap, arith, take, ◌++◌, List, ℕ, length-take}
-use Rattle.twkb_tool.proofs.ReadLemmas.{behind_held}
+use Rattle.twkb_tool.proofs.Prelude.{◌∙◌, ap, arith, take, ◌++◌, List, ℕ, ◌≡◌, ◌+◌, ◌≤◌, length, refl, length-append, take-take, take-append-le, take_at, drop_at, length-take, take-add}
+use Rattle.std.proofs.Common.{length-take}
 use Rattle.twkb_tool.proofs.run.take_piece.Goals as goal
+
+front_of_two : (front behind : List ℕ) (held n : ℕ) → length front ≡ held → take (held + n) (front ++ behind) ≡ front ++ take n behind
+front_of_two front behind held n long = take-add held n (front ++ behind) ∙ rw (take_at front behind held long, drop_at front behind held long) refl
+
+-- the room after the held bytes was lent and filled with n bytes, and the buffer keeps its length
+behind_held : (now room post rest : List ℕ) (held n len : ℕ) → held ≤ length now → n ≤ length room → held + n ≤ len
+    → take (held + n) (take len ((take held now ++ (room ++ post)) ++ rest)) ≡ take held now ++ take n room
+behind_held now room post rest held n len h r l =
+    let front = take held now in
+    let long : length front ≡ held = omega (arith, length-take held now, h) in
+    take-take (held + n) len ((front ++ (room ++ post)) ++ rest) l
+    ∙ (take-append-le (held + n) (front ++ (room ++ post)) rest (omega (arith, long, r, length-append front (room ++ post), length-append room post))
+    ∙ (front_of_two front (room ++ post) held n long ∙ ap (λ (xs : List ℕ). front ++ xs) (take-append-le n room post r)))
 
 pub returns-in-Ok-clause-piece : goal.returns-in-Ok-clause-piece
 returns-in-Ok-clause-piece g c =

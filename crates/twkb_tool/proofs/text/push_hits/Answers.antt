@@ -1,6 +1,6 @@
 -- Each turn pushes the line of one more hit.
 use Rattle.twkb_tool.proofs.TextLemmas.{lines_more}
-use Rattle.twkb_tool.specs.Output.{hit_line}
+use Rattle.twkb_tool.proofs.Prelude.{hit_line}
 use Rattle.twkb_tool.proofs.text.push_hits.Goals as goal
 
 pub loop-hit-preserved : goal.loop-hit-preserved

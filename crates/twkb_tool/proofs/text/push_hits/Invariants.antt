@@ -1,6 +1,5 @@
 -- The text has the lines of the hits so far.
-use Rattle.std.proofs.Common.{◌≡◌, ◌++◌, take, flat_map}
-use Rattle.twkb_tool.specs.Output.{hit_line}
+use Rattle.twkb_tool.proofs.Prelude.{◌≡◌, ◌++◌, take, flat_map, hit_line}
 use Rattle.twkb_tool.proofs.text.push_hits.Given as goal
 
 abbrev pub invariant-loop-hit : goal.invariant-loop-hit

@@ -1,6 +1,6 @@
 -- Each turn pushes the line of one more row.
 use Rattle.twkb_tool.proofs.TextLemmas.{lines_more}
-use Rattle.twkb_tool.specs.Output.{row_line}
+use Rattle.twkb_tool.proofs.Prelude.{row_line}
 use Rattle.twkb_tool.proofs.text.push_rows.Goals as goal
 
 pub loop-row-preserved : goal.loop-row-preserved

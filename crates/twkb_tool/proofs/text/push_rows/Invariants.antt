@@ -1,6 +1,5 @@
 -- The text has the lines of the rows so far.
-use Rattle.std.proofs.Common.{◌≡◌, ◌++◌, take, flat_map}
-use Rattle.twkb_tool.specs.Output.{row_line}
+use Rattle.twkb_tool.proofs.Prelude.{◌≡◌, ◌++◌, take, flat_map, row_line}
 use Rattle.twkb_tool.proofs.text.push_rows.Given as goal
 
 abbrev pub invariant-loop-row : goal.invariant-loop-row

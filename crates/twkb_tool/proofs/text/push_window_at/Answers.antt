@@ -1,6 +1,5 @@
 -- A scan's hits and its count, with a directory, are the window's lines.
-use Rattle.std.proofs.Common.{◌≡◌, ◌++◌, ◌∙◌, List, ℕ, OnOk, subst, sum_by, ◌-◌, ap, arith, length}
-use Rattle.twkb_layer.specs.Directory.{directory_cost}
+use Rattle.twkb_tool.proofs.Prelude.{◌≡◌, ◌++◌, ◌∙◌, List, ℕ, OnOk, subst, sum_by, ◌-◌, ap, arith, length, directory_cost}
 use Rattle.twkb_tool.proofs.TextLemmas.{found_fits_room, grew, window_lines}
 use Rattle.twkb_tool.proofs.text.push_window_at.Goals as goal
 
@@ -15,3 +14,6 @@ returns-clause-text g c = λ trees layer.
     subst (λ (text : List ℕ). OnOk c.push_found.result (c.push_found.new.out.items ≡ c.args.out.now.items ++ text))
     (window_lines directory_cost c.args.window.now trees c.args.layer.now.bytes c.args.room.now _ _ _ _ c.requires.room layer (c.scan-found.ensures.answer trees layer) (c.scan-found.ensures.room trees layer) read len)
     c.push_found.ensures
+
+pub returns-clause-count : goal.returns-clause-count
+returns-clause-count g c = λ trees layer. grew _ _ _ _ c.scan-found.ensures.few c.requires.read (c.scan-found.ensures.count trees layer)

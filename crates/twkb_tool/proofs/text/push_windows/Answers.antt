@@ -1,10 +1,6 @@
 -- Each turn pushes the lines of one more window, and its scan reads no more bytes than the layer has.
-use Rattle.std.proofs.Common.{◌≡◌, ◌∙◌, ◌++◌, ap, sym, subst, arith, length}
-use Rattle.twkb_head.specs.declared.boxes.Bounds.{Bounds}
-use Rattle.twkb_layer.specs.Directory.{directory_cost}
-use Rattle.twkb_layer.specs.Layer.{IsCertifiedLayer}
-use Rattle.twkb_tool.proofs.TextLemmas.{lines_more, read_more}
-use Rattle.twkb_tool.specs.Output.{window_text}
+use Rattle.twkb_tool.proofs.Prelude.{◌≡◌, ◌∙◌, ◌++◌, ◌+◌, ℕ, sum_by, ap, sym, subst, arith, length, Bounds, directory_cost, IsCertifiedLayer, window_text}
+use Rattle.twkb_tool.proofs.TextLemmas.{lines_more, read_more, reads_more}
 use Rattle.twkb_tool.proofs.text.push_windows.Goals as goal
 
 pub push_window_at-requires : goal.push_window_at-requires
@@ -27,4 +23,10 @@ loop-window-preserved g c =
           let more = subst (λ (w : Bounds). c.push_window_at.new.out.items ≡ c.loop-window.out.items ++ line w) c.window-item.is
           (c.in_ok-push_window_at.ensures.text trees before) in
           rw same (lines_more line _ _ _ c.args.windows.now c.loop-window.window-index _ c.loop-window-test.true (c.loop-window.invariant.text trees before) more);
+      count = λ trees layer.
+          let before = subst (IsCertifiedLayer trees) same layer in
+          let read : Bounds → ℕ = λ w. sum_by (directory_cost w) trees in
+          let more = subst (λ (w : Bounds). c.push_window_at.new.layer.count ≡ c.loop-window.layer.count + read w) c.window-item.is
+          (c.push_window_at.ensures.count trees before) in
+          reads_more read _ _ _ c.args.windows.now c.loop-window.window-index _ c.loop-window-test.true (c.loop-window.invariant.count trees before) more;
     }

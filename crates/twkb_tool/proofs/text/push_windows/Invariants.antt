@@ -1,10 +1,5 @@
 -- The text has the lines of the windows so far, and no scan has read more than all bytes.
-use Rattle.std.proofs.Common.{◌≡◌, ◌+◌, ◌*◌, ◌≤◌, ◌++◌, List, length, take, flat_map}
-use Rattle.twkb_body.specs.Geometry.{Geometry}
-use Rattle.twkb_layer.specs.Directory.{directory_cost}
-use Rattle.twkb_layer.specs.Layer.{IsCertifiedLayer}
-use Rattle.twkb_tool.specs.Output.{window_text}
-use Rattle.twkb_tool.specs.declared.run.TheConstants.{MAX_FILE}
+use Rattle.twkb_tool.proofs.Prelude.{◌≡◌, ◌+◌, ◌*◌, ◌≤◌, ◌++◌, List, length, take, flat_map, sum_by, Geometry, directory_cost, IsCertifiedLayer, window_text, MAX_FILE}
 use Rattle.twkb_tool.proofs.text.push_windows.Given as goal
 
 abbrev pub invariant-loop-window : goal.invariant-loop-window
@@ -13,4 +8,6 @@ invariant-loop-window g l = record {
   read : l.layer.count ≤ (3 + l.window-index) * MAX_FILE;
   text : (trees : List Geometry) → IsCertifiedLayer trees l.layer.bytes
       → l.out.items ≡ l.initial.out.items ++ flat_map (window_text directory_cost trees (length l.layer.bytes)) (take l.window-index l.windows);
+  count : (trees : List Geometry) → IsCertifiedLayer trees l.layer.bytes
+      → l.layer.count ≡ l.initial.layer.count + sum_by (λ w. sum_by (directory_cost w) trees) (take l.window-index l.windows);
 }

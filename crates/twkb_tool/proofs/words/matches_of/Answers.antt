@@ -1,5 +1,5 @@
 -- The matches and the refusals of `clap` are the ones that its rules define.
-use Rattle.std.proofs.Common.{rules}
+use Rattle.twkb_tool.proofs.Prelude.{rules}
 use Rattle.twkb_tool.proofs.WordLemmas.{tool_error_kind, tool_has_no_fault, tool_rows}
 use Rattle.twkb_tool.proofs.words.matches_of.Goals as goal
 

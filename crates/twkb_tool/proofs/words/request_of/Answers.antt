@@ -1,6 +1,5 @@
 -- Words of a known form parse, and have the request that they name.
-use Rattle.std.proofs.Common.{arith}
-use Rattle.std.proofs.lemmas.List.{length-map}
+use Rattle.twkb_tool.proofs.Prelude.{arith, length-map}
 use Rattle.twkb_tool.proofs.LineLemmas.{check_line, list_line, scan_line, tight_behind_line, tight_line}
 use Rattle.twkb_tool.proofs.words.request_of.Goals as goal
 

@@ -1,8 +1,5 @@
 -- A maximum of 65 bits scaled to units has 128.
-use Rattle.std.proofs.Common.{◌≡◌, ◌+ℤ◌, ap₂, ◌∙◌, arith, rules}
-use Rattle.std.proofs.lemmas.Int.{ints, to_z-of_z}
-use mir.Val.{SFits, to_z, of_z}
-use Rattle.std.specs.Int.{w8, w128}
+use Rattle.twkb_head.proofs.Prelude.{◌≡◌, ◌+ℤ◌, ap₂, ◌∙◌, arith, rules, ints, to_z-of_z, SFits, to_z, of_z, w8, w128}
 use Rattle.twkb_num.specs.Units.{units_of}
 use Rattle.twkb_head.proofs.boxes.Span.spelled.Goals as goal
 

@@ -1,5 +1,5 @@
 -- X and Y, and one for each further axis.
-use Rattle.std.proofs.Common.{rules}
+use Rattle.twkb_head.proofs.Prelude.{rules}
 use Rattle.twkb_head.proofs.header.Head.axes.Goals as goal
 
 pub returns-clause-value : goal.returns-clause-value

@@ -1,5 +1,5 @@
 -- M comes after Z if there is a Z.
-use Rattle.std.proofs.Common.{rules}
+use Rattle.twkb_head.proofs.Prelude.{rules}
 use Rattle.twkb_head.proofs.header.Head.m_axis.Goals as goal
 
 pub returns-clause-value : goal.returns-clause-value

@@ -1,5 +1,5 @@
 -- Slots are put if the room has places for all of them. Otherwise room and count are unchanged.
-use Rattle.std.proofs.Common.{rules}
+use Rattle.twkb_layer.proofs.Prelude.{rules}
 use Rattle.twkb_layer.proofs.certified.Certified.directory_into.Goals as goal
 
 pub put_slots-requires : goal.put_slots-requires

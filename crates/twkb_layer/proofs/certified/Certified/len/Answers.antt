@@ -1,5 +1,5 @@
 -- The length is the number of the bytes.
-use Rattle.std.proofs.Common.{rules}
+use Rattle.twkb_layer.proofs.Prelude.{rules}
 use Rattle.twkb_layer.proofs.certified.Certified.len.Goals as goal
 
 pub returns : goal.returns

@@ -1,5 +1,5 @@
 -- The slots of the most that the blobs can take, and none for an empty layer.
-use Rattle.std.proofs.Common.{arith}
+use Rattle.twkb_layer.proofs.Prelude.{arith}
 use Rattle.twkb_layer.proofs.Counting.{counted_is}
 use Rattle.twkb_layer.proofs.Keeping.{no_blobs}
 use Rattle.twkb_layer.proofs.certified.Certified.most_slots.Goals as goal

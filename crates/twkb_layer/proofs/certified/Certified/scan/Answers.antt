@@ -1,6 +1,5 @@
 -- The found blobs that are written to the room, without their lengths, are the hits.
-use Rattle.std.proofs.Common.{ap, sym, ◌∙◌}
-use Rattle.twkb_layer.specs.Hits.{filled}
+use Rattle.twkb_layer.proofs.Prelude.{ap, sym, ◌∙◌, filled}
 use Rattle.twkb_layer.proofs.Scanning.{hits_found}
 use Rattle.twkb_layer.proofs.certified.Certified.scan.Goals as goal
 

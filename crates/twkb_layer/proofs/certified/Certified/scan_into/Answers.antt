@@ -1,5 +1,5 @@
 -- After the scan the layer is still certified, with the same numbers.
-use Rattle.std.proofs.Common.{rules}
+use Rattle.twkb_layer.proofs.Prelude.{rules}
 use Rattle.twkb_layer.proofs.certified.Certified.scan_into.Goals as goal
 
 pub invariant_of-self : goal.invariant_of-self

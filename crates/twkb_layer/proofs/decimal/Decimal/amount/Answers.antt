@@ -1,6 +1,5 @@
 -- One more digit makes the amount ten times the amount plus the digit.
-use Rattle.std.proofs.Common.{◌≡◌, ◌*◌, ◌+◌, ◌-◌, ◌/◌, ◌%◌, ◌^◌, ℕ, min, length, sym, ap, ◌∙◌, arith}
-use Rattle.twkb_layer.specs.Decimals.{Decimal, farthest}
+use Rattle.twkb_layer.proofs.Prelude.{◌≡◌, ◌*◌, ◌+◌, ◌-◌, ◌/◌, ◌%◌, ◌^◌, ℕ, min, length, sym, ap, ◌∙◌, arith, Decimal, farthest}
 use Rattle.twkb_layer.proofs.Decimals.{next_digit, top_none, least_goes_on}
 use Rattle.twkb_layer.proofs.decimal.Decimal.amount.Goals as goal
 

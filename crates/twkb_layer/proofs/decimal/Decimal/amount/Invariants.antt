@@ -1,6 +1,5 @@
 -- The amount is the quotient so far.
-use Rattle.std.proofs.Common.{◌≡◌, ◌*◌, ◌/◌, ◌^◌, ◌≤◌, min}
-use Rattle.twkb_layer.specs.Decimals.{farthest}
+use Rattle.twkb_layer.proofs.Prelude.{◌≡◌, ◌*◌, ◌/◌, ◌^◌, ◌≤◌, min, farthest}
 use Rattle.twkb_layer.proofs.decimal.Decimal.amount.Given as goal
 
 abbrev pub invariant-loop-power : goal.invariant-loop-power

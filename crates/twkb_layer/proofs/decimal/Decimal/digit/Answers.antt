@@ -1,6 +1,5 @@
 -- The digit is one of the zeros, of the fraction or of the whole.
-use Rattle.std.proofs.Common.{◌*◌, ◌/◌, ◌%◌, ◌^◌, ap, sym, ◌∙◌}
-use Rattle.twkb_layer.specs.Decimals.{Decimal}
+use Rattle.twkb_layer.proofs.Prelude.{◌*◌, ◌/◌, ◌%◌, ◌^◌, ap, sym, ◌∙◌, Decimal}
 use Rattle.twkb_layer.proofs.Decimals.{zero_digit, digit_here, digit_before}
 use Rattle.twkb_layer.proofs.decimal.Decimal.digit.Goals as goal
 

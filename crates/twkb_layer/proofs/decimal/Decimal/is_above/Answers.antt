@@ -1,9 +1,5 @@
 -- One more digit doesn't change the sign of a difference of 2 or more.
-use Rattle.std.proofs.Common.{◌≡◌, ℕ, ◌+◌, ◌-◌, ◌*◌, ◌/◌, ◌%◌, ◌^◌, ◌-ℤ◌, FitsSigned, to_z, length, ap, subst, ◌∙◌, arith, rules}
-use Rattle.std.specs.Int.{w64}
-use Rattle.std.proofs.lemmas.Int.{to_z-of_z}
-use Rattle.twkb_layer.specs.Decimals.{Decimal, signed}
-use Rattle.twkb_layer.specs.Devices.Decimals.{leaning}
+use Rattle.twkb_layer.proofs.Prelude.{◌≡◌, ℕ, ◌+◌, ◌-◌, ◌*◌, ◌/◌, ◌%◌, ◌^◌, ◌-ℤ◌, FitsSigned, to_z, length, ap, subst, ◌∙◌, arith, rules, w64, to_z-of_z, Decimal, signed, leaning}
 use Rattle.twkb_layer.proofs.Decimals.{top_none}
 use Rattle.twkb_layer.proofs.Rounding.{lean_begins, lean_goes_on, lean_answers}
 use Rattle.twkb_layer.proofs.decimal.Decimal.is_above.Goals as goal

@@ -1,7 +1,5 @@
 -- The local is the difference of the digits so far, limited to the range from -2 to 2.
-use Rattle.std.proofs.Common.{◌≡◌, ◌*◌, ◌/◌, ◌^◌, ◌-ℤ◌}
-use Rattle.twkb_layer.specs.Decimals.{signed}
-use Rattle.twkb_layer.specs.Devices.Decimals.{leaning}
+use Rattle.twkb_layer.proofs.Prelude.{◌≡◌, ◌*◌, ◌/◌, ◌^◌, ◌-ℤ◌, signed, leaning}
 use Rattle.twkb_layer.proofs.decimal.Decimal.is_above.Given as goal
 
 abbrev pub invariant-loop-power : goal.invariant-loop-power

@@ -1,6 +1,5 @@
 -- A digit that isn't 0 leaves a remainder, and no others do.
-use Rattle.std.proofs.Common.{◌*◌, ◌%◌, ◌^◌, ap, sym, ◌∙◌, arith}
-use Rattle.twkb_layer.specs.Decimals.{Decimal}
+use Rattle.twkb_layer.proofs.Prelude.{◌*◌, ◌%◌, ◌^◌, ap, sym, ◌∙◌, arith, Decimal}
 use Rattle.twkb_layer.proofs.Decimals.{no_rest_yet, some_rest, is_some}
 use Rattle.twkb_layer.proofs.decimal.Decimal.is_between_units.Goals as goal
 

@@ -1,5 +1,5 @@
 -- No digit so far leaves a remainder.
-use Rattle.std.proofs.Common.{◌≡◌, ◌*◌, ◌%◌, ◌^◌}
+use Rattle.twkb_layer.proofs.Prelude.{◌≡◌, ◌*◌, ◌%◌, ◌^◌}
 use Rattle.twkb_layer.proofs.decimal.Decimal.is_between_units.Given as goal
 
 abbrev pub invariant-loop-power : goal.invariant-loop-power

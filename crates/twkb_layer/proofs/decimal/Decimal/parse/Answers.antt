@@ -1,7 +1,5 @@
 -- A decimal is parsed in one way.
-use Rattle.std.proofs.Common.{length, Some, ap, arith}
-use Rattle.std.proofs.lemmas.Bool.Decides.{nat_tests}
-use Rattle.twkb_layer.specs.Decimals.{Decimal}
+use Rattle.twkb_layer.proofs.Prelude.{length, Some, ap, arith, nat_tests, Decimal}
 use Rattle.twkb_layer.proofs.Decimals.{decimal_once, read_is}
 use Rattle.twkb_layer.proofs.decimal.Decimal.parse.Goals as goal
 use Rattle.twkb_layer.proofs.decimal.Decimal.parse.Goals.{then-is_empty-via-then-is_empty, then-is_empty-via-else-is_empty+then-not-is_empty}

@@ -1,8 +1,5 @@
 -- Rounding down is rounding away from 0 if the decimal has a minus.
-use Rattle.std.proofs.Common.{◌*◌, ◌^◌, Bool, min, ap, ◌∙◌, rules}
-use Rattle.std.proofs.lemmas.Int.{to_z-of_z}
-use Rattle.std.specs.Int.{w128}
-use Rattle.twkb_layer.specs.Decimals.{Decimal, signed, farthest}
+use Rattle.twkb_layer.proofs.Prelude.{◌*◌, ◌^◌, Bool, min, ap, ◌∙◌, rules, to_z-of_z, w128, Decimal, signed, farthest}
 use Rattle.twkb_layer.proofs.Rounding.{up_by, lowered_is}
 use Rattle.twkb_layer.proofs.decimal.Decimal.rounded_down.Goals as goal
 

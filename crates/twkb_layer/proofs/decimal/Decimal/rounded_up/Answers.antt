@@ -1,8 +1,5 @@
 -- Rounding up is rounding away from 0 if the decimal has no minus.
-use Rattle.std.proofs.Common.{◌*◌, ◌^◌, Bool, not, min, ap, ◌∙◌, rules}
-use Rattle.std.proofs.lemmas.Int.{to_z-of_z}
-use Rattle.std.specs.Int.{w128}
-use Rattle.twkb_layer.specs.Decimals.{Decimal, signed, farthest}
+use Rattle.twkb_layer.proofs.Prelude.{◌*◌, ◌^◌, Bool, not, min, ap, ◌∙◌, rules, to_z-of_z, w128, Decimal, signed, farthest}
 use Rattle.twkb_layer.proofs.Rounding.{up_by, raised_is}
 use Rattle.twkb_layer.proofs.decimal.Decimal.rounded_up.Goals as goal
 

@@ -1,8 +1,5 @@
 -- If memory is refused, nothing was read.
-use Rattle.std.proofs.Common.{ap, ◌∙◌}
-use Rattle.twkb_layer.specs.Directory.{entry_of}
-use Rattle.twkb_layer.specs.Slots.{entries_kept}
-use Rattle.twkb_layer.specs.Devices.EachBlob.{after_blobs, adds}
+use Rattle.twkb_layer.proofs.Prelude.{ap, ◌∙◌, entry_of, entries_kept, after_blobs, adds}
 use Rattle.twkb_layer.proofs.EachBlob.{all_added}
 use Rattle.twkb_layer.proofs.Keeping.{adds_nothing}
 use Rattle.twkb_layer.proofs.directory.Directory.build_in.Goals as goal

@@ -1,6 +1,5 @@
 -- A long slot and the three after it are a blob's.
-use Rattle.std.proofs.Common.{◌≡◌, ◌∷◌, true, ap, refl, sym, ◌∙◌}
-use Rattle.twkb_layer.specs.Slots.{entries_kept, is_long}
+use Rattle.twkb_layer.proofs.Prelude.{◌≡◌, ◌∷◌, true, ap, refl, sym, ◌∙◌, entries_kept, is_long}
 use Rattle.twkb_layer.proofs.Entries.{four_of}
 use Rattle.twkb_layer.proofs.entry.Entry.first.Goals as goal
 

@@ -1,7 +1,5 @@
 -- The blob's slots follow those that were there, and say its entry.
-use Rattle.std.proofs.Common.{◌∷◌, [], take, ap, subst, sym, ◌∙◌, arith}
-use Rattle.twkb_layer.specs.Devices.Slots.{AreWhole, entry_said}
-use Rattle.twkb_layer.specs.Slots.{entries_kept}
+use Rattle.twkb_layer.proofs.Prelude.{◌∷◌, [], take, ap, subst, sym, ◌∙◌, arith, AreWhole, entry_said, entries_kept}
 use Rattle.twkb_layer.proofs.EachBlob.{lent_is}
 use Rattle.twkb_layer.proofs.Entries.{blob_more, later, whole_more}
 use Rattle.twkb_layer.proofs.placing.LentSlotsEachBlob.take_blob.Goals as goal

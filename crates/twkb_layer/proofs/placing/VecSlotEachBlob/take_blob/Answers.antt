@@ -1,7 +1,5 @@
 -- The blob's slots say its entry.
-use Rattle.std.proofs.Common.{◌∷◌, [], ap, subst, sym, ◌∙◌, arith}
-use Rattle.twkb_layer.specs.Devices.Slots.{AreWhole, entry_said}
-use Rattle.twkb_layer.specs.Slots.{entries_kept}
+use Rattle.twkb_layer.proofs.Prelude.{◌∷◌, [], ap, subst, sym, ◌∙◌, arith, AreWhole, entry_said, entries_kept}
 use Rattle.twkb_layer.proofs.Entries.{blob_more, whole_more}
 use Rattle.twkb_layer.proofs.placing.VecSlotEachBlob.take_blob.Goals as goal
 

@@ -1,7 +1,5 @@
 -- Ten steps of the finer precision are one step of the coarser one.
-use Rattle.std.proofs.Common.{ℤ, pos, ◌*ℤ◌, int_lt, FitsSigned, ap, sym, ◌∙◌, rules}
-use Rattle.std.specs.Int.{w64}
-use Rattle.std.proofs.lemmas.Int.{to_z-of_z}
+use Rattle.twkb_layer.proofs.Prelude.{ℤ, pos, ◌*ℤ◌, int_lt, FitsSigned, ap, sym, ◌∙◌, rules, w64, to_z-of_z}
 use Rattle.twkb_layer.proofs.RawWindows.{coarser_ends}
 use Rattle.twkb_layer.proofs.raw_windows.RawEnds.coarser.Goals as goal
 

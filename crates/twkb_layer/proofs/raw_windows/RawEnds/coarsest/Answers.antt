@@ -1,7 +1,5 @@
 -- The ends are next to 0.
-use Rattle.std.proofs.Common.{◌≡◌, ◌≤◌, Bool, true, false, ℤ, pos, ◌≤ℤ◌, ◌-ℤ◌, neg_ℤ, to_z, of_z, arith}
-use Rattle.std.specs.Int.{w64, from_bool}
-use Rattle.std.proofs.lemmas.Int.{ints}
+use Rattle.twkb_layer.proofs.Prelude.{◌≡◌, ◌≤◌, Bool, true, false, ℤ, pos, ◌≤ℤ◌, ◌-ℤ◌, neg_ℤ, to_z, of_z, arith, w64, from_bool, ints}
 use Rattle.twkb_layer.proofs.RawWindows.{next_to_zero}
 use Rattle.twkb_layer.proofs.raw_windows.RawEnds.coarsest.Goals as goal
 

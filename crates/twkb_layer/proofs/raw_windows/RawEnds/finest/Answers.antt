@@ -1,6 +1,5 @@
 -- At the finest precision a step is a unit.
-use Rattle.std.proofs.Common.{to_z, of_z, rules}
-use Rattle.std.specs.Int.{w64}
+use Rattle.twkb_layer.proofs.Prelude.{to_z, of_z, rules, w64}
 use Rattle.twkb_layer.proofs.RawWindows.{short_is, finest_ends}
 use Rattle.twkb_layer.proofs.raw_windows.RawEnds.finest.Goals as goal
 

@@ -1,8 +1,5 @@
 -- Ends that are divided and rounded have the same numbers between them.
-use Rattle.std.proofs.Common.{◌≡◌, ◌*◌, ◌^◌, ℤ, pos, ◌<ℤ◌, ◌-ℤ◌, FitsSigned, unsigned_abs, to_z, of_z, subst, sym, arith, rules}
-use Rattle.std.specs.Int.{w8, w64, w128}
-use Rattle.std.proofs.lemmas.Int.{ints, to_z-of_z}
-use Rattle.std.proofs.Math.Nat.{one-le-pow}
+use Rattle.twkb_layer.proofs.Prelude.{◌≡◌, ◌*◌, ◌^◌, ℤ, pos, ◌<ℤ◌, ◌-ℤ◌, FitsSigned, unsigned_abs, to_z, of_z, subst, sym, arith, rules, w8, w64, w128, ints, to_z-of_z, one-le-pow}
 use Rattle.twkb_layer.proofs.RawWindows.{raw_ends}
 use Rattle.twkb_layer.proofs.raw_windows.RawEnds.of.Goals as goal
 

@@ -1,11 +1,7 @@
 -- The comparison of raw integers gives the answer of units.
-use Rattle.std.proofs.Common.{◌≡◌, pos, ◌&&◌, not, refl, ap, sym, ◌∙◌, arith}
-use Rattle.std.proofs.lemmas.Int.{ints}
+use Rattle.twkb_layer.proofs.Prelude.{◌≡◌, pos, ◌&&◌, not, refl, ap, sym, ◌∙◌, arith, ints, w8, vertex_at, in_bound}
 use mir.Val.{to_z, of_z}
-use Rattle.std.specs.Int.{w8}
 use Rattle.std.proofs.lemmas.Option.{unwrap_or-slice_get}
-use Rattle.twkb_body.specs.Geometry.{vertex_at}
-use Rattle.twkb_layer.specs.Window.{in_bound}
 use Rattle.twkb_layer.proofs.RawLooks.{point_inside, flat_holds, inside_by_four}
 use Rattle.twkb_layer.proofs.raw_windows.RawWindows.holds.Goals as goal
 

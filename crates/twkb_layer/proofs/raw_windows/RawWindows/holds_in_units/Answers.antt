@@ -1,10 +1,6 @@
 -- The four coordinates are the point's.
-use Rattle.std.proofs.Common.{◌≡◌, ℤ, [], ◌∷◌, ap, ◌∙◌, arith}
-use Rattle.std.proofs.lemmas.Int.{ints}
+use Rattle.twkb_layer.proofs.Prelude.{◌≡◌, ℤ, [], ◌∷◌, ap, ◌∙◌, arith, ints, w8, w64, vertex_at, is_inside}
 use mir.Val.{to_z, of_z}
-use Rattle.std.specs.Int.{w8, w64}
-use Rattle.twkb_body.specs.Geometry.{vertex_at}
-use Rattle.twkb_layer.specs.Window.{is_inside}
 use Rattle.twkb_layer.proofs.raw_windows.RawWindows.holds_in_units.Goals as goal
 
 pub returns : goal.returns

@@ -1,8 +1,5 @@
 -- The comparison of raw integers gives the answer of units.
-use Rattle.std.proofs.Common.{sym, ◌∙◌, arith}
-use Rattle.std.proofs.lemmas.Int.{ints}
-use Rattle.twkb_head.specs.Raw.{raw_bounds}
-use Rattle.twkb_layer.specs.Devices.RawWindows.{misses_in_z_or_m}
+use Rattle.twkb_layer.proofs.Prelude.{sym, ◌∙◌, arith, ints, raw_bounds, misses_in_z_or_m}
 use Rattle.twkb_layer.proofs.RawLooks.{box_judged, or_true, or_false}
 use Rattle.twkb_layer.proofs.raw_windows.RawWindows.misses.Goals as goal
 

@@ -1,9 +1,5 @@
 -- The header says the fields of the row, and the skim counts the vertices.
-use Rattle.std.proofs.Common.{ℕ, fold, refl, ap, ◌∙◌, arith}
-use Rattle.std.proofs.lemmas.Int.{to_z-of_z}
-use Rattle.twkb_body.specs.Counting.{counts_on}
-use Rattle.twkb_body.specs.Geometry.{vertices}
-use Rattle.twkb_layer.specs.Devices.Layer.{past_blob}
+use Rattle.twkb_layer.proofs.Prelude.{ℕ, fold, refl, ap, ◌∙◌, arith, to_z-of_z, counts_on, vertices, past_blob}
 use Rattle.twkb_layer.proofs.Keeping.{says_of, counted_whole, row_says}
 use Rattle.twkb_layer.proofs.row.Row.take.Goals as goal
 

@@ -1,7 +1,6 @@
 -- The blob is passed, and no more bytes are read of it than it has.
-use Rattle.std.proofs.Common.{ap, arith}
-use Rattle.twkb_num.specs.Cursor.{Reading}
-use Rattle.twkb_layer.proofs.Costs.{cost_few}
+use Rattle.twkb_layer.proofs.Prelude.{ap, arith, Reading}
+use Rattle.twkb_layer.proofs.Visits.{cost_few}
 use Rattle.twkb_layer.proofs.scans.ScannerEachBlob.take_blob.Goals as goal
 
 pub found_blob-requires : goal.found_blob-requires

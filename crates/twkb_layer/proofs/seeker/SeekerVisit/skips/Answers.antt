@@ -1,5 +1,5 @@
 -- The visitor skips exactly the boxes that miss the window.
-use Rattle.std.proofs.Common.{rules}
+use Rattle.twkb_layer.proofs.Prelude.{rules}
 use Rattle.twkb_layer.proofs.seeker.SeekerVisit.skips.Goals as goal
 
 pub returns : goal.returns

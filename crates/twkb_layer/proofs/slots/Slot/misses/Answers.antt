@@ -1,9 +1,5 @@
 -- Raw integers give the answer of units, since ends of 32 bits are neither the least nor the greatest number of 64.
-use Rattle.std.proofs.Common.{◌≡◌, true, Bool, if◌then◌else◌, Some, None, ap, sym, subst, ◌∙◌}
-use Rattle.twkb_layer.specs.Devices.RawWindows.{AreInner, IsRawWindow, raw_box_misses}
-use Rattle.twkb_layer.specs.Slots.{ends_in, is_boxed, precision_in}
-use Rattle.twkb_layer.specs.Window.{is_missed}
-use Rattle.twkb_head.specs.Head.{span_at}
+use Rattle.twkb_layer.proofs.Prelude.{◌≡◌, true, Bool, if◌then◌else◌, Some, None, ap, sym, subst, ◌∙◌, AreInner, IsRawWindow, raw_box_misses, ends_in, is_boxed, precision_in, is_missed, span_at}
 use Rattle.twkb_layer.proofs.RawLooks.{short_judged}
 use Rattle.twkb_layer.proofs.slots.Slot.misses.Goals as goal
 

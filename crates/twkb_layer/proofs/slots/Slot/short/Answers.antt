@@ -1,5 +1,5 @@
 -- The slot says the offset, and the box if there is one.
-use Rattle.std.proofs.Common.{refl}
+use Rattle.twkb_layer.proofs.Prelude.{refl}
 use Rattle.twkb_layer.proofs.Entries.{bare_says}
 use Rattle.twkb_layer.proofs.slots.Slot.short.Goals as goal
 

@@ -1,6 +1,5 @@
 -- At most 27 digits before the point and seven after it fit 128 bits.
-use Rattle.std.proofs.Common.{ap, arith, length, Some}
-use Rattle.std.proofs.lemmas.Bool.Decides.{nat_tests}
+use Rattle.twkb_layer.proofs.Prelude.{ap, arith, length, Some, nat_tests}
 use Rattle.twkb_layer.proofs.Texts.{amount_once, amount_is, amount_small, amount_same, some_digits, units_of_parts, parts_are, whole_small}
 use Rattle.twkb_layer.proofs.text_reader.TextReader.amount.Goals as goal
 use Rattle.twkb_layer.proofs.text_reader.TextReader.amount.Goals.{then-is_empty-via-then-is_empty, then-is_empty-via-else-is_empty+then-whole-gt27, then-is_empty-via-else-is_empty+else-whole-gt27+then-fraction-gt7}

@@ -1,5 +1,5 @@
 -- A fraction is a point and digits; without a digit after the point there is none.
-use Rattle.std.proofs.Common.{◌∙◌, sym}
+use Rattle.twkb_layer.proofs.Prelude.{◌∙◌, sym}
 use Rattle.twkb_layer.proofs.Texts.{fraction_once, fraction_parts, rest_behind}
 use Rattle.twkb_layer.proofs.text_reader.TextReader.fraction.Goals as goal
 

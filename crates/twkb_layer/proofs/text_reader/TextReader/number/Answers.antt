@@ -1,5 +1,5 @@
 -- A minus or none, and an amount, is a number.
-use Rattle.std.proofs.Common.{◌≡◌, ℤ, ap, Some, sym, ◌∙◌, true, false}
+use Rattle.twkb_layer.proofs.Prelude.{◌≡◌, ℤ, ap, Some, sym, ◌∙◌, true, false}
 use Rattle.twkb_layer.proofs.Texts.{minus_once, number_is, number_same, plain_value, minus_value, value_small}
 use Rattle.twkb_layer.proofs.text_reader.TextReader.number.Goals as goal
 

@@ -1,6 +1,5 @@
 -- With the name there is a range; without it there is none.
-use Rattle.std.proofs.Common.{Option, Some, None, ap, sym, ◌∙◌}
-use Rattle.twkb_head.specs.declared.boxes.Span.{Span}
+use Rattle.twkb_layer.proofs.Prelude.{Option, Some, None, ap, sym, ◌∙◌, Span}
 use Rattle.twkb_layer.proofs.Texts.{named_is, optional_there}
 use Rattle.twkb_layer.proofs.text_reader.TextReader.optional_range.Goals as goal
 

@@ -1,6 +1,5 @@
 -- The text that was passed is the word.
-use Rattle.std.proofs.Common.{Some, None}
-use Rattle.std.proofs.lemmas.Bool.Decides.{Decides-eqb}
+use Rattle.twkb_layer.proofs.Prelude.{Some, None, Decides-eqb}
 use Rattle.std.proofs.lemmas.Slice.Eq.{strip_prefix_is}
 use Rattle.twkb_layer.proofs.text_reader.TextReader.skip.Goals as goal
 

@@ -1,6 +1,5 @@
 -- Two numbers with two points between them are a range, and nothing else is.
-use Rattle.std.proofs.Common.{◌≡◌, ◌++◌, ◌∷◌, refl, ap, Some}
-use Rattle.twkb_head.specs.declared.boxes.Span.{Span}
+use Rattle.twkb_layer.proofs.Prelude.{◌≡◌, ◌++◌, ◌∷◌, refl, ap, Some, Span}
 use Rattle.twkb_layer.proofs.Texts.{range_split, range_is, value_stays, spans_equal}
 use Rattle.twkb_layer.proofs.text_reader.TextReader.span.Goals as goal
 

@@ -1,5 +1,5 @@
 -- Only the range of M changes.
-use Rattle.std.proofs.Common.{rules}
+use Rattle.twkb_layer.proofs.Prelude.{rules}
 use Rattle.twkb_layer.proofs.window.Window.with_m.Goals as goal
 
 pub returns : goal.returns

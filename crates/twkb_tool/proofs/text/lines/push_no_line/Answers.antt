@@ -1,6 +1,5 @@
 -- The pieces that were pushed are the line of the definition.
-use Rattle.std.proofs.Common.{◌∙◌}
-use Rattle.std.proofs.lemmas.Result.{on_ok_weaker}
+use Rattle.twkb_tool.proofs.Prelude.{◌∙◌, on_ok_weaker}
 use Rattle.twkb_tool.proofs.TextLemmas.{no_made}
 use Rattle.twkb_tool.proofs.text.lines.push_no_line.Goals as goal
 

@@ -1,5 +1,5 @@
 -- The pieces that were pushed are the line of the definition.
-use Rattle.std.proofs.Common.{◌≡◌, List, ℕ, OnOk, subst, arith}
+use Rattle.twkb_tool.proofs.Prelude.{◌≡◌, List, ℕ, OnOk, subst, arith}
 use Rattle.std.proofs.lemmas.Int.{ints}
 use mir.Syntax.{w8}
 use mir.Val.{to_z, of_z}
