@@ -1,13 +1,7 @@
 -- The answers to several windows, one after another in the same rooms.
-use Rattle.std.proofs.Common.{◌≡◌, ◌+◌, ◌-◌, ◌<◌, ◌≤◌, ℕ, List, [], ◌∷◌, ◌++◌, length, map, take, drop, get_or, slice_set, sum_by, arith, ap, sym, ◌∙◌}
-use Rattle.std.proofs.lemmas.List.{take_more, flat_map_more, map-append, length-append, length-map, length-take-le, take_rest, drop-drop, drop_all, append-nil}
+use Rattle.twkb_call.proofs.Prelude.{◌≡◌, ◌+◌, ◌-◌, ◌<◌, ◌≤◌, ℕ, List, [], ◌∷◌, ◌++◌, length, map, take, drop, get_or, slice_set, sum_by, arith, ap, sym, ◌∙◌, take_more, flat_map_more, map-append, length-append, length-map, length-take-le, take_rest, drop-drop, drop_all, append-nil, added, Geometry, hits, found_blobs, filled, OfLayer, filled-nil, filled-push}
 use borrow.Rule.Slice.PartMut.{put_mid, mid_of}
-use Rattle.twkb_num.specs.Cursor.{added}
-use Rattle.twkb_body.specs.Geometry.{Geometry}
 use Rattle.twkb_layer.specs.Directory.{directory_cost}
-use Rattle.twkb_layer.specs.Hits.{hits, found_blobs, filled}
-use Rattle.twkb_layer.specs.Layer.{OfLayer}
-use Rattle.twkb_layer.proofs.Filling.{filled-nil, filled-push}
 use Rattle.twkb_layer.proofs.Scanning.{as_many}
 use Rattle.twkb_call.specs.Hits.{hit_from, hits_in_all, scanned_with}
 use Rattle.twkb_call.specs.Window.{ranges_of}

@@ -1,8 +1,5 @@
 -- What a verdict says, by the answer that it is of.
-use Rattle.std.proofs.Common.{◌≡◌, ℕ, List, ◌⊎◌, inl, inr, refl, ap, sym, subst, ◌∙◌}
-use Rattle.twkb_num.specs.Cursor.{Reading}
-use Rattle.twkb_body.specs.Claims.{Claim}
-use Rattle.twkb_layer.specs.Layer.{IsCounted}
+use Rattle.twkb_call.proofs.Prelude.{◌≡◌, ℕ, List, ◌⊎◌, inl, inr, refl, ap, sym, subst, ◌∙◌, Reading, Claim, IsCounted}
 use Rattle.twkb_layer.specs.Refusal.{IsRefusedFor}
 use Rattle.twkb_layer.specs.declared.refusal.Refusal.{Refusal}
 use Rattle.twkb_layer.specs.declared.refusal.Refusal.TheVariants.{No, Memory}

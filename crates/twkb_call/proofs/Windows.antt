@@ -1,5 +1,5 @@
 -- The number that a call returns for the text of a window, or for the texts of a range.
-use Rattle.std.proofs.Common.{◌≡◌, ℕ, Bool, true, false, if◌then◌else◌, Result, Ok, Err, refl}
+use Rattle.twkb_call.proofs.Prelude.{◌≡◌, ℕ, Bool, true, false, if◌then◌else◌, Result, Ok, Err, refl}
 use Rattle.twkb_head.specs.declared.boxes.Bounds.{Bounds}
 use Rattle.twkb_head.specs.declared.boxes.Span.{Span}
 use Rattle.twkb_layer.specs.declared.decimal.BadRange.{BadRange}

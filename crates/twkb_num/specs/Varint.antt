@@ -64,10 +64,3 @@ IsBrief z = (neg_ℤ (pos (2 ^ 13)) ≤ℤ z) × (z <ℤ pos (2 ^ 13))
 -- a signed number that four bytes can spell
 abbrev pub IsShort : ℤ → Type 0
 IsShort z = (neg_ℤ (pos (2 ^ 27)) ≤ℤ z) × (z <ℤ pos (2 ^ 27))
-
--- The bytes spell this many numbers, one after another, each below 2^49.
-pub record SpellsMany (bytes : List ℕ) (many : ℕ) : Type 0 where
-  pub numbers : List ℕ
-  pub count : length numbers ≡ many
-  pub small : All (λ n. n < 2 ^ 49) numbers
-  pub spelled : SpellsAll bytes numbers

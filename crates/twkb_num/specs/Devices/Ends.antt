@@ -1,7 +1,7 @@
 -- Devices of proofs: nothing public names them.
 -- Where the varints at the front of bytes end.
 use Rattle.std.specs.Prelude.{◌≡◌, ◌+◌, ◌-◌, ◌*◌, ◌/◌, ◌<◌, ◌≤◌, ℕ, zero, suc, List, length, take, slice_index}
-use Rattle.twkb_num.specs.Varint.{SpellsMany}
+use Rattle.twkb_num.specs.Varint.{SpellsAll}
 
 -- 1 for a byte below 128, which ends a varint, else 0
 abbrev pub ended : List ℕ → ℕ → ℕ
@@ -32,6 +32,12 @@ pub record IsLastEnd (bytes : List ℕ) (size : ℕ) : Type 0 where
   pub within : size ≤ length bytes
   pub ends : 1 ≤ size → slice_index bytes (size - 1) < 128
   pub goes_on : (k : ℕ) → size ≤ k → k < length bytes → 128 ≤ slice_index bytes k
+
+-- the bytes spell this many numbers, one after another
+pub record SpellsMany (bytes : List ℕ) (many : ℕ) : Type 0 where
+  pub numbers : List ℕ
+  pub count : length numbers ≡ many
+  pub spelled : SpellsAll bytes numbers
 
 -- the first `size` bytes spell this many numbers
 pub record IsFrontOf (bytes : List ℕ) (many size : ℕ) : Type 0 where

@@ -1,5 +1,5 @@
 -- How many bytes were read is the cost of a scan with the directory.
-use Rattle.std.proofs.Common.{rules}
+use Rattle.twkb_call.proofs.Prelude.{rules}
 use Rattle.twkb_call.proofs.directory.scan_directory.Goals as goal
 
 pub returns-clause-read : goal.returns-clause-read

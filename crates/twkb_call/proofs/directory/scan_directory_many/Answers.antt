@@ -1,5 +1,5 @@
 -- A window more is answered, or its hits don't fit.
-use Rattle.std.proofs.Common.{rules, arith}
+use Rattle.twkb_call.proofs.Prelude.{rules, arith}
 use Rattle.twkb_call.proofs.Answered.{next_answered}
 use Rattle.twkb_call.proofs.directory.scan_directory_many.Goals as goal
 

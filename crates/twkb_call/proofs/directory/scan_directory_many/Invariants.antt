@@ -1,6 +1,5 @@
 -- The windows before the next one are answered, and all their hits are in the room.
-use Rattle.std.proofs.Common.{◌≡◌, ◌≤◌, length}
-use Rattle.twkb_layer.specs.Layer.{OfLayer}
+use Rattle.twkb_call.proofs.Prelude.{◌≡◌, ◌≤◌, length, OfLayer}
 use Rattle.twkb_call.proofs.Answered.{Answered}
 use Rattle.twkb_call.proofs.directory.scan_directory_many.Given as goal
 

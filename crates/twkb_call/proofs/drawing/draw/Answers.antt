@@ -1,13 +1,10 @@
 -- The room ends as the pen leaves it, and the answer is the number of the layer's vertices.
-use Rattle.std.proofs.Common.{rules, ap, sym, subst, ◌≡◌, ◌+◌, ◌≤◌, min, Bool, true, false, cond, ltb, List, [], ◌∷◌, ◌++◌, length, take, drop, map, fold, slice_set, refl, ◌∙◌, arith, length-append, length-drop, append_assoc}
-use Rattle.twkb_layer.specs.Layer.{Layer, IsCertifiedLayer}
+use Rattle.twkb_call.proofs.Prelude.{rules, ap, sym, subst, ◌≡◌, ◌+◌, ◌≤◌, min, Bool, true, false, cond, ltb, List, [], ◌∷◌, ◌++◌, length, take, drop, map, fold, slice_set, refl, ◌∙◌, arith, length-drop, append_assoc, Layer, IsCertifiedLayer, append-nil, length-take, filled, filled-nil, filled-push, filled-full}
+use Rattle.std.proofs.Common.{length-append}
 use Rattle.twkb_layer.specs.Vertices.{all_vertices}
 use Rattle.std.specs.Borrow.{GName}
 use Rattle.std.proofs.lemmas.Bool.{ltb-true, ltb-false}
-use Rattle.std.proofs.lemmas.List.{append-nil, length-take}
 use Rattle.twkb_head.specs.declared.boxes.Vertex.{Vertex}
-use Rattle.twkb_layer.specs.Hits.{filled}
-use Rattle.twkb_layer.proofs.Filling.{filled-nil, filled-push, filled-full}
 use Rattle.twkb_call.specs.declared.drawing.Point.{Point}
 use Rattle.twkb_call.specs.declared.drawing.Pen.{Pen}
 use Rattle.twkb_call.specs.Vertices.{point_of}

@@ -1,5 +1,5 @@
 -- The answer and the room are those of the layer's list.
-use Rattle.std.proofs.Common.{rules}
+use Rattle.twkb_call.proofs.Prelude.{rules}
 use Rattle.twkb_call.proofs.rows.list.Goals as goal
 
 pub returns-clause-answer : goal.returns-clause-answer

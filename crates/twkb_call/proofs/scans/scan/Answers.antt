@@ -1,5 +1,5 @@
 -- How many bytes were read is the cost of the layer's scan.
-use Rattle.std.proofs.Common.{rules}
+use Rattle.twkb_call.proofs.Prelude.{rules}
 use Rattle.twkb_call.proofs.scans.scan.Goals as goal
 
 pub returns-clause-read : goal.returns-clause-read

@@ -1,5 +1,5 @@
 -- The verdict says what `certify_with` answers.
-use Rattle.twkb_body.specs.Claims.{IsTrueClaim}
+use Rattle.twkb_call.proofs.Prelude.{IsTrueClaim}
 use Rattle.twkb_call.proofs.Verdicts.{says_yes, says_no}
 use Rattle.twkb_call.proofs.verdict.certify.Goals as goal
 

@@ -1,6 +1,5 @@
 -- The verdict says what `certify_tight_with` answers: its yes is tight, and a tight layer wants at most memory.
-use Rattle.std.proofs.Common.{List, subst, sym}
-use Rattle.twkb_body.specs.Geometry.{Geometry}
+use Rattle.twkb_call.proofs.Prelude.{List, subst, sym, Geometry}
 use Rattle.twkb_body.specs.Tight.{IsTightlyTrue}
 use Rattle.twkb_layer.specs.Tight.{IsTightLayer}
 use Rattle.twkb_call.proofs.Verdicts.{bytes_of_new, says_yes, says_no, says_memory}
